@@ -1,0 +1,48 @@
+-- Bytes that are put into a window in parts.
+use Rattle.std.proofs.Common.{subst, ◌≡◌, ℕ, ◌+◌, ◌-◌, ◌↔◌, List, [], ◌++◌, length, take, drop, sym, ap, ◌∙◌, append_assoc, append-nil}
+use Rattle.std.proofs.lemmas.List.{take-append-drop}
+use Rattle.ion_meter.specs.Windows.{Outgoing, so_far, BeginsWith, Puts}
+use Rattle.ion_meter.proofs.Written.{written_part}
+
+-- nothing was put
+pub Puts-nothing : {O : Type 0} (written : O → List ℕ) (tells : O → Type 0) (s : Outgoing O) → Puts written tells s s []
+Puts-nothing written tells s = record {
+  still_tells = (λ t. t, λ t. t);
+  grown = λ _. ([], sym (append-nil (written s.device)));
+  front = λ _. (s.pending, append-nil (so_far written s));
+}
+
+-- a window that took a front of the bytes, and then failed
+pub Puts-after : {O : Type 0} (written : O → List ℕ) (tells : O → Type 0) (s m u : Outgoing O) (bytes : List ℕ) (at : ℕ)
+    → (tells m.device ↔ tells s.device) → (tells s.device → BeginsWith (written m.device) (written s.device))
+    → (tells s.device → so_far written m ≡ so_far written s ++ take at bytes) → Puts written tells m u [] → Puts written tells s u bytes
+Puts-after written tells s m u bytes at same grown taken p = record {
+  still_tells = (λ t. same.0 (p.still_tells.0 t), λ t. p.still_tells.1 (same.1 t));
+  grown = λ t. let a = grown t in let b = p.grown (same.1 t) in (a.0 ++ b.0, b.1 ∙ (ap (λ (l : List ℕ). l ++ b.0) a.1 ∙ append_assoc (written s.device) a.0 b.0));
+  front = λ t.
+      let f = p.front (same.1 t) in (
+        f.0 ++ drop at bytes,
+        ap (λ (l : List ℕ). so_far written s ++ l) (sym (take-append-drop at bytes))
+            ∙ (sym (append_assoc (so_far written s) (take at bytes) (drop at bytes))
+            ∙ (ap (λ (l : List ℕ). l ++ drop at bytes) (sym (taken t) ∙ (sym (append-nil (so_far written m)) ∙ f.1))
+            ∙ append_assoc (written u.device) f.0 (drop at bytes))),
+      );
+}
+
+-- a window with room takes the next part
+pub taken_part : {O : Type 0} (written : O → List ℕ) (s l m u : Outgoing O) (bytes : List ℕ) (at n : ℕ)
+    → so_far written l ≡ so_far written s ++ take at bytes → so_far written m ≡ so_far written l → u.device ≡ m.device
+    → u.pending ≡ m.pending ++ take n (take (length bytes - at) (drop at bytes)) → so_far written u ≡ so_far written s ++ take (at + n) bytes
+taken_part written s l m u bytes at n p q d e =
+    let next = take n (take (length bytes - at) (drop at bytes)) in
+    written_part (so_far written s) (so_far written m) (so_far written u) bytes at n (q ∙ p)
+    (ap (λ (x : List ℕ). written u.device ++ x) e ∙ (ap (λ x. written x ++ (m.pending ++ next)) d ∙ sym (append_assoc (written m.device) m.pending next)))
+
+-- the window took all of the bytes
+pub Puts-taken : {O : Type 0} (written : O → List ℕ) (tells : O → Type 0) (s u : Outgoing O) (bytes : List ℕ)
+    → u.device ≡ s.device → u.pending ≡ s.pending ++ bytes → Puts written tells s u bytes
+Puts-taken written tells s u bytes d e = record {
+  still_tells = (λ t. subst tells d t, λ t. subst tells (sym d) t);
+  grown = λ _. ([], ap written d ∙ sym (append-nil (written s.device)));
+  front = λ _. (s.pending ++ bytes, append_assoc (written s.device) s.pending bytes ∙ ap (λ x. written x ++ (s.pending ++ bytes)) (sym d));
+}

@@ -1,0 +1,172 @@
+//! Bytes whose every growth is counted.
+ghost use Rattle.std.specs.Prelude.{◌≡◌, ◌+◌, ◌-◌, ◌^◌, ◌<◌, ◌≤◌, ◌++◌, ◌∷◌, [], length, take, drop, slice_set, OnOk, OnErr, IfErr, MatchOption};
+ghost use Rattle.std.specs.List.{insert};
+ghost use Rattle.ion_meter.specs.Counts.{Grows, Shrinks, IsRefused};
+
+use crate::fault::Fault;
+use crate::meter::Meter;
+use std::alloc::Allocator;
+use std::marker::Model;
+
+/// Counted bytes, at a cost of 1 each. A clause sees the list of them.
+///
+/// A growth that the allocator refuses answers `Memory` and changes nothing but the meter's
+/// `refused`. One that is dropped without `release` leaves the meter's `held` as it was.
+#[derive(Drop)]
+pub struct Buf<A: Allocator + Copy> {
+    bytes: Vec<u8, A>,
+}
+
+impl<A: Allocator + Copy> Model for Buf<A> {
+    ghost use Rattle.std.specs.Prelude.{List, ℕ};
+
+    ghost Value = { List ℕ };
+
+    ghost view = { λ b. b.bytes.items };
+}
+
+impl<A: Allocator + Copy> Buf<A> {
+    /// No bytes. It takes no memory.
+    pub fn new(meter: &Meter<A>) -> Buf<A>
+        ensures { result ≡ [] }
+    {
+        Buf {
+            bytes: Vec::new(meter.alloc()),
+        }
+    }
+
+    /// The bytes.
+    pub fn as_slice(&self) -> &[u8]
+        ensures { result.now ≡ self.now }
+    {
+        self.bytes.as_slice()
+    }
+
+    /// Adds a byte at the end.
+    pub fn push(&mut self, meter: &mut Meter<A>, byte: u8) -> Result<(), Fault>
+        requires room { meter.old.held + 1 < 2 ^ 63 }
+        requires countable { meter.old.refused < 2 ^ 64 - 1 }
+        ensures ok { OnOk result (self.new ≡ self.old ++ byte ∷ []) }
+        ensures cost { OnOk result (Grows meter.old meter.new 1) }
+        ensures memory { IfErr result (λ e. e ≡ Fault.Memory) }
+        ensures err { OnErr result (self.new ≡ self.old) }
+        ensures refused { OnErr result (IsRefused meter.old meter.new) }
+    {
+        if self.bytes.push(byte).is_err() {
+            meter.refuse();
+            return Err(Fault::Memory);
+        }
+        meter.add(1);
+        Ok(())
+    }
+
+    /// Adds these bytes at the end.
+    pub fn extend(&mut self, meter: &mut Meter<A>, bytes: &[u8]) -> Result<(), Fault>
+        requires room { meter.old.held + length bytes.now < 2 ^ 63 }
+        requires countable { meter.old.refused < 2 ^ 64 - 1 }
+        ensures ok { OnOk result (self.new ≡ self.old ++ bytes.now) }
+        ensures cost { OnOk result (Grows meter.old meter.new (length bytes.now)) }
+        ensures memory { IfErr result (λ e. e ≡ Fault.Memory) }
+        ensures err { OnErr result (self.new ≡ self.old) }
+        ensures refused { OnErr result (IsRefused meter.old meter.new) }
+    {
+        if self.bytes.extend_from_slice(bytes).is_err() {
+            meter.refuse();
+            return Err(Fault::Memory);
+        }
+        meter.add(bytes.len() as u64);
+        Ok(())
+    }
+
+    /// Puts a byte in at a place, counted from 0.
+    pub fn insert(&mut self, meter: &mut Meter<A>, place: usize, byte: u8) -> Result<(), Fault>
+        requires within { place ≤ length self.old }
+        requires room { meter.old.held + 1 < 2 ^ 63 }
+        requires countable { meter.old.refused < 2 ^ 64 - 1 }
+        ensures ok { OnOk result (self.new ≡ insert self.old place byte) }
+        ensures cost { OnOk result (Grows meter.old meter.new 1) }
+        ensures memory { IfErr result (λ e. e ≡ Fault.Memory) }
+        ensures err { OnErr result (self.new ≡ self.old) }
+        ensures refused { OnErr result (IsRefused meter.old meter.new) }
+    {
+        if self.bytes.insert(place, byte).is_err() {
+            meter.refuse();
+            return Err(Fault::Memory);
+        }
+        meter.add(1);
+        Ok(())
+    }
+
+    /// Puts these bytes in at a place, counted from 0: what stood from there on moves once.
+    pub fn insert_slice(
+        &mut self,
+        meter: &mut Meter<A>,
+        place: usize,
+        bytes: &[u8],
+    ) -> Result<(), Fault>
+        requires within { place ≤ length self.old }
+        requires room { meter.old.held + length bytes.now < 2 ^ 63 }
+        requires countable { meter.old.refused < 2 ^ 64 - 1 }
+        ensures ok { OnOk result (self.new ≡ take place self.old ++ (bytes.now ++ drop place self.old)) }
+        ensures cost { OnOk result (Grows meter.old meter.new (length bytes.now)) }
+        ensures memory { IfErr result (λ e. e ≡ Fault.Memory) }
+        ensures err { OnErr result (self.new ≡ self.old) }
+        ensures refused { OnErr result (IsRefused meter.old meter.new) }
+    {
+        if self.bytes.extend_from_slice(bytes).is_err() {
+            meter.refuse();
+            return Err(Fault::Memory);
+        }
+        self.bytes[place..].rotate_right(bytes.len());
+        meter.add(bytes.len() as u64);
+        Ok(())
+    }
+
+    /// Writes a byte over the one at a place, counted from 0.
+    pub fn set(&mut self, place: usize, byte: u8)
+        requires { place < length self.old }
+        ensures { self.new ≡ slice_set self.old place byte }
+    {
+        self.bytes[place] = byte;
+    }
+
+    /// Takes the last byte off and hands it out.
+    pub fn pop(&mut self, meter: &mut Meter<A>) -> Option<u8>
+        requires { length self.old ≤ meter.old.held }
+        ensures bytes { MatchOption result ((self.old ≡ []) × (self.new ≡ [])) (λ byte. self.old ≡ self.new ++ byte ∷ []) }
+        ensures cost { MatchOption result (meter.new ≡ meter.old) (λ _. Shrinks meter.old meter.new 1) }
+    {
+        let last = self.bytes.pop()?;
+        meter.give_back(1);
+        Some(last)
+    }
+
+    /// Keeps the first `len` bytes.
+    pub fn truncate(&mut self, meter: &mut Meter<A>, len: usize)
+        requires { length self.old - len ≤ meter.old.held }
+        ensures bytes { self.new ≡ take len self.old }
+        ensures cost { Shrinks meter.old meter.new (length self.old - len) }
+    {
+        let before = self.bytes.len();
+        self.bytes.truncate(len);
+        meter.give_back((before - self.bytes.len()) as u64);
+    }
+
+    /// Keeps no byte.
+    pub fn clear(&mut self, meter: &mut Meter<A>)
+        requires { length self.old ≤ meter.old.held }
+        ensures bytes { self.new ≡ [] }
+        ensures cost { Shrinks meter.old meter.new (length self.old) }
+    {
+        meter.give_back(self.bytes.len() as u64);
+        self.bytes.clear();
+    }
+
+    /// Gives all back.
+    pub fn release(self, meter: &mut Meter<A>)
+        requires { length self ≤ meter.old.held }
+        ensures { Shrinks meter.old meter.new (length self) }
+    {
+        meter.give_back(self.bytes.len() as u64);
+    }
+}

@@ -46,3 +46,13 @@ Puts-taken written tells s u bytes d e = record {
   grown = λ _. ([], ap written d ∙ sym (append-nil (written s.device)));
   front = λ _. (s.pending ++ bytes, append_assoc (written s.device) s.pending bytes ∙ ap (λ x. written x ++ (s.pending ++ bytes)) (sym d));
 }
+
+-- more bytes might have been put
+pub Puts-longer : {O : Type 0} (written : O → List ℕ) (tells : O → Type 0) (s u : Outgoing O) (xs ys : List ℕ) → Puts written tells s u xs → Puts written tells s u (xs ++ ys)
+Puts-longer written tells s u xs ys p = record {
+  still_tells = p.still_tells;
+  grown = p.grown;
+  front = λ t.
+      let f = p.front t in
+      (f.0 ++ ys, sym (append_assoc (so_far written s) xs ys) ∙ (ap (λ (l : List ℕ). l ++ ys) f.1 ∙ append_assoc (written u.device) f.0 ys));
+}

@@ -31,7 +31,7 @@ IsGiven s ahead = (ahead < length s.buffered) × (s.place + ahead < s.limit)
 
 -- so many bytes are in the window, and within the limit
 abbrev pub CanPass : {I : Type 0} → Incoming I → ℕ → Type 0
-CanPass s count = (count ≤ length s.buffered) × (s.place + count ≤ s.limit)
+CanPass s count = (count ≤ length s.buffered) × (count ≤ s.limit - s.place)
 
 -- more was read: what was in the window stays at its front, and where the device tells its bytes, the bytes from the present place on stay
 pub record Extends {I : Type 0} (rest : I → List ℕ) (tells : I → Type 0) (old new : Incoming I) : Type 0 where

@@ -1,0 +1,9 @@
+pub mod Bodies
+pub mod Descriptors
+pub mod Items
+pub mod Lengths
+pub mod Markers
+pub mod Paths
+pub mod Readings
+pub mod Shown
+pub mod Outcomes

@@ -1,0 +1,6 @@
+pub mod Descriptor
+pub mod Faults
+pub mod Grammar
+pub mod Outcome
+pub mod Reading
+pub mod Text

@@ -1,0 +1,10 @@
+//! The command `ion`.
+#![tactic(auto)]
+
+mod descriptor;
+mod item;
+mod reader;
+mod run;
+mod text;
+
+fn main() {}

@@ -1,0 +1,6 @@
+//! The plain values of Amazon Ion 1.0: ints, the kinds of value, and the variable-length fields of the binary encoding.
+#![tactic(auto)]
+
+pub mod int;
+pub mod ion_type;
+pub mod var;

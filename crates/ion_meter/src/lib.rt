@@ -11,3 +11,5 @@ pub mod source;
 pub mod stack;
 pub mod stream;
 pub mod table;
+#[cfg(test)]
+mod tests;

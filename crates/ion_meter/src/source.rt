@@ -1,5 +1,5 @@
 //! A window of 4,096 bytes on an input.
-ghost use Rattle.std.specs.Prelude.{◌≡◌, ◌+◌, ◌-◌, ◌^◌, ◌<◌, ◌≤◌, ◌++◌, ◌↔◌, ◌⊎◌, [], List, ℕ, length, take, drop, None, Some, Err, false, true, slice_get, OnOk, OnErr, IfOk, IfErr, IfSome, IfNone, MatchResult};
+ghost use Rattle.std.specs.Prelude.{◌≡◌, ◌+◌, ◌-◌, ◌^◌, ◌<◌, ◌≤◌, ◌++◌, ◌↔◌, ◌⊎◌, [], List, ℕ, length, take, drop, None, Some, Ok, Err, false, true, slice_get, OnOk, OnErr, IfOk, IfErr, IfSome, IfNone, MatchResult};
 ghost use Rattle.ion_meter.specs.Counts.{Grows, Shrinks, IsRefused};
 ghost use Rattle.ion_meter.specs.Windows.{left, lent, IsGiven, CanPass, IsPassed, Extends, failures_in};
 ghost use Rattle.ion_meter.specs.Limits.{AreChecked};
@@ -143,11 +143,11 @@ impl<I: Input, A: Allocator + Copy> Source<I, A> {
             return Err(fault);
         }
         self.reach(ahead)?;
-        let at = self.start + ahead;
-        if at < self.stop {
-            return Ok(Some(self.window[at]));
+        let index = self.start + ahead;
+        if index < self.stop {
+            return Ok(Some(self.window[index]));
         }
-        if self.end <= at {
+        if self.end <= index {
             return Ok(None);
         }
         self.stop = 0;
@@ -157,12 +157,14 @@ impl<I: Input, A: Allocator + Copy> Source<I, A> {
 
     /// The byte so far ahead of the present place, or none past the end of the input.
     ///
-    /// It reads no more of the device than it needs for that. Answers `InputLimit` where the byte is
+    /// A byte that is in the window is given from there, and no more of the device is read than that
+    /// needs. Answers `InputLimit` where the byte is
     /// there and its place is not below `Limits::input`, and `ReadFault` where the device fails.
     #[inline]
     pub fn peek(&mut self, ahead: usize) -> Result<Option<u8>, Fault>
         requires { ahead < 16 }
         ensures byte { IfOk result (λ found. IfSome found (λ byte. IsGiven self.new ahead × (slice_get self.new.buffered ahead ≡ Some byte))) }
+        ensures there { self.old.fault ≡ None → IsGiven self.old ahead → (result ≡ Ok (slice_get self.old.buffered ahead)) × (self.new ≡ self.old) }
         ensures gives { I.tells self.old.device → IfOk result (λ found. found ≡ slice_get (left I.rest self.old) ahead) }
         ensures limits { (self.new.place ≤ self.new.limit) × (self.new.limit ≤ 2 ^ 48) }
         ensures ended { IfOk result (λ found. IfNone found (self.new.ended ≡ true)) }

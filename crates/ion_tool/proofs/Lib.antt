@@ -7,3 +7,4 @@ pub mod Paths
 pub mod Readings
 pub mod Shown
 pub mod Outcomes
+pub mod Rows

@@ -3,6 +3,7 @@
 
 mod descriptor;
 mod item;
+mod laws;
 mod reader;
 mod run;
 mod text;

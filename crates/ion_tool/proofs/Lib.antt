@@ -3,8 +3,10 @@ pub mod Descriptors
 pub mod Items
 pub mod Lengths
 pub mod Markers
+pub mod Outcomes
 pub mod Paths
 pub mod Readings
-pub mod Shown
-pub mod Outcomes
 pub mod Rows
+pub mod ShowWord
+pub mod Shown
+pub mod Writing

@@ -6,6 +6,45 @@ mod item;
 mod laws;
 mod reader;
 mod run;
+mod serve;
 mod text;
+mod words;
 
-fn main() {}
+use ion_meter::fault::Fault;
+use ion_meter::stream::{FromRead, ToWrite};
+use serve::{FileSource, report, serve};
+use std::fs::File;
+use std::process::ExitCode;
+use std::rt::Files;
+use std::{env, fs, io};
+
+/// The files of the system.
+#[derive(Drop)]
+struct RealFiles {
+    rt: HostRuntime,
+}
+
+impl FileSource for RealFiles {
+    type File = File;
+
+    fn open_named(&mut self, name: &str) -> Option<File> {
+        fs::open(&self.rt, name).ok()
+    }
+}
+
+fn main(rt: HostRuntime) -> io::Result<ExitCode> {
+    let alloc = rt.alloc();
+    let input = FromRead::new(rt.stdin());
+    let out = ToWrite::new(rt.stdout());
+    let mut err = ToWrite::new(rt.stderr());
+    let words = env::args(&rt).ok().and_then(|mut words| {
+        let _program = words.next();
+        words.collect(alloc).ok()
+    });
+    let Some(words) = words else {
+        return Ok(ExitCode::from(report(Err(Fault::Memory), &mut err)));
+    };
+    let mut files = RealFiles { rt };
+    let (status, _, _, _) = serve(alloc, words, &mut files, input, out, err);
+    Ok(ExitCode::from(status))
+}

@@ -1,5 +1,5 @@
 -- The rows of an int's body, one after the other.
-use Rattle.std.proofs.Common.{◌≡◌, ◌≢◌, ℕ, ◌+◌, ◌^◌, ◌<◌, ◌≤◌, Bool, true, false, nat_lt, nat_le, ◌==◌, ◌&&◌, IsTrue, List, [], ◌∷◌, length, inl, inr, take, drop, Some, None, arith, refl, sym, ap, ◌∙◌, eqb}
+use Rattle.std.proofs.Common.{◌≡◌, ℕ, ◌^◌, ◌<◌, ◌≤◌, Bool, true, false, nat_le, ◌==◌, ◌&&◌, IsTrue, List, [], ◌∷◌, length, inl, inr, take, Some, None, arith, refl}
 use Rattle.std.proofs.lemmas.Bool.{lt-ltb, le-ltb, le-leb, lt-leb}
 use Rattle.std.proofs.lemmas.Bool.Decides.{eqb_tells}
 use Rattle.ion_meter.specs.declared.fault.Reason.{Reason}

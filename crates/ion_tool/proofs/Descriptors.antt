@@ -1,8 +1,7 @@
 -- Which octets are which descriptors.
-use Rattle.std.proofs.Common.{◌≡◌, ℕ, ◌+◌, ◌*◌, ◌/◌, ◌%◌, ◌^◌, ◌<◌, Bool, true, false, IsTrue, if◌then◌else◌, List, [], ◌∷◌, ◌++◌, length, arith, refl, sym, ap, subst, inl, inr}
+use Rattle.std.proofs.Common.{◌≡◌, ℕ, ◌+◌, ◌*◌, ◌/◌, ◌%◌, ◌^◌, ◌<◌, Bool, true, false, IsTrue, if◌then◌else◌, List, [], ◌∷◌, ◌++◌, length, arith, refl, subst, inl, inr}
 use Rattle.std.proofs.lemmas.Bool.Decides.{eqb_tells}
 use Rattle.ion_value.specs.Number.{uint}
-use Rattle.ion_value.specs.declared.int.Int.{Int}
 use Rattle.ion_value.specs.declared.ion_type.IonType.{IonType}
 use Rattle.ion_tool.specs.declared.descriptor.Descriptor.{Descriptor}
 use Rattle.ion_tool.specs.declared.descriptor.Length.{Length}

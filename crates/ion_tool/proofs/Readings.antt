@@ -1,17 +1,15 @@
 -- The front of any bytes is read in one way at most.
 use Rattle.std.proofs.Common.{◌≡◌, ℕ, ◌+◌, ◌*◌, ◌/◌, ◌%◌, ◌<◌, ◌≤◌, Bool, true, false, List, [], ◌∷◌, ◌++◌, length, take, drop, get_or, Option, Some, None, arith, refl, sym, ap, ◌∙◌, append_assoc, subst, inl, inr, zero, suc}
 use Rattle.std.proofs.lemmas.Grind.{common_steps}
-use Rattle.std.proofs.lemmas.Nat.{div-mul-add, mod-mul-add}
 use Rattle.std.proofs.lemmas.Bool.Decides.{eqb_tells}
 use Rattle.std.proofs.Math.Seq.{take-append_seam, drop-append_seam}
 use Rattle.ion_value.specs.Number.{VarUInt, IsVar, var_uint, uint}
 use Rattle.ion_value.proofs.Numbers.{IsVar-last}
-use Rattle.ion_value.specs.declared.int.Int.{Int}
 use Rattle.ion_tool.specs.declared.descriptor.Descriptor.{Descriptor}
 use Rattle.ion_tool.specs.declared.descriptor.Length.{Length}
 use Rattle.ion_tool.specs.declared.item.Item.{Item}
 use Rattle.ion_tool.specs.declared.item.Value.{Value}
-use Rattle.ion_tool.specs.Descriptor.{descriptor_of, coded, number_of}
+use Rattle.ion_tool.specs.Descriptor.{descriptor_of, number_of}
 use Rattle.ion_tool.specs.Faults.{var_end}
 use Rattle.ion_tool.specs.Grammar.{Head, Bin}
 use Rattle.ion_tool.proofs.Descriptors.{code_of}

@@ -12,7 +12,7 @@ mod words;
 
 use ion_meter::fault::Fault;
 use ion_meter::stream::{FromRead, ToWrite};
-use serve::{FileSource, report, serve};
+use serve::{FileSource, give_usage, report, serve};
 use std::fs::File;
 use std::process::ExitCode;
 use std::rt::Files;
@@ -37,10 +37,17 @@ fn main(rt: HostRuntime) -> io::Result<ExitCode> {
     let input = FromRead::new(rt.stdin());
     let out = ToWrite::new(rt.stdout());
     let mut err = ToWrite::new(rt.stderr());
-    let words = env::args(&rt).ok().and_then(|mut words| {
-        let _program = words.next();
-        words.collect(alloc).ok()
-    });
+    let words = match env::args(&rt) {
+        Ok(mut words) => {
+            let _program = words.next();
+            words.collect(alloc).ok()
+        }
+        Err(error) if error.kind() == io::ErrorKind::InvalidData => {
+            let text = b"error: a word on the command line is not UTF-8\n";
+            return Ok(ExitCode::from(give_usage(text, &mut err)));
+        }
+        Err(_) => None,
+    };
     let Some(words) = words else {
         return Ok(ExitCode::from(report(Err(Fault::Memory), &mut err)));
     };

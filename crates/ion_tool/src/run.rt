@@ -204,3 +204,6 @@ pub fn run<I: Input, O: Output, A: Allocator + Copy>(
     let result = finish(&mut sink, shown);
     (result, source.release(meter), sink.release(meter))
 }
+
+#[cfg(test)]
+mod tests;

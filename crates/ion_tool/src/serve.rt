@@ -139,7 +139,7 @@ fn give_help<O: Output, E: Output>(text: &[u8], out: &mut O, err: &mut E) -> u8
 }
 
 /// Says what is wrong with the words, and gives the status.
-fn give_usage<E: Output>(text: &[u8], err: &mut E) -> u8
+pub fn give_usage<E: Output>(text: &[u8], err: &mut E) -> u8
     requires { E.failure_count err.old < 2 ^ 64 - 1 }
     ensures status { result ≡ 2 }
     ensures said { Gets E.written E.tells E.failure_count text.now err.old err.new }

@@ -45,8 +45,8 @@ fn uint_value(bytes: &[u8]) -> u128
 /// Reads the body of an int: its sign is the type descriptor's, and its magnitude is a UInt
 /// (binary encoding, "2 and 3: int" and "UInt and Int Fields").
 ///
-/// Zeros at the front of the magnitude are allowed, in any number. A magnitude past 128 bits is out of `Range`, and a negative zero is a
-/// `BadNumber`.
+/// Zeros at the front of the magnitude are allowed, in any number. A magnitude past 128 bits is
+/// out of `Range`, and a negative zero is a `BadNumber`.
 #[inline]
 pub fn int_from_bytes(negative: bool, magnitude: &[u8]) -> Result<Int, Reason>
     ensures read { IfOk result (λ i. (i.negative ≡ negative) × (i.magnitude ≡ uint magnitude.now)) }
@@ -69,7 +69,8 @@ pub fn int_from_bytes(negative: bool, magnitude: &[u8]) -> Result<Int, Reason>
     })
 }
 
-/// The text of an int: its decimal digits, behind a minus where it is negative (Ion specification, "Integers").
+/// The text of an int: its decimal digits, behind a minus where it is negative (Ion specification,
+/// "Integers").
 pub fn int_to_text(int: Int) -> ArrayString<40>
     requires { IsInt int }
     ensures { result.bytes ≡ int_text int }

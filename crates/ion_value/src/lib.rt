@@ -1,4 +1,5 @@
-//! The plain values of Amazon Ion 1.0: ints, the kinds of value, and the variable-length fields of the binary encoding.
+//! The plain values of Amazon Ion 1.0: ints, the types of values, and the variable-length fields of
+//! the binary encoding.
 #![tactic(auto)]
 
 pub mod int;

@@ -4,13 +4,14 @@ ghost use Rattle.ion_value.specs.Number.{VarUInt};
 
 use ion_meter::fault::Reason;
 
-/// The most octets that a VarUInt may have here: nine octets of seven bits each are below 2 to the 63.
+/// The most octets that a VarUInt may have: nine of seven bits each are below 2^63.
 const LONGEST: usize = 9;
 
 /// Reads the VarUInt at the front of these bytes, and says how many octets it has
 /// (binary encoding, "VarUInt and VarInt Fields").
 ///
-/// It is a `BadVar` where none of the first nine octets ends one, or none of these where there are fewer.
+/// It is a `BadVar` where none of the first nine octets ends one, or none of all where there are
+/// fewer.
 #[inline]
 pub fn var_uint_read(bytes: &[u8]) -> Result<(u64, usize), Reason>
     ensures read { IfOk result (λ r. (r.1 ≤ length bytes.now) × VarUInt r.0 (take r.1 bytes.now)) }

@@ -1,4 +1,4 @@
-use Rattle.std.proofs.Common.{◌≡◌, ℕ, ◌<◌, ◌≤◌, List, ◌∷◌, drop, slice_get, arith, sym, ap, ◌∙◌, subst}
+use Rattle.std.proofs.Common.{◌≡◌, ℕ, List, ◌∷◌, drop, arith, sym, ap, ◌∙◌, subst}
 use Rattle.ion_meter.specs.Windows.{left}
 use Rattle.ion_meter.proofs.Lent.{IsPassed-left}
 use Rattle.ion_tool.specs.declared.descriptor.Descriptor.{Descriptor}

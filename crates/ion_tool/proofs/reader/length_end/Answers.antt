@@ -1,4 +1,4 @@
-use Rattle.std.proofs.Common.{◌≡◌, ℕ, ◌+◌, ◌<◌, ◌≤◌, List, length, drop, get_or, None, Some, slice_get, arith, sym, ap, ◌∙◌, refl, below_more, subst}
+use Rattle.std.proofs.Common.{◌≡◌, ℕ, ◌+◌, ◌≤◌, List, length, drop, None, Some, slice_get, arith, sym, ap, ◌∙◌, refl, below_more}
 use Rattle.ion_meter.specs.Windows.{left}
 use Rattle.ion_tool.proofs.Lengths.{next_octet, no_octet, var_end_at, var_end_none}
 use Rattle.ion_tool.proofs.reader.length_end.Goals as goal

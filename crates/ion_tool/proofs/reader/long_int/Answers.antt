@@ -1,11 +1,10 @@
-use Rattle.std.proofs.Common.{◌≡◌, ℕ, ◌+◌, ◌-◌, ◌<◌, ◌≤◌, List, length, take, drop, Some, arith, sym, ap, ◌∙◌, refl, subst}
+use Rattle.std.proofs.Common.{◌≡◌, ℕ, ◌+◌, ◌≤◌, List, length, take, drop, Some, arith, sym, ap, ◌∙◌, subst}
 use Rattle.ion_meter.specs.Windows.{left, lent}
 use Rattle.ion_meter.proofs.Lent.{lent-take, CanPass-lent, IsPassed-left}
 use Rattle.ion_value.specs.Number.{VarUInt, var_uint}
 use Rattle.ion_tool.specs.Faults.{var_end}
-use Rattle.ion_tool.specs.Reading.{GivesInt}
 use Rattle.ion_tool.proofs.Items.{behind_first, body-gives, take_again, length-read, drop_behind}
-use Rattle.ion_tool.proofs.Lengths.{end-within, end-VarUInt, VarUInt-end}
+use Rattle.ion_tool.proofs.Lengths.{end-VarUInt}
 use Rattle.ion_tool.proofs.reader.long_int.Goals as goal
 
 pub returns-in_default-var_uint_read-clause-gives : goal.returns-in_default-var_uint_read-clause-gives

@@ -1,5 +1,5 @@
-use Rattle.std.proofs.Common.{◌≡◌, ℕ, ◌+◌, ◌-◌, ◌<◌, ◌≤◌, List, ◌∷◌, ◌++◌, length, take, drop, slice_get, Some, arith, sym, ap, ◌∙◌, refl, subst}
-use Rattle.ion_meter.specs.Windows.{left, lent}
+use Rattle.std.proofs.Common.{◌≡◌, ℕ, List, ◌∷◌, drop, arith, sym}
+use Rattle.ion_meter.specs.Windows.{left}
 use Rattle.ion_meter.proofs.Lent.{IsPassed-left}
 use Rattle.ion_tool.specs.declared.descriptor.Descriptor.{Descriptor}
 use Rattle.ion_tool.proofs.Lengths.{first-front}

@@ -1,6 +1,6 @@
-use Rattle.std.proofs.Common.{◌≡◌, ℕ, ◌++◌, List, [], sym, ap, ◌∙◌, append-nil, subst}
+use Rattle.std.proofs.Common.{◌≡◌, sym, ap, ◌∙◌, append-nil, subst}
 use Rattle.std.proofs.lemmas.Result.{IfOk-weaker}
-use Rattle.ion_meter.specs.Windows.{left, so_far, BeginsWith}
+use Rattle.ion_meter.specs.Windows.{left, so_far}
 use Rattle.ion_tool.specs.Outcome.{IsOutcome}
 use Rattle.ion_tool.proofs.Shown.{late_front}
 use Rattle.ion_tool.proofs.run.run.Goals as goal

@@ -1,4 +1,4 @@
-use Rattle.std.proofs.Common.{◌≡◌, ◌≢◌, ℕ, ◌++◌, List, [], Some, None, slice_get, sym, ◌∙◌, append-nil, arith}
+use Rattle.std.proofs.Common.{◌≡◌, ◌≢◌, [], Some, None, slice_get, sym, ◌∙◌, append-nil, arith}
 use Rattle.ion_meter.specs.Windows.{left, so_far}
 use Rattle.ion_meter.specs.declared.fault.Reason.{Reason}
 use Rattle.ion_tool.proofs.Shown.{none_shown, text_shown, nothing_put}

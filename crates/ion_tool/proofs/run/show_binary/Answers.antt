@@ -1,10 +1,10 @@
-use Rattle.std.proofs.Common.{rules, ◌≡◌, ℕ, ◌+◌, ◌≤◌, ◌↔◌, List, [], ◌∷◌, ◌++◌, length, Some, None, slice_get, arith, refl, sym, ap, ◌∙◌, subst, append_assoc, append-nil}
+use Rattle.std.proofs.Common.{rules, ◌≡◌, ℕ, ◌+◌, List, [], ◌∷◌, ◌++◌, length, None, slice_get, arith, refl, sym, ap, ◌∙◌, subst, append_assoc, append-nil}
 use Rattle.std.proofs.lemmas.Grind.{common_steps}
 use Rattle.ion_meter.specs.Windows.{left, so_far}
 use Rattle.ion_meter.specs.declared.fault.Fault.{Fault}
 use Rattle.ion_tool.specs.declared.item.Form.{Form}
 use Rattle.ion_tool.specs.Outcome.{Path, accepted, IsOutcome}
-use Rattle.ion_tool.specs.Text.{text, item_text, values_in, count_of}
+use Rattle.ion_tool.specs.Text.{text, item_text}
 use Rattle.ion_tool.proofs.Lengths.{first-front}
 use Rattle.ion_tool.proofs.Paths.{Path-then}
 use Rattle.ion_tool.proofs.Shown.{all_shown, stop_shown, front_shown, front_written, text-then, values-then, count_of-le, none_left}

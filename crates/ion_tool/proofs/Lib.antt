@@ -10,3 +10,4 @@ pub mod Rows
 pub mod ShowWord
 pub mod Shown
 pub mod Writing
+pub mod Spelled

@@ -47,7 +47,7 @@ number_short s n h =
     ]
 
 -- a descriptor with a short length
-descriptor_short : (s : Bool) (n : ℕ) → n < 14 → descriptor_of (16 * code_of s + n) ≡ Descriptor.Int s (Length.Short n)
+pub descriptor_short : (s : Bool) (n : ℕ) → n < 14 → descriptor_of (16 * code_of s + n) ≡ Descriptor.Int s (Length.Short n)
 descriptor_short false n h =
     let d : (16 * 2 + n) / 16 ≡ 2 = omega arith in
     let m : (16 * 2 + n) % 16 ≡ n = omega arith in
@@ -57,7 +57,7 @@ descriptor_short true n h =
     let m : (16 * 3 + n) % 16 ≡ n = omega arith in
     rw (d, m) (number_short true n h)
 
-descriptor_long : (s : Bool) → descriptor_of (16 * code_of s + 14) ≡ Descriptor.Int s Length.Long
+pub descriptor_long : (s : Bool) → descriptor_of (16 * code_of s + 14) ≡ Descriptor.Int s Length.Long
 descriptor_long false = refl
 descriptor_long true = refl
 
@@ -69,7 +69,7 @@ low_before (x ∷ y ∷ bs) v zero h = v.0
 low_before (x ∷ y ∷ bs) v (suc k) h = low_before (y ∷ bs) v.1 k (omega arith)
 
 -- a length that is spelled ends where its octets do
-spelled_end : (n : ℕ) (len c : List ℕ) → VarUInt n len → (last : ℕ) × (length len ≡ last + 1) × (var_end (len ++ c) ≡ Some last)
+pub spelled_end : (n : ℕ) (len c : List ℕ) → VarUInt n len → (last : ℕ) × (length len ≡ last + 1) × (var_end (len ++ c) ≡ Some last)
 spelled_end n len c is =
     let l = IsVar-last len is.ends in
     let i : ℕ = l.0 in

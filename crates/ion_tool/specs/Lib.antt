@@ -1,6 +1,7 @@
 pub mod Descriptor
 pub mod Faults
 pub mod Grammar
+pub mod Laws
 pub mod Outcome
 pub mod Reading
 pub mod Serving

@@ -39,7 +39,3 @@ is_verdict (Err Memory) = false
 is_verdict (Err ReadFault) = false
 is_verdict (Err WriteFault) = false
 is_verdict (Err InputLimit) = false
-
--- an input has one verdict and one output at most
-abbrev pub OneOutcome : Type 0
-OneOutcome = (lim : Limits) (bytes : List ℕ) (v w : Verdict) (out other : List ℕ) → IsOutcome lim bytes v out → IsOutcome lim bytes w other → (v ≡ w) × (out ≡ other)

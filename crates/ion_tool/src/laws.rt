@@ -1,8 +1,13 @@
-//! Laws of the definitions that the contracts cite.
-ghost use Rattle.ion_tool.specs.Outcome.{OneOutcome};
+//! Laws of the definitions that the contracts cite. The calls do nothing: their contracts are the laws.
+ghost use Rattle.ion_tool.specs.Laws.{OneOutcome, SpelledIsRead};
 
-/// An input has one verdict and one output at most, under given limits. The call does nothing: its
-/// contract is the law.
+/// Under given limits an input has one verdict and one output at most.
 pub fn one_outcome()
     ensures { OneOutcome }
+{}
+
+/// Octets that spell an item by the grammar are refused by the scalar limit alone, whatever stands
+/// behind them.
+pub fn spelled_is_read()
+    ensures { SpelledIsRead }
 {}

@@ -2,7 +2,7 @@
 use Rattle.std.proofs.Common.{◌≡◌, arith, refl, [], ◌∷◌, true, false}
 use Rattle.std.specs.Prelude.{codes}
 use Rattle.std.specs.Fmt.{digits}
-use Rattle.ion_value.specs.Number.{var_uint, VarUInt, uint}
+use Rattle.ion_value.specs.Number.{var_uint, VarUInt, var_int_negative, var_int_magnitude, VarInt, uint}
 use Rattle.ion_value.specs.Int.{int_text}
 
 var_uint-one : var_uint (0x81 ∷ []) ≡ 1
@@ -19,6 +19,24 @@ var_uint-leading_zero = refl
 
 var_uint-nine : var_uint (0x7F ∷ 0x7F ∷ 0x7F ∷ 0x7F ∷ 0x7F ∷ 0x7F ∷ 0x7F ∷ 0x7F ∷ 0xFF ∷ []) ≡ 0x7FFF_FFFF_FFFF_FFFF
 var_uint-nine = refl
+
+var_int-minus_zero : var_int_negative (0xC0 ∷ []) ≡ true
+var_int-minus_zero = refl
+
+var_int-zero : var_int_negative (0x80 ∷ []) ≡ false
+var_int-zero = refl
+
+var_int-two_octets : var_int_magnitude (0x40 ∷ 0xC0 ∷ []) ≡ 64
+var_int-two_octets = refl
+
+var_int-nine : var_int_magnitude (0x7F ∷ 0x7F ∷ 0x7F ∷ 0x7F ∷ 0x7F ∷ 0x7F ∷ 0x7F ∷ 0x7F ∷ 0xFF ∷ []) ≡ 0x3FFF_FFFF_FFFF_FFFF
+var_int-nine = refl
+
+minus_64 : VarInt (record { negative = true; magnitude = 64 }) (0x40 ∷ 0xC0 ∷ [])
+minus_64 = record { short = omega arith; ends = (omega arith, omega arith); sign = refl; magnitude = refl }
+
+minus_zero : VarInt (record { negative = true; magnitude = 0 }) (0xC0 ∷ [])
+minus_zero = record { short = omega arith; ends = omega arith; sign = refl; magnitude = refl }
 
 uint-empty : uint [] ≡ 0
 uint-empty = refl

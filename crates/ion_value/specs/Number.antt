@@ -1,5 +1,6 @@
 -- Numbers as the octets of the binary encoding spell them.
-use Rattle.std.specs.Prelude.{◌≡◌, ℕ, ◌+◌, ◌*◌, ◌%◌, ◌^◌, ◌<◌, ◌≤◌, List, [], ◌∷◌, length, map}
+use Rattle.std.specs.Prelude.{◌≡◌, ℕ, ◌+◌, ◌*◌, ◌%◌, ◌^◌, ◌<◌, ◌≤◌, Bool, false, nat_le, List, [], ◌∷◌, length, map}
+use Rattle.ion_value.specs.declared.var.Signed.{Signed}
 
 -- the number whose digits these are in a base, the first digit counting most: the sum of each digit times the base to the number of digits
 -- after it
@@ -26,6 +27,23 @@ pub record VarUInt (n : ℕ) (b : List ℕ) : Type 0 where
   pub short : length b ≤ 9
   pub ends : IsVar b
   pub value : n ≡ var_uint b
+
+-- whether the octets of a VarInt have a minus: bit 6 of the first of them (binary encoding, "VarUInt and VarInt Fields")
+abbrev pub var_int_negative : List ℕ → Bool
+var_int_negative [] = false
+var_int_negative (first ∷ rest) = nat_le 64 (first % 128)
+
+-- the magnitude that the octets of a VarInt spell: six bits in the first of them, and seven in each of the rest
+abbrev pub var_int_magnitude : List ℕ → ℕ
+var_int_magnitude [] = 0
+var_int_magnitude (first ∷ rest) = number 128 (first % 64 ∷ sevens rest)
+
+-- these octets are a VarInt of at most nine octets, and spell this sign and magnitude
+pub record VarInt (z : Signed) (b : List ℕ) : Type 0 where
+  pub short : length b ≤ 9
+  pub ends : IsVar b
+  pub sign : z.negative ≡ var_int_negative b
+  pub magnitude : z.magnitude ≡ var_int_magnitude b
 
 -- the number that the octets of a UInt spell, where no octets spell zero (binary encoding, "UInt and Int Fields")
 abbrev pub uint : List ℕ → ℕ

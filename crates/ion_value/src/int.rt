@@ -1,9 +1,9 @@
 //! Ints: a sign and a magnitude of up to 128 bits.
-ghost use Rattle.std.specs.Prelude.{◌≡◌, ◌^◌, ◌≤◌, ◌↔◌, ◌⊎◌, true, ◌<◌, length, Err, IfOk, IfErr};
+ghost use Rattle.std.specs.Prelude.{◌≡◌, ℕ, ◌^◌, ◌≤◌, ◌↔◌, ◌⊎◌, true, ◌<◌, List, All, length, Err, IfOk, IfErr};
 ghost use Rattle.ion_value.specs.Number.{uint};
 ghost use Rattle.ion_value.specs.Int.{IsInt, int_text};
 
-use arrayvec::ArrayString;
+use arrayvec::{ArrayString, ArrayVec};
 use ion_meter::fault::Reason;
 use itoa::Buffer;
 
@@ -67,6 +67,23 @@ pub fn int_from_bytes(negative: bool, magnitude: &[u8]) -> Result<Int, Reason>
         negative,
         magnitude,
     })
+}
+
+/// The magnitude of an int as a UInt without zeros at its front, so no octets for 0
+/// (binary encoding, "2 and 3: int" and "UInt and Int Fields").
+#[inline]
+pub fn int_to_bytes(int: Int) -> ArrayVec<u8, 16>
+    requires { IsInt int }
+    ensures value { uint result.items ≡ int.magnitude }
+    ensures octets { All (λ octet. octet < 256) result.items }
+
+    // No other octets that spell the magnitude are fewer.
+    ensures shortest { (b : List ℕ) → All (λ octet. octet < 256) b → uint b ≡ int.magnitude
+        → length result.items ≤ length b }
+{
+    let octets = int.magnitude.to_be_bytes();
+    let zeros = int.magnitude.leading_zeros() as usize / 8;
+    ArrayVec::try_from(&octets[zeros..]).unwrap()
 }
 
 /// The text of an int: its decimal digits, behind a minus where it is negative (Ion specification,
@@ -152,6 +169,26 @@ mod tests {
                 magnitude,
             });
             assert_eq!(rt; text.as_str(), want);
+        }
+    }
+
+    #[test]
+    fn writes_magnitudes(rt: HostRuntime) {
+        let largest = [0xFF; 16];
+        for (magnitude, want) in [
+            (0, [].as_slice()),
+            (255, [0xFF].as_slice()),
+            (256, [0x01, 0x00].as_slice()),
+            (0x0102_0304_0506, [1, 2, 3, 4, 5, 6].as_slice()),
+            (u128::MAX, largest.as_slice()),
+        ] {
+            let int = Int {
+                negative: false,
+                magnitude,
+            };
+            let octets = int_to_bytes(int);
+            assert_eq!(rt; octets.as_slice(), want);
+            assert_eq!(rt; int_from_bytes(false, octets.as_slice()), Ok(int));
         }
     }
 }

@@ -4,4 +4,5 @@
 
 pub mod int;
 pub mod ion_type;
+pub mod laws;
 pub mod var;

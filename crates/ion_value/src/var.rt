@@ -1,11 +1,22 @@
 //! Variable-length fields of the binary encoding.
-ghost use Rattle.std.specs.Prelude.{◌≡◌, ℕ, ◌≤◌, length, take, IfOk, IfErr};
-ghost use Rattle.ion_value.specs.Number.{VarUInt};
+ghost use Rattle.std.specs.Prelude.{◌≡◌, ℕ, ◌+◌, ◌-◌, ◌*◌, ◌^◌, ◌<◌, ◌≤◌, List, length, take, IfOk, IfErr};
+ghost use Rattle.ion_value.specs.Number.{IsVar, var_uint, VarUInt, VarInt};
 
+use arrayvec::ArrayVec;
 use ion_meter::fault::Reason;
 
 /// The most octets that a VarUInt may have: nine of seven bits each are below 2^63.
 const LONGEST: usize = 9;
+
+/// A sign and a magnitude, where minus zero differs from zero: the value of a VarInt
+/// (binary encoding, "VarUInt and VarInt Fields").
+#[derive(Clone, Copy, Debug, PartialEq, Eq)]
+pub struct Signed {
+    /// Whether there is a minus.
+    pub negative: bool,
+    /// The number without its sign.
+    pub magnitude: u64,
+}
 
 /// Reads the VarUInt at the front of these bytes, and says how many octets it has
 /// (binary encoding, "VarUInt and VarInt Fields").
@@ -26,6 +37,95 @@ pub fn var_uint_read(bytes: &[u8]) -> Result<(u64, usize), Reason>
         value = value * 128 + *byte as u64;
     }
     Err(Reason::BadVar)
+}
+
+/// Reads the VarInt at the front of these bytes, and says how many octets it has
+/// (binary encoding, "VarUInt and VarInt Fields").
+///
+/// It is a `BadVar` where none of the first nine octets ends one, or none of all where there are
+/// fewer.
+#[inline]
+pub fn var_int_read(bytes: &[u8]) -> Result<(Signed, usize), Reason>
+    ensures read { IfOk result (λ r. (r.1 ≤ length bytes.now) × VarInt r.0 (take r.1 bytes.now)) }
+    ensures refused { IfErr result (λ r. (r ≡ Reason.BadVar)
+        × ((z : Signed) (k : ℕ) → VarInt z (take k bytes.now) → ⊥)) }
+{
+    let (value, count) = var_uint_read(bytes)?;
+    let sign = sign_bit(count);
+    let negative = value >= sign;
+    let magnitude = if negative { value - sign } else { value };
+    let signed = Signed {
+        negative,
+        magnitude,
+    };
+    Ok((signed, count))
+}
+
+/// The fewest octets that are a VarUInt and spell this number
+/// (binary encoding, "VarUInt and VarInt Fields").
+#[inline]
+pub fn var_uint_write(n: u64) -> ArrayVec<u8, 9>
+    requires { n < 2 ^ 63 }
+    ensures value { VarUInt n result.items }
+    ensures shortest { (b : List ℕ) → VarUInt n b → length result.items ≤ length b }
+{
+    octets(n, octet_count(n.max(1)))
+}
+
+/// The fewest octets that are a VarInt and spell this sign and magnitude
+/// (binary encoding, "VarUInt and VarInt Fields").
+#[inline]
+pub fn var_int_write(z: Signed) -> ArrayVec<u8, 9>
+    requires { z.magnitude < 2 ^ 62 }
+    ensures value { VarInt z result.items }
+    ensures shortest { (b : List ℕ) → VarInt z b → length result.items ≤ length b }
+{
+    let count = octet_count(2 * z.magnitude + 1);
+    let sign = if z.negative { sign_bit(count) } else { 0 };
+    octets(z.magnitude + sign, count)
+}
+
+// How many octets of seven bits each hold this number.
+#[inline]
+fn octet_count(n: u64) -> usize
+    requires positive { 0 < n }
+    requires in_range { n < 2 ^ 63 }
+    ensures some { 0 < result }
+    ensures short { result ≤ LONGEST }
+    ensures enough { n < 128 ^ result }
+    ensures least { 128 ^ (result - 1) ≤ n }
+{
+    // 64 less the zeros at its front is how many bits it has, and the rest rounds up.
+    (70 - n.leading_zeros() as usize) / 7
+}
+
+// What the sign of a VarInt of this many octets adds to the number that its octets spell as a
+// VarUInt: bit 6 of the first octet.
+#[inline]
+fn sign_bit(count: usize) -> u64
+    requires some { 0 < count }
+    requires short { count ≤ LONGEST }
+    ensures { result ≡ 64 * 128 ^ (count - 1) }
+{
+    64 << (7 * (count - 1))
+}
+
+// This number in this many octets of seven bits each, the high bit set on the last alone.
+#[inline]
+fn octets(n: u64, count: usize) -> ArrayVec<u8, 9>
+    requires some { 0 < count }
+    requires short { count ≤ LONGEST }
+    requires fits { n < 128 ^ count }
+    ensures len { length result.items ≡ count }
+    ensures ends { IsVar result.items }
+    ensures value { var_uint result.items ≡ n }
+{
+    let mut octets = ArrayVec::new();
+    for i in (1..count).rev() {
+        octets.push(((n >> (7 * i)) % 128) as u8);
+    }
+    octets.push((n % 128) as u8 + 128);
+    octets
 }
 
 #[cfg(test)]
@@ -51,5 +151,130 @@ mod tests {
         assert_eq!(rt; var_uint_read(&ten[..9]), Err(Reason::BadVar));
         ten[9] = 0x81;
         assert_eq!(rt; var_uint_read(&ten), Err(Reason::BadVar));
+    }
+
+    #[test]
+    fn writes_var_uints(rt: HostRuntime) {
+        let largest = [0x7F, 0x7F, 0x7F, 0x7F, 0x7F, 0x7F, 0x7F, 0x7F, 0xFF];
+        assert_eq!(rt; var_uint_write(0).as_slice(), [0x80].as_slice());
+        assert_eq!(rt; var_uint_write(127).as_slice(), [0xFF].as_slice());
+        assert_eq!(rt; var_uint_write(128).as_slice(), [0x01, 0x80].as_slice());
+        assert_eq!(rt; var_uint_write(0x710).as_slice(), [0x0E, 0x90].as_slice());
+        assert_eq!(rt; var_uint_write(16383).as_slice(), [0x7F, 0xFF].as_slice());
+        assert_eq!(rt;
+            var_uint_write(16384).as_slice(),
+            [0x01, 0x00, 0x80].as_slice()
+        );
+        assert_eq!(rt;
+            var_uint_write(0x7FFF_FFFF_FFFF_FFFF).as_slice(),
+            largest.as_slice()
+        );
+    }
+
+    #[test]
+    fn reads_the_var_uints_that_it_writes(rt: HostRuntime) {
+        for (n, count) in [
+            (0, 1),
+            (127, 1),
+            (128, 2),
+            (16383, 2),
+            (16384, 3),
+            (0x7FFF_FFFF_FFFF_FFFF, 9),
+        ] {
+            assert!(rt; n < 0x8000_0000_0000_0000);
+            assert_eq!(rt; var_uint_read(var_uint_write(n).as_slice()), Ok((n, count)));
+        }
+    }
+
+    fn signed(negative: bool, magnitude: u64) -> Signed
+        ensures sign { result.negative ≡ negative }
+        ensures magnitude { result.magnitude ≡ magnitude }
+    {
+        Signed {
+            negative,
+            magnitude,
+        }
+    }
+
+    #[test]
+    fn reads_var_ints(rt: HostRuntime) {
+        assert_eq!(rt; var_int_read(&[0x80]), Ok((signed(false, 0), 1)));
+        assert_eq!(rt; var_int_read(&[0xC0]), Ok((signed(true, 0), 1)));
+        assert_ne!(rt; var_int_read(&[0xC0]), Ok((signed(false, 0), 1)));
+        assert_eq!(rt; var_int_read(&[0xBF]), Ok((signed(false, 63), 1)));
+        assert_eq!(rt; var_int_read(&[0xFF]), Ok((signed(true, 63), 1)));
+        assert_eq!(rt; var_int_read(&[0x00, 0xC0]), Ok((signed(false, 64), 2)));
+        assert_eq!(rt; var_int_read(&[0x40, 0xC0]), Ok((signed(true, 64), 2)));
+        assert_eq!(rt; var_int_read(&[0x7F, 0x81]), Ok((signed(true, 8065), 2)));
+        assert_eq!(rt;
+            var_int_read(&[0x41, 0x00, 0x85, 0x80]),
+            Ok((signed(true, 16389), 3))
+        );
+        let mut nine = [0x7F; 9];
+        nine[8] = 0xFF;
+        assert_eq!(rt;
+            var_int_read(&nine),
+            Ok((signed(true, 0x3FFF_FFFF_FFFF_FFFF), 9))
+        );
+        nine[0] = 0x3F;
+        assert_eq!(rt;
+            var_int_read(&nine),
+            Ok((signed(false, 0x3FFF_FFFF_FFFF_FFFF), 9))
+        );
+    }
+
+    #[test]
+    fn refuses_var_ints_that_do_not_end(rt: HostRuntime) {
+        assert_eq!(rt; var_int_read(&[]), Err(Reason::BadVar));
+        assert_eq!(rt; var_int_read(&[0x7F]), Err(Reason::BadVar));
+        let mut ten = [0x7F; 10];
+        assert_eq!(rt; var_int_read(&ten[..9]), Err(Reason::BadVar));
+        ten[9] = 0xFF;
+        assert_eq!(rt; var_int_read(&ten), Err(Reason::BadVar));
+    }
+
+    #[test]
+    fn writes_var_ints(rt: HostRuntime) {
+        let largest = [0x7F, 0x7F, 0x7F, 0x7F, 0x7F, 0x7F, 0x7F, 0x7F, 0xFF];
+        assert_eq!(rt;
+            var_int_write(signed(false, 0)).as_slice(),
+            [0x80].as_slice()
+        );
+        assert_eq!(rt;
+            var_int_write(signed(true, 0)).as_slice(),
+            [0xC0].as_slice()
+        );
+        assert_eq!(rt;
+            var_int_write(signed(false, 63)).as_slice(),
+            [0xBF].as_slice()
+        );
+        assert_eq!(rt;
+            var_int_write(signed(false, 64)).as_slice(),
+            [0x00, 0xC0].as_slice()
+        );
+        assert_eq!(rt;
+            var_int_write(signed(true, 64)).as_slice(),
+            [0x40, 0xC0].as_slice()
+        );
+        let least = signed(true, 0x3FFF_FFFF_FFFF_FFFF);
+        assert_eq!(rt; var_int_write(least).as_slice(), largest.as_slice());
+    }
+
+    #[test]
+    fn reads_the_var_ints_that_it_writes(rt: HostRuntime) {
+        for (magnitude, count) in [
+            (0, 1),
+            (63, 1),
+            (64, 2),
+            (8191, 2),
+            (8192, 3),
+            (0x3FFF_FFFF_FFFF_FFFF, 9),
+        ] {
+            assert!(rt; magnitude < 0x4000_0000_0000_0000);
+            for negative in [false, true] {
+                let z = signed(negative, magnitude);
+                assert_eq!(rt; var_int_read(var_int_write(z).as_slice()), Ok((z, count)));
+            }
+        }
     }
 }

@@ -18,7 +18,7 @@ pow-128 (suc k) =
     let e : 7 * suc k ≡ 7 * k + 7 = omega arith in
     pow-suc 128 k ∙ rw (e, pow-add 2 (7 * k) 7, pow-128 k) refl
 
-pow-256 : (k : ℕ) → 256 ^ k ≡ 2 ^ (8 * k)
+pub pow-256 : (k : ℕ) → 256 ^ k ≡ 2 ^ (8 * k)
 pow-256 zero = pow-zero 256 ∙ sym (pow-zero 2)
 pow-256 (suc k) =
     let e : 8 * suc k ≡ 8 * k + 8 = omega arith in

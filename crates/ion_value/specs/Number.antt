@@ -1,5 +1,5 @@
 -- Numbers as the octets of the binary encoding spell them.
-use Rattle.std.specs.Prelude.{◌≡◌, ℕ, ◌+◌, ◌*◌, ◌%◌, ◌^◌, ◌<◌, ◌≤◌, Bool, false, nat_le, List, [], ◌∷◌, length, map}
+use Rattle.std.specs.Prelude.{◌≡◌, ℕ, zero, suc, ◌+◌, ◌*◌, ◌/◌, ◌%◌, ◌^◌, ◌<◌, ◌≤◌, ℤ, pos, neg_ℤ, Bool, true, false, nat_le, nat_lt, if◌then◌else◌, List, [], ◌∷◌, ◌++◌, length, map, Option, Some, None, option_map}
 use Rattle.ion_value.specs.declared.var.Signed.{Signed}
 
 -- the number whose digits these are in a base, the first digit counting most: the sum of each digit times the base to the number of digits
@@ -48,3 +48,66 @@ pub record VarInt (z : Signed) (b : List ℕ) : Type 0 where
 -- the number that the octets of a UInt spell, where no octets spell zero (binary encoding, "UInt and Int Fields")
 abbrev pub uint : List ℕ → ℕ
 uint b = number 256 b
+
+-- whether the octets of an Int have a minus: the high bit of the first of them (binary encoding, "UInt and Int Fields")
+abbrev pub int_negative : List ℕ → Bool
+int_negative [] = false
+int_negative (first ∷ rest) = nat_le 128 first
+
+-- the magnitude that the octets of an Int spell: seven bits in the first of them, and eight in each of the rest
+abbrev pub int_magnitude : List ℕ → ℕ
+int_magnitude [] = 0
+int_magnitude (first ∷ rest) = number 256 (first % 128 ∷ rest)
+
+-- a sign and a magnitude as one number
+abbrev pub signed : Bool → ℕ → ℤ
+signed true n = neg_ℤ (pos n)
+signed false n = pos n
+
+-- ---- where a field ends
+
+-- the octets of the VarUInt or VarInt at the front of a body, at most so many, and those behind it
+unfoldable pub var_cut : ℕ → List ℕ → Option (List ℕ × List ℕ)
+var_cut zero body = None
+var_cut (suc most) [] = None
+var_cut (suc most) (b ∷ body) =
+    if nat_lt b 128 then option_map (λ cut. (b ∷ cut.0, cut.1)) (var_cut most body) else Some (b ∷ [], body)
+
+-- ---- the fewest octets
+
+-- the digits of a number in a base, the one that counts most first, and none of zero; the first argument is how many there are at most
+unfoldable pub digits_within : ℕ → ℕ → ℕ → List ℕ
+digits_within zero base n = []
+digits_within (suc most) base zero = []
+digits_within (suc most) base (suc n) = digits_within most base (suc n / base) ++ (suc n % base) ∷ []
+
+abbrev pub digits_in : ℕ → ℕ → List ℕ
+digits_in base n = digits_within n base n
+
+-- groups of seven bits as the octets of a VarUInt or VarInt: the high bit set on the last alone, and one octet where there is no group
+abbrev pub marked : List ℕ → List ℕ
+marked [] = 128 ∷ []
+marked (d ∷ []) = (d + 128) ∷ []
+marked (d ∷ e ∷ ds) = d ∷ marked (e ∷ ds)
+
+-- digits with a sign in the high bit of the first, which stands before them where the first has that bit already
+abbrev pub with_sign : ℕ → Bool → List ℕ → List ℕ
+with_sign bit negative [] = (if negative then bit else 0) ∷ []
+with_sign bit negative (d ∷ ds) =
+    if nat_lt d bit then (if negative then d + bit else d) ∷ ds else (if negative then bit else 0) ∷ d ∷ ds
+
+-- the shortest UInt, VarUInt and VarInt of a number
+abbrev pub uint_octets : ℕ → List ℕ
+uint_octets n = digits_in 256 n
+
+abbrev pub var_uint_octets : ℕ → List ℕ
+var_uint_octets n = marked (digits_in 128 n)
+
+abbrev pub var_int_octets : Bool → ℕ → List ℕ
+var_int_octets negative n = marked (with_sign 64 negative (digits_in 128 n))
+
+-- the shortest Int of a coefficient, of which positive zero needs no octets
+abbrev pub coefficient_octets : Bool → ℕ → List ℕ
+coefficient_octets false zero = []
+coefficient_octets false (suc n) = with_sign 128 false (digits_in 256 (suc n))
+coefficient_octets true n = with_sign 128 true (digits_in 256 n)

@@ -1,8 +1,9 @@
 //! Ints: a sign and a magnitude of up to 128 bits.
 ghost use Rattle.std.specs.Prelude.{◌≡◌, ℕ, ◌^◌, ◌≤◌, ◌↔◌, ◌⊎◌, true, ◌<◌, List, All, length, Err, IfOk, IfErr};
-ghost use Rattle.ion_value.specs.Number.{uint};
-ghost use Rattle.ion_value.specs.Int.{IsInt, int_text};
+ghost use Rattle.ion_value.specs.Number.{uint, uint_octets};
+ghost use Rattle.ion_value.specs.Int.{IsInt, int_of_bytes, int_text};
 
+pub use crate::int_text::int_from_text;
 use arrayvec::{ArrayString, ArrayVec};
 use ion_meter::fault::Reason;
 use itoa::Buffer;
@@ -18,7 +19,7 @@ pub struct Int {
 
 // These octets without the zeros at their front.
 #[inline]
-fn without_zeros(bytes: &[u8]) -> &[u8]
+pub(crate) fn without_zeros(bytes: &[u8]) -> &[u8]
     ensures same { uint result.now ≡ uint bytes.now }
     ensures large { 16 < length result.now → 2 ^ 128 ≤ uint bytes.now }
 {
@@ -31,7 +32,7 @@ fn without_zeros(bytes: &[u8]) -> &[u8]
 
 // The number that these octets spell, the first counting most.
 #[inline]
-fn uint_value(bytes: &[u8]) -> u128
+pub(crate) fn uint_value(bytes: &[u8]) -> u128
     requires { length bytes.now ≤ 16 }
     ensures { result ≡ uint bytes.now }
 {
@@ -49,6 +50,7 @@ fn uint_value(bytes: &[u8]) -> u128
 /// out of `Range`, and a negative zero is a `BadNumber`.
 #[inline]
 pub fn int_from_bytes(negative: bool, magnitude: &[u8]) -> Result<Int, Reason>
+    ensures is { result ≡ int_of_bytes negative magnitude.now }
     ensures read { IfOk result (λ i. (i.negative ≡ negative) × (i.magnitude ≡ uint magnitude.now)) }
     ensures valid { IfOk result IsInt }
     ensures range { (result ≡ Err Reason.Range) ↔ (2 ^ 128 ≤ uint magnitude.now) }
@@ -74,6 +76,7 @@ pub fn int_from_bytes(negative: bool, magnitude: &[u8]) -> Result<Int, Reason>
 #[inline]
 pub fn int_to_bytes(int: Int) -> ArrayVec<u8, 16>
     requires { IsInt int }
+    ensures spelled { result.items ≡ uint_octets int.magnitude }
     ensures value { uint result.items ≡ int.magnitude }
     ensures octets { All (λ octet. octet < 256) result.items }
 

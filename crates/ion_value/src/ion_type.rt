@@ -32,3 +32,14 @@ pub enum IonType {
     /// Fields, each a symbol and a value, in `{..}`.
     Struct,
 }
+
+/// What a container is (Ion specification, "Container Types").
+#[derive(Clone, Copy, Debug, PartialEq, Eq)]
+pub enum Kind {
+    /// Values in order, in `[..]`.
+    List,
+    /// Values in order, in `(..)`.
+    Sexp,
+    /// Fields, each a symbol and a value, in `{..}`.
+    Struct,
+}

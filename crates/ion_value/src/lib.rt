@@ -2,7 +2,20 @@
 //! the binary encoding.
 #![tactic(auto)]
 
+pub mod decimal;
+mod decimal_text;
+mod digits;
 pub mod int;
+mod int_field;
+mod int_text;
 pub mod ion_type;
+pub mod item;
 pub mod laws;
+pub mod names;
+pub mod reader;
+#[cfg(test)]
+mod tests;
+pub mod timestamp;
+mod timestamp_text;
 pub mod var;
+pub mod writer;

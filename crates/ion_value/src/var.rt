@@ -1,6 +1,6 @@
 //! Variable-length fields of the binary encoding.
-ghost use Rattle.std.specs.Prelude.{◌≡◌, ℕ, ◌+◌, ◌-◌, ◌*◌, ◌^◌, ◌<◌, ◌≤◌, List, length, take, IfOk, IfErr};
-ghost use Rattle.ion_value.specs.Number.{IsVar, var_uint, VarUInt, VarInt};
+ghost use Rattle.std.specs.Prelude.{◌≡◌, ℕ, ◌+◌, ◌-◌, ◌*◌, ◌^◌, ◌<◌, ◌≤◌, List, All, length, take, IfOk, IfErr};
+ghost use Rattle.ion_value.specs.Number.{IsVar, var_uint, VarUInt, VarInt, var_uint_octets, var_int_octets};
 
 use arrayvec::ArrayVec;
 use ion_meter::fault::Reason;
@@ -66,6 +66,7 @@ pub fn var_int_read(bytes: &[u8]) -> Result<(Signed, usize), Reason>
 #[inline]
 pub fn var_uint_write(n: u64) -> ArrayVec<u8, 9>
     requires { n < 2 ^ 63 }
+    ensures spelled { result.items ≡ var_uint_octets n }
     ensures value { VarUInt n result.items }
     ensures shortest { (b : List ℕ) → VarUInt n b → length result.items ≤ length b }
 {
@@ -77,6 +78,7 @@ pub fn var_uint_write(n: u64) -> ArrayVec<u8, 9>
 #[inline]
 pub fn var_int_write(z: Signed) -> ArrayVec<u8, 9>
     requires { z.magnitude < 2 ^ 62 }
+    ensures spelled { result.items ≡ var_int_octets z.negative z.magnitude }
     ensures value { VarInt z result.items }
     ensures shortest { (b : List ℕ) → VarInt z b → length result.items ≤ length b }
 {
@@ -117,6 +119,7 @@ fn octets(n: u64, count: usize) -> ArrayVec<u8, 9>
     requires short { count ≤ LONGEST }
     requires fits { n < 128 ^ count }
     ensures len { length result.items ≡ count }
+    ensures octets { All (λ octet. octet < 256) result.items }
     ensures ends { IsVar result.items }
     ensures value { var_uint result.items ≡ n }
 {

@@ -1,5 +1,6 @@
 use Rattle.std.proofs.Common.{◌≡◌, ℕ, ◌-◌, ◌%◌, ◌+◌, [], arith, sym}
 use Rattle.ion_value.proofs.Fields.{group-none, group-more, group-last, low-push, IsVar-push}
+use Rattle.ion_value.proofs.Octets.{octets-push}
 use Rattle.ion_value.proofs.var.octets.Goals as goal
 
 pub loop-i-init : goal.loop-i-init
@@ -28,6 +29,10 @@ push-requires-2 c = (omega arith, omega arith)
 
 pub returns-clause-len : goal.returns-clause-len
 returns-clause-len c = omega arith
+
+pub returns-clause-octets : goal.returns-clause-octets
+returns-clause-octets c =
+    rw c.push-2.ensures.items (octets-push c.loop-i.octets.items (c.args.n % 128 + 128) c.loop-i.invariant.low (omega arith))
 
 pub returns-clause-ends : goal.returns-clause-ends
 returns-clause-ends c =

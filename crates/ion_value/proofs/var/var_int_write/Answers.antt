@@ -1,5 +1,7 @@
 use Rattle.std.proofs.Common.{◌≡◌, ℕ, ◌+◌, ◌-◌, ◌*◌, ◌<◌, ◌≤◌, ◌^◌, length, arith}
 use Rattle.ion_value.proofs.Fields.{digits-least, sign-small, magnitude-fits, VarInt-plus, VarInt-minus, var_int-lt}
+use Rattle.ion_value.proofs.Octets.{Below-All}
+use Rattle.ion_value.proofs.VarOctets.{var_int-spelled}
 use Rattle.ion_value.proofs.var.var_int_write.Goals.{then-z, else-z}
 use Rattle.ion_value.proofs.var.var_int_write.Goals as goal
 
@@ -31,3 +33,8 @@ returns-clause-shortest c =
     let n : ℕ = 2 * c.args.z.magnitude + 1 in
     let small : n < 128 ^ length b = omega (arith, other.magnitude, var_int-lt b other.ends) in
     rw c.octets.ensures.len (digits-least 128 c.octet_count-count.result (length b) n (omega arith) c.octet_count-count.ensures.least small)
+
+pub returns-clause-spelled : goal.returns-clause-spelled
+returns-clause-spelled c =
+    let b = c.octets.result.items in
+    var_int-spelled c.args.z b (returns-clause-value c) (Below-All 256 b c.octets.ensures.octets) (returns-clause-shortest c) c.requires

@@ -1,0 +1,141 @@
+-- Laws of what a reading comes to.
+use Rattle.std.proofs.Common.{◌≡◌, ℕ, ◌+◌, List, [], ◌∷◌, ◌++◌, Option, Some, None, refl, ap, sym, ◌∙◌, subst, append_assoc, arith, false}
+use Rattle.std.proofs.lemmas.List.{append-nil}
+use Rattle.ion_meter.specs.Windows.{BeginsWith}
+use Rattle.ion_meter.specs.declared.fault.Reason.{Reason}
+use Rattle.ion_value.specs.declared.ion_type.Kind.{Kind}
+use Rattle.ion_value.specs.Value.{PlacedItem, SymbolAt, Head, whole, begin, end, marker}
+use Rattle.ion_value.specs.Reading.{Reading, Finished, Stopped, More}
+use Rattle.ion_value.specs.Standing.{open_after, open_behind, is_marker}
+use Rattle.ion_value.specs.Outcome.{Rejected, one_if_closed, values_in, verdict_with, verdict_behind, output_with, output_behind, skipping, without_markers}
+
+-- ---- fronts
+
+pub begins-self : (xs : List ℕ) → BeginsWith xs xs
+begins-self xs = ([], sym (append-nil xs))
+
+pub begins-append : (xs ys : List ℕ) → BeginsWith (xs ++ ys) xs
+begins-append xs ys = (ys, refl)
+
+pub begins-then : (xs ys zs : List ℕ) → BeginsWith zs ys → BeginsWith ys xs → BeginsWith zs xs
+begins-then xs ys zs f g = (g.0 ++ f.0, f.1 ∙ ap (λ l. l ++ f.0) g.1 ∙ append_assoc xs g.0 f.0)
+
+pub begins-behind : (before xs ys : List ℕ) → BeginsWith ys xs → BeginsWith (before ++ ys) (before ++ xs)
+begins-behind before xs ys f = (f.0, ap (λ l. before ++ l) f.1 ∙ sym (append_assoc before xs f.0))
+
+-- ---- one item more
+
+-- the open containers behind one item more
+pub open_behind-append : (kinds : List Kind) (path : List PlacedItem) (item : PlacedItem) → open_behind kinds (path ++ item ∷ []) ≡ open_after (open_behind kinds path) item.head
+open_behind-append kinds [] item = refl
+open_behind-append kinds (first ∷ path) item = open_behind-append (open_after kinds first.head) path item
+
+pub values_in-append : (kinds : List Kind) (path : List PlacedItem) (item : PlacedItem) → values_in kinds (path ++ item ∷ []) ≡ values_in kinds path + one_if_closed (open_after (open_behind kinds path) item.head)
+values_in-append kinds [] item = omega arith
+values_in-append kinds (first ∷ path) item =
+    let more = values_in-append (open_after kinds first.head) path item in
+    omega arith
+
+-- ---- a writer's laws
+
+abbrev pub Grows : (List PlacedItem → List ℕ) → (List PlacedItem → PlacedItem → List ℕ) → (List PlacedItem → PlacedItem → Option (Reason × ℕ)) → Type 0
+Grows puts adds refusal = (path : List PlacedItem) (item : PlacedItem) → refusal path item ≡ None → puts (path ++ item ∷ []) ≡ puts path ++ adds path item
+
+abbrev pub Silent : (List PlacedItem → PlacedItem → List ℕ) → (List PlacedItem → PlacedItem → Option (Reason × ℕ)) → Type 0
+Silent adds refusal = (path : List PlacedItem) (item : PlacedItem) (why : Reason × ℕ) → refusal path item ≡ Some why → adds path item ≡ []
+
+-- what was put is a front of all that is put
+with_refusal-begins : (puts : List PlacedItem → List ℕ) (adds : List PlacedItem → PlacedItem → List ℕ) (refusal : List PlacedItem → PlacedItem → Option (Reason × ℕ)) → Grows puts adds refusal
+    → (path : List PlacedItem) (item : PlacedItem) (rest : List ℕ) → BeginsWith rest (puts (path ++ item ∷ [])) → (o : Option (Reason × ℕ)) → refusal path item ≡ o → BeginsWith (output_with o (puts path) rest) (puts path)
+with_refusal-begins puts adds refusal grows path item rest f None e =
+    begins-then (puts path) (puts (path ++ item ∷ [])) rest f (adds path item, grows path item e)
+with_refusal-begins puts adds refusal grows path item rest f (Some why) e = begins-self (puts path)
+
+pub output_behind-begins : (puts : List PlacedItem → List ℕ) (adds : List PlacedItem → PlacedItem → List ℕ) (refusal : List PlacedItem → PlacedItem → Option (Reason × ℕ)) → Grows puts adds refusal
+    → (path : List PlacedItem) (r : Reading) → BeginsWith (output_behind puts refusal path r) (puts path)
+output_behind-begins puts adds refusal grows path Finished = begins-self (puts path)
+output_behind-begins puts adds refusal grows path (Stopped reason place) = begins-self (puts path)
+output_behind-begins puts adds refusal grows path (More item rest) =
+    with_refusal-begins puts adds refusal grows path item _ (output_behind-begins puts adds refusal grows (path ++ item ∷ []) rest) (refusal path item) refl
+
+-- and so is what an item puts before a fault
+with_refusal-adds : (puts : List PlacedItem → List ℕ) (adds : List PlacedItem → PlacedItem → List ℕ) (refusal : List PlacedItem → PlacedItem → Option (Reason × ℕ)) → Grows puts adds refusal → Silent adds refusal
+    → (path : List PlacedItem) (item : PlacedItem) (rest : List ℕ) → BeginsWith rest (puts (path ++ item ∷ [])) → (o : Option (Reason × ℕ)) → refusal path item ≡ o → BeginsWith (output_with o (puts path) rest) (puts path ++ adds path item)
+with_refusal-adds puts adds refusal grows silent path item rest f None e = subst (BeginsWith rest) (grows path item e) f
+with_refusal-adds puts adds refusal grows silent path item rest f (Some why) e =
+    subst (BeginsWith (puts path)) (sym (ap (λ l. puts path ++ l) (silent path item why e) ∙ append-nil (puts path))) (begins-self (puts path))
+
+pub item-begins : (puts : List PlacedItem → List ℕ) (adds : List PlacedItem → PlacedItem → List ℕ) (refusal : List PlacedItem → PlacedItem → Option (Reason × ℕ)) → Grows puts adds refusal → Silent adds refusal
+    → (path : List PlacedItem) (item : PlacedItem) (rest : Reading) → BeginsWith (output_behind puts refusal path (More item rest)) (puts path ++ adds path item)
+item-begins puts adds refusal grows silent path item rest =
+    with_refusal-adds puts adds refusal grows silent path item _ (output_behind-begins puts adds refusal grows (path ++ item ∷ []) rest) (refusal path item) refl
+
+-- ---- a path that was put, and what is to come behind it
+
+pub record Walk (stands : List PlacedItem → Type 0) (puts : List PlacedItem → List ℕ) (refusal : List PlacedItem → PlacedItem → Option (Reason × ℕ)) (reads writes : Type 0) (kinds : List Kind) (values : ℕ) (all rest : Reading) (before now : List ℕ) : Type 0 where
+  pub path : List PlacedItem
+  pub stands_at : stands path
+  pub kinds_at : open_behind [] path ≡ kinds
+  pub values_at : values_in [] path ≡ values
+  pub verdict : reads → verdict_behind refusal [] all ≡ verdict_behind refusal path rest
+  pub output : reads → output_behind puts refusal [] all ≡ output_behind puts refusal path rest
+  pub put : writes → now ≡ before ++ puts path
+
+-- an item was put, and the path is longer
+pub walk-more : {stands later : List PlacedItem → Type 0} {puts : List PlacedItem → List ℕ} {refusal : List PlacedItem → PlacedItem → Option (Reason × ℕ)} {reads writes : Type 0} {kinds : List Kind} {values : ℕ} {all rest : Reading} {before now : List ℕ}
+    (w : Walk stands puts refusal reads writes kinds values all rest before now) (adds : List PlacedItem → PlacedItem → List ℕ) → Grows puts adds refusal
+    → (item : PlacedItem) (behind : Reading) (then : List ℕ) (kinds_then : List Kind) (values_then : ℕ) → (reads → rest ≡ More item behind) → refusal w.path item ≡ None → later (w.path ++ item ∷ [])
+    → (writes → then ≡ now ++ adds w.path item) → kinds_then ≡ open_after kinds item.head → values_then ≡ values + one_if_closed kinds_then
+    → Walk later puts refusal reads writes kinds_then values_then all behind before then
+walk-more {puts = puts} {refusal = refusal} {kinds = kinds} {values = values} {before = before} w adds grows item behind then kinds_then values_then is none stands put opens counts =
+    let open_now : open_behind [] (w.path ++ item ∷ []) ≡ kinds_then = open_behind-append [] w.path item ∙ ap (λ k. open_after k item.head) w.kinds_at ∙ sym opens in
+    record {
+      path = w.path ++ item ∷ [];
+      stands_at = stands;
+      kinds_at = open_now;
+      values_at = values_in-append [] w.path item ∙ ap (λ v. v + one_if_closed (open_after (open_behind [] w.path) item.head)) w.values_at
+          ∙ ap (λ k. values + one_if_closed k) (ap (λ k. open_after k item.head) w.kinds_at ∙ sym opens) ∙ sym counts;
+      verdict = λ r. w.verdict r ∙ ap (verdict_behind refusal w.path) (is r) ∙ ap (λ o. verdict_with o (verdict_behind refusal (w.path ++ item ∷ []) behind)) none;
+      output = λ r. w.output r ∙ ap (output_behind puts refusal w.path) (is r) ∙ ap (λ o. output_with o (puts w.path) (output_behind puts refusal (w.path ++ item ∷ []) behind)) none;
+      put = λ o. put o ∙ ap (λ l. l ++ adds w.path item) (w.put o) ∙ append_assoc before (puts w.path) (adds w.path item) ∙ ap (λ l. before ++ l) (sym (grows w.path item none));
+    }
+
+-- what is written when nothing more is put is a front of all that is put
+pub walk-begins : {stands : List PlacedItem → Type 0} {puts : List PlacedItem → List ℕ} {refusal : List PlacedItem → PlacedItem → Option (Reason × ℕ)} {reads writes : Type 0} {kinds : List Kind} {values : ℕ} {all rest : Reading} {before now : List ℕ}
+    (w : Walk stands puts refusal reads writes kinds values all rest before now) (adds : List PlacedItem → PlacedItem → List ℕ) → Grows puts adds refusal
+    → (written : List ℕ) → reads → writes → BeginsWith now written → BeginsWith (before ++ output_behind puts refusal [] all) written
+walk-begins {puts = puts} {refusal = refusal} {all = all} {rest = rest} {before = before} {now = now} w adds grows written r o f =
+    let whole : BeginsWith (output_behind puts refusal [] all) (puts w.path) = subst (λ l. BeginsWith l (puts w.path)) (sym (w.output r)) (output_behind-begins puts adds refusal grows w.path rest) in
+    begins-then written (before ++ puts w.path) (before ++ output_behind puts refusal [] all) (begins-behind before (puts w.path) (output_behind puts refusal [] all) whole) (subst (λ l. BeginsWith l written) (w.put o) f)
+
+-- and so is what is written of an item before a fault
+pub walk-fault : {stands : List PlacedItem → Type 0} {puts : List PlacedItem → List ℕ} {refusal : List PlacedItem → PlacedItem → Option (Reason × ℕ)} {reads writes : Type 0} {kinds : List Kind} {values : ℕ} {all rest : Reading} {before now : List ℕ}
+    (w : Walk stands puts refusal reads writes kinds values all rest before now) (adds : List PlacedItem → PlacedItem → List ℕ) → Grows puts adds refusal → Silent adds refusal
+    → (item : PlacedItem) (behind : Reading) (written : List ℕ) → reads → writes → rest ≡ More item behind → BeginsWith (now ++ adds w.path item) written → BeginsWith (before ++ output_behind puts refusal [] all) written
+walk-fault {puts = puts} {refusal = refusal} {all = all} {before = before} {now = now} w adds grows silent item behind written r o is f =
+    let whole : BeginsWith (output_behind puts refusal [] all) (puts w.path ++ adds w.path item) =
+    subst (λ l. BeginsWith l (puts w.path ++ adds w.path item)) (sym (w.output r ∙ ap (output_behind puts refusal w.path) is)) (item-begins puts adds refusal grows silent w.path item behind) in
+    let same : now ++ adds w.path item ≡ before ++ (puts w.path ++ adds w.path item) = ap (λ l. l ++ adds w.path item) (w.put o) ∙ append_assoc before (puts w.path) (adds w.path item) in
+    begins-then written (before ++ (puts w.path ++ adds w.path item)) (before ++ output_behind puts refusal [] all)
+    (begins-behind before (puts w.path ++ adds w.path item) (output_behind puts refusal [] all) whole)
+    (subst (λ l. BeginsWith l written) same f)
+
+-- a refusal of the item ends the walk with it
+pub walk-refused : {stands : List PlacedItem → Type 0} {puts : List PlacedItem → List ℕ} {refusal : List PlacedItem → PlacedItem → Option (Reason × ℕ)} {reads writes : Type 0} {kinds : List Kind} {values : ℕ} {all rest : Reading} {before now : List ℕ}
+    (w : Walk stands puts refusal reads writes kinds values all rest before now)
+    → (item : PlacedItem) (behind : Reading) (reason : Reason) (place : ℕ) → reads → rest ≡ More item behind → refusal w.path item ≡ Some (reason, place)
+    → (verdict_behind refusal [] all ≡ Rejected reason place) × (writes → now ≡ before ++ output_behind puts refusal [] all)
+walk-refused {puts = puts} {refusal = refusal} {all = all} {before = before} w item behind reason place r is why = (
+  w.verdict r ∙ ap (verdict_behind refusal w.path) is ∙ ap (λ o. verdict_with o (verdict_behind refusal (w.path ++ item ∷ []) behind)) why,
+  λ o. w.put o ∙ ap (λ l. before ++ l) (sym (w.output r ∙ ap (output_behind puts refusal w.path) is ∙ ap (λ o. output_with o (puts w.path) (output_behind puts refusal (w.path ++ item ∷ []) behind)) why)),
+)
+
+-- an item that is no marker stays in front of a reading without markers
+pub without_markers-item : (item : PlacedItem) (rest : Reading) → is_marker item.head ≡ false → without_markers (More item rest) ≡ More item (without_markers rest)
+without_markers-item item rest e = kept item.head e
+  where
+    kept : (head : Head SymbolAt) → is_marker head ≡ false → skipping head item (without_markers rest) ≡ More item (without_markers rest)
+    kept (whole body) e = refl
+    kept (begin kind) e = refl
+    kept end e = refl
+    kept marker e = absurd (cc e)

@@ -1,0 +1,17 @@
+use Rattle.std.proofs.Common.{◌≡◌, ◌⊎◌, pos, ◌-ℤ◌, length, get_or, arith}
+use Rattle.ion_value.specs.Number.{signed}
+use Rattle.ion_value.proofs.TextDigits.{tail-all}
+use Rattle.ion_value.proofs.TextDecimals.{behind-power}
+use Rattle.ion_value.proofs.decimal_text.exponent_behind.Goals as goal
+
+pub returns-in-100 : goal.returns-in-100
+returns-in-100 c =
+    let told = c.in-Some.ensures in
+    let mantissa = c.args.mantissa in
+    let power = mantissa.power.now in
+    let mark : (get_or power 0 0 ≡ 100) ⊎ (get_or power 0 0 ≡ 68) = grind arith in
+    let e = signed c.in-Some.exponent.below told.1.0 in (
+      e -ℤ pos mantissa.places,
+      c.less_places.ensures told.1.0 told.1.1,
+      λ negative n. behind-power negative n mantissa.places mantissa.pointed e power _ (omega arith) (tail-all power (length power) (omega arith)) mark told.0 told.1.2,
+    )

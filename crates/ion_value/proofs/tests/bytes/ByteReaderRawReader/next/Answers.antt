@@ -1,0 +1,10 @@
+use Rattle.std.proofs.Common.{rules, ◌≡◌, ◌∙◌, ap}
+use Rattle.ion_value.specs.Small.{lists, level_after, head_or_marker, head_of_byte}
+use Rattle.ion_value.proofs.Small.{lists-byte}
+use Rattle.ion_value.proofs.tests.bytes.ByteReaderRawReader.next.Goals as goal
+
+pub returns-in-Ok-clause-opens : goal.returns-in-Ok-clause-opens
+returns-in-Ok-clause-opens g c e =
+    let s = c.step-outcome.new.self in
+    let level : s.level ≡ level_after c.args.self.now.level (head_or_marker (head_of_byte s.byte)) = search rules in
+    ap lists level ∙ lists-byte c.args.self.now.level s.byte

@@ -1,0 +1,123 @@
+-- Words of the text form: types, keywords, identifiers, ids, version words and operators (Ion text, "Symbols" and "Null Values").
+use Rattle.std.specs.Prelude.{ℕ, min, ◌^◌, Bool, true, false, not, ◌&&◌, ◌||◌, ◌==◌, nat_lt, if◌then◌else◌, List, [], ◌∷◌, ◌++◌, length, drop, map, codes, Option, Some, None, is_none}
+use Rattle.ion_value.specs.declared.ion_type.IonType.{IonType}
+use Rattle.ion_value.specs.declared.ion_type.IonType.TheVariants as type
+use Rattle.ion_value.specs.Number.{number}
+use Rattle.ion_value.specs.Digits.{is_between, is_digit, digit_value, first_is, all_are, cut_at}
+
+-- ---- types
+
+abbrev pub type_name : IonType → List ℕ
+type_name type.Null = codes "null"
+type_name type.Bool = codes "bool"
+type_name type.Int = codes "int"
+type_name type.Float = codes "float"
+type_name type.Decimal = codes "decimal"
+type_name type.Timestamp = codes "timestamp"
+type_name type.Symbol = codes "symbol"
+type_name type.String = codes "string"
+type_name type.Clob = codes "clob"
+type_name type.Blob = codes "blob"
+type_name type.List = codes "list"
+type_name type.Sexp = codes "sexp"
+type_name type.Struct = codes "struct"
+
+abbrev pub same_bytes : List ℕ → List ℕ → Bool
+same_bytes [] [] = true
+same_bytes [] (b ∷ bytes) = false
+same_bytes (c ∷ cs) [] = false
+same_bytes (c ∷ cs) (b ∷ bytes) = (c == b) && same_bytes cs bytes
+
+abbrev pub begins_with : List ℕ → List ℕ → Bool
+begins_with [] bytes = true
+begins_with (c ∷ cs) [] = false
+begins_with (c ∷ cs) (b ∷ bytes) = (c == b) && begins_with cs bytes
+
+abbrev pub all_types : List IonType
+all_types =
+    type.Null ∷ type.Bool ∷ type.Int ∷ type.Float ∷ type.Decimal ∷ type.Timestamp ∷ type.Symbol ∷ type.String ∷ type.Clob ∷ type.Blob ∷ type.List
+    ∷ type.Sexp ∷ type.Struct ∷ []
+
+abbrev pub named_in : List IonType → List ℕ → Option IonType
+named_in [] name = None
+named_in (t ∷ types) name = if same_bytes (type_name t) name then Some t else named_in types name
+
+-- the type of a name
+abbrev pub type_named : List ℕ → Option IonType
+type_named name = named_in all_types name
+
+-- the null of a type: `null` alone for the null of no other type
+abbrev pub null_text : IonType → List ℕ
+null_text type.Null = codes "null"
+null_text t = codes "null." ++ type_name t
+
+abbrev pub bool_text : Bool → List ℕ
+bool_text true = codes "true"
+bool_text false = codes "false"
+
+-- ---- identifiers and keywords
+
+abbrev pub is_identifier_start : ℕ → Bool
+is_identifier_start b = is_between 65 90 b || is_between 97 122 b || b == 95 || b == 36
+
+abbrev pub is_identifier_byte : ℕ → Bool
+is_identifier_byte b = is_identifier_start b || is_digit b
+
+abbrev pub is_identifier : List ℕ → Bool
+is_identifier name = first_is is_identifier_start name && all_are is_identifier_byte name
+
+-- words that are values and never symbols: a null, where what stands behind `null.` may be no type's name, a truth value, and `nan`
+pub data Keyword : Type 0 where
+  a_null : (type : Option IonType) → Keyword
+  a_bool : (truth : Bool) → Keyword
+  a_nan : Keyword
+
+abbrev pub keyword : List ℕ → Option Keyword
+keyword word =
+    if same_bytes (codes "null") word then Some (a_null (Some type.Null))
+    else (if begins_with (codes "null.") word then Some (a_null (type_named (drop 5 word)))
+    else (if same_bytes (codes "true") word then Some (a_bool true)
+    else (if same_bytes (codes "false") word then Some (a_bool false)
+    else (if same_bytes (codes "nan") word then Some a_nan
+    else None))))
+
+-- ---- ids and version words
+
+-- an id as readers give it, where 2^31 stands for every id above 2^31 - 1
+abbrev pub raw_id : ℕ → ℕ
+raw_id n = min n (2 ^ 31)
+
+-- a dollar sign and digits alone
+abbrev pub is_id : List ℕ → Bool
+is_id word = first_is (λ b. b == 36) word && nat_lt 1 (length word) && all_are is_digit (drop 1 word)
+
+abbrev pub id_of : List ℕ → ℕ
+id_of word = raw_id (number 10 (map digit_value (drop 1 word)))
+
+-- one digit or more
+abbrev pub is_number : List ℕ → Bool
+is_number bytes = nat_lt 0 (length bytes) && all_are is_digit bytes
+
+-- `$ion_`, digits, `_` and digits
+abbrev pub is_version : List ℕ → Bool
+is_version word =
+    begins_with (codes "$ion_") word
+    && is_number (cut_at (λ b. b == 95) (drop 5 word)).0 && is_number (drop 1 (cut_at (λ b. b == 95) (drop 5 word)).1)
+
+-- the one version that is read
+abbrev pub version_word : List ℕ
+version_word = codes "$ion_1_0"
+
+-- a text that is written as a symbol without quotes: an identifier that means nothing else
+abbrev pub is_plain : List ℕ → Bool
+is_plain name = is_identifier name && is_none (keyword name) && not (is_id name) && not (is_version name)
+
+-- ---- operators
+
+abbrev pub is_one_of : List ℕ → ℕ → Bool
+is_one_of [] b = false
+is_one_of (c ∷ cs) b = b == c || is_one_of cs b
+
+-- the characters of operators in sexps
+abbrev pub is_operator_byte : ℕ → Bool
+is_operator_byte b = is_one_of (codes "!#%&*+-./;<=>?@^`|~") b

@@ -1,0 +1,56 @@
+-- What a reading comes to, where each item is put by a writer or refused by it.
+use Rattle.std.specs.Prelude.{ℕ, ◌+◌, List, [], ◌∷◌, ◌++◌, Option, Some, None}
+use Rattle.ion_meter.specs.declared.fault.Reason.{Reason}
+use Rattle.ion_value.specs.declared.ion_type.Kind.{Kind}
+use Rattle.ion_value.specs.Value.{PlacedItem, marker, whole, begin, end, Head}
+use Rattle.ion_value.specs.Reading.{Reading, Finished, Stopped, More}
+use Rattle.ion_value.specs.Standing.{open_after}
+
+-- accepted with so many values at top level, or refused
+pub data Verdict : Type 0 where
+  Accepted : (values : ℕ) → Verdict
+  Rejected : (reason : Reason) → (place : ℕ) → Verdict
+
+-- one where nothing is open
+abbrev pub one_if_closed : List Kind → ℕ
+one_if_closed [] = 1
+one_if_closed (kind ∷ kinds) = 0
+
+-- how many values at top level end among items, behind which containers of these kinds are open
+abbrev pub values_in : List Kind → List PlacedItem → ℕ
+values_in kinds [] = 0
+values_in kinds (item ∷ items) = one_if_closed (open_after kinds item.head) + values_in (open_after kinds item.head) items
+
+-- an item is passed on or refused, and then the rest
+abbrev pub verdict_with : Option (Reason × ℕ) → Verdict → Verdict
+verdict_with None rest = rest
+verdict_with (Some why) rest = Rejected why.0 why.1
+
+-- the verdict on a reading behind items that were all put
+abbrev pub verdict_behind : (List PlacedItem → PlacedItem → Option (Reason × ℕ)) → List PlacedItem → Reading → Verdict
+verdict_behind refusal path Finished = Accepted (values_in [] path)
+verdict_behind refusal path (Stopped reason place) = Rejected reason place
+verdict_behind refusal path (More item rest) = verdict_with (refusal path item) (verdict_behind refusal (path ++ item ∷ []) rest)
+
+abbrev pub output_with : Option (Reason × ℕ) → List ℕ → List ℕ → List ℕ
+output_with None so_far rest = rest
+output_with (Some why) so_far rest = so_far
+
+-- all that is put of a reading behind items that were all put
+abbrev pub output_behind : (List PlacedItem → List ℕ) → (List PlacedItem → PlacedItem → Option (Reason × ℕ)) → List PlacedItem → Reading → List ℕ
+output_behind puts refusal path Finished = puts path
+output_behind puts refusal path (Stopped reason place) = puts path
+output_behind puts refusal path (More item rest) =
+    output_with (refusal path item) (puts path) (output_behind puts refusal (path ++ item ∷ []) rest)
+
+-- a reading without its version markers
+abbrev pub skipping : {S : Type 0} → Head S → PlacedItem → Reading → Reading
+skipping marker item rest = rest
+skipping (whole body) item rest = More item rest
+skipping (begin kind) item rest = More item rest
+skipping end item rest = More item rest
+
+abbrev pub without_markers : Reading → Reading
+without_markers Finished = Finished
+without_markers (Stopped reason place) = Stopped reason place
+without_markers (More item rest) = skipping item.head item (without_markers rest)

@@ -1,0 +1,369 @@
+//! Decimals in text.
+ghost use Rattle.std.specs.Prelude.{◌≡◌, ◌⊎◌, ◌-ℤ◌, ℕ, ℤ, pos, [], drop, ◌==◌, if◌then◌else◌, IfOk, IfErr};
+ghost use Rattle.ion_value.specs.Number.{signed};
+ghost use Rattle.ion_value.specs.Digits.{first_is};
+ghost use Rattle.ion_value.specs.Decimal.{IsDecimal, has_sign, decimal_in_range, decimal_of_text, decimal_text};
+ghost use Rattle.ion_value.specs.DigitReading.{in_128, read_fraction, Answers, ReadsMantissa, ReadsExponent, GivesExponent, ReadsPower};
+
+use crate::decimal::Decimal;
+use crate::digits::{Digits, digits_after, sign, whole_digits};
+use arrayvec::ArrayString;
+use ion_meter::fault::Reason;
+use itoa::Buffer;
+
+// The largest exponent of a decimal; the least is as far below zero.
+const LARGEST: u128 = i32::MAX as u128;
+
+// A number in text up to the mark of its exponent.
+#[derive(Clone, Copy)]
+struct Mantissa<'a> {
+    // All digits as one number, where 128 bits hold it.
+    coefficient: Option<u128>,
+    // Whether there is a point.
+    pointed: bool,
+    // How many digits stand behind the point.
+    places: usize,
+    // The bytes from the mark on.
+    power: &'a [u8],
+}
+
+// An exponent as it is written.
+#[derive(Clone, Copy)]
+struct Exponent {
+    // Whether there is a minus.
+    below: bool,
+    // The exponent without its sign, where 128 bits hold it.
+    magnitude: Option<u128>,
+}
+
+/// Reads a decimal in text: digits with a point among or behind them, or with an exponent behind
+/// `d`, or with both, behind a minus or none (Ion specification, "Real Numbers"). A first zero
+/// stands alone before the point, and single underscores may stand between two digits, but not in
+/// the exponent. Precision and the sign of zero are kept.
+///
+/// What has an exponent behind `e` is a `Float`. A coefficient past 128 bits, or an exponent that is
+/// not within 2^31 - 1 once the digits behind the point are taken off, is out of `Range`, and every
+/// other run a `BadToken`.
+#[inline]
+pub fn decimal_from_text(run: &[u8]) -> Result<Decimal, Reason>
+    ensures read { result ≡ decimal_of_text run.now }
+    ensures valid { IfOk result IsDecimal }
+    ensures refused { IfErr result (λ e. (e ≡ Reason.BadToken) ⊎ (e ≡ Reason.Float) ⊎ (e ≡ Reason.Range)) }
+{
+    let (negative, bytes) = sign(run);
+    let Some(mantissa) = read_mantissa(bytes) else {
+        return Err(Reason::BadToken);
+    };
+    match exponent_behind(mantissa) {
+        Ok(exponent) => in_range(negative, mantissa.coefficient, exponent),
+        Err(reason) => Err(reason),
+    }
+}
+
+// The digits and the point at the front of these bytes.
+#[inline]
+fn read_mantissa(bytes: &[u8]) -> Option<Mantissa<'_>>
+    ensures { ReadsMantissa bytes.now result }
+{
+    let Some(whole) = whole_digits(bytes) else {
+        return None;
+    };
+    match whole.rest {
+        [b'.', behind @ ..] => match fraction(whole.number, behind) {
+            Some(fraction) => Some(Mantissa {
+                coefficient: fraction.number,
+                pointed: true,
+                places: fraction.count,
+                power: fraction.rest,
+            }),
+            None => None,
+        },
+        rest => Some(Mantissa {
+            coefficient: whole.number,
+            pointed: false,
+            places: 0,
+            power: rest,
+        }),
+    }
+}
+
+// The digits behind a point, where there are any, and behind the number before it.
+#[inline]
+fn fraction(whole: Option<u128>, bytes: &[u8]) -> Option<Digits<'_>>
+    ensures { (n : ℕ) → whole ≡ in_128 n → Answers (read_fraction n bytes.now) result }
+{
+    match bytes {
+        [b'0'..=b'9', ..] => digits_after::<10>(whole, bytes),
+        _ => Some(Digits {
+            number: whole,
+            count: 0,
+            rest: bytes,
+        }),
+    }
+}
+
+// The exponent behind a mantissa less the number of digits behind the point, where it is within its
+// range, or why what stands there makes no decimal.
+#[inline]
+fn exponent_behind(mantissa: Mantissa<'_>) -> Result<Option<i32>, Reason>
+    ensures { ReadsPower mantissa.entry.places mantissa.entry.pointed mantissa.entry.power.now result }
+{
+    let [mark, behind @ ..] = mantissa.power else {
+        return without_power(mantissa.pointed, mantissa.places);
+    };
+    let Some(exponent) = read_exponent(behind) else {
+        return Err(Reason::BadToken);
+    };
+    match *mark {
+        b'd' | b'D' => Ok(less_places(exponent, mantissa.places)),
+        b'e' | b'E' => Err(Reason::Float),
+        _ => Err(Reason::BadToken),
+    }
+}
+
+// The same where no exponent is written.
+#[inline]
+fn without_power(pointed: bool, places: usize) -> Result<Option<i32>, Reason>
+    ensures { ReadsPower places pointed [] result }
+{
+    if !pointed {
+        return Err(Reason::BadToken);
+    }
+    let none = Exponent {
+        below: false,
+        magnitude: Some(0),
+    };
+    Ok(less_places(none, places))
+}
+
+// The exponent behind its mark: digits alone, behind a sign or none.
+#[inline]
+fn read_exponent(bytes: &[u8]) -> Option<Exponent>
+    ensures { ReadsExponent bytes.now result }
+{
+    let (below, digits) = exponent_sign(bytes);
+    let Some(read) = digits_after::<10>(Some(0), digits) else {
+        return None;
+    };
+    // An underscore, or another byte behind the digits, leaves fewer digits than bytes.
+    if read.count != digits.len() {
+        return None;
+    }
+    Some(Exponent {
+        below,
+        magnitude: read.number,
+    })
+}
+
+// Whether there is a minus in front of an exponent, and the bytes behind its sign.
+#[inline]
+fn exponent_sign(bytes: &[u8]) -> (bool, &[u8])
+    ensures below { result.0 ≡ first_is (λ b. b == 45) bytes.now }
+    ensures digits { result.1.now ≡ (if has_sign bytes.now then drop 1 bytes.now else bytes.now) }
+{
+    match bytes {
+        [b'-', digits @ ..] => (true, digits),
+        [b'+', digits @ ..] => (false, digits),
+        _ => (false, bytes),
+    }
+}
+
+// The exponent that is written less the number of digits behind the point.
+#[inline]
+fn less_places(exponent: Exponent, places: usize) -> Option<i32>
+    ensures { (m : ℕ) → exponent.magnitude ≡ in_128 m
+        → GivesExponent (signed exponent.below m -ℤ pos places) result }
+{
+    let Some(magnitude) = exponent.magnitude else {
+        return None;
+    };
+    let places = places as u128;
+    if exponent.below {
+        signed_exponent(true, magnitude.saturating_add(places))
+    } else if magnitude < places {
+        signed_exponent(true, places - magnitude)
+    } else {
+        signed_exponent(false, magnitude - places)
+    }
+}
+
+// The exponent of this sign and magnitude, where it is within its range.
+#[inline]
+fn signed_exponent(below: bool, magnitude: u128) -> Option<i32>
+    ensures { GivesExponent (signed below magnitude) result }
+{
+    if magnitude > LARGEST {
+        return None;
+    }
+    let exponent = magnitude as i32;
+    Some(if below { -exponent } else { exponent })
+}
+
+// The decimal of this sign, coefficient and exponent, where these are within their ranges.
+#[inline]
+fn in_range(
+    negative: bool,
+    coefficient: Option<u128>,
+    exponent: Option<i32>,
+) -> Result<Decimal, Reason>
+    ensures { (n : ℕ) (e : ℤ) → coefficient ≡ in_128 n → GivesExponent e exponent
+        → result ≡ decimal_in_range negative n e }
+{
+    match (coefficient, exponent) {
+        (Some(coefficient), Some(exponent)) => Ok(Decimal {
+            negative,
+            coefficient,
+            exponent,
+        }),
+        _ => Err(Reason::Range),
+    }
+}
+
+/// The text of a decimal: its coefficient's decimal digits, `d`, and its exponent with a minus where
+/// that is below zero, behind a minus where the decimal has one (Ion specification, "Real
+/// Numbers").
+pub fn decimal_to_text(decimal: Decimal) -> ArrayString<52>
+    requires { IsDecimal decimal }
+    ensures { result.bytes ≡ decimal_text decimal }
+{
+    let mut text = ArrayString::new();
+    if decimal.negative {
+        text.push_str("-");
+    }
+    let mut buffer = Buffer::new();
+    text.push_str(buffer.format(decimal.coefficient));
+    text.push_str("d");
+    text.push_str(buffer.format(decimal.exponent));
+    text
+}
+
+#[cfg(test)]
+mod tests {
+    use super::*;
+
+    fn decimal(negative: bool, coefficient: u128, exponent: i32) -> Result<Decimal, Reason> {
+        Ok(Decimal {
+            negative,
+            coefficient,
+            exponent,
+        })
+    }
+
+    #[test]
+    fn reads_decimals(rt: HostRuntime) {
+        for (run, want) in [
+            (b"-0.".as_slice(), decimal(true, 0, 0)),
+            (b"0d0".as_slice(), decimal(false, 0, 0)),
+            (b"1.5".as_slice(), decimal(false, 15, -1)),
+            (b"1.0".as_slice(), decimal(false, 10, -1)),
+            (b"1.00".as_slice(), decimal(false, 100, -2)),
+            (b"0.001".as_slice(), decimal(false, 1, -3)),
+            (b"15d-1".as_slice(), decimal(false, 15, -1)),
+            (b"1_0.0_0D+3".as_slice(), decimal(false, 1000, 1)),
+            (b"1.d5".as_slice(), decimal(false, 1, 5)),
+            (b"1d000000000000000000001".as_slice(), decimal(false, 1, 1)),
+            (
+                b"1d00000000000000000000000000000000000000000000000001".as_slice(),
+                decimal(false, 1, 1),
+            ),
+            (
+                b"-340282366920938463463374607431768211455.d0".as_slice(),
+                decimal(true, u128::MAX, 0),
+            ),
+            (
+                b"3402823669209384634.63374607431768211455".as_slice(),
+                decimal(false, u128::MAX, -20),
+            ),
+            (b"1.0d2147483648".as_slice(), decimal(false, 10, 2147483647)),
+            (
+                b"1.0d-2147483646".as_slice(),
+                decimal(false, 10, -2147483647),
+            ),
+        ] {
+            assert_eq!(rt; decimal_from_text(run), want);
+        }
+    }
+
+    #[test]
+    fn refuses_what_is_out_of_range(rt: HostRuntime) {
+        for run in [
+            b"1d2147483648".as_slice(),
+            b"1d-2147483648".as_slice(),
+            b"1.0d-2147483647".as_slice(),
+            b"340282366920938463463374607431768211456.".as_slice(),
+            b"34028236692093846346337460743176821145.6".as_slice(),
+            b"1d99999999999999999999999999999999999999999999".as_slice(),
+        ] {
+            assert_eq!(rt; decimal_from_text(run), Err(Reason::Range));
+        }
+    }
+
+    #[test]
+    fn names_floats(rt: HostRuntime) {
+        for run in [
+            b"1e0".as_slice(),
+            b"1.5E-3".as_slice(),
+            b"1.e5".as_slice(),
+            b"340282366920938463463374607431768211456e0".as_slice(),
+        ] {
+            assert_eq!(rt; decimal_from_text(run), Err(Reason::Float));
+        }
+    }
+
+    #[test]
+    fn refuses_other_runs(rt: HostRuntime) {
+        for run in [
+            b"".as_slice(),
+            b"15".as_slice(),
+            b"1_.0".as_slice(),
+            b"1._0".as_slice(),
+            b"1.0_".as_slice(),
+            b"1d".as_slice(),
+            b"1d+".as_slice(),
+            b"1d1_0".as_slice(),
+            b"1d+-1".as_slice(),
+            b"1e1d1".as_slice(),
+            b"1ex".as_slice(),
+            b".5".as_slice(),
+            b"1.5.5".as_slice(),
+            b"01.5".as_slice(),
+            b"1d1d1".as_slice(),
+            b"1d1.5".as_slice(),
+            b"0x1.5".as_slice(),
+            b"99999999999999999999999999999999999999999999d1x".as_slice(),
+            b"9999999999999999999999999999999999999999_d1".as_slice(),
+        ] {
+            assert_eq!(rt; decimal_from_text(run), Err(Reason::BadToken));
+        }
+    }
+
+    #[test]
+    fn reads_the_decimals_that_it_writes(rt: HostRuntime) {
+        for (negative, coefficient, exponent, want) in [
+            (true, 0, 0, "-0d0"),
+            (false, 15, -1, "15d-1"),
+            (
+                false,
+                u128::MAX,
+                -2147483647,
+                "340282366920938463463374607431768211455d-2147483647",
+            ),
+            (
+                true,
+                u128::MAX,
+                2147483647,
+                "-340282366920938463463374607431768211455d2147483647",
+            ),
+        ] {
+            assert!(rt; exponent > -2147483648);
+            let value = Decimal {
+                negative,
+                coefficient,
+                exponent,
+            };
+            let text = decimal_to_text(value);
+            assert_eq!(rt; text.as_str(), want);
+            assert_eq!(rt; decimal_from_text(text.as_str().as_bytes()), Ok(value));
+        }
+    }
+}

@@ -1,0 +1,24 @@
+//! The texts that ids stand for.
+ghost use Rattle.std.specs.Prelude.{◌≡◌, ℕ, List, Option, Some, None, MatchOption};
+
+/// A symbol table as items see it: which ids have a text.
+pub trait Names {
+    /// The text of an id, where it has one.
+    ghost text: { Self → ℕ → Option (List ℕ) };
+
+    /// The text of an id, or none where it has none.
+    fn text_of(&self, id: u32) -> Option<&[u8]>
+        ensures { MatchOption result (text self.now id ≡ None) (λ t. text self.now id ≡ Some t.now) };
+}
+
+/// No id has a text, so that ids stay ids.
+#[derive(Clone, Copy, Debug, PartialEq, Eq)]
+pub struct NoNames;
+
+impl Names for NoNames {
+    ghost text = { λ _ _. None };
+
+    fn text_of(&self, _id: u32) -> Option<&[u8]> {
+        None
+    }
+}

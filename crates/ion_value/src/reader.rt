@@ -1,0 +1,117 @@
+//! What reads items.
+ghost use Rattle.std.specs.Prelude.{◌≡◌, ℕ, ◌-◌, ◌^◌, ◌<◌, ◌≤◌, ◌↔◌, ◌≢◌, List, length, Option, Some, None, Ok, Err, true, false, IfErr};
+ghost use Rattle.ion_meter.specs.declared.fault.Reason.{Reason};
+ghost use Rattle.ion_meter.specs.declared.fault.Fault.{Fault};
+ghost use Rattle.ion_meter.specs.declared.fault.Fault.TheVariants.{Refused};
+ghost use Rattle.ion_value.specs.declared.ion_type.Kind.{Kind};
+ghost use Rattle.ion_value.specs.Value.{PlacedItem};
+ghost use Rattle.ion_value.specs.Items.{raw_item};
+ghost use Rattle.ion_value.specs.Reading.{Reading, Finished, Stopped, More};
+ghost use Rattle.ion_value.specs.Shares.{Charges, ReadCauses, fault_of};
+ghost use Rattle.ion_value.specs.Standing.{Fits, open_after, ReadsWithin};
+
+use crate::item::Item;
+use crate::names::NoNames;
+use ion_meter::fault::Fault;
+use ion_meter::meter::Meter;
+use std::alloc::Allocator;
+
+/// What reads a stream one item at a time, symbols as the stream has them.
+///
+/// `next` takes the next item and `item` lends it. At the end `next` answers false, and from then
+/// on. After a fault each call of `next` answers it again and changes nothing.
+///
+/// What the laws say of the items holds where the device tells its bytes. All else, that is which
+/// items may stand where, the causes of faults and the memory that is held, holds always.
+pub trait RawReader<A: Allocator + Copy> {
+    /// Its device tells its bytes.
+    ghost tells: { Self → Type 0 };
+
+    /// The items to come, and how they end.
+    ghost reading: { Self → Reading };
+
+    /// An item is lent.
+    ghost lends: { Self → Type 0 };
+
+    /// The item that is lent.
+    ghost current: { Self → PlacedItem };
+
+    /// The fault that it answered.
+    ghost failed: { Self → Option Fault };
+
+    /// It has answered the end.
+    ghost ended: { Self → Type 0 };
+
+    /// The kinds of the open containers, the innermost first.
+    ghost opened: { Self → List Kind };
+
+    /// How many containers may be open.
+    ghost depth: { Self → ℕ };
+
+    /// The counted bytes that it holds, its window's too.
+    ghost own: { Self → ℕ };
+
+    /// The most that it may hold.
+    ghost most: { Self → ℕ };
+
+    /// How often its device has failed.
+    ghost failures: { Self → ℕ };
+
+    /// The input is longer than it may be.
+    ghost exceeds: { Self → Type 0 };
+
+    /// It falls with each item.
+    ghost left: { Self → ℕ };
+
+    /// What holds of every reader between calls.
+    ghost sound: { Self → Type 0 };
+
+    /// Whether there is a next item, which `item` then lends; false at the end, and from then on.
+    ///
+    /// It refuses what the stream may not have at this place, and answers `Memory` where a growth
+    /// was refused, `ReadFault` where the device failed, and `InputLimit` where the input is longer
+    /// than it may be.
+    fn next(&mut self, meter: &mut Meter<A>) -> Result<bool, Fault>
+        requires room { meter.old.held ≤ 2 ^ 62 }
+        requires held { own self.old ≤ meter.old.held }
+        requires countable { meter.old.refused < 2 ^ 64 - 1 }
+        requires sound { sound self.old }
+        ensures sound { sound self.new }
+        ensures tells { tells self.new ↔ tells self.old }
+
+        // The items, and how they end.
+        ensures gives { tells self.old → result ≡ Ok true → reading self.old ≡ More (current self.new) (reading self.new) }
+        ensures ends { tells self.old → result ≡ Ok false → (reading self.old ≡ Finished) × (reading self.new ≡ Finished) }
+        ensures refuses { tells self.old → failed self.old ≡ None → (r : Reason) (p : ℕ) → result ≡ Err (Refused r p) → reading self.old ≡ Stopped r p }
+        ensures lends { result ≡ Ok true → lends self.new }
+
+        // Each step, whatever the device tells.
+        ensures fits { result ≡ Ok true → Fits (depth self.old) (opened self.old) (current self.new) }
+        ensures opens { result ≡ Ok true → opened self.new ≡ open_after (opened self.old) (current self.new).head }
+        ensures stays_open { result ≢ Ok true → opened self.new ≡ opened self.old }
+        ensures falls { result ≡ Ok true → left self.new < left self.old }
+        ensures depth { depth self.new ≡ depth self.old }
+
+        // The end and faults.
+        ensures ended { result ≡ Ok false → ended self.new }
+        ensures stays { ended self.old → (result ≡ Ok false) × (self.new ≡ self.old) × (meter.new ≡ meter.old) }
+        ensures failed { failed self.new ≡ fault_of result }
+        ensures again { (f : Fault) → failed self.old ≡ Some f → (result ≡ Err f) × (self.new ≡ self.old) × (meter.new ≡ meter.old) }
+        ensures causes { failed self.old ≡ None → ReadCauses (fault_of result) meter.old meter.new (failures self.old) (failures self.new) (exceeds self.old) }
+        ensures exceeds { exceeds self.new ↔ exceeds self.old }
+
+        // Memory, on every exit.
+        ensures charges { Charges meter.old meter.new (own self.old) (own self.new) (most self.old) }
+        ensures most { most self.new ≡ most self.old };
+
+    /// The item that the last call of `next` took, its ids as the stream has them.
+    fn item(&self) -> Item<'_, NoNames>
+        requires { lends self.now }
+        ensures { raw_item result ≡ current self.now };
+
+    /// What holds of the memory, the depth and the items to come of every reader.
+    ghost within: { (s : Self) → sound s → ReadsWithin (own s) (most s) (depth s) (length (opened s)) (left s) };
+
+    /// A reader that has answered the end has not failed.
+    ghost one_ending: { (s : Self) → sound s → ended s → failed s ≡ None };
+}

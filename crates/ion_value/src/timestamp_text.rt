@@ -1,0 +1,589 @@
+//! Timestamps in text.
+ghost use Rattle.std.specs.Prelude.{◌≡◌, ℕ, ◌⊎◌, ◌↔◌, ◌+◌, ◌*◌, ◌^◌, ◌<◌, ◌≤◌, pos, ◌≤ℤ◌, true, false, ◌&&◌, nat_le, IsTrue, List, [], ◌∷◌, ◌++◌, length, take, drop, map, IfOk, IfErr, IfSome, MatchOption};
+ghost use Rattle.jiff_core.specs.Calendar.{IsCivilDate};
+ghost use Rattle.ion_value.specs.Number.{number};
+ghost use Rattle.ion_value.specs.Digits.{digit_value, first_is, all_are, is_digit};
+ghost use Rattle.ion_value.specs.Timestamp.{IsTimestamp, IsMoment, IsOffset, date_in_range, has_offset_shape, time_in_range, timestamp_of_text, fixed_digits, day_text, minute_text, second_text, minutes_text, offset_text, timestamp_text};
+ghost use Rattle.ion_value.specs.TimestampRuns.{outcome, with_offset, with_fraction, behind_second, behind_minute, behind_day, behind_month, behind_year, from_year, offset_in_range, offset_of, IsOffsetOf, AreDigits, AreFront, month_text};
+ghost use Rattle.ion_value.specs.TimestampRuns as spec;
+ghost use Rattle.arrayvec.specs.ArrayString.{array_string_len};
+
+use crate::timestamp::{Precision, Timestamp};
+use arrayvec::ArrayString;
+use ion_meter::fault::Reason;
+use itoa::Buffer;
+use jiff::civil::Date;
+
+/// The most digits that a fraction may have.
+const MOST_DIGITS: usize = 38;
+
+/// So many digits 64 bits hold, whichever they are.
+const DIGITS_IN_64_BITS: usize = 19;
+
+/// Below it are the numbers of so many digits.
+const TEN_TO_19: u128 = 10_000_000_000_000_000_000;
+
+/// Reads a timestamp in text (Ion specification, "Timestamps").
+#[inline]
+pub fn timestamp_from_text(run: &[u8]) -> Result<Timestamp, Reason>
+    ensures read { result ≡ timestamp_of_text run.now }
+    ensures valid { IfOk result IsTimestamp }
+    ensures refused { IfErr result (λ e. (e ≡ Reason.BadToken) ⊎ ((e ≡ Reason.Range) ⊎ (e ≡ Reason.BadTimestamp))) }
+{
+    let mut timestamp = Timestamp {
+        precision: Precision::Year,
+        year: 0,
+        month: 1,
+        day: 1,
+        hour: 0,
+        minute: 0,
+        second: 0,
+        fraction: 0,
+        offset: None,
+    };
+    match read_year(&mut timestamp, run) {
+        Ok(()) => Ok(timestamp),
+        Err(reason) => Err(reason),
+    }
+}
+
+// The number of two bytes, where they are digits.
+#[inline]
+fn two_digits(first: u8, second: u8) -> Option<u8>
+    ensures value { result ≡ spec.two_digits first second }
+    ensures small { IfSome result (λ n. n < 100) }
+{
+    let tens = first.wrapping_sub(b'0');
+    let ones = second.wrapping_sub(b'0');
+    if tens < 10 && ones < 10 {
+        Some(tens * 10 + ones)
+    } else {
+        None
+    }
+}
+
+// The number of four bytes, where they are digits.
+#[inline]
+fn four_digits(first: u8, second: u8, third: u8, fourth: u8) -> Option<u16>
+    ensures { result ≡ spec.four_digits first second third fourth }
+{
+    match (two_digits(first, second), two_digits(third, fourth)) {
+        (Some(hundreds), Some(ones)) => Some(hundreds as u16 * 100 + ones as u16),
+        _ => None,
+    }
+}
+
+// Reads the year and what stands behind it.
+#[inline]
+fn read_year(timestamp: &mut Timestamp, run: &[u8]) -> Result<(), Reason>
+    ensures { outcome result timestamp.new ≡ from_year timestamp.old run.now }
+{
+    match run {
+        [y1, y2, y3, y4, rest @ ..] => match four_digits(*y1, *y2, *y3, *y4) {
+            Some(year) => {
+                timestamp.year = year;
+                read_month(timestamp, rest)
+            }
+            None => Err(Reason::BadToken),
+        },
+        _ => Err(Reason::BadToken),
+    }
+}
+
+// Reads what stands behind the year.
+#[inline]
+fn read_month(timestamp: &mut Timestamp, bytes: &[u8]) -> Result<(), Reason>
+    ensures { outcome result timestamp.new ≡ behind_year timestamp.old bytes.now }
+{
+    match bytes {
+        [b'T'] => check(timestamp),
+        [b'-', m1, m2, rest @ ..] => match two_digits(*m1, *m2) {
+            Some(month) => {
+                timestamp.precision = Precision::Month;
+                timestamp.month = month;
+                read_day(timestamp, rest)
+            }
+            None => Err(Reason::BadToken),
+        },
+        _ => Err(Reason::BadToken),
+    }
+}
+
+// Reads what stands behind the month.
+#[inline]
+fn read_day(timestamp: &mut Timestamp, bytes: &[u8]) -> Result<(), Reason>
+    ensures { outcome result timestamp.new ≡ behind_month timestamp.old bytes.now }
+{
+    match bytes {
+        [b'T'] => check(timestamp),
+        [b'-', d1, d2, rest @ ..] => match two_digits(*d1, *d2) {
+            Some(day) => {
+                timestamp.precision = Precision::Day;
+                timestamp.day = day;
+                read_minute(timestamp, rest)
+            }
+            None => Err(Reason::BadToken),
+        },
+        _ => Err(Reason::BadToken),
+    }
+}
+
+// Reads what stands behind the day.
+#[inline]
+fn read_minute(timestamp: &mut Timestamp, bytes: &[u8]) -> Result<(), Reason>
+    ensures { outcome result timestamp.new ≡ behind_day timestamp.old bytes.now }
+{
+    match bytes {
+        [] | [b'T'] => check(timestamp),
+        [b'T', h1, h2, b':', m1, m2, rest @ ..] => {
+            match (two_digits(*h1, *h2), two_digits(*m1, *m2)) {
+                (Some(hour), Some(minute)) => {
+                    timestamp.precision = Precision::Minute;
+                    timestamp.hour = hour;
+                    timestamp.minute = minute;
+                    read_second(timestamp, rest)
+                }
+                _ => Err(Reason::BadToken),
+            }
+        }
+        _ => Err(Reason::BadToken),
+    }
+}
+
+// Reads what stands behind the minute.
+#[inline]
+fn read_second(timestamp: &mut Timestamp, bytes: &[u8]) -> Result<(), Reason>
+    ensures { outcome result timestamp.new ≡ behind_minute timestamp.old bytes.now }
+{
+    match bytes {
+        [b':', s1, s2, rest @ ..] => match two_digits(*s1, *s2) {
+            Some(second) => {
+                timestamp.precision = Precision::Second;
+                timestamp.second = second;
+                read_fraction(timestamp, rest)
+            }
+            None => Err(Reason::BadToken),
+        },
+        _ => read_offset(timestamp, bytes),
+    }
+}
+
+// Reads what stands behind the second.
+#[inline]
+fn read_fraction(timestamp: &mut Timestamp, bytes: &[u8]) -> Result<(), Reason>
+    ensures { outcome result timestamp.new ≡ behind_second timestamp.old bytes.now }
+{
+    match bytes {
+        [b'.', fraction @ ..] => read_behind_digits(timestamp, front_digits(fraction)),
+        _ => read_offset(timestamp, bytes),
+    }
+}
+
+// Takes these digits for the fraction, and reads the offset behind them.
+#[inline]
+fn read_behind_digits(timestamp: &mut Timestamp, digits: Digits<'_>) -> Result<(), Reason>
+    ensures { outcome result timestamp.new
+        ≡ with_fraction timestamp.old digits.entry.count digits.entry.number digits.entry.rest.now }
+{
+    if digits.count == 0 {
+        return Err(Reason::BadToken);
+    }
+    if digits.count > MOST_DIGITS {
+        return Err(too_long(digits.rest));
+    }
+    timestamp.precision = Precision::Fraction(digits.count as u8);
+    timestamp.fraction = digits.number;
+    read_offset(timestamp, digits.rest)
+}
+
+// Why a timestamp is none whose fraction is too long, by its offset.
+#[cold]
+fn too_long(bytes: &[u8]) -> Reason
+    ensures { result ≡ spec.too_long bytes.now }
+{
+    match text_offset(bytes) {
+        Some(_) => Reason::Range,
+        None => Reason::BadToken,
+    }
+}
+
+// Reads the offset.
+#[inline]
+fn read_offset(timestamp: &mut Timestamp, bytes: &[u8]) -> Result<(), Reason>
+    ensures { outcome result timestamp.new ≡ with_offset timestamp.old bytes.now }
+{
+    match text_offset(bytes) {
+        Some(offset) => take_offset(timestamp, offset),
+        None => Err(Reason::BadToken),
+    }
+}
+
+// The sign, hours and minutes of an offset.
+#[derive(Clone, Copy)]
+struct TextOffset {
+    negative: bool,
+    hours: u8,
+    minutes: u8,
+}
+
+// The offset in these bytes, where they have its shape.
+#[inline]
+fn text_offset(bytes: &[u8]) -> Option<TextOffset>
+    ensures { MatchOption result (has_offset_shape bytes.now ≡ false)
+        (λ offset. (has_offset_shape bytes.now ≡ true) × IsOffsetOf bytes.now offset) }
+{
+    match bytes {
+        [b'Z'] => Some(TextOffset {
+            negative: false,
+            hours: 0,
+            minutes: 0,
+        }),
+        [sign, h1, h2, b':', m1, m2] if *sign == b'+' || *sign == b'-' => {
+            match (two_digits(*h1, *h2), two_digits(*m1, *m2)) {
+                (Some(hours), Some(minutes)) => Some(TextOffset {
+                    negative: *sign == b'-',
+                    hours,
+                    minutes,
+                }),
+                _ => None,
+            }
+        }
+        _ => None,
+    }
+}
+
+// Takes this offset, if there is such an offset, such a date and time, and its year in UTC is one of
+// 1 to 9999.
+#[inline]
+fn take_offset(timestamp: &mut Timestamp, offset: TextOffset) -> Result<(), Reason>
+    ensures { (bytes : List ℕ) → IsOffsetOf bytes offset
+        → outcome result timestamp.new ≡ offset_in_range timestamp.old bytes }
+{
+    if offset.hours > 23 || offset.minutes > 59 {
+        return Err(Reason::BadTimestamp);
+    }
+    let minutes = offset.hours as i16 * 60 + offset.minutes as i16;
+    timestamp.offset = signed_minutes(offset.negative, minutes);
+    check_in_utc(timestamp)
+}
+
+// The offset of this sign and so many minutes, unknown where they are minus zero.
+#[inline]
+fn signed_minutes(negative: bool, minutes: i16) -> Option<i16>
+    requires { pos 0 ≤ℤ minutes }
+    ensures { (n : ℕ) → minutes ≡ pos n → result ≡ offset_of negative n }
+{
+    if !negative {
+        Some(minutes)
+    } else if minutes > 0 {
+        Some(-minutes)
+    } else {
+        None
+    }
+}
+
+// Whether there is such a date and time, and its year in UTC is one of 1 to 9999.
+#[inline]
+fn check_in_utc(timestamp: &Timestamp) -> Result<(), Reason>
+    requires { IsOffset timestamp.now.offset }
+    ensures { outcome result timestamp.now ≡ time_in_range true timestamp.now }
+{
+    match check(timestamp) {
+        Ok(()) => match timestamp.to_utc() {
+            Ok(_) => Ok(()),
+            Err(reason) => Err(reason),
+        },
+        Err(reason) => Err(reason),
+    }
+}
+
+// Whether the calendar has its date, in the years 1 to 9999, and the day its time.
+#[inline]
+fn check(timestamp: &Timestamp) -> Result<(), Reason>
+    ensures { outcome result timestamp.now ≡ date_in_range timestamp.now }
+{
+    let time = timestamp.hour < 24 && timestamp.minute < 60 && timestamp.second < 60;
+    if time && is_date(timestamp.year, timestamp.month, timestamp.day) {
+        Ok(())
+    } else {
+        Err(Reason::BadTimestamp)
+    }
+}
+
+// Whether the calendar has this date, in the years 1 to 9999.
+#[inline]
+fn is_date(year: u16, month: u8, day: u8) -> bool
+    ensures { IsTrue result ↔ ((1 ≤ year) × (year ≤ 9999) × IsCivilDate (pos year) month day) }
+{
+    if year < 1 || year > 9999 || month > 12 || day > 31 {
+        return false;
+    }
+    Date::new(year as i16, month as i8, day as i8).is_ok()
+}
+
+// The digits at the front of bytes.
+#[derive(Clone, Copy)]
+struct Digits<'a> {
+    // Their number, where there are at most 38.
+    number: u128,
+    // How many there are.
+    count: usize,
+    // The bytes behind them.
+    rest: &'a [u8],
+}
+
+// The digits at the front of these bytes.
+#[inline]
+fn front_digits(bytes: &[u8]) -> Digits<'_>
+    ensures { AreFront bytes.now result }
+{
+    let (number, count) = few_digits(bytes);
+    if count < DIGITS_IN_64_BITS {
+        return Digits {
+            number: number as u128,
+            count,
+            rest: &bytes[count..],
+        };
+    }
+    more_digits(number, &bytes[count..])
+}
+
+// The digits at the front, behind nineteen that spell this number.
+#[cold]
+fn more_digits(high: u64, bytes: &[u8]) -> Digits<'_>
+    ensures { (front : List ℕ) → length front ≡ DIGITS_IN_64_BITS → all_are is_digit front ≡ true
+        → number 10 (map digit_value front) ≡ high → AreFront (front ++ bytes.now) result }
+{
+    let (low, count) = few_digits(bytes);
+    let number = high as u128 * 10u64.pow(count as u32) as u128 + low as u128;
+    let rest = &bytes[count..];
+    let others = digit_count(rest);
+    Digits {
+        number,
+        count: DIGITS_IN_64_BITS + count + others,
+        rest: &rest[others..],
+    }
+}
+
+// The number of the digits at the front of these bytes, at most nineteen, and how many they are.
+#[inline]
+fn few_digits(bytes: &[u8]) -> (u64, usize)
+    ensures digits { AreDigits DIGITS_IN_64_BITS bytes.now result.1 }
+    ensures value { result.0 ≡ number 10 (map digit_value (take result.1 bytes.now)) }
+{
+    let front = &bytes[..bytes.len().min(DIGITS_IN_64_BITS)];
+    let mut number: u64 = 0;
+    for (i, byte) in front.iter().enumerate() {
+        let digit = byte.wrapping_sub(b'0');
+        if digit > 9 {
+            return (number, i);
+        }
+        number = number * 10 + digit as u64;
+    }
+    (number, front.len())
+}
+
+// How many digits there are at the front of these bytes.
+#[inline]
+fn digit_count(bytes: &[u8]) -> usize
+    ensures { AreDigits (length bytes.now) bytes.now result }
+{
+    for (i, byte) in bytes.iter().enumerate() {
+        if !byte.is_ascii_digit() {
+            return i;
+        }
+    }
+    bytes.len()
+}
+
+/// The text of a timestamp (Ion specification, "Timestamps").
+pub fn timestamp_to_text(timestamp: Timestamp) -> ArrayString<64>
+    requires { IsTimestamp timestamp }
+    ensures { result.bytes ≡ timestamp_text timestamp }
+{
+    let mut text = ArrayString::new();
+    match timestamp.precision {
+        Precision::Year => {
+            push_four(&mut text, timestamp.year);
+            push_byte(&mut text, b'T');
+        }
+        Precision::Month => {
+            push_month(&mut text, &timestamp);
+            push_byte(&mut text, b'T');
+        }
+        Precision::Day => push_day(&mut text, &timestamp),
+        Precision::Minute => {
+            push_minute(&mut text, &timestamp);
+            push_offset(&mut text, timestamp.offset);
+        }
+        Precision::Second => {
+            push_second(&mut text, &timestamp);
+            push_offset(&mut text, timestamp.offset);
+        }
+        Precision::Fraction(count) => {
+            push_second(&mut text, &timestamp);
+            push_byte(&mut text, b'.');
+            push_fraction(&mut text, count, timestamp.fraction);
+            push_offset(&mut text, timestamp.offset);
+        }
+    }
+    text
+}
+
+// Adds a byte of ASCII.
+#[inline]
+fn push_byte(text: &mut ArrayString<64>, byte: u8)
+    requires ascii { byte < 128 }
+    requires room { array_string_len text.old < 64 }
+    ensures text { text.new.bytes ≡ text.old.bytes ++ byte ∷ [] }
+    ensures len { array_string_len text.new ≡ array_string_len text.old + 1 }
+{
+    text.push(byte as char);
+}
+
+// Adds two digits.
+#[inline]
+fn push_two(text: &mut ArrayString<64>, number: u8)
+    requires small { number < 100 }
+    requires room { array_string_len text.old + 2 ≤ 64 }
+    ensures text { text.new.bytes ≡ text.old.bytes ++ fixed_digits 2 number }
+    ensures len { array_string_len text.new ≡ array_string_len text.old + 2 }
+{
+    push_byte(text, b'0' + number / 10);
+    push_byte(text, b'0' + number % 10);
+}
+
+// Adds four digits.
+#[inline]
+fn push_four(text: &mut ArrayString<64>, number: u16)
+    requires small { number < 10000 }
+    requires room { array_string_len text.old + 4 ≤ 64 }
+    ensures text { text.new.bytes ≡ text.old.bytes ++ fixed_digits 4 number }
+    ensures len { array_string_len text.new ≡ array_string_len text.old + 4 }
+{
+    push_two(text, (number / 100) as u8);
+    push_two(text, (number % 100) as u8);
+}
+
+// Adds the year and the month.
+#[inline]
+fn push_month(text: &mut ArrayString<64>, timestamp: &Timestamp)
+    requires moment { IsMoment timestamp.now }
+    requires room { array_string_len text.old + 7 ≤ 64 }
+    ensures text { text.new.bytes ≡ text.old.bytes ++ month_text timestamp.now }
+    ensures len { array_string_len text.new ≡ array_string_len text.old + 7 }
+{
+    push_four(text, timestamp.year);
+    push_byte(text, b'-');
+    push_two(text, timestamp.month);
+}
+
+// Adds the date.
+#[inline]
+fn push_day(text: &mut ArrayString<64>, timestamp: &Timestamp)
+    requires moment { IsMoment timestamp.now }
+    requires room { array_string_len text.old + 10 ≤ 64 }
+    ensures text { text.new.bytes ≡ text.old.bytes ++ day_text timestamp.now }
+    ensures len { array_string_len text.new ≡ array_string_len text.old + 10 }
+{
+    push_month(text, timestamp);
+    push_byte(text, b'-');
+    push_two(text, timestamp.day);
+}
+
+// Adds the date, hour and minute.
+#[inline]
+fn push_minute(text: &mut ArrayString<64>, timestamp: &Timestamp)
+    requires moment { IsMoment timestamp.now }
+    requires room { array_string_len text.old + 16 ≤ 64 }
+    ensures text { text.new.bytes ≡ text.old.bytes ++ minute_text timestamp.now }
+    ensures len { array_string_len text.new ≡ array_string_len text.old + 16 }
+{
+    push_day(text, timestamp);
+    push_byte(text, b'T');
+    push_two(text, timestamp.hour);
+    push_byte(text, b':');
+    push_two(text, timestamp.minute);
+}
+
+// Adds the date, hour, minute and second.
+#[inline]
+fn push_second(text: &mut ArrayString<64>, timestamp: &Timestamp)
+    requires moment { IsMoment timestamp.now }
+    requires room { array_string_len text.old + 19 ≤ 64 }
+    ensures text { text.new.bytes ≡ text.old.bytes ++ second_text timestamp.now }
+    ensures len { array_string_len text.new ≡ array_string_len text.old + 19 }
+{
+    push_minute(text, timestamp);
+    push_byte(text, b':');
+    push_two(text, timestamp.second);
+}
+
+// Adds so many digits of a fraction.
+#[inline]
+fn push_fraction(text: &mut ArrayString<64>, count: u8, fraction: u128)
+    requires some { 1 ≤ count }
+    requires few { count ≤ 38 }
+    requires small { fraction < 10 ^ count }
+    requires room { array_string_len text.old + count ≤ 64 }
+    ensures text { text.new.bytes ≡ text.old.bytes ++ fixed_digits count fraction }
+    ensures len { array_string_len text.new ≡ array_string_len text.old + count }
+{
+    if fraction < TEN_TO_19 {
+        push_digits(text, count, fraction as u64);
+    } else {
+        push_digits(text, count - 19, (fraction / TEN_TO_19) as u64);
+        push_digits(text, 19, (fraction % TEN_TO_19) as u64);
+    }
+}
+
+// Adds so many digits of a number.
+#[inline]
+fn push_digits(text: &mut ArrayString<64>, count: u8, number: u64)
+    requires some { 1 ≤ count }
+    requires small { number < 10 ^ count }
+    requires room { array_string_len text.old + count ≤ 64 }
+    ensures text { text.new.bytes ≡ text.old.bytes ++ fixed_digits count number }
+    ensures len { array_string_len text.new ≡ array_string_len text.old + count }
+{
+    let mut buffer = Buffer::new();
+    let digits = buffer.format(number);
+    'zeros: for _ in digits.len()..count as usize {
+        push_byte(text, b'0');
+    }
+    text.push_str(digits);
+}
+
+// Adds an offset.
+#[inline]
+fn push_offset(text: &mut ArrayString<64>, offset: Option<i16>)
+    requires offset { IsOffset offset }
+    requires room { array_string_len text.old + 6 ≤ 64 }
+    ensures { text.new.bytes ≡ text.old.bytes ++ offset_text offset }
+{
+    match offset {
+        None => text.push_str("-00:00"),
+        Some(0) => push_byte(text, b'Z'),
+        Some(minutes) => {
+            let sign = if minutes < 0 { b'-' } else { b'+' };
+            push_byte(text, sign);
+            push_minutes(text, minutes.unsigned_abs());
+        }
+    }
+}
+
+// Adds the hours and minutes of an offset.
+#[inline]
+fn push_minutes(text: &mut ArrayString<64>, minutes: u16)
+    requires small { minutes < 1440 }
+    requires room { array_string_len text.old + 5 ≤ 64 }
+    ensures text { text.new.bytes ≡ text.old.bytes ++ minutes_text minutes }
+    ensures len { array_string_len text.new ≡ array_string_len text.old + 5 }
+{
+    push_two(text, (minutes / 60) as u8);
+    push_byte(text, b':');
+    push_two(text, (minutes % 60) as u8);
+}
+
+#[cfg(test)]
+mod tests;

@@ -1,0 +1,80 @@
+-- What is true of the grammar and the reading: laws that contracts cite.
+use Rattle.std.specs.Prelude.{◌≡◌, ℕ, ◌+◌, ◌*◌, ◌^◌, ◌<◌, ◌≤◌, ◌⊎◌, List, [], ◌∷◌, ◌++◌, length, Result, Ok, Err}
+use Rattle.ion_meter.specs.declared.fault.Reason.{Reason}
+use Rattle.ion_meter.specs.declared.fault.Reason.TheVariants.{DepthLimit, ScalarLimit, AnnotationLimit}
+use Rattle.ion_meter.specs.declared.limits.Limits.{Limits}
+use Rattle.ion_value.specs.Scalar.{scalar_of_body}
+use Rattle.ion_value.specs.Value.{Symbol, SymbolAt, Scalar, Top, PlacedItem}
+use Rattle.ion_value.specs.Path.{Path, closed, path_items}
+use Rattle.ion_value.specs.Reading.{Reading, Finished, Stopped, items_of, behind}
+use Rattle.ion_binary.specs.Grammar.{Body, Tops, Stream}
+use Rattle.ion_binary.specs.Paths.{IsPath}
+use Rattle.ion_binary.specs.Reading.{reading}
+
+-- the bodies that the grammar has are read, each to its value, and no others are
+abbrev pub Bodies : Type 0
+Bodies = (t : ℕ) (v : Scalar Symbol) (b : List ℕ) → (Body t v b → scalar_of_body t b ≡ Ok v) × (scalar_of_body t b ≡ Ok v → Body t v b)
+
+-- how a reading ends
+abbrev pub ending_of : Reading → Reading
+ending_of Finished = Finished
+ending_of (Stopped reason place) = Stopped reason place
+ending_of (Reading.More item rest) = ending_of rest
+
+-- what is read is a path of the bytes, and the whole of them where reading finishes
+pub record IsRead (bytes : List ℕ) (r : Reading) : Type 0 where
+  pub path : Path SymbolAt ℕ
+  pub place : ℕ
+  pub is_path : IsPath bytes place path
+  pub items : items_of r ≡ path_items path
+  pub whole : ending_of r ≡ Finished → (ts : List (Top SymbolAt ℕ)) × (path ≡ closed ts) × (place ≡ length bytes) × Tops ts bytes
+
+abbrev pub Sound : Type 0
+Sound = (limits : Limits) (bytes : List ℕ) → IsRead bytes (reading limits bytes)
+
+-- limits that nothing that stands in so many bytes passes
+abbrev pub Allows : Limits → List ℕ → Type 0
+Allows limits bytes = (length bytes ≤ limits.depth) × (16 * length bytes ≤ limits.scalar)
+
+-- whatever path the bytes have, its items are read first where the limits allow them
+abbrev pub Complete : Type 0
+Complete =
+    (limits : Limits) (bytes : List ℕ) (q : ℕ) (path : Path SymbolAt ℕ) → Allows limits bytes → IsPath bytes q path
+    → (rest : Reading) × (reading limits bytes ≡ behind (path_items path) rest)
+
+-- and a stream is read to its end
+abbrev pub StreamsAreRead : Type 0
+StreamsAreRead =
+    (limits : Limits) (bytes : List ℕ) (ts : List (Top SymbolAt ℕ)) → Allows limits bytes → Tops ts bytes
+    → reading limits bytes ≡ behind (path_items (closed ts)) Finished
+
+abbrev pub IsLimit : Reason → Type 0
+IsLimit reason = (reason ≡ DepthLimit) ⊎ (reason ≡ ScalarLimit) ⊎ (reason ≡ AnnotationLimit)
+
+-- limits of which the others pass nothing that these do not
+pub record AreWithin (limits wide : Limits) : Type 0 where
+  pub depth : limits.depth ≤ wide.depth
+  pub scalar : limits.scalar ≤ wide.scalar
+
+-- a reading is the front of another, up to a limit's fault
+pub data IsCut : Reading → Reading → Type 0 where
+  here : (reason : Reason) (place : ℕ) (r : Reading) → IsLimit reason → IsCut (Stopped reason place) r
+  later : (item : PlacedItem) (r s : Reading) → IsCut r s → IsCut (Reading.More item r) (Reading.More item s)
+
+-- narrower limits change nothing, or cut the reading short by a limit's fault
+abbrev pub Narrow : Type 0
+Narrow = (limits wide : Limits) (bytes : List ℕ) → AreWithin limits wide → (reading limits bytes ≡ reading wide bytes) ⊎ IsCut (reading limits bytes) (reading wide bytes)
+
+-- one list of items begins another
+abbrev pub IsBegun : List PlacedItem → List PlacedItem → Type 0
+IsBegun items all = (more : List PlacedItem) × (all ≡ items ++ more)
+
+-- of two paths of the same bytes the items of one begin the other's
+abbrev pub OnePath : Type 0
+OnePath =
+    (bytes : List ℕ) (q r : ℕ) (a b : Path SymbolAt ℕ) → IsPath bytes q a → IsPath bytes r b
+    → IsBegun (path_items a) (path_items b) ⊎ IsBegun (path_items b) (path_items a)
+
+-- the same bytes are one list of markers and values
+abbrev pub OneStream : Type 0
+OneStream = (bytes : List ℕ) (a b : List (Top SymbolAt ℕ)) → Stream bytes a → Stream bytes b → a ≡ b

@@ -1,0 +1,45 @@
+-- Open paths of a binary stream: the bytes up to a place, with the containers that are open there.
+use Rattle.std.specs.Prelude.{◌≡◌, ℕ, ◌+◌, ◌≤◌, List, [], ◌∷◌, ◌++◌, length, Option, Some, None}
+use Rattle.ion_value.specs.declared.ion_type.Kind.{Kind}
+use Rattle.ion_value.specs.Value.{SymbolAt, Members, Top}
+use Rattle.ion_value.specs.Path.{Nest, outermost, inner, Path, closed, opened, nest_kinds}
+use Rattle.ion_binary.specs.Reading.{Frame}
+use Rattle.ion_binary.specs.Grammar.{Field, Front, Annotated, Inside, Tops}
+
+-- what stands before a value where containers are open: a field where the innermost of them is a struct
+abbrev pub FieldIn : List Frame → ℕ → Option SymbolAt → List ℕ → Type 0
+FieldIn [] q f b = (f ≡ None) × (b ≡ [])
+FieldIn (frame ∷ frames) q f b = Field frame.kind q f b
+
+-- a place is not past the end of the innermost open container
+abbrev pub Within : List Frame → ℕ → Type 0
+Within [] q = Unit {0}
+Within (frame ∷ frames) q = q ≤ frame.end
+
+-- a container that was opened: where it is in the path, its kind, and the place of its end
+abbrev pub frame_of : Kind → ℕ → Frame
+frame_of k end = record { kind = k; end = end }
+
+-- the path behind a container's beginning and some of its members
+abbrev pub open_in : Path SymbolAt ℕ → ℕ → Option SymbolAt → List SymbolAt → ℕ → Kind → Members SymbolAt ℕ → Path SymbolAt ℕ
+open_in (closed ts) q f notes h k ms = opened ts q (outermost notes h k ms)
+open_in (opened ts first nest) q f notes h k ms = opened ts first (inner nest f notes h k ms)
+
+-- the bytes spell the path, whose open containers end at these places, which the input may not reach; each lies within those around it
+pub data Spells : Path SymbolAt ℕ → List Frame → List ℕ → Type 0 where
+  top : (ts : List (Top SymbolAt ℕ)) (b : List ℕ) → Tops ts b → Spells (closed ts) [] b
+  inside : (path : Path SymbolAt ℕ) (frames : List Frame) (f : Option SymbolAt) (notes : List SymbolAt) (k : Kind) (ms : Members SymbolAt ℕ) (n : ℕ)
+      (b x w front c : List ℕ)
+      → Spells path frames b → FieldIn frames (length b) f x → Annotated (length (b ++ x)) notes (length front + n) w → Front k n front
+      → Inside k (length ((b ++ x) ++ (w ++ front))) ms c → length c ≤ n → Within frames (length ((b ++ x) ++ (w ++ front)) + n)
+      → Spells (open_in path (length b) f notes (length ((b ++ x) ++ w)) k ms) (frame_of k (length ((b ++ x) ++ (w ++ front)) + n) ∷ frames)
+          (((b ++ x) ++ (w ++ front)) ++ c)
+
+-- the bytes before a place spell the path
+pub record IsPath (bytes : List ℕ) (q : ℕ) (path : Path SymbolAt ℕ) : Type 0 where
+  pub frames : List Frame
+  pub before : List ℕ
+  pub rest : List ℕ
+  pub split : bytes ≡ before ++ rest
+  pub place : q ≡ length before
+  pub spells : Spells path frames before

@@ -1,0 +1,282 @@
+-- Reading a binary stream: its items in order, and how they end. In each part of an item the first line that refuses is its fault.
+use Rattle.std.specs.Prelude.{ℕ, zero, suc, ◌+◌, ◌*◌, Bool, true, false, not, ◌&&◌, ◌||◌, ◌==◌, nat_le, nat_lt, nat_eq, if◌then◌else◌, List, [], ◌∷◌, ◌++◌, length, take, drop, Option, Some, None, Result, Ok, Err}
+use Rattle.ion_meter.specs.declared.fault.Reason.{Reason}
+use Rattle.ion_meter.specs.declared.fault.Reason.TheVariants.{Truncated, BadDescriptor, BadVersion, BadAnnotation, Overrun, Float, DepthLimit, ScalarLimit, AnnotationLimit}
+use Rattle.ion_meter.specs.declared.limits.Limits.{Limits}
+use Rattle.ion_value.specs.declared.ion_type.Kind.{Kind}
+use Rattle.ion_value.specs.declared.ion_type.Kind.TheVariants as kind
+use Rattle.ion_value.specs.Name.{raw_id}
+use Rattle.ion_value.specs.Scalar.{scalar_of_body}
+use Rattle.ion_value.specs.Value as value
+use Rattle.ion_value.specs.Value.{Symbol, Id, SymbolAt, Scalar, Head, PlacedItem, map_scalar}
+use Rattle.ion_value.specs.Reading.{Reading, Step, Ends, Stops, Gives, GoesOn, reading_by}
+use Rattle.ion_binary.specs.Descriptor.{◌>>=◌, ◌>>◌, refuse, Cursor, skip, Region, passes, falls_short, octet_at, var_uint_at, length_at, Shape, null, bool, pad, wrapper, body, container, sorted, marker, float, illegal, shape_of, is_unwrappable}
+
+-- ---- the part that is a descriptor, a length and, for a scalar, a body
+
+-- where the part stands: whether a wrapper is around it, in which region, and how many containers are open
+pub record Around : Type 0 where
+  pub wrapped : Bool
+  pub region : Region
+  pub depth : ℕ
+
+-- what it is: a pad, a version marker, a scalar, or a container's beginning with the place of its end
+pub data Found : Type 0 where
+  a_pad : Found
+  a_marker : Found
+  a_scalar : (body : Scalar Symbol) → Found
+  a_container : (kind : Kind) → (end : ℕ) → Found
+
+-- a marker behind its first octet
+abbrev pub marker_rest : List ℕ → Result (Unit {0}) Reason
+marker_rest [] = Err Truncated
+marker_rest (a ∷ []) = Err Truncated
+marker_rest (a ∷ b ∷ []) = Err Truncated
+marker_rest (a ∷ b ∷ c ∷ bytes) = refuse (not ((a == 1) && (b == 0) && (c == 234))) BadVersion
+
+abbrev pub is_top : Region → Bool
+is_top None = true
+is_top (Some end) = false
+
+unfoldable pub marker_at : Region → Cursor → Result (Found × Cursor) Reason
+marker_at r c = do
+  refuse (not (is_top r)) BadDescriptor
+  marker_rest c.rest
+  Ok (a_marker, skip 3 c)
+
+-- so many octets fit the region, and fill it where it is a wrapper
+abbrev pub fits : Around → ℕ → ℕ → Result (Unit {0}) Reason
+fits a place n = do
+  refuse (passes a.region place n) Overrun
+  refuse (a.wrapped && falls_short a.region place n) BadAnnotation
+
+-- a scalar whose value is in its descriptor
+unfoldable pub bare_at : Around → Scalar Symbol → Cursor → Result (Found × Cursor) Reason
+bare_at a v c = do
+  refuse (a.wrapped && falls_short a.region c.place 0) BadAnnotation
+  Ok (a_scalar v, c)
+
+unfoldable pub pad_at : Around → ℕ → Cursor → Result (Found × Cursor) Reason
+pad_at a low c = do
+  n ← length_at low a.region c
+  refuse (passes a.region n.1.place n.0) Overrun
+  refuse (nat_lt (length n.1.rest) n.0) Truncated
+  Ok (a_pad, skip n.0 n.1)
+
+-- a scalar whose body has so many octets
+unfoldable pub body_at : Limits → Around → ℕ → ℕ → Cursor → Result (Found × Cursor) Reason
+body_at limits a code n c = do
+  fits a c.place n
+  refuse (nat_lt limits.scalar n) ScalarLimit
+  refuse (nat_lt (length c.rest) n) Truncated
+  v ← scalar_of_body code (take n c.rest)
+  Ok (a_scalar v, skip n c)
+
+unfoldable pub scalar_at : Limits → Around → ℕ → ℕ → Cursor → Result (Found × Cursor) Reason
+scalar_at limits a code low c = do
+  n ← length_at low a.region c
+  body_at limits a code n.0 n.1
+
+-- a container whose members have so many octets
+unfoldable pub begin_at : Limits → Around → Kind → ℕ → Cursor → Result (Found × Cursor) Reason
+begin_at limits a k n c = do
+  fits a c.place n
+  refuse (nat_le limits.depth a.depth) DepthLimit
+  Ok (a_container k (c.place + n), c)
+
+unfoldable pub container_at : Limits → Around → Kind → ℕ → Cursor → Result (Found × Cursor) Reason
+container_at limits a k low c = do
+  n ← length_at low a.region c
+  begin_at limits a k n.0 n.1
+
+unfoldable pub sorted_at : Limits → Around → Cursor → Result (Found × Cursor) Reason
+sorted_at limits a c = do
+  n ← var_uint_at a.region c
+  refuse (nat_eq n.0 0) BadDescriptor
+  begin_at limits a kind.Struct n.0 n.1
+
+unfoldable pub by_shape : Limits → Around → Shape → Cursor → Result (Found × Cursor) Reason
+by_shape limits a (null t) c = bare_at a (value.null t) c
+by_shape limits a (bool truth) c = bare_at a (value.bool truth) c
+by_shape limits a (pad low) c = pad_at a low c
+by_shape limits a (body code low) c = scalar_at limits a code low c
+by_shape limits a sorted c = sorted_at limits a c
+by_shape limits a (container k low) c = container_at limits a k low c
+by_shape limits a marker c = marker_at a.region c
+by_shape limits a float c = Err Float
+by_shape limits a (wrapper low) c = Err BadAnnotation
+by_shape limits a illegal c = Err BadDescriptor
+
+-- behind its descriptor octet
+unfoldable pub found_at : Limits → Around → ℕ → Cursor → Result (Found × Cursor) Reason
+found_at limits a b c = do
+  refuse (a.wrapped && is_unwrappable b) BadAnnotation
+  by_shape limits a (shape_of b) c
+
+-- ---- an annotation wrapper
+
+-- where its ids end, and where it ends
+pub record Wrapped : Type 0 where
+  pub ids : ℕ
+  pub end : ℕ
+
+-- behind its descriptor octet: all octets of its lengths first, those of the ids' length within what the wrapper's own length says
+unfoldable pub wrapper_at : Region → ℕ → Cursor → Result (Wrapped × Cursor) Reason
+wrapper_at r low c = do
+  n ← length_at low r c
+  ids ← var_uint_at (Some (n.1.place + n.0)) n.1
+  refuse (passes r n.1.place n.0) Overrun
+  refuse (nat_lt n.0 3 || nat_eq ids.0 0 || nat_le (n.1.place + n.0) (ids.1.place + ids.0)) BadAnnotation
+  Ok (record { ids = ids.1.place + ids.0; end = n.1.place + n.0 }, ids.1)
+
+-- ---- an item
+
+abbrev pub symbol_id : ℕ → ℕ → SymbolAt
+symbol_id id place = record { symbol = Id (raw_id id); place = place }
+
+-- a fault stands at the first byte of its part
+abbrev pub Placed : Type 0 → Type 0
+Placed A = Result A (Reason × ℕ)
+
+abbrev pub part : {A : Type 0} → ℕ → Result A Reason → Placed A
+part place (Ok x) = Ok x
+part place (Err reason) = Err (reason, place)
+
+-- the ids of a wrapper up to their end, each counted as 16 with those before it; the first number is how many there are at most
+unfoldable pub ids_at : ℕ → Limits → ℕ → ℕ → Cursor → Placed (List SymbolAt × Cursor)
+ids_at zero limits end count c = Ok ([], c)
+ids_at (suc most) limits end count c =
+    if nat_le end c.place then Ok ([], c)
+    else (do
+      i ← part c.place (var_uint_at (Some end) c)
+      part c.place (refuse (nat_lt limits.scalar (16 * (count + 1))) AnnotationLimit)
+      more ← ids_at most limits end (count + 1) i.1
+      Ok (symbol_id i.0 c.place ∷ more.0, more.1))
+
+-- an open container, known by the place of its end
+pub record Frame : Type 0 where
+  pub kind : Kind
+  pub end : ℕ
+
+-- the open containers, the innermost first; the place of the present top-level value; and what is to be read
+pub record State : Type 0 where
+  pub frames : List Frame
+  pub top : ℕ
+  pub cursor : Cursor
+
+abbrev pub region_of : List Frame → Region
+region_of [] = None
+region_of (f ∷ frames) = Some f.end
+
+-- a field id stands before each member of a struct
+abbrev pub field_in : Kind → Region → Cursor → Result (Option SymbolAt × Cursor) Reason
+field_in kind.List r c = Ok (None, c)
+field_in kind.Sexp r c = Ok (None, c)
+field_in kind.Struct r c = do
+  i ← var_uint_at r c
+  Ok (Some (symbol_id i.0 c.place), i.1)
+
+abbrev pub field_at : List Frame → Cursor → Result (Option SymbolAt × Cursor) Reason
+field_at [] c = Ok (None, c)
+field_at (f ∷ frames) c = field_in f.kind (Some f.end) c
+
+-- a scalar whose symbol stands at a place
+abbrev pub placed_scalar : ℕ → Scalar Symbol → Scalar SymbolAt
+placed_scalar place v = map_scalar (λ s. record { symbol = s; place = place }) v
+
+abbrev pub item_of : ℕ → Option SymbolAt → List SymbolAt → ℕ → Head SymbolAt → PlacedItem
+item_of top f notes place head = record { field = f; annotations = notes; head = head; place = place; top = top }
+
+-- what is found as a step: a pad gives nothing, and a container's beginning opens it
+abbrev pub given : List Frame → ℕ → Option SymbolAt → List SymbolAt → ℕ → Found → Cursor → Step State
+given frames top f notes place a_pad c = GoesOn (record { frames = frames; top = top; cursor = c })
+given frames top f notes place a_marker c =
+    Gives (item_of top f notes place value.marker) (record { frames = frames; top = top; cursor = c })
+given frames top f notes place (a_scalar v) c =
+    Gives (item_of top f notes place (value.whole (placed_scalar place v))) (record { frames = frames; top = top; cursor = c })
+given frames top f notes place (a_container k end) c =
+    Gives (item_of top f notes place (value.begin k)) (record { frames = record { kind = k; end = end } ∷ frames; top = top; cursor = c })
+
+-- a value behind its field, and behind its descriptor octet
+unfoldable pub plain_at : Limits → List Frame → ℕ → Option SymbolAt → ℕ → ℕ → Cursor → Placed (Step State)
+plain_at limits frames top f place b c = do
+  v ← part place (found_at limits (record { wrapped = false; region = region_of frames; depth = length frames }) b c)
+  Ok (given frames top f [] place v.0 v.1)
+
+-- the value in a wrapper that ends at a place
+unfoldable pub inner_at : Limits → List Frame → ℕ → Option SymbolAt → List SymbolAt → ℕ → Cursor → Placed (Step State)
+inner_at limits frames top f notes end c = do
+  b ← part c.place (octet_at (Some end) c)
+  v ← part c.place (found_at limits (record { wrapped = true; region = Some end; depth = length frames }) b.0 b.1)
+  Ok (given frames top f notes c.place v.0 v.1)
+
+-- a wrapper and its value, behind its descriptor octet
+unfoldable pub annotated_at : Limits → List Frame → ℕ → Option SymbolAt → ℕ → ℕ → Cursor → Placed (Step State)
+annotated_at limits frames top f place low c = do
+  w ← part place (wrapper_at (region_of frames) low c)
+  notes ← ids_at w.0.ids limits w.0.ids 0 w.1
+  inner_at limits frames top f notes.0 w.0.end notes.1
+
+-- the length of a wrapper, and none of a value without one
+abbrev pub wrapper_length : Shape → Option ℕ
+wrapper_length (wrapper low) = Some low
+wrapper_length (null t) = None
+wrapper_length (bool truth) = None
+wrapper_length (pad low) = None
+wrapper_length (body code low) = None
+wrapper_length (container k low) = None
+wrapper_length sorted = None
+wrapper_length marker = None
+wrapper_length float = None
+wrapper_length illegal = None
+
+abbrev pub by_wrapper : {A : Type 0} → Option ℕ → (ℕ → A) → A → A
+by_wrapper None annotated plain = plain
+by_wrapper (Some low) annotated plain = annotated low
+
+unfoldable pub value_at : Limits → List Frame → ℕ → Option SymbolAt → Cursor → Placed (Step State)
+value_at limits frames top f c = do
+  b ← part c.place (octet_at (region_of frames) c)
+  by_wrapper (wrapper_length (shape_of b.0)) (λ low. annotated_at limits frames top f c.place low b.1) (plain_at limits frames top f c.place b.0 b.1)
+
+-- at top level a value begins a top-level value
+abbrev pub top_of : List Frame → ℕ → ℕ → ℕ
+top_of [] top place = place
+top_of (f ∷ frames) top place = top
+
+unfoldable pub member_at : Limits → List Frame → ℕ → Cursor → Placed (Step State)
+member_at limits frames top c = do
+  f ← part c.place (field_at frames c)
+  value_at limits frames (top_of frames top c.place) f.0 f.1
+
+-- ---- the stream
+
+abbrev pub step_of : Placed (Step State) → Step State
+step_of (Ok s) = s
+step_of (Err fault) = Stops fault.0 fault.1
+
+-- the stream ends where its bytes do
+abbrev pub top_step : Limits → ℕ → Cursor → List ℕ → Step State
+top_step limits top c [] = Ends
+top_step limits top c (b ∷ bytes) = step_of (member_at limits [] top c)
+
+-- and a container where its region does
+abbrev pub step_in : Limits → List Frame → ℕ → Cursor → Step State
+step_in limits [] top c = top_step limits top c c.rest
+step_in limits (f ∷ frames) top c =
+    if nat_le f.end c.place then Gives (item_of top None [] c.place value.end) (record { frames = frames; top = top; cursor = c })
+    else step_of (member_at limits (f ∷ frames) top c)
+
+unfoldable pub step : Limits → State → Step State
+step limits s = step_in limits s.frames s.top s.cursor
+
+-- each step takes an octet or closes a container, and an octet opens at most one
+abbrev pub size : State → ℕ
+size s = 2 * length s.cursor.rest + length s.frames
+
+abbrev pub start : List ℕ → State
+start bytes = record { frames = []; top = 0; cursor = record { place = 0; rest = bytes } }
+
+-- all that a reader gives of these bytes
+unfoldable pub reading : Limits → List ℕ → Reading
+reading limits bytes = reading_by (step limits) size (start bytes)

@@ -1,0 +1,2 @@
+//! The binary encoding of Amazon Ion 1.0: its grammar and its reading.
+#![tactic(auto)]

@@ -15,7 +15,7 @@ use Rattle.ion_value.specs.Value as value
 use Rattle.ion_value.specs.Value.{SymbolAt, Head, PlacedItem, whole, begin, end, marker}
 use Rattle.ion_value.specs.Reading.{Reading, Finished, Stopped, behind}
 use Rattle.ion_binary.specs.Descriptor.{octet_at, var_at, var_uint_at, length_at, shape_of}
-use Rattle.ion_binary.specs.Reading.{marker_at, bare_at, pad_at, body_at, scalar_at, begin_at, container_at, sorted_at, by_shape, found_at, wrapper_at, symbol_id, ids_at, field_in, item_of, plain_at, inner_at, annotated_at, value_at, member_at, step, reading}
+use Rattle.ion_binary.specs.Reading.{marker_at, bare_at, pad_at, body_at, scalar_at, begin_at, container_at, sorted_at, by_shape, found_at, wrapper_at, symbol_id, ids_at, item_of, plain_at, inner_at, annotated_at, value_at, member_at, step, reading}
 
 abbrev usual : Limits
 usual = record { depth = 64; scalar = 1048576; symbols = 1048576; value = 16777216; input = 281474976710656 }
@@ -25,7 +25,7 @@ abbrev shallow : Limits
 shallow = record { depth = 1; scalar = 2; symbols = 1048576; value = 16777216; input = 281474976710656 }
 
 unfoldable read : Limits → List ℕ → Reading
-unfolding octet_at var_at var_uint_at length_at shape_of marker_at bare_at pad_at body_at scalar_at begin_at container_at sorted_at by_shape found_at wrapper_at ids_at field_in plain_at inner_at annotated_at value_at member_at step reading scalar_of_body decimal_of_bytes var_cut fields_cut timestamp_of_bytes local_of is_utf8 chars encode
+unfolding octet_at var_at var_uint_at length_at shape_of marker_at bare_at pad_at body_at scalar_at begin_at container_at sorted_at by_shape found_at wrapper_at ids_at plain_at inner_at annotated_at value_at member_at step reading scalar_of_body decimal_of_bytes var_cut fields_cut timestamp_of_bytes local_of is_utf8 chars encode
 read limits bytes = reading limits bytes
 
 -- bytes behind a marker

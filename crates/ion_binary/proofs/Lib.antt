@@ -1,2 +1,4 @@
 mod Rows
 mod Fewer
+mod VarLoop
+mod Cursors

@@ -1,0 +1,25 @@
+-- Calls that read one after the other.
+use Rattle.std.proofs.Common.{arith, refl, ap, ◌∙◌, ◌≡◌, ℕ, ◌+◌, ◌<◌, ◌≤◌, ◌↔◌, List, length, Result, Ok, Err}
+use Rattle.ion_meter.specs.declared.fault.Fault.{Fault}
+use Rattle.ion_meter.specs.declared.fault.Fault.TheVariants.{Refused, Memory, ReadFault, WriteFault, InputLimit}
+use Rattle.ion_meter.specs.declared.fault.Reason.{Reason}
+use Rattle.ion_meter.specs.Windows.{Incoming, left}
+use Rattle.ion_binary.specs.Descriptor.{Cursor}
+use Rattle.ion_binary.specs.Parts.{Moves, Answers}
+
+pub moves-then : {I : Type 0} (rest : I → List ℕ) (tells : I → Type 0) (s t u : Incoming I) → Moves rest tells s t → Moves rest tells t u → Moves rest tells s u
+moves-then rest tells s t u a b = record {
+  still_tells = (λ h. a.still_tells.0 (b.still_tells.0 h), λ h. b.still_tells.1 (a.still_tells.1 h));
+  limit = b.limit ∙ a.limit;
+  further = omega (arith, a.further, b.further);
+  total = λ h. b.total (a.still_tells.1 h) ∙ a.total h;
+}
+
+-- the reason of one call as that of another
+pub answers-refused : {T U A B : Type 0} (view : T → A) (shown : U → B) (fault : Fault) (behind after : Cursor) (place : ℕ) (one : Result (A × Cursor) Reason) (all : Result (B × Cursor) Reason)
+    → Answers view (Err fault) behind place one → ((e : Reason) → one ≡ Err e → all ≡ Err e) → Answers shown (Err fault) after place all
+answers-refused view shown (Refused reason at) behind after place one all h k = (k reason h.0, h.1)
+answers-refused view shown Memory behind after place one all h k = tt
+answers-refused view shown ReadFault behind after place one all h k = tt
+answers-refused view shown WriteFault behind after place one all h k = tt
+answers-refused view shown InputLimit behind after place one all h k = tt

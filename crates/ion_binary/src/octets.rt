@@ -1,0 +1,99 @@
+//! Octets, VarUInts and lengths, each within a region of the input (binary encoding, "Basic Field
+//! Formats").
+ghost use Rattle.std.specs.Prelude.{◌≡◌, ◌+◌, ◌^◌, ◌<◌, ◌≤◌, ℕ, OnOk, IfOk};
+ghost use Rattle.ion_value.specs.Shares.{fault_of};
+ghost use Rattle.ion_binary.specs.Descriptor.{octet_at, var_uint_at, length_at};
+ghost use Rattle.ion_binary.specs.Parts.{cursor, Exceeds, Stands, Moves, Causes, Answers, itself};
+
+use ion_meter::device::Input;
+use ion_meter::fault::{Fault, Reason};
+use ion_meter::source::Source;
+use std::alloc::Allocator;
+
+/// The most octets that a VarUInt has.
+const LONGEST: u32 = 9;
+
+/// The next octet of a part that begins at a place.
+///
+/// Answers `Overrun` where the region ends here, and `Truncated` where the input does.
+#[tactic(auto, unfolding(crate::specs::Descriptor::octet_at))]
+#[inline]
+pub(crate) fn next_octet<I: Input, A: Allocator + Copy>(
+    source: &mut Source<I, A>,
+    region: Option<u64>,
+    place: u64,
+) -> Result<u8, Fault>
+    requires stands { Stands source.old }
+    ensures gives { I.tells source.old.device → Answers itself result (cursor I.rest source.new) place (octet_at region (cursor I.rest source.old)) }
+    ensures stands { OnOk result (Stands source.new) }
+    ensures taken { OnOk result (source.new.place ≡ source.old.place + 1) }
+    ensures moves { Moves I.rest I.tells source.old source.new }
+    ensures causes { Causes (fault_of result) (I.failure_count source.old.device) (I.failure_count source.new.device) (Exceeds I.rest I.tells source.old) }
+{
+    if region.is_some_and(|end| end <= source.place()) {
+        return Err(Fault::Refused(Reason::Overrun, place));
+    }
+    match source.peek(0) {
+        Err(fault) => Err(fault),
+        Ok(None) => Err(Fault::Refused(Reason::Truncated, place)),
+        Ok(Some(octet)) => {
+            source.advance();
+            Ok(octet)
+        }
+    }
+}
+
+/// The VarUInt here, in a part that begins at a place.
+///
+/// Answers `Overrun` and `Truncated` as an octet does, and `BadVar` where nine octets do not end it.
+#[inline]
+pub(crate) fn next_var_uint<I: Input, A: Allocator + Copy>(
+    source: &mut Source<I, A>,
+    region: Option<u64>,
+    place: u64,
+) -> Result<u64, Fault>
+    requires stands { Stands source.old }
+    ensures gives { I.tells source.old.device → Answers itself result (cursor I.rest source.new) place (var_uint_at region (cursor I.rest source.old)) }
+    ensures fits { IfOk result (λ n. n < 2 ^ 63) }
+    ensures stands { OnOk result (Stands source.new) }
+    ensures taken { OnOk result (source.old.place < source.new.place) }
+    ensures moves { Moves I.rest I.tells source.old source.new }
+    ensures causes { Causes (fault_of result) (I.failure_count source.old.device) (I.failure_count source.new.device) (Exceeds I.rest I.tells source.old) }
+{
+    let mut value = 0;
+    for _ in 0..LONGEST {
+        let octet = match next_octet(source, region, place) {
+            Err(fault) => return Err(fault),
+            Ok(octet) => octet,
+        };
+        value = value * 128 + u64::from(octet % 128);
+        if octet >= 128 {
+            return Ok(value);
+        }
+    }
+    Err(Fault::Refused(Reason::BadVar, place))
+}
+
+/// The length that a descriptor with these low four bits has, in a part that begins at a place: 14
+/// says that a VarUInt follows.
+#[tactic(auto, unfolding(crate::specs::Descriptor::length_at))]
+#[inline]
+pub(crate) fn next_length<I: Input, A: Allocator + Copy>(
+    source: &mut Source<I, A>,
+    low: u8,
+    region: Option<u64>,
+    place: u64,
+) -> Result<u64, Fault>
+    requires stands { Stands source.old }
+    requires low { low < 15 }
+    ensures gives { I.tells source.old.device → Answers itself result (cursor I.rest source.new) place (length_at low region (cursor I.rest source.old)) }
+    ensures fits { IfOk result (λ n. n < 2 ^ 63) }
+    ensures stands { OnOk result (Stands source.new) }
+    ensures moves { Moves I.rest I.tells source.old source.new }
+    ensures causes { Causes (fault_of result) (I.failure_count source.old.device) (I.failure_count source.new.device) (Exceeds I.rest I.tells source.old) }
+{
+    if low == 14 {
+        return next_var_uint(source, region, place);
+    }
+    Ok(u64::from(low))
+}

@@ -2,3 +2,13 @@ mod Rows
 mod Fewer
 mod VarLoop
 mod Cursors
+mod TimestampsSpelled
+mod TimestampsRead
+mod Bodies
+mod Narrow
+mod Taken
+mod Finding
+mod Wrapping
+mod Growing
+mod Kept
+mod Sound

@@ -3,5 +3,6 @@ pub mod Reading
 pub mod Grammar
 pub mod Paths
 pub mod Shapes
+pub mod Bodies
 pub mod Parts
 pub mod Laws

@@ -1,11 +1,14 @@
 -- What contracts of the code say of the parts of an item.
-use Rattle.std.specs.Prelude.{◌≡◌, ℕ, zero, suc, ◌+◌, ◌*◌, ◌%◌, ◌^◌, ◌<◌, ◌≤◌, ◌↔◌, nat_lt, if◌then◌else◌, List, length, Option, Some, None, Result, Ok, Err}
+use Rattle.std.specs.Prelude.{◌≡◌, ℕ, zero, suc, ◌+◌, ◌*◌, ◌%◌, ◌^◌, ◌<◌, ◌≤◌, ◌↔◌, nat_lt, if◌then◌else◌, List, length, take, Option, Some, None, Result, Ok, Err}
 use Rattle.ion_meter.specs.declared.fault.Fault.{Fault}
 use Rattle.ion_meter.specs.declared.fault.Fault.TheVariants.{Refused, Memory, ReadFault, WriteFault, InputLimit}
 use Rattle.ion_meter.specs.declared.fault.Reason.{Reason}
-use Rattle.ion_meter.specs.declared.fault.Reason.TheVariants.{BadVar}
+use Rattle.ion_meter.specs.declared.fault.Reason.TheVariants.{BadVar, ScalarLimit, Truncated}
+use Rattle.ion_meter.specs.declared.limits.Limits.{Limits}
 use Rattle.ion_meter.specs.Windows.{Incoming, left}
-use Rattle.ion_binary.specs.Descriptor.{◌>>=◌, Cursor, Region, octet_at}
+use Rattle.ion_value.specs.Scalar.{scalar_of_body}
+use Rattle.ion_value.specs.Value.{Symbol, Scalar}
+use Rattle.ion_binary.specs.Descriptor.{◌>>=◌, ◌>>◌, refuse, Cursor, skip, Region, octet_at}
 
 -- where a source stands, by what is left of its device
 abbrev pub cursor : {I : Type 0} → (I → List ℕ) → Incoming I → Cursor
@@ -54,3 +57,11 @@ var_from zero value r c = Err BadVar
 var_from (suc most) value r c = do
   b ← octet_at r c
   if nat_lt b.0 128 then var_from most (value * 128 + b.0) r b.1 else Ok (value * 128 + b.0 % 128, b.1)
+
+-- a scalar whose body has so many octets, which fit the region
+unfoldable pub body_here : Limits → ℕ → ℕ → Cursor → Result (Scalar Symbol × Cursor) Reason
+body_here limits code n c = do
+  refuse (nat_lt limits.scalar n) ScalarLimit
+  refuse (nat_lt (length c.rest) n) Truncated
+  v ← scalar_of_body code (take n c.rest)
+  Ok (v, skip n c)

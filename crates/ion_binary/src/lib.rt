@@ -2,4 +2,5 @@
 #![tactic(auto)]
 
 mod descriptor;
+pub mod laws;
 mod octets;

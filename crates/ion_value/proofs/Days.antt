@@ -446,7 +446,7 @@ moved-unique t u v k mu mv hu hv =
 -- ---- there and back
 
 -- where a moment has the minute that is wanted, it is the outcome
-one_outcome : (t u : Timestamp) (k : ℤ) (r : Result Timestamp Reason) → IsMoment u → IsMoved k t u → IsMovedOrNone t k r → r ≡ Ok u
+pub one_outcome : (t u : Timestamp) (k : ℤ) (r : Result Timestamp Reason) → IsMoment u → IsMoved k t u → IsMovedOrNone t k r → r ≡ Ok u
 one_outcome t u k (Ok v) m h is = ap Ok (moved-unique t v u k is.0 m is.1 h)
 one_outcome t u k (Err e) m h is = absurd (is.1 u m h)
 
@@ -466,7 +466,7 @@ there_and_back t u k m low high e =
 -- ---- local time and UTC
 
 -- the minutes of an offset are fewer than a day has
-offset-bounds : (offset : Option ℤ) → IsOffset offset → (neg_ℤ (pos 1439) ≤ℤ unwrap_or offset (pos 0)) × (unwrap_or offset (pos 0) ≤ℤ pos 1439)
+pub offset-bounds : (offset : Option ℤ) → IsOffset offset → (neg_ℤ (pos 1439) ≤ℤ unwrap_or offset (pos 0)) × (unwrap_or offset (pos 0) ≤ℤ pos 1439)
 offset-bounds None h = (omega (arith, ints), omega (arith, ints))
 offset-bounds (Some minutes) h = h
 

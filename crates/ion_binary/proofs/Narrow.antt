@@ -1,0 +1,199 @@
+-- Narrower limits change nothing in what is read, or cut it short by a limit's fault.
+use Rattle.std.proofs.Common.{◌≡◌, ℕ, zero, suc, ◌+◌, ◌*◌, ◌⊎◌, inl, inr, Bool, true, false, if◌then◌else◌, nat_le, nat_lt, nat_eq, List, [], ◌∷◌, Option, Some, None, Result, Ok, Err, refl, ap, arith}
+use Rattle.std.proofs.lemmas.Bool.{ltb-true, leb-true, lt-ltb, le-leb}
+use Rattle.ion_meter.specs.declared.fault.Reason.{Reason}
+use Rattle.ion_meter.specs.declared.fault.Reason.TheVariants.{BadDescriptor, DepthLimit, ScalarLimit, AnnotationLimit}
+use Rattle.ion_meter.specs.declared.limits.Limits.{Limits}
+use Rattle.ion_value.specs.declared.ion_type.Kind.{Kind}
+use Rattle.ion_value.specs.declared.ion_type.Kind.TheVariants as kind
+use Rattle.ion_value.specs.Value.{SymbolAt, PlacedItem}
+use Rattle.ion_value.specs.Reading.{Reading, Step, Ends, Stops, Gives, GoesOn, next_reading, reading_for}
+use Rattle.ion_binary.specs.Descriptor.{◌>>=◌, ◌>>◌, refuse, Cursor, var_uint_at, Shape, null, bool, pad, wrapper, body, container, sorted, marker, float, illegal, shape_of}
+use Rattle.ion_binary.specs.Reading.{Around, body_at, scalar_at, begin_at, container_at, sorted_at, by_shape, found_at, Placed, part, ids_at, Frame, State, plain_at, inner_at, annotated_at, wrapper_length, by_wrapper, value_at, top_of, member_at, step_of, top_step, step_in, step, size, start, reading}
+use Rattle.ion_binary.specs.Laws.{IsLimit, AreWithin, IsCut, here, later, Narrow}
+
+-- ---- one result, or a limit's fault in its place
+
+-- the first result is the second, or a fault of some kind
+data Cut {A E : Type 0} (L : E → Type 0) : Result A E → Result A E → Type 0 where
+  same : (r : Result A E) → Cut L r r
+  limit : (e : E) (r : Result A E) → L e → Cut L (Err e) r
+
+-- it stays so through what follows
+bind-Cut : {A B E : Type 0} (L : E → Type 0) (r s : Result A E) (f g : A → Result B E) → Cut L r s → ((x : A) → Cut L (f x) (g x)) → Cut L (r >>= f) (s >>= g)
+bind-Cut L _ _ f g (same (Ok x)) h = h x
+bind-Cut L _ _ f g (same (Err e)) h = same (Err e)
+bind-Cut L _ _ f g (limit e r is) h = limit e (r >>= g) is
+
+-- and through what follows a test
+then-Cut : {A B E : Type 0} (L : E → Type 0) (r s : Result A E) (p q : Result B E) → Cut L r s → Cut L p q → Cut L (r >> p) (s >> q)
+then-Cut L _ _ p q (same (Ok x)) h = h
+then-Cut L _ _ p q (same (Err e)) h = same (Err e)
+then-Cut L _ _ p q (limit e r is) h = limit e (r >> q) is
+
+-- a test that holds wherever the wider one does
+refuse-Cut : (b c : Bool) (reason : Reason) → (c ≡ true → b ≡ true) → IsLimit reason → Cut IsLimit (refuse b reason) (refuse c reason)
+refuse-Cut true c reason h is = limit reason (refuse c reason) is
+refuse-Cut false true reason h is = absurd (cc (h refl))
+refuse-Cut false false reason h is = same (Ok tt)
+
+-- a fault with its place
+abbrev IsPlacedLimit : Reason × ℕ → Type 0
+IsPlacedLimit fault = IsLimit fault.0
+
+part-Cut : {A : Type 0} (place : ℕ) (r s : Result A Reason) → Cut IsLimit r s → Cut IsPlacedLimit (part place r) (part place s)
+part-Cut place _ _ (same r) = same (part place r)
+part-Cut place _ _ (limit e r is) = limit (e, place) (part place r) is
+
+-- one step, or a limit's fault in its place
+data StepCut : Step State → Step State → Type 0 where
+  same_step : (s : Step State) → StepCut s s
+  limit_step : (reason : Reason) (place : ℕ) (s : Step State) → IsLimit reason → StepCut (Stops reason place) s
+
+-- the step of a part
+step_of-Cut : (r s : Placed (Step State)) → Cut IsPlacedLimit r s → StepCut (step_of r) (step_of s)
+step_of-Cut _ _ (same r) = same_step (step_of r)
+step_of-Cut _ _ (limit e r is) = limit_step e.0 e.1 (step_of r) is
+
+-- and of a part behind a test that knows no limits
+if-step : (b : Bool) (x y z : Step State) → StepCut y z → StepCut (if b then x else y) (if b then x else z)
+if-step true x y z h = same_step x
+if-step false x y z h = h
+
+-- one reading, or its front up to a limit's fault
+abbrev IsNarrow : Reading → Reading → Type 0
+IsNarrow r s = (r ≡ s) ⊎ IsCut r s
+
+-- an item before both
+More-narrow : (item : PlacedItem) (r s : Reading) → IsNarrow r s → IsNarrow (Reading.More item r) (Reading.More item s)
+More-narrow item r s (inl e) = inl (ap (λ (t : Reading). Reading.More item t) e)
+More-narrow item r s (inr cut) = inr (later item r s cut)
+
+-- a step, and the readings behind it
+next-narrow : (x y : Step State) (f g : State → Reading) → StepCut x y → ((s : State) → IsNarrow (f s) (g s)) → IsNarrow (next_reading f x) (next_reading g y)
+next-narrow _ _ f g (same_step Ends) h = inl refl
+next-narrow _ _ f g (same_step (Stops reason place)) h = inl refl
+next-narrow _ _ f g (same_step (Gives item after)) h = More-narrow item (f after) (g after) (h after)
+next-narrow _ _ f g (same_step (GoesOn after)) h = h after
+next-narrow _ _ f g (limit_step reason place s is) h = inr (here reason place (next_reading g s) is)
+
+-- ---- the parts
+
+module _ (limits wide : Limits) (within : AreWithin limits wide) where
+  -- what passes the wider limit passes the narrower one
+  scalar-passed : (n : ℕ) → nat_lt wide.scalar n ≡ true → nat_lt limits.scalar n ≡ true
+  scalar-passed n h = let narrow = within.scalar in let more = ltb-true wide.scalar n h in lt-ltb limits.scalar n (omega arith)
+
+  depth-reached : (n : ℕ) → nat_le wide.depth n ≡ true → nat_le limits.depth n ≡ true
+  depth-reached n h = let narrow = within.depth in let more = leb-true wide.depth n h in le-leb limits.depth n (omega arith)
+
+  -- a scalar: its size alone is held against a limit
+  body_at-Cut : (a : Around) (code n : ℕ) (c : Cursor) → Cut IsLimit (body_at limits a code n c) (body_at wide a code n c)
+  unfolding body_at
+  body_at-Cut a code n c = then-Cut IsLimit _ _ _ _ (same _) (then-Cut IsLimit _ _ _ _ (refuse-Cut _ _ ScalarLimit (scalar-passed n) (inr (inl refl))) (same _))
+
+  scalar_at-Cut : (a : Around) (code low : ℕ) (c : Cursor) → Cut IsLimit (scalar_at limits a code low c) (scalar_at wide a code low c)
+  unfolding scalar_at
+  scalar_at-Cut a code low c = bind-Cut IsLimit _ _ _ _ (same _) (λ n. body_at-Cut a code n.0 n.1)
+
+  -- a container: its depth alone is
+  begin_at-Cut : (a : Around) (k : Kind) (n : ℕ) (c : Cursor) → Cut IsLimit (begin_at limits a k n c) (begin_at wide a k n c)
+  unfolding begin_at
+  begin_at-Cut a k n c = then-Cut IsLimit _ _ _ _ (same _) (then-Cut IsLimit _ _ _ _ (refuse-Cut _ _ DepthLimit (depth-reached a.depth) (inl refl)) (same _))
+
+  container_at-Cut : (a : Around) (k : Kind) (low : ℕ) (c : Cursor) → Cut IsLimit (container_at limits a k low c) (container_at wide a k low c)
+  unfolding container_at
+  container_at-Cut a k low c = bind-Cut IsLimit _ _ _ _ (same _) (λ n. begin_at-Cut a k n.0 n.1)
+
+  sorted_at-Cut : (a : Around) (c : Cursor) → Cut IsLimit (sorted_at limits a c) (sorted_at wide a c)
+  unfolding sorted_at
+  sorted_at-Cut a c =
+      bind-Cut IsLimit (var_uint_at a.region c) _ _ _ (same _) (λ n. then-Cut IsLimit (refuse (nat_eq n.0 0) BadDescriptor) _ _ _ (same _) (begin_at-Cut a kind.Struct n.0 n.1))
+
+  -- whatever is found behind a descriptor
+  by_shape-Cut : (a : Around) (s : Shape) (c : Cursor) → Cut IsLimit (by_shape limits a s c) (by_shape wide a s c)
+  unfolding by_shape
+  by_shape-Cut a (null t) c = same _
+  by_shape-Cut a (bool truth) c = same _
+  by_shape-Cut a (pad low) c = same _
+  by_shape-Cut a (body code low) c = scalar_at-Cut a code low c
+  by_shape-Cut a sorted c = sorted_at-Cut a c
+  by_shape-Cut a (container k low) c = container_at-Cut a k low c
+  by_shape-Cut a marker c = same _
+  by_shape-Cut a float c = same _
+  by_shape-Cut a (wrapper low) c = same _
+  by_shape-Cut a illegal c = same _
+
+  found_at-Cut : (a : Around) (b : ℕ) (c : Cursor) → Cut IsLimit (found_at limits a b c) (found_at wide a b c)
+  unfolding found_at
+  found_at-Cut a b c = then-Cut IsLimit _ _ _ _ (same _) (by_shape-Cut a (shape_of b) c)
+
+  -- ---- an item
+
+  -- a test that knows no limits
+  if-Cut : {A : Type 0} (b : Bool) (x y z : Placed A) → Cut IsPlacedLimit y z → Cut IsPlacedLimit (if b then x else y) (if b then x else z)
+  if-Cut true x y z h = same x
+  if-Cut false x y z h = h
+
+  -- ids: their count alone is held against a limit
+  ids_at-Cut : (most end count : ℕ) (c : Cursor) → Cut IsPlacedLimit (ids_at most limits end count c) (ids_at most wide end count c)
+  unfolding ids_at
+  ids_at-Cut zero end count c = same _
+  ids_at-Cut (suc most) end count c =
+      if-Cut (nat_le end c.place) _ _ _ (bind-Cut IsPlacedLimit _ _ _ _ (same _) (λ i. then-Cut IsPlacedLimit _ _ _ _
+      (part-Cut c.place _ _ (refuse-Cut _ _ AnnotationLimit (scalar-passed (16 * (count + 1))) (inr (inr refl))))
+      (bind-Cut IsPlacedLimit _ _ _ _ (ids_at-Cut most end (count + 1) i.1) (λ more. same _))))
+
+  plain_at-Cut : (frames : List Frame) (top : ℕ) (f : Option SymbolAt) (place b : ℕ) (c : Cursor) → Cut IsPlacedLimit (plain_at limits frames top f place b c) (plain_at wide frames top f place b c)
+  unfolding plain_at
+  plain_at-Cut frames top f place b c = bind-Cut IsPlacedLimit _ _ _ _ (part-Cut place _ _ (found_at-Cut _ b c)) (λ v. same _)
+
+  inner_at-Cut : (frames : List Frame) (top : ℕ) (f : Option SymbolAt) (notes : List SymbolAt) (end : ℕ) (c : Cursor) → Cut IsPlacedLimit (inner_at limits frames top f notes end c) (inner_at wide frames top f notes end c)
+  unfolding inner_at
+  inner_at-Cut frames top f notes end c =
+      bind-Cut IsPlacedLimit _ _ _ _ (same _) (λ b. bind-Cut IsPlacedLimit _ _ _ _ (part-Cut c.place _ _ (found_at-Cut _ b.0 b.1)) (λ v. same _))
+
+  annotated_at-Cut : (frames : List Frame) (top : ℕ) (f : Option SymbolAt) (place low : ℕ) (c : Cursor) → Cut IsPlacedLimit (annotated_at limits frames top f place low c) (annotated_at wide frames top f place low c)
+  unfolding annotated_at
+  annotated_at-Cut frames top f place low c =
+      bind-Cut IsPlacedLimit _ _ _ _ (same _) (λ w. bind-Cut IsPlacedLimit _ _ _ _ (ids_at-Cut w.0.ids w.0.ids 0 w.1) (λ notes. inner_at-Cut frames top f notes.0 w.0.end notes.1))
+
+  -- with a wrapper or without
+  by_wrapper-Cut : {A : Type 0} (o : Option ℕ) (f g : ℕ → Placed A) (x y : Placed A) → ((low : ℕ) → Cut IsPlacedLimit (f low) (g low)) → Cut IsPlacedLimit x y
+      → Cut IsPlacedLimit (by_wrapper o f x) (by_wrapper o g y)
+  by_wrapper-Cut None f g x y h p = p
+  by_wrapper-Cut (Some low) f g x y h p = h low
+
+  value_at-Cut : (frames : List Frame) (top : ℕ) (f : Option SymbolAt) (c : Cursor) → Cut IsPlacedLimit (value_at limits frames top f c) (value_at wide frames top f c)
+  unfolding value_at
+  value_at-Cut frames top f c =
+      bind-Cut IsPlacedLimit _ _ _ _ (same _) (λ b.
+      by_wrapper-Cut (wrapper_length (shape_of b.0)) _ _ _ _ (λ low. annotated_at-Cut frames top f c.place low b.1) (plain_at-Cut frames top f c.place b.0 b.1))
+
+  member_at-Cut : (frames : List Frame) (top : ℕ) (c : Cursor) → Cut IsPlacedLimit (member_at limits frames top c) (member_at wide frames top c)
+  unfolding member_at
+  member_at-Cut frames top c = bind-Cut IsPlacedLimit _ _ _ _ (same _) (λ f. value_at-Cut frames (top_of frames top c.place) f.0 f.1)
+
+  -- ---- a step, and all of them
+
+  top_step-Cut : (top : ℕ) (c : Cursor) (bytes : List ℕ) → StepCut (top_step limits top c bytes) (top_step wide top c bytes)
+  top_step-Cut top c [] = same_step Ends
+  top_step-Cut top c (b ∷ bytes) = step_of-Cut _ _ (member_at-Cut [] top c)
+
+  step_in-Cut : (frames : List Frame) (top : ℕ) (c : Cursor) → StepCut (step_in limits frames top c) (step_in wide frames top c)
+  step_in-Cut [] top c = top_step-Cut top c c.rest
+  step_in-Cut (f ∷ frames) top c = if-step (nat_le f.end c.place) _ _ _ (step_of-Cut _ _ (member_at-Cut (f ∷ frames) top c))
+
+  step-Cut : (s : State) → StepCut (step limits s) (step wide s)
+  unfolding step
+  step-Cut s = step_in-Cut s.frames s.top s.cursor
+
+  -- as many steps under both limits
+  steps-narrow : (steps : ℕ) (s : State) → IsNarrow (reading_for (step limits) steps s) (reading_for (step wide) steps s)
+  steps-narrow zero s = inl refl
+  steps-narrow (suc steps) s = next-narrow (step limits s) (step wide s) (reading_for (step limits) steps) (reading_for (step wide) steps) (step-Cut s) (steps-narrow steps)
+
+-- narrower limits change nothing, or cut what is read short by a limit's fault
+pub narrow : Narrow
+unfolding reading
+narrow = λ limits wide bytes within. steps-narrow limits wide within (suc (size (start bytes))) (start bytes)

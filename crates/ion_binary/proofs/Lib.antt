@@ -12,3 +12,7 @@ mod Wrapping
 mod Growing
 mod Kept
 mod Sound
+mod Spelled
+mod SpelledParts
+mod SpelledMembers
+mod Complete

@@ -3,6 +3,5 @@ pub mod Reading
 pub mod Grammar
 pub mod Paths
 pub mod Shapes
-pub mod Bodies
 pub mod Parts
 pub mod Laws

@@ -1,6 +1,6 @@
 //! Laws of the grammar and the reading of the binary form, each the contract of a function that
 //! does nothing.
-ghost use Rattle.ion_binary.specs.Laws.{Bodies, Narrow, Sound};
+ghost use Rattle.ion_binary.specs.Laws.{Bodies, Complete, Narrow, OnePath, OneStream, Sound, StreamsAreRead};
 
 /// Every body of a scalar that the grammar has is read to its value, and no other body is read.
 pub fn bodies_are_read()
@@ -15,4 +15,26 @@ pub fn limits_only_cut_short()
 /// What is read is a path of the grammar, and where the reading finishes, the whole input is.
 pub fn what_is_read_is_spelled()
     ensures { Sound }
+{}
+
+/// Whatever path of the grammar the front of an input spells, its items are read first, under
+/// limits that allow them.
+pub fn what_is_spelled_is_read()
+    ensures { Complete }
+{}
+
+/// A list of markers and values that an input spells is read to its end, under limits that allow
+/// it.
+pub fn streams_are_read()
+    ensures { StreamsAreRead }
+{}
+
+/// Of two paths of one input, the items of one begin the other's.
+pub fn one_path()
+    ensures { OnePath }
+{}
+
+/// An input is one stream of markers and values at most.
+pub fn one_stream()
+    ensures { OneStream }
 {}

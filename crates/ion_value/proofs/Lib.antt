@@ -18,8 +18,8 @@ pub mod TextReadings
 pub mod TextRoundTrip
 pub mod TextKinds
 pub mod Rows
-mod Readings
-mod Paths
+pub mod Readings
+pub mod Paths
 mod Items
 mod Outcomes
 mod Small

@@ -1,11 +1,11 @@
 -- Calls that read one after the other.
-use Rattle.std.proofs.Common.{arith, refl, ap, ◌∙◌, ◌≡◌, ℕ, ◌+◌, ◌<◌, ◌≤◌, ◌↔◌, List, length, Result, Ok, Err}
+use Rattle.std.proofs.Common.{arith, ap, ◌∙◌, ◌≡◌, ℕ, List, Result, Err}
 use Rattle.ion_meter.specs.declared.fault.Fault.{Fault}
 use Rattle.ion_meter.specs.declared.fault.Fault.TheVariants.{Refused, Memory, ReadFault, WriteFault, InputLimit}
 use Rattle.ion_meter.specs.declared.fault.Reason.{Reason}
-use Rattle.ion_meter.specs.Windows.{Incoming, left}
+use Rattle.ion_meter.specs.Windows.{Incoming, left, Extends}
 use Rattle.ion_binary.specs.Descriptor.{Cursor}
-use Rattle.ion_binary.specs.Parts.{Moves, Answers}
+use Rattle.ion_binary.specs.Parts.{cursor, Moves, Answers}
 
 pub moves-then : {I : Type 0} (rest : I → List ℕ) (tells : I → Type 0) (s t u : Incoming I) → Moves rest tells s t → Moves rest tells t u → Moves rest tells s u
 moves-then rest tells s t u a b = record {
@@ -23,3 +23,7 @@ answers-refused view shown Memory behind after place one all h k = tt
 answers-refused view shown ReadFault behind after place one all h k = tt
 answers-refused view shown WriteFault behind after place one all h k = tt
 answers-refused view shown InputLimit behind after place one all h k = tt
+
+-- more was read, and the source stands where it stood
+pub cursor-extends : {I : Type 0} (rest : I → List ℕ) (tells : I → Type 0) (s t : Incoming I) → Extends rest tells s t → tells s.device → cursor rest t ≡ cursor rest s
+cursor-extends rest tells s t x h = ap (λ n. record { place = n; rest = left rest t }) x.place ∙ ap (λ (l : List ℕ). record { place = s.place; rest = l }) (x.same_left h)

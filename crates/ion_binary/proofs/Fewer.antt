@@ -1,18 +1,17 @@
 -- Each step makes the state smaller, so a reading has an end.
-use Rattle.std.proofs.Common.{arith, refl, ap, ◌∙◌, ◌≡◌, ℕ, zero, suc, ◌+◌, ◌*◌, ◌<◌, ◌≤◌, Bool, true, false, nat_lt, nat_le, nat_eq, not, ◌&&◌, ◌||◌, if◌then◌else◌, List, [], ◌∷◌, ◌++◌, length, drop, take, Option, Some, None, Result, Ok, Err}
+use Rattle.std.proofs.Common.{arith, ℕ, zero, suc, ◌+◌, ◌*◌, ◌<◌, ◌≤◌, Bool, true, false, nat_lt, nat_le, nat_eq, not, ◌&&◌, ◌||◌, if◌then◌else◌, List, [], ◌∷◌, length, take, Option, Some, None, Result, Ok, Err}
 use Rattle.std.proofs.lemmas.List.{length-drop}
 use Rattle.ion_meter.specs.declared.fault.Reason.{Reason}
-use Rattle.ion_meter.specs.declared.fault.Reason.TheVariants.{Overrun, Truncated, BadAnnotation, BadDescriptor, BadVersion, ScalarLimit, DepthLimit, AnnotationLimit}
+use Rattle.ion_meter.specs.declared.fault.Reason.TheVariants.{Overrun, Truncated, BadAnnotation, BadDescriptor, ScalarLimit, DepthLimit, AnnotationLimit}
 use Rattle.ion_meter.specs.declared.limits.Limits.{Limits}
 use Rattle.ion_value.specs.declared.ion_type.Kind.{Kind}
 use Rattle.ion_value.specs.declared.ion_type.Kind.TheVariants as kind
-use Rattle.ion_value.specs.Number.{var_uint}
 use Rattle.ion_value.specs.Scalar.{scalar_of_body}
 use Rattle.ion_value.specs.Value as value
 use Rattle.ion_value.specs.Value.{Symbol, SymbolAt, Scalar}
 use Rattle.ion_value.specs.Reading.{Step, Ends, Stops, Gives, GoesOn, Leaves, behind_item, behind_nothing, Shrinks}
 use Rattle.ion_binary.specs.Descriptor.{◌>>=◌, ◌>>◌, refuse, Cursor, skip, Region, is_at_end, passes, falls_short, first_octet, octet_at, var_at, var_uint_at, length_at, Shape, null, bool, pad, wrapper, body, container, sorted, marker, float, illegal, shape_of, is_unwrappable}
-use Rattle.ion_binary.specs.Reading.{Around, Found, a_pad, a_marker, a_scalar, a_container, marker_rest, is_top, marker_at, fits, bare_at, pad_at, body_at, scalar_at, begin_at, container_at, sorted_at, by_shape, found_at, Wrapped, wrapper_at, symbol_id, Placed, part, ids_at, Frame, State, region_of, field_in, field_at, item_of, given, plain_at, inner_at, annotated_at, wrapper_length, by_wrapper, value_at, top_of, member_at, step_of, top_step, step_in, step, size}
+use Rattle.ion_binary.specs.Reading.{Around, Found, a_pad, a_marker, a_scalar, a_container, marker_rest, is_top, marker_at, fits, bare_at, pad_at, body_at, scalar_at, begin_at, container_at, sorted_at, by_shape, found_at, Wrapped, wrapper_at, Placed, part, ids_at, Frame, State, region_of, field_in, field_at, item_of, given, plain_at, inner_at, annotated_at, wrapper_length, by_wrapper, value_at, top_of, member_at, step_of, top_step, step_in, step, size}
 
 -- what is true of an answer, where there is one
 abbrev pub OnOk : {A E : Type 0} → (A → Type 0) → Result A E → Type 0
@@ -55,8 +54,8 @@ unfolding var_at
 var_at-less zero r c = tt
 var_at-less (suc n) r c =
     bind-ok (Less ℕ (length c.rest)) (Less (List ℕ) (length c.rest)) (octet_at r c) _ (octet_at-less r c)
-      (λ b h. if-ok (Less (List ℕ) (length c.rest)) (nat_lt b.0 128) (var_at n r b.1 >>= λ more. Ok (b.0 ∷ more.0, more.1)) (Ok (b.0 ∷ [], b.1))
-        (bind-ok (Less (List ℕ) (length b.1.rest)) (Less (List ℕ) (length c.rest)) (var_at n r b.1) _ (var_at-less n r b.1) (λ more k. omega (arith, h, k))) h)
+    (λ b h. if-ok (Less (List ℕ) (length c.rest)) (nat_lt b.0 128) (var_at n r b.1 >>= λ more. Ok (b.0 ∷ more.0, more.1)) (Ok (b.0 ∷ [], b.1))
+    (bind-ok (Less (List ℕ) (length b.1.rest)) (Less (List ℕ) (length c.rest)) (var_at n r b.1) _ (var_at-less n r b.1) (λ more k. omega (arith, h, k))) h)
 
 pub var_uint_at-less : (r : Region) (c : Cursor) → OnOk (Less ℕ (length c.rest)) (var_uint_at r c)
 unfolding var_uint_at
@@ -90,32 +89,32 @@ pad_at-stays : (a : Around) (low : ℕ) (c : Cursor) → Stays (length c.rest) (
 unfolding pad_at
 pad_at-stays a low c =
     bind-ok (NoMore ℕ (length c.rest)) (NoMore Found (length c.rest)) (length_at low a.region c) _ (length_at-no_more low a.region c)
-      (λ n h. then-ok (NoMore Found (length c.rest)) (refuse (passes a.region n.1.place n.0) Overrun) _
-        (then-ok (NoMore Found (length c.rest)) (refuse (nat_lt (length n.1.rest) n.0) Truncated) (Ok (a_pad, skip n.0 n.1)) (skipped n.0 (length c.rest) n.1 h)))
+    (λ n h. then-ok (NoMore Found (length c.rest)) (refuse (passes a.region n.1.place n.0) Overrun) _
+    (then-ok (NoMore Found (length c.rest)) (refuse (nat_lt (length n.1.rest) n.0) Truncated) (Ok (a_pad, skip n.0 n.1)) (skipped n.0 (length c.rest) n.1 h)))
 
 body_at-stays : (m : ℕ) (limits : Limits) (a : Around) (code n : ℕ) (c : Cursor) → length c.rest ≤ m → Stays m (body_at limits a code n c)
 unfolding body_at
 body_at-stays m limits a code n c h =
     then-ok (NoMore Found m) (fits a c.place n) _
-      (then-ok (NoMore Found m) (refuse (nat_lt limits.scalar n) ScalarLimit) _
-        (then-ok (NoMore Found m) (refuse (nat_lt (length c.rest) n) Truncated) _
-          (bind-ok (λ _. Unit {0}) (NoMore Found m) (scalar_of_body code (take n c.rest)) (λ v. Ok (a_scalar v, skip n c)) (any (scalar_of_body code (take n c.rest))) (λ v _. skipped n m c h))))
+    (then-ok (NoMore Found m) (refuse (nat_lt limits.scalar n) ScalarLimit) _
+    (then-ok (NoMore Found m) (refuse (nat_lt (length c.rest) n) Truncated) _
+    (bind-ok (λ _. Unit {0}) (NoMore Found m) (scalar_of_body code (take n c.rest)) (λ v. Ok (a_scalar v, skip n c)) (any (scalar_of_body code (take n c.rest))) (λ v _. skipped n m c h))))
   where
-  any : (r : Result (Scalar Symbol) Reason) → OnOk (λ _. Unit {0}) r
-  any (Ok x) = tt
-  any (Err e) = tt
+    any : (r : Result (Scalar Symbol) Reason) → OnOk (λ _. Unit {0}) r
+    any (Ok x) = tt
+    any (Err e) = tt
 
 begin_at-stays : (m : ℕ) (limits : Limits) (a : Around) (k : Kind) (n : ℕ) (c : Cursor) → length c.rest ≤ m → Stays m (begin_at limits a k n c)
 unfolding begin_at
 begin_at-stays m limits a k n c h =
     then-ok (NoMore Found m) (fits a c.place n) _
-      (then-ok (NoMore Found m) (refuse (nat_le limits.depth a.depth) DepthLimit) (Ok (a_container k (c.place + n), c)) h)
+    (then-ok (NoMore Found m) (refuse (nat_le limits.depth a.depth) DepthLimit) (Ok (a_container k (c.place + n), c)) h)
 
 marker_at-stays : (r : Region) (c : Cursor) → Stays (length c.rest) (marker_at r c)
 unfolding marker_at
 marker_at-stays r c =
     then-ok (NoMore Found (length c.rest)) (refuse (not (is_top r)) BadDescriptor) _
-      (then-ok (NoMore Found (length c.rest)) (marker_rest c.rest) (Ok (a_marker, skip 3 c)) (skip-no_more 3 c))
+    (then-ok (NoMore Found (length c.rest)) (marker_rest c.rest) (Ok (a_marker, skip 3 c)) (skip-no_more 3 c))
 
 by_shape-stays : (limits : Limits) (a : Around) (s : Shape) (c : Cursor) → Stays (length c.rest) (by_shape limits a s c)
 unfolding by_shape scalar_at container_at sorted_at
@@ -125,13 +124,13 @@ by_shape-stays limits a (pad low) c = pad_at-stays a low c
 by_shape-stays limits a (wrapper low) c = tt
 by_shape-stays limits a (body code low) c =
     bind-ok (NoMore ℕ (length c.rest)) (NoMore Found (length c.rest)) (length_at low a.region c) _ (length_at-no_more low a.region c)
-      (λ n h. body_at-stays (length c.rest) limits a code n.0 n.1 h)
+    (λ n h. body_at-stays (length c.rest) limits a code n.0 n.1 h)
 by_shape-stays limits a (container k low) c =
     bind-ok (NoMore ℕ (length c.rest)) (NoMore Found (length c.rest)) (length_at low a.region c) _ (length_at-no_more low a.region c)
-      (λ n h. begin_at-stays (length c.rest) limits a k n.0 n.1 h)
+    (λ n h. begin_at-stays (length c.rest) limits a k n.0 n.1 h)
 by_shape-stays limits a sorted c =
     bind-ok (Less ℕ (length c.rest)) (NoMore Found (length c.rest)) (var_uint_at a.region c) _ (var_uint_at-less a.region c)
-      (λ n h. then-ok (NoMore Found (length c.rest)) (refuse (nat_eq n.0 0) BadDescriptor) _ (begin_at-stays (length c.rest) limits a kind.Struct n.0 n.1 (omega (arith, h))))
+    (λ n h. then-ok (NoMore Found (length c.rest)) (refuse (nat_eq n.0 0) BadDescriptor) _ (begin_at-stays (length c.rest) limits a kind.Struct n.0 n.1 (omega (arith, h))))
 by_shape-stays limits a marker c = marker_at-stays a.region c
 by_shape-stays limits a float c = tt
 by_shape-stays limits a illegal c = tt
@@ -147,30 +146,30 @@ wrapper_at-stays : (r : Region) (low : ℕ) (c : Cursor) → OnOk (NoMore Wrappe
 unfolding wrapper_at
 wrapper_at-stays r low c =
     bind-ok (NoMore ℕ (length c.rest)) (NoMore Wrapped (length c.rest)) (length_at low r c) _ (length_at-no_more low r c)
-      (λ n h. bind-ok (Less ℕ (length n.1.rest)) (NoMore Wrapped (length c.rest)) (var_uint_at (Some (n.1.place + n.0)) n.1) _ (var_uint_at-less (Some (n.1.place + n.0)) n.1)
-        (λ ids k. then-ok (NoMore Wrapped (length c.rest)) (refuse (passes r n.1.place n.0) Overrun) _
-          (then-ok (NoMore Wrapped (length c.rest)) (refuse (nat_lt n.0 3 || nat_eq ids.0 0 || nat_le (n.1.place + n.0) (ids.1.place + ids.0)) BadAnnotation) _ (omega (arith, h, k)))))
+    (λ n h. bind-ok (Less ℕ (length n.1.rest)) (NoMore Wrapped (length c.rest)) (var_uint_at (Some (n.1.place + n.0)) n.1) _ (var_uint_at-less (Some (n.1.place + n.0)) n.1)
+    (λ ids k. then-ok (NoMore Wrapped (length c.rest)) (refuse (passes r n.1.place n.0) Overrun) _
+    (then-ok (NoMore Wrapped (length c.rest)) (refuse (nat_lt n.0 3 || nat_eq ids.0 0 || nat_le (n.1.place + n.0) (ids.1.place + ids.0)) BadAnnotation) _ (omega (arith, h, k)))))
 
 ids_at-stays : (n : ℕ) (limits : Limits) (end count : ℕ) (c : Cursor) → OnOk (NoMore (List SymbolAt) (length c.rest)) (ids_at n limits end count c)
 unfolding ids_at
 ids_at-stays zero limits end count c = omega arith
 ids_at-stays (suc n) limits end count c =
     if-ok (NoMore (List SymbolAt) (length c.rest)) (nat_le end c.place) (Ok ([], c)) _ (omega arith)
-      (bind-ok (Less ℕ (length c.rest)) (NoMore (List SymbolAt) (length c.rest)) (part c.place (var_uint_at (Some end) c)) _
-        (part-ok (Less ℕ (length c.rest)) c.place (var_uint_at (Some end) c) (var_uint_at-less (Some end) c))
-        (λ i h. then-ok (NoMore (List SymbolAt) (length c.rest)) (part c.place (refuse (nat_lt limits.scalar (16 * (count + 1))) AnnotationLimit)) _
-          (bind-ok (NoMore (List SymbolAt) (length i.1.rest)) (NoMore (List SymbolAt) (length c.rest)) (ids_at n limits end (count + 1) i.1) _ (ids_at-stays n limits end (count + 1) i.1)
-            (λ more k. omega (arith, h, k)))))
+    (bind-ok (Less ℕ (length c.rest)) (NoMore (List SymbolAt) (length c.rest)) (part c.place (var_uint_at (Some end) c)) _
+    (part-ok (Less ℕ (length c.rest)) c.place (var_uint_at (Some end) c) (var_uint_at-less (Some end) c))
+    (λ i h. then-ok (NoMore (List SymbolAt) (length c.rest)) (part c.place (refuse (nat_lt limits.scalar (16 * (count + 1))) AnnotationLimit)) _
+    (bind-ok (NoMore (List SymbolAt) (length i.1.rest)) (NoMore (List SymbolAt) (length c.rest)) (ids_at n limits end (count + 1) i.1) _ (ids_at-stays n limits end (count + 1) i.1)
+    (λ more k. omega (arith, h, k)))))
 
 field_at-stays : (frames : List Frame) (c : Cursor) → OnOk (NoMore (Option SymbolAt) (length c.rest)) (field_at frames c)
 field_at-stays [] c = omega arith
 field_at-stays (f ∷ frames) c = by_kind f.kind
   where
-  by_kind : (k : Kind) → OnOk (NoMore (Option SymbolAt) (length c.rest)) (field_in k (Some f.end) c)
-  by_kind kind.List = omega arith
-  by_kind kind.Sexp = omega arith
-  by_kind kind.Struct =
-      bind-ok (Less ℕ (length c.rest)) (NoMore (Option SymbolAt) (length c.rest)) (var_uint_at (Some f.end) c) _ (var_uint_at-less (Some f.end) c) (λ i h. omega (arith, h))
+    by_kind : (k : Kind) → OnOk (NoMore (Option SymbolAt) (length c.rest)) (field_in k (Some f.end) c)
+    by_kind kind.List = omega arith
+    by_kind kind.Sexp = omega arith
+    by_kind kind.Struct =
+        bind-ok (Less ℕ (length c.rest)) (NoMore (Option SymbolAt) (length c.rest)) (var_uint_at (Some f.end) c) _ (var_uint_at-less (Some f.end) c) (λ i h. omega (arith, h))
 
 -- what is true of the state behind a step, where there is one
 abbrev pub OnStep : (State → Type 0) → Step State → Type 0
@@ -202,8 +201,8 @@ unfolding plain_at
 plain_at-shorter n limits frames top f place b c h =
     let a : Around = record { wrapped = false; region = region_of frames; depth = length frames } in
     bind-ok (NoMore Found (length c.rest)) (Smaller (2 * n + length frames)) (part place (found_at limits a b c)) _
-      (part-ok (NoMore Found (length c.rest)) place (found_at limits a b c) (found_at-stays limits a b c))
-      (λ v k. given-smaller n frames top f [] place v.0 v.1 (omega (arith, h, k)))
+    (part-ok (NoMore Found (length c.rest)) place (found_at limits a b c) (found_at-stays limits a b c))
+    (λ v k. given-smaller n frames top f [] place v.0 v.1 (omega (arith, h, k)))
 
 inner_at-shorter : (n : ℕ) (limits : Limits) (frames : List Frame) (top : ℕ) (f : Option SymbolAt) (notes : List SymbolAt) (end : ℕ) (c : Cursor)
     → length c.rest < n → Shorter (2 * n + length frames) (inner_at limits frames top f notes end c)
@@ -211,19 +210,19 @@ unfolding inner_at
 inner_at-shorter n limits frames top f notes end c h =
     let a : Around = record { wrapped = true; region = Some end; depth = length frames } in
     bind-ok (Less ℕ (length c.rest)) (Smaller (2 * n + length frames)) (part c.place (octet_at (Some end) c)) _
-      (part-ok (Less ℕ (length c.rest)) c.place (octet_at (Some end) c) (octet_at-less (Some end) c))
-      (λ b g. bind-ok (NoMore Found (length b.1.rest)) (Smaller (2 * n + length frames)) (part c.place (found_at limits a b.0 b.1)) _
-        (part-ok (NoMore Found (length b.1.rest)) c.place (found_at limits a b.0 b.1) (found_at-stays limits a b.0 b.1))
-        (λ v k. given-smaller n frames top f notes c.place v.0 v.1 (omega (arith, h, g, k))))
+    (part-ok (Less ℕ (length c.rest)) c.place (octet_at (Some end) c) (octet_at-less (Some end) c))
+    (λ b g. bind-ok (NoMore Found (length b.1.rest)) (Smaller (2 * n + length frames)) (part c.place (found_at limits a b.0 b.1)) _
+    (part-ok (NoMore Found (length b.1.rest)) c.place (found_at limits a b.0 b.1) (found_at-stays limits a b.0 b.1))
+    (λ v k. given-smaller n frames top f notes c.place v.0 v.1 (omega (arith, h, g, k))))
 
 annotated_at-shorter : (n : ℕ) (limits : Limits) (frames : List Frame) (top : ℕ) (f : Option SymbolAt) (place low : ℕ) (c : Cursor)
     → length c.rest < n → Shorter (2 * n + length frames) (annotated_at limits frames top f place low c)
 unfolding annotated_at
 annotated_at-shorter n limits frames top f place low c h =
     bind-ok (NoMore Wrapped (length c.rest)) (Smaller (2 * n + length frames)) (part place (wrapper_at (region_of frames) low c)) _
-      (part-ok (NoMore Wrapped (length c.rest)) place (wrapper_at (region_of frames) low c) (wrapper_at-stays (region_of frames) low c))
-      (λ w g. bind-ok (NoMore (List SymbolAt) (length w.1.rest)) (Smaller (2 * n + length frames)) (ids_at w.0.ids limits w.0.ids 0 w.1) _ (ids_at-stays w.0.ids limits w.0.ids 0 w.1)
-        (λ notes k. inner_at-shorter n limits frames top f notes.0 w.0.end notes.1 (omega (arith, h, g, k))))
+    (part-ok (NoMore Wrapped (length c.rest)) place (wrapper_at (region_of frames) low c) (wrapper_at-stays (region_of frames) low c))
+    (λ w g. bind-ok (NoMore (List SymbolAt) (length w.1.rest)) (Smaller (2 * n + length frames)) (ids_at w.0.ids limits w.0.ids 0 w.1) _ (ids_at-stays w.0.ids limits w.0.ids 0 w.1)
+    (λ notes k. inner_at-shorter n limits frames top f notes.0 w.0.end notes.1 (omega (arith, h, g, k))))
 
 by_wrapper-shorter : (n : ℕ) (limits : Limits) (frames : List Frame) (top : ℕ) (f : Option SymbolAt) (place b : ℕ) (c : Cursor) (m : Option ℕ)
     → length c.rest < n
@@ -236,15 +235,15 @@ value_at-shorter : (n : ℕ) (limits : Limits) (frames : List Frame) (top : ℕ)
 unfolding value_at
 value_at-shorter n limits frames top f c h =
     bind-ok (Less ℕ (length c.rest)) (Smaller (2 * n + length frames)) (part c.place (octet_at (region_of frames) c)) _
-      (part-ok (Less ℕ (length c.rest)) c.place (octet_at (region_of frames) c) (octet_at-less (region_of frames) c))
-      (λ b k. by_wrapper-shorter n limits frames top f c.place b.0 b.1 (wrapper_length (shape_of b.0)) (omega (arith, h, k)))
+    (part-ok (Less ℕ (length c.rest)) c.place (octet_at (region_of frames) c) (octet_at-less (region_of frames) c))
+    (λ b k. by_wrapper-shorter n limits frames top f c.place b.0 b.1 (wrapper_length (shape_of b.0)) (omega (arith, h, k)))
 
 member_at-shorter : (limits : Limits) (frames : List Frame) (top : ℕ) (c : Cursor) → Shorter (2 * length c.rest + length frames) (member_at limits frames top c)
 unfolding member_at
 member_at-shorter limits frames top c =
     bind-ok (NoMore (Option SymbolAt) (length c.rest)) (Smaller (2 * length c.rest + length frames)) (part c.place (field_at frames c)) _
-      (part-ok (NoMore (Option SymbolAt) (length c.rest)) c.place (field_at frames c) (field_at-stays frames c))
-      (λ f h. value_at-shorter (length c.rest) limits frames (top_of frames top c.place) f.0 f.1 h)
+    (part-ok (NoMore (Option SymbolAt) (length c.rest)) c.place (field_at frames c) (field_at-stays frames c))
+    (λ f h. value_at-shorter (length c.rest) limits frames (top_of frames top c.place) f.0 f.1 h)
 
 step_of-smaller : (n : ℕ) (r : Placed (Step State)) → Shorter n r → Smaller n (step_of r)
 step_of-smaller n (Ok s) h = h
@@ -253,14 +252,14 @@ step_of-smaller n (Err fault) h = tt
 step_in-smaller : (limits : Limits) (frames : List Frame) (top : ℕ) (c : Cursor) → Smaller (2 * length c.rest + length frames) (step_in limits frames top c)
 step_in-smaller limits [] top c = at_top c.rest
   where
-  at_top : (rest : List ℕ) → Smaller (2 * length c.rest + 0) (top_step limits top c rest)
-  at_top [] = tt
-  at_top (b ∷ rest) = step_of-smaller (2 * length c.rest + 0) (member_at limits [] top c) (member_at-shorter limits [] top c)
+    at_top : (rest : List ℕ) → Smaller (2 * length c.rest + 0) (top_step limits top c rest)
+    at_top [] = tt
+    at_top (b ∷ rest) = step_of-smaller (2 * length c.rest + 0) (member_at limits [] top c) (member_at-shorter limits [] top c)
 step_in-smaller limits (f ∷ frames) top c = ended (nat_le f.end c.place)
   where
-  ended : (b : Bool) → Smaller (2 * length c.rest + length (f ∷ frames)) (if b then Gives (item_of top None [] c.place value.end) (record { frames = frames; top = top; cursor = c }) else step_of (member_at limits (f ∷ frames) top c))
-  ended true = omega arith
-  ended false = step_of-smaller (2 * length c.rest + length (f ∷ frames)) (member_at limits (f ∷ frames) top c) (member_at-shorter limits (f ∷ frames) top c)
+    ended : (b : Bool) → Smaller (2 * length c.rest + length (f ∷ frames)) (if b then Gives (item_of top None [] c.place value.end) (record { frames = frames; top = top; cursor = c }) else step_of (member_at limits (f ∷ frames) top c))
+    ended true = omega arith
+    ended false = step_of-smaller (2 * length c.rest + length (f ∷ frames)) (member_at limits (f ∷ frames) top c) (member_at-shorter limits (f ∷ frames) top c)
 
 pub step-shrinks : (limits : Limits) → Shrinks (step limits) size
 unfolding step

@@ -16,3 +16,10 @@ mod Spelled
 mod SpelledParts
 mod SpelledMembers
 mod Complete
+mod BodyParts
+mod Passing
+mod Founds
+mod Wraps
+mod Notes
+mod ValueParts
+mod ReaderParts

@@ -1,12 +1,12 @@
 -- Worked rows of the reading, by computing.
-use Rattle.std.specs.Prelude.{◌≡◌, refl, ℕ, ℤ, pos, negsuc, List, [], ◌∷◌, Option, Some, None, true, false}
+use Rattle.std.specs.Prelude.{◌≡◌, refl, ℕ, pos, negsuc, List, [], ◌∷◌, Option, Some, None, true, false}
 use Rattle.std.specs.Str.{is_utf8, chars}
 use lib.Utf8.{encode}
 use Rattle.ion_meter.specs.declared.fault.Reason.{Reason}
 use Rattle.ion_meter.specs.declared.limits.Limits.{Limits}
 use Rattle.ion_value.specs.declared.ion_type.IonType.TheVariants as type
 use Rattle.ion_value.specs.declared.ion_type.Kind.TheVariants as kind
-use Rattle.ion_value.specs.declared.timestamp.Precision.TheVariants.{Year, Month, Day, Second, Fraction}
+use Rattle.ion_value.specs.declared.timestamp.Precision.TheVariants.{Day, Second, Fraction}
 use Rattle.ion_value.specs.Decimal.{decimal_of_bytes}
 use Rattle.ion_value.specs.Number.{var_cut}
 use Rattle.ion_value.specs.Scalar.{scalar_of_body}

@@ -1,12 +1,12 @@
 -- A VarUInt as a loop over its octets reads it.
-use Rattle.std.proofs.Common.{arith, refl, ap, ◌∙◌, sym, ◌≡◌, ℕ, zero, suc, ◌+◌, ◌-◌, ◌*◌, ◌%◌, ◌^◌, ◌<◌, ◌≤◌, Bool, true, false, nat_lt, if◌then◌else◌, List, [], ◌∷◌, ◌++◌, length, map, Option, Some, None, Result, Ok, Err}
+use Rattle.std.proofs.Common.{arith, refl, ap, ◌∙◌, ◌≡◌, ℕ, zero, suc, ◌+◌, ◌*◌, ◌%◌, ◌^◌, ◌<◌, ◌≤◌, Bool, true, false, nat_lt, if◌then◌else◌, List, [], ◌∷◌, length, Result, Ok, Err}
 use Rattle.std.proofs.lemmas.Bool.{ltb-true, lt-ltb, le-ltb}
 use Rattle.std.proofs.lemmas.List.{length-map}
 use Rattle.std.proofs.Math.Nat.{pow-suc}
 use Rattle.ion_meter.specs.declared.fault.Reason.{Reason}
 use Rattle.ion_meter.specs.declared.fault.Reason.TheVariants.{BadVar}
-use Rattle.ion_value.proofs.Numbers.{seven-low, seven-fits, append-lt}
-use Rattle.ion_value.specs.Number.{number, sevens, var_uint}
+use Rattle.ion_value.proofs.Numbers.{seven-low}
+use Rattle.ion_value.specs.Number.{var_uint}
 use Rattle.ion_binary.specs.Descriptor.{◌>>=◌, Cursor, Region, octet_at, var_at, var_uint_at}
 use Rattle.ion_binary.specs.Parts.{var_from}
 
@@ -32,14 +32,14 @@ var_at-front zero value r c = refl
 var_at-front (suc n) value r c =
     bind-bind (octet_at r c) _ (with_front value) ∙ bind-same (octet_at r c) _ _ (λ b. last (var_at-front n) (nat_lt b.0 128) b refl)
   where
-  last : ((value : ℕ) (r : Region) (c : Cursor) → (var_at n r c >>= with_front value) ≡ var_from n value r c) → (t : Bool) (b : ℕ × Cursor) → nat_lt b.0 128 ≡ t
-      → ((if t then (var_at n r b.1 >>= λ more. Ok (b.0 ∷ more.0, more.1)) else Ok (b.0 ∷ [], b.1)) >>= with_front value)
-      ≡ (if t then var_from n (value * 128 + b.0) r b.1 else Ok (value * 128 + b.0 % 128, b.1))
-  last front true b e =
-      bind-bind (var_at n r b.1) _ (with_front value)
-      ∙ (bind-same (var_at n r b.1) _ (with_front (value * 128 + b.0)) (λ more. ap (λ m. Ok (m, more.1)) (pushed value b.0 more.0 (ltb-true b.0 128 e)))
-      ∙ front (value * 128 + b.0) r b.1)
-  last front false b e = ap (λ m. Ok (m, b.1)) (omega arith)
+    last : ((value : ℕ) (r : Region) (c : Cursor) → (var_at n r c >>= with_front value) ≡ var_from n value r c) → (t : Bool) (b : ℕ × Cursor) → nat_lt b.0 128 ≡ t
+        → ((if t then (var_at n r b.1 >>= λ more. Ok (b.0 ∷ more.0, more.1)) else Ok (b.0 ∷ [], b.1)) >>= with_front value)
+        ≡ (if t then var_from n (value * 128 + b.0) r b.1 else Ok (value * 128 + b.0 % 128, b.1))
+    last front true b e =
+        bind-bind (var_at n r b.1) _ (with_front value)
+        ∙ (bind-same (var_at n r b.1) _ (with_front (value * 128 + b.0)) (λ more. ap (λ m. Ok (m, more.1)) (pushed value b.0 more.0 (ltb-true b.0 128 e)))
+        ∙ front (value * 128 + b.0) r b.1)
+    last front false b e = ap (λ m. Ok (m, b.1)) (omega arith)
 
 pub var_uint_at-front : (r : Region) (c : Cursor) → var_uint_at r c ≡ var_from 9 0 r c
 unfolding var_uint_at
@@ -47,7 +47,7 @@ var_uint_at-front r c = bind-same (var_at 9 r c) _ (with_front 0) (λ b. ap (λ 
 
 -- ---- one octet more
 
-positive : (n : ℕ) → 0 < n → (m : ℕ) × (n ≡ suc m)
+pub positive : (n : ℕ) → 0 < n → (m : ℕ) × (n ≡ suc m)
 positive zero h = absurd (omega (arith, h))
 positive (suc m) h = (m, refl)
 

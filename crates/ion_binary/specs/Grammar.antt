@@ -1,5 +1,5 @@
 -- Which bytes spell which values, each with the place of its first byte: the binary form as a grammar.
-use Rattle.std.specs.Prelude.{◌≡◌, ◌≢◌, ℕ, ◌+◌, ◌*◌, ◌^◌, ◌<◌, ◌≤◌, ◌⊎◌, ℤ, pos, true, false, List, [], ◌∷◌, ◌++◌, length, Option, Some, None, IsUtf8}
+use Rattle.std.specs.Prelude.{◌≡◌, ◌≢◌, ℕ, ◌+◌, ◌*◌, ◌^◌, ◌<◌, ◌≤◌, ◌⊎◌, ℤ, true, false, List, [], ◌∷◌, ◌++◌, length, Option, Some, None, IsUtf8}
 use Rattle.std.specs.List.{AllByRecursion, flat_map}
 use Rattle.ion_value.specs.declared.ion_type.IonType.{IonType}
 use Rattle.ion_value.specs.declared.ion_type.IonType.TheVariants as type
@@ -8,7 +8,6 @@ use Rattle.ion_value.specs.declared.ion_type.Kind.TheVariants as kind
 use Rattle.ion_value.specs.declared.decimal.Decimal.{Decimal}
 use Rattle.ion_value.specs.declared.int.Int.{Int}
 use Rattle.ion_value.specs.declared.timestamp.Timestamp.{Timestamp}
-use Rattle.ion_value.specs.declared.timestamp.Precision.{Precision}
 use Rattle.ion_value.specs.declared.timestamp.Precision.TheVariants.{Year, Month, Day, Minute, Second, Fraction}
 use Rattle.ion_value.specs.Number.{VarUInt, IsVar, uint, var_uint, var_int_negative, var_int_magnitude, int_negative, int_magnitude, signed}
 use Rattle.ion_value.specs.Int.{IsInt}

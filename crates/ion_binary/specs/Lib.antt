@@ -3,5 +3,10 @@ pub mod Reading
 pub mod Grammar
 pub mod Paths
 pub mod Shapes
+pub mod Bodies
+pub mod Finds
+pub mod Wrappers
 pub mod Parts
+pub mod Values
+pub mod Reader
 pub mod Laws

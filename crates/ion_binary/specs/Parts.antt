@@ -9,6 +9,7 @@ use Rattle.ion_meter.specs.Windows.{Incoming, left}
 use Rattle.ion_value.specs.Scalar.{scalar_of_body}
 use Rattle.ion_value.specs.Value.{Symbol, Scalar}
 use Rattle.ion_binary.specs.Descriptor.{◌>>=◌, ◌>>◌, refuse, Cursor, skip, Region, octet_at}
+use Rattle.ion_binary.specs.Reading.{Placed}
 
 -- where a source stands, by what is left of its device
 abbrev pub cursor : {I : Type 0} → (I → List ℕ) → Incoming I → Cursor
@@ -65,3 +66,12 @@ body_here limits code n c = do
   refuse (nat_lt (length c.rest) n) Truncated
   v ← scalar_of_body code (take n c.rest)
   Ok (v, skip n c)
+
+-- what a call answers by what reading gives with the place of each fault
+abbrev pub AnswersAt : {T A : Type 0} → (T → A) → Result T Fault → Cursor → Placed (A × Cursor) → Type 0
+AnswersAt view (Ok x) behind given = given ≡ Ok (view x, behind)
+AnswersAt view (Err (Refused reason at)) behind given = given ≡ Err (reason, at)
+AnswersAt view (Err Memory) behind given = Unit {0}
+AnswersAt view (Err ReadFault) behind given = Unit {0}
+AnswersAt view (Err WriteFault) behind given = Unit {0}
+AnswersAt view (Err InputLimit) behind given = Unit {0}

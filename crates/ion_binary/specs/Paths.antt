@@ -1,8 +1,8 @@
 -- Open paths of a binary stream: the bytes up to a place, with the containers that are open there.
-use Rattle.std.specs.Prelude.{◌≡◌, ℕ, ◌+◌, ◌≤◌, List, [], ◌∷◌, ◌++◌, length, Option, Some, None}
+use Rattle.std.specs.Prelude.{◌≡◌, ℕ, ◌+◌, ◌≤◌, List, [], ◌∷◌, ◌++◌, length, Option, None}
 use Rattle.ion_value.specs.declared.ion_type.Kind.{Kind}
 use Rattle.ion_value.specs.Value.{SymbolAt, Members, Top}
-use Rattle.ion_value.specs.Path.{Nest, outermost, inner, Path, closed, opened, nest_kinds}
+use Rattle.ion_value.specs.Path.{outermost, inner, Path, closed, opened}
 use Rattle.ion_binary.specs.Reading.{Frame}
 use Rattle.ion_binary.specs.Grammar.{Field, Front, Annotated, Inside, Tops}
 
@@ -33,7 +33,7 @@ pub data Spells : Path SymbolAt ℕ → List Frame → List ℕ → Type 0 where
       → Spells path frames b → FieldIn frames (length b) f x → Annotated (length (b ++ x)) notes (length front + n) w → Front k n front
       → Inside k (length ((b ++ x) ++ (w ++ front))) ms c → length c ≤ n → Within frames (length ((b ++ x) ++ (w ++ front)) + n)
       → Spells (open_in path (length b) f notes (length ((b ++ x) ++ w)) k ms) (frame_of k (length ((b ++ x) ++ (w ++ front)) + n) ∷ frames)
-          (((b ++ x) ++ (w ++ front)) ++ c)
+      (((b ++ x) ++ (w ++ front)) ++ c)
 
 -- the bytes before a place spell the path
 pub record IsPath (bytes : List ℕ) (q : ℕ) (path : Path SymbolAt ℕ) : Type 0 where

@@ -1,4 +1,4 @@
-use Rattle.std.proofs.Common.{◌≡◌, ◌+◌, ◌-◌, ◌^◌, ◌<◌, ◌≤◌, ℕ}
+use Rattle.std.proofs.Common.{◌≡◌, ◌+◌, ◌-◌, ◌^◌, ◌<◌}
 use Rattle.ion_binary.specs.Descriptor.{var_uint_at}
 use Rattle.ion_binary.specs.Parts.{cursor, Stands, Moves, var_from}
 use Rattle.ion_binary.proofs.octets.next_var_uint.Given as goal

@@ -1,0 +1,38 @@
+-- Bodies that the code reads, by their type codes.
+use Rattle.std.proofs.Common.{refl, ◌≡◌, ℕ, ◌≤◌, ◌↔◌, Bool, true, false, IsTrue, List, length, take, Ok, Err}
+use Rattle.std.specs.Prelude.{IsUtf8}
+use Rattle.std.specs.Str.{is_utf8}
+use Rattle.std.proofs.lemmas.Bool.{false_from_ne_true, le-ltb}
+use Rattle.std.proofs.lemmas.Str.{IsUtf8-from_is_utf8, is_utf8-from_IsUtf8}
+use Rattle.ion_meter.specs.declared.fault.Reason.TheVariants.{BadText}
+use Rattle.ion_meter.specs.declared.fault.Reason.{Reason}
+use Rattle.ion_meter.specs.declared.limits.Limits.{Limits}
+use Rattle.ion_value.specs.Scalar.{scalar_of_body}
+use Rattle.ion_value.specs.Value.{Symbol, Scalar, string}
+use Rattle.ion_binary.specs.Descriptor.{Cursor, skip}
+use Rattle.ion_binary.specs.Parts.{body_here}
+
+-- a test that is true of UTF-8 alone is the one of the grammar
+pub is_utf8-test : (b : List ℕ) (test : Bool) → (IsTrue test ↔ IsUtf8 b) → is_utf8 b ≡ test
+is_utf8-test b true law = is_utf8-from_IsUtf8 b (law.0 refl)
+is_utf8-test b false law = false_from_ne_true (is_utf8 b) (λ e. absurd (cc (law.1 (IsUtf8-from_is_utf8 b e))))
+
+pub string-read : (b : List ℕ) (test : Bool) → (IsTrue test ↔ IsUtf8 b) → test ≡ true → scalar_of_body 8 b ≡ Ok (string b)
+unfolding scalar_of_body
+string-read b test law e = rw (is_utf8-test b test law, e) refl
+
+pub string-refused : (b : List ℕ) (test : Bool) → (IsTrue test ↔ IsUtf8 b) → test ≡ false → scalar_of_body 8 b ≡ Err BadText
+unfolding scalar_of_body
+string-refused b test law e = rw (is_utf8-test b test law, e) refl
+
+-- ---- a body by what holds of it
+
+pub body_here-refused : (limits : Limits) (code n : ℕ) (c : Cursor) (e : Reason) → n ≤ limits.scalar → n ≤ length c.rest → scalar_of_body code (take n c.rest) ≡ Err e
+    → body_here limits code n c ≡ Err e
+unfolding body_here
+body_here-refused limits code n c e fits there read = rw (le-ltb limits.scalar n fits, le-ltb (length c.rest) n there, read) refl
+
+pub body_here-read : (limits : Limits) (code n : ℕ) (c : Cursor) (v : Scalar Symbol) → n ≤ limits.scalar → n ≤ length c.rest → scalar_of_body code (take n c.rest) ≡ Ok v
+    → body_here limits code n c ≡ Ok (v, skip n c)
+unfolding body_here
+body_here-read limits code n c v fits there read = rw (le-ltb limits.scalar n fits, le-ltb (length c.rest) n there, read) refl

@@ -1,0 +1,94 @@
+-- The ids of a wrapper as a loop over them reads them.
+use Rattle.std.proofs.Common.{arith, refl, ap, sym, ◌∙◌, ◌≡◌, ℕ, zero, suc, ◌+◌, ◌-◌, ◌*◌, ◌<◌, ◌≤◌, true, false, nat_lt, nat_le, List, [], ◌∷◌, ◌++◌, length, append_assoc, append-nil, Some, Result, Ok, Err}
+use Rattle.std.proofs.lemmas.Bool.{le-leb, lt-leb, lt-ltb, le-ltb}
+use Rattle.std.proofs.lemmas.List.{map-append, length-append}
+use Rattle.ion_meter.specs.Counts.{Counts, Grows}
+use Rattle.ion_meter.specs.declared.fault.Fault.{Fault}
+use Rattle.ion_meter.specs.declared.fault.Fault.TheVariants.{Refused, Memory, ReadFault, WriteFault, InputLimit}
+use Rattle.ion_meter.specs.declared.fault.Reason.{Reason}
+use Rattle.ion_meter.specs.declared.fault.Reason.TheVariants.{AnnotationLimit}
+use Rattle.ion_meter.specs.declared.limits.Limits.{Limits}
+use Rattle.ion_value.specs.declared.item.Annotation.{Annotation}
+use Rattle.ion_value.specs.declared.item.Annotation.TheVariants as annotation
+use Rattle.ion_value.specs.Items.{raw_annotation}
+use Rattle.ion_value.specs.Name.{raw_id}
+use Rattle.ion_value.specs.Shares.{Charges}
+use Rattle.ion_value.specs.Value.{SymbolAt}
+use Rattle.ion_binary.specs.Descriptor.{◌>>=◌, Cursor, var_uint_at}
+use Rattle.ion_binary.specs.Parts.{Answers, AnswersAt}
+use Rattle.ion_binary.specs.Reading.{Placed, symbol_id, ids_at}
+use Rattle.ion_binary.specs.Wrappers.{as_notes}
+use Rattle.ion_binary.proofs.VarLoop.{positive}
+
+-- ids behind others that were read already
+abbrev pub behind : List SymbolAt → Placed (List SymbolAt × Cursor) → Placed (List SymbolAt × Cursor)
+behind front r = r >>= λ more. Ok (front ++ more.0, more.1)
+
+behind-pushed : (front : List SymbolAt) (s : SymbolAt) (r : Placed (List SymbolAt × Cursor))
+    → behind front (r >>= λ more. Ok (s ∷ more.0, more.1)) ≡ behind (front ++ s ∷ []) r
+behind-pushed front s (Ok x) = ap (λ l. Ok (l, x.1)) (sym (append_assoc front (s ∷ []) x.0))
+behind-pushed front s (Err e) = refl
+
+-- behind the last id, however many more there may be
+pub ids_at-ended : (limits : Limits) (end most count : ℕ) (front : List SymbolAt) (c : Cursor) → end ≤ c.place → behind front (ids_at most limits end count c) ≡ Ok (front, c)
+unfolding ids_at
+ids_at-ended limits end zero count front c h = ap (λ l. Ok (l, c)) (append-nil front)
+ids_at-ended limits end (suc most) count front c h = let t : nat_le end c.place ≡ true = le-leb end c.place h in rw t (ap (λ l. Ok (l, c)) (append-nil front))
+
+-- where the next id is refused
+pub ids_at-refused : (limits : Limits) (end most count : ℕ) (front : List SymbolAt) (c : Cursor) (e : Reason) → 0 < most → c.place < end → var_uint_at (Some end) c ≡ Err e
+    → behind front (ids_at most limits end count c) ≡ Err (e, c.place)
+unfolding ids_at
+ids_at-refused limits end most count front c e h before k =
+    let p = positive most h in let f : nat_le end c.place ≡ false = lt-leb end c.place before in rw (p.1, f, k) refl
+
+-- where the next id passes the limit
+pub ids_at-limited : (limits : Limits) (end most count n : ℕ) (front : List SymbolAt) (c d : Cursor) → 0 < most → c.place < end → var_uint_at (Some end) c ≡ Ok (n, d)
+    → limits.scalar < 16 * (count + 1) → behind front (ids_at most limits end count c) ≡ Err (AnnotationLimit, c.place)
+unfolding ids_at
+ids_at-limited limits end most count n front c d h before k past =
+    let p = positive most h in
+    let f : nat_le end c.place ≡ false = lt-leb end c.place before in
+    let l : nat_lt limits.scalar (16 * (count + 1)) ≡ true = lt-ltb limits.scalar (16 * (count + 1)) past in
+    rw (p.1, f, k, l) refl
+
+-- where it does not
+ids_at-goes_on : (limits : Limits) (end most fewer count n : ℕ) (front : List SymbolAt) (c d : Cursor) → most ≡ suc fewer → c.place < end → var_uint_at (Some end) c ≡ Ok (n, d)
+    → 16 * (count + 1) ≤ limits.scalar
+    → behind front (ids_at most limits end count c) ≡ behind (front ++ symbol_id n c.place ∷ []) (ids_at fewer limits end (count + 1) d)
+unfolding ids_at
+ids_at-goes_on limits end most fewer count n front c d p before k within =
+    let f : nat_le end c.place ≡ false = lt-leb end c.place before in
+    let l : nat_lt limits.scalar (16 * (count + 1)) ≡ false = le-ltb limits.scalar (16 * (count + 1)) within in
+    rw (p, f, k, l) (behind-pushed front (symbol_id n c.place) (ids_at fewer limits end (count + 1) d))
+
+-- one annotation more, which is an id
+as_notes-pushed : (notes : List Annotation) (id place : ℕ) → as_notes (notes ++ annotation.Id id place ∷ []) ≡ as_notes notes ++ raw_annotation [] (annotation.Id id place) ∷ []
+as_notes-pushed notes id place = map-append (raw_annotation []) notes (annotation.Id id place ∷ [])
+
+-- one id more, which fits the limit
+pub ids_at-one_more : (limits : Limits) (end n id place : ℕ) (notes more : List Annotation) (c d : Cursor) → length notes ≤ c.place → c.place < end → var_uint_at (Some end) c ≡ Ok (n, d)
+    → 16 * (length notes + 1) ≤ limits.scalar → id ≡ raw_id n → place ≡ c.place → more ≡ notes ++ annotation.Id id place ∷ []
+    → behind (as_notes notes) (ids_at (end - length notes) limits end (length notes) c) ≡ behind (as_notes more) (ids_at (end - length more) limits end (length more) d)
+ids_at-one_more limits end n id place notes more c d taken before k within named placed pushed =
+    let l : length more ≡ length notes + 1 = ap length pushed ∙ length-append notes (annotation.Id id place ∷ []) in
+    let same : as_notes more ≡ as_notes notes ++ symbol_id n c.place ∷ [] = ap as_notes pushed ∙ (as_notes-pushed notes id place ∙ rw (named, placed) refl) in
+    rw (l, same) (ids_at-goes_on limits end (end - length notes) (end - (length notes + 1)) (length notes) n (as_notes notes) c d (omega arith) before k within)
+
+-- the reason of a call that reads in one part, as that of one that reads several
+pub answers_at-refused : {T U A B : Type 0} (view : T → A) (shown : U → B) (fault : Fault) (behind after : Cursor) (place : ℕ) (one : Result (A × Cursor) Reason) (all : Placed (B × Cursor))
+    → Answers view (Err fault) behind place one → ((e : Reason) → one ≡ Err e → all ≡ Err (e, place)) → AnswersAt shown (Err fault) after all
+answers_at-refused view shown (Refused reason at) behind after place one all h k = k reason h.0 ∙ ap (λ p. Err (reason, p)) (sym h.1)
+answers_at-refused view shown Memory behind after place one all h k = tt
+answers_at-refused view shown ReadFault behind after place one all h k = tt
+answers_at-refused view shown WriteFault behind after place one all h k = tt
+answers_at-refused view shown InputLimit behind after place one all h k = tt
+
+-- an entry more that the meter counts
+pub charges-grown : (old mid new : Counts) (held more most : ℕ) → Charges old mid 0 held most → Grows mid new 16 → more ≡ held + 16 → more ≤ most → Charges old new 0 more most
+charges-grown old mid new held more most c grown e within = record {
+  held = omega (arith, c.held, grown.held);
+  share = within;
+  peak = omega (arith, c.peak, c.held, grown.peak, grown.held);
+  rises = omega (arith, c.rises, grown.peak);
+}

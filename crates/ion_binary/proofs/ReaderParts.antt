@@ -1,0 +1,210 @@
+-- The steps of the reader as those of the reading.
+use Rattle.std.proofs.Common.{arith, refl, ap, ◌∙◌, sym, subst, ◌≡◌, ℕ, suc, ◌-◌, ◌<◌, ◌≤◌, true, false, List, [], ◌∷◌, ◌++◌, length, drop, map, reverse, Option, Some, None, Result, Ok, Err, is_some, slice_get, leb}
+use Rattle.std.proofs.lemmas.Bool.{le-leb, lt-leb}
+use Rattle.std.proofs.lemmas.Grind.{reverse_onto}
+use Rattle.std.proofs.lemmas.List.{length-map, length-reverse}
+use Rattle.ion_meter.specs.Counts.{Counts}
+use Rattle.ion_meter.specs.declared.fault.Fault.{Fault}
+use Rattle.ion_meter.specs.declared.fault.Fault.TheVariants.{Refused, Memory, ReadFault, WriteFault, InputLimit}
+use Rattle.ion_meter.specs.declared.limits.Limits.{Limits}
+use Rattle.ion_value.specs.declared.ion_type.Kind.{Kind}
+use Rattle.ion_value.specs.declared.ion_type.Kind.TheVariants as kind
+use Rattle.ion_value.specs.declared.item.Annotation.{Annotation}
+use Rattle.ion_value.specs.Value as value
+use Rattle.ion_value.specs.Value.{Symbol, SymbolAt, Scalar, PlacedItem}
+use Rattle.ion_value.specs.Reading.{Step, Ends, Stops, Gives, GoesOn}
+use Rattle.ion_value.specs.Shares.{Charges}
+use Rattle.ion_value.specs.Standing.{Fits, InRange, in_struct}
+use Rattle.ion_binary.specs.declared.body.Body.{Body}
+use Rattle.ion_binary.specs.declared.found.Found as found
+use Rattle.ion_binary.specs.declared.found.Found.TheVariants as finds
+use Rattle.ion_binary.specs.declared.wrapper.Field as field
+use Rattle.ion_binary.specs.declared.wrapper.Frame as frame
+use Rattle.ion_binary.specs.declared.reader.What.{What}
+use Rattle.ion_binary.specs.declared.reader.What.TheVariants as what
+use Rattle.ion_binary.specs.declared.reader.Taken.{Taken}
+use Rattle.ion_binary.specs.declared.reader.Taken.TheVariants as taken
+use Rattle.ion_binary.specs.Descriptor.{◌>>=◌, Cursor}
+use Rattle.ion_binary.specs.Reading.{Placed, part, Frame, State, region_of, placed_scalar, field_at, value_at, item_of, member_at, top_of, top_step, step_of, step}
+use Rattle.ion_binary.specs.Bodies.{as_scalar}
+use Rattle.ion_binary.specs.Parts.{Answers}
+use Rattle.ion_binary.specs.Values.{GivesStep}
+use Rattle.ion_binary.specs.Wrappers.{as_notes, as_field, as_frame, as_frames, innermost}
+use Rattle.ion_binary.specs.Reader.{item_seen, kinds_of, TakenGives, TakesAs, IsInnermost, at_top, inside}
+
+-- ---- open containers
+
+pub as_frames-length : (frames : List frame.Frame) → length (as_frames frames) ≡ length frames
+as_frames-length frames = length-map (reverse frames) as_frame ∙ length-reverse frames
+
+pub kinds_of-length : (frames : List frame.Frame) → length (kinds_of frames) ≡ length frames
+kinds_of-length frames = length-map (reverse frames) (λ f. f.kind) ∙ length-reverse frames
+
+pub innermost-field : (frames : List Frame) (f : Option frame.Frame) (c : Cursor) → IsInnermost frames f → field_at frames c ≡ field_at (innermost f) c
+innermost-field _ _ c at_top = refl
+innermost-field _ _ c (inside f outer) = refl
+
+pub innermost-region : (frames : List Frame) (f : Option frame.Frame) → IsInnermost frames f → region_of frames ≡ region_of (innermost f)
+innermost-region _ _ at_top = refl
+innermost-region _ _ (inside f outer) = refl
+
+struct-first : (k : Kind) (ks : List Kind) → in_struct (k ∷ ks) ≡ in_struct (k ∷ [])
+struct-first kind.List ks = refl
+struct-first kind.Sexp ks = refl
+struct-first kind.Struct ks = refl
+
+innermost-struct : (frames : List Frame) (f : Option frame.Frame) → IsInnermost frames f → in_struct (map (λ x. x.kind) frames) ≡ in_struct (map (λ x. x.kind) (innermost f))
+innermost-struct _ _ at_top = refl
+innermost-struct _ _ (inside f outer) = struct-first f.kind (map (λ x. x.kind) outer)
+
+kinds-frames : (frames : List frame.Frame) → kinds_of frames ≡ map (λ x. x.kind) (as_frames frames)
+kinds-frames frames = kinds (reverse frames)
+  where
+    kinds : (fs : List frame.Frame) → map (λ f. f.kind) fs ≡ map (λ x. x.kind) (map as_frame fs)
+    kinds [] = refl
+    kinds (f ∷ fs) = ap (λ (ks : List Kind). f.kind ∷ ks) (kinds fs)
+
+-- at top level nothing is open
+pub innermost-top : (frames : List Frame) (f : Option frame.Frame) → IsInnermost frames f → region_of frames ≡ None → frames ≡ []
+innermost-top _ _ at_top e = refl
+innermost-top _ _ (inside f outer) e = absurd (cc e)
+
+-- ---- a member as the parts of one
+
+pub taken-same : (item : PlacedItem) (after : State) (r : Result Taken Fault) (s t : Step State) → s ≡ t → TakenGives item after r t → TakenGives item after r s
+taken-same item after r s t e h = subst (λ u. TakenGives item after r u) (sym e) h
+
+pub member_at-refused : (item : PlacedItem) (after : State) (limits : Limits) (frames : List Frame) (top : ℕ) (c behind : Cursor) (fault : Fault)
+    → Answers as_field (Err fault) behind c.place (field_at frames c) → TakenGives item after (Err fault) (step_of (member_at limits frames top c))
+unfolding member_at
+member_at-refused item after limits frames top c behind (Refused reason at) h =
+    ap (λ r. step_of (part c.place r >>= λ f. value_at limits frames (top_of frames top c.place) f.0 f.1)) h.0 ∙ ap (λ p. Stops reason p) (sym h.1)
+member_at-refused item after limits frames top c behind Memory h = tt
+member_at-refused item after limits frames top c behind ReadFault h = tt
+member_at-refused item after limits frames top c behind WriteFault h = tt
+member_at-refused item after limits frames top c behind InputLimit h = tt
+
+pub member_at-field : (limits : Limits) (frames : List Frame) (top : ℕ) (c d : Cursor) (f : Option SymbolAt) → field_at frames c ≡ Ok (f, d)
+    → member_at limits frames top c ≡ value_at limits frames (top_of frames top c.place) f d
+unfolding member_at
+member_at-field limits frames top c d f e = ap (λ r. part c.place r >>= λ f. value_at limits frames (top_of frames top c.place) f.0 f.1) e
+
+pub value-refused : (item : PlacedItem) (after : State) (frames : List Frame) (top : ℕ) (f : Option SymbolAt) (notes : List SymbolAt) (text : List ℕ) (scalar : Body) (fault : Fault) (behind : Cursor)
+    (s : Placed (Step State)) → GivesStep frames top f notes text scalar (Err fault) behind s → TakenGives item after (Err fault) (step_of s)
+value-refused item after frames top f notes text scalar (Refused reason at) behind s h = ap step_of h
+value-refused item after frames top f notes text scalar Memory behind s h = tt
+value-refused item after frames top f notes text scalar ReadFault behind s h = tt
+value-refused item after frames top f notes text scalar WriteFault behind s h = tt
+value-refused item after frames top f notes text scalar InputLimit behind s h = tt
+
+-- ---- items stand where they may
+
+InRange-placed : (place : ℕ) (s : Scalar Symbol) → InRange s → InRange (placed_scalar place s)
+InRange-placed place (value.null t) h = tt
+InRange-placed place (value.bool t) h = tt
+InRange-placed place (value.int n) h = h
+InRange-placed place (value.decimal n) h = h
+InRange-placed place (value.timestamp n) h = h
+InRange-placed place (value.symbol n) h = tt
+InRange-placed place (value.string n) h = tt
+InRange-placed place (value.clob n) h = tt
+InRange-placed place (value.blob n) h = tt
+
+field-some : (f : Option field.Field) → is_some (as_field f) ≡ is_some f
+field-some None = refl
+field-some (Some f) = refl
+
+pub taken-fits : (limits : Limits) (x : found.Found) (old new : List frame.Frame) (w : What) (r : Result Taken Fault) (text : List ℕ) (scalar : Body) (notes : List Annotation) (f : Option field.Field) (place top : ℕ)
+    (outer : Option frame.Frame)
+    → IsInnermost (as_frames old) outer → is_some f ≡ in_struct (map (λ x. x.kind) (innermost outer)) → TakesAs x old new w r
+    → (x ≡ finds.Scalar → InRange (as_scalar text scalar)) → ((k : Kind) (end : ℕ) → x ≡ finds.Container k end → length old < limits.depth)
+    → (x ≡ finds.Marker → (region_of (as_frames old) ≡ None) × (notes ≡ []))
+    → r ≡ Ok taken.Item → Fits limits.depth (kinds_of old) (item_seen w text scalar notes f place top)
+taken-fits limits finds.Pad old new w r text scalar notes f place top outer inner field takes range deep marker item = absurd (cc (item, takes.0))
+taken-fits limits finds.Marker old new w r text scalar notes f place top outer inner field takes range deep marker item =
+    let m = marker refl in
+    let none : as_frames old ≡ [] = innermost-top (as_frames old) outer inner m.0 in
+    let kinds : kinds_of old ≡ [] = kinds-frames old ∙ ap (λ (l : List Frame). map (λ x. x.kind) l) none in
+    rw takes.2 (record { place = kinds; field = field-some f ∙ (field ∙ (sym (innermost-struct (as_frames old) outer inner) ∙ ap (λ (l : List Frame). in_struct (map (λ x. x.kind) l)) none)); notes = ap as_notes m.1 })
+taken-fits limits finds.Scalar old new w r text scalar notes f place top outer inner field takes range deep marker item =
+    rw takes.2 (record { place = InRange-placed place (as_scalar text scalar) (range refl); field = field-some f ∙ (field ∙ (sym (innermost-struct (as_frames old) outer inner) ∙ ap in_struct (sym (kinds-frames old)))); notes = tt })
+taken-fits limits (finds.Container k end) old new w (Ok t) text scalar notes f place top outer inner field takes range deep marker item =
+    rw takes.2 (record { place = omega (arith, kinds_of-length old, deep k end refl); field = field-some f ∙ (field ∙ (sym (innermost-struct (as_frames old) outer inner) ∙ ap in_struct (sym (kinds-frames old)))); notes = tt })
+taken-fits limits (finds.Container k end) old new w (Err fault) text scalar notes f place top outer inner field takes range deep marker item = absurd (cc item)
+
+-- ---- at top level
+
+pub top-ends : (limits : Limits) (frames : List Frame) (top : ℕ) (c : Cursor) → frames ≡ [] → slice_get c.rest 0 ≡ None → step limits (record { frames = frames; top = top; cursor = c }) ≡ Ends
+unfolding step
+top-ends limits [] top c e none = nothing c.rest none
+  where
+    nothing : (rest : List ℕ) → slice_get rest 0 ≡ None → top_step limits top c rest ≡ Ends
+    nothing [] none = refl
+    nothing (b ∷ rest) none = absurd (cc none)
+top-ends limits (f ∷ frames) top c e none = absurd (cc e)
+
+pub top-member : (limits : Limits) (frames : List Frame) (top : ℕ) (c : Cursor) (b : ℕ) → frames ≡ [] → slice_get c.rest 0 ≡ Some b
+    → step limits (record { frames = frames; top = top; cursor = c }) ≡ step_of (member_at limits frames top c)
+unfolding step
+top-member limits [] top c b e some = one c.rest some
+  where
+    one : (rest : List ℕ) → slice_get rest 0 ≡ Some b → top_step limits top c rest ≡ step_of (member_at limits [] top c)
+    one [] some = absurd (cc some)
+    one (a ∷ rest) some = refl
+top-member limits (f ∷ frames) top c b e some = absurd (cc e)
+
+-- ---- in a container
+
+pub inside-ends : (limits : Limits) (frames : List Frame) (f : frame.Frame) (top : ℕ) (c : Cursor) → IsInnermost frames (Some f) → f.end ≤ c.place
+    → step limits (record { frames = frames; top = top; cursor = c }) ≡ Gives (item_of top None [] c.place value.end) (record { frames = drop 1 frames; top = top; cursor = c })
+unfolding step
+inside-ends limits _ _ top c (inside f outer) h = let e : leb f.end c.place ≡ true = le-leb f.end c.place h in rw e refl
+
+pub inside-member : (limits : Limits) (frames : List Frame) (f : frame.Frame) (top : ℕ) (c : Cursor) → IsInnermost frames (Some f) → c.place < f.end
+    → step limits (record { frames = frames; top = top; cursor = c }) ≡ step_of (member_at limits frames top c)
+unfolding step
+inside-member limits _ _ top c (inside f outer) h = let e : leb f.end c.place ≡ false = lt-leb f.end c.place h in rw e refl
+
+pub inside-top : (frames : List Frame) (f : frame.Frame) (top place : ℕ) → IsInnermost frames (Some f) → top_of frames top place ≡ top
+inside-top _ _ top place (inside f outer) = refl
+
+-- the item of a container's end
+pub ended-item : (w : What) (text : List ℕ) (scalar : Body) (notes : List Annotation) (f : Option field.Field) (place at top first : ℕ)
+    → w ≡ what.End → notes ≡ [] → f ≡ None → place ≡ at → top ≡ first → item_seen w text scalar notes f place top ≡ item_of first None [] at value.end
+ended-item w text scalar notes f place at top first a b c d e = rw (a, b, c, d, e) refl
+
+-- ---- the last of a list
+
+reverse-last : {X : Type 0} (l : List X) (x : X) → slice_get l (length l - 1) ≡ Some x → (ys : List X) × (reverse l ≡ x ∷ ys)
+reverse-last [] x e = absurd (cc e)
+reverse-last (a ∷ []) x e = ([], ap (λ b. b ∷ []) (cc e))
+reverse-last (a ∷ b ∷ l) x e =
+    let step : length (a ∷ b ∷ l) - 1 ≡ suc (length (b ∷ l) - 1) = omega arith in
+    let more = reverse-last (b ∷ l) x (subst (λ n. slice_get (a ∷ b ∷ l) n ≡ Some x) step e) in
+    (more.0 ++ a ∷ [], reverse_onto (b ∷ l) a [] ∙ ap (λ r. r ++ a ∷ []) more.1)
+
+-- the innermost of open containers that are kept the innermost last
+pub last-innermost : (frames : List frame.Frame) (f : frame.Frame) → slice_get frames (length frames - 1) ≡ Some f → IsInnermost (as_frames frames) (Some f)
+last-innermost frames f e =
+    let last = reverse-last frames f e in
+    subst (λ (l : List frame.Frame). IsInnermost (map as_frame l) (Some f)) (sym last.1) (inside f (map as_frame last.0))
+
+-- ---- steps one after the other
+
+pub took-item : (item : PlacedItem) (after : State) (x : Taken) (s : Step State) → x ≡ taken.Item → TakenGives item after (Ok x) s → s ≡ Gives item after
+took-item item after taken.Item s e h = h
+took-item item after taken.Passed s e h = absurd (cc e)
+took-item item after taken.Ended s e h = absurd (cc e)
+
+pub took-pad : (item : PlacedItem) (after : State) (x : Taken) (s : Step State) → x ≡ taken.Passed → TakenGives item after (Ok x) s → s ≡ GoesOn after
+took-pad item after taken.Passed s e h = h
+took-pad item after taken.Item s e h = absurd (cc e)
+took-pad item after taken.Ended s e h = absurd (cc e)
+
+pub charges-then : (a b c : Counts) (first between last most : ℕ) → first ≤ a.held → Charges a b first between most → Charges b c between last most → Charges a c first last most
+charges-then a b c first between last most small x y = record {
+  held = omega (arith, x.held, y.held);
+  share = y.share;
+  peak = omega (arith, x.held, x.peak, y.peak, small, x.share);
+  rises = omega (arith, x.rises, y.rises);
+}

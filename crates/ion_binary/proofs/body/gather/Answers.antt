@@ -1,0 +1,41 @@
+use Rattle.std.proofs.Common.{arith, sym, subst, ap, ◌∙◌, ◌≡◌, ◌+◌, ◌-◌, ◌≤◌, ℕ, List, length, take}
+use Rattle.std.proofs.lemmas.Grind.{common_steps}
+use Rattle.std.proofs.lemmas.List.{length-append, length-take-le}
+use Rattle.ion_meter.specs.Windows.{left, lent}
+use Rattle.ion_meter.proofs.Lent.{lent-take}
+use Rattle.ion_binary.proofs.Passing.{Passed, Passed-then, Passed-lent, take_on}
+use Rattle.ion_binary.proofs.body.gather.Goals as goal
+
+pub loop-source-preserved : goal.loop-source-preserved
+loop-source-preserved g c =
+    let inv = c.loop-source.invariant in
+    let peek = c.in-Ok-Some.ensures in
+    let extended = c.in_default.ensures in
+    let s = c.loop-source.source in
+    let p = c.peek.new.self in
+    let t = c.consume.new.self in
+    let text : List ℕ = c.loop-source.text in
+    let here = c.min-here.result in
+    let all : List ℕ = left g.I.Input.rest c.args.source.now in
+    let octets : List ℕ = c.buffer-octets.result.now in
+    let there : here ≤ length octets = grind (arith, common_steps) in
+    let fits : here ≤ length (lent p) = subst (λ (l : List ℕ). here ≤ length l) c.buffer-octets.ensures there in
+    let wanted : here ≤ c.args.count - length text = grind (arith, common_steps) in
+    let long : length c.extend.new.self ≡ length text + here =
+    ap (λ (l : List ℕ). length l) extended.ok ∙ (length-append text (take here octets) ∙ ap (λ n. length text + n) (length-take-le here octets there)) in
+    let next = Passed-lent g.I.Input.rest g.I.Input.tells s p t here inv.passed.stands peek.kept peek.well.1 fits c.consume.ensures in
+    let cost = extended.cost in
+    record {
+      passed = subst (λ n. Passed g.I.Input.rest g.I.Input.tells c.args.source.now t n) (sym long)
+          (Passed-then g.I.Input.rest g.I.Input.tells c.args.source.now s t (length text) here inv.passed next);
+      steady = let e = rw inv.passed.stands.well at peek.count in ap g.I.Input.failure_count c.consume.ensures.device ∙ omega (arith, inv.steady, e);
+      few = omega (arith, long, wanted, inv.few);
+      octets = λ h.
+          let same = peek.kept.same_left (inv.passed.moves.still_tells.1 h) in
+          let piece = ap (λ (l : List ℕ). take here l) c.buffer-octets.ensures ∙ sym (lent-take g.I.Input.rest p here fits) in
+          extended.ok ∙ (take_on all text (left g.I.Input.rest p) (take here octets) here (inv.octets h) (same ∙ inv.passed.behind h) piece ∙ ap (λ n. take n all) (sym long));
+      held = let paid = length-take-le here octets there in omega (arith, inv.held, cost.held, paid, long);
+      peak = let paid = length-take-le here octets there in grind (arith, common_steps, cost.held, cost.peak, inv.held, inv.peak, paid, long);
+      rises = grind (arith, common_steps, cost.peak, inv.rises);
+      refused = cost.refused ∙ inv.refused;
+    }

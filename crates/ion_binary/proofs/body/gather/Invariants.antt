@@ -1,0 +1,19 @@
+use Rattle.std.proofs.Common.{◌≡◌, ◌+◌, ◌-◌, ◌≤◌, length, take, max}
+use Rattle.ion_meter.specs.Windows.{left}
+use Rattle.ion_binary.proofs.Passing.{Passed}
+use Rattle.ion_binary.proofs.body.gather.Given as goal
+
+abbrev pub invariant-loop-source : goal.invariant-loop-source
+invariant-loop-source g l = record {
+  passed : Passed g.I.Input.rest g.I.Input.tells l.fn.source l.source (length l.text);
+  steady : g.I.Input.failure_count l.source.device ≡ g.I.Input.failure_count l.fn.source.device;
+  few : length l.text ≤ l.count;
+  octets : g.I.Input.tells l.fn.source.device → l.text ≡ take (length l.text) (left g.I.Input.rest l.fn.source);
+  held : l.meter.held + length l.fn.text ≡ l.fn.meter.held + length l.text;
+  peak : l.meter.peak ≤ max l.fn.meter.peak (l.fn.meter.held - length l.fn.text + l.fn.limits.scalar);
+  rises : l.fn.meter.peak ≤ l.meter.peak;
+  refused : l.meter.refused ≡ l.fn.meter.refused;
+}
+
+abbrev pub decreases-loop-source : goal.decreases-loop-source
+decreases-loop-source g l = l.count - length l.text

@@ -1,0 +1,27 @@
+use Rattle.std.proofs.Common.{refl, ap, sym, ◌∙◌, ℕ, List, take}
+use Rattle.ion_meter.proofs.Lent.{lent-take}
+use Rattle.ion_value.specs.Scalar.{scalar_of_body}
+use Rattle.ion_binary.specs.Bodies.{as_scalar}
+use Rattle.ion_binary.specs.Parts.{cursor}
+use Rattle.ion_binary.proofs.BodyParts.{body_here-refused, body_here-read}
+use Rattle.ion_binary.proofs.Passing.{lent-there, IsPassed-cursor}
+use Rattle.ion_binary.proofs.body.number_in_window.Goals as goal
+
+pub returns-in-Err-clause-gives : goal.returns-in-Err-clause-gives
+returns-in-Err-clause-gives g c = λ text.
+    let s = c.args.source.now in
+    let same = ap (λ (l : List ℕ). take c.args.count l) c.buffer.ensures ∙ sym (lent-take g.I.Input.rest s c.args.count c.requires.there) in
+    let read = c.in-Err.ensures.gives in (
+      body_here-refused c.args.limits c.args.code c.args.count (cursor g.I.Input.rest s) c.in-Err.reason c.requires.small (lent-there g.I.Input.rest s c.args.count c.requires.there)
+          (ap (scalar_of_body c.args.code) (sym same) ∙ read),
+      refl,
+    )
+
+pub returns-clause-gives : goal.returns-clause-gives
+returns-clause-gives g c = λ text.
+    let s = c.args.source.now in
+    let same = ap (λ (l : List ℕ). take c.args.count l) c.buffer.ensures ∙ sym (lent-take g.I.Input.rest s c.args.count c.requires.there) in
+    let read = c.in_default.ensures.gives in
+    let behind = IsPassed-cursor g.I.Input.rest s c.consume.new.self c.args.count c.requires.there c.consume.ensures in
+    rw behind (body_here-read c.args.limits c.args.code c.args.count (cursor g.I.Input.rest s) (as_scalar text c.number.new.body) c.requires.small (lent-there g.I.Input.rest s c.args.count c.requires.there)
+    (ap (scalar_of_body c.args.code) (sym same) ∙ read text))

@@ -1,0 +1,34 @@
+use Rattle.std.proofs.Common.{◌≡◌, false, ◌&&◌, refl, sym, ap, subst, ◌∙◌}
+use Rattle.std.proofs.lemmas.Bool.{and_from, and_left, and_right}
+use Rattle.ion_binary.specs.Descriptor.{is_unwrappable}
+use Rattle.ion_binary.specs.Finds.{as_around, as_found, IsOfDescriptor}
+use Rattle.ion_binary.specs.Parts.{cursor, Answers}
+use Rattle.ion_binary.specs.Reading.{by_shape, found_at}
+use Rattle.ion_binary.specs.Shapes.{as_shape}
+use Rattle.ion_binary.proofs.Founds.{found_at-wrapped, found_at-shape, shape_of-is_of_descriptor}
+use Rattle.ion_binary.proofs.found.next_found.Goals as goal
+use Rattle.ion_binary.proofs.found.next_found.Goals.{else-around-via-then-around+else-no_wrapper_holds, else-around-via-else-around}
+
+pub returns-then-no_wrapper_holds-clause-gives : goal.returns-then-no_wrapper_holds-clause-gives
+returns-then-no_wrapper_holds-clause-gives g c t = (
+  found_at-wrapped c.args.limits (as_around c.args.around) c.args.octet (cursor g.I.Input.rest c.args.source.now)
+      (and_from c.args.around.wrapped (is_unwrappable c.args.octet) c.if-around.true (sym c.no_wrapper_holds.ensures ∙ c.if-no_wrapper_holds.true)),
+  refl,
+)
+
+pub by_shape-requires-clause-shape : goal.by_shape-requires-clause-shape
+by_shape-requires-clause-shape g c = subst IsOfDescriptor (sym c.of.ensures) (shape_of-is_of_descriptor c.args.octet)
+
+pub returns-clause-gives : goal.returns-clause-gives
+returns-clause-gives g c t =
+    let here = cursor g.I.Input.rest c.args.source.now in
+    let free : (c.args.around.wrapped && is_unwrappable c.args.octet) ≡ false =
+    elim c.else-around.branch [
+      | else-around-via-then-around+else-no_wrapper_holds w ↦
+          and_right c.args.around.wrapped (is_unwrappable c.args.octet) (sym w.no_wrapper_holds.ensures ∙ w.if-no_wrapper_holds.false)
+      | else-around-via-else-around w ↦ and_left c.args.around.wrapped (is_unwrappable c.args.octet) w.if-around.false
+    ] in
+    let same : by_shape c.args.limits (as_around c.args.around) (as_shape c.of.result) here ≡ found_at c.args.limits (as_around c.args.around) c.args.octet here =
+    ap (λ s. by_shape c.args.limits (as_around c.args.around) s here) c.of.ensures ∙ sym (found_at-shape c.args.limits (as_around c.args.around) c.args.octet here free) in
+    subst (λ given. Answers (as_found c.by_shape.new.text c.by_shape.new.body) c.by_shape.result (cursor g.I.Input.rest c.by_shape.new.source) c.args.place given)
+    same (c.by_shape.ensures.gives t)

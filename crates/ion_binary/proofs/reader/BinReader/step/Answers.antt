@@ -1,0 +1,9 @@
+use Rattle.std.proofs.Common.{◌∙◌, sym, ap, ◌-◌, List, length, slice_get}
+use Rattle.ion_binary.specs.declared.wrapper.Frame.{Frame}
+use Rattle.ion_binary.proofs.ReaderParts.{last-innermost}
+use Rattle.ion_binary.proofs.reader.BinReader.step.Goals as goal
+
+pub inside-requires-clause-innermost : goal.inside-requires-clause-innermost
+inside-requires-clause-innermost g c =
+    last-innermost c.args.self.now.frames c.in-Some.frame
+    (ap (λ (l : List Frame). slice_get l (length l - 1)) (sym c.as_slice.ensures) ∙ (sym c.last.ensures.value ∙ (sym c.copied.ensures ∙ c.in-Some.is)))

@@ -1,0 +1,271 @@
+//! Bodies of scalars (binary encoding, "Typed Value Formats").
+ghost use Rattle.std.specs.Prelude.{◌≡◌, ◌≢◌, ◌+◌, ◌-◌, ◌^◌, ◌<◌, ◌≤◌, ◌⊎◌, ℕ, List, [], length, take, drop, Ok, Err, true, false, OnOk, OnErr, MatchResult, IsTrue, ◌↔◌, IsUtf8};
+ghost use Rattle.ion_meter.specs.Windows.{left, lent};
+ghost use Rattle.ion_meter.specs.Limits.{AreChecked};
+ghost use Rattle.ion_value.specs.Number.{uint};
+ghost use Rattle.ion_value.specs.Name.{raw_id};
+ghost use Rattle.ion_value.specs.Scalar.{scalar_of_body};
+ghost use Rattle.ion_value.specs.Shares.{Charges, ReadCauses, fault_of};
+ghost use Rattle.ion_value.specs.Standing.{InRange};
+ghost use Rattle.ion_binary.specs.Descriptor.{skip};
+ghost use Rattle.ion_binary.specs.Bodies.{as_scalar};
+ghost use Rattle.ion_binary.specs.Parts.{cursor, Exceeds, Stands, Moves, Causes, Answers, body_here};
+
+use ion_meter::buf::Buf;
+use ion_meter::device::Input;
+use ion_meter::fault::{Fault, Reason};
+use ion_meter::limits::Limits;
+use ion_meter::meter::Meter;
+use ion_meter::source::Source;
+use ion_value::decimal::{Decimal, decimal_from_bytes};
+use ion_value::int::{Int, int_from_bytes};
+use ion_value::ion_type::IonType;
+use ion_value::timestamp::{Timestamp, timestamp_from_bytes};
+use std::alloc::Allocator;
+
+/// A scalar that was read. The bytes of a string, clob or blob stand in a buffer beside it.
+#[derive(Clone, Copy, Debug, PartialEq, Eq)]
+pub(crate) enum Body {
+    /// The null of a type.
+    Null(IonType),
+    /// A truth value.
+    Bool(bool),
+    /// An int.
+    Int(Int),
+    /// A decimal.
+    Decimal(Decimal),
+    /// A timestamp in local time.
+    Timestamp(Timestamp),
+    /// A symbol's id, where 2^31 stands for every id above 2^31 - 1.
+    Symbol(u32),
+    /// A string.
+    String,
+    /// A clob.
+    Clob,
+    /// A blob.
+    Blob,
+}
+
+// The type codes of strings and lobs, and the least of them.
+const STRING: u8 = 8;
+
+const CLOB: u8 = 9;
+
+/// An id as readers give it.
+#[inline]
+pub(crate) fn id_of(n: u64) -> u32
+    ensures { result ≡ raw_id n }
+{
+    n.min(1 << 31) as u32
+}
+
+// The id that a UInt spells.
+#[inline]
+fn uint_id(octets: &[u8]) -> u32
+    ensures { result ≡ raw_id (uint octets.now) }
+{
+    match int_from_bytes(false, octets) {
+        Ok(int) => int.magnitude.min(1 << 31) as u32,
+        Err(_) => 1 << 31,
+    }
+}
+
+// A number, a timestamp or a symbol of these octets.
+#[tactic(auto, unfolding(ion_value::specs::Scalar::scalar_of_body))]
+fn number(code: u8, octets: &[u8], body: &mut Body) -> Result<(), Reason>
+    requires code { (code ≡ 2) ⊎ ((code ≡ 3) ⊎ ((code ≡ 5) ⊎ ((code ≡ 6) ⊎ (code ≡ 7)))) }
+    ensures gives { MatchResult result (λ _. (text : List ℕ) → scalar_of_body code octets.now ≡ Ok (as_scalar text body.new)) (λ r. scalar_of_body code octets.now ≡ Err r) }
+    ensures range { OnOk result ((text : List ℕ) → InRange (as_scalar text body.new)) }
+{
+    *body = match code {
+        2 => Body::Int(int_from_bytes(false, octets)?),
+        3 => Body::Int(int_from_bytes(true, octets)?),
+        5 => Body::Decimal(decimal_from_bytes(octets)?),
+        6 => Body::Timestamp(timestamp_from_bytes(octets)?),
+        _ => Body::Symbol(uint_id(octets)),
+    };
+    Ok(())
+}
+
+// Whether octets are UTF-8.
+#[inline]
+fn is_text(octets: &[u8]) -> bool
+    ensures { IsTrue result ↔ IsUtf8 octets.now }
+{
+    simdutf8::basic::from_utf8(octets).is_ok()
+}
+
+// A string or a lob of these octets.
+#[tactic(auto, unfolding(ion_value::specs::Scalar::scalar_of_body))]
+#[inline]
+fn text_or_lob(code: u8, octets: &[u8], body: &mut Body) -> Result<(), Reason>
+    requires code { (8 ≤ code) × (code ≤ 10) }
+    ensures gives { MatchResult result (λ _. scalar_of_body code octets.now ≡ Ok (as_scalar octets.now body.new)) (λ r. scalar_of_body code octets.now ≡ Err r) }
+    ensures range { OnOk result (InRange (as_scalar octets.now body.new)) }
+{
+    if code == STRING && !is_text(octets) {
+        return Err(Reason::BadText);
+    }
+    *body = match code {
+        STRING => Body::String,
+        CLOB => Body::Clob,
+        _ => Body::Blob,
+    };
+    Ok(())
+}
+
+// A scalar of these octets.
+#[inline]
+fn scalar(code: u8, octets: &[u8], body: &mut Body) -> Result<(), Reason>
+    requires code { (code ≡ 2) ⊎ ((code ≡ 3) ⊎ ((code ≡ 5) ⊎ ((code ≡ 6) ⊎ ((code ≡ 7) ⊎ ((8 ≤ code) × (code ≤ 10)))))) }
+    ensures gives { MatchResult result (λ _. scalar_of_body code octets.now ≡ Ok (as_scalar octets.now body.new)) (λ r. scalar_of_body code octets.now ≡ Err r) }
+    ensures range { OnOk result (InRange (as_scalar octets.now body.new)) }
+{
+    if code < STRING {
+        return number(code, octets, body);
+    }
+    text_or_lob(code, octets, body)
+}
+
+/// Passes over so many octets; false where the input ends before.
+pub(crate) fn pass_over<I: Input, A: Allocator + Copy>(
+    source: &mut Source<I, A>,
+    count: u64,
+) -> Result<bool, Fault>
+    requires stands { Stands source.old }
+    ensures all { I.tells source.old.device → result ≡ Ok true → (count ≤ length (left I.rest source.old)) × (cursor I.rest source.new ≡ skip count (cursor I.rest source.old)) }
+    ensures cut { I.tells source.old.device → result ≡ Ok false → length (left I.rest source.old) < count }
+    ensures plain { (r : Reason) (p : ℕ) → result ≢ Err (Fault.Refused r p) }
+    ensures stands { OnOk result (Stands source.new) }
+    ensures moves { Moves I.rest I.tells source.old source.new }
+    ensures causes { Causes (fault_of result) (I.failure_count source.old.device) (I.failure_count source.new.device) (Exceeds I.rest I.tells source.old) }
+{
+    let mut more = count;
+    while more > 0 {
+        match source.peek(0) {
+            Err(fault) => return Err(fault),
+            Ok(None) => return Ok(false),
+            Ok(Some(_)) => {}
+        }
+        let here = more.min(source.buffer().len() as u64);
+        source.consume(here as usize);
+        more -= here;
+    }
+    Ok(true)
+}
+
+// Copies the next octets, so many of them; false where the input ends before.
+fn gather<I: Input, A: Allocator + Copy>(
+    source: &mut Source<I, A>,
+    text: &mut Buf<A>,
+    count: usize,
+    limits: Limits,
+    meter: &mut Meter<A>,
+) -> Result<bool, Fault>
+    requires stands { Stands source.old }
+    requires holds { length text.old ≤ meter.old.held }
+    requires room { meter.old.held + limits.scalar < 2 ^ 63 }
+    requires countable { meter.old.refused < 2 ^ 64 - 1 }
+    requires checked { limits.scalar ≤ 2 ^ 30 }
+    requires share { length text.old ≤ limits.scalar }
+    requires small { count ≤ limits.scalar }
+    ensures all { I.tells source.old.device → result ≡ Ok true → (count ≤ length (left I.rest source.old)) × (text.new ≡ take count (left I.rest source.old)) × (cursor I.rest source.new ≡ skip count (cursor I.rest source.old)) }
+    ensures cut { I.tells source.old.device → result ≡ Ok false → length (left I.rest source.old) < count }
+    ensures plain { (r : Reason) (p : ℕ) → result ≢ Err (Fault.Refused r p) }
+    ensures stands { OnOk result (Stands source.new) }
+    ensures moves { Moves I.rest I.tells source.old source.new }
+    ensures causes { ReadCauses (fault_of result) meter.old meter.new (I.failure_count source.old.device) (I.failure_count source.new.device) (Exceeds I.rest I.tells source.old) }
+    ensures charges { Charges meter.old meter.new (length text.old) (length text.new) limits.scalar }
+{
+    text.clear(meter);
+    while text.as_slice().len() < count {
+        match source.peek(0) {
+            Err(fault) => return Err(fault),
+            Ok(None) => return Ok(false),
+            Ok(Some(_)) => {}
+        }
+        let octets = source.buffer();
+        let here = octets.len().min(count - text.as_slice().len());
+        if let Err(fault) = text.extend(meter, &octets[..here]) {
+            return Err(fault);
+        }
+        source.consume(here);
+    }
+    Ok(true)
+}
+
+// A number, a timestamp or a symbol whose octets lie in the window.
+#[inline]
+fn number_in_window<I: Input, A: Allocator + Copy>(
+    source: &mut Source<I, A>,
+    body: &mut Body,
+    code: u8,
+    count: usize,
+    limits: Limits,
+    place: u64,
+) -> Result<(), Fault>
+    requires stands { Stands source.old }
+    requires code { (code ≡ 2) ⊎ ((code ≡ 3) ⊎ ((code ≡ 5) ⊎ ((code ≡ 6) ⊎ (code ≡ 7)))) }
+    requires there { count ≤ length (lent source.old) }
+    requires small { count ≤ limits.scalar }
+    ensures gives { (text : List ℕ) → Answers (λ _. as_scalar text body.new) result (cursor I.rest source.new) place (body_here limits code count (cursor I.rest source.old)) }
+    ensures range { OnOk result ((text : List ℕ) → InRange (as_scalar text body.new)) }
+    ensures stands { OnOk result (Stands source.new) }
+    ensures moves { Moves I.rest I.tells source.old source.new }
+    ensures causes { Causes (fault_of result) (I.failure_count source.old.device) (I.failure_count source.new.device) (Exceeds I.rest I.tells source.old) }
+{
+    if let Err(reason) = number(code, &source.buffer()[..count], body) {
+        return Err(Fault::Refused(reason, place));
+    }
+    source.consume(count);
+    Ok(())
+}
+
+/// The scalar of a type code whose body has so many octets, in a part that begins at a place.
+///
+/// The octets of a string or lob are copied to `text`, once, and those of a number that does not lie
+/// whole in the window too. Answers `ScalarLimit`, then `Truncated` where the input ends before the
+/// body does, then what is wrong in the body.
+#[tactic(auto, unfolding(crate::specs::Parts::body_here))]
+#[inline]
+pub(crate) fn next_body<I: Input, A: Allocator + Copy>(
+    source: &mut Source<I, A>,
+    text: &mut Buf<A>,
+    body: &mut Body,
+    code: u8,
+    count: u64,
+    limits: Limits,
+    place: u64,
+    meter: &mut Meter<A>,
+) -> Result<(), Fault>
+    requires stands { Stands source.old }
+    requires code { (code ≡ 2) ⊎ ((code ≡ 3) ⊎ ((code ≡ 5) ⊎ ((code ≡ 6) ⊎ ((code ≡ 7) ⊎ ((8 ≤ code) × (code ≤ 10)))))) }
+    requires holds { length text.old ≤ meter.old.held }
+    requires room { meter.old.held + limits.scalar < 2 ^ 63 }
+    requires countable { meter.old.refused < 2 ^ 64 - 1 }
+    requires checked { limits.scalar ≤ 2 ^ 30 }
+    requires share { length text.old ≤ limits.scalar }
+    ensures gives { I.tells source.old.device → Answers (λ _. as_scalar text.new body.new) result (cursor I.rest source.new) place (body_here limits code count (cursor I.rest source.old)) }
+    ensures range { OnOk result (InRange (as_scalar text.new body.new)) }
+    ensures stands { OnOk result (Stands source.new) }
+    ensures moves { Moves I.rest I.tells source.old source.new }
+    ensures causes { ReadCauses (fault_of result) meter.old meter.new (I.failure_count source.old.device) (I.failure_count source.new.device) (Exceeds I.rest I.tells source.old) }
+    ensures charges { Charges meter.old meter.new (length text.old) (length text.new) limits.scalar }
+{
+    if limits.scalar < count {
+        return Err(Fault::Refused(Reason::ScalarLimit, place));
+    }
+    let count = count as usize;
+    if code < STRING && count <= source.buffer().len() {
+        return number_in_window(source, body, code, count, limits, place);
+    }
+    match gather(source, text, count, limits, meter) {
+        Err(fault) => return Err(fault),
+        Ok(false) => return Err(Fault::Refused(Reason::Truncated, place)),
+        Ok(true) => {}
+    }
+    if let Err(reason) = scalar(code, text.as_slice(), body) {
+        return Err(Fault::Refused(reason, place));
+    }
+    Ok(())
+}

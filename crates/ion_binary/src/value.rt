@@ -1,0 +1,179 @@
+//! A value behind its field, with its annotations.
+ghost use Rattle.std.specs.Prelude.{◌≡◌, ◌≢◌, ◌+◌, ◌*◌, ◌-◌, ◌^◌, ◌<◌, ◌≤◌, ℕ, List, [], length, Option, Some, None, Ok, Err, OnOk, IfSome};
+ghost use Rattle.ion_value.specs.Value.{SymbolAt};
+ghost use Rattle.ion_value.specs.Shares.{Charges, ReadCauses, fault_of};
+ghost use Rattle.ion_value.specs.Standing.{InRange};
+ghost use Rattle.ion_value.specs.declared.ion_type.Kind as kinds;
+ghost use Rattle.ion_binary.specs.Descriptor.{shape_of};
+ghost use Rattle.ion_binary.specs.Reading.{Frame, region_of, wrapper_length, inner_at, annotated_at, value_at};
+ghost use Rattle.ion_binary.specs.Bodies.{as_scalar};
+ghost use Rattle.ion_binary.specs.Parts.{cursor, Exceeds, Stands, Moves};
+ghost use Rattle.ion_binary.specs.Wrappers.{as_notes};
+ghost use Rattle.ion_binary.specs.Values.{GivesStep};
+
+use crate::body::Body;
+use crate::descriptor::Shape;
+use crate::found::{Around, Found, next_found};
+use crate::octets::next_octet;
+use crate::wrapper::{next_notes, next_wrapper};
+use ion_meter::buf::Buf;
+use ion_meter::device::Input;
+use ion_meter::fault::Fault;
+use ion_meter::limits::Limits;
+use ion_meter::meter::Meter;
+use ion_meter::source::Source;
+use ion_meter::stack::Stack;
+use ion_value::item::Annotation;
+use std::alloc::Allocator;
+
+// The length of the wrapper that a descriptor octet begins, in its low four bits.
+#[inline]
+fn wrapper_low(octet: u8) -> Option<u8>
+    ensures is { result ≡ wrapper_length (shape_of octet) }
+    ensures low { IfSome result (λ low. low < 15) }
+{
+    match Shape::of(octet) {
+        Shape::Wrapper(low) => Some(low),
+        _ => None,
+    }
+}
+
+// The value in a wrapper that ends at a place.
+fn next_inner<I: Input, A: Allocator + Copy>(
+    source: &mut Source<I, A>,
+    text: &mut Buf<A>,
+    body: &mut Body,
+    end: u64,
+    depth: u32,
+    limits: Limits,
+    meter: &mut Meter<A>,
+) -> Result<(Found, u64), Fault>
+    requires stands { Stands source.old }
+    requires holds { length text.old ≤ meter.old.held }
+    requires room { meter.old.held + limits.scalar < 2 ^ 63 }
+    requires countable { meter.old.refused < 2 ^ 64 - 1 }
+    requires checked { limits.scalar ≤ 2 ^ 30 }
+    requires share { length text.old ≤ limits.scalar }
+    ensures gives { I.tells source.old.device → (frames : List Frame) (top : ℕ) (f : Option SymbolAt) (notes : List SymbolAt) → length frames ≡ depth
+        → GivesStep frames top f notes text.new body.new result (cursor I.rest source.new) (inner_at limits frames top f notes end (cursor I.rest source.old)) }
+    ensures range { (place : ℕ) → result ≡ Ok (Found.Scalar, place) → InRange (as_scalar text.new body.new) }
+    ensures deep { (kind : kinds.Kind) (last place : ℕ) → result ≡ Ok (Found.Container kind last, place) → depth < limits.depth }
+    ensures no_marker { (place : ℕ) → result ≢ Ok (Found.Marker, place) }
+    ensures stands { OnOk result (Stands source.new) }
+    ensures further { OnOk result (source.old.place < source.new.place) }
+    ensures moves { Moves I.rest I.tells source.old source.new }
+    ensures causes { ReadCauses (fault_of result) meter.old meter.new (I.failure_count source.old.device) (I.failure_count source.new.device) (Exceeds I.rest I.tells source.old) }
+    ensures charges { Charges meter.old meter.new (length text.old) (length text.new) limits.scalar }
+{
+    let place = source.place();
+    let octet = match next_octet(source, Some(end), place) {
+        Err(fault) => return Err(fault),
+        Ok(octet) => octet,
+    };
+    let around = Around {
+        wrapped: true,
+        region: Some(end),
+        depth,
+    };
+    match next_found(source, text, body, octet, around, limits, place, meter) {
+        Err(fault) => Err(fault),
+        Ok(found) => Ok((found, place)),
+    }
+}
+
+// An annotation wrapper and its value, behind its descriptor octet.
+fn next_annotated<I: Input, A: Allocator + Copy>(
+    source: &mut Source<I, A>,
+    notes: &mut Stack<Annotation, A>,
+    text: &mut Buf<A>,
+    body: &mut Body,
+    low: u8,
+    region: Option<u64>,
+    depth: u32,
+    limits: Limits,
+    place: u64,
+    meter: &mut Meter<A>,
+) -> Result<(Found, u64), Fault>
+    requires stands { Stands source.old }
+    requires low { low < 15 }
+    requires none { notes.old ≡ [] }
+    requires holds { length text.old ≤ meter.old.held }
+    requires room { meter.old.held ≤ 2 ^ 62 + 2 ^ 32 }
+    requires countable { meter.old.refused < 2 ^ 64 - 1 }
+    requires checked { limits.scalar ≤ 2 ^ 30 }
+    requires share { length text.old ≤ limits.scalar }
+    ensures gives { I.tells source.old.device → (frames : List Frame) (top : ℕ) (f : Option SymbolAt) → region_of frames ≡ region → length frames ≡ depth
+        → GivesStep frames top f (as_notes notes.new) text.new body.new result (cursor I.rest source.new) (annotated_at limits frames top f place low (cursor I.rest source.old)) }
+    ensures range { (place : ℕ) → result ≡ Ok (Found.Scalar, place) → InRange (as_scalar text.new body.new) }
+    ensures deep { (kind : kinds.Kind) (last place : ℕ) → result ≡ Ok (Found.Container kind last, place) → depth < limits.depth }
+    ensures no_marker { (place : ℕ) → result ≢ Ok (Found.Marker, place) }
+    ensures stands { OnOk result (Stands source.new) }
+    ensures further { OnOk result (source.old.place < source.new.place) }
+    ensures moves { Moves I.rest I.tells source.old source.new }
+    ensures causes { ReadCauses (fault_of result) meter.old meter.new (I.failure_count source.old.device) (I.failure_count source.new.device) (Exceeds I.rest I.tells source.old) }
+    ensures charges { Charges meter.old meter.new (length text.old) (16 * length notes.new + length text.new) (2 * limits.scalar) }
+    ensures share { (16 * length notes.new ≤ limits.scalar) × (length text.new ≤ limits.scalar) }
+{
+    let wrapper = match next_wrapper(source, low, region, place) {
+        Err(fault) => return Err(fault),
+        Ok(wrapper) => wrapper,
+    };
+    if let Err(fault) = next_notes(source, notes, wrapper.ids, limits, meter) {
+        return Err(fault);
+    }
+    next_inner(source, text, body, wrapper.end, depth, limits, meter)
+}
+
+/// A value behind its field: what it is, and the place of its first octet behind its annotations.
+///
+/// Its annotations are put into `notes`, a scalar into `body`, and the bytes of a string or lob into
+/// `text`.
+pub(crate) fn next_value<I: Input, A: Allocator + Copy>(
+    source: &mut Source<I, A>,
+    notes: &mut Stack<Annotation, A>,
+    text: &mut Buf<A>,
+    body: &mut Body,
+    region: Option<u64>,
+    depth: u32,
+    limits: Limits,
+    meter: &mut Meter<A>,
+) -> Result<(Found, u64), Fault>
+    requires stands { Stands source.old }
+    requires none { notes.old ≡ [] }
+    requires holds { length text.old ≤ meter.old.held }
+    requires room { meter.old.held ≤ 2 ^ 62 + 2 ^ 32 }
+    requires countable { meter.old.refused < 2 ^ 64 - 1 }
+    requires checked { limits.scalar ≤ 2 ^ 30 }
+    requires share { length text.old ≤ limits.scalar }
+    ensures gives { I.tells source.old.device → (frames : List Frame) (top : ℕ) (f : Option SymbolAt) → region_of frames ≡ region → length frames ≡ depth
+        → GivesStep frames top f (as_notes notes.new) text.new body.new result (cursor I.rest source.new) (value_at limits frames top f (cursor I.rest source.old)) }
+    ensures range { (place : ℕ) → result ≡ Ok (Found.Scalar, place) → InRange (as_scalar text.new body.new) }
+    ensures deep { (kind : kinds.Kind) (last place : ℕ) → result ≡ Ok (Found.Container kind last, place) → depth < limits.depth }
+    ensures marker { (place : ℕ) → result ≡ Ok (Found.Marker, place) → (region ≡ None) × (notes.new ≡ []) }
+    ensures stands { OnOk result (Stands source.new) }
+    ensures further { OnOk result (source.old.place < source.new.place) }
+    ensures moves { Moves I.rest I.tells source.old source.new }
+    ensures causes { ReadCauses (fault_of result) meter.old meter.new (I.failure_count source.old.device) (I.failure_count source.new.device) (Exceeds I.rest I.tells source.old) }
+    ensures charges { Charges meter.old meter.new (length text.old) (16 * length notes.new + length text.new) (2 * limits.scalar) }
+    ensures share { (16 * length notes.new ≤ limits.scalar) × (length text.new ≤ limits.scalar) }
+{
+    let place = source.place();
+    let octet = match next_octet(source, region, place) {
+        Err(fault) => return Err(fault),
+        Ok(octet) => octet,
+    };
+    if let Some(low) = wrapper_low(octet) {
+        return next_annotated(
+            source, notes, text, body, low, region, depth, limits, place, meter,
+        );
+    }
+    let around = Around {
+        wrapped: false,
+        region,
+        depth,
+    };
+    match next_found(source, text, body, octet, around, limits, place, meter) {
+        Err(fault) => Err(fault),
+        Ok(found) => Ok((found, place)),
+    }
+}

@@ -1,0 +1,175 @@
+//! What stands before a value: a field in a struct, and an annotation wrapper (binary encoding,
+//! "13: struct" and "14: Annotations").
+ghost use Rattle.std.specs.Prelude.{◌≡◌, ◌||◌, nat_lt, nat_eq, nat_le, map, ◌+◌, ◌*◌, ◌-◌, ◌^◌, ◌<◌, ◌≤◌, [], length, Ok, Err, OnOk, IfOk, is_some};
+ghost use Rattle.ion_value.specs.Shares.{Charges, ReadCauses, fault_of};
+ghost use Rattle.ion_value.specs.Standing.{in_struct};
+ghost use Rattle.ion_binary.specs.Descriptor.{passes};
+ghost use Rattle.ion_binary.specs.Reading.{wrapper_at, ids_at, field_at};
+ghost use Rattle.ion_binary.specs.Parts.{cursor, Exceeds, Stands, Moves, Causes, Answers, AnswersAt};
+ghost use Rattle.ion_binary.specs.Wrappers.{as_wrapped, as_notes, as_field, innermost};
+
+use crate::body::id_of;
+use crate::octets::{next_length, next_var_uint};
+use ion_meter::device::Input;
+use ion_meter::fault::{Fault, Reason};
+use ion_meter::limits::Limits;
+use ion_meter::meter::Meter;
+use ion_meter::source::Source;
+use ion_meter::stack::Stack;
+use ion_value::ion_type::Kind;
+use ion_value::item::Annotation;
+use std::alloc::Allocator;
+
+/// An open container.
+#[derive(Clone, Copy, Debug, PartialEq, Eq)]
+pub(crate) struct Frame {
+    /// Its kind.
+    pub(crate) kind: Kind,
+    /// The place of its end.
+    pub(crate) end: u64,
+}
+
+/// The field of a struct's member.
+#[derive(Clone, Copy, Debug, PartialEq, Eq)]
+pub(crate) struct Field {
+    /// Its id, where 2^31 stands for every id above 2^31 - 1.
+    pub(crate) id: u32,
+    /// The place of its first octet.
+    pub(crate) place: u64,
+}
+
+/// An annotation wrapper, known by two places.
+#[derive(Clone, Copy, Debug, PartialEq, Eq)]
+pub(crate) struct Wrapper {
+    /// Where its annotations end and its value begins.
+    pub(crate) ids: u64,
+    /// Where it ends.
+    pub(crate) end: u64,
+}
+
+/// The field that stands before the next member of the innermost open container: none outside
+/// structs.
+pub(crate) fn next_field<I: Input, A: Allocator + Copy>(
+    source: &mut Source<I, A>,
+    frame: Option<Frame>,
+) -> Result<Option<Field>, Fault>
+    requires stands { Stands source.old }
+    ensures gives { I.tells source.old.device → Answers as_field result (cursor I.rest source.new) source.old.place (field_at (innermost frame) (cursor I.rest source.old)) }
+    ensures stands { OnOk result (Stands source.new) }
+    ensures moves { Moves I.rest I.tells source.old source.new }
+    ensures causes { Causes (fault_of result) (I.failure_count source.old.device) (I.failure_count source.new.device) (Exceeds I.rest I.tells source.old) }
+    ensures struct_alone { IfOk result (λ field. is_some field ≡ in_struct (map (λ f. f.kind) (innermost frame))) }
+{
+    let Some(frame) = frame else {
+        return Ok(None);
+    };
+    if frame.kind != Kind::Struct {
+        return Ok(None);
+    }
+    let place = source.place();
+    match next_var_uint(source, Some(frame.end), place) {
+        Err(fault) => Err(fault),
+        Ok(id) => Ok(Some(Field {
+            id: id_of(id),
+            place,
+        })),
+    }
+}
+
+// Whether so many octets from a place on pass the region's end.
+#[inline]
+fn passes_end(region: Option<u64>, here: u64, count: u64) -> bool
+    requires { here + count < 2 ^ 64 }
+    ensures { result ≡ passes region here count }
+{
+    region.is_some_and(|end| end < here + count)
+}
+
+// Whether a wrapper of these lengths may not be: it has fewer than three octets, no annotation, or
+// no octet for a value. `behind` is the place behind the length of its annotations.
+#[inline]
+fn is_no_wrapper(count: u64, ids: u64, behind: u64, end: u64) -> bool
+    requires { behind + ids < 2 ^ 64 }
+    ensures { result ≡ (nat_lt count 3 || nat_eq ids 0 || nat_le end (behind + ids)) }
+{
+    count < 3 || ids == 0 || end <= behind + ids
+}
+
+/// The lengths of an annotation wrapper behind its descriptor octet.
+///
+/// All their octets come first, those of the annotations' length within what the wrapper's own length
+/// says. Then `Overrun` where that passes the region, and `BadAnnotation` where the wrapper has fewer
+/// than three octets, no annotation, or no octet for a value.
+pub(crate) fn next_wrapper<I: Input, A: Allocator + Copy>(
+    source: &mut Source<I, A>,
+    low: u8,
+    region: Option<u64>,
+    place: u64,
+) -> Result<Wrapper, Fault>
+    requires stands { Stands source.old }
+    requires low { low < 15 }
+    ensures gives { I.tells source.old.device → Answers as_wrapped result (cursor I.rest source.new) place (wrapper_at region low (cursor I.rest source.old)) }
+    ensures stands { OnOk result (Stands source.new) }
+    ensures moves { Moves I.rest I.tells source.old source.new }
+    ensures causes { Causes (fault_of result) (I.failure_count source.old.device) (I.failure_count source.new.device) (Exceeds I.rest I.tells source.old) }
+{
+    let count = match next_length(source, low, region, place) {
+        Err(fault) => return Err(fault),
+        Ok(count) => count,
+    };
+    let here = source.place();
+    let end = here + count;
+    let ids = match next_var_uint(source, Some(end), place) {
+        Err(fault) => return Err(fault),
+        Ok(ids) => ids,
+    };
+    if passes_end(region, here, count) {
+        return Err(Fault::Refused(Reason::Overrun, place));
+    }
+    let behind = source.place();
+    if is_no_wrapper(count, ids, behind, end) {
+        return Err(Fault::Refused(Reason::BadAnnotation, place));
+    }
+    Ok(Wrapper {
+        ids: behind + ids,
+        end,
+    })
+}
+
+/// The annotations of a wrapper, up to the place where they end.
+///
+/// Each annotation is a part by itself. It answers `AnnotationLimit` at the one that passes the
+/// limit, each counting 16, and so never holds more than `limits.scalar`.
+pub(crate) fn next_notes<I: Input, A: Allocator + Copy>(
+    source: &mut Source<I, A>,
+    notes: &mut Stack<Annotation, A>,
+    end: u64,
+    limits: Limits,
+    meter: &mut Meter<A>,
+) -> Result<(), Fault>
+    requires stands { Stands source.old }
+    requires none { notes.old ≡ [] }
+    requires room { meter.old.held ≤ 2 ^ 62 + 2 ^ 32 }
+    requires countable { meter.old.refused < 2 ^ 64 - 1 }
+    requires checked { limits.scalar ≤ 2 ^ 30 }
+    ensures gives { I.tells source.old.device → AnswersAt (λ _. as_notes notes.new) result (cursor I.rest source.new) (ids_at end limits end 0 (cursor I.rest source.old)) }
+    ensures stands { OnOk result (Stands source.new) }
+    ensures moves { Moves I.rest I.tells source.old source.new }
+    ensures causes { ReadCauses (fault_of result) meter.old meter.new (I.failure_count source.old.device) (I.failure_count source.new.device) (Exceeds I.rest I.tells source.old) }
+    ensures charges { Charges meter.old meter.new 0 (16 * length notes.new) limits.scalar }
+{
+    while source.place() < end {
+        let place = source.place();
+        let id = match next_var_uint(source, Some(end), place) {
+            Err(fault) => return Err(fault),
+            Ok(id) => id_of(id),
+        };
+        if limits.scalar < 16 * (notes.as_slice().len() as u64 + 1) {
+            return Err(Fault::Refused(Reason::AnnotationLimit, place));
+        }
+        if let Err((_, fault)) = notes.push(meter, Annotation::Id { id, place }) {
+            return Err(fault);
+        }
+    }
+    Ok(())
+}

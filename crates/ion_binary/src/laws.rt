@@ -38,3 +38,19 @@ pub fn one_path()
 pub fn one_stream()
     ensures { OneStream }
 {}
+
+#[cfg(test)]
+mod tests {
+    use super::*;
+
+    #[test]
+    fn states_laws() {
+        bodies_are_read();
+        limits_only_cut_short();
+        what_is_read_is_spelled();
+        what_is_spelled_is_read();
+        streams_are_read();
+        one_path();
+        one_stream();
+    }
+}

@@ -72,6 +72,7 @@ fn uint_id(octets: &[u8]) -> u32
 
 // A number, a timestamp or a symbol of these octets.
 #[tactic(auto, unfolding(ion_value::specs::Scalar::scalar_of_body))]
+#[inline(always)]
 fn number(code: u8, octets: &[u8], body: &mut Body) -> Result<(), Reason>
     requires code { (code ≡ 2) ⊎ ((code ≡ 3) ⊎ ((code ≡ 5) ⊎ ((code ≡ 6) ⊎ (code ≡ 7)))) }
     ensures gives { MatchResult result (λ _. (text : List ℕ) → scalar_of_body code octets.now ≡ Ok (as_scalar text body.new)) (λ r. scalar_of_body code octets.now ≡ Err r) }
@@ -115,7 +116,7 @@ fn text_or_lob(code: u8, octets: &[u8], body: &mut Body) -> Result<(), Reason>
 }
 
 // A scalar of these octets.
-#[inline]
+#[inline(never)]
 fn scalar(code: u8, octets: &[u8], body: &mut Body) -> Result<(), Reason>
     requires code { (code ≡ 2) ⊎ ((code ≡ 3) ⊎ ((code ≡ 5) ⊎ ((code ≡ 6) ⊎ ((code ≡ 7) ⊎ ((8 ≤ code) × (code ≤ 10)))))) }
     ensures gives { MatchResult result (λ _. scalar_of_body code octets.now ≡ Ok (as_scalar octets.now body.new)) (λ r. scalar_of_body code octets.now ≡ Err r) }
@@ -195,7 +196,7 @@ fn gather<I: Input, A: Allocator + Copy>(
 }
 
 // A number, a timestamp or a symbol whose octets lie in the window.
-#[inline]
+#[inline(always)]
 fn number_in_window<I: Input, A: Allocator + Copy>(
     source: &mut Source<I, A>,
     body: &mut Body,
@@ -227,7 +228,7 @@ fn number_in_window<I: Input, A: Allocator + Copy>(
 /// whole in the window too. Answers `ScalarLimit`, then `Truncated` where the input ends before the
 /// body does, then what is wrong in the body.
 #[tactic(auto, unfolding(crate::specs::Parts::body_here))]
-#[inline]
+#[inline(always)]
 pub(crate) fn next_body<I: Input, A: Allocator + Copy>(
     source: &mut Source<I, A>,
     text: &mut Buf<A>,

@@ -232,7 +232,7 @@ fn next_sorted<I: Input, A: Allocator + Copy>(
 }
 
 // The rest of a scalar that has a body.
-#[inline]
+#[inline(always)]
 fn next_scalar<I: Input, A: Allocator + Copy>(
     source: &mut Source<I, A>,
     text: &mut Buf<A>,
@@ -271,6 +271,7 @@ fn next_scalar<I: Input, A: Allocator + Copy>(
 
 // What a shape begins.
 #[tactic(auto, unfolding(crate::specs::Reading::by_shape))]
+#[inline(always)]
 fn by_shape<I: Input, A: Allocator + Copy>(
     source: &mut Source<I, A>,
     text: &mut Buf<A>,
@@ -336,6 +337,7 @@ fn by_shape<I: Input, A: Allocator + Copy>(
 /// order, what a wrapper may not hold, lengths that do not end, a length above the region, a wrapped
 /// value that ends before its wrapper, too many open containers or too long a scalar, a body that
 /// the input cuts, and what is wrong in a body.
+#[inline(always)]
 pub(crate) fn next_found<I: Input, A: Allocator + Copy>(
     source: &mut Source<I, A>,
     text: &mut Buf<A>,

@@ -147,6 +147,7 @@ impl<I: Input, A: Allocator + Copy> BinReader<I, A> {
     }
 
     // Takes what was found at a place, with the field, annotations and scalar that were read.
+    #[inline(always)]
     fn take(&mut self, found: Found, place: u64, meter: &mut Meter<A>) -> Result<Taken, Fault>
         requires room { meter.old.held + 16 < 2 ^ 63 }
         requires countable { meter.old.refused < 2 ^ 64 - 1 }
@@ -175,6 +176,7 @@ impl<I: Input, A: Allocator + Copy> BinReader<I, A> {
     }
 
     // Reads the next member of the innermost open container, or a value at top level.
+    #[inline(always)]
     fn member(&mut self, frame: Option<Frame>, meter: &mut Meter<A>) -> Result<Taken, Fault>
         requires innermost { IsInnermost (as_frames self.old.frames) frame }
         requires cleared { self.old.notes ≡ [] }

@@ -128,6 +128,7 @@ fn next_annotated<I: Input, A: Allocator + Copy>(
 ///
 /// Its annotations are put into `notes`, a scalar into `body`, and the bytes of a string or lob into
 /// `text`.
+#[inline(always)]
 pub(crate) fn next_value<I: Input, A: Allocator + Copy>(
     source: &mut Source<I, A>,
     notes: &mut Stack<Annotation, A>,

@@ -49,6 +49,7 @@ pub(crate) struct Wrapper {
 
 /// The field that stands before the next member of the innermost open container: none outside
 /// structs.
+#[inline(always)]
 pub(crate) fn next_field<I: Input, A: Allocator + Copy>(
     source: &mut Source<I, A>,
     frame: Option<Frame>,

@@ -33,7 +33,7 @@ pub struct Decimal {
 /// Zeros at the front of the coefficient are allowed, in any number. It is a `BadVar` where the
 /// exponent is not ended by the end of the body or by the ninth octet, and out of `Range` where the
 /// coefficient has more than 128 bits or the exponent is outside 2^31 - 1.
-#[inline]
+#[inline(never)]
 pub fn decimal_from_bytes(body: &[u8]) -> Result<Decimal, Reason>
     ensures read { result ≡ decimal_of_bytes body.now }
     ensures valid { IfOk result IsDecimal }

@@ -48,7 +48,7 @@ pub(crate) fn uint_value(bytes: &[u8]) -> u128
 ///
 /// Zeros at the front of the magnitude are allowed, in any number. A magnitude past 128 bits is
 /// out of `Range`, and a negative zero is a `BadNumber`.
-#[inline]
+#[inline(always)]
 pub fn int_from_bytes(negative: bool, magnitude: &[u8]) -> Result<Int, Reason>
     ensures is { result ≡ int_of_bytes negative magnitude.now }
     ensures read { IfOk result (λ i. (i.negative ≡ negative) × (i.magnitude ≡ uint magnitude.now)) }

@@ -194,6 +194,7 @@ impl Timestamp {
 /// it is a `BadTimestamp` where the fields end before the year or behind the hour, where the calendar
 /// has no such date or the day no such time, where the fraction is below 0 or not below 1, where the
 /// offset has a day or more, and where the local year is not one of 1 to 9999.
+#[inline(never)]
 pub fn timestamp_from_bytes(body: &[u8]) -> Result<Timestamp, Reason>
     ensures read { result ≡ timestamp_of_bytes body.now }
     ensures valid { IfOk result IsTimestamp }

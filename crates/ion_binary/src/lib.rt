@@ -7,5 +7,7 @@ mod found;
 pub mod laws;
 mod octets;
 pub mod reader;
+#[cfg(test)]
+mod tests;
 mod value;
 mod wrapper;

@@ -1,0 +1,26 @@
+//! What the reader gives of worked streams, in whatever pieces they come, and how it ends.
+
+mod containers;
+mod drawn;
+mod endings;
+mod hex;
+mod long;
+mod mangling;
+mod narrowing;
+mod pieces;
+mod reading;
+mod scalars;
+mod streams;
+mod telling;
+mod wrappers;
+
+use ion_meter::limits::Limits;
+
+/// The limits of a run where nothing else is said.
+const LIMITS: Limits = Limits {
+    depth: 64,
+    scalar: 1_048_576,
+    symbols: 1_048_576,
+    value: 16_777_216,
+    input: 281_474_976_710_656,
+};

@@ -1,0 +1,86 @@
+//! Streams that are cut short or that have an octet replaced.
+
+use super::LIMITS;
+use super::hex::behind_marker;
+use super::pieces::Pieces;
+use super::reading::{Outcome, Row, expect_same, read};
+use ion_meter::fault::{Fault, Reason};
+use ion_meter::limits::Limits;
+use std::alloc::Global;
+use std::process::Abort;
+use std::test::Fail;
+
+// Asserts that a front of a stream gives a front of its items, and ends well only between values at
+// top level. Where such a value begins it ends well; else it is cut, or has the fault of the stream.
+fn expect_front(rt: &impl Abort, front: &Outcome, length: u64, whole: &Outcome) {
+    assert!(rt;
+        whole.items.as_str().starts_with(front.items.as_str()),
+        "{length}"
+    );
+    let next = whole.tops.as_slice().get(front.tops.len()).copied();
+    let begins = whole.tops.as_slice().contains(&length);
+    match front.ending {
+        Ok(()) => {
+            assert_eq!(rt; front.open, 0);
+            assert!(rt; next.is_none_or(|top| top >= length), "{length}");
+        }
+        Err(Fault::Refused(Reason::Truncated, place)) => {
+            assert!(rt; !begins && place <= length, "{length}");
+        }
+        fault => {
+            assert!(rt; !begins && fault == whole.ending, "{length}");
+        }
+    }
+}
+
+// Reads each front of these octets, in whatever pieces it comes.
+fn read_fronts(rt: &impl Abort, alloc: Global, limits: Limits, octets: &[u8]) -> Result<(), Fail> {
+    let whole = read(rt, alloc, limits, Pieces::whole(octets))?;
+    for length in 0..octets.len() {
+        let front = &octets[..length];
+        let outcome = read(rt, alloc, limits, Pieces::whole(front))?;
+        expect_front(rt, &outcome, length as u64, &whole);
+        expect_same(rt, alloc, limits, front, &outcome)?;
+    }
+    Ok(())
+}
+
+// Reads these octets with one of them replaced, in whatever pieces they come.
+fn read_replaced(
+    rt: &impl Abort,
+    alloc: Global,
+    limits: Limits,
+    octets: &mut [u8],
+) -> Result<(), Fail> {
+    for place in 0..octets.len() {
+        let octet = octets[place];
+        for other in [0x00, 0x7F, 0x80, 0xFF] {
+            octets[place] = other;
+            let whole = read(rt, alloc, limits, Pieces::whole(octets))?;
+            expect_same(rt, alloc, limits, octets, &whole)?;
+        }
+        octets[place] = octet;
+    }
+    Ok(())
+}
+
+/// Mangles these octets in each way.
+pub fn mangle(
+    rt: &impl Abort,
+    alloc: Global,
+    limits: Limits,
+    mut octets: Vec<u8>,
+) -> Result<(), Fail> {
+    read_fronts(rt, alloc, limits, octets.as_slice())?;
+    read_replaced(rt, alloc, limits, octets.as_mut_slice())
+}
+
+/// Mangles each row of these tables.
+pub fn mangle_tables(rt: &impl Abort, alloc: Global, tables: &[&[Row]]) -> Result<(), Fail> {
+    for rows in tables {
+        for (digits, _) in *rows {
+            mangle(rt, alloc, LIMITS, behind_marker(rt, alloc, digits)?)?;
+        }
+    }
+    Ok(())
+}

@@ -1,0 +1,149 @@
+-- The items of user values: symbols resolved, markers and declarations taken in.
+use Rattle.std.specs.Prelude.{ℕ, ◌+◌, ◌-◌, Bool, true, false, ◌&&◌, ◌==◌, if◌then◌else◌, List, [], ◌∷◌, Option, Some, None}
+use Rattle.ion_meter.specs.declared.fault.Reason.{Reason}
+use Rattle.ion_meter.specs.declared.fault.Reason.TheVariants.{BadSymbol, UnknownSymbol}
+use Rattle.ion_value.specs.declared.ion_type.Kind.TheVariants as kind
+use Rattle.ion_value.specs.Value as value
+use Rattle.ion_value.specs.Value.{Symbol, SymbolAt, Scalar, Head, PlacedItem}
+use Rattle.ion_value.specs.Items.{named_item}
+use Rattle.ion_value.specs.Reading.{Reading, Finished, Stopped, More, Step, Ends, Stops, Gives, GoesOn}
+use Rattle.ion_value.specs.Standing.{is_marker}
+use Rattle.ion_symbols.specs.declared.word.Word.{Word}
+use Rattle.ion_symbols.specs.declared.word.Word.TheVariants as word
+use Rattle.ion_symbols.specs.Table as slot
+use Rattle.ion_symbols.specs.Table.{Slot, Shared, Table, system, slot_of, text_at}
+use Rattle.ion_symbols.specs.Declaration as declaration
+use Rattle.ion_symbols.specs.Declaration.{Ground, Pending, Turn, start, turn, told, word_in}
+
+-- an item whose ids have the texts of a table
+abbrev pub resolve : Table → PlacedItem → PlacedItem
+resolve t i = named_item (text_at t) i
+
+-- ---- the symbols of an item, in order of place
+
+-- no fault, or the first
+pub data Checked : Type 0 where
+  fine : Checked
+  bad : Reason → ℕ → Checked
+
+-- a user value may not use an import slot without text
+abbrev pub slot_checked : Bool → ℕ → Slot → Checked
+slot_checked user place slot.above = bad BadSymbol place
+slot_checked user place slot.gap = if user then bad UnknownSymbol place else fine
+slot_checked user place slot.unknown = fine
+slot_checked user place (slot.known t) = fine
+
+abbrev pub symbol_checked : Table → Bool → ℕ → Symbol → Checked
+symbol_checked t user place (value.Text bytes) = fine
+symbol_checked t user place (value.Id id) = slot_checked user place (slot_of t id)
+
+abbrev pub or_else : Checked → Checked → Checked
+or_else fine c = c
+or_else (bad reason place) c = bad reason place
+
+abbrev pub at_checked : Table → Bool → SymbolAt → Checked
+at_checked t user s = symbol_checked t user s.place s.symbol
+
+abbrev pub field_checked : Table → Bool → Option SymbolAt → Checked
+field_checked t user None = fine
+field_checked t user (Some s) = at_checked t user s
+
+abbrev pub notes_checked : Table → Bool → List SymbolAt → Checked
+notes_checked t user [] = fine
+notes_checked t user (s ∷ ss) = or_else (at_checked t user s) (notes_checked t user ss)
+
+abbrev pub scalar_checked : Table → Bool → Scalar SymbolAt → Checked
+scalar_checked t user (value.null type) = fine
+scalar_checked t user (value.bool truth) = fine
+scalar_checked t user (value.int number) = fine
+scalar_checked t user (value.decimal number) = fine
+scalar_checked t user (value.timestamp moment) = fine
+scalar_checked t user (value.symbol s) = at_checked t user s
+scalar_checked t user (value.string bytes) = fine
+scalar_checked t user (value.clob bytes) = fine
+scalar_checked t user (value.blob bytes) = fine
+
+abbrev pub head_checked : Table → Bool → Head SymbolAt → Checked
+head_checked t user (value.whole body) = scalar_checked t user body
+head_checked t user (value.begin kind) = fine
+head_checked t user value.end = fine
+head_checked t user value.marker = fine
+
+abbrev pub checked : Table → Bool → PlacedItem → Checked
+checked t user i = or_else (field_checked t user i.field) (or_else (notes_checked t user i.annotations) (head_checked t user i.head))
+
+-- ---- the fold over the items of a stream
+
+-- so many containers of a user value are open, or a declaration is being read
+pub data Mode : Type 0 where
+  plain : ℕ → Mode
+  declaring : Pending → Mode
+
+pub record State : Type 0 where
+  pub table : Table
+  pub mode : Mode
+
+abbrev pub at_start : State
+at_start = record { table = system; mode = plain 0 }
+
+-- how many containers are open after an item
+abbrev pub level_after : ℕ → Head SymbolAt → ℕ
+level_after n (value.whole body) = n
+level_after n (value.begin kind) = n + 1
+level_after n value.end = n - 1
+level_after n value.marker = n
+
+abbrev pub is_struct : Head SymbolAt → Bool
+is_struct (value.begin kind.Struct) = true
+is_struct _ = false
+
+abbrev pub is_declaration : Word → Bool
+is_declaration word.Declaration = true
+is_declaration _ = false
+
+abbrev pub declares : Table → List SymbolAt → Bool
+declares t [] = false
+declares t (s ∷ ss) = is_declaration (word_in (text_at t) s.symbol)
+
+-- a struct at top level whose first annotation is `$ion_symbol_table`
+abbrev pub begins_declaration : Table → ℕ → PlacedItem → Bool
+begins_declaration t n i = (n == 0) && (is_struct i.head && declares t i.annotations)
+
+-- the symbols of an item first, then what it means
+abbrev pub after_check : Checked → Step State → Step State
+after_check fine s = s
+after_check (bad reason place) s = Stops reason place
+
+abbrev pub turned : Table → Turn → Step State
+turned t (declaration.on p) = GoesOn (record { table = t; mode = declaring p })
+turned t (declaration.made u) = GoesOn (record { table = u; mode = plain 0 })
+turned t (declaration.stop reason place) = Stops reason place
+
+abbrev pub plain_step : Table → ℕ → PlacedItem → Step State
+plain_step t n i =
+    if is_marker i.head then GoesOn (record { table = system; mode = plain 0 })
+    else if begins_declaration t n i then after_check (checked t false i) (GoesOn (record { table = t; mode = declaring start }))
+    else after_check (checked t true i) (Gives (resolve t i) (record { table = t; mode = plain (level_after n i.head) }))
+
+abbrev pub declaring_step : Ground → Pending → PlacedItem → Step State
+declaring_step g p i = after_check (checked g.old false i) (turned g.old (turn g p (told (text_at g.old) i)))
+
+abbrev pub mode_step : List Shared → ℕ → Table → PlacedItem → Mode → Step State
+mode_step catalog limit t i (plain n) = plain_step t n i
+mode_step catalog limit t i (declaring p) = declaring_step (record { catalog = catalog; limit = limit; old = t }) p i
+
+-- what a raw item comes to
+abbrev pub user_step : List Shared → ℕ → State → PlacedItem → Step State
+user_step catalog limit s i = mode_step catalog limit s.table i s.mode
+
+abbrev pub by_step : Step State → (State → Reading) → Reading
+by_step Ends later = Finished
+by_step (Stops reason place) later = Stopped reason place
+by_step (Gives item after) later = More item (later after)
+by_step (GoesOn after) later = later after
+
+-- the items of user values of a raw reading: its own fault comes after those of the items before it
+abbrev pub users : List Shared → ℕ → State → Reading → Reading
+users catalog limit s Finished = Finished
+users catalog limit s (Stopped reason place) = Stopped reason place
+users catalog limit s (More i rest) = by_step (user_step catalog limit s i) (λ t. users catalog limit t rest)

@@ -1,5 +1,5 @@
 -- The next table of a declaration, item by item, with every fault.
-use Rattle.std.specs.Prelude.{ℕ, zero, suc, ◌+◌, ◌-◌, max, Bool, true, false, ◌&&◌, nat_le, if◌then◌else◌, List, [], ◌∷◌, ◌++◌, length, Option, Some, None, codes}
+use Rattle.std.specs.Prelude.{ℕ, zero, suc, ◌+◌, ◌-◌, max, Bool, true, false, ◌&&◌, nat_le, if◌then◌else◌, List, [], ◌∷◌, ◌++◌, length, Option, Some, None, Result, Ok, Err, codes}
 use Rattle.std.specs.Str.{bytes_eq}
 use Rattle.ion_meter.specs.declared.fault.Reason.{Reason}
 use Rattle.ion_meter.specs.declared.fault.Reason.TheVariants.{BadTable, SymbolLimit}
@@ -65,7 +65,7 @@ head_told texts value.marker = other
 abbrev pub told : (ℕ → Option (List ℕ)) → PlacedItem → Told
 told texts i = record { field = field_word texts i.field; field_place = place_in i.field; what = head_told texts i.head; place = i.place }
 
--- ---- the pending table, and where in its declaration the reading is
+-- ---- the pending table
 
 -- the import that is being read; an empty name is none
 pub record Entry : Type 0 where
@@ -77,12 +77,9 @@ pub record Entry : Type 0 where
   pub max_id : Option ℕ
   pub place : ℕ
 
--- what of the declaration is being read, and how many containers are open in it that mean nothing; which fields have been met, and whether the
--- present table is kept; the pending imports and slots, what is counted for them with the kept table and the name being read, and how many
--- slots they are with the kept table
+-- which fields have been met, and whether the present table is kept; the imports and slots so far; what is counted for them, for the kept table
+-- and for the name of the import being read; how many slots they are with the kept table
 pub record Pending : Type 0 where
-  pub area : Area
-  pub inside : ℕ
   pub has_imports : Bool
   pub has_symbols : Bool
   pub keeps : Bool
@@ -95,8 +92,8 @@ pub record Pending : Type 0 where
 abbrev pub new_entry : ℕ → Entry
 new_entry place = record { has_name = false; has_version = false; has_max = false; name = []; version = 1; max_id = None; place = place }
 
-abbrev pub start : Pending
-start = record { area = area.Fields; inside = 0; has_imports = false; has_symbols = false; keeps = false; imports = []; locals = []; cost = 0; count = 0; entry = new_entry 0 }
+abbrev pub nothing_yet : Pending
+nothing_yet = record { has_imports = false; has_symbols = false; keeps = false; imports = []; locals = []; cost = 0; count = 0; entry = new_entry 0 }
 
 -- what a declaration is read by: the catalogue, the limit of costs, and the table before it
 pub record Ground : Type 0 where
@@ -104,27 +101,16 @@ pub record Ground : Type 0 where
   pub limit : ℕ
   pub old : Table
 
--- an item leaves a pending table, or ends the declaration, or is refused
-pub data Turn : Type 0 where
-  on : Pending → Turn
-  made : Table → Turn
-  stop : Reason → ℕ → Turn
+-- a pending table, or a reason and a place
+abbrev pub Held : Type 0
+Held = Result Pending (Reason × ℕ)
 
 -- so much is counted at a place
-abbrev pub counted : ℕ → ℕ → ℕ → ℕ → Pending → Turn
+abbrev pub counted : ℕ → ℕ → ℕ → ℕ → Pending → Held
 counted limit place cost count p =
     if nat_le (p.cost + cost) limit && nat_le (p.count + count) most_slots
-    then on (record p { cost = p.cost + cost; count = p.count + count })
-    else stop SymbolLimit place
-
--- what means nothing is passed over
-abbrev pub passed : What → Pending → Pending
-passed (begins k) p = record p { inside = p.inside + 1 }
-passed ends p = record p { inside = p.inside - 1 }
-passed other p = p
-passed (string t) p = p
-passed (int negative n) p = p
-passed (names w) p = p
+    then Ok (record p { cost = p.cost + cost; count = p.count + count })
+    else Err (SymbolLimit, place)
 
 -- the table that a declaration leaves: behind the present one where that is kept
 abbrev pub next : Table → Pending → Table
@@ -132,70 +118,36 @@ next old p =
     if p.keeps then record { imports = old.imports; locals = old.locals ++ p.locals }
     else record { imports = p.imports; locals = p.locals }
 
--- ---- fields of the declaration
+-- a field of the declaration: `imports` and `symbols` stand once
+abbrev pub field_met : ℕ → Word → Pending → Held
+field_met place word.Imports p = if p.has_imports then Err (BadTable, place) else Ok (record p { has_imports = true })
+field_met place word.Symbols p = if p.has_symbols then Err (BadTable, place) else Ok (record p { has_symbols = true })
+field_met place _ p = Ok p
 
-abbrev pub imports_value : Ground → ℕ → What → Pending → Turn
-imports_value g place (begins kind.List) p = on (record p { area = area.Imports })
-imports_value g place (names word.Declaration) p = counted g.limit place (table_cost g.old) (count_of g.old) (record p { keeps = true })
-imports_value g place what p = on (passed what p)
+-- the present table is kept
+abbrev pub keeping : Ground → ℕ → Pending → Held
+keeping g place p = counted g.limit place (table_cost g.old) (count_of g.old) (record p { keeps = true })
 
-abbrev pub symbols_value : What → Pending → Turn
-symbols_value (begins kind.List) p = on (record p { area = area.Symbols })
-symbols_value what p = on (passed what p)
+-- a slot more
+abbrev pub with_slot : Ground → ℕ → Option (List ℕ) → Pending → Held
+with_slot g place text p = counted g.limit place (16 + text_length text) 1 (record p { locals = p.locals ++ text ∷ [] })
 
-abbrev pub field_turn : Ground → Told → Pending → Word → Turn
-field_turn g t p word.Imports = if p.has_imports then stop BadTable t.field_place else imports_value g t.place t.what (record p { has_imports = true })
-field_turn g t p word.Symbols = if p.has_symbols then stop BadTable t.field_place else symbols_value t.what (record p { has_symbols = true })
-field_turn g t p word.Name = on (passed t.what p)
-field_turn g t p word.Version = on (passed t.what p)
-field_turn g t p word.MaxId = on (passed t.what p)
-field_turn g t p word.Declaration = on (passed t.what p)
-field_turn g t p word.Other = on (passed t.what p)
+-- a field of an import: `name`, `version` and `max_id` stand once
+abbrev pub part_met : ℕ → Word → Pending → Held
+part_met place word.Name p = if p.entry.has_name then Err (BadTable, place) else Ok (record p { entry = record p.entry { has_name = true } })
+part_met place word.Version p = if p.entry.has_version then Err (BadTable, place) else Ok (record p { entry = record p.entry { has_version = true } })
+part_met place word.MaxId p = if p.entry.has_max then Err (BadTable, place) else Ok (record p { entry = record p.entry { has_max = true } })
+part_met place _ p = Ok p
 
--- ---- elements of `symbols`: a string is a text, and anything else a slot of unknown text
+-- the name of an import is counted while the import is read
+abbrev pub named : Ground → ℕ → List ℕ → Pending → Held
+named g place t p = counted g.limit place (length t) 0 (record p { entry = record p.entry { name = t } })
 
-abbrev pub text_told : What → Option (List ℕ)
-text_told (string t) = Some t
-text_told (begins k) = None
-text_told ends = None
-text_told other = None
-text_told (int negative n) = None
-text_told (names w) = None
+abbrev pub versioned : ℕ → Pending → Pending
+versioned n p = record p { entry = record p.entry { version = n } }
 
-abbrev pub element_turn : Ground → Told → Pending → Turn
-element_turn g t p = counted g.limit t.place (16 + text_length (text_told t.what)) 1 (passed t.what (record p { locals = p.locals ++ text_told t.what ∷ [] }))
-
--- ---- imports
-
-abbrev pub imports_turn : Told → Pending → What → Turn
-imports_turn t p ends = on (record p { area = area.Fields })
-imports_turn t p (begins kind.Struct) = on (record p { area = area.Import; entry = new_entry t.place })
-imports_turn t p what = on (passed what p)
-
-abbrev pub name_turn : Ground → ℕ → Pending → What → Turn
-name_turn g place p (string t) = counted g.limit place (length t) 0 (record p { entry = record p.entry { has_name = true; name = t } })
-name_turn g place p what = on (passed what (record p { entry = record p.entry { has_name = true } }))
-
-abbrev pub version_told : What → ℕ
-version_told (int false n) = max n 1
-version_told what = 1
-
-abbrev pub max_told : What → Option ℕ
-max_told (int false n) = Some n
-max_told what = None
-
-abbrev pub part_turn : Ground → Told → Pending → Word → Turn
-part_turn g t p word.Name = if p.entry.has_name then stop BadTable t.field_place else name_turn g t.place p t.what
-part_turn g t p word.Version =
-    if p.entry.has_version then stop BadTable t.field_place
-    else on (passed t.what (record p { entry = record p.entry { has_version = true; version = version_told t.what } }))
-part_turn g t p word.MaxId =
-    if p.entry.has_max then stop BadTable t.field_place
-    else on (passed t.what (record p { entry = record p.entry { has_max = true; max_id = max_told t.what } }))
-part_turn g t p word.Imports = on (passed t.what p)
-part_turn g t p word.Symbols = on (passed t.what p)
-part_turn g t p word.Declaration = on (passed t.what p)
-part_turn g t p word.Other = on (passed t.what p)
+abbrev pub cut_to : Option ℕ → Pending → Pending
+cut_to most p = record p { entry = record p.entry { max_id = most } }
 
 -- an import without a name, or of the system table, means nothing
 abbrev pub is_ignored : List ℕ → Bool
@@ -222,38 +174,107 @@ abbrev pub import_of : List Shared → List ℕ → ℕ → Option ℕ → Optio
 import_of catalog name version None = whole_import (find catalog name version)
 import_of catalog name version (Some count) = Some (record { slots = slots_found (or_greatest catalog name (find catalog name version)); count = count })
 
-abbrev pub import_turn : Ground → Pending → Option Import → Turn
-import_turn g p None = stop BadTable p.entry.place
-import_turn g p (Some i) = counted g.limit p.entry.place 32 i.count (record p { imports = p.imports ++ i ∷ []; entry = record p.entry { name = [] } })
+abbrev pub nameless : Pending → Pending
+nameless p = record p { entry = record p.entry { name = [] } }
+
+abbrev pub with_import : Ground → Pending → Option Import → Held
+with_import g p None = Err (BadTable, p.entry.place)
+with_import g p (Some i) = counted g.limit p.entry.place 32 i.count (nameless (record p { imports = p.imports ++ i ∷ [] }))
 
 -- an import's struct ends: its name is given back first
 abbrev pub given_back : Pending → Pending
-given_back p = record p { area = area.Imports; cost = p.cost - length p.entry.name }
+given_back p = record p { cost = p.cost - length p.entry.name }
 
-abbrev pub entry_turn : Ground → Pending → Turn
-entry_turn g p =
-    if is_ignored p.entry.name then on (record p { entry = record p.entry { name = [] } })
-    else import_turn g p (import_of g.catalog p.entry.name p.entry.version p.entry.max_id)
+abbrev pub import_ended : Ground → Pending → Held
+import_ended g p =
+    if is_ignored p.entry.name then Ok (nameless (given_back p))
+    else with_import g (given_back p) (import_of g.catalog p.entry.name p.entry.version p.entry.max_id)
 
--- ---- an item of the declaration
+-- ---- item by item
+
+-- what of the declaration is being read, and how many containers are open in it that mean nothing
+pub record Declaring : Type 0 where
+  pub area : Area
+  pub inside : ℕ
+  pub pending : Pending
+
+abbrev pub at : Area → Pending → Declaring
+at area p = record { area = area; inside = 0; pending = p }
+
+abbrev pub start : Declaring
+start = at area.Fields nothing_yet
+
+-- an item goes on, or ends the declaration, or is refused
+pub data Turn : Type 0 where
+  on : Declaring → Turn
+  made : Table → Turn
+  stop : Reason → ℕ → Turn
+
+abbrev pub held : Held → (Pending → Turn) → Turn
+held (Ok p) later = later p
+held (Err why) later = stop why.0 why.1
+
+-- what means nothing is passed over
+abbrev pub passed : What → Declaring → Declaring
+passed (begins k) d = record d { inside = d.inside + 1 }
+passed ends d = record d { inside = d.inside - 1 }
+passed other d = d
+passed (string t) d = d
+passed (int negative n) d = d
+passed (names w) d = d
+
+abbrev pub field_value : Ground → ℕ → Word → What → Pending → Turn
+field_value g place word.Imports (begins kind.List) p = on (at area.Imports p)
+field_value g place word.Imports (names word.Declaration) p = held (keeping g place p) (λ q. on (at area.Fields q))
+field_value g place word.Symbols (begins kind.List) p = on (at area.Symbols p)
+field_value g place _ what p = on (passed what (at area.Fields p))
+
+abbrev pub field_turn : Ground → Told → Pending → Turn
+field_turn g t p = held (field_met t.field_place t.field p) (λ q. field_value g t.place t.field t.what q)
+
+-- an element of `symbols`: a string is a text, and anything else a slot of unknown text
+abbrev pub text_told : What → Option (List ℕ)
+text_told (string t) = Some t
+text_told _ = None
+
+abbrev pub element_turn : Ground → Told → Pending → Turn
+element_turn g t p = held (with_slot g t.place (text_told t.what) p) (λ q. on (passed t.what (at area.Symbols q)))
+
+abbrev pub imports_turn : Told → Pending → What → Turn
+imports_turn t p ends = on (at area.Fields p)
+imports_turn t p (begins kind.Struct) = on (at area.Import (record p { entry = new_entry t.place }))
+imports_turn t p what = on (passed what (at area.Imports p))
+
+abbrev pub version_told : What → ℕ
+version_told (int false n) = max n 1
+version_told _ = 1
+
+abbrev pub max_told : What → Option ℕ
+max_told (int false n) = Some n
+max_told _ = None
+
+abbrev pub part_value : Ground → ℕ → Word → What → Pending → Turn
+part_value g place word.Name (string t) p = held (named g place t p) (λ q. on (at area.Import q))
+part_value g place word.Version what p = on (passed what (at area.Import (versioned (version_told what) p)))
+part_value g place word.MaxId what p = on (passed what (at area.Import (cut_to (max_told what) p)))
+part_value g place _ what p = on (passed what (at area.Import p))
+
+abbrev pub part_turn : Ground → Told → Pending → Turn
+part_turn g t p = held (part_met t.field_place t.field p) (λ q. part_value g t.place t.field t.what q)
 
 abbrev pub is_end : What → Bool
 is_end ends = true
-is_end (begins k) = false
-is_end other = false
-is_end (string t) = false
-is_end (int negative n) = false
-is_end (names w) = false
+is_end _ = false
 
 abbrev pub area_turn : Ground → Told → Pending → Area → Turn
-area_turn g t p area.Fields = if is_end t.what then made (next g.old p) else field_turn g t p t.field
-area_turn g t p area.Symbols = if is_end t.what then on (record p { area = area.Fields }) else element_turn g t p
+area_turn g t p area.Fields = if is_end t.what then made (next g.old p) else field_turn g t p
+area_turn g t p area.Symbols = if is_end t.what then on (at area.Fields p) else element_turn g t p
 area_turn g t p area.Imports = imports_turn t p t.what
-area_turn g t p area.Import = if is_end t.what then entry_turn g (given_back p) else part_turn g t p t.field
+area_turn g t p area.Import = if is_end t.what then held (import_ended g p) (λ q. on (at area.Imports q)) else part_turn g t p
 
-abbrev pub turn_at : Ground → Pending → Told → ℕ → Turn
-turn_at g p t zero = area_turn g t p p.area
-turn_at g p t (suc n) = on (passed t.what p)
+abbrev pub turn_at : Ground → Declaring → Told → ℕ → Turn
+turn_at g d t zero = area_turn g t d.pending d.area
+turn_at g d t (suc n) = on (passed t.what d)
 
-abbrev pub turn : Ground → Pending → Told → Turn
-turn g p t = turn_at g p t p.inside
+abbrev pub turn : Ground → Declaring → Told → Turn
+turn g d t = turn_at g d t d.inside

@@ -1,3 +1,11 @@
 pub mod Table
 pub mod Declaration
 pub mod Users
+pub mod Tree
+pub mod Output
+pub mod Laws
+pub mod Kept
+pub mod Present
+pub mod Buffer
+pub mod User
+pub mod Ordered

@@ -13,7 +13,7 @@ use Rattle.ion_symbols.specs.declared.word.Word.TheVariants as word
 use Rattle.ion_symbols.specs.Table as slot
 use Rattle.ion_symbols.specs.Table.{Slot, Shared, Table, system, slot_of, text_at}
 use Rattle.ion_symbols.specs.Declaration as declaration
-use Rattle.ion_symbols.specs.Declaration.{Ground, Pending, Turn, start, turn, told, word_in}
+use Rattle.ion_symbols.specs.Declaration.{Ground, Declaring, Turn, start, turn, told, word_in}
 
 -- an item whose ids have the texts of a table
 abbrev pub resolve : Table → PlacedItem → PlacedItem
@@ -77,7 +77,7 @@ checked t user i = or_else (field_checked t user i.field) (or_else (notes_checke
 -- so many containers of a user value are open, or a declaration is being read
 pub data Mode : Type 0 where
   plain : ℕ → Mode
-  declaring : Pending → Mode
+  declaring : Declaring → Mode
 
 pub record State : Type 0 where
   pub table : Table
@@ -115,7 +115,7 @@ after_check fine s = s
 after_check (bad reason place) s = Stops reason place
 
 abbrev pub turned : Table → Turn → Step State
-turned t (declaration.on p) = GoesOn (record { table = t; mode = declaring p })
+turned t (declaration.on d) = GoesOn (record { table = t; mode = declaring d })
 turned t (declaration.made u) = GoesOn (record { table = u; mode = plain 0 })
 turned t (declaration.stop reason place) = Stops reason place
 
@@ -125,12 +125,12 @@ plain_step t n i =
     else if begins_declaration t n i then after_check (checked t false i) (GoesOn (record { table = t; mode = declaring start }))
     else after_check (checked t true i) (Gives (resolve t i) (record { table = t; mode = plain (level_after n i.head) }))
 
-abbrev pub declaring_step : Ground → Pending → PlacedItem → Step State
-declaring_step g p i = after_check (checked g.old false i) (turned g.old (turn g p (told (text_at g.old) i)))
+abbrev pub declaring_step : Ground → Declaring → PlacedItem → Step State
+declaring_step g d i = after_check (checked g.old false i) (turned g.old (turn g d (told (text_at g.old) i)))
 
 abbrev pub mode_step : List Shared → ℕ → Table → PlacedItem → Mode → Step State
 mode_step catalog limit t i (plain n) = plain_step t n i
-mode_step catalog limit t i (declaring p) = declaring_step (record { catalog = catalog; limit = limit; old = t }) p i
+mode_step catalog limit t i (declaring d) = declaring_step (record { catalog = catalog; limit = limit; old = t }) d i
 
 -- what a raw item comes to
 abbrev pub user_step : List Shared → ℕ → State → PlacedItem → Step State

@@ -2,4 +2,16 @@
 //! the reader of user values, and the table of an output.
 #![tactic(auto)]
 
+pub mod buffer;
+pub mod catalog;
+mod checks;
+mod declaration;
+pub mod laws;
+pub mod output;
+pub mod search;
+pub mod shared;
+mod slots;
+pub mod symbols;
+mod told;
+pub mod user;
 mod word;

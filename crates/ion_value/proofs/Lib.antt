@@ -20,7 +20,7 @@ pub mod TextKinds
 pub mod Rows
 pub mod Readings
 pub mod Paths
-mod Items
+pub mod Items
 mod Outcomes
 mod Small
 mod Holding

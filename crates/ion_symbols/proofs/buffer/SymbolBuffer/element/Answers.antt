@@ -1,0 +1,25 @@
+use Rattle.std.proofs.Common.{◌+◌, ◌≤◌, Some, None, arith}
+use Rattle.ion_symbols.specs.Table.{most_slots}
+use Rattle.ion_symbols.proofs.Pendings.{slot_pushed}
+use Rattle.ion_symbols.proofs.buffer.SymbolBuffer.element.Goals as goal
+use Rattle.ion_symbols.proofs.buffer.SymbolBuffer.element.Goals.{in-Text-what+in_ok-push_text-in-Text-what, in_default-what+in_ok-push_none-in_default-what}
+
+pub returns-clause-pending : goal.returns-clause-pending
+returns-clause-pending g c =
+    let b = c.args.self.now in
+    let m = c.match-told-2.self in
+    let n = c.pass.new.self in
+    let cost = 16 + c.match-told.length in
+    let p = c.requires.pending in
+    let at = c.requires.within.0 in
+    let kept = c.pass.ensures.kept in
+    let cheap : b.cost + cost ≤ c.args.limit = grind arith in
+    let few : b.count + 1 ≤ most_slots = grind arith in
+    elim c.match-told-2.branch [
+      | in-Text-what+in_ok-push_text-in-Text-what w ↦
+          slot_pushed b m n (Some w.in-Text-what.text.now) cost w.push_text.new.self p at w.self-is
+          w.in_ok-push_text-in-Text-what.ensures.ok kept (grind arith) cheap few
+      | in_default-what+in_ok-push_none-in_default-what w ↦
+          slot_pushed b m n None cost w.push_none.new.self p at w.self-is
+          w.in_ok-push_none-in_default-what.ensures.ok kept (grind arith) cheap few
+    ]

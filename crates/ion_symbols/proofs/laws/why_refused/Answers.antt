@@ -1,0 +1,5 @@
+use Rattle.ion_symbols.proofs.Said.{why_it_is_refused}
+use Rattle.ion_symbols.proofs.laws.why_refused.Goals as goal
+
+pub returns : goal.returns
+returns c = why_it_is_refused

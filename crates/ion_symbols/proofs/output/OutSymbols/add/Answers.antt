@@ -1,0 +1,59 @@
+use Rattle.std.proofs.Common.{◌+◌, length, ap, ◌∙◌, sym}
+use Rattle.std.proofs.lemmas.List.{length-map}
+use Rattle.ion_symbols.specs.Output.{Output}
+use Rattle.ion_symbols.proofs.Adding.{nothing_charged, share_kept, belongs_kept, place_within, ordered_push, share_push, few_push, texts_pushed, given_push, charges_push, held_push}
+use Rattle.ion_symbols.proofs.output.OutSymbols.add.Goals as goal
+
+pub returns-then-length-self-clause-charges : goal.returns-then-length-self-clause-charges
+returns-then-length-self-clause-charges g c =
+    nothing_charged _ _ _ (share_kept c.self.inside.bytes c.self.inside.places.items c.self.inside.order.items c.args.self.now.texts c.self.inside.places.cost c.self.inside.order.cost c.self.inside.limit c.args.self.now.limit
+    c.self.invariant.0 c.self.invariant.1 (ap (λ (s : Output). s.texts) c.self.view_is) (ap (λ (s : Output). s.limit) c.self.view_is))
+
+pub insert-requires-clause-within : goal.insert-requires-clause-within
+insert-requires-clause-within g c =
+    place_within _ _ _ _ _ (belongs_kept c.self.inside.bytes c.self.inside.places.items c.self.inside.order.items c.args.self.now.texts c.args.text.now c.args.place c.self.invariant.0 (ap (λ (s : Output). s.texts) c.self.view_is) c.requires.belongs)
+
+pub pop-last-requires : goal.pop-last-requires
+pop-last-requires g c =
+    let t = ap (λ (s : Output). s.texts) c.self.view_is in
+    held_push c.self.inside.bytes c.self.inside.places.items c.push.new.self.items _ c.self.inside.order.items c.args.self.now.texts c.args.meter.now c.extend.new.meter c.push.new.meter
+    (length c.args.text.now) c.self.inside.places.cost c.push.new.self.cost c.insert.new.meter.held
+    c.self.invariant.0 t c.in_default.ensures.ok c.requires.held c.in_ok-extend.ensures.cost c.in_default.ensures.cost c.self.invariant.1.place_cost c.push.ensures.same_cost c.in-Err-insert.ensures.refused.held
+
+pub invariant_of-self-in_default-insert : goal.invariant_of-self-in_default-insert
+invariant_of-self-in_default-insert g c =
+    let t = ap (λ (s : Output). s.texts) c.self.view_is in
+    let b = belongs_kept c.self.inside.bytes c.self.inside.places.items c.self.inside.order.items c.args.self.now.texts c.args.text.now c.args.place c.self.invariant.0 t c.requires.belongs in
+    let share = share_push c.self.inside.bytes c.extend.new.self c.args.text.now c.self.inside.places.items c.push.new.self.items _ c.self.inside.order.items c.args.self.now.texts c.cost.result c.self.inside.limit
+    c.self.invariant.0 t c.in_ok-extend.ensures.ok c.in_default.ensures.ok c.cost.ensures c.if-cost-length.false in
+    let few = few_push c.extend.new.self c.self.inside.places.items c.push.new.self.items _ c.self.inside.limit c.in_default.ensures.ok share c.self.invariant.1.most in
+    let from = ap length c.as_slice-from.ensures in
+    let n = ap length c.as_slice-id.ensures in (
+      ordered_push c.self.inside.bytes c.extend.new.self c.args.text.now c.self.inside.places.items c.push.new.self.items _ c.self.inside.order.items c.insert.new.self.items c.args.place (length c.as_slice-id.result.now)
+          c.self.invariant.0 b c.in_ok-extend.ensures.ok c.in_default.ensures.ok c.in_default-insert.ensures.ok n from (ap (λ k. k + length c.args.text.now) from) few,
+      record {
+        place_cost = c.push.ensures.same_cost ∙ c.self.invariant.1.place_cost;
+        id_cost = c.insert.ensures.same_cost ∙ c.self.invariant.1.id_cost;
+        share = share;
+        most = c.self.invariant.1.most;
+      },
+    )
+
+pub returns-clause-gives : goal.returns-clause-gives
+returns-clause-gives g c =
+    let t = ap (λ (s : Output). s.texts) c.self.view_is in
+    let from = ap length c.as_slice-from.ensures in
+    let n = ap length c.as_slice-id.ensures in
+    let more = texts_pushed c.self.inside.bytes c.extend.new.self c.args.text.now c.self.inside.places.items c.push.new.self.items _ c.self.inside.order.items c.args.self.now.texts
+    c.self.invariant.0 t c.in_ok-extend.ensures.ok c.in_default.ensures.ok from (ap (λ k. k + length c.args.text.now) from) in
+    given_push c.self.inside.limit c.args.self.now.limit c.args.self.now.texts _ c.args.text.now (length c.as_slice-id.result.now) c.cost.result
+    c.requires.new (ap (λ (s : Output). s.limit) c.self.view_is) c.cost.ensures c.if-cost-length.false (n ∙ (sym (length-map c.self.inside.places.items _) ∙ ap length t)) more
+
+pub returns-clause-charges : goal.returns-clause-charges
+returns-clause-charges g c =
+    let t = ap (λ (s : Output). s.texts) c.self.view_is in
+    let from = ap length c.as_slice-from.ensures in
+    let more = texts_pushed c.self.inside.bytes c.extend.new.self c.args.text.now c.self.inside.places.items c.push.new.self.items _ c.self.inside.order.items c.args.self.now.texts
+    c.self.invariant.0 t c.in_ok-extend.ensures.ok c.in_default.ensures.ok from (ap (λ k. k + length c.args.text.now) from) in
+    charges_push c.args.meter.now c.extend.new.meter c.push.new.meter c.insert.new.meter c.self.inside.limit c.args.self.now.limit c.args.self.now.texts _ c.args.text.now c.self.inside.places.cost c.self.inside.order.cost c.cost.result
+    c.in_ok-extend.ensures.cost c.in_default.ensures.cost c.in_default-insert.ensures.cost c.self.invariant.1.place_cost c.self.invariant.1.id_cost c.requires.held (ap (λ (s : Output). s.limit) c.self.view_is) c.cost.ensures c.if-cost-length.false more

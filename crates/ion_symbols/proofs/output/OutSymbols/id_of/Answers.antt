@@ -1,0 +1,32 @@
+use Rattle.std.proofs.Common.{ap}
+use Rattle.ion_symbols.specs.Output.{Output}
+use Rattle.ion_symbols.proofs.Finding.{searched, found_within, not_known, belongs_sorted, found_given, found_charges}
+use Rattle.ion_symbols.proofs.output.OutSymbols.id_of.Goals as goal
+
+pub returns-in-Some-clause-charges : goal.returns-in-Some-clause-charges
+returns-in-Some-clause-charges g c =
+    found_charges _ _ _ _ _ _ _ _ _ c.self.invariant.0 c.self.invariant.1 (ap (λ (s : Output). s.texts) c.self.view_is) (ap (λ (s : Output). s.limit) c.self.view_is)
+
+pub bounds-as_slice-place : goal.bounds-as_slice-place
+bounds-as_slice-place g c =
+    let n = searched _ _ _ _ _ _ _ c.as_slice.ensures c.as_slice-2.ensures c.as_slice-3.ensures c.new-search.ensures.texts in
+    found_within _ _ _ _ _ _ _ n c.in-Ok.ensures.found c.as_slice-in-Ok.ensures
+
+pub add-requires-clause-new : goal.add-requires-clause-new
+add-requires-clause-new g c =
+    let n = searched _ _ _ _ _ _ _ c.as_slice.ensures c.as_slice-2.ensures c.as_slice-3.ensures c.new-search.ensures.texts in
+    not_known _ _ _ _ _ _ c.self.invariant.0 n c.in_default.ensures c.in-Err.ensures.belongs
+
+pub add-requires-clause-belongs : goal.add-requires-clause-belongs
+add-requires-clause-belongs g c =
+    let n = searched _ _ _ _ _ _ _ c.as_slice.ensures c.as_slice-2.ensures c.as_slice-3.ensures c.new-search.ensures.texts in
+    belongs_sorted _ _ _ _ _ _ c.self.invariant.0 n c.in-Err.ensures.belongs
+
+pub returns-in-Ok-clause-gives : goal.returns-in-Ok-clause-gives
+returns-in-Ok-clause-gives g c =
+    let n = searched _ _ _ _ _ _ _ c.as_slice.ensures c.as_slice-2.ensures c.as_slice-3.ensures c.new-search.ensures.texts in
+    found_given _ _ _ _ _ _ _ _ _ c.self.invariant.0 n (ap (λ (s : Output). s.texts) c.self.view_is) c.as_slice-in-Ok.ensures c.in_default.ensures c.in-Ok.ensures.found
+
+pub returns-in-Ok-clause-charges : goal.returns-in-Ok-clause-charges
+returns-in-Ok-clause-charges g c =
+    found_charges _ _ _ _ _ _ _ _ _ c.self.invariant.0 c.self.invariant.1 (ap (λ (s : Output). s.texts) c.self.view_is) (ap (λ (s : Output). s.limit) c.self.view_is)

@@ -1,0 +1,29 @@
+use Rattle.std.proofs.Common.{◌≡◌, false, true, Ok, ap, sym, subst, ◌∙◌}
+use Rattle.ion_value.specs.Items.{raw_item}
+use Rattle.ion_value.specs.Reading.{More}
+use Rattle.ion_value.specs.Standing.{is_marker}
+use Rattle.ion_symbols.specs.Users.{begins_declaration, checked, level_after, users, plain, resolve}
+use Rattle.ion_symbols.specs.User.{CheckedAs}
+use Rattle.ion_symbols.proofs.UserTurns.{check_causes, item_given}
+use Rattle.ion_symbols.proofs.user.UserReader.turn.Goals as goal
+
+pub returns-in-Err-check_item-2-clause-causes : goal.returns-in-Err-check_item-2-clause-causes
+returns-in-Err-check_item-2-clause-causes g c =
+    let refused : c.next.new.meter.refused ≡ c.args.meter.now.refused = (c.in-Ok-true.ensures.causes (c.requires.ready.fresh c.requires.well)).counted (λ e. absurd (cc e)) in
+    let failures : g.R.RawReader.failures c.next.new.self ≡ g.R.RawReader.failures c.args.self.now.raw = (c.in-Ok-true.ensures.causes (c.requires.ready.fresh c.requires.well)).steady (λ e. absurd (cc e)) in
+    check_causes (checked c.args.self.now.symbols.table true (raw_item c.item-item.result)) c.in-Err-check_item-2.fault c.args.meter.now c.next.new.meter
+    (g.R.RawReader.failures c.args.self.now.raw) (g.R.RawReader.failures c.next.new.self) (g.R.RawReader.exceeds c.args.self.now.raw) c.in-Err-check_item-2.ensures refused failures
+
+pub returns-clause-gives : goal.returns-clause-gives
+returns-clause-gives g c = λ tells _.
+    let t = c.args.self.now.symbols.table in
+    let i = g.R.RawReader.current c.next.new.self in
+    let same : raw_item c.item-item.result ≡ i = c.item-item.ensures in
+    let head = c.head_of-head.ensures ∙ ap (λ j. j.head) same in
+    let marker : is_marker i.head ≡ false = sym (ap is_marker head) ∙ (sym c.is_marker.ensures ∙ c.if-is_marker.false) in
+    let begins : begins_declaration t c.args.self.now.count i ≡ false = sym (ap (begins_declaration t c.args.self.now.count) same) ∙ (sym c.is_declaration.ensures ∙ c.if-is_declaration.false) in
+    let fine = subst (λ j. CheckedAs (checked t true j) (Ok tt)) same c.in_default-check_item.ensures in
+    let level = c.level_after-self.ensures ∙ ap (level_after c.args.self.now.count) head in
+    item_given c.args.self.now.symbols.catalog c.args.self.now.limits.symbols t c.args.self.now.count i (g.R.RawReader.reading c.args.self.now.raw) (g.R.RawReader.reading c.next.new.self)
+    (c.in-Ok-true.ensures.gives tells (ap Ok c.in-Ok-true.field-0-test)) marker begins fine
+    ∙ ap (λ n. More (resolve t i) (users c.args.self.now.symbols.catalog c.args.self.now.limits.symbols (record { table = t; mode = plain n }) (g.R.RawReader.reading c.next.new.self))) (sym level)

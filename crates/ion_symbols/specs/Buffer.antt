@@ -1,0 +1,129 @@
+-- A declaration as it is kept while it is read, and what its calls answer.
+use Rattle.std.specs.Prelude.{◌≡◌, ℕ, ◌+◌, ◌*◌, ◌<◌, ◌≤◌, Bool, true, false, List, [], length, Option, Some, None, Result, Ok, Err, ⊤, ◌⊎◌}
+use Rattle.ion_meter.specs.Counts.{Counts}
+use Rattle.ion_meter.specs.declared.fault.Fault.{Fault}
+use Rattle.ion_meter.specs.declared.fault.Fault.TheVariants.{Refused, Memory, ReadFault, WriteFault, InputLimit}
+use Rattle.ion_symbols.specs.Table.{Shared, Import, Table, most_slots, slots_cost, table_cost, count_of}
+use Rattle.ion_symbols.specs.Present.{Starts, imports_in, slots_at}
+use Rattle.ion_symbols.specs.Declaration as d
+use Rattle.ion_symbols.specs.Declaration.{Pending, Declaring, Held, Told, Turn, on, made, stop, held, at, import_ended}
+use Rattle.ion_symbols.specs.declared.word.Area.{Area}
+use Rattle.ion_symbols.specs.declared.word.Area.TheVariants as area
+use Rattle.ion_symbols.specs.declared.told.What.{What}
+use Rattle.ion_symbols.specs.declared.told.What.TheVariants as what
+use Rattle.ion_symbols.specs.declared.told.Told as code
+use Rattle.ion_symbols.specs.declared.buffer.SymbolBuffer.{SymbolBuffer}
+use Rattle.ion_symbols.specs.declared.buffer.Import as found
+use Rattle.ion_symbols.specs.declared.buffer.Import.TheVariants as finds
+
+abbrev pub what_of : What → d.What
+what_of (what.Begins kind) = d.begins kind
+what_of what.Ends = d.ends
+what_of what.Other = d.other
+what_of (what.Text t) = d.string t.now
+what_of (what.Int negative magnitude) = d.int negative magnitude
+what_of (what.Names word) = d.names word
+
+abbrev pub told_of : code.Told → Told
+told_of t = record { field = t.field; field_place = t.field_place; what = what_of t.what; place = t.place }
+
+abbrev pub pending_of : {A : Type 0} → List Shared → SymbolBuffer A → Pending
+pending_of catalog b =
+    record {
+      has_imports = b.has_imports;
+      has_symbols = b.has_symbols;
+      keeps = b.keeps;
+      imports = imports_in catalog b.imports.items;
+      locals = b.slots;
+      cost = b.cost;
+      count = b.count;
+      entry = record { has_name = b.entry.has_name; has_version = b.entry.has_version; has_max = b.entry.has_max; name = b.name; version = b.entry.version; max_id = b.entry.max_id; place = b.entry.place };
+    }
+
+abbrev pub declaring_of : {A : Type 0} → List Shared → SymbolBuffer A → Declaring
+declaring_of catalog b = record { area = b.area; inside = b.inside; pending = pending_of catalog b }
+
+-- the counted bytes that it holds
+abbrev pub own_of : {A : Type 0} → SymbolBuffer A → ℕ
+own_of b = b.imports.cost * length b.imports.items + slots_cost b.slots + length b.name
+
+abbrev pub if_kept : Bool → ℕ → ℕ
+if_kept true n = n
+if_kept false n = 0
+
+-- an import is being read, and has shown a name
+abbrev pub is_named : Area → Bool → Bool
+is_named area.Import has_name = has_name
+is_named area.Fields has_name = false
+is_named area.Imports has_name = false
+is_named area.Symbols has_name = false
+
+abbrev pub is_importing : Area → Bool
+is_importing area.Import = true
+is_importing area.Imports = true
+is_importing area.Fields = false
+is_importing area.Symbols = false
+
+-- what holds of a pending table: all that it holds is counted, and its cost with the kept table's is within the limit; its slots with the kept
+-- table's are no more than there are ids; a name is held in an import that has shown one alone; and where the present table is kept there are no
+-- imports
+pub record IsPending {A : Type 0} (limit : ℕ) (old : Table) (b : SymbolBuffer A) : Type 0 where
+  pub starts : Starts 0 b.imports.items b.import_slots
+  pub each : b.imports.cost ≡ 32
+  pub exact : b.cost ≡ own_of b + if_kept b.keeps (table_cost old)
+  pub cheap : b.cost ≤ limit
+  pub number : b.count ≡ (b.import_slots + length b.slots) + if_kept b.keeps (count_of old)
+  pub few : b.count ≤ most_slots
+  pub unnamed : is_named b.area b.entry.has_name ≡ false → b.name ≡ []
+  pub fresh : b.has_imports ≡ false → (b.imports.items ≡ []) × (b.keeps ≡ false)
+  pub importing : is_importing b.area ≡ true → (b.has_imports ≡ true) × (b.keeps ≡ false)
+  pub alone : b.keeps ≡ true → b.imports.items ≡ []
+
+-- what a call answers that leaves a pending table
+abbrev pub HeldAs : Held → Result Unit Fault → Pending → Type 0
+HeldAs h (Ok done) p = h ≡ Ok p
+HeldAs h (Err (Refused reason place)) p = h ≡ Err (reason, place)
+HeldAs h (Err Memory) p = ⊤
+HeldAs h (Err ReadFault) p = ⊥
+HeldAs h (Err WriteFault) p = ⊥
+HeldAs h (Err InputLimit) p = ⊥
+
+-- what a call answers for an item: true as the declaration ends
+abbrev pub TurnAs : Turn → Result Bool Fault → Declaring → Table → Type 0
+TurnAs t (Ok false) d u = t ≡ on d
+TurnAs t (Ok true) d u = t ≡ made u
+TurnAs t (Err (Refused reason place)) d u = t ≡ stop reason place
+TurnAs t (Err Memory) d u = ⊤
+TurnAs t (Err ReadFault) d u = ⊥
+TurnAs t (Err WriteFault) d u = ⊥
+TurnAs t (Err InputLimit) d u = ⊥
+
+-- memory is answered where it was refused, and only there
+pub record GrowthCauses (fault : Option Fault) (old new : Counts) : Type 0 where
+  pub memory : fault ≡ Some Memory → old.refused < new.refused
+  pub counted : (fault ≡ Some Memory → ⊥) → new.refused ≡ old.refused
+
+-- how many containers are open in a declaration
+abbrev pub area_depth : Area → ℕ
+area_depth area.Fields = 1
+area_depth area.Imports = 2
+area_depth area.Symbols = 2
+area_depth area.Import = 3
+
+abbrev pub depth_of : Declaring → ℕ
+depth_of d = area_depth d.area + d.inside
+
+-- the end of an import's struct
+abbrev pub import_end_turn : d.Ground → Pending → Turn
+import_end_turn g p = held (import_ended g p) (λ q. on (at area.Imports q))
+
+-- a number of slots, where more than there are ids is that or any more
+abbrev pub CountAs : ℕ → ℕ → Type 0
+CountAs asked count = (asked ≡ count) ⊎ ((most_slots < asked) × (most_slots < count))
+
+-- what was found is what the import stands for
+abbrev pub FoundAs : List Shared → Bool → Option Import → found.Import → Type 0
+FoundAs catalog ignored i finds.Ignored = ignored ≡ true
+FoundAs catalog ignored i finds.Missing = (ignored ≡ false) × (i ≡ None)
+FoundAs catalog ignored None (finds.Slots table count) = ⊥
+FoundAs catalog ignored (Some i) (finds.Slots table count) = (ignored ≡ false) × ((i.slots ≡ slots_at catalog table) × CountAs i.count count)

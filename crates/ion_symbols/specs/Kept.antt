@@ -1,0 +1,57 @@
+-- How slots are kept: the bytes of their texts, and where each stands; and how a growth is undone.
+use Rattle.std.specs.Prelude.{◌≡◌, ℕ, ◌+◌, ◌-◌, ◌≤◌, true, false, if◌then◌else◌, List, [], ◌∷◌, take, drop, map, slice_get, Option, Some, None, max, ⊤}
+use Rattle.ion_meter.specs.Counts.{Counts, IsRefused}
+use Rattle.ion_meter.specs.declared.fault.Fault.{Fault}
+use Rattle.ion_meter.specs.declared.fault.Fault.TheVariants.{Refused, Memory, ReadFault, WriteFault, InputLimit}
+use Rattle.ion_meter.specs.declared.fault.Reason.TheVariants.{CatalogEntry}
+use Rattle.ion_symbols.specs.Table.{Slots, Shared, may_stand}
+use Rattle.ion_symbols.specs.declared.slots.Part.{Part}
+
+abbrev pub kept_slot : List ℕ → Part → Option (List ℕ)
+kept_slot texts p = if p.known then Some (take (p.to - p.from) (drop p.from texts)) else None
+
+abbrev pub kept_slots : List ℕ → List Part → Slots
+kept_slots texts parts = map (kept_slot texts) parts
+
+-- each text begins where the one before it ends, the last ends at a length, and a slot without one has no bytes
+abbrev pub Tiles : ℕ → List Part → ℕ → Type 0
+Tiles from [] length = from ≡ length
+Tiles from (p ∷ ps) length = (p.from ≡ from) × ((from ≤ p.to) × ((p.known ≡ false → p.to ≡ from) × Tiles p.to ps length))
+
+-- a part whose text stands so many bytes further on
+abbrev pub moved : ℕ → Part → Part
+moved base p = record { from = base + p.from; to = base + p.to; known = p.known }
+
+-- a growth of some cost that was refused: all is as it was, and the peak is no higher than it would have been
+pub record IsUndone (old new : Counts) (cost : ℕ) : Type 0 where
+  pub held : new.held ≡ old.held
+  pub peak : new.peak ≤ max old.peak (old.held + cost)
+  pub rises : old.peak ≤ new.peak
+  pub refused : new.refused ≡ old.refused + 1
+
+-- a name of one length comes in place of one of another, and they are never held both
+pub record Renames (old new : Counts) (before after : ℕ) : Type 0 where
+  pub held : new.held + before ≡ old.held + after
+  pub peak : new.peak ≤ max old.peak (max old.held new.held)
+  pub rises : old.peak ≤ new.peak
+  pub refused : new.refused ≡ old.refused
+
+-- why a table was not added to a catalogue
+abbrev pub WhyNotAdded : List Shared → Shared → Counts → Counts → Fault → Type 0
+WhyNotAdded catalog s old new (Refused reason place) = (reason ≡ CatalogEntry) × ((place ≡ 0) × ((may_stand catalog s ≡ false) × (new ≡ old)))
+WhyNotAdded catalog s old new Memory = (may_stand catalog s ≡ true) × IsRefused old new
+WhyNotAdded catalog s old new ReadFault = ⊥
+WhyNotAdded catalog s old new WriteFault = ⊥
+WhyNotAdded catalog s old new InputLimit = ⊥
+
+-- the place of the table that was found
+abbrev pub Points : List Shared → Option Shared → Option ℕ → Type 0
+Points catalog None None = ⊤
+Points catalog (Some s) (Some place) = slice_get catalog place ≡ Some s
+Points catalog None (Some place) = ⊥
+Points catalog (Some s) None = ⊥
+
+-- the text of a slot that is there and has one
+abbrev pub text_in : Option (Option (List ℕ)) → Option (List ℕ)
+text_in None = None
+text_in (Some text) = text

@@ -1,0 +1,44 @@
+-- The present table as it is kept.
+use Rattle.std.specs.Prelude.{◌≡◌, ℕ, ◌+◌, ◌≤◌, List, [], ◌∷◌, length, map, slice_get, Option, Some, None}
+use Rattle.ion_symbols.specs.Table as slot
+use Rattle.ion_symbols.specs.Table.{Slot, Slots, Shared, Import, Table, count_of, most_slots}
+use Rattle.ion_symbols.specs.declared.symbols.Found.{Found}
+use Rattle.ion_symbols.specs.declared.symbols.Slot as told
+use Rattle.ion_symbols.specs.declared.symbols.Slot.TheVariants as variants
+
+-- the present table, and the catalogue that it is read by
+pub record Present : Type 0 where
+  pub table : Table
+  pub catalog : List Shared
+
+-- the slots of the shared table at a place of the catalogue
+abbrev pub slots_of : Option Shared → Slots
+slots_of None = []
+slots_of (Some s) = s.slots
+
+abbrev pub slots_at : List Shared → Option ℕ → Slots
+slots_at catalog None = []
+slots_at catalog (Some place) = slots_of (slice_get catalog place)
+
+abbrev pub import_in : List Shared → Found → Import
+import_in catalog f = record { slots = slots_at catalog f.table; count = f.count }
+
+abbrev pub imports_in : List Shared → List Found → List Import
+imports_in catalog founds = map (import_in catalog) founds
+
+-- each import begins where the one before it ends
+abbrev pub Starts : ℕ → List Found → ℕ → Type 0
+Starts from [] end = from ≡ end
+Starts from (f ∷ fs) end = (f.start ≡ from) × Starts (from + f.count) fs end
+
+-- a table as it is kept: no more slots than ids
+pub record IsKept (imports : List Found) (cost import_slots : ℕ) (locals : Slots) : Type 0 where
+  pub starts : Starts 0 imports import_slots
+  pub each : cost ≡ 32
+  pub few : import_slots + length locals ≤ most_slots
+
+abbrev pub slot_told : told.Slot → Slot
+slot_told (variants.Known t) = slot.known t.now
+slot_told variants.Unknown = slot.unknown
+slot_told variants.Gap = slot.gap
+slot_told variants.Above = slot.above

@@ -1,0 +1,473 @@
+//! One declaration of a symbol table, item by item.
+ghost use Rattle.std.specs.Prelude.{◌≡◌, ℕ, ◌+◌, ◌-◌, ◌*◌, ◌^◌, ◌<◌, ◌≤◌, ◌≢◌, ◌&&◌, [], List, Option, None, Ok, Err, OnOk, true, false, nat_le};
+ghost use Rattle.ion_meter.specs.Counts.{Shrinks};
+ghost use Rattle.ion_meter.specs.declared.fault.Fault.TheVariants.{Memory};
+ghost use Rattle.ion_value.specs.Shares.{Charges, fault_of};
+ghost use Rattle.ion_value.specs.Items.{raw_item};
+ghost use Rattle.ion_symbols.specs.Table as tables;
+ghost use Rattle.ion_symbols.specs.Table.{Shared, most_slots, table_cost, text_at};
+ghost use Rattle.ion_symbols.specs.Declaration.{area_turn, element_turn, head_told, import_of, imports_turn, is_ignored, next, on, part_turn, passed, start, told, turn};
+ghost use Rattle.ion_symbols.specs.Buffer.{FoundAs, GrowthCauses, IsPending, TurnAs, declaring_of, import_end_turn, own_of, pending_of, told_of, what_of};
+
+use crate::catalog::Catalog;
+use crate::slots::Slots;
+use crate::symbols::{Found, IMPORT_COST, Symbols};
+use crate::told::{Told, What, tell};
+use crate::word::{Area, Word};
+use ion_meter::buf::Buf;
+use ion_meter::fault::{Fault, Reason};
+use ion_meter::meter::Meter;
+use ion_meter::table::Table;
+use ion_value::ion_type::Kind;
+use ion_value::item::{Head, Item};
+use ion_value::names::NoNames;
+use std::alloc::Allocator;
+
+/// The most slots behind the system ones: the greatest id is 2^31 - 1.
+const MOST_SLOTS: u64 = 2_147_483_638;
+
+/// The cost of a slot besides its text, in counted bytes.
+const SLOT_COST: u64 = 16;
+
+/// The import that is being read, but for its name.
+#[derive(Clone, Copy, Debug, PartialEq, Eq)]
+pub(crate) struct Entry {
+    pub(crate) has_name: bool,
+    pub(crate) has_version: bool,
+    pub(crate) has_max: bool,
+    pub(crate) version: u128,
+    pub(crate) max_id: Option<u128>,
+    pub(crate) place: u64,
+}
+
+/// A declaration that is being read (Ion specification, "Local Symbol Tables"): what was met of it,
+/// and its slots and imports so far. Nothing else of it is held but the name of the import being
+/// read.
+///
+/// It holds 16 a slot and the length of its text, 32 an import, and the length of that name.
+#[derive(Drop)]
+pub struct SymbolBuffer<A: Allocator + Copy> {
+    // What is being read, and how many containers are open in it that mean nothing.
+    pub(crate) area: Area,
+    pub(crate) inside: u32,
+    pub(crate) has_imports: bool,
+    pub(crate) has_symbols: bool,
+    // The present table is kept.
+    pub(crate) keeps: bool,
+    pub(crate) imports: Table<Found, A>,
+    pub(crate) import_slots: u64,
+    pub(crate) slots: Slots<A>,
+    // What is counted, and how many slots there are, both with those of the kept table.
+    pub(crate) cost: u64,
+    pub(crate) count: u64,
+    pub(crate) entry: Entry,
+    pub(crate) name: Buf<A>,
+}
+
+impl Entry {
+    // An import of which nothing was read, whose struct begins at a place.
+    fn new(place: u64) -> Entry
+        ensures { result ≡ record { has_name = false; has_version = false; has_max = false; version = 1; max_id = None; place = place } }
+    {
+        Entry {
+            has_name: false,
+            has_version: false,
+            has_max: false,
+            version: 1,
+            max_id: None,
+            place,
+        }
+    }
+}
+
+impl<A: Allocator + Copy> SymbolBuffer<A> {
+    // A declaration of which nothing was read. It takes no memory.
+    pub(crate) fn new(meter: &Meter<A>) -> Self
+        ensures pending { (limit : ℕ) (old : tables.Table) → IsPending limit old result }
+        ensures start { (catalog : List Shared) → declaring_of catalog result ≡ start }
+        ensures own { own_of result ≡ 0 }
+    {
+        SymbolBuffer {
+            area: Area::Fields,
+            inside: 0,
+            has_imports: false,
+            has_symbols: false,
+            keeps: false,
+            imports: Table::new(meter, IMPORT_COST),
+            import_slots: 0,
+            slots: Slots::new(meter),
+            cost: 0,
+            count: 0,
+            entry: Entry::new(0),
+            name: Buf::new(meter),
+        }
+    }
+
+    // Whether so much may be counted.
+    fn fits(&self, limit: u64, cost: u64, count: u64) -> bool
+        requires { limit ≤ 2 ^ 30 }
+        ensures { result ≡ nat_le (self.now.cost + cost) limit && nat_le (self.now.count + count) most_slots }
+    {
+        self.cost.saturating_add(cost) <= limit && self.count.saturating_add(count) <= MOST_SLOTS
+    }
+
+    // What means nothing is passed over.
+    fn pass(&mut self, what: What<'_>)
+        requires { self.old.inside < 2 ^ 31 }
+        ensures gives { (catalog : List Shared) → declaring_of catalog self.new ≡ passed (what_of what.entry) (declaring_of catalog self.old) }
+        ensures kept { self.new ≡ record self.old { inside = self.new.inside } }
+    {
+        match what {
+            What::Begins(_) => self.inside += 1,
+            What::Ends => self.inside = self.inside.saturating_sub(1),
+            _ => {}
+        }
+    }
+
+    // An element of `symbols`.
+    #[tactic(auto, using(crate::proofs::Keeping::cost_push))]
+    fn element(
+        &mut self,
+        meter: &mut Meter<A>,
+        limit: u64,
+        symbols: &Symbols<'_, A>,
+        told: &Told<'_>,
+    ) -> Result<bool, Fault>
+        requires room { meter.old.held ≤ 2 ^ 62 }
+        requires held { own_of self.old ≤ meter.old.held }
+        requires countable { meter.old.refused < 2 ^ 64 - 1 }
+        requires limit { limit ≤ 2 ^ 30 }
+        requires within { (self.old.area ≡ Area.Symbols) × (self.old.inside ≡ 0) }
+        requires pending { IsPending limit symbols.now.table self.old }
+        ensures pending { OnOk result (IsPending limit symbols.now.table self.new) }
+        ensures turn { TurnAs (element_turn (record { catalog = symbols.now.catalog; limit = limit; old = symbols.now.table }) (told_of told.now) (pending_of symbols.now.catalog self.old)) result (declaring_of symbols.now.catalog self.new) (next symbols.now.table (pending_of symbols.now.catalog self.new)) }
+        ensures causes { GrowthCauses (fault_of result) meter.old meter.new }
+        ensures charges { Charges meter.old meter.new (own_of self.old) (own_of self.new) limit }
+    {
+        let length = match told.what {
+            What::Text(text) => text.len() as u64,
+            _ => 0,
+        };
+        if length > limit || !self.fits(limit, SLOT_COST + length, 1) {
+            return Err(Fault::Refused(Reason::SymbolLimit, told.place));
+        }
+        match told.what {
+            What::Text(text) => self.slots.push_text(meter, text)?,
+            _ => self.slots.push_none(meter)?,
+        }
+        self.cost += SLOT_COST + length;
+        self.count += 1;
+        self.pass(told.what);
+        Ok(false)
+    }
+
+    // A field of the declaration, or its end.
+    fn field(
+        &mut self,
+        limit: u64,
+        symbols: &Symbols<'_, A>,
+        told: &Told<'_>,
+    ) -> Result<bool, Fault>
+        requires limit { (limit ≤ 2 ^ 30) × (table_cost symbols.now.table ≤ limit) }
+        requires within { (self.old.area ≡ Area.Fields) × (self.old.inside ≡ 0) }
+        requires pending { IsPending limit symbols.now.table self.old }
+        ensures pending { OnOk result (IsPending limit symbols.now.table self.new) }
+        ensures turn { TurnAs (area_turn (record { catalog = symbols.now.catalog; limit = limit; old = symbols.now.table }) (told_of told.now) (pending_of symbols.now.catalog self.old) Area.Fields) result (declaring_of symbols.now.catalog self.new) (next symbols.now.table (pending_of symbols.now.catalog self.new)) }
+        ensures memory { result ≢ Err Memory }
+        ensures own { own_of self.new ≡ own_of self.old }
+        ensures name { self.new.name ≡ self.old.name }
+    {
+        if let What::Ends = told.what {
+            return Ok(true);
+        }
+        match told.field {
+            Word::Imports => {
+                if self.has_imports {
+                    return Err(Fault::Refused(Reason::BadTable, told.field_place));
+                }
+                self.has_imports = true;
+                match told.what {
+                    What::Begins(Kind::List) => self.area = Area::Imports,
+                    What::Names(Word::Declaration) => {
+                        let cost = symbols.cost();
+                        let count = symbols.count();
+                        if !self.fits(limit, cost, count) {
+                            return Err(Fault::Refused(Reason::SymbolLimit, told.place));
+                        }
+                        self.keeps = true;
+                        self.cost += cost;
+                        self.count += count;
+                    }
+                    _ => self.pass(told.what),
+                }
+            }
+            Word::Symbols => {
+                if self.has_symbols {
+                    return Err(Fault::Refused(Reason::BadTable, told.field_place));
+                }
+                self.has_symbols = true;
+                match told.what {
+                    What::Begins(Kind::List) => self.area = Area::Symbols,
+                    _ => self.pass(told.what),
+                }
+            }
+            _ => self.pass(told.what),
+        }
+        Ok(false)
+    }
+
+    // An element of `imports`, or the end of the list.
+    fn import(&mut self, told: &Told<'_>)
+        requires within { (self.old.area ≡ Area.Imports) × (self.old.inside ≡ 0) }
+        requires nameless { self.old.name ≡ [] }
+        ensures turn { (catalog : List Shared) → imports_turn (told_of told.now) (pending_of catalog self.old) (what_of told.now.what) ≡ on (declaring_of catalog self.new) }
+        ensures kept { self.new ≡ record self.old { area = self.new.area; inside = self.new.inside; entry = self.new.entry } }
+        ensures pending { (limit : ℕ) (old : tables.Table) → IsPending limit old self.old → IsPending limit old self.new }
+    {
+        match told.what {
+            What::Ends => self.area = Area::Fields,
+            What::Begins(Kind::Struct) => {
+                self.area = Area::Import;
+                self.entry = Entry::new(told.place);
+            }
+            _ => self.pass(told.what),
+        }
+    }
+
+    // A field of an import.
+    fn part(
+        &mut self,
+        meter: &mut Meter<A>,
+        limit: u64,
+        symbols: &Symbols<'_, A>,
+        told: &Told<'_>,
+    ) -> Result<bool, Fault>
+        requires room { meter.old.held ≤ 2 ^ 62 }
+        requires held { own_of self.old ≤ meter.old.held }
+        requires countable { meter.old.refused < 2 ^ 64 - 1 }
+        requires limit { limit ≤ 2 ^ 30 }
+        requires within { (self.old.area ≡ Area.Import) × (self.old.inside ≡ 0) }
+        requires pending { IsPending limit symbols.now.table self.old }
+        ensures pending { OnOk result (IsPending limit symbols.now.table self.new) }
+        ensures turn { TurnAs (part_turn (record { catalog = symbols.now.catalog; limit = limit; old = symbols.now.table }) (told_of told.now) (pending_of symbols.now.catalog self.old)) result (declaring_of symbols.now.catalog self.new) (next symbols.now.table (pending_of symbols.now.catalog self.new)) }
+        ensures causes { GrowthCauses (fault_of result) meter.old meter.new }
+        ensures charges { Charges meter.old meter.new (own_of self.old) (own_of self.new) limit }
+    {
+        match told.field {
+            Word::Name => {
+                if self.entry.has_name {
+                    return Err(Fault::Refused(Reason::BadTable, told.field_place));
+                }
+                self.entry.has_name = true;
+                match told.what {
+                    What::Text(text) => {
+                        let length = text.len() as u64;
+                        if !self.fits(limit, length, 0) {
+                            return Err(Fault::Refused(Reason::SymbolLimit, told.place));
+                        }
+                        self.name.extend(meter, text)?;
+                        self.cost += length;
+                    }
+                    _ => self.pass(told.what),
+                }
+            }
+            Word::Version => {
+                if self.entry.has_version {
+                    return Err(Fault::Refused(Reason::BadTable, told.field_place));
+                }
+                self.entry.has_version = true;
+                self.entry.version = match told.what {
+                    What::Int(false, number) => number.max(1),
+                    _ => 1,
+                };
+                self.pass(told.what);
+            }
+            Word::MaxId => {
+                if self.entry.has_max {
+                    return Err(Fault::Refused(Reason::BadTable, told.field_place));
+                }
+                self.entry.has_max = true;
+                self.entry.max_id = match told.what {
+                    What::Int(false, number) => Some(number),
+                    _ => None,
+                };
+                self.pass(told.what);
+            }
+            _ => self.pass(told.what),
+        }
+        Ok(false)
+    }
+
+    // An import's struct ends: its name is given back, and what it found is kept.
+    fn end_import(
+        &mut self,
+        meter: &mut Meter<A>,
+        limit: u64,
+        symbols: &Symbols<'_, A>,
+    ) -> Result<bool, Fault>
+        requires room { meter.old.held ≤ 2 ^ 62 }
+        requires held { own_of self.old ≤ meter.old.held }
+        requires countable { meter.old.refused < 2 ^ 64 - 1 }
+        requires limit { limit ≤ 2 ^ 30 }
+        requires within { (self.old.area ≡ Area.Import) × (self.old.inside ≡ 0) }
+        requires pending { IsPending limit symbols.now.table self.old }
+        ensures pending { OnOk result (IsPending limit symbols.now.table self.new) }
+        ensures turn { TurnAs (import_end_turn (record { catalog = symbols.now.catalog; limit = limit; old = symbols.now.table }) (pending_of symbols.now.catalog self.old)) result (declaring_of symbols.now.catalog self.new) (next symbols.now.table (pending_of symbols.now.catalog self.new)) }
+        ensures causes { GrowthCauses (fault_of result) meter.old meter.new }
+        ensures charges { Charges meter.old meter.new (own_of self.old) (own_of self.new) limit }
+    {
+        self.area = Area::Imports;
+        let length = self.name.as_slice().len() as u64;
+        let found = find_import(
+            symbols.catalog(),
+            self.name.as_slice(),
+            self.entry.version,
+            self.entry.max_id,
+        );
+        self.name.clear(meter);
+        self.cost -= length;
+        let (table, count) = match found {
+            Import::Ignored => return Ok(false),
+            Import::Missing => return Err(Fault::Refused(Reason::BadTable, self.entry.place)),
+            Import::Slots(table, count) => (table, count),
+        };
+        if !self.fits(limit, IMPORT_COST, count) {
+            return Err(Fault::Refused(Reason::SymbolLimit, self.entry.place));
+        }
+        let start = self.import_slots;
+        if let Err(failed) = self.imports.push(
+            meter,
+            Found {
+                table,
+                start,
+                count,
+            },
+        ) {
+            return Err(failed.1);
+        }
+        self.import_slots += count;
+        self.cost += IMPORT_COST;
+        self.count += count;
+        Ok(false)
+    }
+
+    // Takes the next item of the declaration in; true as it ends.
+    pub(crate) fn take(
+        &mut self,
+        meter: &mut Meter<A>,
+        limit: u64,
+        symbols: &Symbols<'_, A>,
+        item: &Item<'_, NoNames>,
+    ) -> Result<bool, Fault>
+        requires room { meter.old.held ≤ 2 ^ 62 }
+        requires held { own_of self.old ≤ meter.old.held }
+        requires countable { meter.old.refused < 2 ^ 64 - 1 }
+        requires limit { (limit ≤ 2 ^ 30) × (table_cost symbols.now.table ≤ limit) }
+        requires inside { self.old.inside < 2 ^ 31 }
+        requires pending { IsPending limit symbols.now.table self.old }
+        ensures pending { OnOk result (IsPending limit symbols.now.table self.new) }
+        ensures nameless { result ≡ Ok true → self.new.name ≡ [] }
+        ensures turn { TurnAs (turn (record { catalog = symbols.now.catalog; limit = limit; old = symbols.now.table }) (declaring_of symbols.now.catalog self.old) (told (text_at symbols.now.table) (raw_item item.now))) result (declaring_of symbols.now.catalog self.new) (next symbols.now.table (pending_of symbols.now.catalog self.new)) }
+        ensures causes { GrowthCauses (fault_of result) meter.old meter.new }
+        ensures charges { Charges meter.old meter.new (own_of self.old) (own_of self.new) limit }
+    {
+        if self.inside > 0 {
+            self.pass_item(item);
+            return Ok(false);
+        }
+        let told = tell(symbols, item);
+        let ends = told.ends();
+        match self.area {
+            Area::Fields => self.field(limit, symbols, &told),
+            Area::Imports => {
+                self.import(&told);
+                Ok(false)
+            }
+            Area::Symbols if ends => {
+                self.area = Area::Fields;
+                Ok(false)
+            }
+            Area::Symbols => self.element(meter, limit, symbols, &told),
+            Area::Import if ends => self.end_import(meter, limit, symbols),
+            Area::Import => self.part(meter, limit, symbols, &told),
+        }
+    }
+
+    // An item inside of what means nothing.
+    #[inline]
+    fn pass_item(&mut self, item: &Item<'_, NoNames>)
+        requires { self.old.inside < 2 ^ 31 }
+        ensures gives { (catalog : List Shared) (texts : ℕ → Option (List ℕ)) → declaring_of catalog self.new ≡ passed (head_told texts (raw_item item.now).head) (declaring_of catalog self.old) }
+        ensures kept { self.new ≡ record self.old { inside = self.new.inside } }
+    {
+        match item.head() {
+            Head::Begin(_) => self.inside += 1,
+            Head::End => self.inside = self.inside.saturating_sub(1),
+            _ => {}
+        }
+    }
+
+    // Gives all back.
+    pub(crate) fn release(self, meter: &mut Meter<A>)
+        requires { own_of self ≤ meter.old.held }
+        ensures { Shrinks meter.old meter.new (own_of self) }
+    {
+        let SymbolBuffer {
+            area: _,
+            inside: _,
+            has_imports: _,
+            has_symbols: _,
+            keeps: _,
+            imports,
+            import_slots: _,
+            slots,
+            cost: _,
+            count: _,
+            entry: _,
+            name,
+        } = self;
+        imports.release(meter);
+        slots.release(meter);
+        name.release(meter);
+    }
+}
+
+// What an import found.
+#[derive(Clone, Copy, Debug, PartialEq, Eq)]
+pub(crate) enum Import {
+    // It means nothing.
+    Ignored,
+    // It asks for a table that is not there.
+    Missing,
+    // The place of a table, if there is one, and a number of slots; more than there are ids stand
+    // for all such numbers.
+    Slots(Option<usize>, u64),
+}
+
+// What an import of this name, version and greatest id finds.
+fn find_import<A: Allocator + Copy>(
+    catalog: &Catalog<A>,
+    name: &[u8],
+    version: u128,
+    max_id: Option<u128>,
+) -> Import
+    ensures { FoundAs catalog.now (is_ignored name.now) (import_of catalog.now name.now version max_id) result }
+{
+    if name.is_empty() || name == b"$ion".as_slice() {
+        return Import::Ignored;
+    }
+    let exact = catalog.place_of(name, version);
+    match max_id {
+        None => match exact {
+            None => Import::Missing,
+            Some(place) => Import::Slots(exact, catalog.count_at(place)),
+        },
+        Some(most) => {
+            let count = most.min(MOST_SLOTS as u128 + 1) as u64;
+            match exact {
+                Some(_) => Import::Slots(exact, count),
+                None => Import::Slots(catalog.greatest(name), count),
+            }
+        }
+    }
+}

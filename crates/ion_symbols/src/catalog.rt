@@ -1,0 +1,187 @@
+//! The catalogue of shared tables.
+ghost use Rattle.std.specs.Prelude.{◌≡◌, ℕ, ◌+◌, ◌-◌, ◌*◌, ◌^◌, ◌<◌, ◌≤◌, ◌++◌, ◌∷◌, [], List, Some, None, length, slice_get, OnOk, OnErr, IfErr, MatchOption, nat_lt, true, false};
+ghost use Rattle.ion_meter.specs.declared.fault.Reason.{Reason};
+ghost use Rattle.ion_meter.specs.declared.fault.Reason.TheVariants.{CatalogEntry};
+ghost use Rattle.ion_meter.specs.declared.fault.Fault.{Fault};
+ghost use Rattle.ion_meter.specs.declared.fault.Fault.TheVariants.{Refused, Memory};
+ghost use Rattle.ion_meter.specs.Counts.{Grows, IsRefused, Shrinks};
+ghost use Rattle.ion_value.specs.Items.{is_none_left};
+ghost use Rattle.ion_symbols.specs.Table.{catalog_cost, find, greatest, may_stand};
+ghost use Rattle.ion_symbols.specs.Present.{slots_at};
+ghost use Rattle.ion_symbols.specs.Kept.{WhyNotAdded, Points};
+
+use crate::shared::SharedTable;
+use ion_meter::fault::{Fault, Reason};
+use ion_meter::meter::Meter;
+use ion_meter::table::Table;
+use std::alloc::Allocator;
+use std::marker::Model;
+
+/// The cost of a table in a catalogue besides its own, in counted bytes.
+const TABLE_COST: u64 = 32;
+
+/// The greatest version that a table may have.
+const MAX_VERSION: u32 = 2_147_483_647;
+
+/// Shared tables, of which no two have the same name and version.
+///
+/// It holds 32 a table and what the table holds. One that is dropped without `release` leaves the
+/// meter's `held` as it was. A clause sees the list of the tables.
+#[derive(Drop)]
+pub struct Catalog<A: Allocator + Copy> {
+    tables: Table<SharedTable<A>, A>,
+}
+
+impl<A: Allocator + Copy> Model for Catalog<A> {
+    ghost use Rattle.std.specs.Prelude.{◌≡◌, List};
+    ghost use Rattle.ion_symbols.specs.Table.{Shared};
+
+    ghost Value = { List Shared };
+
+    ghost view = { λ c. c.tables.items };
+
+    ghost invariant = { λ c. c.tables.cost ≡ 32 };
+}
+
+impl<A: Allocator + Copy> Catalog<A> {
+    /// A catalogue without tables. It takes no memory.
+    pub fn new(meter: &Meter<A>) -> Catalog<A>
+        ensures { result ≡ [] }
+    {
+        Catalog {
+            tables: Table::new(meter, TABLE_COST),
+        }
+    }
+
+    /// Adds a table.
+    ///
+    /// A table whose name is empty or `$ion`, whose version is 0 or above 2^31 - 1, or whose name and
+    /// version are there already, is handed back with `CatalogEntry` at place 0; and where memory is
+    /// refused, with `Memory`. The catalogue is then as it was.
+    pub fn add(
+        &mut self,
+        meter: &mut Meter<A>,
+        table: SharedTable<A>,
+    ) -> Result<(), (SharedTable<A>, Fault)>
+        requires room { meter.old.held + 32 < 2 ^ 63 }
+        requires countable { meter.old.refused < 2 ^ 64 - 1 }
+        ensures ok { OnOk result ((self.new ≡ self.old ++ table ∷ []) × (may_stand self.old table ≡ true)) }
+        ensures cost { OnOk result (Grows meter.old meter.new 32) }
+        ensures returned { IfErr result (λ failed. failed.0 ≡ table) }
+        ensures err { OnErr result (self.new ≡ self.old) }
+        ensures why { IfErr result (λ failed. WhyNotAdded self.old table meter.old meter.new failed.1) }
+    {
+        if !self.may_take(&table) {
+            return Err((table, Fault::Refused(Reason::CatalogEntry, 0)));
+        }
+        self.tables.push(meter, table)
+    }
+
+    // Whether a table may be added.
+    fn may_take(&self, table: &SharedTable<A>) -> bool
+        ensures { result ≡ may_stand self.now table.now }
+    {
+        let name = table.name();
+        let version = table.version();
+        if name.is_empty() || name == b"$ion".as_slice() || version == 0 || version > MAX_VERSION {
+            return false;
+        }
+        self.place_of(name, version as u128).is_none()
+    }
+
+    /// The table of this name and version, if there is one.
+    pub fn find(&self, name: &str, version: u32) -> Option<&SharedTable<A>>
+        ensures { MatchOption result (find self.now name.now version ≡ None) (λ table. find self.now name.now version ≡ Some table.now) }
+    {
+        let place = self.place_of(name.as_bytes(), version as u128)?;
+        self.get(place)
+    }
+
+    /// How many tables there are.
+    pub fn len(&self) -> usize
+        ensures { result ≡ length self.now }
+    {
+        self.tables.as_slice().len()
+    }
+
+    /// Whether there is none.
+    pub fn is_empty(&self) -> bool
+        ensures { result ≡ is_none_left self.now }
+    {
+        self.tables.as_slice().is_empty()
+    }
+
+    // Where the table of this name and version stands.
+    pub(crate) fn place_of(&self, name: &[u8], version: u128) -> Option<usize>
+        ensures { Points self.now (find self.now name.now version) result }
+    {
+        let mut place = 0;
+        while place < self.tables.as_slice().len() {
+            let table = &self.tables.as_slice()[place];
+            if table.name() == name && table.version() as u128 == version {
+                return Some(place);
+            }
+            place += 1;
+        }
+        None
+    }
+
+    // Where the table of this name with the greatest version stands.
+    pub(crate) fn greatest(&self, name: &[u8]) -> Option<usize>
+        ensures { Points self.now (greatest self.now name.now) result }
+    {
+        let mut best: Option<usize> = None;
+        let mut place = 0;
+        while place < self.tables.as_slice().len() {
+            let table = &self.tables.as_slice()[place];
+            if table.name() == name && self.is_less(best, table.version()) {
+                best = Some(place);
+            }
+            place += 1;
+        }
+        best
+    }
+
+    // Whether it is none, or a table of a smaller version.
+    fn is_less(&self, best: Option<usize>, version: u32) -> bool
+        ensures { MatchOption best (result ≡ true) (λ b. MatchOption (slice_get self.now b) (result ≡ true) (λ s. result ≡ nat_lt s.version version)) }
+    {
+        match best {
+            None => true,
+            Some(place) => match self.get(place) {
+                None => true,
+                Some(table) => table.version() < version,
+            },
+        }
+    }
+
+    // The table at a place, if there is one.
+    #[inline]
+    pub(crate) fn get(&self, place: usize) -> Option<&SharedTable<A>>
+        ensures { MatchOption result (slice_get self.now place ≡ None) (λ table. slice_get self.now place ≡ Some table.now) }
+    {
+        self.tables.as_slice().get(place)
+    }
+
+    // How many slots the table at a place has, 0 where there is none.
+    pub(crate) fn count_at(&self, place: usize) -> u64
+        ensures { result ≡ length (slots_at self.now (Some place)) }
+    {
+        match self.get(place) {
+            None => 0,
+            Some(table) => table.len() as u64,
+        }
+    }
+
+    /// Gives all back.
+    pub fn release(self, meter: &mut Meter<A>)
+        requires { catalog_cost self ≤ meter.old.held }
+        ensures { Shrinks meter.old meter.new (catalog_cost self) }
+    {
+        let Catalog { mut tables } = self;
+        while let Some(table) = tables.pop(meter) {
+            table.release(meter);
+        }
+        tables.release(meter);
+    }
+}

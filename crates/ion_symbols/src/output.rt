@@ -1,0 +1,258 @@
+//! The symbol table of an output.
+ghost use Rattle.std.specs.Prelude.{◌≡◌, ℕ, ◌+◌, ◌-◌, ◌*◌, ◌^◌, ◌<◌, ◌≤◌, [], List, length, drop, slice_get, Option, Some, None, MatchOption, IfOk, IfErr, OnErr, OnOk};
+ghost use Rattle.ion_meter.specs.declared.fault.Fault.TheVariants.{Memory};
+ghost use Rattle.ion_meter.specs.Limits.{AreChecked};
+ghost use Rattle.ion_meter.specs.Counts.{Shrinks};
+ghost use Rattle.ion_value.specs.Shares.{Charges};
+ghost use Rattle.ion_symbols.specs.Output.{Belongs, IsSorted, binary_digits, id_given, known_id, system_id, texts_cost};
+ghost use Rattle.ion_value.specs.Items.{is_none_left};
+
+use crate::search::{Place, Search, place_of};
+use ion_meter::buf::Buf;
+use ion_meter::fault::Fault;
+use ion_meter::limits::Limits;
+use ion_meter::meter::Meter;
+use ion_meter::table::Table;
+use std::alloc::Allocator;
+use std::marker::Model;
+
+/// The cost of a place and of an id, in counted bytes.
+const ENTRY_COST: u64 = 8;
+
+/// The first id behind the system table's.
+const FIRST_ID: u32 = 10;
+
+/// The texts of an output that have been given ids, from 10 on, each once.
+///
+/// It holds 16 counted bytes a text and the text's length, and never more than the limit on symbol
+/// tables. A clause sees the texts in order of id, the limit, and the probes of the last search.
+#[derive(Drop)]
+pub struct OutSymbols<A: Allocator + Copy> {
+    // The texts' bytes in order of id, where each stands, and the places' numbers in order of bytes.
+    bytes: Buf<A>,
+    places: Table<Place, A>,
+    order: Table<u32, A>,
+    limit: u64,
+    probes: u32,
+}
+
+/// Texts in order of id, lent.
+#[derive(Drop)]
+pub struct Texts<'a> {
+    bytes: &'a [u8],
+    places: &'a [Place],
+}
+
+impl<A: Allocator + Copy> Model for OutSymbols<A> {
+    ghost use Rattle.ion_symbols.specs.Output.{Output};
+    ghost use Rattle.ion_symbols.specs.Ordered.{Ordered, IsWithin, texts_in};
+
+    ghost Value = { Output };
+
+    ghost view = { λ s. record { texts = texts_in s.bytes s.places.items; limit = s.limit; probes = s.probes } };
+
+    ghost invariant = { λ s. Ordered s.bytes s.places.items s.order.items × IsWithin s.bytes s.places.items s.places.cost s.order.cost s.limit };
+}
+
+impl<'a> Model for Texts<'a> {
+    ghost use Rattle.std.specs.Prelude.{List, ℕ};
+    ghost use Rattle.ion_symbols.specs.Ordered.{From, texts_in};
+
+    ghost Value = { List (List ℕ) };
+
+    ghost view = { λ s. texts_in s.bytes.now s.places.now };
+
+    ghost invariant = { λ s. From s.bytes.now s.places.now };
+}
+
+impl<A: Allocator + Copy> OutSymbols<A> {
+    /// No texts. It takes no memory.
+    pub fn new(meter: &Meter<A>, limits: Limits) -> OutSymbols<A>
+        requires { AreChecked limits }
+        ensures { result ≡ record { texts = []; limit = limits.symbols; probes = 0 } }
+    {
+        OutSymbols {
+            bytes: Buf::new(meter),
+            places: Table::new(meter, ENTRY_COST),
+            order: Table::new(meter, ENTRY_COST),
+            limit: limits.symbols,
+            probes: 0,
+        }
+    }
+
+    /// The id of a text: that of the system table, or else 10 and its place among the texts that were
+    /// given one. A text that is new is added; where its cost would pass the limit, it is not, and
+    /// there is no id.
+    ///
+    /// Where memory is refused, it answers `Memory` and the texts stay as they were.
+    pub fn id_of(&mut self, meter: &mut Meter<A>, text: &[u8]) -> Result<Option<u32>, Fault>
+        requires room { meter.old.held ≤ 2 ^ 62 }
+        requires held { texts_cost self.old.texts ≤ meter.old.held }
+        requires countable { meter.old.refused < 2 ^ 64 - 1 }
+        ensures gives { IfOk result (λ id. (id, self.new.texts) ≡ id_given self.old.limit self.old.texts text.now) }
+        ensures limit { self.new.limit ≡ self.old.limit }
+        ensures probes { self.new.probes ≤ binary_digits (length self.old.texts) }
+        ensures system { (id : ℕ) → system_id text.now ≡ Some id → self.new.probes ≡ 0 }
+        ensures memory { IfErr result (λ fault. (fault ≡ Memory) × (self.new.texts ≡ self.old.texts) × (meter.new.refused ≡ meter.old.refused + 1)) }
+        ensures counted { OnOk result (meter.new.refused ≡ meter.old.refused) }
+        ensures charges { Charges meter.old meter.new (texts_cost self.old.texts) (texts_cost self.new.texts) self.old.limit }
+    {
+        self.probes = 0;
+        if let Some(id) = system_id(text) {
+            return Ok(Some(id));
+        }
+        let mut search = Search::new(
+            self.bytes.as_slice(),
+            self.places.as_slice(),
+            self.order.as_slice(),
+        );
+        let found = place_of(&mut search, text);
+        self.probes = search.probes();
+        match found {
+            Ok(place) => Ok(Some(FIRST_ID + self.order.as_slice()[place as usize])),
+            Err(place) => self.add(meter, place, text),
+        }
+    }
+
+    // A text that is new, at its place in order of bytes.
+    fn add(&mut self, meter: &mut Meter<A>, place: u32, text: &[u8]) -> Result<Option<u32>, Fault>
+        requires room { meter.old.held ≤ 2 ^ 62 }
+        requires held { texts_cost self.old.texts ≤ meter.old.held }
+        requires countable { meter.old.refused < 2 ^ 64 - 1 }
+        requires new { known_id self.old.texts text.now ≡ None }
+        requires belongs { (sorted : List (List ℕ)) → IsSorted sorted self.old.texts → Belongs sorted text.now place }
+        ensures gives { IfOk result (λ id. (id, self.new.texts) ≡ id_given self.old.limit self.old.texts text.now) }
+        ensures kept { (self.new.limit ≡ self.old.limit) × (self.new.probes ≡ self.old.probes) }
+        ensures memory { IfErr result (λ fault. (fault ≡ Memory) × (self.new.texts ≡ self.old.texts) × (meter.new.refused ≡ meter.old.refused + 1)) }
+        ensures counted { OnOk result (meter.new.refused ≡ meter.old.refused) }
+        ensures charges { Charges meter.old meter.new (texts_cost self.old.texts) (texts_cost self.new.texts) self.old.limit }
+    {
+        let from = self.bytes.as_slice().len();
+        let id = self.places.as_slice().len();
+        let length = text.len() as u64;
+        if length > self.limit || self.cost() + 16 + length > self.limit {
+            return Ok(None);
+        }
+        self.bytes.extend(meter, text)?;
+        let stands = Place {
+            from: from as u32,
+            to: (from + text.len()) as u32,
+        };
+        if let Err(failed) = self.places.push(meter, stands) {
+            self.bytes.truncate(meter, from);
+            return Err(failed.1);
+        }
+        if let Err(failed) = self.order.insert(meter, place as usize, id as u32) {
+            let _last = self.places.pop(meter);
+            self.bytes.truncate(meter, from);
+            return Err(failed.1);
+        }
+        Ok(Some(FIRST_ID + id as u32))
+    }
+
+    /// The texts from an id on, in order of id.
+    pub fn new_since(&self, id: u32) -> Texts<'_>
+        ensures { result ≡ drop (id - 10) self.now.texts }
+    {
+        let places = self.places.as_slice();
+        let first = (id.saturating_sub(FIRST_ID) as usize).min(places.len());
+        Texts {
+            bytes: self.bytes.as_slice(),
+            places: &places[first..],
+        }
+    }
+
+    /// What the texts cost: 16 each, and their lengths, in counted bytes.
+    pub fn cost(&self) -> u64
+        ensures { result ≡ texts_cost self.now.texts }
+    {
+        16 * self.places.as_slice().len() as u64 + self.bytes.as_slice().len() as u64
+    }
+
+    /// A search of the texts, without probes.
+    pub fn search(&self) -> Search<'_>
+        ensures texts { IsSorted result.texts self.now.texts }
+        ensures probes { result.probes ≡ 0 }
+    {
+        Search::new(
+            self.bytes.as_slice(),
+            self.places.as_slice(),
+            self.order.as_slice(),
+        )
+    }
+
+    /// The probes of the last search of `id_of`, 0 before any; a system text is found without one.
+    pub fn last_probes(&self) -> u32
+        ensures { result ≡ self.now.probes }
+    {
+        self.probes
+    }
+
+    /// Gives all back.
+    pub fn release(self, meter: &mut Meter<A>)
+        requires { texts_cost self.texts ≤ meter.old.held }
+        ensures { Shrinks meter.old meter.new (texts_cost self.texts) }
+    {
+        let OutSymbols {
+            bytes,
+            places,
+            order,
+            limit: _,
+            probes: _,
+        } = self;
+        bytes.release(meter);
+        places.release(meter);
+        order.release(meter);
+    }
+}
+
+impl<'a> Texts<'a> {
+    /// How many texts there are.
+    pub fn len(&self) -> usize
+        ensures { result ≡ length self.now }
+    {
+        self.places.len()
+    }
+
+    /// Whether there is none.
+    pub fn is_empty(&self) -> bool
+        ensures { result ≡ is_none_left self.now }
+    {
+        self.places.is_empty()
+    }
+
+    /// The text at a place of the list, counted from 0, or none past its end.
+    pub fn get(&self, index: usize) -> Option<&'a [u8]>
+        ensures { MatchOption result (slice_get self.now index ≡ None) (λ text. slice_get self.now index ≡ Some text.now) }
+    {
+        let place = self.places.get(index)?;
+        Some(&self.bytes[place.from as usize..place.to as usize])
+    }
+}
+
+// The id of a text of the system table.
+fn system_id(text: &[u8]) -> Option<u32>
+    ensures { result ≡ system_id text.now }
+{
+    if text == b"$ion".as_slice() {
+        Some(1)
+    } else if text == b"$ion_1_0".as_slice() {
+        Some(2)
+    } else if text == b"$ion_symbol_table".as_slice() {
+        Some(3)
+    } else if text == b"name".as_slice() {
+        Some(4)
+    } else if text == b"version".as_slice() {
+        Some(5)
+    } else if text == b"imports".as_slice() {
+        Some(6)
+    } else if text == b"symbols".as_slice() {
+        Some(7)
+    } else if text == b"max_id".as_slice() {
+        Some(8)
+    } else if text == b"$ion_shared_symbol_table".as_slice() {
+        Some(9)
+    } else {
+        None
+    }
+}

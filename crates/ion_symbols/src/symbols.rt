@@ -1,0 +1,297 @@
+//! The symbol table of a stream at a place.
+ghost use Rattle.std.specs.Prelude.{◌≡◌, ℕ, ◌+◌, ◌-◌, ◌*◌, ◌^◌, ◌<◌, ◌≤◌, [], Some, None, length, slice_get, MatchOption, IfErr, OnOk, OnErr, true};
+ghost use Rattle.ion_meter.specs.declared.fault.Fault.TheVariants.{Memory};
+ghost use Rattle.ion_meter.specs.Counts.{Shrinks};
+ghost use Rattle.ion_value.specs.Shares.{Charges};
+ghost use Rattle.ion_symbols.specs.Table as tables;
+ghost use Rattle.ion_symbols.specs.Table.{count_of, import_slot, local_slot, slot_in, slot_of, system, system_slots, table_cost};
+ghost use Rattle.ion_symbols.specs.Declaration.{next};
+ghost use Rattle.ion_symbols.specs.Present.{Starts, imports_in, slot_told, slots_at};
+ghost use Rattle.ion_symbols.specs.Buffer.{IsPending, own_of, pending_of};
+
+use crate::buffer::SymbolBuffer;
+use crate::catalog::Catalog;
+use crate::slots::Slots;
+use ion_meter::fault::Fault;
+use ion_meter::meter::Meter;
+use ion_meter::table::Table;
+use ion_value::names::Names;
+use std::alloc::Allocator;
+use std::marker::Model;
+use std::mem;
+
+/// The cost of an import, in counted bytes, whatever its number of slots.
+pub(crate) const IMPORT_COST: u64 = 32;
+
+/// An import: the place in the catalogue of the shared table that it found, its first slot behind
+/// the system ones, and its number of slots.
+#[derive(Clone, Copy, Debug, PartialEq, Eq)]
+pub(crate) struct Found {
+    /// Where the table stands, if one was found.
+    pub(crate) table: Option<usize>,
+    /// Its first slot, counted from 0 behind the system ones.
+    pub(crate) start: u64,
+    /// How many slots it has.
+    pub(crate) count: u64,
+}
+
+/// What an id stands for in a symbol table (Ion specification, "Symbols").
+#[derive(Clone, Copy, Debug, PartialEq, Eq)]
+pub enum Slot<'a> {
+    /// A text, in UTF-8.
+    Known(&'a [u8]),
+    /// A symbol of unknown text: `$0`, or a local slot without text.
+    Unknown,
+    /// A slot of an import that has no text.
+    Gap,
+    /// Nothing: the table ends before this id.
+    Above,
+}
+
+/// The symbol table of a stream at a place: the system table, then imports, then local slots.
+///
+/// It holds 32 an import, whose texts stay in the catalogue, and 16 a local slot and the length of
+/// its text. A clause sees the table and the catalogue.
+#[derive(Drop)]
+pub struct Symbols<'c, A: Allocator + Copy> {
+    catalog: &'c Catalog<A>,
+    imports: Table<Found, A>,
+    // How many slots the imports have.
+    import_slots: u64,
+    slots: Slots<A>,
+}
+
+impl<'c, A: Allocator + Copy> Model for Symbols<'c, A> {
+    ghost use Rattle.ion_symbols.specs.Present.{Present, IsKept, imports_in};
+
+    ghost Value = { Present };
+
+    ghost view = { λ s. record { table = record { imports = imports_in s.catalog.now s.imports.items; locals = s.slots }; catalog = s.catalog.now } };
+
+    ghost invariant = { λ s. IsKept s.imports.items s.imports.cost s.import_slots s.slots };
+}
+
+// The slot of an id of the system table.
+fn system_slot(id: u32) -> Slot<'static>
+    requires { id < 10 }
+    ensures { slot_told result ≡ local_slot (slice_get system_slots id) }
+{
+    match id {
+        0 => Slot::Unknown,
+        1 => Slot::Known(b"$ion"),
+        2 => Slot::Known(b"$ion_1_0"),
+        3 => Slot::Known(b"$ion_symbol_table"),
+        4 => Slot::Known(b"name"),
+        5 => Slot::Known(b"version"),
+        6 => Slot::Known(b"imports"),
+        7 => Slot::Known(b"symbols"),
+        8 => Slot::Known(b"max_id"),
+        _ => Slot::Known(b"$ion_shared_symbol_table"),
+    }
+}
+
+// The local slot at a place.
+#[inline]
+fn local<A: Allocator + Copy>(slots: &Slots<A>, place: u64) -> Slot<'_>
+    ensures { slot_told result ≡ local_slot (slice_get slots.now place) }
+{
+    if place >= slots.len() as u64 {
+        return Slot::Above;
+    }
+    match slots.get(place as usize) {
+        Some(text) => Slot::Known(text),
+        None => Slot::Unknown,
+    }
+}
+
+// The slot at a place of a shared table that was found.
+fn shared<A: Allocator + Copy>(catalog: &Catalog<A>, table: Option<usize>, place: u64) -> Slot<'_>
+    ensures { slot_told result ≡ import_slot (slice_get (slots_at catalog.now table) place) }
+{
+    let Some(table) = table else {
+        return Slot::Gap;
+    };
+    let Some(table) = catalog.get(table) else {
+        return Slot::Gap;
+    };
+    if place >= table.len() as u64 {
+        return Slot::Gap;
+    }
+    match table.get(place as usize) {
+        Some(text) => Slot::Known(text),
+        None => Slot::Gap,
+    }
+}
+
+// The import that a slot stands in: the last that begins at it or before.
+fn import_at(imports: &[Found], place: u64) -> usize
+    requires { (end : ℕ) × (Starts 0 imports.now end × (place < end)) }
+    ensures { MatchOption (slice_get imports.now result) ⊥ (λ f. (f.start ≤ place) × (place < f.start + f.count)) }
+{
+    let mut low = 0;
+    let mut high = imports.len();
+    while high - low > 1 {
+        let middle = low + (high - low) / 2;
+        if imports[middle].start <= place {
+            low = middle;
+        } else {
+            high = middle;
+        }
+    }
+    low
+}
+
+// The slot at a place of the imports.
+fn imported<'a, A: Allocator + Copy>(
+    catalog: &'a Catalog<A>,
+    imports: &[Found],
+    place: u64,
+) -> Slot<'a>
+    requires { (end : ℕ) × (Starts 0 imports.now end × (place < end)) }
+    ensures { (locals : tables.Slots) → slot_told result ≡ slot_in (imports_in catalog.now imports.now) locals place }
+{
+    let found = imports[import_at(imports, place)];
+    shared(catalog, found.table, place - found.start)
+}
+
+impl<'c, A: Allocator + Copy> Symbols<'c, A> {
+    /// The system table alone, in front of imports from this catalogue. It takes no memory.
+    pub fn new(meter: &Meter<A>, catalog: &'c Catalog<A>) -> Self
+        ensures table { result.table ≡ system }
+        ensures catalog { result.catalog ≡ catalog.now }
+    {
+        Symbols {
+            catalog,
+            imports: Table::new(meter, IMPORT_COST),
+            import_slots: 0,
+            slots: Slots::new(meter),
+        }
+    }
+
+    /// What an id stands for.
+    pub fn text(&self, id: u32) -> Slot<'_>
+        ensures { slot_told result ≡ slot_of self.now.table id }
+    {
+        if id < 10 {
+            return system_slot(id);
+        }
+        let place = (id - 10) as u64;
+        if place < self.import_slots {
+            imported(self.catalog, self.imports.as_slice(), place)
+        } else {
+            local(&self.slots, place - self.import_slots)
+        }
+    }
+
+    // The catalogue.
+    pub(crate) fn catalog(&self) -> &'c Catalog<A>
+        ensures { result.now ≡ self.now.catalog }
+    {
+        self.catalog
+    }
+
+    // What the table costs, in counted bytes.
+    pub(crate) fn cost(&self) -> u64
+        requires { table_cost self.now.table ≤ 2 ^ 30 }
+        ensures { result ≡ table_cost self.now.table }
+    {
+        IMPORT_COST * self.imports.as_slice().len() as u64 + self.slots.cost()
+    }
+
+    // How many slots the table has behind the system ones.
+    pub(crate) fn count(&self) -> u64
+        ensures { result ≡ count_of self.now.table }
+    {
+        self.import_slots + self.slots.len() as u64
+    }
+
+    // The system table again.
+    pub(crate) fn reset(&mut self, meter: &mut Meter<A>)
+        requires { table_cost self.old.table ≤ meter.old.held }
+        ensures table { self.new.table ≡ system }
+        ensures catalog { self.new.catalog ≡ self.old.catalog }
+        ensures cost { Shrinks meter.old meter.new (table_cost self.old.table) }
+    {
+        self.imports.clear(meter);
+        self.import_slots = 0;
+        self.slots.clear(meter);
+    }
+
+    // The table of a declaration that was read: behind this one where that is kept, else in its
+    // place. Where memory is refused, this one stays; the other is given back.
+    pub(crate) fn take_in(
+        &mut self,
+        meter: &mut Meter<A>,
+        limit: u64,
+        buffer: SymbolBuffer<A>,
+    ) -> Result<(), Fault>
+        requires room { meter.old.held ≤ 2 ^ 62 }
+        requires held { table_cost self.old.table + own_of buffer ≤ meter.old.held }
+        requires countable { meter.old.refused < 2 ^ 64 - 1 }
+        requires limit { (limit ≤ 2 ^ 30) × (table_cost self.old.table ≤ limit) }
+        requires pending { IsPending limit self.old.table buffer }
+        requires nameless { buffer.name ≡ [] }
+        ensures table { OnOk result (self.new.table ≡ next self.old.table (pending_of self.old.catalog buffer)) }
+        ensures cheap { table_cost self.new.table ≤ limit }
+        ensures err { OnErr result (self.new ≡ self.old) }
+        ensures catalog { self.new.catalog ≡ self.old.catalog }
+        ensures memory { IfErr result (λ fault. (fault ≡ Memory) × (meter.old.refused < meter.new.refused)) }
+        ensures counted { OnOk result (meter.new.refused ≡ meter.old.refused) }
+        ensures charges { Charges meter.old meter.new (table_cost self.old.table + own_of buffer) (table_cost self.new.table) (2 * limit) }
+    {
+        let SymbolBuffer {
+            area: _,
+            inside: _,
+            has_imports: _,
+            has_symbols: _,
+            keeps,
+            mut imports,
+            import_slots,
+            mut slots,
+            cost: _,
+            count: _,
+            entry: _,
+            name,
+        } = buffer;
+        name.release(meter);
+        let mut outcome = Ok(());
+        if keeps {
+            outcome = self.slots.append(meter, &slots);
+        } else {
+            mem::swap(&mut self.imports, &mut imports);
+            mem::swap(&mut self.slots, &mut slots);
+            self.import_slots = import_slots;
+        }
+        imports.release(meter);
+        slots.release(meter);
+        outcome
+    }
+
+    /// Gives all back.
+    pub fn release(self, meter: &mut Meter<A>)
+        requires { table_cost self.table ≤ meter.old.held }
+        ensures { Shrinks meter.old meter.new (table_cost self.entry.table) }
+    {
+        let Symbols {
+            catalog: _,
+            imports,
+            import_slots: _,
+            slots,
+        } = self;
+        imports.release(meter);
+        slots.release(meter);
+    }
+}
+
+impl<'c, A: Allocator + Copy> Names for Symbols<'c, A> {
+    ghost use Rattle.ion_symbols.specs.Table.{text_at};
+
+    ghost text = { λ s. text_at s.table };
+
+    fn text_of(&self, id: u32) -> Option<&[u8]> {
+        match self.text(id) {
+            Slot::Known(text) => Some(text),
+            _ => None,
+        }
+    }
+}

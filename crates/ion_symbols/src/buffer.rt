@@ -6,7 +6,7 @@ ghost use Rattle.ion_value.specs.Shares.{Charges, fault_of};
 ghost use Rattle.ion_value.specs.Items.{raw_item};
 ghost use Rattle.ion_symbols.specs.Table as tables;
 ghost use Rattle.ion_symbols.specs.Table.{Shared, most_slots, table_cost, text_at};
-ghost use Rattle.ion_symbols.specs.Declaration.{area_turn, element_turn, head_told, import_of, imports_turn, is_ignored, next, on, part_turn, passed, start, told, turn};
+ghost use Rattle.ion_symbols.specs.Declaration.{area_turn, at, element_turn, head_told, held, import_of, imports_turn, is_ignored, keeping, named, next, on, part_turn, passed, start, told, turn};
 ghost use Rattle.ion_symbols.specs.Buffer.{FoundAs, GrowthCauses, IsPending, TurnAs, declaring_of, import_end_turn, own_of, pending_of, told_of, what_of};
 
 use crate::catalog::Catalog;
@@ -161,6 +161,29 @@ impl<A: Allocator + Copy> SymbolBuffer<A> {
         Ok(false)
     }
 
+    // The present table is kept, and counted.
+    fn keep(&mut self, limit: u64, symbols: &Symbols<'_, A>, place: u64) -> Result<bool, Fault>
+        requires limit { (limit ≤ 2 ^ 30) × (table_cost symbols.now.table ≤ limit) }
+        requires within { (self.old.area ≡ Area.Fields) × ((self.old.inside ≡ 0) × (self.old.has_imports ≡ true)) }
+        requires alone { (self.old.imports.items ≡ []) × (self.old.keeps ≡ false) }
+        requires pending { IsPending limit symbols.now.table self.old }
+        ensures pending { OnOk result (IsPending limit symbols.now.table self.new) }
+        ensures turn { TurnAs (held (keeping (record { catalog = symbols.now.catalog; limit = limit; old = symbols.now.table }) place (pending_of symbols.now.catalog self.old)) (λ p. on (at Area.Fields p))) result (declaring_of symbols.now.catalog self.new) (next symbols.now.table (pending_of symbols.now.catalog self.new)) }
+        ensures memory { result ≢ Err Memory }
+        ensures own { own_of self.new ≡ own_of self.old }
+        ensures name { self.new.name ≡ self.old.name }
+    {
+        let cost = symbols.cost();
+        let count = symbols.count();
+        if !self.fits(limit, cost, count) {
+            return Err(Fault::Refused(Reason::SymbolLimit, place));
+        }
+        self.keeps = true;
+        self.cost += cost;
+        self.count += count;
+        Ok(false)
+    }
+
     // A field of the declaration, or its end.
     fn field(
         &mut self,
@@ -188,16 +211,7 @@ impl<A: Allocator + Copy> SymbolBuffer<A> {
                 self.has_imports = true;
                 match told.what {
                     What::Begins(Kind::List) => self.area = Area::Imports,
-                    What::Names(Word::Declaration) => {
-                        let cost = symbols.cost();
-                        let count = symbols.count();
-                        if !self.fits(limit, cost, count) {
-                            return Err(Fault::Refused(Reason::SymbolLimit, told.place));
-                        }
-                        self.keeps = true;
-                        self.cost += cost;
-                        self.count += count;
-                    }
+                    What::Names(Word::Declaration) => return self.keep(limit, symbols, told.place),
                     _ => self.pass(told.what),
                 }
             }
@@ -234,6 +248,36 @@ impl<A: Allocator + Copy> SymbolBuffer<A> {
         }
     }
 
+    // The name of an import, which is counted until the import ends.
+    fn take_name(
+        &mut self,
+        meter: &mut Meter<A>,
+        limit: u64,
+        symbols: &Symbols<'_, A>,
+        text: &[u8],
+        place: u64,
+    ) -> Result<bool, Fault>
+        requires room { meter.old.held ≤ 2 ^ 62 }
+        requires held { own_of self.old ≤ meter.old.held }
+        requires countable { meter.old.refused < 2 ^ 64 - 1 }
+        requires limit { limit ≤ 2 ^ 30 }
+        requires within { (self.old.area ≡ Area.Import) × ((self.old.inside ≡ 0) × (self.old.entry.has_name ≡ true)) }
+        requires nameless { self.old.name ≡ [] }
+        requires pending { IsPending limit symbols.now.table self.old }
+        ensures pending { OnOk result (IsPending limit symbols.now.table self.new) }
+        ensures turn { TurnAs (held (named (record { catalog = symbols.now.catalog; limit = limit; old = symbols.now.table }) place text.now (pending_of symbols.now.catalog self.old)) (λ p. on (at Area.Import p))) result (declaring_of symbols.now.catalog self.new) (next symbols.now.table (pending_of symbols.now.catalog self.new)) }
+        ensures causes { GrowthCauses (fault_of result) meter.old meter.new }
+        ensures charges { Charges meter.old meter.new (own_of self.old) (own_of self.new) limit }
+    {
+        let length = text.len() as u64;
+        if !self.fits(limit, length, 0) {
+            return Err(Fault::Refused(Reason::SymbolLimit, place));
+        }
+        self.name.extend(meter, text)?;
+        self.cost += length;
+        Ok(false)
+    }
+
     // A field of an import.
     fn part(
         &mut self,
@@ -260,14 +304,9 @@ impl<A: Allocator + Copy> SymbolBuffer<A> {
                 }
                 self.entry.has_name = true;
                 match told.what {
-                    What::Text(text) => {
-                        let length = text.len() as u64;
-                        if !self.fits(limit, length, 0) {
-                            return Err(Fault::Refused(Reason::SymbolLimit, told.place));
-                        }
-                        self.name.extend(meter, text)?;
-                        self.cost += length;
-                    }
+                    What::Text(text) => return self.take_name(
+                        meter, limit, symbols, text, told.place,
+                    ),
                     _ => self.pass(told.what),
                 }
             }

@@ -33,8 +33,8 @@ use std::alloc::Allocator;
 /// are taken in.
 ///
 /// It holds what its raw reader holds and one symbol table: at most the limit on symbol tables
-/// between calls, and twice that limit within one. One that is dropped without `release` leaves the
-/// meter's `held` as it was.
+/// between calls, and twice that limit within one. It ends by `release`, which hands the raw reader
+/// out.
 pub struct UserReader<'c, R: RawReader<A>, A: Allocator + Copy> {
     raw: R,
     symbols: Symbols<'c, A>,

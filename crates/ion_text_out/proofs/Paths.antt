@@ -1,0 +1,95 @@
+-- The text of items grows by that of each, and the text of trees is that of their items.
+use Rattle.std.proofs.Common.{◌≡◌, ℕ, true, List, [], ◌∷◌, ◌++◌, Option, None, refl, ap, sym, ◌∙◌, append_assoc, append-nil}
+use Rattle.std.specs.List.{flat_map}
+use Rattle.ion_value.specs.declared.ion_type.Kind.{Kind}
+use Rattle.ion_value.specs.Value as v
+use Rattle.ion_value.specs.Value.{UserSymbol, Value, Members, scalar, container, nothing, member, Top, tree, Item, bare_item, member_items, one_top, top_items, value_items}
+use Rattle.ion_text_out.specs.Text.{Open, annotation_text, before_item, before_next, behind_value, closer, field_text, is_empty, item_text, items_text, members_text, open_after, open_behind, opener, scalar_text, text, top_text, value_text, with_member}
+
+-- the text of items behind others
+pub items_append : (cs : Open) (is js : List (Item UserSymbol ℕ)) → items_text cs (is ++ js) ≡ items_text cs is ++ items_text (open_behind cs is) js
+items_append cs [] js = refl
+items_append cs (i ∷ is) js =
+    ap (λ t. item_text cs i ++ t) (items_append (open_after cs i.head) is js)
+    ∙ sym (append_assoc (item_text cs i) (items_text (open_after cs i.head) is) (items_text (open_behind (open_after cs i.head) is) js))
+
+-- an item more adds its text
+pub one_more : (is : List (Item UserSymbol ℕ)) (i : Item UserSymbol ℕ) → items_text [] (is ++ i ∷ []) ≡ items_text [] is ++ item_text (open_behind [] is) i
+one_more is i = items_append [] is (i ∷ []) ∙ ap (λ t. items_text [] is ++ t) (append-nil (item_text (open_behind [] is) i))
+
+-- the open containers behind items and others
+behind_append : (cs : Open) (is js : List (Item UserSymbol ℕ)) → open_behind cs (is ++ js) ≡ open_behind (open_behind cs is) js
+behind_append cs [] js = refl
+behind_append cs (i ∷ is) js = behind_append (open_after cs i.head) is js
+
+with_member-again : (cs : Open) → with_member (with_member cs) ≡ with_member cs
+with_member-again [] = refl
+with_member-again (c ∷ cs) = refl
+
+same_behind : (cs : Open) → behind_value (with_member cs) ≡ behind_value cs
+same_behind [] = refl
+same_behind (c ∷ cs) = refl
+
+-- a value leaves what was open before it, which then has a member
+mutual
+  value_behind : (x : Value UserSymbol ℕ) (top p : ℕ) (f : Option UserSymbol) (notes : List UserSymbol) (cs : Open) → open_behind cs (value_items top f notes p x) ≡ with_member cs
+  value_behind (scalar body) top p f notes cs = refl
+  value_behind (container kind members last) top p f notes cs =
+      behind_append ((kind, true) ∷ with_member cs) (member_items top members) (bare_item v.end last top ∷ [])
+      ∙ ap (λ c. open_behind c (bare_item v.end last top ∷ [])) (members_behind members kind top (with_member cs))
+
+  members_behind : (ms : Members UserSymbol ℕ) (kind : Kind) (top : ℕ) (cs : Open) → open_behind ((kind, true) ∷ cs) (member_items top ms) ≡ (kind, is_empty ms) ∷ cs
+  members_behind nothing kind top cs = refl
+  members_behind (member before f notes p x) kind top cs =
+      behind_append ((kind, true) ∷ cs) (member_items top before) (value_items top f notes p x)
+      ∙ (ap (λ c. open_behind c (value_items top f notes p x)) (members_behind before kind top cs)
+      ∙ value_behind x top p f notes ((kind, is_empty before) ∷ cs))
+
+-- the text of a container's items, put together
+container_text : (a b c d e g : List ℕ) → (a ++ (b ++ c)) ++ (d ++ (e ++ g)) ≡ a ++ (b ++ ((c ++ (d ++ e)) ++ g))
+container_text a b c d e g = simp append_assoc
+
+-- that of a member's
+member_text : (a b c d e : List ℕ) → a ++ (b ++ ((c ++ d) ++ (e ++ []))) ≡ a ++ (b ++ (c ++ (d ++ e)))
+member_text a b c d e = simp (append_assoc, append-nil)
+
+mutual
+  -- the text of a value's items
+  value_text_of : (x : Value UserSymbol ℕ) (top p : ℕ) (f : Option UserSymbol) (notes : List UserSymbol) (cs : Open)
+      → items_text cs (value_items top f notes p x) ≡ before_item cs ++ ((field_text f ++ flat_map annotation_text notes) ++ (value_text x ++ behind_value cs))
+  value_text_of (scalar body) top p f notes cs = append-nil (before_item cs ++ ((field_text f ++ flat_map annotation_text notes) ++ (scalar_text body ++ behind_value cs)))
+  value_text_of (container kind members last) top p f notes cs =
+      let front = field_text f ++ flat_map annotation_text notes in
+      ap (λ t. (before_item cs ++ (front ++ opener kind)) ++ t)
+      (items_append ((kind, true) ∷ with_member cs) (member_items top members) (bare_item v.end last top ∷ [])
+      ∙ (ap (λ t. t ++ items_text (open_behind ((kind, true) ∷ with_member cs) (member_items top members)) (bare_item v.end last top ∷ [])) (members_text_of members kind top (with_member cs))
+      ∙ (ap (λ c. members_text kind members ++ items_text c (bare_item v.end last top ∷ [])) (members_behind members kind top (with_member cs))
+      ∙ ap (λ t. members_text kind members ++ t) (append-nil (closer kind ++ behind_value (with_member cs)) ∙ ap (λ t. closer kind ++ t) (same_behind cs)))))
+      ∙ container_text (before_item cs) front (opener kind) (members_text kind members) (closer kind) (behind_value cs)
+
+  -- the text of members' items
+  members_text_of : (ms : Members UserSymbol ℕ) (kind : Kind) (top : ℕ) (cs : Open) → items_text ((kind, true) ∷ cs) (member_items top ms) ≡ members_text kind ms
+  members_text_of nothing kind top cs = refl
+  members_text_of (member before f notes p x) kind top cs =
+      items_append ((kind, true) ∷ cs) (member_items top before) (value_items top f notes p x)
+      ∙ (ap (λ t. t ++ items_text (open_behind ((kind, true) ∷ cs) (member_items top before)) (value_items top f notes p x)) (members_text_of before kind top cs)
+      ∙ (ap (λ c. members_text kind before ++ items_text c (value_items top f notes p x)) (members_behind before kind top cs)
+      ∙ (ap (λ t. members_text kind before ++ t) (value_text_of x top p f notes ((kind, is_empty before) ∷ cs))
+      ∙ member_text (members_text kind before) (before_next kind (is_empty before)) (field_text f) (flat_map annotation_text notes) (value_text x))))
+
+one_text : (t : Top UserSymbol ℕ) → items_text [] (one_top t) ≡ top_text t
+one_text (v.version place) = refl
+one_text (tree first notes place x) = value_text_of x first place None notes []
+
+one_behind : (t : Top UserSymbol ℕ) → open_behind [] (one_top t) ≡ []
+one_behind (v.version place) = refl
+one_behind (tree first notes place x) = value_behind x first place None notes []
+
+-- the text of whole values is that of their items
+pub text_of_items : (ts : List (Top UserSymbol ℕ)) → items_text [] (top_items ts) ≡ text ts
+text_of_items [] = refl
+text_of_items (t ∷ ts) =
+    items_append [] (one_top t) (top_items ts)
+    ∙ (ap (λ a. a ++ items_text (open_behind [] (one_top t)) (top_items ts)) (one_text t)
+    ∙ (ap (λ c. top_text t ++ items_text c (top_items ts)) (one_behind t)
+    ∙ ap (λ a. top_text t ++ a) (text_of_items ts)))

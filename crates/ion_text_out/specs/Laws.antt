@@ -1,0 +1,12 @@
+-- What is true of the definitions of text: laws that contracts cite.
+use Rattle.std.specs.Prelude.{◌≡◌, ℕ, List, [], ◌∷◌, ◌++◌}
+use Rattle.ion_value.specs.Value.{UserSymbol, Top, Item, top_items}
+use Rattle.ion_text_out.specs.Text.{item_text, items_text, open_behind, text}
+
+-- an item more adds its text
+abbrev pub ItemsAddTheirText : Type 0
+ItemsAddTheirText = (items : List (Item UserSymbol ℕ)) (item : Item UserSymbol ℕ) → items_text [] (items ++ item ∷ []) ≡ items_text [] items ++ item_text (open_behind [] items) item
+
+-- the text of whole values is that of their items
+abbrev pub TextIsThatOfItems : Type 0
+TextIsThatOfItems = (tops : List (Top UserSymbol ℕ)) → items_text [] (top_items tops) ≡ text tops

@@ -1,0 +1,128 @@
+-- The canonical text of values: of whole ones, and of a path whose containers are still open.
+use Rattle.std.specs.Prelude.{ℕ, Bool, true, false, if◌then◌else◌, List, [], ◌∷◌, ◌++◌, drop, fold, Option, Some, None, codes}
+use Rattle.std.specs.List.{flat_map}
+use Rattle.base64.specs.Engines.{standard}
+use Rattle.base64.specs.GeneralPurpose.{encode_of}
+use Rattle.ion_value.specs.declared.ion_type.Kind.{Kind}
+use Rattle.ion_value.specs.declared.ion_type.Kind.TheVariants.{List as list, Sexp as sexp, Struct as struct}
+use Rattle.ion_value.specs.Name.{bool_text, is_plain, null_text}
+use Rattle.ion_value.specs.Int.{int_text}
+use Rattle.ion_value.specs.Decimal.{decimal_text}
+use Rattle.ion_value.specs.Timestamp.{timestamp_text}
+use Rattle.ion_value.specs.Value as v
+use Rattle.ion_value.specs.Value.{UserSymbol, Known, Unknown, Scalar, Value, Members, scalar, container, nothing, member, Top, tree, Head, Item}
+use Rattle.ion_text_out.specs.Escape.{between_quotes}
+
+-- a symbol stands without quotes where its text is an identifier that means nothing else; one of unknown text is `$0`
+abbrev pub symbol_text : UserSymbol → List ℕ
+symbol_text (Known t) = if is_plain t then t else between_quotes 39 256 t
+symbol_text Unknown = codes "$0"
+
+abbrev pub scalar_text : Scalar UserSymbol → List ℕ
+scalar_text (v.null type) = null_text type
+scalar_text (v.bool truth) = bool_text truth
+scalar_text (v.int number) = int_text number
+scalar_text (v.decimal number) = decimal_text number
+scalar_text (v.timestamp moment) = timestamp_text moment
+scalar_text (v.symbol s) = symbol_text s
+scalar_text (v.string bytes) = between_quotes 34 256 bytes
+scalar_text (v.clob bytes) = codes "{{" ++ (between_quotes 34 128 bytes ++ codes "}}")
+scalar_text (v.blob bytes) = codes "{{" ++ (encode_of standard bytes ++ codes "}}")
+
+abbrev pub field_text : Option UserSymbol → List ℕ
+field_text None = []
+field_text (Some s) = symbol_text s ++ codes ":"
+
+abbrev pub annotation_text : UserSymbol → List ℕ
+annotation_text s = symbol_text s ++ codes "::"
+
+abbrev pub opener : Kind → List ℕ
+opener list = codes "["
+opener sexp = codes "("
+opener struct = codes "{"
+
+abbrev pub closer : Kind → List ℕ
+closer list = codes "]"
+closer sexp = codes ")"
+closer struct = codes "}"
+
+abbrev pub separator : Kind → List ℕ
+separator list = codes ","
+separator sexp = codes " "
+separator struct = codes ","
+
+-- a separator stands before each member but the first
+abbrev pub before_next : Kind → Bool → List ℕ
+before_next kind true = []
+before_next kind false = separator kind
+
+abbrev pub is_empty : {S P : Type 0} → Members S P → Bool
+is_empty nothing = true
+is_empty (member before field notes place value) = false
+
+-- ---- whole values
+
+abbrev mutual
+  pub value_text : {P : Type 0} → Value UserSymbol P → List ℕ
+  value_text (scalar body) = scalar_text body
+  value_text (container kind members last) = opener kind ++ (members_text kind members ++ closer kind)
+
+  pub members_text : {P : Type 0} → Kind → Members UserSymbol P → List ℕ
+  members_text kind nothing = []
+  members_text kind (member before field notes place value) =
+      members_text kind before ++ (before_next kind (is_empty before) ++ (field_text field ++ (flat_map annotation_text notes ++ value_text value)))
+
+-- each value at top level ends its line; markers have no text
+abbrev pub top_text : {P : Type 0} → Top UserSymbol P → List ℕ
+top_text (v.version place) = []
+top_text (tree first notes place value) = flat_map annotation_text notes ++ (value_text value ++ codes "\n")
+
+abbrev pub text : {P : Type 0} → List (Top UserSymbol P) → List ℕ
+text tops = flat_map top_text tops
+
+-- ---- item by item
+
+-- the open containers, the innermost first, and whether each has no member yet
+abbrev pub Open : Type 0
+Open = List (Kind × Bool)
+
+abbrev pub before_item : Open → List ℕ
+before_item [] = []
+before_item (c ∷ cs) = before_next c.0 c.1
+
+abbrev pub behind_value : Open → List ℕ
+behind_value [] = codes "\n"
+behind_value (c ∷ cs) = []
+
+abbrev pub with_member : Open → Open
+with_member [] = []
+with_member (c ∷ cs) = (c.0, false) ∷ cs
+
+abbrev pub end_text : Open → List ℕ
+end_text [] = []
+end_text (c ∷ cs) = closer c.0 ++ behind_value cs
+
+abbrev pub head_text : Open → List ℕ → Head UserSymbol → List ℕ
+head_text cs front (v.whole body) = before_item cs ++ (front ++ (scalar_text body ++ behind_value cs))
+head_text cs front (v.begin kind) = before_item cs ++ (front ++ opener kind)
+head_text cs front v.end = end_text cs
+head_text cs front v.marker = []
+
+-- what an item adds: a separator stands before it, and a line's end behind a value at top level
+abbrev pub item_text : {P : Type 0} → Open → Item UserSymbol P → List ℕ
+item_text cs i = head_text cs (field_text i.field ++ flat_map annotation_text i.annotations) i.head
+
+abbrev pub open_after : Open → Head UserSymbol → Open
+open_after cs (v.whole body) = with_member cs
+open_after cs (v.begin kind) = (kind, true) ∷ with_member cs
+open_after cs v.end = drop 1 cs
+open_after cs v.marker = cs
+
+-- the open containers behind items
+abbrev pub open_behind : {P : Type 0} → Open → List (Item UserSymbol P) → Open
+open_behind cs items = fold (λ c i. open_after c i.head) cs items
+
+-- the text of the items of a path: of whole values at top level, and of those that are open, with no closing bracket
+abbrev pub items_text : {P : Type 0} → Open → List (Item UserSymbol P) → List ℕ
+items_text cs [] = []
+items_text cs (i ∷ is) = item_text cs i ++ items_text (open_after cs i.head) is

@@ -1,17 +1,22 @@
 //! What the reader gives of worked streams, in whatever pieces they come, and how it ends.
 
 mod containers;
+mod declarations;
 mod drawn;
 mod endings;
 mod hex;
+mod imports;
 mod long;
 mod mangling;
+mod many_symbols;
 mod narrowing;
 mod pieces;
 mod reading;
 mod scalars;
 mod streams;
 mod telling;
+mod user_endings;
+mod users;
 mod wrappers;
 
 use ion_meter::limits::Limits;

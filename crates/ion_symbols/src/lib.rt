@@ -12,6 +12,8 @@ pub mod search;
 pub mod shared;
 mod slots;
 pub mod symbols;
+#[cfg(test)]
+mod tests;
 mod told;
 pub mod user;
 mod word;

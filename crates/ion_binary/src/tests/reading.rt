@@ -11,15 +11,15 @@ use ion_meter::meter::Meter;
 use ion_meter::source::Source;
 use ion_meter::stream::FromRead;
 use ion_value::item::{Head, Item};
-use ion_value::names::NoNames;
+use ion_value::names::Names;
 use ion_value::reader::RawReader;
 use std::alloc::{AllocError, Global};
 use std::fmt::Write;
 use std::process::Abort;
 use std::test::Fail;
 
-// More items than any stream here has.
-const MANY: u32 = 10_000;
+/// More items than any stream here has.
+pub const MANY: u32 = 10_000;
 
 /// What a reader gave of a stream, and how it ended.
 #[derive(Drop)]
@@ -37,7 +37,8 @@ pub struct Outcome {
 }
 
 impl Outcome {
-    fn new(alloc: Global, from: u64) -> Outcome {
+    /// Nothing yet.
+    pub fn new(alloc: Global, from: u64) -> Outcome {
         Outcome {
             from,
             items: String::new(alloc),
@@ -47,8 +48,8 @@ impl Outcome {
         }
     }
 
-    // Adds an item.
-    fn add(&mut self, item: &Item<'_, NoNames>) -> Result<(), AllocError> {
+    /// Adds an item.
+    pub fn add<N: Names>(&mut self, item: &Item<'_, N>) -> Result<(), AllocError> {
         tell_item(&mut self.items, item, self.from)?;
         self.items.push_str("; ")?;
         self.tops.push(item.top())?;

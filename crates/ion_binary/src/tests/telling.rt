@@ -4,7 +4,7 @@ use ion_value::decimal::Decimal;
 use ion_value::int::Int;
 use ion_value::ion_type::{IonType, Kind};
 use ion_value::item::{Head, Item, Sym, SymAt};
-use ion_value::names::NoNames;
+use ion_value::names::Names;
 use ion_value::timestamp::{Precision, Timestamp};
 use std::alloc::AllocError;
 use std::fmt::Write;
@@ -39,13 +39,23 @@ fn sign(negative: bool) -> &'static str {
     if negative { "-" } else { "" }
 }
 
-// A symbol's id and place. A binary stream has no symbol as a text.
+// A text in quotes, each byte that is no ASCII as a letter of its own.
+fn tell_text(words: &mut String, text: &[u8]) -> Result<(), AllocError> {
+    words.push('\'')?;
+    for octet in text {
+        words.push(*octet as char)?;
+    }
+    words.push('\'')
+}
+
+// A symbol's id or text, and its place. No symbol of a raw binary stream is a text.
 fn tell_symbol(words: &mut String, at: SymAt<'_>, from: u64) -> Result<(), AllocError> {
     let place = at.place.saturating_sub(from);
     match at.sym {
-        Sym::Id(id) => write!(words, "{id}@{place}"),
-        Sym::Text(_) => write!(words, "text@{place}"),
+        Sym::Id(id) => write!(words, "{id}")?,
+        Sym::Text(text) => tell_text(words, text)?,
     }
+    write!(words, "@{place}")
 }
 
 fn tell_octets(words: &mut String, name: &str, octets: &[u8]) -> Result<(), AllocError> {
@@ -127,14 +137,14 @@ fn tell_head(words: &mut String, head: Head<'_>, from: u64) -> Result<(), AllocE
     }
 }
 
-/// Adds an item's words: its place and that of its top-level value, its field's id and place behind
-/// which is a colon, those of each annotation behind which are two, and its head.
+/// Adds an item's words: its place and that of its top-level value, its field's id or text and place
+/// behind which is a colon, those of each annotation behind which are two, and its head.
 ///
 /// A number is told by its sign and digits, a decimal's exponent behind a `d`; octets in
 /// hexadecimal. Places are told from this one, and those before it as 0.
-pub fn tell_item(
+pub fn tell_item<N: Names>(
     words: &mut String,
-    item: &Item<'_, NoNames>,
+    item: &Item<'_, N>,
     from: u64,
 ) -> Result<(), AllocError> {
     let place = item.place().saturating_sub(from);

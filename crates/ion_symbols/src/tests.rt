@@ -1,0 +1,6 @@
+//! What each call on a table leaves, and what it costs.
+
+mod catalogs;
+mod outputs;
+mod shared_tables;
+mod system_table;

@@ -10,6 +10,7 @@ mod long;
 mod mangling;
 mod many_symbols;
 mod narrowing;
+mod one_declaration;
 mod pieces;
 mod reading;
 mod scalars;

@@ -1,5 +1,5 @@
 //! A declaration that is read by itself.
-ghost use Rattle.std.specs.Prelude.{◌≡◌, ◌∷◌, ◌≤◌, [], None};
+ghost use Rattle.std.specs.Prelude.{◌≡◌, ◌∷◌, ◌≤◌, []};
 ghost use Rattle.ion_value.specs.declared.ion_type.Kind.TheVariants as kinds;
 
 use super::LIMITS;

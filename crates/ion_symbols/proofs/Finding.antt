@@ -5,7 +5,7 @@ use Rattle.std.proofs.lemmas.Option.{slice_get_within}
 use Rattle.ion_meter.specs.Counts.{Counts}
 use Rattle.ion_value.specs.Shares.{Charges}
 use Rattle.ion_symbols.specs.declared.search.Place.{Place}
-use Rattle.ion_symbols.specs.Output.{Belongs, IsSorted, texts_cost, position, system_id, or_given, known_id, id_or_new, id_given}
+use Rattle.ion_symbols.specs.Output.{Belongs, IsSorted, probes_for, texts_cost, position, system_id, or_given, known_id, id_or_new, id_given}
 use Rattle.ion_symbols.specs.Ordered.{texts_in, ordered_texts, Ordered, IsWithin}
 use Rattle.ion_symbols.proofs.Orders.{orders_sorted, one_sorted, found_position, belongs_none}
 use Rattle.ion_symbols.proofs.Adding.{nothing_charged, share_kept}
@@ -47,3 +47,10 @@ found_given bytes places order order2 texts by_id t place limit h e i o s f =
 pub found_charges : (bytes : List ℕ) (places : List Place) (order : List ℕ) (texts : List (List ℕ)) (of_place of_id limit most : ℕ) (m : Counts) → Ordered bytes places order → IsWithin bytes places of_place of_id limit → texts_in bytes places ≡ texts → limit ≡ most → Charges m m (texts_cost texts) (texts_cost (texts_in bytes places)) most
 found_charges bytes places order texts of_place of_id limit most m h w e l =
     subst (λ ts. Charges m m (texts_cost texts) (texts_cost ts) most) (sym e) (nothing_charged m (texts_cost texts) most (share_kept bytes places order texts of_place of_id limit most h w e l))
+
+-- in any order by bytes it is looked for with as many probes
+pub probes_sorted : (bytes : List ℕ) (places : List Place) (order : List ℕ) (texts by_id : List (List ℕ)) (t : List ℕ) (probes : ℕ) → Ordered bytes places order → ordered_texts bytes places order ≡ texts → texts_in bytes places ≡ by_id → probes ≡ probes_for texts t → (sorted : List (List ℕ)) → IsSorted sorted by_id → probes ≡ probes_for sorted t
+probes_sorted bytes places order texts by_id t probes h e i n sorted is =
+    let kept : IsSorted sorted (texts_in bytes places) = subst (IsSorted sorted) (sym i) is in
+    let same : texts ≡ sorted = sym e ∙ one_sorted (texts_in bytes places) (ordered_texts bytes places order) sorted (orders_sorted (texts_in bytes places) order h.orders) kept in
+    n ∙ ap (λ ts. probes_for ts t) same

@@ -19,6 +19,7 @@ mod Said
 mod UserReadings
 mod TextOrder
 mod Halving
+mod Probes
 mod OutputTexts
 mod Orders
 mod Adding

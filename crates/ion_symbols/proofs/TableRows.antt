@@ -7,7 +7,7 @@ use Rattle.ion_value.specs.Value.{SymbolAt, Value, Members, nothing, member, con
 use Rattle.ion_symbols.specs.Table.{Shared, Table, system, catalog_cost, shared_cost, may_stand, slot_of, known, unknown, gap, above, table_cost}
 use Rattle.ion_symbols.specs.Tree.{declared, next_table}
 use Rattle.ion_symbols.specs.Table.{text_at}
-use Rattle.ion_symbols.specs.Output.{binary_digits, id_given, texts_cost}
+use Rattle.ion_symbols.specs.Output.{binary_digits, probes_for, id_given, texts_cost}
 
 -- ---- the catalogue
 
@@ -148,3 +148,15 @@ two_digits = refl
 
 twelve_digits : binary_digits 4095 ≡ 12
 twelve_digits = refl
+
+no_probes : probes_for [] (codes "a") ≡ 0
+no_probes = refl
+
+probes_for_the_middle_one : probes_for (codes "a" ∷ codes "c" ∷ codes "e" ∷ []) (codes "c") ≡ 1
+probes_for_the_middle_one = refl
+
+probes_for_the_first : probes_for (codes "a" ∷ codes "c" ∷ codes "e" ∷ []) (codes "a") ≡ 2
+probes_for_the_first = refl
+
+probes_for_one_that_is_not_there : probes_for (codes "a" ∷ codes "c" ∷ codes "e" ∷ []) (codes "d") ≡ 2
+probes_for_one_that_is_not_there = refl

@@ -1,10 +1,10 @@
 -- The texts of an output that have been given ids, and how they are found.
-use Rattle.std.specs.Prelude.{◌≡◌, ℕ, zero, suc, ◌+◌, ◌≤◌, ◌/◌, nat_le, if◌then◌else◌, List, [], ◌∷◌, ◌++◌, length, take, drop, slice_get, All, ⊤, Option, Some, None, option_map, codes}
+use Rattle.std.specs.Prelude.{◌≡◌, ℕ, zero, suc, ◌+◌, ◌≤◌, ◌/◌, nat_le, if◌then◌else◌, List, [], ◌∷◌, ◌++◌, length, take, drop, slice_get, slice_index_or, All, ⊤, Option, Some, None, option_map, codes}
 use Rattle.std.specs.Str.{bytes_eq}
 use Rattle.std.specs.Cmp.Lexicographic.{slice_cmp}
 use Rattle.std.specs.Ordering.{nat_cmp}
 use Rattle.std.specs.declared.cmp.Ordering.{Ordering}
-use Rattle.std.specs.declared.cmp.Ordering.TheVariants.{Less, Greater}
+use Rattle.std.specs.declared.cmp.Ordering.TheVariants.{Less, Equal, Greater}
 
 -- the place of a text in a list of texts, counted from 0
 abbrev pub position : List (List ℕ) → List ℕ → Option ℕ
@@ -89,3 +89,23 @@ digits_within (suc most) (suc n) = 1 + digits_within most (suc n / 2)
 -- the number of binary digits of a number, 0 for 0
 abbrev pub binary_digits : ℕ → ℕ
 binary_digits n = digits_within n n
+
+-- the probes that follow a comparison: behind the middle, or before it, or none
+abbrev pub probes_by : Ordering → ℕ → ℕ → ℕ
+probes_by Less behind before = behind
+probes_by Equal behind before = 0
+probes_by Greater behind before = before
+
+-- how often a text is compared among texts in order by halving: with the one in the middle, and then among those behind it or before it
+abbrev pub probes_within : ℕ → List (List ℕ) → List ℕ → ℕ
+probes_within zero texts t = 0
+probes_within (suc most) [] t = 0
+probes_within (suc most) (s ∷ ss) t =
+    1
+    + probes_by (text_cmp (slice_index_or (s ∷ ss) (length (s ∷ ss) / 2) []) t)
+    (probes_within most (drop (length (s ∷ ss) / 2 + 1) (s ∷ ss)) t)
+    (probes_within most (take (length (s ∷ ss) / 2) (s ∷ ss)) t)
+
+-- among the texts of a list
+abbrev pub probes_for : List (List ℕ) → List ℕ → ℕ
+probes_for texts t = probes_within (length texts) texts t

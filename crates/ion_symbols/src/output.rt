@@ -4,7 +4,7 @@ ghost use Rattle.ion_meter.specs.declared.fault.Fault.TheVariants.{Memory};
 ghost use Rattle.ion_meter.specs.Limits.{AreChecked};
 ghost use Rattle.ion_meter.specs.Counts.{Shrinks};
 ghost use Rattle.ion_value.specs.Shares.{Charges};
-ghost use Rattle.ion_symbols.specs.Output.{Belongs, IsSorted, binary_digits, id_given, known_id, system_id, texts_cost};
+ghost use Rattle.ion_symbols.specs.Output.{Belongs, IsSorted, binary_digits, id_given, known_id, probes_for, system_id, texts_cost};
 ghost use Rattle.ion_value.specs.Items.{is_none_left};
 
 use crate::search::{Place, Search, place_of};
@@ -93,6 +93,7 @@ impl<A: Allocator + Copy> OutSymbols<A> {
         ensures limit { self.new.limit ≡ self.old.limit }
         ensures probes { self.new.probes ≤ binary_digits (length self.old.texts) }
         ensures system { (id : ℕ) → system_id text.now ≡ Some id → self.new.probes ≡ 0 }
+        ensures searched { (sorted : List (List ℕ)) → IsSorted sorted self.old.texts → system_id text.now ≡ None → self.new.probes ≡ probes_for sorted text.now }
         ensures memory { IfErr result (λ fault. (fault ≡ Memory) × (self.new.texts ≡ self.old.texts) × (meter.new.refused ≡ meter.old.refused + 1)) }
         ensures counted { OnOk result (meter.new.refused ≡ meter.old.refused) }
         ensures charges { Charges meter.old meter.new (texts_cost self.old.texts) (texts_cost self.new.texts) self.old.limit }

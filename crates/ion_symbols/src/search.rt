@@ -1,7 +1,7 @@
 //! The search for a text among the texts of an output.
 ghost use Rattle.std.specs.Prelude.{◌≡◌, ◌+◌, ◌-◌, ◌^◌, ◌<◌, ◌≤◌, length, slice_get, Some, IfOk, IfErr, MatchOption};
 ghost use Rattle.ion_value.specs.Items.{is_none_left};
-ghost use Rattle.ion_symbols.specs.Output.{Ascend, Belongs, binary_digits, text_cmp};
+ghost use Rattle.ion_symbols.specs.Output.{Ascend, Belongs, binary_digits, probes_for, text_cmp};
 ghost use Rattle.ion_symbols.specs.Ordered.{Ordered, ordered_texts};
 
 use std::cmp::Ordering;
@@ -102,6 +102,7 @@ pub fn place_of(search: &mut Search<'_>, text: &[u8]) -> Result<u32, u32>
     ensures belongs { IfErr result (λ place. Belongs search.old.texts text.now place) }
     ensures texts { search.new.texts ≡ search.old.texts }
     ensures probes { search.new.probes ≤ binary_digits (length search.old.texts) }
+    ensures exact { search.new.probes ≡ probes_for search.old.texts text.now }
 {
     let mut low = 0;
     let mut high = search.len();

@@ -2,6 +2,7 @@ use Rattle.std.proofs.Common.{◌+◌, ◌-◌, ◌/◌, ◌≤◌, length, arit
 use Rattle.ion_symbols.specs.Output.{binary_digits}
 use Rattle.ion_symbols.proofs.TextOrder.{answers_less, answers_greater, answers_equal}
 use Rattle.ion_symbols.proofs.Halving.{half_digits, few_digits}
+use Rattle.ion_symbols.proofs.Probes.{probes_less, probes_greater, probes_equal}
 use Rattle.ion_symbols.proofs.search.place_of.Goals as goal
 
 pub compare-requires-clause-countable : goal.compare-requires-clause-countable
@@ -24,6 +25,7 @@ loop-low-preserved-in-Less c =
       before = answers_less c.loop-low.search.texts c.args.search.now.texts (c.loop-low.low + size / 2) c.args.text.now h.texts e.ascend (omega (arith, c.loop-low-test.true, h.within)) e.order;
       behind = h.behind;
       probes = omega (arith, d, h.probes, e.probes);
+      exact = omega (arith, probes_less c.loop-low.search.texts c.args.search.now.texts c.loop-low.low c.loop-low.high c.args.text.now h.texts c.loop-low-test.true h.within e.order, h.exact, e.probes);
     }
 
 pub loop-low-preserved : goal.loop-low-preserved
@@ -41,7 +43,20 @@ loop-low-preserved c =
       before = h.before;
       behind = answers_greater c.loop-low.search.texts c.args.search.now.texts (c.loop-low.low + size / 2) c.args.text.now h.texts e.ascend e.order;
       probes = omega (arith, d, h.probes, e.probes);
+      exact = omega (arith, probes_greater c.loop-low.search.texts c.args.search.now.texts c.loop-low.low c.loop-low.high c.args.text.now h.texts c.loop-low-test.true h.within e.order, h.exact, e.probes);
     }
 
 pub returns-in-Equal-clause-found : goal.returns-in-Equal-clause-found
 returns-in-Equal-clause-found c = answers_equal c.loop-low.search.texts c.args.search.now.texts _ c.args.text.now c.loop-low.invariant.texts c.in-Equal.ensures.order
+
+pub returns-in-Equal-clause-probes : goal.returns-in-Equal-clause-probes
+returns-in-Equal-clause-probes c =
+    let h = c.loop-low.invariant in
+    let size = c.loop-low.high - c.loop-low.low in
+    let d : 1 + binary_digits 0 ≤ binary_digits size = half_digits size 0 (omega (arith, c.loop-low-test.true)) (omega arith) in
+    omega (arith, d, h.probes, c.in-Equal.ensures.probes)
+
+pub returns-in-Equal-clause-exact : goal.returns-in-Equal-clause-exact
+returns-in-Equal-clause-exact c =
+    let h = c.loop-low.invariant in
+    omega (arith, probes_equal c.loop-low.search.texts c.args.search.now.texts c.loop-low.low c.loop-low.high c.args.text.now h.texts c.loop-low-test.true h.within c.in-Equal.ensures.order, h.exact, c.in-Equal.ensures.probes)

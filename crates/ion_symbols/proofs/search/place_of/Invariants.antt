@@ -1,5 +1,6 @@
 use Rattle.std.proofs.Common.{◌≡◌, ◌+◌, ◌-◌, ◌^◌, ◌<◌, ◌≤◌, length, take, drop, All, Less, Greater}
-use Rattle.ion_symbols.specs.Output.{binary_digits, text_cmp}
+use Rattle.ion_symbols.specs.Output.{binary_digits, probes_for, text_cmp}
+use Rattle.ion_symbols.proofs.Probes.{between}
 use Rattle.ion_symbols.proofs.search.place_of.Given as goal
 
 abbrev pub invariant-loop-low : goal.invariant-loop-low
@@ -11,6 +12,7 @@ invariant-loop-low l = record {
   before : All (λ s. text_cmp s l.text ≡ Less) (take l.low l.fn.search.texts);
   behind : All (λ s. text_cmp s l.text ≡ Greater) (drop l.high l.fn.search.texts);
   probes : l.search.probes + binary_digits (l.high - l.low) ≤ binary_digits (length l.fn.search.texts);
+  exact : l.search.probes + probes_for (between l.low l.high l.fn.search.texts) l.text ≡ probes_for l.fn.search.texts l.text;
 }
 
 abbrev pub decreases-loop-low : goal.decreases-loop-low

@@ -1,6 +1,6 @@
-use Rattle.std.proofs.Common.{ap}
+use Rattle.std.proofs.Common.{ap, ◌∙◌}
 use Rattle.ion_symbols.specs.Output.{Output}
-use Rattle.ion_symbols.proofs.Finding.{searched, found_within, not_known, belongs_sorted, found_given, found_charges}
+use Rattle.ion_symbols.proofs.Finding.{searched, found_within, not_known, belongs_sorted, found_given, found_charges, probes_sorted}
 use Rattle.ion_symbols.proofs.output.OutSymbols.id_of.Goals as goal
 
 pub returns-in-Some-clause-charges : goal.returns-in-Some-clause-charges
@@ -30,3 +30,13 @@ returns-in-Ok-clause-gives g c =
 pub returns-in-Ok-clause-charges : goal.returns-in-Ok-clause-charges
 returns-in-Ok-clause-charges g c =
     found_charges _ _ _ _ _ _ _ _ _ c.self.invariant.0 c.self.invariant.1 (ap (λ (s : Output). s.texts) c.self.view_is) (ap (λ (s : Output). s.limit) c.self.view_is)
+
+pub returns-in-Ok-clause-searched : goal.returns-in-Ok-clause-searched
+returns-in-Ok-clause-searched g c sorted is none =
+    let n = searched _ _ _ _ _ _ _ c.as_slice.ensures c.as_slice-2.ensures c.as_slice-3.ensures c.new-search.ensures.texts in
+    probes_sorted _ _ _ _ _ _ _ c.self.invariant.0 n (ap (λ (s : Output). s.texts) c.self.view_is) (c.probes-self-inside.ensures ∙ c.place_of-found.ensures.exact) sorted is
+
+pub returns-in-Err-clause-searched : goal.returns-in-Err-clause-searched
+returns-in-Err-clause-searched g c sorted is none =
+    let n = searched _ _ _ _ _ _ _ c.as_slice.ensures c.as_slice-2.ensures c.as_slice-3.ensures c.new-search.ensures.texts in
+    probes_sorted _ _ _ _ _ _ _ c.self.invariant.0 n (ap (λ (s : Output). s.texts) c.self.view_is) (c.add.ensures.kept.1 ∙ (c.probes-self-inside.ensures ∙ c.place_of-found.ensures.exact)) sorted is

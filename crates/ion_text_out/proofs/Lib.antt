@@ -1,2 +1,10 @@
+mod Blobs
+mod ItemParts
+mod Notes
+mod Onward
 mod Paths
+mod Putting
+mod Quoted
 mod Rows
+mod Words
+mod WriterSteps

@@ -1,21 +1,11 @@
 -- The text of items grows by that of each, and the text of trees is that of their items.
-use Rattle.std.proofs.Common.{◌≡◌, ℕ, true, List, [], ◌∷◌, ◌++◌, Option, None, refl, ap, sym, ◌∙◌, append_assoc, append-nil}
+use Rattle.std.proofs.Common.{◌≡◌, ℕ, true, List, [], ◌∷◌, ◌++◌, Option, None, refl, ap, ◌∙◌, append_assoc, append-nil}
 use Rattle.std.specs.List.{flat_map}
 use Rattle.ion_value.specs.declared.ion_type.Kind.{Kind}
 use Rattle.ion_value.specs.Value as v
 use Rattle.ion_value.specs.Value.{UserSymbol, Value, Members, scalar, container, nothing, member, Top, tree, Item, bare_item, member_items, one_top, top_items, value_items}
-use Rattle.ion_text_out.specs.Text.{Open, annotation_text, before_item, before_next, behind_value, closer, field_text, is_empty, item_text, items_text, members_text, open_after, open_behind, opener, scalar_text, text, top_text, value_text, with_member}
-
--- the text of items behind others
-pub items_append : (cs : Open) (is js : List (Item UserSymbol ℕ)) → items_text cs (is ++ js) ≡ items_text cs is ++ items_text (open_behind cs is) js
-items_append cs [] js = refl
-items_append cs (i ∷ is) js =
-    ap (λ t. item_text cs i ++ t) (items_append (open_after cs i.head) is js)
-    ∙ sym (append_assoc (item_text cs i) (items_text (open_after cs i.head) is) (items_text (open_behind (open_after cs i.head) is) js))
-
--- an item more adds its text
-pub one_more : (is : List (Item UserSymbol ℕ)) (i : Item UserSymbol ℕ) → items_text [] (is ++ i ∷ []) ≡ items_text [] is ++ item_text (open_behind [] is) i
-one_more is i = items_append [] is (i ∷ []) ∙ ap (λ t. items_text [] is ++ t) (append-nil (item_text (open_behind [] is) i))
+use Rattle.ion_text_out.specs.Written.{items_append}
+use Rattle.ion_text_out.specs.Text.{Open, annotation_text, before_item, before_next, behind_value, closer, field_text, is_empty, items_text, members_text, open_after, open_behind, opener, scalar_text, text, top_text, value_text, with_member}
 
 -- the open containers behind items and others
 behind_append : (cs : Open) (is js : List (Item UserSymbol ℕ)) → open_behind cs (is ++ js) ≡ open_behind (open_behind cs is) js

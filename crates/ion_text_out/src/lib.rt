@@ -1,4 +1,12 @@
 //! The canonical text of Amazon Ion 1.0.
 #![tactic(auto)]
 
+mod between;
+mod blob;
+mod item;
 pub mod laws;
+mod put;
+mod quote;
+mod scalar;
+mod word;
+pub mod writer;

@@ -1,0 +1,63 @@
+-- What the writer of text puts grows by the text of each item.
+use Rattle.std.proofs.Common.{◌≡◌, ℕ, suc, Bool, List, [], ◌∷◌, ◌++◌, length, refl, sym, ap, ◌∙◌}
+use Rattle.std.specs.Prelude.{map, false, reverse}
+use Rattle.std.proofs.lemmas.List.{length-map, length-reverse}
+use Rattle.ion_meter.specs.declared.limits.Limits.{Limits}
+use Rattle.ion_value.specs.declared.ion_type.Kind.{Kind}
+use Rattle.ion_value.specs.Value as v
+use Rattle.ion_value.specs.Value.{PlacedItem, SymbolAt, UserSymbol, map_head}
+use Rattle.ion_value.specs.Standing as standing
+use Rattle.ion_value.specs.Standing.{Continues, HasPlace}
+use Rattle.ion_text_out.specs.Text.{Open, open_after, open_behind, with_member}
+use Rattle.ion_text_out.specs.Writing.{shown, shown_in, user_at, user_item, user_items, HasRoom, Stands}
+use Rattle.ion_text_out.specs.Written.{user_items-append}
+
+behind-append : (cs : Open) (path : List (v.Item UserSymbol ℕ)) (item : v.Item UserSymbol ℕ) → open_behind cs (path ++ item ∷ []) ≡ open_after (open_behind cs path) item.head
+behind-append cs [] item = refl
+behind-append cs (i ∷ path) item = behind-append (open_after cs i.head) path item
+
+-- the writer goes where the item leads
+pub stands-on : (kinds later : List Kind) (empty now : Bool) (path : List PlacedItem) (item : PlacedItem)
+    → Stands kinds empty path → shown later now ≡ open_after (shown kinds empty) (map_head user_at item.head) → Stands later now (path ++ item ∷ [])
+stands-on kinds later empty now path item at e =
+    ap (λ (l : List (v.Item UserSymbol ℕ)). open_behind [] l) (user_items-append path item)
+    ∙ (behind-append [] (user_items path) (user_item item) ∙ (ap (λ (cs : Open). open_after cs (map_head user_at item.head)) at ∙ sym e))
+
+-- how many containers are open
+abbrev kinds_in : Open → List Kind
+kinds_in cs = map (λ c. c.0) cs
+
+kinds-member : (cs : Open) → kinds_in (with_member cs) ≡ kinds_in cs
+kinds-member [] = refl
+kinds-member (c ∷ cs) = refl
+
+kinds-after : (cs : Open) (h : v.Head SymbolAt) → kinds_in (open_after cs (map_head user_at h)) ≡ standing.open_after (kinds_in cs) h
+kinds-after cs (v.whole body) = kinds-member cs
+kinds-after cs (v.begin kind) = ap (λ (l : List Kind). kind ∷ l) (kinds-member cs)
+kinds-after [] v.end = refl
+kinds-after (c ∷ cs) v.end = refl
+kinds-after cs v.marker = refl
+
+kinds-behind : (cs : Open) (path : List PlacedItem) → kinds_in (open_behind cs (user_items path)) ≡ standing.open_behind (kinds_in cs) path
+kinds-behind cs [] = refl
+kinds-behind cs (i ∷ path) =
+    kinds-behind (open_after cs (map_head user_at i.head)) path ∙ ap (λ (l : List Kind). standing.open_behind l path) (kinds-after cs i.head)
+
+shown_in-length : (kinds : List Kind) (empty : Bool) → length (shown_in kinds empty) ≡ length kinds
+shown_in-length [] empty = refl
+shown_in-length (kind ∷ kinds) empty = ap (λ n. suc n) (length-map kinds (λ k. (k, false)))
+
+level : (kinds : List Kind) (empty : Bool) (path : List PlacedItem) → Stands kinds empty path → length (standing.open_behind [] path) ≡ length kinds
+level kinds empty path at =
+    ap (λ (l : List Kind). length l) (sym (kinds-behind [] path))
+    ∙ (length-map (open_behind [] (user_items path)) (λ c. c.0)
+    ∙ (ap (λ (cs : Open). length cs) at ∙ (shown_in-length (reverse kinds) empty ∙ length-reverse kinds)))
+
+room : (depth n : ℕ) (kinds : List Kind) (h : v.Head SymbolAt) → length kinds ≡ n → HasPlace depth kinds h → HasRoom depth n h
+room depth n kinds (v.whole body) e p = tt
+room depth n kinds (v.begin kind) e p = rw (sym e) p
+room depth n kinds v.end e p = tt
+room depth n kinds v.marker e p = tt
+
+pub has_room : (limits : Limits) (kinds : List Kind) (empty : Bool) (path : List PlacedItem) (item : PlacedItem) → Stands kinds empty path → Continues limits path item → HasRoom limits.depth (length kinds) item.head
+has_room limits kinds empty path item at next = room limits.depth (length kinds) (standing.open_behind [] path) item.head (level kinds empty path at) next.fits.place

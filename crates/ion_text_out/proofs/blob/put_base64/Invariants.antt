@@ -1,0 +1,15 @@
+use Rattle.std.proofs.Common.{◌≡◌, ◌≤◌, length, take, ◌-◌, ◌%◌, Ok}
+use Rattle.base64.specs.Engines.{standard}
+use Rattle.base64.specs.GeneralPurpose.{encode_of}
+use Rattle.ion_text_out.specs.Putting.{HasPut}
+use Rattle.ion_text_out.proofs.blob.put_base64.Given as goal
+
+abbrev pub invariant-pieces : goal.invariant-pieces
+invariant-pieces g l = record {
+  within : l.at ≤ length l.bytes;
+  threes : l.at % 3 ≡ 0;
+  puts : HasPut {T = Unit {0}} g.O.Output.written g.O.Output.tells g.O.Output.failure_count l.fn.sink l.sink (Ok _) (encode_of standard (take l.at l.bytes));
+}
+
+abbrev pub decreases-pieces : goal.decreases-pieces
+decreases-pieces g l = length l.bytes - l.at

@@ -1,0 +1,8 @@
+use Rattle.ion_text_out.proofs.Putting.{put_cut, put_then}
+use Rattle.ion_text_out.proofs.item.put_value.Goals as goal
+
+pub returns-in-Err : goal.returns-in-Err
+returns-in-Err g c = put_cut _ c.in-Err.is c.put_field.ensures
+
+pub returns-in-Err-put_notes : goal.returns-in-Err-put_notes
+returns-in-Err-put_notes g c = put_then c.in_default.is c.put_field.ensures (put_cut _ c.in-Err-put_notes.is c.put_notes.ensures)

@@ -1,0 +1,7 @@
+use Rattle.std.proofs.Common.{◌≡◌, true, take}
+use Rattle.ion_value.specs.Digits.{all_are}
+use Rattle.ion_text_out.specs.Escape.{is_shown}
+use Rattle.ion_text_out.proofs.quote.few_shown.Given as goal
+
+abbrev pub invariant-loop-i : goal.invariant-loop-i
+invariant-loop-i l = all_are (is_shown l.quote l.top) (take l.i l.bytes) ≡ true

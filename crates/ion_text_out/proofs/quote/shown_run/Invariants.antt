@@ -1,0 +1,13 @@
+use Rattle.std.proofs.Common.{◌≡◌, ◌-◌, ◌≤◌, true, length, take}
+use Rattle.ion_value.specs.Digits.{all_are}
+use Rattle.ion_text_out.specs.Escape.{is_shown}
+use Rattle.ion_text_out.proofs.quote.shown_run.Given as goal
+
+abbrev pub invariant-skip : goal.invariant-skip
+invariant-skip l = record {
+  within : l.at ≤ length l.bytes;
+  shown : all_are (is_shown l.quote l.top) (take l.at l.bytes) ≡ true;
+}
+
+abbrev pub decreases-skip : goal.decreases-skip
+decreases-skip l = length l.bytes - l.at

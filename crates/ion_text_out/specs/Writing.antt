@@ -1,0 +1,123 @@
+-- What the writer of text puts, and what is seen of it.
+use Rattle.std.specs.Prelude.{◌≡◌, ℕ, ◌<◌, ◌≤◌, Bool, true, false, List, [], ◌∷◌, ◌++◌, map, reverse, slice_get, Option, Some, None, option_map, ⊤}
+use Rattle.std.specs.List.{flat_map}
+use Rattle.ion_meter.specs.declared.fault.Reason.{Reason}
+use Rattle.ion_meter.specs.declared.limits.Limits.{Limits}
+use Rattle.ion_meter.specs.Limits.{AreChecked}
+use Rattle.ion_value.specs.declared.ion_type.Kind.{Kind}
+use Rattle.ion_value.specs.Value as v
+use Rattle.ion_value.specs.Value.{SymbolAt, UserSymbol, user_symbol, Scalar, map_head, map_item, Head, Item, PlacedItem}
+use Rattle.ion_value.specs.Standing.{InRange}
+use Rattle.ion_text_out.specs.Text.{Open, annotation_text, before_item, behind_value, closer, field_text, item_text, items_text, open_behind, opener, scalar_text}
+
+-- an item as its user knows it
+abbrev pub user_at : SymbolAt → UserSymbol
+user_at at = user_symbol at.symbol
+
+abbrev pub user_item : PlacedItem → Item UserSymbol ℕ
+user_item item = map_item user_at (λ place. place) item
+
+abbrev pub user_items : List PlacedItem → List (Item UserSymbol ℕ)
+user_items items = map user_item items
+
+-- what is put for items, what an item behind them adds, and that none is refused
+abbrev pub text_puts : Limits → List PlacedItem → List ℕ
+text_puts limits path = items_text [] (user_items path)
+
+abbrev pub text_adds : Limits → List PlacedItem → PlacedItem → List ℕ
+text_adds limits path item = item_text (open_behind [] (user_items path)) (user_item item)
+
+abbrev pub text_refusal : Limits → List PlacedItem → PlacedItem → Option (Reason × ℕ)
+text_refusal limits path item = None
+
+-- ---- the open containers of a writer, the outermost first
+
+-- all but the innermost have a member; that has none where it is said to be empty
+abbrev pub shown_in : List Kind → Bool → Open
+shown_in [] empty = []
+shown_in (kind ∷ kinds) empty = (kind, empty) ∷ map (λ k. (k, false)) kinds
+
+abbrev pub shown : List Kind → Bool → Open
+shown kinds empty = shown_in (reverse kinds) empty
+
+abbrev pub innermost : List Kind → Option Kind
+innermost kinds = slice_get (reverse kinds) 0
+
+-- ---- the parts of an item's text
+
+-- what stands first: a separator, or the bracket that closes
+abbrev pub closing : Open → List ℕ
+closing [] = []
+closing (c ∷ cs) = closer c.0
+
+abbrev pub first_text : {S : Type 0} → Open → Head S → List ℕ
+first_text cs (v.whole body) = before_item cs
+first_text cs (v.begin kind) = before_item cs
+first_text cs v.end = closing cs
+first_text cs v.marker = []
+
+-- what stands behind the bracket that closes
+abbrev pub behind_end : Open → List ℕ
+behind_end [] = []
+behind_end (c ∷ cs) = behind_value cs
+
+abbrev pub last_text : {S : Type 0} → Open → Head S → List ℕ
+last_text cs (v.whole body) = behind_value cs
+last_text cs (v.begin kind) = []
+last_text cs v.end = behind_end cs
+last_text cs v.marker = []
+
+abbrev pub body_text : Head UserSymbol → List ℕ
+body_text (v.whole body) = scalar_text body
+body_text (v.begin kind) = opener kind
+body_text v.end = []
+body_text v.marker = []
+
+abbrev pub notes_text : List SymbolAt → List ℕ
+notes_text notes = flat_map annotation_text (map user_at notes)
+
+abbrev pub note_text : Option SymbolAt → List ℕ
+note_text None = []
+note_text (Some at) = annotation_text (user_at at)
+
+abbrev pub name_text : Option SymbolAt → List ℕ
+name_text field = field_text (option_map user_at field)
+
+-- what stands between: nothing for an end
+abbrev pub is_value : {S : Type 0} → Head S → Bool
+is_value (v.whole body) = true
+is_value (v.begin kind) = true
+is_value v.end = false
+is_value v.marker = false
+
+abbrev pub where_value : Bool → List ℕ → List ℕ
+where_value true text = text
+where_value false text = []
+
+abbrev pub middle_text : PlacedItem → List ℕ
+middle_text item = where_value (is_value item.head) (name_text item.field ++ (notes_text item.annotations ++ body_text (map_head user_at item.head)))
+
+-- a value's numbers are those of this library
+abbrev pub HeadInRange : {S : Type 0} → Head S → Type 0
+HeadInRange (v.whole body) = InRange body
+HeadInRange (v.begin kind) = ⊤
+HeadInRange v.end = ⊤
+HeadInRange v.marker = ⊤
+
+-- ---- the writer
+
+-- limits are checked, and no more containers are open than may be
+pub record IsReady (limits : Limits) (level : ℕ) : Type 0 where
+  pub checked : AreChecked limits
+  pub deep : level ≤ limits.depth
+
+-- there is room for one container more where one begins
+abbrev pub HasRoom : {S : Type 0} → ℕ → ℕ → Head S → Type 0
+HasRoom depth level (v.whole body) = ⊤
+HasRoom depth level (v.begin kind) = level < depth
+HasRoom depth level v.end = ⊤
+HasRoom depth level v.marker = ⊤
+
+-- the containers that it has open are those of the path
+abbrev pub Stands : List Kind → Bool → List PlacedItem → Type 0
+Stands kinds empty path = open_behind [] (user_items path) ≡ shown kinds empty

@@ -1,0 +1,88 @@
+//! What stands between values.
+ghost use Rattle.std.specs.Prelude.{◌≡◌, Bool};
+ghost use Rattle.ion_text_out.specs.Text.{before_item, before_next, behind_value, closer, opener, separator};
+ghost use Rattle.ion_text_out.specs.Writing.{behind_end, closing, innermost, shown};
+
+use ion_value::ion_type::Kind;
+
+/// The innermost of the open containers, of which the outermost stands first.
+#[inline]
+fn innermost(open: &[Kind]) -> Option<Kind>
+    ensures { result ≡ innermost open.now }
+{
+    open.last().copied()
+}
+
+/// The bracket that opens a container.
+#[inline]
+pub fn opener(kind: Kind) -> &'static [u8]
+    ensures { result.now ≡ opener kind }
+{
+    match kind {
+        Kind::List => b"[",
+        Kind::Sexp => b"(",
+        Kind::Struct => b"{",
+    }
+}
+
+/// The bracket that closes a container.
+#[inline]
+fn closer(kind: Kind) -> &'static [u8]
+    ensures { result.now ≡ closer kind }
+{
+    match kind {
+        Kind::List => b"]",
+        Kind::Sexp => b")",
+        Kind::Struct => b"}",
+    }
+}
+
+/// What stands between two members.
+#[inline]
+fn separator(kind: Kind) -> &'static [u8]
+    ensures { result.now ≡ separator kind }
+{
+    match kind {
+        Kind::Sexp => b" ",
+        Kind::List | Kind::Struct => b",",
+    }
+}
+
+/// What stands before the next value, where these containers are open and the innermost is empty
+/// or not.
+#[inline]
+pub fn before(open: &[Kind], empty: bool) -> &'static [u8]
+    ensures { result.now ≡ before_item (shown open.now empty) }
+{
+    match innermost(open) {
+        Some(kind) if !empty => separator(kind),
+        _ => b"",
+    }
+}
+
+/// What stands behind a value: at top level, the end of its line.
+#[inline]
+pub fn behind(open: &[Kind]) -> &'static [u8]
+    ensures { (empty : Bool) → result.now ≡ behind_value (shown open.now empty) }
+{
+    if open.is_empty() { b"\n" } else { b"" }
+}
+
+/// The bracket that closes the innermost container.
+#[inline]
+pub fn closing(open: &[Kind]) -> &'static [u8]
+    ensures { (empty : Bool) → result.now ≡ closing (shown open.now empty) }
+{
+    match innermost(open) {
+        Some(kind) => closer(kind),
+        None => b"",
+    }
+}
+
+/// What stands behind that bracket.
+#[inline]
+pub fn behind_end(open: &[Kind]) -> &'static [u8]
+    ensures { (empty : Bool) → result.now ≡ behind_end (shown open.now empty) }
+{
+    if open.len() == 1 { b"\n" } else { b"" }
+}

@@ -1,0 +1,209 @@
+//! The text of an item, in parts.
+ghost use Rattle.std.specs.Prelude.{◌≡◌, ◌+◌, ◌*◌, ◌≤◌, ◌<◌, ◌^◌, ◌-◌, ◌++◌, ◌∷◌, ℕ, Bool, [], List, length, true, false, None, Some, Ok, Err, OnOk, OnErr, IfErr, codes, slice_get};
+ghost use Rattle.ion_meter.specs.declared.fault.Fault.TheVariants.{WriteFault, Memory};
+ghost use Rattle.ion_meter.specs.Limits.{AreChecked};
+ghost use Rattle.ion_meter.specs.Windows.{so_far, Puts, write_failures_in};
+ghost use Rattle.ion_meter.specs.Counts.{Grows, Shrinks, IsRefused};
+ghost use Rattle.ion_value.specs.Value.{map_head, user_symbol, PlacedItem};
+ghost use Rattle.ion_value.specs.Items.{raw_head, raw_field, symbol_at, symbol_of, item_of, annotations_of};
+ghost use Rattle.ion_value.specs.Shares.{Charges, fault_of};
+ghost use Rattle.ion_value.specs.Standing.{HasPlace};
+ghost use Rattle.ion_text_out.specs.Text.{annotation_text, symbol_text, item_text, open_after};
+ghost use Rattle.ion_text_out.specs.Putting.{HasPut};
+ghost use Rattle.ion_text_out.specs.Writing.{body_text, first_text, is_value, last_text, middle_text, name_text, note_text, notes_text, shown, user_at, user_item, HeadInRange, IsReady};
+
+use crate::between::{before, behind, behind_end, closing};
+use crate::put::put;
+use crate::scalar::{put_body, put_symbol};
+use ion_meter::device::Output;
+use ion_meter::fault::Fault;
+use ion_meter::limits::Limits;
+use ion_meter::meter::Meter;
+use ion_meter::sink::Sink;
+use ion_meter::stack::Stack;
+use ion_value::ion_type::Kind;
+use ion_value::item::{Annotations, Head, Item, SymAt};
+use ion_value::names::Names;
+use std::alloc::Allocator;
+
+/// Puts a field's name and a colon.
+fn put_name<O: Output, A: Allocator + Copy>(
+    sink: &mut Sink<O, A>,
+    at: SymAt<'_>,
+) -> Result<(), Fault>
+    requires well { sink.old.fault ≡ None }
+    ensures { HasPut O.written O.tells O.failure_count sink.old sink.new result (symbol_text (user_symbol (symbol_of at.entry.sym)) ++ codes ":") }
+{
+    if let Err(fault) = put_symbol(sink, at.sym) {
+        return Err(fault);
+    }
+    put(sink, b":")
+}
+
+/// Puts a field's name and a colon, where there is one.
+fn put_field<O: Output, A: Allocator + Copy>(
+    sink: &mut Sink<O, A>,
+    field: Option<SymAt<'_>>,
+) -> Result<(), Fault>
+    requires well { sink.old.fault ≡ None }
+    ensures { HasPut O.written O.tells O.failure_count sink.old sink.new result (name_text (raw_field field.entry)) }
+{
+    match field {
+        None => put(sink, b""),
+        Some(at) => put_name(sink, at),
+    }
+}
+
+/// Puts one annotation and two colons.
+fn put_note<O: Output, A: Allocator + Copy>(
+    sink: &mut Sink<O, A>,
+    at: SymAt<'_>,
+) -> Result<(), Fault>
+    requires well { sink.old.fault ≡ None }
+    ensures { HasPut O.written O.tells O.failure_count sink.old sink.new result (symbol_text (user_symbol (symbol_of at.entry.sym)) ++ codes "::") }
+{
+    if let Err(fault) = put_symbol(sink, at.sym) {
+        return Err(fault);
+    }
+    put(sink, b"::")
+}
+
+/// Puts the annotation at an index, where there is one.
+#[inline]
+fn put_note_at<O: Output, A: Allocator + Copy, N: Names>(
+    sink: &mut Sink<O, A>,
+    notes: &Annotations<'_, N>,
+    index: usize,
+) -> Result<(), Fault>
+    requires well { sink.old.fault ≡ None }
+    ensures { HasPut O.written O.tells O.failure_count sink.old sink.new result (note_text (slice_get (annotations_of N.text notes.now) index)) }
+{
+    match notes.get(index) {
+        None => put(sink, b""),
+        Some(at) => put_note(sink, at),
+    }
+}
+
+/// Puts annotations.
+fn put_notes<O: Output, A: Allocator + Copy, N: Names>(
+    sink: &mut Sink<O, A>,
+    notes: &Annotations<'_, N>,
+) -> Result<(), Fault>
+    requires well { sink.old.fault ≡ None }
+    ensures { HasPut O.written O.tells O.failure_count sink.old sink.new result (notes_text (annotations_of N.text notes.now)) }
+{
+    let count = notes.len();
+    let mut index = 0;
+    'notes: while index < count {
+        if let Err(fault) = put_note_at(sink, notes, index) {
+            return Err(fault);
+        }
+        index += 1;
+    }
+    Ok(())
+}
+
+/// Puts what stands first of an item: a separator, or the bracket that closes.
+///
+/// Where the sink had failed before, its fault is passed on.
+#[inline]
+fn put_first<O: Output, A: Allocator + Copy>(
+    sink: &mut Sink<O, A>,
+    open: &[Kind],
+    empty: bool,
+    head: &Head<'_>,
+) -> Result<(), Fault>
+    ensures well { OnOk result (sink.old.fault ≡ None) }
+    ensures puts { sink.old.fault ≡ None → HasPut O.written O.tells O.failure_count sink.old sink.new result (first_text (shown open.now empty) (raw_head head.now)) }
+{
+    match *head {
+        Head::End => sink.put(closing(open)),
+        Head::Marker => sink.put(b""),
+        _ => sink.put(before(open, empty)),
+    }
+}
+
+/// Puts what stands last of an item, the end of a line.
+#[inline]
+fn put_last<O: Output, A: Allocator + Copy>(
+    sink: &mut Sink<O, A>,
+    open: &[Kind],
+    head: &Head<'_>,
+) -> Result<(), Fault>
+    requires well { sink.old.fault ≡ None }
+    ensures { (empty : Bool) → HasPut O.written O.tells O.failure_count sink.old sink.new result (last_text (shown open.now empty) (raw_head head.now)) }
+{
+    match *head {
+        Head::End => put(sink, behind_end(open)),
+        Head::Begin(_) | Head::Marker => put(sink, b""),
+        _ => put(sink, behind(open)),
+    }
+}
+
+/// Whether an item has a value: a scalar, or a container that begins.
+#[inline]
+fn is_value(head: &Head<'_>) -> bool
+    ensures { result ≡ is_value (raw_head head.now) }
+{
+    !matches!(head, Head::End | Head::Marker)
+}
+
+/// Puts a field's name, annotations and a scalar or the bracket that opens a container, and
+/// nothing for an end.
+fn put_middle<O: Output, A: Allocator + Copy, N: Names>(
+    sink: &mut Sink<O, A>,
+    item: &Item<'_, N>,
+    head: &Head<'_>,
+) -> Result<(), Fault>
+    requires well { sink.old.fault ≡ None }
+    requires head { raw_head head.now ≡ (item_of N.text item.now).head }
+    requires range { HeadInRange (raw_head head.now) }
+    ensures { HasPut O.written O.tells O.failure_count sink.old sink.new result (middle_text (item_of N.text item.now)) }
+{
+    if is_value(head) {
+        put_value(sink, item.field(), &item.annotations(), head)
+    } else {
+        put(sink, b"")
+    }
+}
+
+/// Puts a field's name, annotations, and a scalar or the bracket that opens a container.
+fn put_value<O: Output, A: Allocator + Copy, N: Names>(
+    sink: &mut Sink<O, A>,
+    field: Option<SymAt<'_>>,
+    notes: &Annotations<'_, N>,
+    head: &Head<'_>,
+) -> Result<(), Fault>
+    requires well { sink.old.fault ≡ None }
+    requires range { HeadInRange (raw_head head.now) }
+    ensures { HasPut O.written O.tells O.failure_count sink.old sink.new result (name_text (raw_field field.entry) ++ (notes_text (annotations_of N.text notes.now) ++ body_text (map_head user_at (raw_head head.now)))) }
+{
+    if let Err(fault) = put_field(sink, field) {
+        return Err(fault);
+    }
+    if let Err(fault) = put_notes(sink, notes) {
+        return Err(fault);
+    }
+    put_body(sink, head)
+}
+
+/// Puts an item, where these containers are open and the innermost is empty or not.
+pub fn put_item<O: Output, A: Allocator + Copy, N: Names>(
+    sink: &mut Sink<O, A>,
+    open: &[Kind],
+    empty: bool,
+    item: &Item<'_, N>,
+) -> Result<(), Fault>
+    requires range { HeadInRange (item_of N.text item.now).head }
+    ensures well { OnOk result (sink.old.fault ≡ None) }
+    ensures puts { sink.old.fault ≡ None → HasPut O.written O.tells O.failure_count sink.old sink.new result (item_text (shown open.now empty) (user_item (item_of N.text item.now))) }
+{
+    let head = item.head();
+    if let Err(fault) = put_first(sink, open, empty, &head) {
+        return Err(fault);
+    }
+    if let Err(fault) = put_middle(sink, item, &head) {
+        return Err(fault);
+    }
+    put_last(sink, open, &head)
+}

@@ -1,0 +1,17 @@
+//! Bytes that are put in parts.
+ghost use Rattle.std.specs.Prelude.{◌≡◌, ◌++◌, None, OnOk};
+ghost use Rattle.ion_text_out.specs.Putting.{HasPut};
+
+use ion_meter::device::Output;
+use ion_meter::fault::Fault;
+use ion_meter::sink::Sink;
+use std::alloc::Allocator;
+
+/// Puts these bytes.
+#[inline]
+pub fn put<O: Output, A: Allocator + Copy>(sink: &mut Sink<O, A>, bytes: &[u8]) -> Result<(), Fault>
+    requires well { sink.old.fault ≡ None }
+    ensures { HasPut O.written O.tells O.failure_count sink.old sink.new result bytes.now }
+{
+    sink.put(bytes)
+}

@@ -1,0 +1,242 @@
+//! Bytes between quotes.
+ghost use Rattle.std.specs.Prelude.{◌≡◌, ◌<◌, ◌≤◌, true, false, None, length, take, drop};
+ghost use Rattle.std.specs.List.{flat_map};
+ghost use Rattle.ion_text_out.specs.Escape.{hex_digit, letter, is_shown, escaped, byte_text, between_quotes};
+ghost use Rattle.ion_text_out.specs.Putting.{HasPut};
+ghost use Rattle.ion_value.specs.Digits.{first_is, all_are};
+
+use crate::put::put;
+use ion_meter::device::Output;
+use ion_meter::fault::Fault;
+use ion_meter::sink::Sink;
+use std::alloc::Allocator;
+
+/// Puts these bytes between two quotes, with escapes for those that do not stand for themselves.
+pub fn put_quoted<O: Output, A: Allocator + Copy>(
+    sink: &mut Sink<O, A>,
+    quote: u8,
+    top: u16,
+    bytes: &[u8],
+) -> Result<(), Fault>
+    requires well { sink.old.fault ≡ None }
+    ensures { HasPut O.written O.tells O.failure_count sink.old sink.new result (between_quotes quote top bytes.now) }
+{
+    if let Err(fault) = put(sink, &[quote]) {
+        return Err(fault);
+    }
+    if let Err(fault) = put_inside(sink, quote, top, bytes) {
+        return Err(fault);
+    }
+    put(sink, &[quote])
+}
+
+// Puts these bytes as they stand between quotes: each run of those that stand for themselves at
+// once, and the escapes between the runs.
+fn put_inside<O: Output, A: Allocator + Copy>(
+    sink: &mut Sink<O, A>,
+    quote: u8,
+    top: u16,
+    bytes: &[u8],
+) -> Result<(), Fault>
+    requires well { sink.old.fault ≡ None }
+    ensures { HasPut O.written O.tells O.failure_count sink.old sink.new result (flat_map (byte_text quote top) bytes.now) }
+{
+    let mut rest = bytes;
+    'runs: loop {
+        let (run, others) = rest.split_at(shown_run(quote, top, rest));
+        if let Err(fault) = put(sink, run) {
+            return Err(fault);
+        }
+        let Some((byte, tail)) = others.split_first() else {
+            return Ok(());
+        };
+        if let Err(fault) = put_escape(sink, quote, *byte) {
+            return Err(fault);
+        }
+        rest = tail;
+    }
+}
+
+// How many bytes are looked at together. A loop over so many is compiled to a few steps, each on
+// sixteen bytes; a shorter one is unrolled, and then goes byte by byte.
+const BLOCK: usize = 32;
+
+// How many bytes at the front of these stand for themselves.
+#[inline]
+fn shown_run(quote: u8, top: u16, bytes: &[u8]) -> usize
+    ensures within { result ≤ length bytes.now }
+    ensures shown { all_are (is_shown quote top) (take result bytes.now) ≡ true }
+    ensures ends { first_is (is_shown quote top) (drop result bytes.now) ≡ false }
+{
+    let mut at = 0;
+    'skip: while bytes.len() - at >= BLOCK {
+        if !are_shown(quote, top, &bytes[at..at + BLOCK]) {
+            break;
+        }
+        at += BLOCK;
+    }
+    at + few_shown(quote, top, &bytes[at..])
+}
+
+// Whether all these bytes stand for themselves. No byte ends the loop, so that it can look at many
+// of them at once.
+#[inline]
+fn are_shown(quote: u8, top: u16, bytes: &[u8]) -> bool
+    ensures { result ≡ all_are (is_shown quote top) bytes.now }
+{
+    let mut shown = true;
+    for byte in bytes {
+        shown &= is_shown(quote, top, *byte);
+    }
+    shown
+}
+
+// How many bytes at the front of these stand for themselves, one after the other.
+#[inline]
+fn few_shown(quote: u8, top: u16, bytes: &[u8]) -> usize
+    ensures within { result ≤ length bytes.now }
+    ensures shown { all_are (is_shown quote top) (take result bytes.now) ≡ true }
+    ensures ends { first_is (is_shown quote top) (drop result bytes.now) ≡ false }
+{
+    for (i, byte) in bytes.iter().enumerate() {
+        if !is_shown(quote, top, *byte) {
+            return i;
+        }
+    }
+    bytes.len()
+}
+
+// Whether a byte stands for itself between these quotes.
+#[inline]
+fn is_shown(quote: u8, top: u16, byte: u8) -> bool
+    ensures { result ≡ is_shown quote top byte }
+{
+    byte >= b' ' && (byte as u16) < top && byte != 127 && byte != quote && byte != b'\\'
+}
+
+// Puts the escape of a byte.
+#[cold]
+#[inline(never)]
+fn put_escape<O: Output, A: Allocator + Copy>(
+    sink: &mut Sink<O, A>,
+    quote: u8,
+    byte: u8,
+) -> Result<(), Fault>
+    requires well { sink.old.fault ≡ None }
+    ensures { HasPut O.written O.tells O.failure_count sink.old sink.new result (escaped quote byte) }
+{
+    if byte == quote {
+        return put(sink, &[b'\\', byte]);
+    }
+    match letter(byte) {
+        Some(letter) => put(sink, &[b'\\', letter]),
+        None => put(
+            sink,
+            &[b'\\', b'x', hex_digit(byte / 16), hex_digit(byte % 16)],
+        ),
+    }
+}
+
+// The letter of a byte's escape, where it has one.
+fn letter(byte: u8) -> Option<u8>
+    ensures { result ≡ letter byte }
+{
+    match byte {
+        7 => Some(b'a'),
+        8 => Some(b'b'),
+        9 => Some(b't'),
+        10 => Some(b'n'),
+        12 => Some(b'f'),
+        13 => Some(b'r'),
+        11 => Some(b'v'),
+        92 => Some(b'\\'),
+        _ => None,
+    }
+}
+
+// A digit in base sixteen, in lower case.
+fn hex_digit(digit: u8) -> u8
+    requires { digit < 16 }
+    ensures { result ≡ hex_digit digit }
+{
+    if digit < 10 {
+        b'0' + digit
+    } else {
+        b'a' - 10 + digit
+    }
+}
+
+#[cfg(test)]
+mod tests {
+    use super::*;
+    use ion_meter::meter::Meter;
+    use ion_meter::stream::ToWrite;
+    use std::alloc::Global;
+    use std::process::Abort;
+    use std::test::Fail;
+
+    // Puts bytes between quotes, and compares what was written.
+    fn expect_quoted(
+        rt: &impl Abort,
+        alloc: Global,
+        quote: u8,
+        top: u16,
+        bytes: &[u8],
+        want: &[u8],
+    ) -> Result<(), Fail> {
+        let mut meter = Meter::new(alloc);
+        let Ok(mut sink) = Sink::new(&mut meter, ToWrite::new(Vec::new(alloc))) else {
+            panic!(rt; "no window")
+        };
+        put_quoted(&mut sink, quote, top, bytes)?;
+        sink.flush()?;
+        let out = sink.release(&mut meter).into_inner();
+        assert_eq!(rt; out.as_slice(), want);
+        Ok(())
+    }
+
+    #[test]
+    fn puts_strings(rt: HostRuntime) -> Result<(), Fail> {
+        let alloc = rt.alloc();
+        expect_quoted(&rt, alloc, b'"', 256, b"", b"\"\"")?;
+        expect_quoted(&rt, alloc, b'"', 256, b"it's one run", b"\"it's one run\"")?;
+        expect_quoted(&rt, alloc, b'"', 256, b"a \"b\" c", b"\"a \\\"b\\\" c\"")?;
+        expect_quoted(&rt, alloc, b'"', 256, b"\xc3\xa9\x7f", b"\"\xc3\xa9\\x7f\"")?;
+        expect_quoted(
+            &rt,
+            alloc,
+            b'"',
+            256,
+            b"\x07\x08\t\n\x0c\r\x0b\\\0\x1f",
+            b"\"\\a\\b\\t\\n\\f\\r\\v\\\\\\x00\\x1f\"",
+        )
+    }
+
+    #[test]
+    fn puts_long_runs(rt: HostRuntime) -> Result<(), Fail> {
+        let alloc = rt.alloc();
+        expect_quoted(
+            &rt,
+            alloc,
+            b'"',
+            256,
+            b"0123456789abcdef0123456789abcdef\n0123456789abcdef0123456789abcdef0",
+            b"\"0123456789abcdef0123456789abcdef\\n0123456789abcdef0123456789abcdef0\"",
+        )?;
+        expect_quoted(
+            &rt,
+            alloc,
+            b'"',
+            256,
+            b"0123456789abcdef0123456789abcde\"",
+            b"\"0123456789abcdef0123456789abcde\\\"\"",
+        )
+    }
+
+    #[test]
+    fn puts_symbols_and_clobs(rt: HostRuntime) -> Result<(), Fail> {
+        let alloc = rt.alloc();
+        expect_quoted(&rt, alloc, b'\'', 256, b"it's \"x\"", b"'it\\'s \"x\"'")?;
+        expect_quoted(&rt, alloc, b'"', 128, b"\xc3\xa9~", b"\"\\xc3\\xa9~\"")
+    }
+}

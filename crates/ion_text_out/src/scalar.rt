@@ -1,0 +1,162 @@
+//! Symbols and scalars.
+ghost use Rattle.std.specs.Prelude.{◌≡◌, ◌++◌, None, codes};
+ghost use Rattle.base64.specs.Engines.{standard};
+ghost use Rattle.base64.specs.GeneralPurpose.{encode_of};
+ghost use Rattle.ion_value.specs.Name.{bool_text, null_text};
+ghost use Rattle.ion_value.specs.Int.{IsInt, int_text};
+ghost use Rattle.ion_value.specs.Decimal.{IsDecimal, decimal_text};
+ghost use Rattle.ion_value.specs.Timestamp.{IsTimestamp, timestamp_text};
+ghost use Rattle.ion_value.specs.Value.{user_symbol, map_head};
+ghost use Rattle.ion_value.specs.Items.{symbol_of, raw_head};
+ghost use Rattle.ion_text_out.specs.Escape.{between_quotes};
+ghost use Rattle.ion_text_out.specs.Text.{symbol_text};
+ghost use Rattle.ion_text_out.specs.Putting.{HasPut};
+ghost use Rattle.ion_text_out.specs.Writing.{user_at, body_text, HeadInRange};
+
+use crate::between::opener;
+use crate::blob::put_base64;
+use crate::put::put;
+use crate::quote::put_quoted;
+use crate::word::is_plain;
+use ion_meter::device::Output;
+use ion_meter::fault::Fault;
+use ion_meter::sink::Sink;
+use ion_value::decimal::{Decimal, decimal_to_text};
+use ion_value::int::{Int, int_to_text};
+use ion_value::ion_type::IonType;
+use ion_value::item::{Head, Sym};
+use ion_value::timestamp::{Timestamp, timestamp_to_text};
+use std::alloc::Allocator;
+
+/// The null of a type.
+fn null(of: IonType) -> &'static [u8]
+    ensures { result.now ≡ null_text of }
+{
+    match of {
+        IonType::Null => b"null",
+        IonType::Bool => b"null.bool",
+        IonType::Int => b"null.int",
+        IonType::Float => b"null.float",
+        IonType::Decimal => b"null.decimal",
+        IonType::Timestamp => b"null.timestamp",
+        IonType::Symbol => b"null.symbol",
+        IonType::String => b"null.string",
+        IonType::Clob => b"null.clob",
+        IonType::Blob => b"null.blob",
+        IonType::List => b"null.list",
+        IonType::Sexp => b"null.sexp",
+        IonType::Struct => b"null.struct",
+    }
+}
+
+/// Puts a symbol: its text, between quotes where it could be taken for something else, or `$0`
+/// where that is unknown.
+#[inline]
+pub fn put_symbol<O: Output, A: Allocator + Copy>(
+    sink: &mut Sink<O, A>,
+    symbol: Sym<'_>,
+) -> Result<(), Fault>
+    requires well { sink.old.fault ≡ None }
+    ensures { HasPut O.written O.tells O.failure_count sink.old sink.new result (symbol_text (user_symbol (symbol_of symbol.entry))) }
+{
+    match symbol {
+        Sym::Id(_) => put(sink, b"$0"),
+        Sym::Text(text) if is_plain(text) => put(sink, text),
+        Sym::Text(text) => put_quoted(sink, b'\'', 256, text),
+    }
+}
+
+/// Puts a clob.
+fn put_clob<O: Output, A: Allocator + Copy>(
+    sink: &mut Sink<O, A>,
+    bytes: &[u8],
+) -> Result<(), Fault>
+    requires well { sink.old.fault ≡ None }
+    ensures { HasPut O.written O.tells O.failure_count sink.old sink.new result (codes "{{" ++ (between_quotes 34 128 bytes.now ++ codes "}}")) }
+{
+    if let Err(fault) = put(sink, b"{{") {
+        return Err(fault);
+    }
+    if let Err(fault) = put_quoted(sink, b'"', 128, bytes) {
+        return Err(fault);
+    }
+    put(sink, b"}}")
+}
+
+/// Puts a blob.
+fn put_blob<O: Output, A: Allocator + Copy>(
+    sink: &mut Sink<O, A>,
+    bytes: &[u8],
+) -> Result<(), Fault>
+    requires well { sink.old.fault ≡ None }
+    ensures { HasPut O.written O.tells O.failure_count sink.old sink.new result (codes "{{" ++ (encode_of standard bytes.now ++ codes "}}")) }
+{
+    if let Err(fault) = put(sink, b"{{") {
+        return Err(fault);
+    }
+    if let Err(fault) = put_base64(sink, bytes) {
+        return Err(fault);
+    }
+    put(sink, b"}}")
+}
+
+/// Puts an int.
+fn put_int<O: Output, A: Allocator + Copy>(sink: &mut Sink<O, A>, int: Int) -> Result<(), Fault>
+    requires well { sink.old.fault ≡ None }
+    requires range { IsInt int }
+    ensures { HasPut O.written O.tells O.failure_count sink.old sink.new result (int_text int) }
+{
+    let text = int_to_text(int);
+    put(sink, text.as_str().as_bytes())
+}
+
+/// Puts a decimal.
+fn put_decimal<O: Output, A: Allocator + Copy>(
+    sink: &mut Sink<O, A>,
+    decimal: Decimal,
+) -> Result<(), Fault>
+    requires well { sink.old.fault ≡ None }
+    requires range { IsDecimal decimal }
+    ensures { HasPut O.written O.tells O.failure_count sink.old sink.new result (decimal_text decimal) }
+{
+    let text = decimal_to_text(decimal);
+    put(sink, text.as_str().as_bytes())
+}
+
+/// Puts a timestamp.
+fn put_timestamp<O: Output, A: Allocator + Copy>(
+    sink: &mut Sink<O, A>,
+    timestamp: Timestamp,
+) -> Result<(), Fault>
+    requires well { sink.old.fault ≡ None }
+    requires range { IsTimestamp timestamp }
+    ensures { HasPut O.written O.tells O.failure_count sink.old sink.new result (timestamp_text timestamp) }
+{
+    let text = timestamp_to_text(timestamp);
+    put(sink, text.as_str().as_bytes())
+}
+
+/// Puts a scalar, or the bracket that opens a container.
+pub fn put_body<O: Output, A: Allocator + Copy>(
+    sink: &mut Sink<O, A>,
+    head: &Head<'_>,
+) -> Result<(), Fault>
+    requires well { sink.old.fault ≡ None }
+    requires range { HeadInRange (raw_head head.now) }
+    ensures { HasPut O.written O.tells O.failure_count sink.old sink.new result (body_text (map_head user_at (raw_head head.now))) }
+{
+    match *head {
+        Head::Null(of) => put(sink, null(of)),
+        Head::Bool(true) => put(sink, b"true"),
+        Head::Bool(false) => put(sink, b"false"),
+        Head::Int(int) => put_int(sink, int),
+        Head::Decimal(decimal) => put_decimal(sink, decimal),
+        Head::Timestamp(timestamp) => put_timestamp(sink, timestamp),
+        Head::Symbol(at) => put_symbol(sink, at.sym),
+        Head::String(text) => put_quoted(sink, b'"', 256, text),
+        Head::Clob(bytes) => put_clob(sink, bytes),
+        Head::Blob(bytes) => put_blob(sink, bytes),
+        Head::Begin(kind) => put(sink, opener(kind)),
+        Head::End | Head::Marker => put(sink, b""),
+    }
+}

@@ -1,0 +1,186 @@
+//! The writer of text.
+ghost use Rattle.std.specs.Prelude.{◌≡◌, ◌*◌, ◌≤◌, ◌<◌, ◌^◌, ◌-◌, ◌++◌, ◌∷◌, ℕ, [], length, None, Err, OnOk, OnErr, IfErr};
+ghost use Rattle.ion_meter.specs.declared.fault.Reason.{Reason};
+ghost use Rattle.ion_meter.specs.declared.fault.Fault.TheVariants.{Refused};
+ghost use Rattle.ion_meter.specs.Limits.{AreChecked};
+ghost use Rattle.ion_meter.specs.Windows.{so_far, Puts};
+ghost use Rattle.ion_meter.specs.Counts.{Grows, Shrinks, IsRefused};
+ghost use Rattle.ion_value.specs.Value.{map_head, PlacedItem};
+ghost use Rattle.ion_value.specs.Items.{raw_head, item_of};
+ghost use Rattle.ion_value.specs.Shares.{Charges, WriteCauses, fault_of};
+ghost use Rattle.ion_text_out.specs.Text.{item_text, open_after};
+ghost use Rattle.ion_text_out.specs.Writing.{text_puts, text_adds, text_refusal, shown, user_at, user_item, HasRoom, HeadInRange, IsReady, Stands};
+ghost use Rattle.ion_text_out.specs.Written.{text_grows, text-within};
+
+use crate::item::put_item;
+use ion_meter::device::Output;
+use ion_meter::fault::Fault;
+use ion_meter::limits::Limits;
+use ion_meter::meter::Meter;
+use ion_meter::sink::Sink;
+use ion_meter::stack::Stack;
+use ion_value::ion_type::Kind;
+use ion_value::item::{Head, Item};
+use ion_value::names::Names;
+use ion_value::writer::ValueWriter;
+use std::alloc::Allocator;
+
+/// Writes values as canonical text, each value at top level on a line of its own.
+///
+/// What is written of a value is whole by item: a container that is open has its opening bracket and
+/// the members so far. It holds 16 counted bytes for each open container and refuses nothing.
+#[derive(Drop)]
+pub struct TextWriter<A: Allocator + Copy> {
+    limits: Limits,
+    open: Stack<Kind, A>,
+    empty: bool,
+    failed: Option<Fault>,
+}
+
+impl<A: Allocator + Copy> TextWriter<A> {
+    /// A writer that has put nothing. It takes no memory.
+    pub fn new(meter: &Meter<A>, limits: Limits) -> TextWriter<A>
+        requires checked { AreChecked limits }
+        ensures limits { result.limits ≡ limits }
+        ensures nothing { (result.open ≡ []) × (result.failed ≡ None) }
+        ensures ready { IsReady result.limits (length result.open) }
+    {
+        TextWriter {
+            limits,
+            open: Stack::new(meter),
+            empty: true,
+            failed: None,
+        }
+    }
+
+    /// Gives back what it holds.
+    pub fn release(self, meter: &mut Meter<A>)
+        requires { 16 * length self.open ≤ meter.old.held }
+        ensures { Shrinks meter.old meter.new (16 * length self.open) }
+    {
+        let TextWriter {
+            limits: _,
+            open,
+            empty: _,
+            failed: _,
+        } = self;
+        open.release(meter);
+    }
+
+    // Puts an item and moves to behind it.
+    fn take<O: Output, N: Names>(
+        &mut self,
+        meter: &mut Meter<A>,
+        sink: &mut Sink<O, A>,
+        item: &Item<'_, N>,
+    ) -> Result<(), Fault>
+        requires room { meter.old.held ≤ 2 ^ 62 }
+        requires held { 16 * length self.old.open ≤ meter.old.held }
+        requires countable { meter.old.refused < 2 ^ 64 - 1 }
+        requires ready { IsReady self.old.limits (length self.old.open) }
+        requires range { HeadInRange (item_of N.text item.now).head }
+        requires fits { HasRoom self.old.limits.depth (length self.old.open) (item_of N.text item.now).head }
+        ensures shown { OnOk result (shown self.new.open self.new.empty ≡ open_after (shown self.old.open self.old.empty) (map_head user_at (item_of N.text item.now).head)) }
+        ensures puts { OnOk result (O.tells sink.old.device → so_far O.written sink.new ≡ so_far O.written sink.old ++ item_text (shown self.old.open self.old.empty) (user_item (item_of N.text item.now))) }
+        ensures part { sink.old.fault ≡ None → Puts O.written O.tells sink.old sink.new (item_text (shown self.old.open self.old.empty) (user_item (item_of N.text item.now))) }
+        ensures well { OnOk result (sink.old.fault ≡ None → sink.new.fault ≡ None) }
+        ensures refuses { sink.old.fault ≡ None → (r : Reason) (p : ℕ) → result ≡ Err (Refused r p) → ⊥ }
+        ensures ready { IsReady self.new.limits (length self.new.open) }
+        ensures kept { (self.new.limits ≡ self.old.limits) × (self.new.failed ≡ self.old.failed) }
+        ensures causes { sink.old.fault ≡ None → WriteCauses (fault_of result) meter.old meter.new (O.failure_count sink.old.device) (O.failure_count sink.new.device) }
+        ensures charges { Charges meter.old meter.new (16 * length self.old.open) (16 * length self.new.open) (16 * self.old.limits.depth) }
+    {
+        if let Err(fault) = put_item(sink, self.open.as_slice(), self.empty, item) {
+            return Err(fault);
+        }
+        let head = item.head();
+        self.settle(meter, &head)
+    }
+
+    // Moves to behind a head.
+    #[inline]
+    fn settle(&mut self, meter: &mut Meter<A>, head: &Head<'_>) -> Result<(), Fault>
+        requires room { meter.old.held ≤ 2 ^ 62 }
+        requires held { 16 * length self.old.open ≤ meter.old.held }
+        requires countable { meter.old.refused < 2 ^ 64 - 1 }
+        requires ready { IsReady self.old.limits (length self.old.open) }
+        requires fits { HasRoom self.old.limits.depth (length self.old.open) (raw_head head.now) }
+        ensures shown { OnOk result (shown self.new.open self.new.empty ≡ open_after (shown self.old.open self.old.empty) (map_head user_at (raw_head head.now))) }
+        ensures memory { IfErr result (λ f. f ≡ Fault.Memory) }
+        ensures refused { OnErr result (meter.old.refused < meter.new.refused) }
+        ensures counted { OnOk result (meter.new.refused ≡ meter.old.refused) }
+        ensures ready { IsReady self.new.limits (length self.new.open) }
+        ensures kept { (self.new.limits ≡ self.old.limits) × (self.new.failed ≡ self.old.failed) }
+        ensures charges { Charges meter.old meter.new (16 * length self.old.open) (16 * length self.new.open) (16 * self.old.limits.depth) }
+    {
+        match *head {
+            Head::Begin(kind) => {
+                if let Err((_, fault)) = self.open.push(meter, kind) {
+                    return Err(fault);
+                }
+                self.empty = true;
+            }
+            Head::End => {
+                self.open.pop(meter);
+                self.empty = false;
+            }
+            Head::Marker => {}
+            _ => self.empty = false,
+        }
+        Ok(())
+    }
+}
+
+impl<O: Output, A: Allocator + Copy> ValueWriter<O, A> for TextWriter<A> {
+    ghost puts = { text_puts };
+
+    ghost adds = { text_adds };
+
+    ghost refusal = { text_refusal };
+
+    ghost limits = { λ w. w.limits };
+
+    ghost is_new = { λ w. (w.open ≡ []) × (w.failed ≡ None) };
+
+    ghost stands = { λ w path. (w.failed ≡ None) × Stands w.open w.empty path };
+
+    ghost failed = { λ w. w.failed };
+
+    ghost own = { λ w. 16 * length w.open };
+
+    ghost most = { λ w. 16 * w.limits.depth };
+
+    ghost sound = { λ w. IsReady w.limits (length w.open) };
+
+    fn begin(&mut self, sink: &mut Sink<O, A>) -> Result<(), Fault> {
+        let outcome = sink.put(b"");
+        if let Err(fault) = outcome {
+            self.failed = Some(fault);
+        }
+        outcome
+    }
+
+    fn item<N: Names>(
+        &mut self,
+        meter: &mut Meter<A>,
+        sink: &mut Sink<O, A>,
+        item: &Item<'_, N>,
+    ) -> Result<(), Fault> {
+        if let Some(fault) = self.failed {
+            return Err(fault);
+        }
+        match self.take(meter, sink, item) {
+            Ok(()) => Ok(()),
+            Err(fault) => {
+                self.failed = Some(fault);
+                Err(fault)
+            }
+        }
+    }
+
+    ghost grows = { text_grows };
+
+    ghost silent = { λ limits path item why e. absurd (Prim.cc e) };
+
+    ghost within = { λ w ready. text-within w.limits (length w.open) ready };
+}

@@ -8,5 +8,7 @@ pub mod laws;
 mod put;
 mod quote;
 mod scalar;
+#[cfg(test)]
+mod tests;
 mod word;
 pub mod writer;

@@ -1,0 +1,97 @@
+//! Containers, annotations and the lines of values.
+
+use super::{Part, Step, expect_text};
+use ion_value::ion_type::Kind;
+use ion_value::item::Annotation;
+
+/// Annotations of the texts `a` and `b c`.
+const NOTES: &[Annotation] = &[
+    Annotation::Text {
+        from: 0,
+        to: 1,
+        place: 0,
+    },
+    Annotation::Text {
+        from: 1,
+        to: 4,
+        place: 0,
+    },
+];
+
+/// An annotation of unknown text.
+const UNKNOWN: &[Annotation] = &[Annotation::Id { id: 0, place: 0 }];
+
+const LIST: Step<'static> = (None, &[], Part::Begin(Kind::List));
+
+const SEXP: Step<'static> = (None, &[], Part::Begin(Kind::Sexp));
+
+const STRUCT: Step<'static> = (None, &[], Part::Begin(Kind::Struct));
+
+const END: Step<'static> = (None, &[], Part::End);
+
+const ONE: Step<'static> = (None, &[], Part::Int(b"1"));
+
+const A: Step<'static> = (None, &[], Part::Symbol(b"a"));
+
+/// Items and their text.
+type Row = (&'static [Step<'static>], &'static [u8]);
+
+const ANNOTATED: &[Row] = &[
+    (&[(None, NOTES, Part::Int(b"1"))], b"a::'b c'::1\n"),
+    (&[(None, UNKNOWN, Part::Unknown)], b"$0::$0\n"),
+    (
+        &[(None, NOTES, Part::Begin(Kind::Sexp)), ONE, END],
+        b"a::'b c'::(1)\n",
+    ),
+];
+
+const CONTAINERS: &[Row] = &[
+    (&[LIST, END, SEXP, END, STRUCT, END], b"[]\n()\n{}\n"),
+    (&[ONE, A], b"1\na\n"),
+    (
+        &[
+            STRUCT,
+            (Some(b"a"), &[], Part::Int(b"1")),
+            (Some(b"b c"), &[], Part::Begin(Kind::Struct)),
+            END,
+            END,
+        ],
+        b"{a:1,'b c':{}}\n",
+    ),
+    (
+        &[
+            STRUCT,
+            (Some(b"null"), NOTES, Part::Begin(Kind::List)),
+            END,
+            (Some(b"a"), UNKNOWN, Part::Text(b"")),
+            END,
+        ],
+        b"{'null':a::'b c'::[],a:$0::\"\"}\n",
+    ),
+    (
+        &[
+            LIST, ONE, SEXP, A, LIST, END, SEXP, END, END, STRUCT, END, END, ONE,
+        ],
+        b"[1,(a [] ()),{}]\n1\n",
+    ),
+];
+
+const OPEN: &[Row] = &[
+    (&[], b""),
+    (&[LIST], b"["),
+    (&[ONE, LIST, ONE, SEXP, ONE], b"1\n[1,(1"),
+    (&[LIST, SEXP, END, LIST, END], b"[(),[]"),
+    (
+        &[STRUCT, (Some(b"a"), &[], Part::Begin(Kind::Sexp))],
+        b"{a:(",
+    ),
+];
+
+#[test]
+fn puts_containers(rt: HostRuntime) {
+    for rows in [ANNOTATED, CONTAINERS, OPEN] {
+        for (steps, text) in rows {
+            expect_text(&rt, rt.alloc(), steps, text);
+        }
+    }
+}

@@ -9,41 +9,19 @@ use Rattle.ion_value.specs.Number.{VarUInt}
 use Rattle.ion_value.specs.Value as value
 use Rattle.ion_value.specs.Value.{Symbol, SymbolAt, Scalar, Value, Top, PlacedItem, value_items, bare_item}
 use Rattle.ion_value.specs.Path.{outermost, inner, Path, closed, opened, path_items}
-use Rattle.ion_value.specs.Reading.{Step, Ends, Stops, Gives, GoesOn}
+use Rattle.ion_value.specs.Reading.{Step, Gives, GoesOn}
 use Rattle.ion_binary.specs.Descriptor.{Cursor, Region, Shape, shape_of, octet_at}
 use Rattle.ion_binary.specs.Reading.{Around, Found, a_pad, a_marker, a_scalar, a_container, found_at, Wrapped, wrapper_at, Placed, part, ids_at, Frame, State, region_of, field_at, placed_scalar, item_of, given, plain_at, inner_at, annotated_at, wrapper_length, by_wrapper, value_at, top_of, member_at, step_of, top_step, step_in, step}
 use Rattle.ion_binary.specs.Grammar.{Descriptor, Ids, Front, Annotated, Wrapper, Plain, IsPad, Bin}
-use Rattle.ion_binary.specs.Paths.{FieldIn, Within, frame_of, open_in, Spells}
+use Rattle.ion_binary.specs.Paths.{FieldIn, Within, frame_of, open_in, Spells, Stands, IsTop, At, Follows}
 use Rattle.ion_binary.specs.Laws.{Bodies}
 use Rattle.ion_binary.proofs.Taken.{bind_ok, part_ok, ok_is, InRegion, Took, Took-then, octet_at-taken}
 use Rattle.ion_binary.proofs.Finding.{IsShape, shape_of-is, Fills, Finds, found_at-finds}
 use Rattle.ion_binary.proofs.Wrapping.{InRegion-below, Took-wide, TookWrapper, wrapper_at-taken, TookIds, ids_at-taken, field_at-taken}
 use Rattle.ion_binary.proofs.Growing.{put_in, mark_in, end_in, tail_of, Fits, path_items-put_in, path_items-mark_in, path_items-open_in, path_items-end_in, Spells-within, Open, Spells-Open, Spells-value, Spells-pad, Spells-marker, Spells-begin, Spells-end, IsFull}
 
--- the bytes before a cursor spell the path, of which the frames are the open containers
-pub record Stands (bytes : List ℕ) (path : Path SymbolAt ℕ) (frames : List Frame) (c : Cursor) : Type 0 where
-  pub before : List ℕ
-  pub split : bytes ≡ before ++ c.rest
-  pub place : c.place ≡ length before
-  pub spells : Spells path frames before
-
--- the place of the open top-level value, where one is
-abbrev pub IsTop : Path SymbolAt ℕ → ℕ → Type 0
-IsTop (closed ts) top = Unit {0}
-IsTop (opened ts first nest) top = first ≡ top
-
-abbrev pub At : List ℕ → Path SymbolAt ℕ → State → Type 0
-At bytes path s = Stands bytes path s.frames s.cursor × IsTop path s.top
-
 abbrev pub state_of : List Frame → ℕ → Cursor → State
 state_of frames top c = record { frames = frames; top = top; cursor = c }
-
--- a step gives an item, and a path that has it behind the items so far, or it keeps the path; it ends where nothing is open and nothing is left
-abbrev pub Follows : List ℕ → Path SymbolAt ℕ → List Frame → Cursor → Step State → Type 0
-Follows bytes path frames c Ends = (frames ≡ []) × (c.rest ≡ [])
-Follows bytes path frames c (Stops reason place) = Unit {0}
-Follows bytes path frames c (Gives item after) = (next : Path SymbolAt ℕ) × At bytes next after × (path_items next ≡ path_items path ++ item ∷ [])
-Follows bytes path frames c (GoesOn after) = At bytes path after
 
 -- ---- top-level values
 

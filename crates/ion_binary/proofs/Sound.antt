@@ -7,9 +7,9 @@ use Rattle.ion_value.specs.Path.{Path, closed, path_items}
 use Rattle.ion_value.specs.Reading.{Reading, Finished, Stopped, items_of, Step, Ends, Stops, Gives, GoesOn, Leaves, behind_item, behind_nothing, next_reading, reading_for, Shrinks}
 use Rattle.ion_binary.specs.Reading.{Frame, State, step, size, start, reading}
 use Rattle.ion_binary.specs.Grammar.{Tops}
-use Rattle.ion_binary.specs.Paths.{Spells, IsPath}
+use Rattle.ion_binary.specs.Paths.{Spells, IsPath, At, Follows}
 use Rattle.ion_binary.specs.Laws.{Bodies, ending_of, Sound}
-use Rattle.ion_binary.proofs.Kept.{At, Follows, step-follows}
+use Rattle.ion_binary.proofs.Kept.{step-follows}
 
 -- a path with nothing open and nothing left is the whole of the bytes
 abbrev IsWhole : List ℕ → ℕ → Path SymbolAt ℕ → Type 0

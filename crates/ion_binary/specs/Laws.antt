@@ -6,10 +6,10 @@ use Rattle.ion_meter.specs.declared.limits.Limits.{Limits}
 use Rattle.ion_value.specs.Scalar.{scalar_of_body}
 use Rattle.ion_value.specs.Value.{Symbol, SymbolAt, Scalar, Top, PlacedItem}
 use Rattle.ion_value.specs.Path.{Path, closed, path_items}
-use Rattle.ion_value.specs.Reading.{Reading, Finished, Stopped, items_of, behind}
+use Rattle.ion_value.specs.Reading.{Reading, Finished, Stopped, Shrinks, items_of, behind}
 use Rattle.ion_binary.specs.Grammar.{Body, Tops, Stream}
-use Rattle.ion_binary.specs.Paths.{IsPath}
-use Rattle.ion_binary.specs.Reading.{reading}
+use Rattle.ion_binary.specs.Paths.{IsPath, At, Follows}
+use Rattle.ion_binary.specs.Reading.{State, step, size, reading}
 
 -- the bodies that the grammar has are read, each to its value, and no others are
 abbrev pub Bodies : Type 0
@@ -31,6 +31,15 @@ pub record IsRead (bytes : List ℕ) (r : Reading) : Type 0 where
 
 abbrev pub Sound : Type 0
 Sound = (limits : Limits) (bytes : List ℕ) → IsRead bytes (reading limits bytes)
+
+-- a step from where the bytes before it spell a path gives an item and the path with it, or it keeps the path; it ends where nothing is open and
+-- nothing is left
+abbrev pub EachStepFollows : Type 0
+EachStepFollows = (limits : Limits) (bytes : List ℕ) (path : Path SymbolAt ℕ) (s : State) → At bytes path s → Follows bytes path s.frames s.cursor (step limits s)
+
+-- each step takes an octet or closes a container
+abbrev pub EachStepFalls : Type 0
+EachStepFalls = (limits : Limits) → Shrinks (step limits) size
 
 -- limits that nothing that stands in so many bytes passes
 abbrev pub Allows : Limits → List ℕ → Type 0

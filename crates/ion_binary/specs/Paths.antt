@@ -2,8 +2,10 @@
 use Rattle.std.specs.Prelude.{◌≡◌, ℕ, ◌+◌, ◌≤◌, List, [], ◌∷◌, ◌++◌, length, Option, None}
 use Rattle.ion_value.specs.declared.ion_type.Kind.{Kind}
 use Rattle.ion_value.specs.Value.{SymbolAt, Members, Top}
-use Rattle.ion_value.specs.Path.{outermost, inner, Path, closed, opened}
-use Rattle.ion_binary.specs.Reading.{Frame}
+use Rattle.ion_value.specs.Path.{outermost, inner, Path, closed, opened, path_items}
+use Rattle.ion_value.specs.Reading.{Step, Ends, Stops, Gives, GoesOn}
+use Rattle.ion_binary.specs.Descriptor.{Cursor}
+use Rattle.ion_binary.specs.Reading.{Frame, State}
 use Rattle.ion_binary.specs.Grammar.{Field, Front, Annotated, Inside, Tops}
 
 -- what stands before a value where containers are open: a field where the innermost of them is a struct
@@ -43,3 +45,27 @@ pub record IsPath (bytes : List ℕ) (q : ℕ) (path : Path SymbolAt ℕ) : Type
   pub split : bytes ≡ before ++ rest
   pub place : q ≡ length before
   pub spells : Spells path frames before
+
+-- ---- what a reading stands at
+
+-- the bytes before a cursor spell the path, of which the frames are the open containers
+pub record Stands (bytes : List ℕ) (path : Path SymbolAt ℕ) (frames : List Frame) (c : Cursor) : Type 0 where
+  pub before : List ℕ
+  pub split : bytes ≡ before ++ c.rest
+  pub place : c.place ≡ length before
+  pub spells : Spells path frames before
+
+-- the place of the open top-level value, where one is
+abbrev pub IsTop : Path SymbolAt ℕ → ℕ → Type 0
+IsTop (closed ts) place = Unit {0}
+IsTop (opened ts first nest) place = first ≡ place
+
+abbrev pub At : List ℕ → Path SymbolAt ℕ → State → Type 0
+At bytes path s = Stands bytes path s.frames s.cursor × IsTop path s.top
+
+-- a step gives an item, and a path that has it behind the items so far, or it keeps the path; it ends where nothing is open and nothing is left
+abbrev pub Follows : List ℕ → Path SymbolAt ℕ → List Frame → Cursor → Step State → Type 0
+Follows bytes path frames c Ends = (frames ≡ []) × (c.rest ≡ [])
+Follows bytes path frames c (Stops reason place) = Unit {0}
+Follows bytes path frames c (Gives item after) = (next : Path SymbolAt ℕ) × At bytes next after × (path_items next ≡ path_items path ++ item ∷ [])
+Follows bytes path frames c (GoesOn after) = At bytes path after

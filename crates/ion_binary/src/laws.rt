@@ -1,6 +1,6 @@
 //! Laws of the grammar and the reading of the binary form, each the contract of a function that
 //! does nothing.
-ghost use Rattle.ion_binary.specs.Laws.{Bodies, Complete, Narrow, OnePath, OneStream, Sound, StreamsAreRead};
+ghost use Rattle.ion_binary.specs.Laws.{Bodies, Complete, EachStepFalls, EachStepFollows, Narrow, OnePath, OneStream, Sound, StreamsAreRead};
 
 /// Every body of a scalar that the grammar has is read to its value, and no other body is read.
 pub fn bodies_are_read()
@@ -15,6 +15,17 @@ pub fn limits_only_cut_short()
 /// What is read is a path of the grammar, and where the reading finishes, the whole input is.
 pub fn what_is_read_is_spelled()
     ensures { Sound }
+{}
+
+/// Each step of a reading leads from a path of the grammar to the path with the item that it gives,
+/// and it ends where nothing is open and nothing is left.
+pub fn each_step_follows()
+    ensures { EachStepFollows }
+{}
+
+/// Each step of a reading takes an octet or closes a container.
+pub fn each_step_falls()
+    ensures { EachStepFalls }
 {}
 
 /// Whatever path of the grammar the front of an input spells, its items are read first, under
@@ -48,6 +59,8 @@ mod tests {
         bodies_are_read();
         limits_only_cut_short();
         what_is_read_is_spelled();
+        each_step_follows();
+        each_step_falls();
         what_is_spelled_is_read();
         streams_are_read();
         one_path();

@@ -21,7 +21,7 @@ pub mod Rows
 pub mod Readings
 pub mod Paths
 pub mod Items
-mod Outcomes
+pub mod Outcomes
 mod Small
 mod Holding
 pub mod ValueRows

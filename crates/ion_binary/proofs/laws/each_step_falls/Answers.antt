@@ -1,0 +1,5 @@
+use Rattle.ion_binary.proofs.Fewer.{step-shrinks}
+use Rattle.ion_binary.proofs.laws.each_step_falls.Goals as goal
+
+pub returns : goal.returns
+returns c = step-shrinks

@@ -1,0 +1,6 @@
+use Rattle.ion_binary.proofs.Bodies.{bodies}
+use Rattle.ion_binary.proofs.Kept.{step-follows}
+use Rattle.ion_binary.proofs.laws.each_step_follows.Goals as goal
+
+pub returns : goal.returns
+returns c = step-follows bodies

@@ -1,0 +1,5 @@
+mod Comings
+mod Counting
+mod Faultless
+mod Reached
+mod Streams

@@ -1,0 +1,4 @@
+pub mod Verdict
+pub mod ByItem
+pub mod Bound
+pub mod Laws

@@ -1,0 +1,35 @@
+//! Laws of what streams come to, each the contract of a function that does nothing.
+ghost use Rattle.ion_transcode.specs.Laws.{OneVerdict, StreamsAreRead};
+
+use ion_binary::laws::{each_step_falls, each_step_follows};
+use ion_symbols::laws::users_are_read;
+use ion_text_out::laws::text_is_that_of_items;
+
+/// A stream comes to one verdict and one output at most.
+pub fn one_verdict()
+    ensures { OneVerdict }
+{
+    users_are_read();
+    text_is_that_of_items();
+}
+
+/// Each stream comes to what the reading of its items one by one says, and so to a verdict.
+pub fn streams_are_read()
+    ensures { StreamsAreRead }
+{
+    each_step_follows();
+    each_step_falls();
+    users_are_read();
+    text_is_that_of_items();
+}
+
+#[cfg(test)]
+mod tests {
+    use super::*;
+
+    #[test]
+    fn states_laws() {
+        one_verdict();
+        streams_are_read();
+    }
+}

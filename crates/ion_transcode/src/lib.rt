@@ -1,0 +1,10 @@
+//! Amazon Ion 1.0 from one form into another.
+#![tactic(auto)]
+
+mod drive;
+mod join;
+pub mod laws;
+mod nothing;
+pub mod run;
+pub mod to;
+mod write;

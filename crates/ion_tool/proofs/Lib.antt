@@ -1,13 +1,5 @@
-pub mod Bodies
-pub mod Descriptors
-pub mod Items
-pub mod Lengths
-pub mod Markers
-pub mod Outcomes
-pub mod Paths
-pub mod Readings
-pub mod Rows
+pub mod Acts
+pub mod LimitsRead
+pub mod OneRun
 pub mod ShowWord
-pub mod Shown
 pub mod Writing
-pub mod Spelled

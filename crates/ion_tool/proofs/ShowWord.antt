@@ -1,9 +1,33 @@
--- The one word `show` asks for the input to be shown.
-use Rattle.std.proofs.Common.{refl, [], ◌∷◌, codes}
-use Rattle.clap.specs.Walk.{walked}
-use Rattle.clap.specs.Faults.{walk_fault, defaults_fault}
-use Rattle.ion_tool.specs.Words.{NamesShow}
+-- What some words ask for, worked out.
+use Rattle.std.proofs.Common.{refl, [], ◌∷◌, codes, ◌≡◌, Some, None, List}
+use Rattle.clap.proofs.OnLiterals.{clap_on_literals}
+use Rattle.clap.specs.Words.{Text, fault_of}
+use Rattle.clap.specs.declared.error.kind.ErrorKind.TheVariants.{ValueValidation}
+use Rattle.ion_meter.specs.declared.limits.Limits.{Limits}
+use Rattle.ion_tool.specs.Words.{default_limits, ion_app, limits_in, Names}
+use Rattle.ion_tool.specs.declared.words.Action.TheVariants.{Show, Check}
 
-pub show_is_named : NamesShow (codes "show" ∷ [])
-unfolding walked walk_fault defaults_fault
-show_is_named = record { rows = []; named = refl; faultless = refl }
+-- without options the limits are the usual ones
+pub usual_limits : limits_in [] ≡ Some default_limits
+usual_limits = refl
+
+-- the one word `show` names what no words ask for
+pub show_is_named : Names (codes "show" ∷ []) Show default_limits None
+unfolding clap_on_literals
+show_is_named = record { rows = _; faultless = refl; named = refl; limited = refl; filed = refl }
+
+abbrev words : List Text
+words = codes "check" ∷ codes "--depth" ∷ codes "65535" ∷ codes "--scalar=0" ∷ codes "data.10n" ∷ []
+
+abbrev limits : Limits
+limits = record default_limits { depth = 65535; scalar = 0 }
+
+-- options change their limits, and a word more is the file
+pub check_is_named : Names words Check limits (Some (codes "data.10n"))
+unfolding clap_on_literals
+check_is_named = record { rows = _; faultless = refl; named = refl; limited = refl; filed = refl }
+
+-- a number past its limit is a fault
+pub past_limit : fault_of ion_app (codes "show" ∷ codes "--depth" ∷ codes "65536" ∷ []) ≡ ValueValidation ∷ []
+unfolding clap_on_literals
+past_limit = refl

@@ -1,9 +1,2 @@
-pub mod Descriptor
-pub mod Faults
-pub mod Grammar
-pub mod Laws
-pub mod Outcome
-pub mod Reading
-pub mod Serving
-pub mod Text
 pub mod Words
+pub mod Serving

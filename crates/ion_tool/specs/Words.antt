@@ -1,28 +1,90 @@
 -- The words after the program's name, as `clap` reads them.
-use Rattle.std.specs.Prelude.{◌≡◌, ◌≢◌, List, [], Some, true, codes, ◌⊎◌}
-use Rattle.clap.specs.Words.{App, Row, Text, new_app, with_subcommand, subcommand_of, fault_of, IsAmong}
+use Rattle.std.specs.Prelude.{◌≡◌, ◌≢◌, ◌⊎◌, ℕ, List, [], Option, Some, None, true, false, codes, string_bytes, if◌then◌else◌}
+use Rattle.std.specs.Prelude.{option_map, option_and_then}
+use Rattle.std.specs.Option.{option_map_or}
+use Rattle.std.specs.Str.Parse.{digits_value, without_leading_plus}
+use Rattle.clap.specs.ValueTests.{accepts}
+use Rattle.clap.specs.Words.{App, Row, Rule, Text, new_app, new_rule, with_rule, with_subcommand}
+use Rattle.clap.specs.Words.{subcommand_of, fault_of, first_of, one_of, IsAmong}
+use Rattle.clap.specs.declared.builder.value_parser.ValueParser.TheVariants.{Unsigned}
 use Rattle.clap.specs.declared.error.kind.ErrorKind.{ErrorKind}
 use Rattle.clap.specs.declared.error.kind.ErrorKind.TheVariants.{DisplayHelp, DisplayVersion, OutOfMemory}
+use Rattle.ion_meter.specs.Limits.{AreChecked}
+use Rattle.ion_meter.specs.declared.limits.Limits.{Limits}
+use Rattle.ion_tool.specs.declared.words.Action.{Action}
+use Rattle.ion_tool.specs.declared.words.Action.TheVariants.{Show, Check}
 use Rattle.ion_tool.specs.declared.words.Request.{Request}
-use Rattle.ion_tool.specs.declared.words.Request.TheVariants.{Show, Help, Usage}
+use Rattle.ion_tool.specs.declared.words.Request.TheVariants.{Run, Help, Usage}
+
+-- `--NAME N`, where N is at most this number
+abbrev pub limit_rule : Text → ℕ → Rule
+limit_rule name most = record (new_rule name) { long = Some name; parser = Some (Unsigned 0 most); value_names = 1 }
+
+-- a subcommand: `NAME [--depth N] [--scalar N] [--symbols N] [--value N] [FILE]`
+abbrev pub action_app : Text → App
+action_app name =
+    with_rule (with_rule (with_rule (with_rule (with_rule (new_app name)
+    (limit_rule (codes "depth") 65535))
+    (limit_rule (codes "scalar") 1073741824))
+    (limit_rule (codes "symbols") 1073741824))
+    (limit_rule (codes "value") 1073741824))
+    (new_rule (codes "FILE"))
 
 -- the program's name, before its subcommands; one of them has to be named
 abbrev pub bare_app : App
 bare_app = let a = new_app (codes "ion") in record a { top = record a.top { no_binary_name = true; subcommand_required = true } }
 
--- `ion show`
+-- `ion show`, `ion check`
 abbrev pub ion_app : App
-ion_app = with_subcommand bare_app (new_app (codes "show")).top
+ion_app = with_subcommand (with_subcommand bare_app (action_app (codes "show")).top) (action_app (codes "check")).top
 
--- `clap` finds no fault in the words, and they name `show`
-pub record NamesShow (words : List Text) : Type 0 where
+-- the subcommand for an action
+abbrev pub action_name : Action → Text
+action_name Show = codes "show"
+action_name Check = codes "check"
+
+-- the limits of a run where the words give none
+abbrev pub default_limits : Limits
+default_limits = record { depth = 64; scalar = 1048576; symbols = 1048576; value = 16777216; input = 281474976710656 }
+
+-- the number of a text that the option takes: digits, of a number that is at most this one
+abbrev pub number_in : ℕ → Text → Option ℕ
+number_in most text = if accepts false (Unsigned 0 most) text then Some (digits_value 10 (without_leading_plus text)) else None
+
+-- the number that the option of this name is given, or else the usual one
+abbrev pub limit_in : Text → ℕ → ℕ → List Row → Option ℕ
+limit_in name most usual rows = option_map_or (number_in most) (one_of name rows) (Some usual)
+
+-- the limits that the options of a subcommand give
+abbrev pub limits_in : List Row → Option Limits
+limits_in rows =
+    option_and_then (λ depth. option_and_then (λ scalar. option_and_then (λ symbols. option_map (λ value.
+    record { depth = depth; scalar = scalar; symbols = symbols; value = value; input = default_limits.input })
+    (limit_in (codes "value") 1073741824 default_limits.value rows))
+    (limit_in (codes "symbols") 1073741824 default_limits.symbols rows))
+    (limit_in (codes "scalar") 1073741824 default_limits.scalar rows))
+    (limit_in (codes "depth") 65535 default_limits.depth rows)
+
+-- the name of the file that a subcommand is given
+abbrev pub file_in : List Row → Option Text
+file_in rows = first_of (codes "FILE") rows
+
+-- `clap` finds no fault in the words, and they name the subcommand for the action, with these limits and this file
+pub record Names (words : List Text) (action : Action) (limits : Limits) (file : Option Text) : Type 0 where
   pub rows : List Row
-  pub named : subcommand_of ion_app words ≡ Some (codes "show", rows)
   pub faultless : fault_of ion_app words ≡ []
+  pub named : subcommand_of ion_app words ≡ Some (action_name action, rows)
+  pub limited : limits_in rows ≡ Some limits
+  pub filed : file_in rows ≡ file
 
--- the words ask for the input to be shown: there are none, or they name `show`
-abbrev pub IsShow : List Text → Type 0
-IsShow words = (words ≡ []) ⊎ NamesShow words
+-- the words ask for this run: there are none, for standard input to be shown with the usual limits, or they name it
+abbrev pub IsRun : List Text → Action → Limits → Option Text → Type 0
+IsRun words action limits file =
+    ((words ≡ []) × (action ≡ Show) × (limits ≡ default_limits) × (file ≡ None)) ⊎ Names words action limits file
+
+-- the words ask for some run
+abbrev pub AsksRun : List Text → Type 0
+AsksRun words = (action : Action) × (limits : Limits) × (file : Option Text) × IsRun words action limits file
 
 -- the words may ask `clap` for its help or its version
 abbrev pub IsHelp : List Text → Type 0
@@ -30,12 +92,12 @@ IsHelp words = IsAmong DisplayHelp (fault_of ion_app words) ⊎ IsAmong DisplayV
 
 -- what the words ask for
 abbrev pub Asks : List Text → Request → Type 0
-Asks words Show = IsShow words
-Asks words (Help text) = (¬ IsShow words) × IsHelp words
-Asks words (Usage text) = ¬ IsShow words
+Asks words (Run job) = IsRun words job.action job.limits (option_map string_bytes job.file) × AreChecked job.limits
+Asks words (Help text) = (¬ AsksRun words) × IsHelp words
+Asks words (Usage text) = ¬ AsksRun words
 
 -- what is answered for an error of `clap`, by its kind
 abbrev pub AnswersError : ErrorKind → Request → Type 0
-AnswersError kind Show = ⊥
+AnswersError kind (Run job) = ⊥
 AnswersError kind (Help text) = (kind ≡ DisplayHelp) ⊎ (kind ≡ DisplayVersion)
 AnswersError kind (Usage text) = kind ≢ OutOfMemory

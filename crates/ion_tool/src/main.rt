@@ -1,13 +1,9 @@
 //! The command `ion`.
 #![tactic(auto)]
 
-mod descriptor;
-mod item;
-mod laws;
-mod reader;
-mod run;
+mod act;
+mod output;
 mod serve;
-mod text;
 mod words;
 
 use ion_meter::fault::Fault;

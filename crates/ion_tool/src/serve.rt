@@ -1,17 +1,22 @@
 //! A run of the program over given devices.
-ghost use Rattle.std.specs.Prelude.{◌≡◌, ◌+◌, ◌-◌, ◌^◌, ◌<◌, ◌≤◌, ◌↔◌, ◌⊎◌, ◌++◌, List, ℕ, Result, length, take, map, string_bytes, OnOk, MatchResult};
+ghost use Rattle.std.specs.Prelude.{◌≡◌, ◌≢◌, ◌+◌, ◌-◌, ◌^◌, ◌<◌, ◌≤◌, ◌⊎◌, ◌++◌, List, ℕ, None, Some, Result, length, map, string_bytes};
 ghost use Rattle.ion_meter.specs.declared.fault.Fault.{Fault};
-ghost use Rattle.ion_tool.specs.Serving.{default_limits, status_of, line_of, fault_line, refusal_text, IsAnswered, Gets, Blames};
-ghost use Rattle.ion_tool.specs.Words.{IsShow, IsHelp};
-ghost use Rattle.ion_tool.specs.declared.run.Summary.{Summary};
+ghost use Rattle.ion_meter.specs.declared.limits.Limits.{Limits};
+ghost use Rattle.ion_meter.specs.Limits.{AreChecked};
+ghost use Rattle.ion_transcode.specs.declared.to.Summary.{Summary};
+ghost use Rattle.ion_tool.specs.Serving.{status_of, line_of, fault_line, refusal_text, IsAnswered, Gets, Blames};
+ghost use Rattle.ion_tool.specs.Words.{default_limits, AsksRun, IsHelp, IsRun};
+ghost use Rattle.ion_tool.specs.declared.words.Action.{Action};
 
-use crate::run::{Summary, run};
-use crate::words::{Request, read_words};
+use crate::act::act;
+use crate::output::write_all;
+use crate::words::{Action, Job, Request, read_words};
 use arrayvec::ArrayString;
 use ion_meter::device::{Broken, Input, Output};
 use ion_meter::fault::Fault;
 use ion_meter::limits::Limits;
-use ion_meter::meter::Meter;
+use ion_meter::stream::FromRead;
+use ion_transcode::to::Summary;
 use itoa::Buffer;
 use std::alloc::{AllocError, Global};
 use std::io::Read;
@@ -24,33 +29,8 @@ pub trait FileSource {
     fn open_named(&mut self, name: &str) -> Option<Self::File>;
 }
 
-/// The limits of a run where the words give none.
-const DEFAULT_LIMITS: Limits = Limits {
-    depth: 64,
-    scalar: 1_048_576,
-    symbols: 1_048_576,
-    value: 16_777_216,
-    input: 281_474_976_710_656,
-};
-
-/// Writes all of the bytes. A write that takes nothing is a failure, and none comes after a failure.
-fn write_all<O: Output>(device: &mut O, bytes: &[u8]) -> Result<(), Broken>
-    requires { O.failure_count device.old < 2 ^ 64 - 1 }
-    ensures tells { O.tells device.new ↔ O.tells device.old }
-    ensures count { MatchResult result (λ _. O.failure_count device.new ≡ O.failure_count device.old) (λ _. O.failure_count device.new ≡ O.failure_count device.old + 1) }
-    ensures all { O.tells device.old → OnOk result (O.written device.new ≡ O.written device.old ++ bytes.now) }
-    ensures front { O.tells device.old → (n : ℕ) × (O.written device.new ≡ O.written device.old ++ take n bytes.now) }
-{
-    let mut at = 0;
-    while at < bytes.len() {
-        let n = device.write(&bytes[at..])?;
-        if n == 0 {
-            return Err(Broken);
-        }
-        at += n;
-    }
-    Ok(())
-}
+/// The most bytes that an input may have.
+const INPUT_LIMIT: u64 = 281_474_976_710_656;
 
 /// Writes bytes to standard error, whose failures change nothing else.
 fn say<E: Output>(err: &mut E, bytes: &[u8])
@@ -91,7 +71,7 @@ fn line_on(fault: Fault) -> ArrayString<80>
 {
     let mut line = match fault {
         Fault::Refused(reason, place) => refusal(reason.name(), place),
-        Fault::InputLimit => refusal("InputLimit", DEFAULT_LIMITS.input),
+        Fault::InputLimit => refusal("InputLimit", INPUT_LIMIT),
         Fault::Memory => phrase("no memory"),
         Fault::ReadFault => phrase("read fault"),
         Fault::WriteFault => phrase("write fault"),
@@ -148,9 +128,11 @@ pub fn give_usage<E: Output>(text: &[u8], err: &mut E) -> u8
     2
 }
 
-/// Shows the input: one run with the default limits, and the line on how it failed.
-fn show<I: Input, O: Output, E: Output>(
+/// Runs over the input, and says on standard error how it failed, if it did.
+fn serve_input<I: Input, O: Output, E: Output>(
     alloc: Global,
+    action: Action,
+    limits: Limits,
     input: I,
     out: O,
     mut err: E,
@@ -158,14 +140,78 @@ fn show<I: Input, O: Output, E: Output>(
     requires in_failures { I.failure_count input < 2 ^ 64 - 1 }
     requires out_failures { O.failure_count out < 2 ^ 64 - 1 }
     requires err_failures { E.failure_count err < 2 ^ 64 - 1 }
+    requires checked { AreChecked limits }
     ensures { (answer : Result Summary Fault) × (result.0 ≡ status_of answer)
-        × (I.tells input → O.tells out → IsAnswered default_limits (I.rest input) (O.written out) (O.written result.2) answer)
+        × (I.tells input → O.tells out → IsAnswered action limits (I.rest input) (O.written out) (O.written result.2) answer)
         × Blames answer (I.failure_count input) (I.failure_count result.1) (O.failure_count out) (O.failure_count result.2)
         × Gets E.written E.tells E.failure_count (line_of answer) err result.3 }
 {
-    let mut meter = Meter::new(alloc);
-    let (answer, input, out) = run(&mut meter, DEFAULT_LIMITS, input, out);
+    let (answer, input, out) = act(alloc, action, limits, input, out);
     let status = report(answer, &mut err);
+    (status, input, out, err)
+}
+
+/// Says that a file cannot be opened.
+fn say_closed<E: Output>(name: &str, err: &mut E)
+    requires { E.failure_count err.old < 2 ^ 64 - 1 }
+{
+    let _ = write_all(err, b"cannot open ").is_ok()
+        && write_all(err, name.as_bytes()).is_ok()
+        && write_all(err, b"\n").is_ok();
+}
+
+/// Runs over a file, and says on standard error how it failed, if it did.
+fn serve_file<F: FileSource, O: Output, E: Output>(
+    alloc: Global,
+    action: Action,
+    limits: Limits,
+    files: &mut F,
+    name: &str,
+    out: O,
+    mut err: E,
+) -> (u8, O, E)
+    requires out_failures { O.failure_count out < 2 ^ 64 - 1 }
+    requires err_failures { E.failure_count err < 2 ^ 64 - 1 }
+    requires checked { AreChecked limits }
+    ensures { (result.0 ≡ 0) ⊎ ((result.0 ≡ 1) ⊎ (result.0 ≡ 3)) }
+{
+    let Some(file) = files.open_named(name) else {
+        say_closed(name, &mut err);
+        return (3, out, err);
+    };
+    let (status, _, out, err) = serve_input(alloc, action, limits, FromRead::new(file), out, err);
+    (status, out, err)
+}
+
+/// Runs over the file that was named, or over the input.
+fn serve_job<F: FileSource, I: Input, O: Output, E: Output>(
+    alloc: Global,
+    job: Job,
+    files: &mut F,
+    input: I,
+    out: O,
+    err: E,
+) -> (u8, I, O, E)
+    requires in_failures { I.failure_count input < 2 ^ 64 - 1 }
+    requires out_failures { O.failure_count out < 2 ^ 64 - 1 }
+    requires err_failures { E.failure_count err < 2 ^ 64 - 1 }
+    requires checked { AreChecked job.limits }
+    ensures input { job.file ≡ None → (answer : Result Summary Fault) × (result.0 ≡ status_of answer)
+        × (I.tells input → O.tells out → IsAnswered job.action job.limits (I.rest input) (O.written out) (O.written result.2) answer)
+        × Blames answer (I.failure_count input) (I.failure_count result.1) (O.failure_count out) (O.failure_count result.2)
+        × Gets E.written E.tells E.failure_count (line_of answer) err result.3 }
+    ensures file { job.file ≢ None → result.1 ≡ input }
+    ensures status { (result.0 ≡ 0) ⊎ ((result.0 ≡ 1) ⊎ (result.0 ≡ 3)) }
+{
+    let Job {
+        action,
+        limits,
+        file,
+    } = job;
+    let Some(name) = file else {
+        return serve_input(alloc, action, limits, input, out, err);
+    };
+    let (status, out, err) = serve_file(alloc, action, limits, files, name.as_str(), out, err);
     (status, input, out, err)
 }
 
@@ -175,7 +221,7 @@ fn show<I: Input, O: Output, E: Output>(
 pub fn serve<F: FileSource, I: Input + Drop, O: Output + Drop, E: Output + Drop>(
     alloc: Global,
     words: Vec<String>,
-    _files: &mut F,
+    files: &mut F,
     input: I,
     mut out: O,
     mut err: E,
@@ -184,25 +230,28 @@ pub fn serve<F: FileSource, I: Input + Drop, O: Output + Drop, E: Output + Drop>
     requires out_failures { O.failure_count out < 2 ^ 64 - 1 }
     requires err_failures { E.failure_count err < 2 ^ 64 - 1 }
 
-    // Words that ask for the input to be shown: the status, both outputs and the failures are those of some answer of a run.
-    ensures shown { IsShow (map string_bytes words.items) → (answer : Result Summary Fault) × (result.0 ≡ status_of answer)
-        × (I.tells input → O.tells out → IsAnswered default_limits (I.rest input) (O.written out) (O.written result.2) answer)
+    // Words that ask for a run over the input: the status, both outputs and the failures are those of some answer of that run.
+    ensures ran { (action : Action) (limits : Limits) → IsRun (map string_bytes words.items) action limits None → (answer : Result Summary Fault) × (result.0 ≡ status_of answer)
+        × (I.tells input → O.tells out → IsAnswered action limits (I.rest input) (O.written out) (O.written result.2) answer)
         × Blames answer (I.failure_count input) (I.failure_count result.1) (O.failure_count out) (O.failure_count result.2)
         × Gets E.written E.tells E.failure_count (line_of answer) err result.3 }
 
+    // Words that name a file: the input is not read.
+    ensures file { (action : Action) (limits : Limits) (name : List ℕ) → IsRun (map string_bytes words.items) action limits (Some name) → result.1 ≡ input }
+
     // Other words: help on standard output, or on standard error why there is nothing to do, or how the program failed.
-    ensures unread { ¬ IsShow (map string_bytes words.items) → result.1 ≡ input }
-    ensures status { ¬ IsShow (map string_bytes words.items) → (result.0 ≡ 0) ⊎ ((result.0 ≡ 2) ⊎ (result.0 ≡ 3)) }
-    ensures help { ¬ IsShow (map string_bytes words.items) → result.0 ≡ 0 → IsHelp (map string_bytes words.items)
+    ensures unread { ¬ AsksRun (map string_bytes words.items) → result.1 ≡ input }
+    ensures status { ¬ AsksRun (map string_bytes words.items) → (result.0 ≡ 0) ⊎ ((result.0 ≡ 2) ⊎ (result.0 ≡ 3)) }
+    ensures help { ¬ AsksRun (map string_bytes words.items) → result.0 ≡ 0 → IsHelp (map string_bytes words.items)
         × (result.3 ≡ err) × (O.failure_count result.2 ≡ O.failure_count out)
         × ((text : List ℕ) × Gets O.written O.tells O.failure_count text out result.2) }
-    ensures usage { result.0 ≡ 2 → (¬ IsShow (map string_bytes words.items)) × (result.2 ≡ out)
+    ensures usage { result.0 ≡ 2 → (¬ AsksRun (map string_bytes words.items)) × (result.2 ≡ out)
         × ((text : List ℕ) × Gets E.written E.tells E.failure_count text err result.3) }
-    ensures failed { ¬ IsShow (map string_bytes words.items) → result.0 ≡ 3
+    ensures failed { ¬ AsksRun (map string_bytes words.items) → result.0 ≡ 3
         → (fault : Fault) × ((fault ≡ Fault.Memory) ⊎ (fault ≡ Fault.WriteFault)) × Gets E.written E.tells E.failure_count (fault_line fault) err result.3 }
 {
     let status = match read_words(alloc, words.as_slice()) {
-        Ok(Request::Show) => return show(alloc, input, out, err),
+        Ok(Request::Run(job)) => return serve_job(alloc, job, files, input, out, err),
         Ok(Request::Help(text)) => give_help(text.as_bytes(), &mut out, &mut err),
         Ok(Request::Usage(text)) => give_usage(text.as_bytes(), &mut err),
         Err(AllocError) => report(Err(Fault::Memory), &mut err),

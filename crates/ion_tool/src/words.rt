@@ -1,31 +1,150 @@
 //! The words of the command line.
-ghost use Rattle.std.specs.Prelude.{◌≡◌, IfOk, map, string_bytes};
-ghost use Rattle.clap.specs.Words.{app_of, kind_of, fault_of, FailsBy, subcommand_of, subcommand_rows_of};
-ghost use Rattle.ion_tool.specs.Words.{ion_app, Asks, AnswersError};
+ghost use Rattle.std.specs.Prelude.{◌≡◌, ◌≢◌, ◌≤◌, false, IfOk, IfSome, None, List, Some, map, option_map, string_bytes};
+ghost use Rattle.clap.specs.Words.{Row, app_of, found_of, kind_of, rows_of, rule_of, fault_of, FailsBy, subcommand_of, subcommand_rows_of};
+ghost use Rattle.clap.specs.declared.builder.command.Command.TheViews.{out-Command};
+ghost use Rattle.ion_meter.specs.Limits.{AreChecked};
+ghost use Rattle.ion_tool.specs.Words.{action_app, action_name, bare_app, file_in, ion_app, limit_in, limit_rule, limits_in, Asks, AnswersError};
 
+use clap::builder::ValueParser;
 use clap::error::ErrorKind;
-use clap::{ArgMatches, Command, Error};
+use clap::{Arg, ArgMatches, Command, Error};
+use ion_meter::limits::Limits;
 use std::alloc::{AllocError, Global};
+
+/// What is done with the stream.
+#[derive(Clone, Copy, Debug, PartialEq, Eq)]
+pub enum Action {
+    /// Its canonical text is written.
+    Show,
+    /// It is read, and the number of its values is written.
+    Check,
+}
+
+/// One run of the program.
+#[derive(Debug, Drop)]
+pub struct Job {
+    pub action: Action,
+    pub limits: Limits,
+    /// The name of the file that is read. Without one it is standard input.
+    pub file: Option<String>,
+}
 
 /// What the words ask for.
 #[derive(Debug, Drop)]
 pub enum Request {
-    /// To show the input.
-    Show,
+    /// A run.
+    Run(Job),
     /// This text, on standard output.
     Help(String),
     /// Nothing that there is: this text, for standard error, says why.
     Usage(String),
 }
 
-/// The whole command.
-fn command<'a>(alloc: Global) -> Result<Command<'a>, AllocError>
-    ensures app { IfOk result (λ c. app_of c ≡ ion_app) }
+/// A run as `clap` has read it.
+#[derive(Clone, Copy, Debug)]
+struct Asked<'a> {
+    action: Action,
+    limits: Limits,
+    file: Option<&'a str>,
+}
+
+/// The limits of a run where the words give none.
+const DEFAULT_LIMITS: Limits = Limits {
+    depth: 64,
+    scalar: 1_048_576,
+    symbols: 1_048_576,
+    value: 16_777_216,
+    input: 281_474_976_710_656,
+};
+
+const ABOUT: &str =
+    "Reads a stream of binary Amazon Ion 1.0, a data format like JSON with more types, and writes its values
+as canonical Ion text, a line each.
+
+Memory stays small and bounded. A stream that is not valid, or that passes a limit, is refused: standard
+error then says why and where, as the number of bytes before the place.";
+
+const AFTER: &str = "Without a command, ion shows standard input with the default limits.
+
+Exit status:
+  0  the stream is accepted
+  1  it is refused
+  2  the command line is not understood
+  3  memory ran out, or reading or writing failed
+
+Examples:
+  ion show data.10n
+  ion check < data.10n";
+
+/// An option `--NAME N`, where N is at most this number.
+fn limit_arg<'a>(alloc: Global, name: &'a str, most: u64, help: &'a str) -> Arg<'a>
+    ensures rule { rule_of result ≡ limit_rule name.entry.now most }
+    ensures own { result.global ≡ false }
+{
+    Arg::new(alloc, name)
+        .long(name)
+        .value_name("N")
+        .value_parser(ValueParser::unsigned(0, most))
+        .help(help)
+}
+
+/// A subcommand with its options.
+fn action_command<'a>(
+    alloc: Global,
+    name: &'a str,
+    about: &'a str,
+    example: &'a str,
+) -> Result<Command<'a>, AllocError>
+    ensures app { IfOk result (λ c. app_of c ≡ action_app name.entry.now) }
+    ensures own { IfOk result (λ c. (out-Command c).has_globals ≡ false) }
+{
+    let depth = "Most containers open at once, 0 to 65535 [default: 64]";
+    let scalar = "Most bytes in one scalar, such as a string, 0 to 1073741824 [default: 1048576]";
+    let symbols = "Most bytes in one symbol table, 0 to 1073741824 [default: 1048576]";
+    let value =
+        "Most bytes in one value written as binary, 0 to 1073741824 [default: 16777216]; show and check write none";
+    let file = Arg::new(alloc, "FILE").help("File to read [default: standard input]");
+    Command::new(alloc, name)
+        .about(about)
+        .after_help(example)
+        .arg(limit_arg(alloc, "depth", 65_535, depth))?
+        .arg(limit_arg(alloc, "scalar", 1_073_741_824, scalar))?
+        .arg(limit_arg(alloc, "symbols", 1_073_741_824, symbols))?
+        .arg(limit_arg(alloc, "value", 1_073_741_824, value))?
+        .arg(file)
+}
+
+/// The program's name, with its texts.
+fn top_command<'a>(alloc: Global) -> Command<'a>
+    ensures { app_of result ≡ bare_app }
 {
     Command::new(alloc, "ion")
         .no_binary_name(true)
         .subcommand_required(true)
-        .subcommand(Command::new(alloc, "show"))?
+        .override_usage("ion [COMMAND]")
+        .about(ABOUT)
+        .after_help(AFTER)
+}
+
+/// The whole command.
+fn command<'a>(alloc: Global) -> Result<Command<'a>, AllocError>
+    ensures app { IfOk result (λ c. app_of c ≡ ion_app) }
+{
+    let show = action_command(
+        alloc,
+        "show",
+        "Writes the stream's values to standard output as canonical Ion text, a line each",
+        "Example: ion show data.10n",
+    )?;
+    let check = action_command(
+        alloc,
+        "check",
+        "Reads the whole stream and says how many values it has, as in: ok 6 values",
+        "Example: ion check < data.10n",
+    )?;
+    top_command(alloc)
+        .subcommand(show)?
+        .subcommand(check)?
         .bin_name("ion")
 }
 
@@ -50,20 +169,104 @@ fn request_of(alloc: Global, error: &Error) -> Result<Request, AllocError>
     }
 }
 
+/// The number that an option is given, or without one the usual number. `clap` refuses first what has
+/// no number here.
+fn limit_of(options: &ArgMatches<'_>, name: &str, most: u64, usual: u64) -> Option<u64>
+    requires { usual ≤ most }
+    ensures value { result ≡ limit_in name.now most usual (rows_of (found_of options.now)) }
+    ensures range { IfSome result (λ n. n ≤ most) }
+{
+    match options.try_get_one::<u64>(name) {
+        Ok(Some(number)) if number <= most => Some(number),
+        Ok(None) => Some(usual),
+        _ => None,
+    }
+}
+
+/// The limits that the options of a subcommand give.
+fn limits_of(options: &ArgMatches<'_>) -> Option<Limits>
+    ensures value { result ≡ limits_in (rows_of (found_of options.now)) }
+    ensures checked { IfSome result AreChecked }
+{
+    let most = 1_073_741_824;
+    let depth = limit_of(options, "depth", 65_535, u64::from(DEFAULT_LIMITS.depth))?;
+    let scalar = limit_of(options, "scalar", most, DEFAULT_LIMITS.scalar)?;
+    let symbols = limit_of(options, "symbols", most, DEFAULT_LIMITS.symbols)?;
+    let value = limit_of(options, "value", most, DEFAULT_LIMITS.value)?;
+    Some(Limits {
+        depth: depth as u32,
+        scalar,
+        symbols,
+        value,
+        input: DEFAULT_LIMITS.input,
+    })
+}
+
+/// The action that a subcommand stands for.
+fn action_of(name: &str) -> Option<Action>
+    ensures some { IfSome result (λ a. name.now ≡ action_name a) }
+    ensures none { result ≡ None → (a : Action) → name.now ≢ action_name a }
+{
+    match name {
+        "show" => Some(Action::Show),
+        "check" => Some(Action::Check),
+        _ => None,
+    }
+}
+
+/// The run that the matches name.
+fn asked_by<'a>(matches: &ArgMatches<'a>) -> Option<Asked<'a>>
+    ensures some { IfSome result (λ a. (rows : List Row) × (subcommand_rows_of matches.now ≡ Some (action_name a.action, rows))
+        × (limits_in rows ≡ Some a.limits) × AreChecked a.limits × (file_in rows ≡ option_map (λ s. s.now) a.file)) }
+    ensures none { result ≡ None → (action : Action) (rows : List Row) → subcommand_rows_of matches.now ≡ Some (action_name action, rows)
+        → limits_in rows ≡ None }
+{
+    let (name, options) = matches.subcommand()?;
+    let action = action_of(name)?;
+    let limits = limits_of(options)?;
+    let file = options.get_str("FILE");
+    Some(Asked {
+        action,
+        limits,
+        file,
+    })
+}
+
+/// A run that needs its words no more.
+fn job_of(alloc: Global, asked: Asked<'_>) -> Result<Job, AllocError>
+    ensures { IfOk result (λ job. (job.action ≡ asked.entry.action) × (job.limits ≡ asked.entry.limits)
+        × (option_map string_bytes job.file ≡ option_map (λ s. s.now) asked.entry.file)) }
+{
+    let file = match asked.file {
+        Some(name) => Some(String::from_str(alloc, name)?),
+        None => None,
+    };
+    Ok(Job {
+        action: asked.action,
+        limits: asked.limits,
+        file,
+    })
+}
+
 /// Reads the words after the program's name. Only want of memory makes this fail.
 pub fn read_words(alloc: Global, words: &[String]) -> Result<Request, AllocError>
     ensures { IfOk result (Asks (map string_bytes words.now)) }
 {
     if words.is_empty() {
-        return Ok(Request::Show);
+        return Ok(Request::Run(Job {
+            action: Action::Show,
+            limits: DEFAULT_LIMITS,
+            file: None,
+        }));
     }
     let matches = match matches_of(alloc, words) {
         Ok(matches) => matches,
         Err(error) => return request_of(alloc, &error),
     };
-    match matches.subcommand() {
-        Some(("show", _)) => Ok(Request::Show),
-        // No words lead here: `clap` answers its own subcommand, `help`, by an error.
-        _ => Ok(Request::Usage(String::from_str(alloc, "error: no such command\n")?)),
+    match asked_by(&matches) {
+        Some(asked) => Ok(Request::Run(job_of(alloc, asked)?)),
+        // No words lead here: `clap` answers its own subcommand, `help`, by an error, and so numbers
+        // that are past a limit.
+        None => Ok(Request::Usage(String::from_str(alloc, "error: no such command or limit\n")?)),
     }
 }

@@ -38,7 +38,7 @@ fn served(alloc: Global, words: &[&'static str], input: &[u8]) -> Result<Answer,
     }
     let mut files = OneFile {
         name: "file",
-        bytes: b"",
+        bytes: b"\xE0\x01\x00\xEA\xB3\xB2\x21\x05",
     };
     let out = ToWrite::new(Vec::new(alloc));
     let err = ToWrite::new(Vec::new(alloc));
@@ -50,26 +50,122 @@ fn served(alloc: Global, words: &[&'static str], input: &[u8]) -> Result<Answer,
     })
 }
 
+/// A stream's answer to `show`, and its number of values where it is accepted.
+struct Row {
+    input: &'static [u8],
+    status: u8,
+    out: &'static str,
+    err: &'static str,
+    count: &'static str,
+}
+
+const ROWS: [Row; 8] = [
+    Row {
+        input: b"",
+        status: 0,
+        out: "",
+        err: "",
+        count: "ok 0 values\n",
+    },
+    Row {
+        input: b"\xE0\x01\x00\xEA\x0F\x11\x21\x05\x31\x07\x2F\x10",
+        status: 0,
+        out: "null\ntrue\n5\n-7\nnull.int\nfalse\n",
+        err: "",
+        count: "ok 6 values\n",
+    },
+    Row {
+        input: b"\xE0\x01\x00\xEA\xD5\x80\x01\xFF\x84\x11",
+        status: 0,
+        out: "{name:true}\n",
+        err: "",
+        count: "ok 1 values\n",
+    },
+    Row {
+        input: b"\xE0\x01\x00\xEA\xEA\x81\x83\xD7\x87\xB2\x81\x61\x86\x71\x03\xEA\x81\x83\xD7\x87\xB2\x81\x62\x86\x71\x03\x71\x0A\x71\x0B",
+        status: 0,
+        out: "a\nb\n",
+        err: "",
+        count: "ok 2 values\n",
+    },
+    Row {
+        input: b"\xE0\x01\x00\xEA\x21\x05\x82\x61",
+        status: 1,
+        out: "5\n",
+        err: "refused Truncated at 6\n",
+        count: "",
+    },
+    Row {
+        input: b"\xE0\x01\x00\xEA\x71\x0A",
+        status: 1,
+        out: "",
+        err: "refused BadSymbol at 4\n",
+        count: "",
+    },
+    Row {
+        input: b"\xE0\x01\x00\xEA\xB1\xB1\x21",
+        status: 1,
+        out: "[",
+        err: "refused Overrun at 5\n",
+        count: "",
+    },
+    Row {
+        input: b"5",
+        status: 1,
+        out: "",
+        err: "refused BadToken at 0\n",
+        count: "",
+    },
+];
+
 #[test]
-fn shows(rt: HostRuntime) -> Result<(), Fail> {
-    let values = b"\xE0\x01\x00\xEA\x0F\x11\x21\x05\x31\x07\x2F\x10";
-    let text = "null\ntrue\n5\n-7\nnull.int\nfalse\n";
-    let wide =
-        b"\xE0\x01\x00\xEA\x2E\x91\x01\xFF\xFF\xFF\xFF\xFF\xFF\xFF\xFF\xFF\xFF\xFF\xFF\xFF\xFF\xFF\xFF";
-    let table: [(&'static [u8], u8, &'static str, &'static str); 5] = [
-        (b"", 0, "", ""),
-        (values, 0, text, ""),
-        (b"\xE0\x01\x00\xEA\x21", 1, "", "refused Truncated at 4\n"),
-        (wide, 1, "", "refused Range at 4\n"),
-        (b"5", 1, "", "refused BadToken at 0\n"),
-    ];
-    for (input, status, out, err) in table {
+fn shows_and_checks(rt: HostRuntime) -> Result<(), Fail> {
+    for row in &ROWS {
         for words in [[].as_slice(), &["show"]] {
-            let answer = served(rt.alloc(), words, input)?;
-            assert_eq!(rt; answer.status, status);
-            assert_eq!(rt; answer.out.as_slice(), out.as_bytes());
-            assert_eq!(rt; answer.err.as_slice(), err.as_bytes());
+            let answer = served(rt.alloc(), words, row.input)?;
+            assert_eq!(rt; answer.status, row.status);
+            assert_eq!(rt; answer.out.as_slice(), row.out.as_bytes());
+            assert_eq!(rt; answer.err.as_slice(), row.err.as_bytes());
         }
+        let answer = served(rt.alloc(), &["check"], row.input)?;
+        assert_eq!(rt; answer.status, row.status);
+        assert_eq!(rt; answer.out.as_slice(), row.count.as_bytes());
+        assert_eq!(rt; answer.err.as_slice(), row.err.as_bytes());
+    }
+    Ok(())
+}
+
+#[test]
+fn takes_files_and_limits(rt: HostRuntime) -> Result<(), Fail> {
+    let table: [(&'static [&'static str], u8, &'static str, &'static str); 7] = [
+        (&["show", "file"], 0, "[[5]]\n", ""),
+        (&["check", "file"], 0, "ok 1 values\n", ""),
+        (&["show", "--depth", "2", "file"], 0, "[[5]]\n", ""),
+        (
+            &["show", "--depth", "1", "file"],
+            1,
+            "[",
+            "refused DepthLimit at 5\n",
+        ),
+        (
+            &["check", "--depth=0", "file"],
+            1,
+            "",
+            "refused DepthLimit at 4\n",
+        ),
+        (
+            &["show", "--scalar", "0", "file"],
+            1,
+            "[[",
+            "refused ScalarLimit at 6\n",
+        ),
+        (&["show", "other"], 3, "", "cannot open other\n"),
+    ];
+    for (words, status, out, err) in table {
+        let answer = served(rt.alloc(), words, b"")?;
+        assert_eq!(rt; answer.status, status);
+        assert_eq!(rt; answer.out.as_slice(), out.as_bytes());
+        assert_eq!(rt; answer.err.as_slice(), err.as_bytes());
     }
     Ok(())
 }
@@ -81,6 +177,7 @@ fn reads_words(rt: HostRuntime) -> Result<(), Fail> {
         &["-h"],
         &["show", "--help"],
         &["help", "show"],
+        &["check", "--help"],
     ] {
         let answer = served(rt.alloc(), words, b"")?;
         assert_eq!(rt; answer.status, 0);
@@ -89,7 +186,10 @@ fn reads_words(rt: HostRuntime) -> Result<(), Fail> {
     }
     for words in [
         ["x"].as_slice(),
-        &["show", "show"],
+        &["show", "a", "b"],
+        &["show", "--depth", "65536"],
+        &["show", "--scalar", "x"],
+        &["convert"],
         &["--depth", "3"],
         &["--"],
         &["help", "x"],

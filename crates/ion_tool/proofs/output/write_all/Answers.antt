@@ -1,0 +1,14 @@
+use Rattle.std.proofs.Common.{arith, inl, ◌∙◌}
+use Rattle.std.proofs.lemmas.Grind.{common_steps}
+use Rattle.ion_meter.proofs.Written.{written_part}
+use Rattle.ion_tool.proofs.output.write_all.Goals as goal
+
+pub loop-at-preserved : goal.loop-at-preserved
+loop-at-preserved g c =
+    let inv = c.loop-at.invariant in
+    record {
+      within = grind (arith, common_steps, c.in_ok-n.ensures.within);
+      tells = (λ t. inv.tells.0 (c.write.ensures.tells.0 t), λ t. c.write.ensures.tells.1 (inv.tells.1 t));
+      count = c.in_ok-n.ensures.moved (inl (omega arith)) ∙ inv.count;
+      bytes = λ t. written_part _ _ _ c.args.bytes.now c.loop-at.at c.in_ok-n.n (inv.bytes t) (c.in_ok-n.ensures.bytes (inv.tells.1 t));
+    }

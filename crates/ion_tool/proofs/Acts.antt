@@ -12,7 +12,7 @@ use Rattle.ion_transcode.specs.Verdict.{Comes, ComesFromBinary, form_of, same_fo
 use Rattle.ion_transcode.specs.Laws.{OneVerdict}
 use Rattle.ion_transcode.specs.declared.to.Summary.{Summary}
 use Rattle.ion_transcode.specs.declared.to.To.TheVariants as to
-use Rattle.ion_tool.specs.Serving.{count_line, output_of, Says, IsAnswered, IsOutcome, IsWhole}
+use Rattle.ion_tool.specs.Serving.{count_line, output_of, Says, IsAnswered, IsOutcome}
 use Rattle.ion_tool.specs.declared.words.Action.TheVariants as action
 
 -- ---- shown

@@ -1,11 +1,11 @@
 -- The words ask for one run at most.
-use Rattle.std.proofs.Common.{◌≡◌, ◌⊎◌, List, [], ◌∷◌, Option, None, Some, inl, inr, refl, sym, ap, subst, ◌∙◌}
+use Rattle.std.proofs.Common.{◌≡◌, List, [], Option, None, Some, inl, inr, refl, sym, ap, subst, ◌∙◌}
 use Rattle.std.specs.Prelude.{option_map}
-use Rattle.clap.specs.Words.{Row, Text, subcommand_of, fault_of}
+use Rattle.clap.specs.Words.{Row, Text}
 use Rattle.ion_meter.specs.declared.limits.Limits.{Limits}
 use Rattle.ion_tool.specs.declared.words.Action.{Action}
 use Rattle.ion_tool.specs.declared.words.Action.TheVariants.{Show, Check}
-use Rattle.ion_tool.specs.Words.{action_name, default_limits, file_in, ion_app, limits_in, IsRun, Names}
+use Rattle.ion_tool.specs.Words.{action_name, file_in, limits_in, IsRun, Names}
 
 some_is : {T : Type 0} {x y : T} → Some x ≡ Some y → x ≡ y
 some_is e = cc e

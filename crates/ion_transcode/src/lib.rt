@@ -6,5 +6,7 @@ mod join;
 pub mod laws;
 mod nothing;
 pub mod run;
+#[cfg(test)]
+mod tests;
 pub mod to;
 mod write;

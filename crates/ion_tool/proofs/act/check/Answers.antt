@@ -1,4 +1,4 @@
-use Rattle.std.proofs.Common.{◌≡◌, sym, ◌∙◌, ap, Err}
+use Rattle.std.proofs.Common.{◌∙◌, ap, Err}
 use Rattle.ion_tool.proofs.Acts.{said, checked_fault}
 use Rattle.ion_tool.proofs.act.check.Goals as goal
 

@@ -1,4 +1,3 @@
-use Rattle.std.proofs.Common.{◌≡◌}
 use Rattle.ion_tool.proofs.Acts.{shown}
 use Rattle.ion_tool.proofs.act.show.Goals as goal
 

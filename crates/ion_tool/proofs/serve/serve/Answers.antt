@@ -1,7 +1,7 @@
-use Rattle.std.proofs.Common.{rules, ap, sym, ◌++◌, Err, None, map}
+use Rattle.std.proofs.Common.{rules, ap, sym, ◌++◌, Err, None}
 use Rattle.std.specs.Prelude.{string_bytes, option_map}
 use Rattle.ion_meter.specs.declared.fault.Fault.TheVariants.{Memory}
-use Rattle.ion_tool.proofs.OneRun.{one_run, no_file, some_file}
+use Rattle.ion_tool.proofs.OneRun.{one_run, no_file}
 use Rattle.ion_tool.proofs.serve.serve.Goals.{in-Ok-Help, in-Ok-Usage, in-Err}
 use Rattle.ion_tool.proofs.serve.serve.Goals as goal
 

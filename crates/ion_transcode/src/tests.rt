@@ -1,0 +1,280 @@
+//! What runs write of worked streams, in whatever pieces they come, and how they end.
+
+mod devices;
+mod hex;
+
+use crate::run::bound;
+use crate::to::{Form, Summary, To};
+use devices::{Giving, Taking, answer};
+use hex::{behind_marker, octets};
+use ion_meter::fault::{Fault, Reason};
+use ion_meter::limits::Limits;
+use std::alloc::Global;
+use std::process::Abort;
+use std::test::Fail;
+
+/// The limits of a run where nothing else is said.
+const LIMITS: Limits = Limits {
+    depth: 64,
+    scalar: 1_048_576,
+    symbols: 1_048_576,
+    value: 16_777_216,
+    input: 281_474_976_710_656,
+};
+
+/// The octets of a stream, what it comes to, and what is written of it as text.
+type Row = (&'static str, Result<Summary, Fault>, &'static str);
+
+/// So many values of a binary stream.
+fn binary(values: u64) -> Result<Summary, Fault> {
+    Ok(Summary {
+        form: Form::Binary,
+        values,
+    })
+}
+
+/// No value of the empty stream.
+fn empty() -> Result<Summary, Fault> {
+    Ok(Summary {
+        form: Form::Text,
+        values: 0,
+    })
+}
+
+/// A refusal.
+fn refused(reason: Reason, place: u64) -> Result<Summary, Fault> {
+    Err(Fault::Refused(reason, place))
+}
+
+/// Asserts what a stream comes to, in one piece or a byte a read, and what is written of it, at once
+/// or a byte a call.
+fn expect(
+    rt: &impl Abort,
+    alloc: Global,
+    limits: Limits,
+    to: To,
+    octets: &[u8],
+    want: Result<Summary, Fault>,
+    text: &str,
+) {
+    let (outcome, out) = answer(rt, alloc, limits, to, octets, Vec::new(alloc));
+    assert_eq!(rt; outcome, want, "{octets:?}");
+    assert_eq!(rt; out.as_slice(), text.as_bytes(), "{octets:?}");
+    let reader = Giving {
+        left: octets,
+        again: &[],
+        times: 0,
+        most: 1,
+        fails: false,
+    };
+    let writer = Taking {
+        taken: Vec::new(alloc),
+        room: text.len(),
+    };
+    let (outcome, writer) = answer(rt, alloc, limits, to, reader, writer);
+    assert_eq!(rt; outcome, want, "a byte a read: {octets:?}");
+    assert_eq!(rt;
+        writer.taken.as_slice(),
+        text.as_bytes(),
+        "a byte a call: {octets:?}"
+    );
+}
+
+/// Asserts what a stream comes to as text, checked alone, and as the form that it does not have.
+fn expect_read(
+    rt: &impl Abort,
+    alloc: Global,
+    limits: Limits,
+    octets: &[u8],
+    want: Result<Summary, Fault>,
+    text: &str,
+) {
+    for (to, text) in [(To::Text, text), (To::Other, text), (To::Nothing, "")] {
+        expect(rt, alloc, limits, to, octets, want, text);
+    }
+}
+
+/// Asserts what streams behind a version marker come to.
+fn expect_rows(rt: &impl Abort, alloc: Global, limits: Limits, rows: &[Row]) -> Result<(), Fail> {
+    for (digits, want, text) in rows {
+        let octets = behind_marker(rt, alloc, digits)?;
+        let octets = octets.as_slice();
+        expect_read(rt, alloc, limits, octets, *want, text);
+        let same = refused(Reason::SameForm, 0);
+        expect(rt, alloc, limits, To::Binary, octets, same, "");
+    }
+    Ok(())
+}
+
+#[test]
+fn binary_streams(rt: HostRuntime) -> Result<(), Fail> {
+    let rows = [
+        ("", binary(0), ""),
+        (
+            "0F 11 21 05 31 07 2F 10",
+            binary(6),
+            "null\ntrue\n5\n-7\nnull.int\nfalse\n",
+        ),
+        ("21 00", binary(1), "0\n"),
+        ("52 80 80", binary(1), "-0d0\n"),
+        ("70", binary(1), "$0\n"),
+        (
+            "69 80 0F D0 81 81 80 80 80 80",
+            binary(1),
+            "2000-01-01T00:00:00Z\n",
+        ),
+        (
+            "69 80 0F D0 81 81 80 80 80 C1",
+            binary(1),
+            "2000-01-01T00:00:00.0Z\n",
+        ),
+        // A field id before a pad names nothing.
+        ("D5 80 01 FF 84 11", binary(1), "{name:true}\n"),
+        ("D5 FE 01 FF 84 11", binary(1), "{name:true}\n"),
+        // Declarations are no values.
+        (
+            "EA 81 83 D7 87 B2 81 61 86 71 03 EA 81 83 D7 87 B2 81 62 86 71 03 71 0A 71 0B",
+            binary(2),
+            "a\nb\n",
+        ),
+        (
+            "B5 21 05 B2 11 10 E4 81 84 21 05",
+            binary(2),
+            "[5,[true,false]]\nname::5\n",
+        ),
+    ];
+    expect_rows(&rt, rt.alloc(), LIMITS, &rows)
+}
+
+#[test]
+fn refused_streams(rt: HostRuntime) -> Result<(), Fail> {
+    let rows = [
+        ("21 05 82 61", refused(Reason::Truncated, 6), "5\n"),
+        (
+            "E6 81 84 E3 81 84 11",
+            refused(Reason::BadAnnotation, 7),
+            "",
+        ),
+        ("E4 81 84 01 00", refused(Reason::BadAnnotation, 7), ""),
+        ("40", refused(Reason::Float, 4), ""),
+        ("31 00", refused(Reason::BadNumber, 4), ""),
+        ("71 0A", refused(Reason::BadSymbol, 4), ""),
+        ("B1 21 05", refused(Reason::Overrun, 5), "["),
+        ("D1 80", refused(Reason::BadDescriptor, 4), ""),
+        // What is open stays open.
+        ("B2 11", refused(Reason::Truncated, 6), "[true"),
+        ("B5 21 01 D3", refused(Reason::Overrun, 7), "[1"),
+        (
+            "11 D6 84 B4 21 01 21",
+            refused(Reason::Truncated, 10),
+            "true\n{name:[1",
+        ),
+    ];
+    expect_rows(&rt, rt.alloc(), LIMITS, &rows)?;
+    let one = Limits { depth: 1, ..LIMITS };
+    let rows = [("B1 B0", refused(Reason::DepthLimit, 5), "[")];
+    expect_rows(&rt, rt.alloc(), one, &rows)
+}
+
+#[test]
+fn first_bytes(rt: HostRuntime) -> Result<(), Fail> {
+    let alloc = rt.alloc();
+    let rows = [
+        ("", empty()),
+        ("35", refused(Reason::BadToken, 0)),
+        ("E1 01 00 EA", refused(Reason::BadToken, 0)),
+    ];
+    for (digits, want) in rows {
+        let octets = octets(&rt, alloc, digits)?;
+        expect_read(&rt, alloc, LIMITS, octets.as_slice(), want, "");
+        expect(&rt, alloc, LIMITS, To::Binary, octets.as_slice(), want, "");
+    }
+    let rows = [
+        ("E0 01", refused(Reason::Truncated, 0)),
+        ("E0 01 01 EA", refused(Reason::BadVersion, 0)),
+    ];
+    for (digits, want) in rows {
+        let octets = octets(&rt, alloc, digits)?;
+        expect_read(&rt, alloc, LIMITS, octets.as_slice(), want, "");
+        let same = refused(Reason::SameForm, 0);
+        expect(&rt, alloc, LIMITS, To::Binary, octets.as_slice(), same, "");
+    }
+    Ok(())
+}
+
+// What was written then is a front of what the whole stream comes to.
+#[test]
+fn faults(rt: HostRuntime) -> Result<(), Fail> {
+    let alloc = rt.alloc();
+    let octets = behind_marker(&rt, alloc, "21 05 11")?;
+    let octets = octets.as_slice();
+    let short = Limits { input: 3, ..LIMITS };
+    expect_read(&rt, alloc, short, octets, Err(Fault::InputLimit), "");
+    let reader = Giving {
+        left: octets,
+        again: &[],
+        times: 0,
+        most: 2,
+        fails: true,
+    };
+    let (outcome, out) = answer(&rt, alloc, LIMITS, To::Text, reader, Vec::new(alloc));
+    assert_eq!(rt; outcome, Err(Fault::ReadFault));
+    assert!(rt; b"5\ntrue\n".starts_with(out.as_slice()));
+    let writer = Taking {
+        taken: Vec::new(alloc),
+        room: 3,
+    };
+    let (outcome, writer) = answer(&rt, alloc, LIMITS, To::Text, octets, writer);
+    assert_eq!(rt; outcome, Err(Fault::WriteFault));
+    assert_eq!(rt; writer.taken.as_slice(), b"5\nt".as_slice());
+    Ok(())
+}
+
+#[test]
+fn bounds(rt: HostRuntime) -> Result<(), Fail> {
+    for to in [To::Text, To::Binary, To::Nothing, To::Other] {
+        assert_eq!(rt; bound(LIMITS, Form::Binary, to), 5_253_120);
+    }
+    for (to, want) in [
+        (To::Text, 5_253_120),
+        (To::Nothing, 5_253_120),
+        (To::Binary, 23_078_912),
+        (To::Other, 23_078_912),
+    ] {
+        assert_eq!(rt; bound(LIMITS, Form::Text, to), want);
+    }
+    Ok(())
+}
+
+/// Ints of one octet.
+const ZEROS: [u8; 4_096] = [0x20; 4_096];
+
+// A declaration with 4,194,304 ints in a field that means nothing.
+#[test]
+fn what_means_nothing_is_not_held(rt: HostRuntime) -> Result<(), Fail> {
+    let alloc = rt.alloc();
+    let first = behind_marker(
+        &rt,
+        alloc,
+        "EE 02 00 00 8D 81 83 DE 02 00 00 86 84 BE 02 00 00 80",
+    )?;
+    let reader = Giving {
+        left: first.as_slice(),
+        again: &ZEROS,
+        times: 1_024,
+        most: 4_096,
+        fails: false,
+    };
+    let limits = Limits {
+        depth: 4,
+        scalar: 64,
+        symbols: 1_024,
+        value: 0,
+        ..LIMITS
+    };
+    assert_eq!(rt; bound(limits, Form::Binary, To::Nothing), 10_560);
+    let (outcome, out) = answer(&rt, alloc, limits, To::Nothing, reader, Vec::new(alloc));
+    assert_eq!(rt; outcome, binary(0));
+    assert!(rt; out.is_empty());
+    Ok(())
+}

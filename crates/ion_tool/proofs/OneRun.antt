@@ -38,7 +38,3 @@ one_run words a b l m f h (inr n) (inr o) =
 pub no_file : {T : Type 0} (name : T → Text) (file : Option T) → None ≡ option_map name file → file ≡ None
 no_file name None e = refl
 no_file name (Some x) e = absurd (cc e)
-
-pub some_file : {T : Type 0} (name : T → Text) (file : Option T) (text : Text) → Some text ≡ option_map name file → file ≡ None → ⊥
-some_file name None text e f = cc e
-some_file name (Some x) text e f = cc f

@@ -9,7 +9,7 @@ const SCALAR: u64 = 1 << 20;
 const INPUT: u64 = 1 << 48;
 
 #[derive(Clone, Copy, Debug, PartialEq)]
-enum Reason {
+pub enum Reason {
     BadAnnotation,
     BadDescriptor,
     BadNumber,
@@ -28,14 +28,14 @@ enum Reason {
 
 #[derive(Clone, Copy, Debug)]
 #[allow(dead_code)]
-enum Error {
+pub enum Error {
     Refused(Reason, u64),
     InputLimit,
     ReadFault,
 }
 
 #[derive(Clone, Copy, Debug, PartialEq)]
-enum Kind {
+pub enum Kind {
     List,
     Sexp,
     Struct,
@@ -43,7 +43,7 @@ enum Kind {
 
 #[derive(Clone, Copy, Debug)]
 #[allow(dead_code)]
-enum Precision {
+pub enum Precision {
     Year,
     Month,
     Day,
@@ -54,22 +54,22 @@ enum Precision {
 
 #[derive(Clone, Copy, Debug)]
 #[allow(dead_code)]
-struct Timestamp {
-    precision: Precision,
-    year: u16,
-    month: u8,
-    day: u8,
-    hour: u8,
-    minute: u8,
-    second: u8,
-    fraction: u128,
-    offset: Option<i16>,
+pub struct Timestamp {
+    pub precision: Precision,
+    pub year: u16,
+    pub month: u8,
+    pub day: u8,
+    pub hour: u8,
+    pub minute: u8,
+    pub second: u8,
+    pub fraction: u128,
+    pub offset: Option<i16>,
 }
 
-// The bytes of a string, clob or blob stand in the reader.
+// A null has its type's code. The bytes of a string, clob or blob stand in the reader.
 #[derive(Clone, Copy, Debug)]
-enum Head {
-    Null,
+pub enum Head {
+    Null(u8),
     Bool(bool),
     Int { negative: bool, magnitude: u128 },
     Decimal { negative: bool, coefficient: u128, exponent: i32 },
@@ -84,18 +84,18 @@ enum Head {
 }
 
 #[derive(Clone, Copy, Debug)]
-struct Item {
-    field: Option<(u32, u64)>,
-    head: Head,
-    place: u64,
-    top: u64,
+pub struct Item {
+    pub field: Option<(u32, u64)>,
+    pub head: Head,
+    pub place: u64,
+    pub top: u64,
 }
 
 fn refused<T>(reason: Reason, place: u64) -> Result<T, Error> {
     Err(Error::Refused(reason, place))
 }
 
-struct Source<R> {
+pub struct Source<R> {
     device: R,
     window: Box<[u8; WINDOW]>,
     start: usize,
@@ -119,7 +119,7 @@ impl<R: Read> Source<R> {
     }
 
     #[inline]
-    fn peek(&mut self) -> Result<Option<u8>, Error> {
+    pub fn peek(&mut self) -> Result<Option<u8>, Error> {
         if self.start == self.end && !self.fill()? {
             return Ok(None);
         }
@@ -288,7 +288,7 @@ fn timestamp(mut octets: &[u8]) -> Result<Timestamp, Reason> {
         (6, n) => Precision::Fraction(n as u8),
         _ => return bad,
     };
-    if minutes >= 1440 || numbers.iter().any(|n| *n > 9999) {
+    if count > 3 && minutes >= 1440 || numbers.iter().any(|n| *n > 9999) {
         return bad;
     }
     let [mut year, mut month, mut day, hour, minute, second] = numbers.map(|n| n as i64);
@@ -355,16 +355,16 @@ impl Around {
     }
 }
 
-struct Reader<R> {
-    source: Source<R>,
+pub struct Reader<R> {
+    pub source: Source<R>,
     frames: Vec<(Kind, u64)>,
-    notes: Vec<(u32, u64)>,
-    text: Vec<u8>,
+    pub notes: Vec<(u32, u64)>,
+    pub text: Vec<u8>,
     top: u64,
 }
 
 impl<R: Read> Reader<R> {
-    fn new(device: R) -> Reader<R> {
+    pub fn new(device: R) -> Reader<R> {
         let source = Source { device, window: Box::new([0; WINDOW]), start: 0, end: 0, base: 0 };
         Reader { source, frames: Vec::new(), notes: Vec::new(), text: Vec::new(), top: 0 }
     }
@@ -435,7 +435,7 @@ impl<R: Read> Reader<R> {
         let head = match (code, low) {
             (0..=13, 15) => {
                 around.check(self.source.place(), 0, place)?;
-                Head::Null
+                Head::Null(code)
             }
             (0, _) => {
                 let count = self.source.length(low, around.region, place)?;
@@ -536,7 +536,7 @@ fn number(code: u8, octets: &[u8]) -> Result<Head, Reason> {
 // What an item adds to the sum.
 fn weight<R>(reader: &Reader<R>, item: Item) -> u64 {
     let head = match item.head {
-        Head::Null => 1,
+        Head::Null(_) => 1,
         Head::Bool(truth) => truth as u64,
         Head::Int { negative, magnitude } => (magnitude as u64).wrapping_add(negative as u64),
         Head::Decimal { negative, coefficient, exponent } => {

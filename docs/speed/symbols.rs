@@ -2,7 +2,7 @@
 // input by the reader of binary.rs, takes the declarations of symbol tables in with the checks that Ion asks for, and writes
 // a sum over the texts and places of the items.
 // Build: rustc -O -C target-cpu=x86-64-v2 symbols.rs
-mod binary {
+pub mod binary {
     #![allow(dead_code)]
     include!("binary.rs");
 
@@ -11,12 +11,11 @@ mod binary {
         use std::collections::HashMap;
         use std::io::Read;
 
-        const LIMIT: usize = 1 << 30;
         const MOST_SLOTS: usize = (1 << 31) - 10;
 
         #[derive(Clone, Copy, Debug)]
         #[allow(dead_code)]
-        enum Fault {
+        pub enum Fault {
             Raw(Error),
             BadSymbol(u64),
             BadTable(u64),
@@ -32,14 +31,14 @@ mod binary {
 
         // What an id stands for: a text, none, or a slot of an import that has no text.
         #[derive(Clone)]
-        enum Slot {
+        pub enum Slot {
             Known(Vec<u8>),
             Unknown,
             Gap,
         }
 
         // The shared tables by name and version.
-        type Catalog = HashMap<Vec<u8>, HashMap<u128, Vec<Slot>>>;
+        pub type Catalog = HashMap<Vec<u8>, HashMap<u128, Vec<Slot>>>;
 
         fn system() -> Vec<Slot> {
             let texts: [&[u8]; 9] = [
@@ -63,6 +62,7 @@ mod binary {
             keeps: bool,
             imports: Vec<Slot>,
             slots: Vec<Slot>,
+            limit: usize,
             cost: usize,
             count: usize,
         }
@@ -71,16 +71,18 @@ mod binary {
             fn count(&mut self, cost: usize, count: usize, place: u64) -> Result<(), Fault> {
                 self.cost += cost;
                 self.count += count;
-                if self.cost > LIMIT || self.count > MOST_SLOTS {
+                if self.cost > self.limit || self.count > MOST_SLOTS {
                     return Err(Fault::SymbolLimit(place));
                 }
                 Ok(())
             }
         }
 
-        struct UserReader<R> {
-            raw: Reader<R>,
+        pub struct UserReader<R> {
+            pub raw: Reader<R>,
             catalog: Catalog,
+            // The most that a table may cost.
+            limit: usize,
             // The slots by id, and what those behind the system's cost.
             slots: Vec<Slot>,
             cost: usize,
@@ -88,11 +90,11 @@ mod binary {
         }
 
         impl<R: Read> UserReader<R> {
-            fn new(raw: Reader<R>, catalog: Catalog) -> UserReader<R> {
-                UserReader { raw, catalog, slots: system(), cost: 0, level: 0 }
+            pub fn new(raw: Reader<R>, catalog: Catalog, limit: usize) -> UserReader<R> {
+                UserReader { raw, catalog, limit, slots: system(), cost: 0, level: 0 }
             }
 
-            fn text(&self, id: u32) -> Option<&[u8]> {
+            pub fn text(&self, id: u32) -> Option<&[u8]> {
                 match self.slots.get(id as usize) {
                     Some(Slot::Known(text)) => Some(text),
                     _ => None,
@@ -127,7 +129,7 @@ mod binary {
             }
 
             // The next item of a user value.
-            fn next(&mut self) -> Result<Option<Item>, Fault> {
+            pub fn next(&mut self) -> Result<Option<Item>, Fault> {
                 while let Some(item) = self.raw.next()? {
                     if let Head::Marker = item.head {
                         self.slots.truncate(10);
@@ -188,7 +190,7 @@ mod binary {
             }
 
             fn declaration(&mut self) -> Result<(), Fault> {
-                let mut made = Declaration::default();
+                let mut made = Declaration { limit: self.limit, ..Declaration::default() };
                 let (mut has_imports, mut has_symbols) = (false, false);
                 while let Some(item) = self.member()? {
                     match self.field(&item) {
@@ -253,6 +255,7 @@ mod binary {
             }
 
             fn import(&mut self, made: &mut Declaration, begin: u64) -> Result<(), Fault> {
+                let before = made.cost;
                 let (mut name, mut version, mut max_id) = (None, None, None);
                 while let Some(item) = self.member()? {
                     let int = match item.head {
@@ -262,7 +265,13 @@ mod binary {
                     let twice = match self.field(&item) {
                         (b"name", place) => {
                             let text = if let Head::String = item.head { self.raw.text.clone() } else { Vec::new() };
-                            name.replace(text).is_some().then_some(place)
+                            let length = text.len();
+                            if name.replace(text).is_some() {
+                                return Err(Fault::BadTable(place));
+                            }
+                            // The name costs its length until the import is whole.
+                            made.count(length, 0, item.place)?;
+                            None
                         }
                         (b"version", place) => version.replace(int).is_some().then_some(place),
                         (b"max_id", place) => max_id.replace(int).is_some().then_some(place),
@@ -273,6 +282,7 @@ mod binary {
                     }
                     self.pass(item.head)?;
                 }
+                made.cost = before;
                 let name = name.unwrap_or_default();
                 if name.is_empty() || name == b"$ion" {
                     return Ok(());
@@ -330,7 +340,7 @@ mod binary {
             use std::os::fd::FromRawFd;
             // A bare descriptor, without std's own buffer.
             let raw = Reader::new(unsafe { std::fs::File::from_raw_fd(0) });
-            let mut reader = UserReader::new(raw, Catalog::new());
+            let mut reader = UserReader::new(raw, Catalog::new(), 1 << 30);
             match sum(&mut reader) {
                 Ok(sum) => println!("{sum}"),
                 Err(error) => {

@@ -366,6 +366,7 @@ impl<I: Input, A: Allocator + Copy> BinReader<I, A> {
     }
 
     // What the item is that is lent.
+    #[inline(always)]
     fn head(&self) -> Head<'_>
         ensures { raw_head result ≡ as_head self.now.text self.now.body self.now.place self.now.what }
     {
@@ -449,6 +450,7 @@ impl<I: Input, A: Allocator + Copy> RawReader<A> for BinReader<I, A> {
         outcome
     }
 
+    #[inline(always)]
     fn item(&self) -> Item<'_, NoNames> {
         Item::new(
             lent_field(self.field),

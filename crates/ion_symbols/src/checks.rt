@@ -11,7 +11,7 @@ use ion_value::names::NoNames;
 use std::alloc::Allocator;
 
 // Refuses a symbol whose id is above the table, and in a user value an import slot without text.
-#[inline]
+#[inline(always)]
 fn check_symbol<A: Allocator + Copy>(
     symbols: &Symbols<'_, A>,
     user: bool,
@@ -30,7 +30,7 @@ fn check_symbol<A: Allocator + Copy>(
 }
 
 // Checks a field.
-#[inline]
+#[inline(always)]
 fn check_field<A: Allocator + Copy>(
     symbols: &Symbols<'_, A>,
     user: bool,
@@ -45,7 +45,7 @@ fn check_field<A: Allocator + Copy>(
 }
 
 // Checks each annotation.
-#[inline]
+#[inline(always)]
 fn check_annotations<A: Allocator + Copy>(
     symbols: &Symbols<'_, A>,
     user: bool,
@@ -64,7 +64,7 @@ fn check_annotations<A: Allocator + Copy>(
 }
 
 // Checks the symbol that an item is.
-#[inline]
+#[inline(always)]
 fn check_head<A: Allocator + Copy>(
     symbols: &Symbols<'_, A>,
     user: bool,
@@ -80,7 +80,7 @@ fn check_head<A: Allocator + Copy>(
 
 // Checks the symbols of an item in order of place: its field, its annotations, and the symbol that it
 // is.
-#[inline]
+#[inline(always)]
 pub(crate) fn check_item<A: Allocator + Copy>(
     symbols: &Symbols<'_, A>,
     user: bool,

@@ -70,6 +70,7 @@ impl<A: Allocator + Copy> Slots<A> {
     }
 
     /// The text of the slot at a place, if it has one.
+    #[inline(always)]
     pub(crate) fn get(&self, i: usize) -> Option<&[u8]>
         requires { i < length self.now }
         ensures { MatchOption result (slice_get self.now i ≡ Some None) (λ t. slice_get self.now i ≡ Some (Some t.now)) }

@@ -72,6 +72,7 @@ impl<'c, A: Allocator + Copy> Model for Symbols<'c, A> {
 }
 
 // The slot of an id of the system table.
+#[inline]
 fn system_slot(id: u32) -> Slot<'static>
     requires { id < 10 }
     ensures { slot_told result ≡ local_slot (slice_get system_slots id) }
@@ -91,7 +92,7 @@ fn system_slot(id: u32) -> Slot<'static>
 }
 
 // The local slot at a place.
-#[inline]
+#[inline(always)]
 fn local<A: Allocator + Copy>(slots: &Slots<A>, place: u64) -> Slot<'_>
     ensures { slot_told result ≡ local_slot (slice_get slots.now place) }
 {
@@ -142,6 +143,7 @@ fn import_at(imports: &[Found], place: u64) -> usize
 }
 
 // The slot at a place of the imports.
+#[inline(never)]
 fn imported<'a, A: Allocator + Copy>(
     catalog: &'a Catalog<A>,
     imports: &[Found],
@@ -169,6 +171,7 @@ impl<'c, A: Allocator + Copy> Symbols<'c, A> {
     }
 
     /// What an id stands for.
+    #[inline(always)]
     pub fn text(&self, id: u32) -> Slot<'_>
         ensures { slot_told result ≡ slot_of self.now.table id }
     {
@@ -288,6 +291,7 @@ impl<'c, A: Allocator + Copy> Names for Symbols<'c, A> {
 
     ghost text = { λ s. text_at s.table };
 
+    #[inline(always)]
     fn text_of(&self, id: u32) -> Option<&[u8]> {
         match self.text(id) {
             Slot::Known(text) => Some(text),

@@ -131,6 +131,7 @@ impl<'c, R: RawReader<A>, A: Allocator + Copy> UserReader<'c, R, A> {
 
     /// The item that the last call of `next` took, its symbols resolved: an id that is left has no
     /// known text.
+    #[inline(always)]
     pub fn item(&self) -> Item<'_, Symbols<'c, A>>
         requires { R.lends self.now.raw }
         ensures { item_of (λ s. text_at s.table) result ≡ lent_by R.current self.now }
@@ -139,6 +140,7 @@ impl<'c, R: RawReader<A>, A: Allocator + Copy> UserReader<'c, R, A> {
     }
 
     // Takes one raw item in.
+    #[inline(always)]
     fn turn(&mut self, meter: &mut Meter<A>) -> Result<Taken, Fault>
         requires room { meter.old.held ≤ 2 ^ 61 + (2 ^ 59 + 2 ^ 32) }
         requires held { owned_by R.own self.old ≤ meter.old.held }
@@ -194,6 +196,7 @@ impl<'c, R: RawReader<A>, A: Allocator + Copy> UserReader<'c, R, A> {
     }
 
     // Takes the next item of a user value; false at the end of the stream.
+    #[inline(always)]
     fn advance(&mut self, meter: &mut Meter<A>) -> Result<bool, Fault>
         requires room { meter.old.held ≤ 2 ^ 61 }
         requires held { owned_by R.own self.old ≤ meter.old.held }
@@ -235,6 +238,7 @@ impl<'c, R: RawReader<A>, A: Allocator + Copy> UserReader<'c, R, A> {
     /// `BadSymbol`, a user value's use of an import slot without text with `UnknownSymbol`, and a
     /// declaration with `BadTable` or `SymbolLimit`, each at the first byte of the part that is at
     /// fault.
+    #[inline(always)]
     pub fn next(&mut self, meter: &mut Meter<A>) -> Result<bool, Fault>
         requires room { meter.old.held ≤ 2 ^ 61 }
         requires held { owned_by R.own self.old ≤ meter.old.held }

@@ -7,10 +7,10 @@ use ion_value::ion_type::Kind;
 
 /// The innermost of the open containers, of which the outermost stands first.
 #[inline]
-fn innermost(open: &[Kind]) -> Option<Kind>
-    ensures { result ≡ innermost open.now }
+fn innermost(kinds: &[Kind]) -> Option<Kind>
+    ensures { result ≡ innermost kinds.now }
 {
-    open.last().copied()
+    kinds.last().copied()
 }
 
 /// The bracket that opens a container.
@@ -51,10 +51,10 @@ fn separator(kind: Kind) -> &'static [u8]
 /// What stands before the next value, where these containers are open and the innermost is empty
 /// or not.
 #[inline]
-pub fn before(open: &[Kind], empty: bool) -> &'static [u8]
-    ensures { result.now ≡ before_item (shown open.now empty) }
+pub fn before(kinds: &[Kind], empty: bool) -> &'static [u8]
+    ensures { result.now ≡ before_item (shown kinds.now empty) }
 {
-    match innermost(open) {
+    match innermost(kinds) {
         Some(kind) if !empty => separator(kind),
         _ => b"",
     }
@@ -62,18 +62,18 @@ pub fn before(open: &[Kind], empty: bool) -> &'static [u8]
 
 /// What stands behind a value: at top level, the end of its line.
 #[inline]
-pub fn behind(open: &[Kind]) -> &'static [u8]
-    ensures { (empty : Bool) → result.now ≡ behind_value (shown open.now empty) }
+pub fn behind(kinds: &[Kind]) -> &'static [u8]
+    ensures { (empty : Bool) → result.now ≡ behind_value (shown kinds.now empty) }
 {
-    if open.is_empty() { b"\n" } else { b"" }
+    if kinds.is_empty() { b"\n" } else { b"" }
 }
 
 /// The bracket that closes the innermost container.
 #[inline]
-pub fn closing(open: &[Kind]) -> &'static [u8]
-    ensures { (empty : Bool) → result.now ≡ closing (shown open.now empty) }
+pub fn closing(kinds: &[Kind]) -> &'static [u8]
+    ensures { (empty : Bool) → result.now ≡ closing (shown kinds.now empty) }
 {
-    match innermost(open) {
+    match innermost(kinds) {
         Some(kind) => closer(kind),
         None => b"",
     }
@@ -81,8 +81,8 @@ pub fn closing(open: &[Kind]) -> &'static [u8]
 
 /// What stands behind that bracket.
 #[inline]
-pub fn behind_end(open: &[Kind]) -> &'static [u8]
-    ensures { (empty : Bool) → result.now ≡ behind_end (shown open.now empty) }
+pub fn behind_end(kinds: &[Kind]) -> &'static [u8]
+    ensures { (empty : Bool) → result.now ≡ behind_end (shown kinds.now empty) }
 {
-    if open.len() == 1 { b"\n" } else { b"" }
+    if kinds.len() == 1 { b"\n" } else { b"" }
 }

@@ -41,6 +41,7 @@ fn put_name<O: Output, A: Allocator + Copy>(
 }
 
 /// Puts a field's name and a colon, where there is one.
+#[inline(always)]
 fn put_field<O: Output, A: Allocator + Copy>(
     sink: &mut Sink<O, A>,
     field: Option<SymAt<'_>>,
@@ -69,7 +70,7 @@ fn put_note<O: Output, A: Allocator + Copy>(
 }
 
 /// Puts the annotation at an index, where there is one.
-#[inline]
+#[inline(always)]
 fn put_note_at<O: Output, A: Allocator + Copy, N: Names>(
     sink: &mut Sink<O, A>,
     notes: &Annotations<'_, N>,
@@ -85,6 +86,7 @@ fn put_note_at<O: Output, A: Allocator + Copy, N: Names>(
 }
 
 /// Puts annotations.
+#[inline(always)]
 fn put_notes<O: Output, A: Allocator + Copy, N: Names>(
     sink: &mut Sink<O, A>,
     notes: &Annotations<'_, N>,
@@ -106,42 +108,42 @@ fn put_notes<O: Output, A: Allocator + Copy, N: Names>(
 /// Puts what stands first of an item: a separator, or the bracket that closes.
 ///
 /// Where the sink had failed before, its fault is passed on.
-#[inline]
+#[inline(always)]
 fn put_first<O: Output, A: Allocator + Copy>(
     sink: &mut Sink<O, A>,
-    open: &[Kind],
+    kinds: &[Kind],
     empty: bool,
     head: &Head<'_>,
 ) -> Result<(), Fault>
     ensures well { OnOk result (sink.old.fault ≡ None) }
-    ensures puts { sink.old.fault ≡ None → HasPut O.written O.tells O.failure_count sink.old sink.new result (first_text (shown open.now empty) (raw_head head.now)) }
+    ensures puts { sink.old.fault ≡ None → HasPut O.written O.tells O.failure_count sink.old sink.new result (first_text (shown kinds.now empty) (raw_head head.now)) }
 {
     match *head {
-        Head::End => sink.put(closing(open)),
+        Head::End => sink.put(closing(kinds)),
         Head::Marker => sink.put(b""),
-        _ => sink.put(before(open, empty)),
+        _ => sink.put(before(kinds, empty)),
     }
 }
 
 /// Puts what stands last of an item, the end of a line.
-#[inline]
+#[inline(always)]
 fn put_last<O: Output, A: Allocator + Copy>(
     sink: &mut Sink<O, A>,
-    open: &[Kind],
+    kinds: &[Kind],
     head: &Head<'_>,
 ) -> Result<(), Fault>
     requires well { sink.old.fault ≡ None }
-    ensures { (empty : Bool) → HasPut O.written O.tells O.failure_count sink.old sink.new result (last_text (shown open.now empty) (raw_head head.now)) }
+    ensures { (empty : Bool) → HasPut O.written O.tells O.failure_count sink.old sink.new result (last_text (shown kinds.now empty) (raw_head head.now)) }
 {
     match *head {
-        Head::End => put(sink, behind_end(open)),
+        Head::End => put(sink, behind_end(kinds)),
         Head::Begin(_) | Head::Marker => put(sink, b""),
-        _ => put(sink, behind(open)),
+        _ => put(sink, behind(kinds)),
     }
 }
 
 /// Whether an item has a value: a scalar, or a container that begins.
-#[inline]
+#[inline(always)]
 fn is_value(head: &Head<'_>) -> bool
     ensures { result ≡ is_value (raw_head head.now) }
 {
@@ -150,6 +152,7 @@ fn is_value(head: &Head<'_>) -> bool
 
 /// Puts a field's name, annotations and a scalar or the bracket that opens a container, and
 /// nothing for an end.
+#[inline(always)]
 fn put_middle<O: Output, A: Allocator + Copy, N: Names>(
     sink: &mut Sink<O, A>,
     item: &Item<'_, N>,
@@ -168,6 +171,7 @@ fn put_middle<O: Output, A: Allocator + Copy, N: Names>(
 }
 
 /// Puts a field's name, annotations, and a scalar or the bracket that opens a container.
+#[inline(always)]
 fn put_value<O: Output, A: Allocator + Copy, N: Names>(
     sink: &mut Sink<O, A>,
     field: Option<SymAt<'_>>,
@@ -188,22 +192,23 @@ fn put_value<O: Output, A: Allocator + Copy, N: Names>(
 }
 
 /// Puts an item, where these containers are open and the innermost is empty or not.
+#[inline(always)]
 pub fn put_item<O: Output, A: Allocator + Copy, N: Names>(
     sink: &mut Sink<O, A>,
-    open: &[Kind],
+    kinds: &[Kind],
     empty: bool,
     item: &Item<'_, N>,
 ) -> Result<(), Fault>
     requires range { HeadInRange (item_of N.text item.now).head }
     ensures well { OnOk result (sink.old.fault ≡ None) }
-    ensures puts { sink.old.fault ≡ None → HasPut O.written O.tells O.failure_count sink.old sink.new result (item_text (shown open.now empty) (user_item (item_of N.text item.now))) }
+    ensures puts { sink.old.fault ≡ None → HasPut O.written O.tells O.failure_count sink.old sink.new result (item_text (shown kinds.now empty) (user_item (item_of N.text item.now))) }
 {
     let head = item.head();
-    if let Err(fault) = put_first(sink, open, empty, &head) {
+    if let Err(fault) = put_first(sink, kinds, empty, &head) {
         return Err(fault);
     }
     if let Err(fault) = put_middle(sink, item, &head) {
         return Err(fault);
     }
-    put_last(sink, open, &head)
+    put_last(sink, kinds, &head)
 }

@@ -101,6 +101,7 @@ fn put_blob<O: Output, A: Allocator + Copy>(
 }
 
 /// Puts an int.
+#[inline(always)]
 fn put_int<O: Output, A: Allocator + Copy>(sink: &mut Sink<O, A>, int: Int) -> Result<(), Fault>
     requires well { sink.old.fault ≡ None }
     requires range { IsInt int }
@@ -137,6 +138,7 @@ fn put_timestamp<O: Output, A: Allocator + Copy>(
 }
 
 /// Puts a scalar, or the bracket that opens a container.
+#[inline(always)]
 pub fn put_body<O: Output, A: Allocator + Copy>(
     sink: &mut Sink<O, A>,
     head: &Head<'_>,

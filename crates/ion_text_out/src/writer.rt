@@ -32,7 +32,7 @@ use std::alloc::Allocator;
 #[derive(Drop)]
 pub struct TextWriter<A: Allocator + Copy> {
     limits: Limits,
-    open: Stack<Kind, A>,
+    kinds: Stack<Kind, A>,
     empty: bool,
     failed: Option<Fault>,
 }
@@ -42,12 +42,12 @@ impl<A: Allocator + Copy> TextWriter<A> {
     pub fn new(meter: &Meter<A>, limits: Limits) -> TextWriter<A>
         requires checked { AreChecked limits }
         ensures limits { result.limits ≡ limits }
-        ensures nothing { (result.open ≡ []) × (result.failed ≡ None) }
-        ensures ready { IsReady result.limits (length result.open) }
+        ensures nothing { (result.kinds ≡ []) × (result.failed ≡ None) }
+        ensures ready { IsReady result.limits (length result.kinds) }
     {
         TextWriter {
             limits,
-            open: Stack::new(meter),
+            kinds: Stack::new(meter),
             empty: true,
             failed: None,
         }
@@ -55,19 +55,20 @@ impl<A: Allocator + Copy> TextWriter<A> {
 
     /// Gives back what it holds.
     pub fn release(self, meter: &mut Meter<A>)
-        requires { 16 * length self.open ≤ meter.old.held }
-        ensures { Shrinks meter.old meter.new (16 * length self.open) }
+        requires { 16 * length self.kinds ≤ meter.old.held }
+        ensures { Shrinks meter.old meter.new (16 * length self.kinds) }
     {
         let TextWriter {
             limits: _,
-            open,
+            kinds,
             empty: _,
             failed: _,
         } = self;
-        open.release(meter);
+        kinds.release(meter);
     }
 
     // Puts an item and moves to behind it.
+    #[inline(always)]
     fn take<O: Output, N: Names>(
         &mut self,
         meter: &mut Meter<A>,
@@ -75,22 +76,22 @@ impl<A: Allocator + Copy> TextWriter<A> {
         item: &Item<'_, N>,
     ) -> Result<(), Fault>
         requires room { meter.old.held ≤ 2 ^ 62 }
-        requires held { 16 * length self.old.open ≤ meter.old.held }
+        requires held { 16 * length self.old.kinds ≤ meter.old.held }
         requires countable { meter.old.refused < 2 ^ 64 - 1 }
-        requires ready { IsReady self.old.limits (length self.old.open) }
+        requires ready { IsReady self.old.limits (length self.old.kinds) }
         requires range { HeadInRange (item_of N.text item.now).head }
-        requires fits { HasRoom self.old.limits.depth (length self.old.open) (item_of N.text item.now).head }
-        ensures shown { OnOk result (shown self.new.open self.new.empty ≡ open_after (shown self.old.open self.old.empty) (map_head user_at (item_of N.text item.now).head)) }
-        ensures puts { OnOk result (O.tells sink.old.device → so_far O.written sink.new ≡ so_far O.written sink.old ++ item_text (shown self.old.open self.old.empty) (user_item (item_of N.text item.now))) }
-        ensures part { sink.old.fault ≡ None → Puts O.written O.tells sink.old sink.new (item_text (shown self.old.open self.old.empty) (user_item (item_of N.text item.now))) }
+        requires fits { HasRoom self.old.limits.depth (length self.old.kinds) (item_of N.text item.now).head }
+        ensures shown { OnOk result (shown self.new.kinds self.new.empty ≡ open_after (shown self.old.kinds self.old.empty) (map_head user_at (item_of N.text item.now).head)) }
+        ensures puts { OnOk result (O.tells sink.old.device → so_far O.written sink.new ≡ so_far O.written sink.old ++ item_text (shown self.old.kinds self.old.empty) (user_item (item_of N.text item.now))) }
+        ensures part { sink.old.fault ≡ None → Puts O.written O.tells sink.old sink.new (item_text (shown self.old.kinds self.old.empty) (user_item (item_of N.text item.now))) }
         ensures well { OnOk result (sink.old.fault ≡ None → sink.new.fault ≡ None) }
         ensures refuses { sink.old.fault ≡ None → (r : Reason) (p : ℕ) → result ≡ Err (Refused r p) → ⊥ }
-        ensures ready { IsReady self.new.limits (length self.new.open) }
+        ensures ready { IsReady self.new.limits (length self.new.kinds) }
         ensures kept { (self.new.limits ≡ self.old.limits) × (self.new.failed ≡ self.old.failed) }
         ensures causes { sink.old.fault ≡ None → WriteCauses (fault_of result) meter.old meter.new (O.failure_count sink.old.device) (O.failure_count sink.new.device) }
-        ensures charges { Charges meter.old meter.new (16 * length self.old.open) (16 * length self.new.open) (16 * self.old.limits.depth) }
+        ensures charges { Charges meter.old meter.new (16 * length self.old.kinds) (16 * length self.new.kinds) (16 * self.old.limits.depth) }
     {
-        if let Err(fault) = put_item(sink, self.open.as_slice(), self.empty, item) {
+        if let Err(fault) = put_item(sink, self.kinds.as_slice(), self.empty, item) {
             return Err(fault);
         }
         let head = item.head();
@@ -98,30 +99,30 @@ impl<A: Allocator + Copy> TextWriter<A> {
     }
 
     // Moves to behind a head.
-    #[inline]
+    #[inline(always)]
     fn settle(&mut self, meter: &mut Meter<A>, head: &Head<'_>) -> Result<(), Fault>
         requires room { meter.old.held ≤ 2 ^ 62 }
-        requires held { 16 * length self.old.open ≤ meter.old.held }
+        requires held { 16 * length self.old.kinds ≤ meter.old.held }
         requires countable { meter.old.refused < 2 ^ 64 - 1 }
-        requires ready { IsReady self.old.limits (length self.old.open) }
-        requires fits { HasRoom self.old.limits.depth (length self.old.open) (raw_head head.now) }
-        ensures shown { OnOk result (shown self.new.open self.new.empty ≡ open_after (shown self.old.open self.old.empty) (map_head user_at (raw_head head.now))) }
+        requires ready { IsReady self.old.limits (length self.old.kinds) }
+        requires fits { HasRoom self.old.limits.depth (length self.old.kinds) (raw_head head.now) }
+        ensures shown { OnOk result (shown self.new.kinds self.new.empty ≡ open_after (shown self.old.kinds self.old.empty) (map_head user_at (raw_head head.now))) }
         ensures memory { IfErr result (λ f. f ≡ Fault.Memory) }
         ensures refused { OnErr result (meter.old.refused < meter.new.refused) }
         ensures counted { OnOk result (meter.new.refused ≡ meter.old.refused) }
-        ensures ready { IsReady self.new.limits (length self.new.open) }
+        ensures ready { IsReady self.new.limits (length self.new.kinds) }
         ensures kept { (self.new.limits ≡ self.old.limits) × (self.new.failed ≡ self.old.failed) }
-        ensures charges { Charges meter.old meter.new (16 * length self.old.open) (16 * length self.new.open) (16 * self.old.limits.depth) }
+        ensures charges { Charges meter.old meter.new (16 * length self.old.kinds) (16 * length self.new.kinds) (16 * self.old.limits.depth) }
     {
         match *head {
             Head::Begin(kind) => {
-                if let Err((_, fault)) = self.open.push(meter, kind) {
+                if let Err((_, fault)) = self.kinds.push(meter, kind) {
                     return Err(fault);
                 }
                 self.empty = true;
             }
             Head::End => {
-                self.open.pop(meter);
+                self.kinds.pop(meter);
                 self.empty = false;
             }
             Head::Marker => {}
@@ -140,17 +141,17 @@ impl<O: Output, A: Allocator + Copy> ValueWriter<O, A> for TextWriter<A> {
 
     ghost limits = { λ w. w.limits };
 
-    ghost is_new = { λ w. (w.open ≡ []) × (w.failed ≡ None) };
+    ghost is_new = { λ w. (w.kinds ≡ []) × (w.failed ≡ None) };
 
-    ghost stands = { λ w path. (w.failed ≡ None) × Stands w.open w.empty path };
+    ghost stands = { λ w path. (w.failed ≡ None) × Stands w.kinds w.empty path };
 
     ghost failed = { λ w. w.failed };
 
-    ghost own = { λ w. 16 * length w.open };
+    ghost own = { λ w. 16 * length w.kinds };
 
     ghost most = { λ w. 16 * w.limits.depth };
 
-    ghost sound = { λ w. IsReady w.limits (length w.open) };
+    ghost sound = { λ w. IsReady w.limits (length w.kinds) };
 
     fn begin(&mut self, sink: &mut Sink<O, A>) -> Result<(), Fault> {
         let outcome = sink.put(b"");
@@ -160,6 +161,7 @@ impl<O: Output, A: Allocator + Copy> ValueWriter<O, A> for TextWriter<A> {
         outcome
     }
 
+    #[inline(always)]
     fn item<N: Names>(
         &mut self,
         meter: &mut Meter<A>,
@@ -182,5 +184,5 @@ impl<O: Output, A: Allocator + Copy> ValueWriter<O, A> for TextWriter<A> {
 
     ghost silent = { λ limits path item why e. absurd (Prim.cc e) };
 
-    ghost within = { λ w ready. text-within w.limits (length w.open) ready };
+    ghost within = { λ w ready. text-within w.limits (length w.kinds) ready };
 }

@@ -150,6 +150,7 @@ fn binary_streams(rt: HostRuntime) -> Result<(), Fail> {
 fn refused_streams(rt: HostRuntime) -> Result<(), Fail> {
     let rows = [
         ("21 05 82 61", refused(Reason::Truncated, 6), "5\n"),
+        ("21 05 82 61 FF", refused(Reason::BadText, 6), "5\n"),
         (
             "E6 81 84 E3 81 84 11",
             refused(Reason::BadAnnotation, 7),

@@ -91,6 +91,7 @@ pub fn int_to_bytes(int: Int) -> ArrayVec<u8, 16>
 
 /// The text of an int: its decimal digits, behind a minus where it is negative (Ion specification,
 /// "Integers").
+#[inline(always)]
 pub fn int_to_text(int: Int) -> ArrayString<40>
     requires { IsInt int }
     ensures { result.bytes ≡ int_text int }

@@ -6,4 +6,4 @@ pub take-requires-clause-fits : goal.take-requires-clause-fits
 take-requires-clause-fits g c =
     let self = c.args.self.now in
     let at = c.requires.path c.in_default.is in
-    has_room self.limits self.open self.empty at.0 (item_of g.N.Names.text c.args.item.now) at.1.1 at.2
+    has_room self.limits self.kinds self.empty at.0 (item_of g.N.Names.text c.args.item.now) at.1.1 at.2

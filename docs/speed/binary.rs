@@ -360,16 +360,20 @@ pub struct Reader<R> {
     frames: Vec<(Kind, u64)>,
     pub notes: Vec<(u32, u64)>,
     pub text: Vec<u8>,
+    // What the last call of `next` has read.
+    pub item: Item,
     top: u64,
 }
 
 impl<R: Read> Reader<R> {
     pub fn new(device: R) -> Reader<R> {
         let source = Source { device, window: Box::new([0; WINDOW]), start: 0, end: 0, base: 0 };
-        Reader { source, frames: Vec::new(), notes: Vec::new(), text: Vec::new(), top: 0 }
+        let item = Item { field: None, head: Head::End, place: 0, top: 0 };
+        Reader { source, frames: Vec::new(), notes: Vec::new(), text: Vec::new(), item, top: 0 }
     }
 
-    fn next(&mut self) -> Result<Option<Item>, Error> {
+    // Whether there is a next item.
+    fn next(&mut self) -> Result<bool, Error> {
         loop {
             self.notes.clear();
             let frame = self.frames.last().copied();
@@ -378,13 +382,14 @@ impl<R: Read> Reader<R> {
             match frame {
                 None => {
                     if self.source.peek()?.is_none() {
-                        return Ok(None);
+                        return Ok(false);
                     }
                     self.top = here;
                 }
                 Some((_, end)) if end <= here => {
                     self.frames.pop();
-                    return Ok(Some(Item { field: None, head: Head::End, place: here, top: self.top }));
+                    self.item = Item { field: None, head: Head::End, place: here, top: self.top };
+                    return Ok(true);
                 }
                 Some((Kind::Struct, end)) => field = Some((id(self.source.var_uint(Some(end), here)?), here)),
                 Some(_) => {}
@@ -401,7 +406,8 @@ impl<R: Read> Reader<R> {
                 }
             }
             if let Some(head) = self.value(octet, around, place)? {
-                return Ok(Some(Item { field, head, place, top: self.top }));
+                self.item = Item { field, head, place, top: self.top };
+                return Ok(true);
             }
         }
     }
@@ -556,8 +562,8 @@ fn weight<R>(reader: &Reader<R>, item: Item) -> u64 {
 
 fn sum<R: Read>(reader: &mut Reader<R>) -> Result<u64, Error> {
     let mut sum: u64 = 0;
-    while let Some(item) = reader.next()? {
-        sum = sum.wrapping_add(weight(reader, item)).wrapping_add(1);
+    while reader.next()? {
+        sum = sum.wrapping_add(weight(reader, reader.item)).wrapping_add(1);
     }
     Ok(sum)
 }

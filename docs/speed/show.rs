@@ -429,8 +429,8 @@ fn open<R: Read>(input: R) -> Result<UserReader<R>, Failure> {
 }
 
 fn write_all<R: Read, W: Write>(reader: &mut UserReader<R>, writer: &mut Writer<W>) -> Result<(), Failure> {
-    while let Some(item) = reader.next()? {
-        writer.item(reader, &item)?;
+    while reader.next()? {
+        writer.item(reader, &reader.raw.item)?;
     }
     Ok(())
 }
@@ -451,8 +451,8 @@ fn check<R: Read, W: Write>(input: R, mut output: W) -> Result<(), Failure> {
     let mut reader = open(input)?;
     let mut values: u64 = 0;
     let mut level = 0;
-    while let Some(item) = reader.next()? {
-        match item.head {
+    while reader.next()? {
+        match reader.raw.item.head {
             Head::Begin(_) => level += 1,
             Head::End => level -= 1,
             _ => {}

@@ -128,39 +128,38 @@ pub mod binary {
                     && self.raw.notes.first().is_some_and(|(id, _)| self.text(*id) == Some(b"$ion_symbol_table"))
             }
 
-            // The next item of a user value.
-            pub fn next(&mut self) -> Result<Option<Item>, Fault> {
-                while let Some(item) = self.raw.next()? {
+            // Whether there is a next item of a user value.
+            pub fn next(&mut self) -> Result<bool, Fault> {
+                while self.raw.next()? {
+                    let item = &self.raw.item;
                     if let Head::Marker = item.head {
                         self.slots.truncate(10);
                         self.cost = 0;
                         continue;
                     }
-                    if self.declares(&item) {
-                        self.check(false, &item)?;
+                    if self.declares(item) {
+                        self.check(false, item)?;
                         self.declaration()?;
                         continue;
                     }
-                    self.check(true, &item)?;
+                    self.check(true, item)?;
                     match item.head {
                         Head::Begin(_) => self.level += 1,
                         Head::End => self.level -= 1,
                         _ => {}
                     }
-                    return Ok(Some(item));
+                    return Ok(true);
                 }
-                Ok(None)
+                Ok(false)
             }
 
             // The next item of a container; none at the container's end.
             fn member(&mut self) -> Result<Option<Item>, Fault> {
-                match self.raw.next()? {
-                    Some(item) if !matches!(item.head, Head::End) => {
-                        self.check(false, &item)?;
-                        Ok(Some(item))
-                    }
-                    _ => Ok(None),
+                if !self.raw.next()? || matches!(self.raw.item.head, Head::End) {
+                    return Ok(None);
                 }
+                self.check(false, &self.raw.item)?;
+                Ok(Some(self.raw.item))
             }
 
             fn field(&self, item: &Item) -> (&[u8], u64) {
@@ -173,17 +172,12 @@ pub mod binary {
             // Passes over what is left of a value.
             fn pass(&mut self, head: Head) -> Result<(), Fault> {
                 let mut level = matches!(head, Head::Begin(_)) as usize;
-                while level > 0 {
-                    match self.raw.next()? {
-                        None => break,
-                        Some(item) => {
-                            self.check(false, &item)?;
-                            match item.head {
-                                Head::Begin(_) => level += 1,
-                                Head::End => level -= 1,
-                                _ => {}
-                            }
-                        }
+                while level > 0 && self.raw.next()? {
+                    self.check(false, &self.raw.item)?;
+                    match self.raw.item.head {
+                        Head::Begin(_) => level += 1,
+                        Head::End => level -= 1,
+                        _ => {}
                     }
                 }
                 Ok(())
@@ -330,8 +324,8 @@ pub mod binary {
 
         fn sum<R: Read>(reader: &mut UserReader<R>) -> Result<u64, Fault> {
             let mut sum: u64 = 0;
-            while let Some(item) = reader.next()? {
-                sum = sum.wrapping_add(weight(reader, item)).wrapping_add(1);
+            while reader.next()? {
+                sum = sum.wrapping_add(weight(reader, reader.raw.item)).wrapping_add(1);
             }
             Ok(sum)
         }

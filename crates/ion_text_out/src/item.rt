@@ -27,6 +27,7 @@ use ion_value::names::Names;
 use std::alloc::Allocator;
 
 /// Puts a field's name and a colon.
+#[inline(always)]
 fn put_name<O: Output, A: Allocator + Copy>(
     sink: &mut Sink<O, A>,
     at: SymAt<'_>,
@@ -56,6 +57,7 @@ fn put_field<O: Output, A: Allocator + Copy>(
 }
 
 /// Puts one annotation and two colons.
+#[inline(always)]
 fn put_note<O: Output, A: Allocator + Copy>(
     sink: &mut Sink<O, A>,
     at: SymAt<'_>,

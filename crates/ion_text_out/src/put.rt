@@ -8,7 +8,7 @@ use ion_meter::sink::Sink;
 use std::alloc::Allocator;
 
 /// Puts these bytes.
-#[inline]
+#[inline(always)]
 pub fn put<O: Output, A: Allocator + Copy>(sink: &mut Sink<O, A>, bytes: &[u8]) -> Result<(), Fault>
     requires well { sink.old.fault ≡ None }
     ensures { HasPut O.written O.tells O.failure_count sink.old sink.new result bytes.now }

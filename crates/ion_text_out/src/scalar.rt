@@ -51,7 +51,7 @@ fn null(of: IonType) -> &'static [u8]
 
 /// Puts a symbol: its text, between quotes where it could be taken for something else, or `$0`
 /// where that is unknown.
-#[inline]
+#[inline(always)]
 pub fn put_symbol<O: Output, A: Allocator + Copy>(
     sink: &mut Sink<O, A>,
     symbol: Sym<'_>,

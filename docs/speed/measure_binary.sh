@@ -6,7 +6,7 @@ work=$(mktemp -d)
 trap 'rm -rf "$work"' EXIT
 rustc -O -C target-cpu=x86-64-v2 docs/speed/binary.rs -o "$work/plain"
 mkdir -p "$work/repository/crates/ion_speed/src" "$work/repository/crates/ion_speed/proofs/sum"
-cp -r crates/ion_meter crates/ion_value crates/ion_binary "$work/repository/crates/"
+cp -r crates/ion_meter crates/ion_value crates/ion_symbols crates/ion_binary "$work/repository/crates/"
 cp docs/speed/binary.rattle "$work/repository/crates/ion_speed/src/main.rt"
 cat > "$work/repository/crates/ion_speed/proofs/sum/Invariants.antt" <<'ANTT'
 use Rattle.std.proofs.Common.{◌≡◌, ◌≤◌, ◌^◌, None}
@@ -25,7 +25,7 @@ invariant-loop-reader g l = record {
 abbrev pub decreases-loop-reader : goal.decreases-loop-reader
 decreases-loop-reader g l = g.R.RawReader.left l.reader
 ANTT
-{ grep -E '^(ion_meter|ion_value|ion_binary):' crates.txt; echo 'ion_speed: ion_meter ion_value ion_binary'; } > "$work/repository/crates.txt"
+{ grep -E '^(ion_meter|ion_value|ion_symbols|ion_binary):' crates.txt; echo 'ion_speed: ion_meter ion_value ion_binary'; } > "$work/repository/crates.txt"
 (cd "$work/repository/crates/ion_speed" && rt run < /dev/null > "$work/log" 2>&1) || true
 ion="$work/repository/crates/ion_speed/out/ion_speed"
 [ -x "$ion" ] || { cat "$work/log"; exit 1; }

@@ -1,5 +1,5 @@
 -- What the program answers for a run: its status, and its line on standard error.
-use Rattle.std.specs.Prelude.{◌≡◌, ℕ, ◌+◌, ◌<◌, ◌≤◌, List, [], ◌∷◌, ◌++◌, length, Option, None, Some, IsSome, unwrap_or, Result, Ok, Err, codes, decimal}
+use Rattle.std.specs.Prelude.{◌≡◌, ℕ, ◌+◌, ◌<◌, ◌≤◌, List, [], ◌∷◌, ◌++◌, length, Result, Ok, Err, codes, decimal}
 use Rattle.ion_meter.specs.Reasons.{name_of}
 use Rattle.ion_meter.specs.Windows.{BeginsWith}
 use Rattle.ion_meter.specs.declared.fault.Fault.{Fault}
@@ -38,10 +38,6 @@ fault_text WriteFault = codes "write fault"
 -- the line on a fault
 abbrev pub fault_line : Fault → List ℕ
 fault_line fault = fault_text fault ++ 10 ∷ []
-
--- the line on a file that cannot be opened
-abbrev pub closed_line : List ℕ → List ℕ
-closed_line name = codes "cannot open " ++ (name ++ codes "\n")
 
 -- what goes to standard error, by the answer of a run: nothing, or one line
 abbrev pub line_of : Result Summary Fault → List ℕ
@@ -104,17 +100,3 @@ Blames (Err Memory) in_old in_new out_old out_new = Unit {0}
 Blames (Err InputLimit) in_old in_new out_old out_new = Unit {0}
 Blames (Err (Refused reason place)) in_old in_new out_old out_new = Unit {0}
 Blames (Ok summary) in_old in_new out_old out_new = Unit {0}
-
--- What is answered for a file, by what there is for its name. Nothing: a line on standard error with its name, and status 3. A file: as for standard
--- input, by the bytes that are left of it where its type tells them. `remaining` is of files, `written`, `tells` and `failure_count` of standard output, and
--- those with `err` of standard error.
-abbrev pub IsFileServed : {F O E : Type 0} (remaining : F → Option (List ℕ)) (written : O → List ℕ) (tells : O → Type 0) (failure_count : O → ℕ)
-    (err_written : E → List ℕ) (err_tells : E → Type 0) (err_failure_count : E → ℕ) (action : Action) (limits : Limits) (name : List ℕ) (found : Option F)
-    (status : ℕ) (old new : O) (err_old err_new : E) → Type 0
-IsFileServed remaining written tells failure_count err_written err_tells err_failure_count action limits name None status old new err_old err_new =
-    (status ≡ 3) × (new ≡ old) × Gets err_written err_tells err_failure_count (closed_line name) err_old err_new
-IsFileServed {F} remaining written tells failure_count err_written err_tells err_failure_count action limits name (Some file) status old new err_old err_new =
-    (answer : Result Summary Fault) × (status ≡ status_of answer)
-    × (((f : F) → IsSome (remaining f)) → tells old → IsAnswered action limits (unwrap_or (remaining file) []) (written old) (written new) answer)
-    × ((failures : ℕ) × Blames answer 0 failures (failure_count old) (failure_count new))
-    × Gets err_written err_tells err_failure_count (line_of answer) err_old err_new

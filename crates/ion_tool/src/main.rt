@@ -1,8 +1,6 @@
 //! The command `ion`.
 #![tactic(auto)]
 
-ghost use Rattle.std.specs.Prelude.{⊤};
-
 mod act;
 mod output;
 mod serve;
@@ -24,8 +22,6 @@ struct RealFiles {
 
 impl FileSource for RealFiles {
     type File = File;
-
-    ghost gives = { λ files name found. ⊤ };
 
     fn open_named(&mut self, name: &str) -> Option<File> {
         fs::open(&self.rt, name).ok()

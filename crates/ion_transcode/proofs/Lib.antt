@@ -1,5 +1,9 @@
+mod Agreeing
+mod BinarySound
 mod Comings
 mod Counting
 mod Faultless
+mod NoEnd
 mod Reached
 mod Streams
+mod TextSound

@@ -1,9 +1,18 @@
 //! Laws of what streams come to, each the contract of a function that does nothing.
-ghost use Rattle.ion_transcode.specs.Laws.{OneVerdict, StreamsAreRead};
+ghost use Rattle.ion_transcode.specs.Laws.{BinaryIsSound, OneVerdict, StreamsAreRead};
 
 use ion_binary::laws::{each_step_falls, each_step_follows};
 use ion_symbols::laws::users_are_read;
 use ion_text_out::laws::text_is_that_of_items;
+
+/// The binary encoding is sound: its reading is that of its steps, and each step follows its
+/// grammar.
+pub fn binary_is_sound()
+    ensures { BinaryIsSound }
+{
+    each_step_follows();
+    each_step_falls();
+}
 
 /// A stream comes to one verdict and one output at most.
 pub fn one_verdict()
@@ -17,8 +26,7 @@ pub fn one_verdict()
 pub fn streams_are_read()
     ensures { StreamsAreRead }
 {
-    each_step_follows();
-    each_step_falls();
+    binary_is_sound();
     users_are_read();
     text_is_that_of_items();
 }
@@ -29,6 +37,7 @@ mod tests {
 
     #[test]
     fn states_laws() {
+        binary_is_sound();
         one_verdict();
         streams_are_read();
     }

@@ -1,7 +1,11 @@
+-- In the order of reading. What `run` promises: how bytes are read, what is written of values, which form a stream has, what a stream comes to,
+-- and what may be held.
 pub mod Encoding
 pub mod Outputs
 pub mod Forms
 pub mod Verdict
-pub mod ByItem
 pub mod Bound
+-- What is proved of that, and what the calls below `run` say to each other.
+pub mod ByItem
 pub mod Laws
+pub mod Calls

@@ -46,8 +46,11 @@ fn refused(reason: Reason, place: u64) -> Result<Summary, Fault> {
     Err(Fault::Refused(reason, place))
 }
 
-/// Asserts what a stream comes to, in one piece or a byte a read, and what is written of it, at once
-/// or a byte a call.
+/// The version marker of binary.
+const MARKER: [u8; 4] = [0xE0, 0x01, 0x00, 0xEA];
+
+/// Asserts what a stream comes to, in one piece or a byte a read, and that this text is written of
+/// it, at once or a byte a call.
 fn expect(
     rt: &impl Abort,
     alloc: Global,
@@ -57,9 +60,22 @@ fn expect(
     want: Result<Summary, Fault>,
     text: &str,
 ) {
+    expect_bytes(rt, alloc, limits, to, octets, want, text.as_bytes());
+}
+
+/// The same of any bytes.
+fn expect_bytes(
+    rt: &impl Abort,
+    alloc: Global,
+    limits: Limits,
+    to: To,
+    octets: &[u8],
+    want: Result<Summary, Fault>,
+    output: &[u8],
+) {
     let (outcome, out) = answer(rt, alloc, limits, to, octets, Vec::new(alloc));
     assert_eq!(rt; outcome, want, "{octets:?}");
-    assert_eq!(rt; out.as_slice(), text.as_bytes(), "{octets:?}");
+    assert_eq!(rt; out.as_slice(), output, "{octets:?}");
     let reader = Giving {
         left: octets,
         again: &[],
@@ -69,13 +85,13 @@ fn expect(
     };
     let writer = Taking {
         taken: Vec::new(alloc),
-        room: text.len(),
+        room: output.len(),
     };
     let (outcome, writer) = answer(rt, alloc, limits, to, reader, writer);
     assert_eq!(rt; outcome, want, "a byte a read: {octets:?}");
     assert_eq!(rt;
         writer.taken.as_slice(),
-        text.as_bytes(),
+        output,
         "a byte a call: {octets:?}"
     );
 }
@@ -187,8 +203,14 @@ fn first_bytes(rt: HostRuntime) -> Result<(), Fail> {
     ];
     for (digits, want) in rows {
         let octets = octets(&rt, alloc, digits)?;
-        expect_read(&rt, alloc, LIMITS, octets.as_slice(), want, "");
-        expect(&rt, alloc, LIMITS, To::Binary, octets.as_slice(), want, "");
+        let octets = octets.as_slice();
+        for to in [To::Text, To::Nothing] {
+            expect(&rt, alloc, LIMITS, to, octets, want, "");
+        }
+        // Of binary the version marker is written, before a refusal too.
+        for to in [To::Binary, To::Other] {
+            expect_bytes(&rt, alloc, LIMITS, to, octets, want, &MARKER);
+        }
     }
     let rows = [
         ("E0 01", refused(Reason::Truncated, 0)),
@@ -228,6 +250,14 @@ fn faults(rt: HostRuntime) -> Result<(), Fail> {
     let (outcome, writer) = answer(&rt, alloc, LIMITS, To::Text, octets, writer);
     assert_eq!(rt; outcome, Err(Fault::WriteFault));
     assert_eq!(rt; writer.taken.as_slice(), b"5\nt".as_slice());
+    let writer = Taking {
+        taken: Vec::new(alloc),
+        room: 2,
+    };
+    let empty: [u8; 0] = [];
+    let (outcome, writer) = answer(&rt, alloc, LIMITS, To::Binary, empty.as_slice(), writer);
+    assert_eq!(rt; outcome, Err(Fault::WriteFault));
+    assert_eq!(rt; writer.taken.as_slice(), [0xE0, 0x01].as_slice());
     Ok(())
 }
 

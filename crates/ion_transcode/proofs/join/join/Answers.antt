@@ -9,23 +9,47 @@ use Rattle.ion_symbols.specs.User.{coming_to, lent_by}
 use Rattle.ion_value.proofs.Outcomes.{walk-more, walk-begins, walk-fault, walk-refused, begins-then, begins-behind, output_behind-begins}
 use Rattle.ion_transcode.proofs.join.join.Goals as goal
 
-pub returns-in_err-begin-clause-front : goal.returns-in_err-begin-clause-front
-returns-in_err-begin-clause-front g c r o =
+pub returns-in_err-begin-clause-puts : goal.returns-in_err-begin-clause-puts
+returns-in_err-begin-clause-puts g c r o =
     let w = g.W.ValueWriter in
     let limits = w.limits c.args.writer.now in
     let before = so_far g.O.Output.written c.args.sink.now in
-    begins-then _ (before ++ w.puts limits []) _
-    (begins-behind before _ _ (output_behind-begins (w.puts limits) (w.adds limits) (w.refusal limits) (g.met.W.ValueWriter.grows limits) [] (coming_to g.R.RawReader.reading c.args.reader.now)))
-    ((c.begin.ensures.part c.requires.sink).front o)
+    record {
+      accepted = search rules;
+      rejected = search rules;
+      front = begins-then _ (before ++ w.puts limits []) _
+          (begins-behind before _ _ (output_behind-begins (w.puts limits) (w.adds limits) (w.refusal limits) (g.met.W.ValueWriter.grows limits) [] (coming_to g.R.RawReader.reading c.args.reader.now)))
+          ((c.begin.ensures.part c.requires.writer.well).front o);
+    }
 
-pub returns-in_err-next-clause-front : goal.returns-in_err-next-clause-front
-returns-in_err-next-clause-front g c r o =
+pub returns-in_err-next-clause-puts : goal.returns-in_err-next-clause-puts
+returns-in_err-next-clause-puts g c r o =
     let w = g.W.ValueWriter in
     let limits = w.limits c.args.writer.now in
-    walk-begins c.items.invariant.walk (w.adds limits) (g.met.W.ValueWriter.grows limits) _ r o (c.items.invariant.front o)
+    record {
+      accepted = search rules;
+      rejected = search rules;
+      front = walk-begins c.items.invariant.walk (w.adds limits) (g.met.W.ValueWriter.grows limits) _ r o (c.items.invariant.front o);
+    }
 
-pub returns-in-Err-clause-front : goal.returns-in-Err-clause-front
-returns-in-Err-clause-front g c r o =
+pub returns-in-Err-clause-says : goal.returns-in-Err-clause-says
+returns-in-Err-clause-says g c r =
+    let w = g.W.ValueWriter in
+    let limits = w.limits c.args.writer.now in
+    let walk = c.items.invariant.walk in
+    let item = lent_by g.R.RawReader.current c.next.new.self in
+    let may : Continues (w.limits c.items.writer) walk.path (item_of (λ s. text_at s.table) c.item-item.result) = search rules in
+    let is : coming_to g.R.RawReader.reading c.items.reader ≡ More item (coming_to g.R.RawReader.reading c.next.new.self) = search rules in
+    record {
+      accepted = search rules;
+      rejected = λ reason place e.
+          let why : w.refusal limits walk.path item ≡ Some (reason, place) =
+          rw (c.items.invariant.limits, c.item-item.ensures) at (c.item.ensures.refuses c.items.invariant.fresh c.items.invariant.sink walk.path walk.stands_at may reason place (search rules)) in
+          (walk-refused walk item _ reason place r is why).0;
+    }
+
+pub returns-in-Err-clause-puts : goal.returns-in-Err-clause-puts
+returns-in-Err-clause-puts g c r o =
     let w = g.W.ValueWriter in
     let limits = w.limits c.args.writer.now in
     let walk = c.items.invariant.walk in
@@ -34,32 +58,15 @@ returns-in-Err-clause-front g c r o =
     let is : coming_to g.R.RawReader.reading c.items.reader ≡ More item (coming_to g.R.RawReader.reading c.next.new.self) = search rules in
     let part : BeginsWith (so_far g.O.Output.written c.items.sink ++ w.adds limits walk.path item) (g.O.Output.written c.item.new.sink.device) =
     rw (c.items.invariant.limits, c.item-item.ensures) at ((c.item.ensures.part c.items.invariant.sink walk.path walk.stands_at may).front (c.items.invariant.written.1 o)) in
-    walk-fault walk (w.adds limits) (g.met.W.ValueWriter.grows limits) (g.met.W.ValueWriter.silent limits) item _ _ r o is part
-
-pub returns-in-Err-clause-rejected : goal.returns-in-Err-clause-rejected
-returns-in-Err-clause-rejected g c r reason place e =
-    let w = g.W.ValueWriter in
-    let limits = w.limits c.args.writer.now in
-    let walk = c.items.invariant.walk in
-    let item = lent_by g.R.RawReader.current c.next.new.self in
-    let may : Continues (w.limits c.items.writer) walk.path (item_of (λ s. text_at s.table) c.item-item.result) = search rules in
-    let is : coming_to g.R.RawReader.reading c.items.reader ≡ More item (coming_to g.R.RawReader.reading c.next.new.self) = search rules in
-    let why : w.refusal limits walk.path item ≡ Some (reason, place) =
-    rw (c.items.invariant.limits, c.item-item.ensures) at (c.item.ensures.refuses c.items.invariant.fresh c.items.invariant.sink walk.path walk.stands_at may reason place (search rules)) in
-    (walk-refused walk item _ reason place r is why).0
-
-pub returns-in-Err-clause-whole_rejected : goal.returns-in-Err-clause-whole_rejected
-returns-in-Err-clause-whole_rejected g c r o reason place e =
-    let w = g.W.ValueWriter in
-    let limits = w.limits c.args.writer.now in
-    let walk = c.items.invariant.walk in
-    let item = lent_by g.R.RawReader.current c.next.new.self in
-    let may : Continues (w.limits c.items.writer) walk.path (item_of (λ s. text_at s.table) c.item-item.result) = search rules in
-    let is : coming_to g.R.RawReader.reading c.items.reader ≡ More item (coming_to g.R.RawReader.reading c.next.new.self) = search rules in
-    let why : w.refusal limits walk.path item ≡ Some (reason, place) =
-    rw (c.items.invariant.limits, c.item-item.ensures) at (c.item.ensures.refuses c.items.invariant.fresh c.items.invariant.sink walk.path walk.stands_at may reason place (search rules)) in
-    let quiet : c.item.new.sink ≡ c.items.sink = c.item.ensures.quiet c.items.invariant.sink reason place (search rules) in
-    ap (so_far g.O.Output.written) quiet ∙ (walk-refused walk item _ reason place r is why).1 o
+    record {
+      accepted = search rules;
+      rejected = λ reason place e.
+          let why : w.refusal limits walk.path item ≡ Some (reason, place) =
+          rw (c.items.invariant.limits, c.item-item.ensures) at (c.item.ensures.refuses c.items.invariant.fresh c.items.invariant.sink walk.path walk.stands_at may reason place (search rules)) in
+          let quiet : c.item.new.sink ≡ c.items.sink = c.item.ensures.quiet c.items.invariant.sink reason place (search rules) in
+          ap (so_far g.O.Output.written) quiet ∙ (walk-refused walk item _ reason place r is why).1 o;
+      front = walk-fault walk (w.adds limits) (g.met.W.ValueWriter.grows limits) (g.met.W.ValueWriter.silent limits) item _ _ r o is part;
+    }
 
 pub items-preserved : goal.items-preserved
 items-preserved g c =

@@ -9,22 +9,29 @@ use Rattle.ion_transcode.proofs.run.run.Goals as goal
 pub returns-clause-accepted : goal.returns-clause-accepted
 returns-clause-accepted g c i s e =
     let bytes = g.I.Input.rest c.args.input in
-    let found = c.transcode.ensures.accepted i s e in
+    let says = c.transcode.ensures.says i in
     let out = output_for c.args.catalog.now c.args.limits c.args.to bytes in
-    let comes = subst (λ (v : Verdict). Comes c.args.catalog.now c.args.limits c.args.to bytes v out) found.1 (c.streams_are_read.ensures c.args.catalog.now c.args.limits c.args.to bytes) in
-    (found.0, (out, comes, λ o. subst (λ r. OnOk r (g.O.Output.written c.transcode.result.2 ≡ g.O.Output.written c.args.output ++ out)) e (c.transcode.ensures.whole i o)))
+    let comes = subst (λ (v : Verdict). Comes c.args.catalog.now c.args.limits c.args.to bytes v out) (says.accepted s e) (c.streams_are_read.ensures c.args.catalog.now c.args.limits c.args.to bytes) in (
+      says.form s e,
+      record {
+        output = out;
+        comes = comes;
+        written = λ o. subst (λ r. OnOk r (g.O.Output.written c.transcode.result.2 ≡ g.O.Output.written c.args.output ++ out)) e (c.transcode.ensures.writes i o).accepted;
+      },
+    )
 
 pub returns-clause-refused : goal.returns-clause-refused
 returns-clause-refused g c i r p e =
     let bytes = g.I.Input.rest c.args.input in
-    let out = output_for c.args.catalog.now c.args.limits c.args.to bytes in (
-      out,
-      subst (λ (v : Verdict). Comes c.args.catalog.now c.args.limits c.args.to bytes v out) (c.transcode.ensures.rejected i r p e) (c.streams_are_read.ensures c.args.catalog.now c.args.limits c.args.to bytes),
-      λ o. c.transcode.ensures.whole_rejected i o r p e,
-    )
+    let out = output_for c.args.catalog.now c.args.limits c.args.to bytes in
+    record {
+      output = out;
+      comes = subst (λ (v : Verdict). Comes c.args.catalog.now c.args.limits c.args.to bytes v out) ((c.transcode.ensures.says i).rejected r p e) (c.streams_are_read.ensures c.args.catalog.now c.args.limits c.args.to bytes);
+      written = λ o. (c.transcode.ensures.writes i o).rejected r p e;
+    }
 
 pub returns-clause-front : goal.returns-clause-front
 returns-clause-front g c i o v out comes =
     let bytes = g.I.Input.rest c.args.input in
     let same = (c.one_verdict.ensures c.args.catalog.now c.args.limits c.args.to bytes _ v _ out (c.streams_are_read.ensures c.args.catalog.now c.args.limits c.args.to bytes) comes).1 in
-    subst (λ (l : List ℕ). BeginsWith (g.O.Output.written c.args.output ++ l) (g.O.Output.written c.transcode.result.2)) same (c.transcode.ensures.front i o)
+    subst (λ (l : List ℕ). BeginsWith (g.O.Output.written c.args.output ++ l) (g.O.Output.written c.transcode.result.2)) same (c.transcode.ensures.writes i o).front

@@ -1,0 +1,129 @@
+-- What the calls below `run` require and keep: what they answer and write beside what is due, and why they fail.
+use Rattle.std.specs.Prelude.{◌≡◌, ◌≢◌, ℕ, ◌+◌, ◌-◌, ◌^◌, ◌<◌, ◌≤◌, ◌↔◌, List, [], ◌++◌, max, Option, None, Result, Ok, Err, OnOk}
+use Rattle.ion_meter.specs.Counts.{Counts}
+use Rattle.ion_meter.specs.Limits.{AreChecked}
+use Rattle.ion_meter.specs.Windows.{Incoming, Outgoing, BeginsWith}
+use Rattle.ion_meter.specs.declared.device.Output.{Ghosts as OutputOf}
+use Rattle.ion_meter.specs.declared.fault.Fault.{Fault}
+use Rattle.ion_meter.specs.declared.fault.Fault.TheVariants.{Refused, Memory, ReadFault, WriteFault, InputLimit}
+use Rattle.ion_meter.specs.declared.fault.Reason.{Reason}
+use Rattle.ion_meter.specs.declared.limits.Limits.{Limits}
+use Rattle.ion_value.specs.Outcome.{Verdict, Accepted, Rejected}
+use Rattle.ion_value.specs.declared.reader.RawReader.{Ghosts as ReaderOf}
+use Rattle.ion_value.specs.declared.writer.ValueWriter.{Ghosts as WriterOf}
+use Rattle.ion_binary.specs.Parts.{Stands}
+use Rattle.ion_symbols.specs.User.{IsReady}
+use Rattle.ion_symbols.specs.declared.user.UserReader.{UserReader}
+use Rattle.ion_transcode.specs.declared.to.Form.{Form}
+use Rattle.ion_transcode.specs.declared.to.Form.TheVariants as forms
+use Rattle.ion_transcode.specs.declared.to.To.{To}
+use Rattle.ion_transcode.specs.declared.to.Summary.{Summary}
+use Rattle.ion_transcode.specs.Bound.{bound}
+
+-- ---- what a call answers and writes
+
+-- an answer says the verdict that is due: accepted with so many values, or refused; a fault of another kind says nothing of it
+pub record SaysVerdict (due : Verdict) (answer : Result ℕ Fault) : Type 0 where
+  pub accepted : (n : ℕ) → answer ≡ Ok n → due ≡ Accepted n
+  pub rejected : (r : Reason) (p : ℕ) → answer ≡ Err (Refused r p) → due ≡ Rejected r p
+
+-- and the form that was read
+pub record SaysSummary (read : Form) (due : Verdict) (answer : Result Summary Fault) : Type 0 where
+  pub accepted : (s : Summary) → answer ≡ Ok s → due ≡ Accepted s.values
+  pub form : (s : Summary) → answer ≡ Ok s → s.form ≡ read
+  pub rejected : (r : Reason) (p : ℕ) → answer ≡ Err (Refused r p) → due ≡ Rejected r p
+
+-- behind what was written before stands the output that is due: all of it where the stream was accepted or refused, a front of it in any case
+pub record WritesOutput {T : Type 0} (due : List ℕ) (answer : Result T Fault) (before after : List ℕ) : Type 0 where
+  pub accepted : OnOk answer (after ≡ before ++ due)
+  pub rejected : (r : Reason) (p : ℕ) → answer ≡ Err (Refused r p) → after ≡ before ++ due
+  pub front : BeginsWith (before ++ due) after
+
+-- the same where some of what was put is not written yet
+pub record PutsOutput {T : Type 0} (due : List ℕ) (answer : Result T Fault) (before put written : List ℕ) : Type 0 where
+  pub accepted : OnOk answer (put ≡ before ++ due)
+  pub rejected : (r : Reason) (p : ℕ) → answer ≡ Err (Refused r p) → put ≡ before ++ due
+  pub front : BeginsWith (before ++ due) written
+
+-- a sink that has not failed where the stream was accepted or refused
+pub record StaysWell {T : Type 0} (answer : Result T Fault) (fault : Option Fault) : Type 0 where
+  pub accepted : OnOk answer (fault ≡ None)
+  pub rejected : (r : Reason) (p : ℕ) → answer ≡ Err (Refused r p) → fault ≡ None
+
+-- an outcome is passed on, unless what was put could not be written
+pub record PassesOn (outcome answer : Result ℕ Fault) : Type 0 where
+  pub accepted : (n : ℕ) → answer ≡ Ok n → outcome ≡ Ok n
+  pub same : (f : Fault) → answer ≡ Err f → f ≢ WriteFault → outcome ≡ Err f
+  pub memory : outcome ≡ Err Memory → answer ≡ Err Memory
+  pub write : outcome ≡ Err WriteFault → answer ≡ Err WriteFault
+
+-- ---- why a call fails
+
+-- memory, where it was refused; a read or a write fault, where that device failed; the input limit, where the input goes past it; and a count
+-- that is not told of stays as it was
+pub record Causes {T O : Type 0} (answer : Result T Fault) (old new : Counts) (reads_old reads_new : ℕ) (exceeds : Type 0) (output : OutputOf O) (before after : O) : Type 0 where
+  pub memory : answer ≡ Err Memory → old.refused < new.refused
+  pub counted : answer ≢ Err Memory → new.refused ≡ old.refused
+  pub read : answer ≡ Err ReadFault → reads_old < reads_new
+  pub write : answer ≡ Err WriteFault → output.failure_count before < output.failure_count after
+  pub steady : answer ≢ Err WriteFault → output.failure_count after ≡ output.failure_count before
+  pub still_tells : output.tells after ↔ output.tells before
+  pub limit : answer ≡ Err InputLimit → exceeds
+
+-- ---- what a call requires
+
+-- memory: no more is held than this, and at least what the parts hold
+pub record HasRoom (most own : ℕ) (meter : Counts) : Type 0 where
+  pub room : meter.held ≤ most
+  pub held : own ≤ meter.held
+  pub countable : meter.refused < 2 ^ 64 - 1
+
+-- a raw reader that has given nothing
+pub record IsFresh {R A : Type 0} (reader : ReaderOf R A) (limits : Limits) (raw : R) : Type 0 where
+  pub checked : AreChecked limits
+  pub sound : reader.sound raw
+  pub level : reader.opened raw ≡ []
+  pub well : reader.failed raw ≡ None
+  pub depth : limits.depth ≡ reader.depth raw
+
+-- a reader of user values that has given nothing
+pub record IsAtStart {R A : Type 0} (reader : ReaderOf R A) (u : UserReader R A) : Type 0 where
+  pub ready : IsReady reader.sound reader.opened reader.failed reader.ended u
+  pub well : u.failed ≡ None
+  pub level : reader.opened u.raw ≡ []
+
+-- a writer that has taken nothing, for a reader of this depth
+pub record MayWrite {W O A : Type 0} (writer : WriterOf W O A) (depth : ℕ) (w : W) (sink : Outgoing O) : Type 0 where
+  pub sound : writer.sound w
+  pub fresh : writer.is_new w
+  pub depth_of : (writer.limits w).depth ≡ depth
+  pub well : sink.fault ≡ None
+
+-- a source whose bytes were not passed over
+pub record Begins {I : Type 0} (limits : Limits) (source : Incoming I) : Type 0 where
+  pub checked : AreChecked limits
+  pub stands : Stands source
+  pub start : source.place ≡ 0
+  pub limit : source.limit ≡ limits.input
+
+-- a sink to which nothing was put
+pub record IsEmpty {O : Type 0} (sink : Outgoing O) : Type 0 where
+  pub well : sink.fault ≡ None
+  pub nothing : sink.pending ≡ []
+
+-- ---- what a call keeps
+
+-- a reader, a writer and a sink behind all items
+pub record Joined {R W O A T : Type 0} (reader : ReaderOf R A) (writer : WriterOf W O A) (old new : UserReader R A) (before after : W) (answer : Result T Fault) (fault : Option Fault) : Type 0 where
+  pub ready : IsReady reader.sound reader.opened reader.failed reader.ended new
+  pub limits : new.limits ≡ old.limits
+  pub reader_most : reader.most new.raw ≡ reader.most old.raw
+  pub sound : writer.sound after
+  pub writer_most : writer.most after ≡ writer.most before
+  pub well : StaysWell answer fault
+
+-- the meter behind a run: all is given back, and no more was held than the bound of the form
+pub record GivesBack (limits : Limits) (to : To) (is_binary : Type 0) (old new : Counts) : Type 0 where
+  pub held : new.held ≡ old.held
+  pub peak : new.peak ≤ max old.peak (old.held + bound limits forms.Text to)
+  pub peak_of_binary : is_binary → new.peak ≤ max old.peak (old.held + bound limits forms.Binary to)

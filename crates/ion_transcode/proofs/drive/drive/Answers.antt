@@ -1,4 +1,4 @@
-use Rattle.std.proofs.Common.{◌≡◌, ◌++◌, [], refl, subst}
+use Rattle.std.proofs.Common.{◌≡◌, [], refl, subst}
 use Rattle.ion_meter.specs.Windows.{so_far}
 use Rattle.ion_value.specs.Reading.{Reading}
 use Rattle.ion_value.specs.Outcome.{output_behind}

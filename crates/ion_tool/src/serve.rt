@@ -1,10 +1,9 @@
 //! A run of the program over given devices.
-ghost use Rattle.std.specs.Prelude.{◌≡◌, ◌≢◌, ◌+◌, ◌-◌, ◌^◌, ◌<◌, ◌≤◌, ◌⊎◌, ◌++◌, List, ℕ, None, Some, Result, length, map, string_bytes};
+ghost use Rattle.std.specs.Prelude.{◌≡◌, ◌≢◌, ◌+◌, ◌-◌, ◌^◌, ◌<◌, ◌≤◌, ◌⊎◌, ◌++◌, List, [], ℕ, None, Some, length, map, string_bytes};
 ghost use Rattle.ion_meter.specs.declared.fault.Fault.{Fault};
 ghost use Rattle.ion_meter.specs.declared.limits.Limits.{Limits};
 ghost use Rattle.ion_meter.specs.Limits.{AreChecked};
-ghost use Rattle.ion_transcode.specs.declared.to.Summary.{Summary};
-ghost use Rattle.ion_tool.specs.Serving.{status_of, line_of, fault_line, refusal_text, IsAnswered, Gets, Blames};
+ghost use Rattle.ion_tool.specs.Serving.{status_of, line_of, fault_line, refusal_text, Gets, IsServed};
 ghost use Rattle.ion_tool.specs.Words.{default_limits, AsksRun, IsHelp, IsRun};
 ghost use Rattle.ion_tool.specs.declared.words.Action.{Action};
 
@@ -109,8 +108,10 @@ fn give_help<O: Output, E: Output>(text: &[u8], out: &mut O, err: &mut E) -> u8
     requires err_failures { E.failure_count err.old < 2 ^ 64 - 1 }
     ensures status { (result ≡ 0) ⊎ (result ≡ 3) }
     ensures given { Gets O.written O.tells O.failure_count text.now out.old out.new }
-    ensures silent { result ≡ 0 → (O.failure_count out.new ≡ O.failure_count out.old) × (err.new ≡ err.old) }
-    ensures fault { result ≡ 3 → Gets E.written E.tells E.failure_count (fault_line Fault.WriteFault) err.old err.new }
+    ensures silent { result ≡ 0
+        → (O.failure_count out.new ≡ O.failure_count out.old) × (err.new ≡ err.old) }
+    ensures fault { result ≡ 3 → Gets E.written E.tells E.failure_count
+        (fault_line Fault.WriteFault) err.old err.new }
 {
     match write_all(out, text) {
         Ok(()) => 0,
@@ -141,10 +142,8 @@ fn serve_input<I: Input, O: Output, E: Output>(
     requires out_failures { O.failure_count out < 2 ^ 64 - 1 }
     requires err_failures { E.failure_count err < 2 ^ 64 - 1 }
     requires checked { AreChecked limits }
-    ensures { (answer : Result Summary Fault) × (result.0 ≡ status_of answer)
-        × (I.tells input → O.tells out → IsAnswered action limits (I.rest input) (O.written out) (O.written result.2) answer)
-        × Blames answer (I.failure_count input) (I.failure_count result.1) (O.failure_count out) (O.failure_count result.2)
-        × Gets E.written E.tells E.failure_count (line_of answer) err result.3 }
+    ensures { IsServed I.Input O.Output E.Output [] action limits
+        input result.1 out result.2 err result.3 result.0 }
 {
     let (answer, input, out) = act(alloc, action, limits, input, out);
     let status = report(answer, &mut err);
@@ -196,10 +195,8 @@ fn serve_job<F: FileSource, I: Input, O: Output, E: Output>(
     requires out_failures { O.failure_count out < 2 ^ 64 - 1 }
     requires err_failures { E.failure_count err < 2 ^ 64 - 1 }
     requires checked { AreChecked job.limits }
-    ensures input { job.file ≡ None → (answer : Result Summary Fault) × (result.0 ≡ status_of answer)
-        × (I.tells input → O.tells out → IsAnswered job.action job.limits (I.rest input) (O.written out) (O.written result.2) answer)
-        × Blames answer (I.failure_count input) (I.failure_count result.1) (O.failure_count out) (O.failure_count result.2)
-        × Gets E.written E.tells E.failure_count (line_of answer) err result.3 }
+    ensures input { job.file ≡ None → IsServed I.Input O.Output E.Output [] job.action job.limits
+        input result.1 out result.2 err result.3 result.0 }
     ensures file { job.file ≢ None → result.1 ≡ input }
     ensures status { (result.0 ≡ 0) ⊎ ((result.0 ≡ 1) ⊎ (result.0 ≡ 3)) }
 {
@@ -230,25 +227,32 @@ pub fn serve<F: FileSource, I: Input + Drop, O: Output + Drop, E: Output + Drop>
     requires out_failures { O.failure_count out < 2 ^ 64 - 1 }
     requires err_failures { E.failure_count err < 2 ^ 64 - 1 }
 
-    // Words that ask for a run over the input: the status, both outputs and the failures are those of some answer of that run.
-    ensures ran { (action : Action) (limits : Limits) → IsRun (map string_bytes words.items) action limits None → (answer : Result Summary Fault) × (result.0 ≡ status_of answer)
-        × (I.tells input → O.tells out → IsAnswered action limits (I.rest input) (O.written out) (O.written result.2) answer)
-        × Blames answer (I.failure_count input) (I.failure_count result.1) (O.failure_count out) (O.failure_count result.2)
-        × Gets E.written E.tells E.failure_count (line_of answer) err result.3 }
+    // Words that ask for a run over the input: the status, both outputs and the failures are
+    // those of some answer of that run.
+    ensures ran { (action : Action) (limits : Limits)
+        → IsRun (map string_bytes words.items) action limits None
+        → IsServed I.Input O.Output E.Output [] action limits
+        input result.1 out result.2 err result.3 result.0 }
 
     // Words that name a file: the input is not read.
-    ensures file { (action : Action) (limits : Limits) (name : List ℕ) → IsRun (map string_bytes words.items) action limits (Some name) → result.1 ≡ input }
+    ensures file { (action : Action) (limits : Limits) (name : List ℕ)
+        → IsRun (map string_bytes words.items) action limits (Some name) → result.1 ≡ input }
 
-    // Other words: help on standard output, or on standard error why there is nothing to do, or how the program failed.
+    // Other words: help on standard output, or on standard error why there is nothing to do, or
+    // how the program failed.
     ensures unread { ¬ AsksRun (map string_bytes words.items) → result.1 ≡ input }
-    ensures status { ¬ AsksRun (map string_bytes words.items) → (result.0 ≡ 0) ⊎ ((result.0 ≡ 2) ⊎ (result.0 ≡ 3)) }
-    ensures help { ¬ AsksRun (map string_bytes words.items) → result.0 ≡ 0 → IsHelp (map string_bytes words.items)
+    ensures status { ¬ AsksRun (map string_bytes words.items)
+        → (result.0 ≡ 0) ⊎ ((result.0 ≡ 2) ⊎ (result.0 ≡ 3)) }
+    ensures help { ¬ AsksRun (map string_bytes words.items) → result.0 ≡ 0
+        → IsHelp (map string_bytes words.items)
         × (result.3 ≡ err) × (O.failure_count result.2 ≡ O.failure_count out)
         × ((text : List ℕ) × Gets O.written O.tells O.failure_count text out result.2) }
-    ensures usage { result.0 ≡ 2 → (¬ AsksRun (map string_bytes words.items)) × (result.2 ≡ out)
+    ensures usage { result.0 ≡ 2
+        → (¬ AsksRun (map string_bytes words.items)) × (result.2 ≡ out)
         × ((text : List ℕ) × Gets E.written E.tells E.failure_count text err result.3) }
     ensures failed { ¬ AsksRun (map string_bytes words.items) → result.0 ≡ 3
-        → (fault : Fault) × ((fault ≡ Fault.Memory) ⊎ (fault ≡ Fault.WriteFault)) × Gets E.written E.tells E.failure_count (fault_line fault) err result.3 }
+        → (fault : Fault) × ((fault ≡ Fault.Memory) ⊎ (fault ≡ Fault.WriteFault))
+        × Gets E.written E.tells E.failure_count (fault_line fault) err result.3 }
 {
     let status = match read_words(alloc, words.as_slice()) {
         Ok(Request::Run(job)) => return serve_job(alloc, job, files, input, out, err),

@@ -150,7 +150,8 @@ fn command<'a>(alloc: Global) -> Result<Command<'a>, AllocError>
 
 /// The matches of the words.
 fn matches_of<'a>(alloc: Global, words: &'a [String]) -> Result<ArgMatches<'a>, Error>
-    ensures matches { IfOk result (λ m. subcommand_rows_of m ≡ subcommand_of ion_app (map string_bytes words.entry.now)) }
+    ensures matches { IfOk result
+        (λ m. subcommand_rows_of m ≡ subcommand_of ion_app (map string_bytes words.entry.now)) }
     ensures kinds { FailsBy (fault_of ion_app (map string_bytes words.entry.now)) result }
 {
     command(alloc)?.try_get_matches_from(words)
@@ -169,8 +170,8 @@ fn request_of(alloc: Global, error: &Error) -> Result<Request, AllocError>
     }
 }
 
-/// The number that an option is given, or without one the usual number. `clap` refuses first what has
-/// no number here.
+/// The number that an option is given, or without one the usual number. `clap` refuses first what
+/// has no number here.
 fn limit_of(options: &ArgMatches<'_>, name: &str, most: u64, usual: u64) -> Option<u64>
     requires { usual ≤ most }
     ensures value { result ≡ limit_in name.now most usual (rows_of (found_of options.now)) }
@@ -216,9 +217,12 @@ fn action_of(name: &str) -> Option<Action>
 
 /// The run that the matches name.
 fn asked_by<'a>(matches: &ArgMatches<'a>) -> Option<Asked<'a>>
-    ensures some { IfSome result (λ a. (rows : List Row) × (subcommand_rows_of matches.now ≡ Some (action_name a.action, rows))
-        × (limits_in rows ≡ Some a.limits) × AreChecked a.limits × (file_in rows ≡ option_map (λ s. s.now) a.file)) }
-    ensures none { result ≡ None → (action : Action) (rows : List Row) → subcommand_rows_of matches.now ≡ Some (action_name action, rows)
+    ensures some { IfSome result (λ a. (rows : List Row)
+        × (subcommand_rows_of matches.now ≡ Some (action_name a.action, rows))
+        × (limits_in rows ≡ Some a.limits) × AreChecked a.limits
+        × (file_in rows ≡ option_map (λ s. s.now) a.file)) }
+    ensures none { result ≡ None → (action : Action) (rows : List Row)
+        → subcommand_rows_of matches.now ≡ Some (action_name action, rows)
         → limits_in rows ≡ None }
 {
     let (name, options) = matches.subcommand()?;
@@ -234,7 +238,8 @@ fn asked_by<'a>(matches: &ArgMatches<'a>) -> Option<Asked<'a>>
 
 /// A run that needs its words no more.
 fn job_of(alloc: Global, asked: Asked<'_>) -> Result<Job, AllocError>
-    ensures { IfOk result (λ job. (job.action ≡ asked.entry.action) × (job.limits ≡ asked.entry.limits)
+    ensures { IfOk result (λ job. (job.action ≡ asked.entry.action)
+        × (job.limits ≡ asked.entry.limits)
         × (option_map string_bytes job.file ≡ option_map (λ s. s.now) asked.entry.file)) }
 {
     let file = match asked.file {

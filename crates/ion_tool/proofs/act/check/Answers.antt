@@ -1,20 +1,26 @@
-use Rattle.std.proofs.Common.{◌∙◌, ap, Err}
+use Rattle.std.proofs.Common.{[], Result, subst}
+use Rattle.ion_meter.specs.declared.fault.Fault.{Fault}
+use Rattle.ion_transcode.specs.declared.to.Summary.{Summary}
+use Rattle.ion_transcode.specs.declared.to.To.TheVariants as to
+use Rattle.ion_tool.specs.Serving.{Transcoded}
 use Rattle.ion_tool.proofs.Acts.{said, checked_fault}
 use Rattle.ion_tool.proofs.act.check.Goals as goal
 
 pub returns-in-Ok-clause-answered : goal.returns-in-Ok-clause-answered
 returns-in-Ok-clause-answered g c i o =
     let pass = c.pass-answer.ensures in
-    let found = pass.accepted i c.in-Ok.summary c.in-Ok.is in
+    let found = (pass.transcoded i).accepted c.in-Ok.summary c.in-Ok.is in
+    let is = found.1 in
     let out = pass.still_tells.1 o in
     let say = c.say_count-said.ensures in
-    said c.one_verdict.ensures c.args.limits (g.I.Input.rest c.args.input) (g.O.Output.written c.args.out) (g.O.Output.written c.pass-answer.result.2) (g.O.Output.written c.say_count-said.new.out)
-    c.in-Ok.summary found.1.0 found.1.1 found.0 (found.1.2 o) c.say_count-said.result say.ok (λ f e. (say.fault f e).0) (say.whole out) (say.front out)
+    said c.one_verdict.ensures [] c.args.limits (g.I.Input.rest c.args.input) (g.O.Output.written c.args.out) (g.O.Output.written c.pass-answer.result.2) (g.O.Output.written c.say_count-said.new.out)
+    c.in-Ok.summary is.output is.comes found.0 (is.written o) c.say_count-said.result say.ok (λ f e. (say.fault f e).0) (say.whole out) (say.front out)
 
 pub returns-in-Err-clause-answered : goal.returns-in-Err-clause-answered
 returns-in-Err-clause-answered g c i o =
-    let pass = c.pass-answer.ensures in
-    checked_fault c.args.limits (g.I.Input.rest c.args.input) (g.O.Output.written c.args.out) (g.O.Output.written c.pass-answer.result.2) c.in-Err.fault
-    (λ r p e. let found = pass.refused i r p (c.in-Err.is ∙ ap Err e) in (found.0, found.1, found.2 o))
-    (λ e. pass.limit i (c.in-Err.is ∙ ap Err e))
-    (λ v text comes. pass.front i o v text comes)
+    let bytes = g.I.Input.rest c.args.input in
+    let before = g.O.Output.written c.args.out in
+    let after = g.O.Output.written c.pass-answer.result.2 in
+    let tells = g.O.Output.tells c.args.out in
+    checked_fault [] c.args.limits bytes before after tells o c.in-Err.fault
+    (subst (λ (r : Result Summary Fault). Transcoded [] c.args.limits to.Nothing bytes tells before after r) c.in-Err.is (c.pass-answer.ensures.transcoded i))

@@ -17,5 +17,11 @@ returns-clause-ran g c action limits run =
     elim c.match-read_words.branch [
       | in-Ok-Help w ↦ let asks = rw (w.in-Ok-Help.field-0-is, c.as_slice.ensures.value) at w.in-Ok-Help.ensures in elim (asks.0 (action, limits, None, run)) [ ]
       | in-Ok-Usage w ↦ let asks = rw (w.in-Ok-Usage.field-0-is, c.as_slice.ensures.value) at w.in-Ok-Usage.ensures in elim (asks (action, limits, None, run)) [ ]
-      | in-Err w ↦ (Err Memory, search rules, λ _ _. record { says = tt; front = λ verdict output outcome. (output, sym (ap (λ o. g.O.Output.written o ++ output) w.out-is)) }, tt, search rules)
+      | in-Err w ↦ record {
+        answer = Err Memory;
+        status_is = search rules;
+        answered = λ _ _. record { says = tt; front = λ verdict output outcome. (output, sym (ap (λ o. g.O.Output.written o ++ output) w.out-is)) };
+        blames = tt;
+        said = search rules;
+      }
     ]

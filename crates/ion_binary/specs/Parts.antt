@@ -1,5 +1,5 @@
 -- What contracts of the code say of the parts of an item.
-use Rattle.std.specs.Prelude.{◌≡◌, ℕ, zero, suc, ◌+◌, ◌*◌, ◌%◌, ◌^◌, ◌<◌, ◌≤◌, ◌↔◌, nat_lt, if◌then◌else◌, List, length, take, Option, Some, None, Result, Ok, Err}
+use Rattle.std.specs.Prelude.{◌≡◌, ℕ, zero, suc, ◌+◌, ◌*◌, ◌%◌, ◌^◌, ◌<◌, ◌≤◌, ◌↔◌, nat_lt, if◌then◌else◌, length, take, Option, Some, None, Result, Ok, Err}
 use Rattle.ion_meter.specs.declared.device.Input.{Ghosts as InputOf}
 use Rattle.ion_meter.specs.declared.fault.Fault.{Fault}
 use Rattle.ion_meter.specs.declared.fault.Fault.TheVariants.{Refused, Memory, ReadFault, WriteFault, InputLimit}
@@ -9,7 +9,8 @@ use Rattle.ion_meter.specs.declared.limits.Limits.{Limits}
 use Rattle.ion_meter.specs.Windows.{Incoming, left}
 use Rattle.ion_value.specs.Scalar.{scalar_of_body}
 use Rattle.ion_value.specs.Value.{Symbol, Scalar}
-use Rattle.ion_binary.specs.Descriptor.{◌>>=◌, ◌>>◌, refuse, Cursor, skip, Region, octet_at}
+use Rattle.ion_binary.specs.Positions.{Cursor}
+use Rattle.ion_binary.specs.Descriptor.{◌>>=◌, ◌>>◌, refuse, skip, Region, octet_at}
 use Rattle.ion_binary.specs.Reading.{Placed}
 
 -- where a source stands, by what is left of its device
@@ -69,10 +70,14 @@ body_here limits code n c = do
   Ok (v, skip n c)
 
 -- what a call answers by what reading gives with the place of each fault
+abbrev pub AnswersPlaced : {T A : Type 0} → (T → A) → Result T Fault → Placed A → Type 0
+AnswersPlaced view (Ok x) given = given ≡ Ok (view x)
+AnswersPlaced view (Err (Refused reason at)) given = given ≡ Err (reason, at)
+AnswersPlaced view (Err Memory) given = Unit {0}
+AnswersPlaced view (Err ReadFault) given = Unit {0}
+AnswersPlaced view (Err WriteFault) given = Unit {0}
+AnswersPlaced view (Err InputLimit) given = Unit {0}
+
+-- a value and where the source stands behind it
 abbrev pub AnswersAt : {T A : Type 0} → (T → A) → Result T Fault → Cursor → Placed (A × Cursor) → Type 0
-AnswersAt view (Ok x) behind given = given ≡ Ok (view x, behind)
-AnswersAt view (Err (Refused reason at)) behind given = given ≡ Err (reason, at)
-AnswersAt view (Err Memory) behind given = Unit {0}
-AnswersAt view (Err ReadFault) behind given = Unit {0}
-AnswersAt view (Err WriteFault) behind given = Unit {0}
-AnswersAt view (Err InputLimit) behind given = Unit {0}
+AnswersAt view result behind given = AnswersPlaced (λ x. (view x, behind)) result given

@@ -12,7 +12,8 @@ use Rattle.ion_value.proofs.Paths.{same_path}
 use Rattle.ion_binary.specs.Grammar.{IsPad, code, Front, Annotated, Bin, Inside, Tops}
 use Rattle.ion_binary.specs.Laws.{Bodies, Allows, Complete, StreamsAreRead, IsBegun, OnePath, OneStream}
 use Rattle.ion_binary.specs.Paths.{FieldIn, Within, frame_of, open_in, Spells}
-use Rattle.ion_binary.specs.Reading.{Around, Found, a_pad, a_marker, a_scalar, a_container, placed_scalar, item_of, given, Frame, State, region_of, top_of, step, size, start, reading}
+use Rattle.ion_binary.specs.Positions.{placed_scalar, Frame, State}
+use Rattle.ion_binary.specs.Reading.{Around, Found, a_pad, a_marker, a_scalar, a_container, item_of, given, region_of, top_of, step, size, start, reading}
 use Rattle.ion_binary.proofs.Spelled.{cursor_at, Holds, Holds-before, Holds-within, Descriptor-headed}
 use Rattle.ion_binary.proofs.SpelledParts.{Suits, Finds, Plain-found, IsPad-found, marker-found, Front-found}
 use Rattle.ion_binary.proofs.SpelledMembers.{unwrapped, wrapped_to, value_at-bare, value_at-spelled, member_at-spelled, state, step-member, step-end, step-ends}

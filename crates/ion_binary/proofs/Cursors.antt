@@ -1,14 +1,15 @@
 -- Calls that read one after the other.
 use Rattle.std.proofs.Common.{arith, ap, ◌∙◌, ◌≡◌, ℕ, List, Result, Err}
+use Rattle.ion_meter.specs.declared.device.Input.{Ghosts as InputOf}
 use Rattle.ion_meter.specs.declared.fault.Fault.{Fault}
 use Rattle.ion_meter.specs.declared.fault.Fault.TheVariants.{Refused, Memory, ReadFault, WriteFault, InputLimit}
 use Rattle.ion_meter.specs.declared.fault.Reason.{Reason}
 use Rattle.ion_meter.specs.Windows.{Incoming, left, Extends}
-use Rattle.ion_binary.specs.Descriptor.{Cursor}
+use Rattle.ion_binary.specs.Positions.{Cursor}
 use Rattle.ion_binary.specs.Parts.{cursor, Moves, Answers}
 
-pub moves-then : {I : Type 0} (rest : I → List ℕ) (tells : I → Type 0) (s t u : Incoming I) → Moves rest tells s t → Moves rest tells t u → Moves rest tells s u
-moves-then rest tells s t u a b = record {
+pub moves-then : {I : Type 0} (device : InputOf I) (s t u : Incoming I) → Moves device s t → Moves device t u → Moves device s u
+moves-then device s t u a b = record {
   still_tells = (λ h. a.still_tells.0 (b.still_tells.0 h), λ h. b.still_tells.1 (a.still_tells.1 h));
   limit = b.limit ∙ a.limit;
   further = omega (arith, a.further, b.further);
@@ -25,5 +26,5 @@ answers-refused view shown WriteFault behind after place one all h k = tt
 answers-refused view shown InputLimit behind after place one all h k = tt
 
 -- more was read, and the source stands where it stood
-pub cursor-extends : {I : Type 0} (rest : I → List ℕ) (tells : I → Type 0) (s t : Incoming I) → Extends rest tells s t → tells s.device → cursor rest t ≡ cursor rest s
-cursor-extends rest tells s t x h = ap (λ n. record { place = n; rest = left rest t }) x.place ∙ ap (λ (l : List ℕ). record { place = s.place; rest = l }) (x.same_left h)
+pub cursor-extends : {I : Type 0} (device : InputOf I) (s t : Incoming I) → Extends device.rest device.tells s t → device.tells s.device → cursor device t ≡ cursor device s
+cursor-extends device s t x h = ap (λ n. record { place = n; rest = left device.rest t }) x.place ∙ ap (λ (l : List ℕ). record { place = s.place; rest = l }) (x.same_left h)

@@ -5,7 +5,7 @@ use Rattle.ion_value.specs.declared.ion_type.Kind.{Kind}
 use Rattle.ion_value.specs.Value as value
 use Rattle.ion_value.specs.Value.{SymbolAt, Value, container, Members, Top, version, tree, Item, bare_item, value_items, member_items, one_top, top_items}
 use Rattle.ion_value.specs.Path.{Nest, outermost, inner, Path, closed, opened, begin_item, nest_items, path_items, with_member, with_end}
-use Rattle.ion_binary.specs.Reading.{Frame}
+use Rattle.ion_binary.specs.Positions.{Frame}
 use Rattle.ion_binary.specs.Grammar.{Field, Front, Annotated, IsPad, Bin, Inside, Tops}
 use Rattle.ion_binary.specs.Paths.{FieldIn, Within, frame_of, open_in, Spells}
 

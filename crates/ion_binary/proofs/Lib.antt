@@ -11,7 +11,7 @@ mod Finding
 mod Wrapping
 mod Growing
 mod Kept
-mod Sound
+pub mod Sound
 mod Spelled
 mod SpelledParts
 mod SpelledMembers

@@ -1,8 +1,9 @@
 -- Octets that are passed over in the window, and what more of the device was read.
-use Rattle.std.proofs.Common.{arith, refl, ap, ◌∙◌, sym, subst, ◌≡◌, ℕ, ◌+◌, ◌≤◌, ◌↔◌, List, ◌++◌, length, take, drop, None}
+use Rattle.std.proofs.Common.{arith, ap, ◌∙◌, sym, subst, ◌≡◌, ℕ, ◌+◌, ◌≤◌, ◌↔◌, List, ◌++◌, length, take, drop, None}
 use Rattle.std.proofs.lemmas.Grind.{common_steps}
 use Rattle.std.proofs.Math.Seq.{take-add}
 use Rattle.std.proofs.lemmas.List.{drop-drop}
+use Rattle.ion_meter.specs.declared.device.Input.{Ghosts as InputOf}
 use Rattle.ion_meter.specs.Windows.{Incoming, left, lent, Extends, IsPassed}
 use Rattle.ion_meter.proofs.Lent.{lent-CanPass, IsPassed-left, IsPassed-total}
 use Rattle.ion_binary.specs.Descriptor.{skip}
@@ -14,49 +15,41 @@ pub lent-there : {I : Type 0} (rest : I → List ℕ) (s : Incoming I) (n : ℕ)
 lent-there rest s n h = let w = lent-CanPass s n h in grind (arith, common_steps, w.0)
 
 -- where a window stands, octets having been passed over in it
-pub IsPassed-cursor : {I : Type 0} (rest : I → List ℕ) (s t : Incoming I) (n : ℕ) → n ≤ length (lent s) → IsPassed s t n → cursor rest t ≡ skip n (cursor rest s)
-IsPassed-cursor rest s t n h p =
+pub IsPassed-cursor : {I : Type 0} (device : InputOf I) (s t : Incoming I) (n : ℕ) → n ≤ length (lent s) → IsPassed s t n → cursor device t ≡ skip n (cursor device s)
+IsPassed-cursor device s t n h p =
     let w = lent-CanPass s n h in
-    ap (λ k. record { place = k; rest = left rest t }) p.place ∙ ap (λ (l : List ℕ). record { place = s.place + n; rest = l }) (IsPassed-left rest s t n w.0 p)
+    ap (λ k. record { place = k; rest = left device.rest t }) p.place ∙ ap (λ (l : List ℕ). record { place = s.place + n; rest = l }) (IsPassed-left device.rest s t n w.0 p)
 
 -- so many octets were passed over
-pub record Passed {I : Type 0} (rest : I → List ℕ) (tells : I → Type 0) (old new : Incoming I) (n : ℕ) : Type 0 where
+pub record Passed {I : Type 0} (device : InputOf I) (old new : Incoming I) (n : ℕ) : Type 0 where
   pub stands : Stands new
-  pub moves : Moves rest tells old new
+  pub moves : Moves device old new
   pub place : new.place ≡ old.place + n
-  pub behind : tells old.device → left rest new ≡ drop n (left rest old)
+  pub behind : device.tells old.device → left device.rest new ≡ drop n (left device.rest old)
 
-pub Passed-none : {I : Type 0} (rest : I → List ℕ) (tells : I → Type 0) (s : Incoming I) → Stands s → Passed rest tells s s 0
-Passed-none rest tells s h = record {
-  stands = h;
-  moves = record { still_tells = (λ t. t, λ t. t); limit = refl; further = omega arith; total = λ t. refl };
-  place = omega arith;
-  behind = λ t. refl;
-}
-
-pub Passed-then : {I : Type 0} (rest : I → List ℕ) (tells : I → Type 0) (s t u : Incoming I) (m n : ℕ) → Passed rest tells s t m → Passed rest tells t u n → Passed rest tells s u (m + n)
-Passed-then rest tells s t u m n a b = record {
+pub Passed-then : {I : Type 0} (device : InputOf I) (s t u : Incoming I) (m n : ℕ) → Passed device s t m → Passed device t u n → Passed device s u (m + n)
+Passed-then device s t u m n a b = record {
   stands = b.stands;
-  moves = moves-then rest tells s t u a.moves b.moves;
+  moves = moves-then device s t u a.moves b.moves;
   place = omega (arith, a.place, b.place);
-  behind = λ h. b.behind (a.moves.still_tells.1 h) ∙ (ap (λ (l : List ℕ). drop n l) (a.behind h) ∙ drop-drop n m (left rest s));
+  behind = λ h. b.behind (a.moves.still_tells.1 h) ∙ (ap (λ (l : List ℕ). drop n l) (a.behind h) ∙ drop-drop n m (left device.rest s));
 }
 
 -- octets that the window lends were passed over, more of the device having been read
-pub Passed-lent : {I : Type 0} (rest : I → List ℕ) (tells : I → Type 0) (s p t : Incoming I) (n : ℕ) → Stands s → Extends rest tells s p → p.fault ≡ None → n ≤ length (lent p) → IsPassed p t n
-    → Passed rest tells s t n
-Passed-lent rest tells s p t n h kept well fits passed =
+pub Passed-lent : {I : Type 0} (device : InputOf I) (s p t : Incoming I) (n : ℕ) → Stands s → Extends device.rest device.tells s p → p.fault ≡ None → n ≤ length (lent p) → IsPassed p t n
+    → Passed device s t n
+Passed-lent device s p t n h kept well fits passed =
     let w = lent-CanPass p n fits in
     record {
       stands = record { well = passed.fault ∙ well; within = omega (arith, w.1, passed.place, passed.limit, kept.place, kept.limit, h.within); small = omega (arith, passed.limit, kept.limit, h.small) };
       moves = record {
-        still_tells = subst (λ d. tells d ↔ tells s.device) (sym passed.device) kept.still_tells;
+        still_tells = subst (λ d. device.tells d ↔ device.tells s.device) (sym passed.device) kept.still_tells;
         limit = passed.limit ∙ kept.limit;
         further = omega (arith, passed.place, kept.place);
-        total = λ t'. IsPassed-total rest p t n w.0 passed ∙ omega (arith, kept.place, ap (λ (l : List ℕ). length l) (kept.same_left t'));
+        total = λ t'. IsPassed-total device.rest p t n w.0 passed ∙ omega (arith, kept.place, ap (λ (l : List ℕ). length l) (kept.same_left t'));
       };
       place = omega (arith, passed.place, kept.place);
-      behind = λ t'. IsPassed-left rest p t n w.0 passed ∙ ap (λ (l : List ℕ). drop n l) (kept.same_left t');
+      behind = λ t'. IsPassed-left device.rest p t n w.0 passed ∙ ap (λ (l : List ℕ). drop n l) (kept.same_left t');
     }
 
 -- a front of octets, and the next of them behind it

@@ -21,11 +21,11 @@ use Rattle.ion_binary.specs.declared.found.Found.TheVariants as finds
 use Rattle.ion_binary.specs.declared.wrapper.Field as field
 use Rattle.ion_binary.specs.declared.wrapper.Frame as frame
 use Rattle.ion_binary.specs.declared.reader.What.{What}
-use Rattle.ion_binary.specs.declared.reader.What.TheVariants as what
 use Rattle.ion_binary.specs.declared.reader.Taken.{Taken}
 use Rattle.ion_binary.specs.declared.reader.Taken.TheVariants as taken
-use Rattle.ion_binary.specs.Descriptor.{◌>>=◌, Cursor}
-use Rattle.ion_binary.specs.Reading.{Placed, part, Frame, State, region_of, placed_scalar, field_at, value_at, item_of, member_at, top_of, top_step, step_of, step}
+use Rattle.ion_binary.specs.Positions.{Cursor, Frame, State, placed_scalar}
+use Rattle.ion_binary.specs.Descriptor.{◌>>=◌}
+use Rattle.ion_binary.specs.Reading.{Placed, part, region_of, field_at, value_at, item_of, member_at, top_of, top_step, step_of, step}
 use Rattle.ion_binary.specs.Bodies.{as_scalar}
 use Rattle.ion_binary.specs.Parts.{Answers}
 use Rattle.ion_binary.specs.Values.{GivesStep}
@@ -167,11 +167,6 @@ inside-member limits _ _ top c (inside f outer) h = let e : leb f.end c.place �
 
 pub inside-top : (frames : List Frame) (f : frame.Frame) (top place : ℕ) → IsInnermost frames (Some f) → top_of frames top place ≡ top
 inside-top _ _ top place (inside f outer) = refl
-
--- the item of a container's end
-pub ended-item : (w : What) (text : List ℕ) (scalar : Body) (notes : List Annotation) (f : Option field.Field) (place at top first : ℕ)
-    → w ≡ what.End → notes ≡ [] → f ≡ None → place ≡ at → top ≡ first → item_seen w text scalar notes f place top ≡ item_of first None [] at value.end
-ended-item w text scalar notes f place at top first a b c d e = rw (a, b, c, d, e) refl
 
 -- ---- the last of a list
 

@@ -15,7 +15,8 @@ use Rattle.ion_value.specs.Value as value
 use Rattle.ion_value.specs.Value.{SymbolAt, Head, PlacedItem, whole, begin, end, marker}
 use Rattle.ion_value.specs.Reading.{Reading, Finished, Stopped, behind}
 use Rattle.ion_binary.specs.Descriptor.{octet_at, var_at, var_uint_at, length_at, shape_of}
-use Rattle.ion_binary.specs.Reading.{marker_at, bare_at, pad_at, body_at, scalar_at, begin_at, container_at, sorted_at, by_shape, found_at, wrapper_at, symbol_id, ids_at, item_of, plain_at, inner_at, annotated_at, value_at, member_at, step, reading}
+use Rattle.ion_binary.specs.Positions.{symbol_id}
+use Rattle.ion_binary.specs.Reading.{marker_at, bare_at, pad_at, body_at, scalar_at, begin_at, container_at, sorted_at, by_shape, found_at, wrapper_at, ids_at, item_of, plain_at, inner_at, annotated_at, value_at, member_at, step, reading}
 
 abbrev usual : Limits
 usual = record { depth = 64; scalar = 1048576; symbols = 1048576; value = 16777216; input = 281474976710656 }

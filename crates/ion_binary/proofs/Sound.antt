@@ -5,7 +5,8 @@ use Rattle.ion_meter.specs.declared.limits.Limits.{Limits}
 use Rattle.ion_value.specs.Value.{SymbolAt, Top}
 use Rattle.ion_value.specs.Path.{Path, closed, path_items}
 use Rattle.ion_value.specs.Reading.{Reading, Finished, Stopped, items_of, Step, Ends, Stops, Gives, GoesOn, Leaves, behind_item, behind_nothing, next_reading, reading_for, Shrinks}
-use Rattle.ion_binary.specs.Reading.{Frame, State, step, size, start, reading}
+use Rattle.ion_binary.specs.Positions.{Frame, State}
+use Rattle.ion_binary.specs.Reading.{step, size, start, reading}
 use Rattle.ion_binary.specs.Grammar.{Tops}
 use Rattle.ion_binary.specs.Paths.{Spells, IsPath, At, Follows}
 use Rattle.ion_binary.specs.Laws.{Bodies, ending_of, Sound}
@@ -15,7 +16,8 @@ use Rattle.ion_binary.proofs.Kept.{step-follows}
 abbrev IsWhole : List ℕ → ℕ → Path SymbolAt ℕ → Type 0
 IsWhole bytes place path = (ts : List (Top SymbolAt ℕ)) × (path ≡ closed ts) × (place ≡ length bytes) × Tops ts bytes
 
-Spells-tops : (path : Path SymbolAt ℕ) (frames : List Frame) (b : List ℕ) → Spells path frames b → frames ≡ [] → (ts : List (Top SymbolAt ℕ)) × (path ≡ closed ts) × Tops ts b
+-- a path with nothing open is a list of top-level values
+pub Spells-tops : (path : Path SymbolAt ℕ) (frames : List Frame) (b : List ℕ) → Spells path frames b → frames ≡ [] → (ts : List (Top SymbolAt ℕ)) × (path ≡ closed ts) × Tops ts b
 Spells-tops _ _ _ (Spells.top ts b t) e = (ts, refl, t)
 Spells-tops _ _ _ (Spells.inside path frames f notes k ms n b x w front c s field an fr ins le within) e = absurd (cc e)
 

@@ -1,5 +1,5 @@
 -- What is seen of the scalars of the code.
-use Rattle.std.specs.Prelude.{List, ℕ}
+use Rattle.std.specs.Prelude.{◌≡◌, ◌⊎◌, ◌≤◌, List, ℕ}
 use Rattle.ion_value.specs.Value as value
 use Rattle.ion_value.specs.Value.{Symbol, Id, Scalar}
 use Rattle.ion_binary.specs.declared.body.Body.{Body}
@@ -16,3 +16,10 @@ as_scalar text (code.Symbol id) = value.symbol (Id id)
 as_scalar text code.String = value.string text
 as_scalar text code.Clob = value.clob text
 as_scalar text code.Blob = value.blob text
+
+-- the type codes of numbers, timestamps and symbols, and of all scalars with bodies
+abbrev pub IsNumberCode : ℕ → Type 0
+IsNumberCode code = (code ≡ 2) ⊎ ((code ≡ 3) ⊎ ((code ≡ 5) ⊎ ((code ≡ 6) ⊎ (code ≡ 7))))
+
+abbrev pub IsBodyCode : ℕ → Type 0
+IsBodyCode code = (code ≡ 2) ⊎ ((code ≡ 3) ⊎ ((code ≡ 5) ⊎ ((code ≡ 6) ⊎ ((code ≡ 7) ⊎ ((8 ≤ code) × (code ≤ 10))))))

@@ -7,6 +7,7 @@ use Rattle.ion_value.specs.declared.ion_type.IonType.TheVariants as type
 use Rattle.ion_value.specs.declared.ion_type.Kind.{Kind}
 use Rattle.ion_value.specs.declared.ion_type.Kind.TheVariants as kind
 use Rattle.ion_value.specs.Number.{var_uint}
+use Rattle.ion_binary.specs.Positions.{Cursor}
 
 -- ---- the first reason that holds
 
@@ -25,12 +26,7 @@ abbrev pub ◌>>◌ : {A B E : Type 0} → Result A E → Result B E → Result 
 Ok x >> r = r
 Err e >> r = Err e
 
--- ---- where reading stands
-
--- the bytes that are still to be read, and the place of the first of them
-pub record Cursor : Type 0 where
-  pub place : ℕ
-  pub rest : List ℕ
+-- ---- regions
 
 abbrev pub skip : ℕ → Cursor → Cursor
 skip n c = record { place = c.place + n; rest = drop n c.rest }

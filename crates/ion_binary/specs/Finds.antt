@@ -1,5 +1,5 @@
 -- What is seen of a part in the code: where it stands, and what it is.
-use Rattle.std.specs.Prelude.{List, ℕ, ◌+◌, ◌≡◌, ◌⊎◌, ◌<◌, ◌≤◌, nat_le, Result, Ok}
+use Rattle.std.specs.Prelude.{List, ℕ, ◌+◌, ◌<◌, nat_le, Result, Ok}
 use Rattle.ion_meter.specs.declared.fault.Reason.{Reason}
 use Rattle.ion_meter.specs.declared.fault.Reason.TheVariants.{DepthLimit}
 use Rattle.ion_meter.specs.declared.limits.Limits.{Limits}
@@ -7,7 +7,7 @@ use Rattle.ion_binary.specs.declared.body.Body.{Body}
 use Rattle.ion_binary.specs.declared.found.Around as code
 use Rattle.ion_binary.specs.declared.found.Found as found
 use Rattle.ion_binary.specs.declared.found.Found.TheVariants as kinds
-use Rattle.ion_binary.specs.Bodies.{as_scalar}
+use Rattle.ion_binary.specs.Bodies.{as_scalar, IsBodyCode}
 use Rattle.ion_binary.specs.Descriptor.{◌>>◌, refuse, Shape, null, bool, pad, wrapper, body, container, sorted, marker, float, illegal}
 use Rattle.ion_binary.specs.Reading.{Around, Found, a_pad, a_marker, a_scalar, a_container, fits}
 
@@ -20,10 +20,6 @@ as_found text scalar kinds.Pad = a_pad
 as_found text scalar kinds.Marker = a_marker
 as_found text scalar kinds.Scalar = a_scalar (as_scalar text scalar)
 as_found text scalar (kinds.Container kind end) = a_container kind end
-
--- the type codes of scalars with bodies
-abbrev pub IsBodyCode : ℕ → Type 0
-IsBodyCode code = (code ≡ 2) ⊎ ((code ≡ 3) ⊎ ((code ≡ 5) ⊎ ((code ≡ 6) ⊎ ((code ≡ 7) ⊎ ((8 ≤ code) × (code ≤ 10))))))
 
 -- a shape that descriptors have: its low half is below 15, and a scalar's type code is one that has bodies
 abbrev pub IsOfDescriptor : Shape → Type 0

@@ -16,7 +16,7 @@ use Rattle.ion_value.specs.Timestamp.{IsMoment, IsMoved, IsOffset, offset_minute
 use Rattle.ion_value.specs.Name.{raw_id}
 use Rattle.ion_value.specs.Value as value
 use Rattle.ion_value.specs.Value.{Symbol, Id, SymbolAt, Scalar, Value, Members, Top}
-use Rattle.ion_binary.specs.Reading.{symbol_id, placed_scalar}
+use Rattle.ion_binary.specs.Positions.{symbol_id, placed_scalar}
 
 -- a descriptor with a type code, and the length of what follows it
 pub data Descriptor (t n : ℕ) : List ℕ → Type 0 where

@@ -9,7 +9,8 @@ use Rattle.ion_value.specs.Path.{Path, closed, path_items}
 use Rattle.ion_value.specs.Reading.{Reading, Finished, Stopped, Shrinks, items_of, behind}
 use Rattle.ion_binary.specs.Grammar.{Body, Tops, Stream}
 use Rattle.ion_binary.specs.Paths.{IsPath, At, Follows}
-use Rattle.ion_binary.specs.Reading.{State, step, size, reading}
+use Rattle.ion_binary.specs.Positions.{State}
+use Rattle.ion_binary.specs.Reading.{step, size, reading}
 
 -- the bodies that the grammar has are read, each to its value, and no others are
 abbrev pub Bodies : Type 0

@@ -1,5 +1,6 @@
 -- What contracts of the code say of the parts of an item.
-use Rattle.std.specs.Prelude.{◌≡◌, ℕ, zero, suc, ◌+◌, ◌*◌, ◌%◌, ◌^◌, ◌<◌, ◌≤◌, ◌↔◌, nat_lt, if◌then◌else◌, List, length, take, Option, Some, None, Result, Ok, Err}
+use Rattle.std.specs.Prelude.{◌≡◌, ℕ, zero, suc, ◌+◌, ◌*◌, ◌%◌, ◌^◌, ◌<◌, ◌≤◌, ◌↔◌, nat_lt, if◌then◌else◌, length, take, Option, Some, None, Result, Ok, Err}
+use Rattle.ion_meter.specs.declared.device.Input.{Ghosts as InputOf}
 use Rattle.ion_meter.specs.declared.fault.Fault.{Fault}
 use Rattle.ion_meter.specs.declared.fault.Fault.TheVariants.{Refused, Memory, ReadFault, WriteFault, InputLimit}
 use Rattle.ion_meter.specs.declared.fault.Reason.{Reason}
@@ -8,16 +9,17 @@ use Rattle.ion_meter.specs.declared.limits.Limits.{Limits}
 use Rattle.ion_meter.specs.Windows.{Incoming, left}
 use Rattle.ion_value.specs.Scalar.{scalar_of_body}
 use Rattle.ion_value.specs.Value.{Symbol, Scalar}
-use Rattle.ion_binary.specs.Descriptor.{◌>>=◌, ◌>>◌, refuse, Cursor, skip, Region, octet_at}
+use Rattle.ion_binary.specs.Positions.{Cursor}
+use Rattle.ion_binary.specs.Descriptor.{◌>>=◌, ◌>>◌, refuse, skip, Region, octet_at}
 use Rattle.ion_binary.specs.Reading.{Placed}
 
 -- where a source stands, by what is left of its device
-abbrev pub cursor : {I : Type 0} → (I → List ℕ) → Incoming I → Cursor
-cursor rest s = record { place = s.place; rest = left rest s }
+abbrev pub cursor : {I : Type 0} → InputOf I → Incoming I → Cursor
+cursor device s = record { place = s.place; rest = left device.rest s }
 
 -- the input is longer than it may be
-abbrev pub Exceeds : {I : Type 0} → (I → List ℕ) → (I → Type 0) → Incoming I → Type 0
-Exceeds rest tells s = tells s.device → s.limit < s.place + length (left rest s)
+abbrev pub Exceeds : {I : Type 0} → InputOf I → Incoming I → Type 0
+Exceeds device s = device.tells s.device → s.limit < s.place + length (left device.rest s)
 
 -- a source that has not failed, and has not gone past its limit
 pub record Stands {I : Type 0} (s : Incoming I) : Type 0 where
@@ -26,11 +28,11 @@ pub record Stands {I : Type 0} (s : Incoming I) : Type 0 where
   pub small : s.limit ≤ 2 ^ 48
 
 -- octets were passed over, or more of the device was read
-pub record Moves {I : Type 0} (rest : I → List ℕ) (tells : I → Type 0) (old new : Incoming I) : Type 0 where
-  pub still_tells : tells new.device ↔ tells old.device
+pub record Moves {I : Type 0} (device : InputOf I) (old new : Incoming I) : Type 0 where
+  pub still_tells : device.tells new.device ↔ device.tells old.device
   pub limit : new.limit ≡ old.limit
   pub further : old.place ≤ new.place
-  pub total : tells old.device → new.place + length (left rest new) ≡ old.place + length (left rest old)
+  pub total : device.tells old.device → new.place + length (left device.rest new) ≡ old.place + length (left device.rest old)
 
 -- why a call that takes no memory answers a fault
 pub record Causes (fault : Option Fault) (failures_old failures_new : ℕ) (exceeds : Type 0) : Type 0 where
@@ -68,10 +70,14 @@ body_here limits code n c = do
   Ok (v, skip n c)
 
 -- what a call answers by what reading gives with the place of each fault
+abbrev pub AnswersPlaced : {T A : Type 0} → (T → A) → Result T Fault → Placed A → Type 0
+AnswersPlaced view (Ok x) given = given ≡ Ok (view x)
+AnswersPlaced view (Err (Refused reason at)) given = given ≡ Err (reason, at)
+AnswersPlaced view (Err Memory) given = Unit {0}
+AnswersPlaced view (Err ReadFault) given = Unit {0}
+AnswersPlaced view (Err WriteFault) given = Unit {0}
+AnswersPlaced view (Err InputLimit) given = Unit {0}
+
+-- a value and where the source stands behind it
 abbrev pub AnswersAt : {T A : Type 0} → (T → A) → Result T Fault → Cursor → Placed (A × Cursor) → Type 0
-AnswersAt view (Ok x) behind given = given ≡ Ok (view x, behind)
-AnswersAt view (Err (Refused reason at)) behind given = given ≡ Err (reason, at)
-AnswersAt view (Err Memory) behind given = Unit {0}
-AnswersAt view (Err ReadFault) behind given = Unit {0}
-AnswersAt view (Err WriteFault) behind given = Unit {0}
-AnswersAt view (Err InputLimit) behind given = Unit {0}
+AnswersAt view result behind given = AnswersPlaced (λ x. (view x, behind)) result given

@@ -5,12 +5,13 @@ use Rattle.ion_meter.specs.declared.fault.Reason.TheVariants.{Truncated, BadDesc
 use Rattle.ion_meter.specs.declared.limits.Limits.{Limits}
 use Rattle.ion_value.specs.declared.ion_type.Kind.{Kind}
 use Rattle.ion_value.specs.declared.ion_type.Kind.TheVariants as kind
-use Rattle.ion_value.specs.Name.{raw_id}
 use Rattle.ion_value.specs.Scalar.{scalar_of_body}
 use Rattle.ion_value.specs.Value as value
-use Rattle.ion_value.specs.Value.{Symbol, Id, SymbolAt, Scalar, Head, PlacedItem, map_scalar}
+use Rattle.ion_value.specs.Value.{Symbol, SymbolAt, Scalar, Head, PlacedItem}
 use Rattle.ion_value.specs.Reading.{Reading, Step, Ends, Stops, Gives, GoesOn, reading_by}
-use Rattle.ion_binary.specs.Descriptor.{◌>>=◌, ◌>>◌, refuse, Cursor, skip, Region, passes, falls_short, octet_at, var_uint_at, length_at, Shape, null, bool, pad, wrapper, body, container, sorted, marker, float, illegal, shape_of, is_unwrappable}
+use Rattle.ion_binary.specs.Positions.{Cursor, symbol_id, placed_scalar}
+pub use Rattle.ion_binary.specs.Positions.{Frame, State}
+use Rattle.ion_binary.specs.Descriptor.{◌>>=◌, ◌>>◌, refuse, skip, Region, passes, falls_short, octet_at, var_uint_at, length_at, Shape, null, bool, pad, wrapper, body, container, sorted, marker, float, illegal, shape_of, is_unwrappable}
 
 -- ---- the part that is a descriptor, a length and, for a scalar, a body
 
@@ -131,9 +132,6 @@ wrapper_at r low c = do
 
 -- ---- an item
 
-abbrev pub symbol_id : ℕ → ℕ → SymbolAt
-symbol_id id place = record { symbol = Id (raw_id id); place = place }
-
 -- a fault stands at the first byte of its part
 abbrev pub Placed : Type 0 → Type 0
 Placed A = Result A (Reason × ℕ)
@@ -153,17 +151,6 @@ ids_at (suc most) limits end count c =
       more ← ids_at most limits end (count + 1) i.1
       Ok (symbol_id i.0 c.place ∷ more.0, more.1))
 
--- an open container, known by the place of its end
-pub record Frame : Type 0 where
-  pub kind : Kind
-  pub end : ℕ
-
--- the open containers, the innermost first; the place of the present top-level value; and what is to be read
-pub record State : Type 0 where
-  pub frames : List Frame
-  pub top : ℕ
-  pub cursor : Cursor
-
 abbrev pub region_of : List Frame → Region
 region_of [] = None
 region_of (f ∷ frames) = Some f.end
@@ -179,10 +166,6 @@ field_in kind.Struct r c = do
 abbrev pub field_at : List Frame → Cursor → Result (Option SymbolAt × Cursor) Reason
 field_at [] c = Ok (None, c)
 field_at (f ∷ frames) c = field_in f.kind (Some f.end) c
-
--- a scalar whose symbol stands at a place
-abbrev pub placed_scalar : ℕ → Scalar Symbol → Scalar SymbolAt
-placed_scalar place v = map_scalar (λ s. record { symbol = s; place = place }) v
 
 abbrev pub item_of : ℕ → Option SymbolAt → List SymbolAt → ℕ → Head SymbolAt → PlacedItem
 item_of top f notes place head = record { field = f; annotations = notes; head = head; place = place; top = top }

@@ -6,7 +6,8 @@ use Rattle.ion_value.specs.Value.{Id, SymbolAt}
 use Rattle.ion_binary.specs.declared.wrapper.Wrapper as code
 use Rattle.ion_binary.specs.declared.wrapper.Field as field
 use Rattle.ion_binary.specs.declared.wrapper.Frame as frame
-use Rattle.ion_binary.specs.Reading.{Wrapped, Frame}
+use Rattle.ion_binary.specs.Positions.{Frame}
+use Rattle.ion_binary.specs.Reading.{Wrapped}
 
 abbrev pub as_wrapped : code.Wrapper → Wrapped
 as_wrapped w = record { ids = w.ids; end = w.end }

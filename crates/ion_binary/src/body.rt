@@ -1,15 +1,14 @@
 //! Bodies of scalars (binary encoding, "Typed Value Formats").
-ghost use Rattle.std.specs.Prelude.{◌≡◌, ◌≢◌, ◌+◌, ◌-◌, ◌^◌, ◌<◌, ◌≤◌, ◌⊎◌, ℕ, List, [], length, take, drop, Ok, Err, true, false, OnOk, OnErr, MatchResult, IsTrue, ◌↔◌, IsUtf8};
+ghost use Rattle.std.specs.Prelude.{◌≡◌, ◌≢◌, ◌+◌, ◌-◌, ◌^◌, ◌<◌, ◌≤◌, ℕ, List, length, take, Ok, Err, true, false, OnOk, MatchResult, IsTrue, ◌↔◌, IsUtf8};
 ghost use Rattle.ion_meter.specs.Windows.{left, lent};
-ghost use Rattle.ion_meter.specs.Limits.{AreChecked};
 ghost use Rattle.ion_value.specs.Number.{uint};
 ghost use Rattle.ion_value.specs.Name.{raw_id};
 ghost use Rattle.ion_value.specs.Scalar.{scalar_of_body};
-ghost use Rattle.ion_value.specs.Shares.{Charges, ReadCauses, fault_of};
 ghost use Rattle.ion_value.specs.Standing.{InRange};
 ghost use Rattle.ion_binary.specs.Descriptor.{skip};
-ghost use Rattle.ion_binary.specs.Bodies.{as_scalar};
-ghost use Rattle.ion_binary.specs.Parts.{cursor, Exceeds, Stands, Moves, Causes, Answers, body_here};
+ghost use Rattle.ion_binary.specs.Bodies.{as_scalar, IsNumberCode, IsBodyCode};
+ghost use Rattle.ion_binary.specs.Parts.{cursor, Stands, Answers, body_here};
+ghost use Rattle.ion_binary.specs.Calls.{AnswersBy, CanRead, Reads, ReadsInto};
 
 use ion_meter::buf::Buf;
 use ion_meter::device::Input;
@@ -74,8 +73,10 @@ fn uint_id(octets: &[u8]) -> u32
 #[tactic(auto, unfolding(ion_value::specs::Scalar::scalar_of_body))]
 #[inline(always)]
 fn number(code: u8, octets: &[u8], body: &mut Body) -> Result<(), Reason>
-    requires code { (code ≡ 2) ⊎ ((code ≡ 3) ⊎ ((code ≡ 5) ⊎ ((code ≡ 6) ⊎ (code ≡ 7)))) }
-    ensures gives { MatchResult result (λ _. (text : List ℕ) → scalar_of_body code octets.now ≡ Ok (as_scalar text body.new)) (λ r. scalar_of_body code octets.now ≡ Err r) }
+    requires code { IsNumberCode code }
+    ensures gives { MatchResult result
+        (λ _. (text : List ℕ) → scalar_of_body code octets.now ≡ Ok (as_scalar text body.new))
+        (λ r. scalar_of_body code octets.now ≡ Err r) }
     ensures range { OnOk result ((text : List ℕ) → InRange (as_scalar text body.new)) }
 {
     *body = match code {
@@ -101,7 +102,9 @@ fn is_text(octets: &[u8]) -> bool
 #[inline]
 fn text_or_lob(code: u8, octets: &[u8], body: &mut Body) -> Result<(), Reason>
     requires code { (8 ≤ code) × (code ≤ 10) }
-    ensures gives { MatchResult result (λ _. scalar_of_body code octets.now ≡ Ok (as_scalar octets.now body.new)) (λ r. scalar_of_body code octets.now ≡ Err r) }
+    ensures gives { MatchResult result
+        (λ _. scalar_of_body code octets.now ≡ Ok (as_scalar octets.now body.new))
+        (λ r. scalar_of_body code octets.now ≡ Err r) }
     ensures range { OnOk result (InRange (as_scalar octets.now body.new)) }
 {
     if code == STRING && !is_text(octets) {
@@ -118,8 +121,10 @@ fn text_or_lob(code: u8, octets: &[u8], body: &mut Body) -> Result<(), Reason>
 // A scalar of these octets.
 #[inline(never)]
 fn scalar(code: u8, octets: &[u8], body: &mut Body) -> Result<(), Reason>
-    requires code { (code ≡ 2) ⊎ ((code ≡ 3) ⊎ ((code ≡ 5) ⊎ ((code ≡ 6) ⊎ ((code ≡ 7) ⊎ ((8 ≤ code) × (code ≤ 10)))))) }
-    ensures gives { MatchResult result (λ _. scalar_of_body code octets.now ≡ Ok (as_scalar octets.now body.new)) (λ r. scalar_of_body code octets.now ≡ Err r) }
+    requires code { IsBodyCode code }
+    ensures gives { MatchResult result
+        (λ _. scalar_of_body code octets.now ≡ Ok (as_scalar octets.now body.new))
+        (λ r. scalar_of_body code octets.now ≡ Err r) }
     ensures range { OnOk result (InRange (as_scalar octets.now body.new)) }
 {
     if code < STRING {
@@ -134,12 +139,13 @@ pub(crate) fn pass_over<I: Input, A: Allocator + Copy>(
     count: u64,
 ) -> Result<bool, Fault>
     requires stands { Stands source.old }
-    ensures all { I.tells source.old.device → result ≡ Ok true → (count ≤ length (left I.rest source.old)) × (cursor I.rest source.new ≡ skip count (cursor I.rest source.old)) }
-    ensures cut { I.tells source.old.device → result ≡ Ok false → length (left I.rest source.old) < count }
+    ensures all { I.tells source.old.device → result ≡ Ok true
+        → (count ≤ length (left I.rest source.old))
+        × (cursor I.Input source.new ≡ skip count (cursor I.Input source.old)) }
+    ensures cut { I.tells source.old.device → result ≡ Ok false
+        → length (left I.rest source.old) < count }
     ensures plain { (r : Reason) (p : ℕ) → result ≢ Err (Fault.Refused r p) }
-    ensures stands { OnOk result (Stands source.new) }
-    ensures moves { Moves I.rest I.tells source.old source.new }
-    ensures causes { Causes (fault_of result) (I.failure_count source.old.device) (I.failure_count source.new.device) (Exceeds I.rest I.tells source.old) }
+    ensures reads { Reads I.Input source.old source.new result }
 {
     let mut more = count;
     while more > 0 {
@@ -163,20 +169,17 @@ fn gather<I: Input, A: Allocator + Copy>(
     limits: Limits,
     meter: &mut Meter<A>,
 ) -> Result<bool, Fault>
-    requires stands { Stands source.old }
-    requires holds { length text.old ≤ meter.old.held }
-    requires room { meter.old.held + limits.scalar < 2 ^ 63 }
-    requires countable { meter.old.refused < 2 ^ 64 - 1 }
-    requires checked { limits.scalar ≤ 2 ^ 30 }
-    requires share { length text.old ≤ limits.scalar }
+    requires can_read { CanRead limits limits.scalar source.old text.old meter.old }
     requires small { count ≤ limits.scalar }
-    ensures all { I.tells source.old.device → result ≡ Ok true → (count ≤ length (left I.rest source.old)) × (text.new ≡ take count (left I.rest source.old)) × (cursor I.rest source.new ≡ skip count (cursor I.rest source.old)) }
-    ensures cut { I.tells source.old.device → result ≡ Ok false → length (left I.rest source.old) < count }
+    ensures all { I.tells source.old.device → result ≡ Ok true
+        → (count ≤ length (left I.rest source.old))
+        × (text.new ≡ take count (left I.rest source.old))
+        × (cursor I.Input source.new ≡ skip count (cursor I.Input source.old)) }
+    ensures cut { I.tells source.old.device → result ≡ Ok false
+        → length (left I.rest source.old) < count }
     ensures plain { (r : Reason) (p : ℕ) → result ≢ Err (Fault.Refused r p) }
-    ensures stands { OnOk result (Stands source.new) }
-    ensures moves { Moves I.rest I.tells source.old source.new }
-    ensures causes { ReadCauses (fault_of result) meter.old meter.new (I.failure_count source.old.device) (I.failure_count source.new.device) (Exceeds I.rest I.tells source.old) }
-    ensures charges { Charges meter.old meter.new (length text.old) (length text.new) limits.scalar }
+    ensures reads { ReadsInto I.Input source.old source.new meter.old meter.new
+        (length text.old) (length text.new) limits.scalar result }
 {
     text.clear(meter);
     while text.as_slice().len() < count {
@@ -206,14 +209,14 @@ fn number_in_window<I: Input, A: Allocator + Copy>(
     place: u64,
 ) -> Result<(), Fault>
     requires stands { Stands source.old }
-    requires code { (code ≡ 2) ⊎ ((code ≡ 3) ⊎ ((code ≡ 5) ⊎ ((code ≡ 6) ⊎ (code ≡ 7)))) }
+    requires code { IsNumberCode code }
     requires there { count ≤ length (lent source.old) }
     requires small { count ≤ limits.scalar }
-    ensures gives { (text : List ℕ) → Answers (λ _. as_scalar text body.new) result (cursor I.rest source.new) place (body_here limits code count (cursor I.rest source.old)) }
+    ensures gives { (text : List ℕ) → Answers (λ _. as_scalar text body.new) result
+        (cursor I.Input source.new) place
+        (body_here limits code count (cursor I.Input source.old)) }
     ensures range { OnOk result ((text : List ℕ) → InRange (as_scalar text body.new)) }
-    ensures stands { OnOk result (Stands source.new) }
-    ensures moves { Moves I.rest I.tells source.old source.new }
-    ensures causes { Causes (fault_of result) (I.failure_count source.old.device) (I.failure_count source.new.device) (Exceeds I.rest I.tells source.old) }
+    ensures reads { Reads I.Input source.old source.new result }
 {
     if let Err(reason) = number(code, &source.buffer()[..count], body) {
         return Err(Fault::Refused(reason, place));
@@ -239,19 +242,13 @@ pub(crate) fn next_body<I: Input, A: Allocator + Copy>(
     place: u64,
     meter: &mut Meter<A>,
 ) -> Result<(), Fault>
-    requires stands { Stands source.old }
-    requires code { (code ≡ 2) ⊎ ((code ≡ 3) ⊎ ((code ≡ 5) ⊎ ((code ≡ 6) ⊎ ((code ≡ 7) ⊎ ((8 ≤ code) × (code ≤ 10)))))) }
-    requires holds { length text.old ≤ meter.old.held }
-    requires room { meter.old.held + limits.scalar < 2 ^ 63 }
-    requires countable { meter.old.refused < 2 ^ 64 - 1 }
-    requires checked { limits.scalar ≤ 2 ^ 30 }
-    requires share { length text.old ≤ limits.scalar }
-    ensures gives { I.tells source.old.device → Answers (λ _. as_scalar text.new body.new) result (cursor I.rest source.new) place (body_here limits code count (cursor I.rest source.old)) }
+    requires can_read { CanRead limits limits.scalar source.old text.old meter.old }
+    requires code { IsBodyCode code }
+    ensures gives { AnswersBy I.Input (λ _. as_scalar text.new body.new)
+        source.old source.new place result (body_here limits code count) }
     ensures range { OnOk result (InRange (as_scalar text.new body.new)) }
-    ensures stands { OnOk result (Stands source.new) }
-    ensures moves { Moves I.rest I.tells source.old source.new }
-    ensures causes { ReadCauses (fault_of result) meter.old meter.new (I.failure_count source.old.device) (I.failure_count source.new.device) (Exceeds I.rest I.tells source.old) }
-    ensures charges { Charges meter.old meter.new (length text.old) (length text.new) limits.scalar }
+    ensures reads { ReadsInto I.Input source.old source.new meter.old meter.new
+        (length text.old) (length text.new) limits.scalar result }
 {
     if limits.scalar < count {
         return Err(Fault::Refused(Reason::ScalarLimit, place));

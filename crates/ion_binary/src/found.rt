@@ -1,13 +1,13 @@
 //! The part of an item that is a descriptor, a length and, for a scalar, a body.
-ghost use Rattle.std.specs.Prelude.{◌≡◌, ◌+◌, ◌-◌, ◌^◌, ◌<◌, ◌≤◌, ◌&&◌, ℕ, [], length, None, Some, Ok, Err, true, false, OnOk, IfOk, IfErr};
-ghost use Rattle.ion_value.specs.Shares.{Charges, ReadCauses, fault_of};
+ghost use Rattle.std.specs.Prelude.{◌≡◌, ◌+◌, ◌-◌, ◌^◌, ◌<◌, ◌&&◌, ℕ, [], length, None, Some, Ok, Err, true, false, OnOk, IfOk, IfErr};
 ghost use Rattle.ion_value.specs.Standing.{InRange};
 ghost use Rattle.ion_binary.specs.Descriptor.{falls_short, is_unwrappable};
 ghost use Rattle.ion_binary.specs.Reading.{a_pad, a_marker, a_scalar, a_container, bare_at, fits, marker_at, pad_at, scalar_at, container_at, sorted_at, found_at, by_shape};
-ghost use Rattle.ion_binary.specs.Bodies.{as_scalar};
-ghost use Rattle.ion_binary.specs.Finds.{as_around, as_found, end_by, IsBodyCode, IsOfDescriptor};
+ghost use Rattle.ion_binary.specs.Bodies.{as_scalar, IsBodyCode};
+ghost use Rattle.ion_binary.specs.Finds.{as_around, as_found, end_by, IsOfDescriptor};
 ghost use Rattle.ion_binary.specs.Shapes.{as_shape};
-ghost use Rattle.ion_binary.specs.Parts.{cursor, Exceeds, Stands, Moves, Causes, Answers};
+ghost use Rattle.ion_binary.specs.Parts.{cursor, Stands, Answers};
+ghost use Rattle.ion_binary.specs.Calls.{AnswersBy, CanRead, Reads, ReadsInto};
 
 use crate::body::{Body, next_body, pass_over};
 use crate::descriptor::Shape;
@@ -88,11 +88,10 @@ fn next_marker<I: Input, A: Allocator + Copy>(
     place: u64,
 ) -> Result<(), Fault>
     requires stands { Stands source.old }
-    ensures gives { I.tells source.old.device → Answers (λ _. a_marker) result (cursor I.rest source.new) place (marker_at region (cursor I.rest source.old)) }
+    ensures gives { AnswersBy I.Input (λ _. a_marker) source.old source.new place result
+        (marker_at region) }
     ensures at_top { OnOk result (region ≡ None) }
-    ensures stands { OnOk result (Stands source.new) }
-    ensures moves { Moves I.rest I.tells source.old source.new }
-    ensures causes { Causes (fault_of result) (I.failure_count source.old.device) (I.failure_count source.new.device) (Exceeds I.rest I.tells source.old) }
+    ensures reads { Reads I.Input source.old source.new result }
 {
     if region.is_some() {
         return Err(Fault::Refused(Reason::BadDescriptor, place));
@@ -119,10 +118,9 @@ fn next_pad<I: Input, A: Allocator + Copy>(
 ) -> Result<(), Fault>
     requires stands { Stands source.old }
     requires low { low < 15 }
-    ensures gives { I.tells source.old.device → Answers (λ _. a_pad) result (cursor I.rest source.new) place (pad_at (as_around around) low (cursor I.rest source.old)) }
-    ensures stands { OnOk result (Stands source.new) }
-    ensures moves { Moves I.rest I.tells source.old source.new }
-    ensures causes { Causes (fault_of result) (I.failure_count source.old.device) (I.failure_count source.new.device) (Exceeds I.rest I.tells source.old) }
+    ensures gives { AnswersBy I.Input (λ _. a_pad) source.old source.new place result
+        (pad_at (as_around around) low) }
+    ensures reads { Reads I.Input source.old source.new result }
 {
     let count = match next_length(source, low, around.region, place) {
         Err(fault) => return Err(fault),
@@ -165,7 +163,9 @@ fn bare<I: Input, A: Allocator + Copy>(
     around: Around,
     place: u64,
 ) -> Result<Found, Fault>
-    ensures gives { Answers (λ _. a_scalar (as_scalar [] scalar)) result (cursor I.rest source.now) place (bare_at (as_around around) (as_scalar [] scalar) (cursor I.rest source.now)) }
+    ensures gives { Answers (λ _. a_scalar (as_scalar [] scalar)) result
+        (cursor I.Input source.now) place
+        (bare_at (as_around around) (as_scalar [] scalar) (cursor I.Input source.now)) }
     ensures found { IfOk result (λ found. (found ≡ Found.Scalar) × (body.new ≡ scalar)) }
     ensures refused { IfErr result (λ fault. fault ≡ Fault.Refused Reason.BadAnnotation place) }
 {
@@ -188,11 +188,10 @@ fn next_container<I: Input, A: Allocator + Copy>(
 ) -> Result<u64, Fault>
     requires stands { Stands source.old }
     requires low { low < 15 }
-    ensures gives { I.tells source.old.device → Answers (λ end. a_container kind end) result (cursor I.rest source.new) place (container_at limits (as_around around) kind low (cursor I.rest source.old)) }
+    ensures gives { AnswersBy I.Input (λ end. a_container kind end)
+        source.old source.new place result (container_at limits (as_around around) kind low) }
     ensures deep { OnOk result (around.depth < limits.depth) }
-    ensures stands { OnOk result (Stands source.new) }
-    ensures moves { Moves I.rest I.tells source.old source.new }
-    ensures causes { Causes (fault_of result) (I.failure_count source.old.device) (I.failure_count source.new.device) (Exceeds I.rest I.tells source.old) }
+    ensures reads { Reads I.Input source.old source.new result }
 {
     let count = match next_length(source, low, around.region, place) {
         Err(fault) => return Err(fault),
@@ -212,11 +211,10 @@ fn next_sorted<I: Input, A: Allocator + Copy>(
     place: u64,
 ) -> Result<u64, Fault>
     requires stands { Stands source.old }
-    ensures gives { I.tells source.old.device → Answers (λ end. a_container Kind.Struct end) result (cursor I.rest source.new) place (sorted_at limits (as_around around) (cursor I.rest source.old)) }
+    ensures gives { AnswersBy I.Input (λ end. a_container Kind.Struct end)
+        source.old source.new place result (sorted_at limits (as_around around)) }
     ensures deep { OnOk result (around.depth < limits.depth) }
-    ensures stands { OnOk result (Stands source.new) }
-    ensures moves { Moves I.rest I.tells source.old source.new }
-    ensures causes { Causes (fault_of result) (I.failure_count source.old.device) (I.failure_count source.new.device) (Exceeds I.rest I.tells source.old) }
+    ensures reads { Reads I.Input source.old source.new result }
 {
     let count = match next_var_uint(source, around.region, place) {
         Err(fault) => return Err(fault),
@@ -244,20 +242,14 @@ fn next_scalar<I: Input, A: Allocator + Copy>(
     place: u64,
     meter: &mut Meter<A>,
 ) -> Result<(), Fault>
-    requires stands { Stands source.old }
+    requires can_read { CanRead limits limits.scalar source.old text.old meter.old }
     requires low { low < 15 }
     requires code { IsBodyCode code }
-    requires holds { length text.old ≤ meter.old.held }
-    requires room { meter.old.held + limits.scalar < 2 ^ 63 }
-    requires countable { meter.old.refused < 2 ^ 64 - 1 }
-    requires checked { limits.scalar ≤ 2 ^ 30 }
-    requires share { length text.old ≤ limits.scalar }
-    ensures gives { I.tells source.old.device → Answers (λ _. a_scalar (as_scalar text.new body.new)) result (cursor I.rest source.new) place (scalar_at limits (as_around around) code low (cursor I.rest source.old)) }
+    ensures gives { AnswersBy I.Input (λ _. a_scalar (as_scalar text.new body.new))
+        source.old source.new place result (scalar_at limits (as_around around) code low) }
     ensures range { OnOk result (InRange (as_scalar text.new body.new)) }
-    ensures stands { OnOk result (Stands source.new) }
-    ensures moves { Moves I.rest I.tells source.old source.new }
-    ensures causes { ReadCauses (fault_of result) meter.old meter.new (I.failure_count source.old.device) (I.failure_count source.new.device) (Exceeds I.rest I.tells source.old) }
-    ensures charges { Charges meter.old meter.new (length text.old) (length text.new) limits.scalar }
+    ensures reads { ReadsInto I.Input source.old source.new meter.old meter.new
+        (length text.old) (length text.new) limits.scalar result }
 {
     let count = match next_length(source, low, around.region, place) {
         Err(fault) => return Err(fault),
@@ -282,21 +274,16 @@ fn by_shape<I: Input, A: Allocator + Copy>(
     place: u64,
     meter: &mut Meter<A>,
 ) -> Result<Found, Fault>
-    requires stands { Stands source.old }
+    requires can_read { CanRead limits limits.scalar source.old text.old meter.old }
     requires shape { IsOfDescriptor (as_shape shape) }
-    requires holds { length text.old ≤ meter.old.held }
-    requires room { meter.old.held + limits.scalar < 2 ^ 63 }
-    requires countable { meter.old.refused < 2 ^ 64 - 1 }
-    requires checked { limits.scalar ≤ 2 ^ 30 }
-    requires share { length text.old ≤ limits.scalar }
-    ensures gives { I.tells source.old.device → Answers (as_found text.new body.new) result (cursor I.rest source.new) place (by_shape limits (as_around around) (as_shape shape) (cursor I.rest source.old)) }
+    ensures gives { AnswersBy I.Input (as_found text.new body.new)
+        source.old source.new place result (by_shape limits (as_around around) (as_shape shape)) }
     ensures range { result ≡ Ok Found.Scalar → InRange (as_scalar text.new body.new) }
-    ensures deep { (kind : Kind) (end : ℕ) → result ≡ Ok (Found.Container kind end) → around.depth < limits.depth }
+    ensures deep { (kind : Kind) (end : ℕ) → result ≡ Ok (Found.Container kind end)
+        → around.depth < limits.depth }
     ensures at_top { result ≡ Ok Found.Marker → around.region ≡ None }
-    ensures stands { OnOk result (Stands source.new) }
-    ensures moves { Moves I.rest I.tells source.old source.new }
-    ensures causes { ReadCauses (fault_of result) meter.old meter.new (I.failure_count source.old.device) (I.failure_count source.new.device) (Exceeds I.rest I.tells source.old) }
-    ensures charges { Charges meter.old meter.new (length text.old) (length text.new) limits.scalar }
+    ensures reads { ReadsInto I.Input source.old source.new meter.old meter.new
+        (length text.old) (length text.new) limits.scalar result }
 {
     match shape {
         Shape::Null(kind) => bare(source, body, Body::Null(kind), around, place),
@@ -348,20 +335,15 @@ pub(crate) fn next_found<I: Input, A: Allocator + Copy>(
     place: u64,
     meter: &mut Meter<A>,
 ) -> Result<Found, Fault>
-    requires stands { Stands source.old }
-    requires holds { length text.old ≤ meter.old.held }
-    requires room { meter.old.held + limits.scalar < 2 ^ 63 }
-    requires countable { meter.old.refused < 2 ^ 64 - 1 }
-    requires checked { limits.scalar ≤ 2 ^ 30 }
-    requires share { length text.old ≤ limits.scalar }
-    ensures gives { I.tells source.old.device → Answers (as_found text.new body.new) result (cursor I.rest source.new) place (found_at limits (as_around around) octet (cursor I.rest source.old)) }
+    requires can_read { CanRead limits limits.scalar source.old text.old meter.old }
+    ensures gives { AnswersBy I.Input (as_found text.new body.new)
+        source.old source.new place result (found_at limits (as_around around) octet) }
     ensures range { result ≡ Ok Found.Scalar → InRange (as_scalar text.new body.new) }
-    ensures deep { (kind : Kind) (end : ℕ) → result ≡ Ok (Found.Container kind end) → around.depth < limits.depth }
+    ensures deep { (kind : Kind) (end : ℕ) → result ≡ Ok (Found.Container kind end)
+        → around.depth < limits.depth }
     ensures at_top { result ≡ Ok Found.Marker → around.region ≡ None }
-    ensures stands { OnOk result (Stands source.new) }
-    ensures moves { Moves I.rest I.tells source.old source.new }
-    ensures causes { ReadCauses (fault_of result) meter.old meter.new (I.failure_count source.old.device) (I.failure_count source.new.device) (Exceeds I.rest I.tells source.old) }
-    ensures charges { Charges meter.old meter.new (length text.old) (length text.new) limits.scalar }
+    ensures reads { ReadsInto I.Input source.old source.new meter.old meter.new
+        (length text.old) (length text.new) limits.scalar result }
 {
     if around.wrapped && no_wrapper_holds(octet) {
         return Err(Fault::Refused(Reason::BadAnnotation, place));

@@ -1,9 +1,9 @@
 //! Octets, VarUInts and lengths, each within a region of the input (binary encoding, "Basic Field
 //! Formats").
-ghost use Rattle.std.specs.Prelude.{◌≡◌, ◌+◌, ◌^◌, ◌<◌, ◌≤◌, ℕ, OnOk, IfOk};
-ghost use Rattle.ion_value.specs.Shares.{fault_of};
+ghost use Rattle.std.specs.Prelude.{◌≡◌, ◌+◌, ◌^◌, ◌<◌, OnOk, IfOk};
 ghost use Rattle.ion_binary.specs.Descriptor.{octet_at, var_uint_at, length_at};
-ghost use Rattle.ion_binary.specs.Parts.{cursor, Exceeds, Stands, Moves, Causes, Answers, itself};
+ghost use Rattle.ion_binary.specs.Parts.{Stands, itself};
+ghost use Rattle.ion_binary.specs.Calls.{AnswersBy, Reads};
 
 use ion_meter::device::Input;
 use ion_meter::fault::{Fault, Reason};
@@ -24,11 +24,9 @@ pub(crate) fn next_octet<I: Input, A: Allocator + Copy>(
     place: u64,
 ) -> Result<u8, Fault>
     requires stands { Stands source.old }
-    ensures gives { I.tells source.old.device → Answers itself result (cursor I.rest source.new) place (octet_at region (cursor I.rest source.old)) }
-    ensures stands { OnOk result (Stands source.new) }
+    ensures gives { AnswersBy I.Input itself source.old source.new place result (octet_at region) }
     ensures taken { OnOk result (source.new.place ≡ source.old.place + 1) }
-    ensures moves { Moves I.rest I.tells source.old source.new }
-    ensures causes { Causes (fault_of result) (I.failure_count source.old.device) (I.failure_count source.new.device) (Exceeds I.rest I.tells source.old) }
+    ensures reads { Reads I.Input source.old source.new result }
 {
     if region.is_some_and(|end| end <= source.place()) {
         return Err(Fault::Refused(Reason::Overrun, place));
@@ -53,12 +51,11 @@ pub(crate) fn next_var_uint<I: Input, A: Allocator + Copy>(
     place: u64,
 ) -> Result<u64, Fault>
     requires stands { Stands source.old }
-    ensures gives { I.tells source.old.device → Answers itself result (cursor I.rest source.new) place (var_uint_at region (cursor I.rest source.old)) }
+    ensures gives { AnswersBy I.Input itself source.old source.new place result
+        (var_uint_at region) }
     ensures fits { IfOk result (λ n. n < 2 ^ 63) }
-    ensures stands { OnOk result (Stands source.new) }
     ensures taken { OnOk result (source.old.place < source.new.place) }
-    ensures moves { Moves I.rest I.tells source.old source.new }
-    ensures causes { Causes (fault_of result) (I.failure_count source.old.device) (I.failure_count source.new.device) (Exceeds I.rest I.tells source.old) }
+    ensures reads { Reads I.Input source.old source.new result }
 {
     let mut value = 0;
     for _ in 0..LONGEST {
@@ -86,11 +83,10 @@ pub(crate) fn next_length<I: Input, A: Allocator + Copy>(
 ) -> Result<u64, Fault>
     requires stands { Stands source.old }
     requires low { low < 15 }
-    ensures gives { I.tells source.old.device → Answers itself result (cursor I.rest source.new) place (length_at low region (cursor I.rest source.old)) }
+    ensures gives { AnswersBy I.Input itself source.old source.new place result
+        (length_at low region) }
     ensures fits { IfOk result (λ n. n < 2 ^ 63) }
-    ensures stands { OnOk result (Stands source.new) }
-    ensures moves { Moves I.rest I.tells source.old source.new }
-    ensures causes { Causes (fault_of result) (I.failure_count source.old.device) (I.failure_count source.new.device) (Exceeds I.rest I.tells source.old) }
+    ensures reads { Reads I.Input source.old source.new result }
 {
     if low == 14 {
         return next_var_uint(source, region, place);

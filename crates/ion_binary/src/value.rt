@@ -1,13 +1,14 @@
 //! A value behind its field, with its annotations.
-ghost use Rattle.std.specs.Prelude.{◌≡◌, ◌≢◌, ◌+◌, ◌*◌, ◌-◌, ◌^◌, ◌<◌, ◌≤◌, ℕ, List, [], length, Option, Some, None, Ok, Err, OnOk, IfSome};
+ghost use Rattle.std.specs.Prelude.{◌≡◌, ◌≢◌, ◌+◌, ◌*◌, ◌-◌, ◌<◌, ℕ, List, [], length, Option, Some, None, Ok, Err, OnOk, IfSome};
 ghost use Rattle.ion_value.specs.Value.{SymbolAt};
-ghost use Rattle.ion_value.specs.Shares.{Charges, ReadCauses, fault_of};
 ghost use Rattle.ion_value.specs.Standing.{InRange};
 ghost use Rattle.ion_value.specs.declared.ion_type.Kind as kinds;
 ghost use Rattle.ion_binary.specs.Descriptor.{shape_of};
-ghost use Rattle.ion_binary.specs.Reading.{Frame, region_of, wrapper_length, inner_at, annotated_at, value_at};
+ghost use Rattle.ion_binary.specs.Positions.{Frame};
+ghost use Rattle.ion_binary.specs.Reading.{region_of, wrapper_length, inner_at, annotated_at, value_at};
 ghost use Rattle.ion_binary.specs.Bodies.{as_scalar};
-ghost use Rattle.ion_binary.specs.Parts.{cursor, Exceeds, Stands, Moves};
+ghost use Rattle.ion_binary.specs.Parts.{cursor};
+ghost use Rattle.ion_binary.specs.Calls.{CanRead, ReadsInto, ReadsValue};
 ghost use Rattle.ion_binary.specs.Wrappers.{as_notes};
 ghost use Rattle.ion_binary.specs.Values.{GivesStep};
 
@@ -48,22 +49,19 @@ fn next_inner<I: Input, A: Allocator + Copy>(
     limits: Limits,
     meter: &mut Meter<A>,
 ) -> Result<(Found, u64), Fault>
-    requires stands { Stands source.old }
-    requires holds { length text.old ≤ meter.old.held }
-    requires room { meter.old.held + limits.scalar < 2 ^ 63 }
-    requires countable { meter.old.refused < 2 ^ 64 - 1 }
-    requires checked { limits.scalar ≤ 2 ^ 30 }
-    requires share { length text.old ≤ limits.scalar }
-    ensures gives { I.tells source.old.device → (frames : List Frame) (top : ℕ) (f : Option SymbolAt) (notes : List SymbolAt) → length frames ≡ depth
-        → GivesStep frames top f notes text.new body.new result (cursor I.rest source.new) (inner_at limits frames top f notes end (cursor I.rest source.old)) }
-    ensures range { (place : ℕ) → result ≡ Ok (Found.Scalar, place) → InRange (as_scalar text.new body.new) }
-    ensures deep { (kind : kinds.Kind) (last place : ℕ) → result ≡ Ok (Found.Container kind last, place) → depth < limits.depth }
+    requires can_read { CanRead limits limits.scalar source.old text.old meter.old }
+    ensures gives { I.tells source.old.device → (frames : List Frame) (top : ℕ)
+        (f : Option SymbolAt) (notes : List SymbolAt) → length frames ≡ depth
+        → GivesStep frames top f notes text.new body.new result (cursor I.Input source.new)
+        (inner_at limits frames top f notes end (cursor I.Input source.old)) }
+    ensures range { (place : ℕ) → result ≡ Ok (Found.Scalar, place)
+        → InRange (as_scalar text.new body.new) }
+    ensures deep { (kind : kinds.Kind) (last place : ℕ)
+        → result ≡ Ok (Found.Container kind last, place) → depth < limits.depth }
     ensures no_marker { (place : ℕ) → result ≢ Ok (Found.Marker, place) }
-    ensures stands { OnOk result (Stands source.new) }
     ensures further { OnOk result (source.old.place < source.new.place) }
-    ensures moves { Moves I.rest I.tells source.old source.new }
-    ensures causes { ReadCauses (fault_of result) meter.old meter.new (I.failure_count source.old.device) (I.failure_count source.new.device) (Exceeds I.rest I.tells source.old) }
-    ensures charges { Charges meter.old meter.new (length text.old) (length text.new) limits.scalar }
+    ensures reads { ReadsInto I.Input source.old source.new meter.old meter.new
+        (length text.old) (length text.new) limits.scalar result }
 {
     let place = source.place();
     let octet = match next_octet(source, Some(end), place) {
@@ -94,25 +92,21 @@ fn next_annotated<I: Input, A: Allocator + Copy>(
     place: u64,
     meter: &mut Meter<A>,
 ) -> Result<(Found, u64), Fault>
-    requires stands { Stands source.old }
+    requires can_read { CanRead limits (2 * limits.scalar) source.old text.old meter.old }
     requires low { low < 15 }
     requires none { notes.old ≡ [] }
-    requires holds { length text.old ≤ meter.old.held }
-    requires room { meter.old.held ≤ 2 ^ 62 + 2 ^ 32 }
-    requires countable { meter.old.refused < 2 ^ 64 - 1 }
-    requires checked { limits.scalar ≤ 2 ^ 30 }
-    requires share { length text.old ≤ limits.scalar }
-    ensures gives { I.tells source.old.device → (frames : List Frame) (top : ℕ) (f : Option SymbolAt) → region_of frames ≡ region → length frames ≡ depth
-        → GivesStep frames top f (as_notes notes.new) text.new body.new result (cursor I.rest source.new) (annotated_at limits frames top f place low (cursor I.rest source.old)) }
-    ensures range { (place : ℕ) → result ≡ Ok (Found.Scalar, place) → InRange (as_scalar text.new body.new) }
-    ensures deep { (kind : kinds.Kind) (last place : ℕ) → result ≡ Ok (Found.Container kind last, place) → depth < limits.depth }
+    ensures gives { I.tells source.old.device → (frames : List Frame) (top : ℕ)
+        (f : Option SymbolAt) → region_of frames ≡ region → length frames ≡ depth
+        → GivesStep frames top f (as_notes notes.new) text.new body.new result
+        (cursor I.Input source.new)
+        (annotated_at limits frames top f place low (cursor I.Input source.old)) }
+    ensures range { (place : ℕ) → result ≡ Ok (Found.Scalar, place)
+        → InRange (as_scalar text.new body.new) }
+    ensures deep { (kind : kinds.Kind) (last place : ℕ)
+        → result ≡ Ok (Found.Container kind last, place) → depth < limits.depth }
     ensures no_marker { (place : ℕ) → result ≢ Ok (Found.Marker, place) }
-    ensures stands { OnOk result (Stands source.new) }
-    ensures further { OnOk result (source.old.place < source.new.place) }
-    ensures moves { Moves I.rest I.tells source.old source.new }
-    ensures causes { ReadCauses (fault_of result) meter.old meter.new (I.failure_count source.old.device) (I.failure_count source.new.device) (Exceeds I.rest I.tells source.old) }
-    ensures charges { Charges meter.old meter.new (length text.old) (16 * length notes.new + length text.new) (2 * limits.scalar) }
-    ensures share { (16 * length notes.new ≤ limits.scalar) × (length text.new ≤ limits.scalar) }
+    ensures reads { ReadsValue I.Input limits source.old source.new meter.old meter.new
+        text.old text.new notes.new result }
 {
     let wrapper = match next_wrapper(source, low, region, place) {
         Err(fault) => return Err(fault),
@@ -139,24 +133,21 @@ pub(crate) fn next_value<I: Input, A: Allocator + Copy>(
     limits: Limits,
     meter: &mut Meter<A>,
 ) -> Result<(Found, u64), Fault>
-    requires stands { Stands source.old }
+    requires can_read { CanRead limits (2 * limits.scalar) source.old text.old meter.old }
     requires none { notes.old ≡ [] }
-    requires holds { length text.old ≤ meter.old.held }
-    requires room { meter.old.held ≤ 2 ^ 62 + 2 ^ 32 }
-    requires countable { meter.old.refused < 2 ^ 64 - 1 }
-    requires checked { limits.scalar ≤ 2 ^ 30 }
-    requires share { length text.old ≤ limits.scalar }
-    ensures gives { I.tells source.old.device → (frames : List Frame) (top : ℕ) (f : Option SymbolAt) → region_of frames ≡ region → length frames ≡ depth
-        → GivesStep frames top f (as_notes notes.new) text.new body.new result (cursor I.rest source.new) (value_at limits frames top f (cursor I.rest source.old)) }
-    ensures range { (place : ℕ) → result ≡ Ok (Found.Scalar, place) → InRange (as_scalar text.new body.new) }
-    ensures deep { (kind : kinds.Kind) (last place : ℕ) → result ≡ Ok (Found.Container kind last, place) → depth < limits.depth }
-    ensures marker { (place : ℕ) → result ≡ Ok (Found.Marker, place) → (region ≡ None) × (notes.new ≡ []) }
-    ensures stands { OnOk result (Stands source.new) }
-    ensures further { OnOk result (source.old.place < source.new.place) }
-    ensures moves { Moves I.rest I.tells source.old source.new }
-    ensures causes { ReadCauses (fault_of result) meter.old meter.new (I.failure_count source.old.device) (I.failure_count source.new.device) (Exceeds I.rest I.tells source.old) }
-    ensures charges { Charges meter.old meter.new (length text.old) (16 * length notes.new + length text.new) (2 * limits.scalar) }
-    ensures share { (16 * length notes.new ≤ limits.scalar) × (length text.new ≤ limits.scalar) }
+    ensures gives { I.tells source.old.device → (frames : List Frame) (top : ℕ)
+        (f : Option SymbolAt) → region_of frames ≡ region → length frames ≡ depth
+        → GivesStep frames top f (as_notes notes.new) text.new body.new result
+        (cursor I.Input source.new)
+        (value_at limits frames top f (cursor I.Input source.old)) }
+    ensures range { (place : ℕ) → result ≡ Ok (Found.Scalar, place)
+        → InRange (as_scalar text.new body.new) }
+    ensures deep { (kind : kinds.Kind) (last place : ℕ)
+        → result ≡ Ok (Found.Container kind last, place) → depth < limits.depth }
+    ensures marker { (place : ℕ) → result ≡ Ok (Found.Marker, place)
+        → (region ≡ None) × (notes.new ≡ []) }
+    ensures reads { ReadsValue I.Input limits source.old source.new meter.old meter.new
+        text.old text.new notes.new result }
 {
     let place = source.place();
     let octet = match next_octet(source, region, place) {

@@ -1,11 +1,11 @@
 //! What stands before a value: a field in a struct, and an annotation wrapper (binary encoding,
 //! "13: struct" and "14: Annotations").
-ghost use Rattle.std.specs.Prelude.{◌≡◌, ◌||◌, nat_lt, nat_eq, nat_le, map, ◌+◌, ◌*◌, ◌-◌, ◌^◌, ◌<◌, ◌≤◌, [], length, Ok, Err, OnOk, IfOk, is_some};
-ghost use Rattle.ion_value.specs.Shares.{Charges, ReadCauses, fault_of};
+ghost use Rattle.std.specs.Prelude.{◌≡◌, ◌||◌, nat_lt, nat_eq, nat_le, map, ◌+◌, ◌*◌, ◌-◌, ◌^◌, ◌<◌, [], length, Ok, Err, IfOk, is_some};
 ghost use Rattle.ion_value.specs.Standing.{in_struct};
 ghost use Rattle.ion_binary.specs.Descriptor.{passes};
 ghost use Rattle.ion_binary.specs.Reading.{wrapper_at, ids_at, field_at};
-ghost use Rattle.ion_binary.specs.Parts.{cursor, Exceeds, Stands, Moves, Causes, Answers, AnswersAt};
+ghost use Rattle.ion_binary.specs.Parts.{cursor, Stands, AnswersAt};
+ghost use Rattle.ion_binary.specs.Calls.{AnswersBy, CanRead, Reads, ReadsInto};
 ghost use Rattle.ion_binary.specs.Wrappers.{as_wrapped, as_notes, as_field, innermost};
 
 use crate::body::id_of;
@@ -55,11 +55,11 @@ pub(crate) fn next_field<I: Input, A: Allocator + Copy>(
     frame: Option<Frame>,
 ) -> Result<Option<Field>, Fault>
     requires stands { Stands source.old }
-    ensures gives { I.tells source.old.device → Answers as_field result (cursor I.rest source.new) source.old.place (field_at (innermost frame) (cursor I.rest source.old)) }
-    ensures stands { OnOk result (Stands source.new) }
-    ensures moves { Moves I.rest I.tells source.old source.new }
-    ensures causes { Causes (fault_of result) (I.failure_count source.old.device) (I.failure_count source.new.device) (Exceeds I.rest I.tells source.old) }
-    ensures struct_alone { IfOk result (λ field. is_some field ≡ in_struct (map (λ f. f.kind) (innermost frame))) }
+    ensures gives { AnswersBy I.Input as_field source.old source.new source.old.place result
+        (field_at (innermost frame)) }
+    ensures reads { Reads I.Input source.old source.new result }
+    ensures struct_alone { IfOk result
+        (λ field. is_some field ≡ in_struct (map (λ f. f.kind) (innermost frame))) }
 {
     let Some(frame) = frame else {
         return Ok(None);
@@ -109,10 +109,9 @@ pub(crate) fn next_wrapper<I: Input, A: Allocator + Copy>(
 ) -> Result<Wrapper, Fault>
     requires stands { Stands source.old }
     requires low { low < 15 }
-    ensures gives { I.tells source.old.device → Answers as_wrapped result (cursor I.rest source.new) place (wrapper_at region low (cursor I.rest source.old)) }
-    ensures stands { OnOk result (Stands source.new) }
-    ensures moves { Moves I.rest I.tells source.old source.new }
-    ensures causes { Causes (fault_of result) (I.failure_count source.old.device) (I.failure_count source.new.device) (Exceeds I.rest I.tells source.old) }
+    ensures gives { AnswersBy I.Input as_wrapped source.old source.new place result
+        (wrapper_at region low) }
+    ensures reads { Reads I.Input source.old source.new result }
 {
     let count = match next_length(source, low, region, place) {
         Err(fault) => return Err(fault),
@@ -148,16 +147,12 @@ pub(crate) fn next_notes<I: Input, A: Allocator + Copy>(
     limits: Limits,
     meter: &mut Meter<A>,
 ) -> Result<(), Fault>
-    requires stands { Stands source.old }
+    requires can_read { CanRead limits limits.scalar source.old [] meter.old }
     requires none { notes.old ≡ [] }
-    requires room { meter.old.held ≤ 2 ^ 62 + 2 ^ 32 }
-    requires countable { meter.old.refused < 2 ^ 64 - 1 }
-    requires checked { limits.scalar ≤ 2 ^ 30 }
-    ensures gives { I.tells source.old.device → AnswersAt (λ _. as_notes notes.new) result (cursor I.rest source.new) (ids_at end limits end 0 (cursor I.rest source.old)) }
-    ensures stands { OnOk result (Stands source.new) }
-    ensures moves { Moves I.rest I.tells source.old source.new }
-    ensures causes { ReadCauses (fault_of result) meter.old meter.new (I.failure_count source.old.device) (I.failure_count source.new.device) (Exceeds I.rest I.tells source.old) }
-    ensures charges { Charges meter.old meter.new 0 (16 * length notes.new) limits.scalar }
+    ensures gives { I.tells source.old.device → AnswersAt (λ _. as_notes notes.new) result
+        (cursor I.Input source.new) (ids_at end limits end 0 (cursor I.Input source.old)) }
+    ensures reads { ReadsInto I.Input source.old source.new meter.old meter.new
+        0 (16 * length notes.new) limits.scalar result }
 {
     while source.place() < end {
         let place = source.place();

@@ -23,11 +23,11 @@ loop-source-preserved g c =
     let wanted : here ≤ c.args.count - length text = grind (arith, common_steps) in
     let long : length c.extend.new.self ≡ length text + here =
     ap (λ (l : List ℕ). length l) extended.ok ∙ (length-append text (take here octets) ∙ ap (λ n. length text + n) (length-take-le here octets there)) in
-    let next = Passed-lent g.I.Input.rest g.I.Input.tells s p t here inv.passed.stands peek.kept peek.well.1 fits c.consume.ensures in
+    let next = Passed-lent g.I.Input s p t here inv.passed.stands peek.kept peek.well.1 fits c.consume.ensures in
     let cost = extended.cost in
     record {
-      passed = subst (λ n. Passed g.I.Input.rest g.I.Input.tells c.args.source.now t n) (sym long)
-          (Passed-then g.I.Input.rest g.I.Input.tells c.args.source.now s t (length text) here inv.passed next);
+      passed = subst (λ n. Passed g.I.Input c.args.source.now t n) (sym long)
+          (Passed-then g.I.Input c.args.source.now s t (length text) here inv.passed next);
       steady = let e = rw inv.passed.stands.well at peek.count in ap g.I.Input.failure_count c.consume.ensures.device ∙ omega (arith, inv.steady, e);
       few = omega (arith, long, wanted, inv.few);
       octets = λ h.

@@ -5,7 +5,7 @@ use Rattle.ion_binary.proofs.body.gather.Given as goal
 
 abbrev pub invariant-loop-source : goal.invariant-loop-source
 invariant-loop-source g l = record {
-  passed : Passed g.I.Input.rest g.I.Input.tells l.fn.source l.source (length l.text);
+  passed : Passed g.I.Input l.fn.source l.source (length l.text);
   steady : g.I.Input.failure_count l.source.device ≡ g.I.Input.failure_count l.fn.source.device;
   few : length l.text ≤ l.count;
   octets : g.I.Input.tells l.fn.source.device → l.text ≡ take (length l.text) (left g.I.Input.rest l.fn.source);

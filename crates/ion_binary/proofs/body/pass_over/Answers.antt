@@ -14,10 +14,10 @@ loop-more-preserved g c =
     let fits : here ≤ length (lent c.peek.new.self) = subst (λ (l : List ℕ). here ≤ length l) c.buffer.ensures (grind (arith, common_steps)) in
     let some : here ≤ c.loop-more.more = grind (arith, common_steps) in
     let done : c.args.count - c.loop-more.more + here ≡ c.args.count - (c.loop-more.more - here) = omega (arith, some, inv.fewer) in
-    let next = Passed-lent g.I.Input.rest g.I.Input.tells s c.peek.new.self t here inv.passed.stands peek.kept peek.well.1 fits c.consume.ensures in
+    let next = Passed-lent g.I.Input s c.peek.new.self t here inv.passed.stands peek.kept peek.well.1 fits c.consume.ensures in
     record {
-      passed = subst (λ n. Passed g.I.Input.rest g.I.Input.tells c.args.source.now t n) done
-          (Passed-then g.I.Input.rest g.I.Input.tells c.args.source.now s t (c.args.count - c.loop-more.more) here inv.passed next);
+      passed = subst (λ n. Passed g.I.Input c.args.source.now t n) done
+          (Passed-then g.I.Input c.args.source.now s t (c.args.count - c.loop-more.more) here inv.passed next);
       steady = let e = rw inv.passed.stands.well at peek.count in ap g.I.Input.failure_count c.consume.ensures.device ∙ omega (arith, inv.steady, e);
       fewer = omega (arith, some, inv.fewer);
     }

@@ -11,7 +11,7 @@ use Rattle.ion_binary.proofs.found.next_found.Goals.{else-around-via-then-around
 
 pub returns-then-no_wrapper_holds-clause-gives : goal.returns-then-no_wrapper_holds-clause-gives
 returns-then-no_wrapper_holds-clause-gives g c t = (
-  found_at-wrapped c.args.limits (as_around c.args.around) c.args.octet (cursor g.I.Input.rest c.args.source.now)
+  found_at-wrapped c.args.limits (as_around c.args.around) c.args.octet (cursor g.I.Input c.args.source.now)
       (and_from c.args.around.wrapped (is_unwrappable c.args.octet) c.if-around.true (sym c.no_wrapper_holds.ensures ∙ c.if-no_wrapper_holds.true)),
   refl,
 )
@@ -21,7 +21,7 @@ by_shape-requires-clause-shape g c = subst IsOfDescriptor (sym c.of.ensures) (sh
 
 pub returns-clause-gives : goal.returns-clause-gives
 returns-clause-gives g c t =
-    let here = cursor g.I.Input.rest c.args.source.now in
+    let here = cursor g.I.Input c.args.source.now in
     let free : (c.args.around.wrapped && is_unwrappable c.args.octet) ≡ false =
     elim c.else-around.branch [
       | else-around-via-then-around+else-no_wrapper_holds w ↦
@@ -30,5 +30,5 @@ returns-clause-gives g c t =
     ] in
     let same : by_shape c.args.limits (as_around c.args.around) (as_shape c.of.result) here ≡ found_at c.args.limits (as_around c.args.around) c.args.octet here =
     ap (λ s. by_shape c.args.limits (as_around c.args.around) s here) c.of.ensures ∙ sym (found_at-shape c.args.limits (as_around c.args.around) c.args.octet here free) in
-    subst (λ given. Answers (as_found c.by_shape.new.text c.by_shape.new.body) c.by_shape.result (cursor g.I.Input.rest c.by_shape.new.source) c.args.place given)
+    subst (λ given. Answers (as_found c.by_shape.new.text c.by_shape.new.body) c.by_shape.result (cursor g.I.Input c.by_shape.new.source) c.args.place given)
     same (c.by_shape.ensures.gives t)

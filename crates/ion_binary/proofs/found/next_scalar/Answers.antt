@@ -10,24 +10,24 @@ use Rattle.ion_binary.proofs.found.next_scalar.Goals as goal
 
 pub returns-in-Err-clause-gives : goal.returns-in-Err-clause-gives
 returns-in-Err-clause-gives g c t =
-    let here = cursor g.I.Input.rest c.args.source.now in
-    answers-refused itself (λ (x : Unit {0}). a_scalar (as_scalar c.args.text.now c.args.body.now)) c.in-Err.fault (cursor g.I.Input.rest c.next_length.new.source) _ c.args.place (length_at c.args.low c.args.around.region here) _ (c.in-Err.ensures.gives t)
+    let here = cursor g.I.Input c.args.source.now in
+    answers-refused itself (λ (x : Unit {0}). a_scalar (as_scalar c.args.text.now c.args.body.now)) c.in-Err.fault (cursor g.I.Input c.next_length.new.source) _ c.args.place (length_at c.args.low c.args.around.region here) _ (c.in-Err.ensures.gives t)
     (scalar_at-no_length c.args.limits (as_around c.args.around) c.args.code c.args.low here)
 
 pub returns-in-Err-check_fits-clause-gives : goal.returns-in-Err-check_fits-clause-gives
 returns-in-Err-check_fits-clause-gives g c t =
-    let here = cursor g.I.Input.rest c.args.source.now in
-    let there = cursor g.I.Input.rest c.next_length.new.source in
+    let here = cursor g.I.Input c.args.source.now in
+    let there = cursor g.I.Input c.next_length.new.source in
     let misfits : fits (as_around c.args.around) there.place c.in-Ok.count ≡ Err c.in-Err-check_fits.reason =
     ap (λ n. fits (as_around c.args.around) n c.in-Ok.count) (sym c.place.ensures) ∙ sym c.in-Err-check_fits.ensures in
     (scalar_at-misfits c.args.limits (as_around c.args.around) c.args.code c.args.low here c.in-Ok.count there c.in-Err-check_fits.reason (c.in-Ok.ensures.gives t) misfits, refl)
 
 pub returns-clause-gives : goal.returns-clause-gives
 returns-clause-gives g c t =
-    let here = cursor g.I.Input.rest c.args.source.now in
-    let there = cursor g.I.Input.rest c.next_length.new.source in
+    let here = cursor g.I.Input c.args.source.now in
+    let there = cursor g.I.Input c.next_length.new.source in
     let fitting : fits (as_around c.args.around) there.place c.in-Ok.count ≡ Ok c.in_default.field-0 =
     ap (λ n. fits (as_around c.args.around) n c.in-Ok.count) (sym c.place.ensures) ∙ sym c.in_default.ensures in
-    answers-mapped (λ (x : Unit {0}). as_scalar c.next_body.new.text c.next_body.new.body) a_scalar c.next_body.result (cursor g.I.Input.rest c.next_body.new.source) c.args.place
-    (body_here c.args.limits c.args.code c.in-Ok.count there) _ (c.next_body.ensures.gives (c.in-Ok.ensures.moves.still_tells.1 t))
+    answers-mapped (λ (x : Unit {0}). as_scalar c.next_body.new.text c.next_body.new.body) a_scalar c.next_body.result (cursor g.I.Input c.next_body.new.source) c.args.place
+    (body_here c.args.limits c.args.code c.in-Ok.count there) _ (c.next_body.ensures.gives (c.in-Ok.ensures.reads.moves.still_tells.1 t))
     (scalar_at-body c.args.limits (as_around c.args.around) c.args.code c.args.low here c.in-Ok.count there c.in_default.field-0 (c.in-Ok.ensures.gives t) fitting)

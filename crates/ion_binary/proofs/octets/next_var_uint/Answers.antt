@@ -11,16 +11,16 @@ loop-init g c = record {
   stands = c.requires.stands;
   moves = record { still_tells = (λ t. t, λ t. t); limit = refl; further = omega arith; total = λ t. refl };
   steady = refl;
-  same = λ t. var_uint_at-front c.args.region (cursor g.I.Input.rest c.args.source.now);
+  same = λ t. var_uint_at-front c.args.region (cursor g.I.Input c.args.source.now);
   small = omega arith;
   taken = omega arith;
 }
 
 pub returns-in-Err-clause-gives : goal.returns-in-Err-clause-gives
 returns-in-Err-clause-gives g c t =
-    answers-refused itself itself c.in-Err.fault (cursor g.I.Input.rest c.next_octet.new.source) (cursor g.I.Input.rest c.next_octet.new.source) c.args.place (octet_at c.args.region (cursor g.I.Input.rest c.loop.source)) _
+    answers-refused itself itself c.in-Err.fault (cursor g.I.Input c.next_octet.new.source) (cursor g.I.Input c.next_octet.new.source) c.args.place (octet_at c.args.region (cursor g.I.Input c.loop.source)) _
     (c.in-Err.ensures.gives (c.loop.invariant.moves.still_tells.1 t))
-    (λ e o. c.loop.invariant.same t ∙ var_from-refused (9 - c.loop.counter) c.loop.value c.args.region (cursor g.I.Input.rest c.loop.source) e (omega (arith, c.loop-test.true)) o)
+    (λ e o. c.loop.invariant.same t ∙ var_from-refused (9 - c.loop.counter) c.loop.value c.args.region (cursor g.I.Input c.loop.source) e (omega (arith, c.loop-test.true)) o)
 
 pub overflow_mul-value : goal.overflow_mul-value
 overflow_mul-value g c = omega (arith, seven-fits c.loop.value c.loop.counter 0 c.loop.invariant.small (omega (arith, c.loop-test.true)) (omega arith))
@@ -31,9 +31,9 @@ overflow_add-value g c = omega (arith, seven-fits c.loop.value c.loop.counter c.
 pub returns-then-octet-ge128-clause-gives : goal.returns-then-octet-ge128-clause-gives
 returns-then-octet-ge128-clause-gives g c t =
     c.loop.invariant.same t
-    ∙ (var_from-ends (9 - c.loop.counter) c.loop.value c.in-Ok.octet c.args.region (cursor g.I.Input.rest c.loop.source) (cursor g.I.Input.rest c.next_octet.new.source)
+    ∙ (var_from-ends (9 - c.loop.counter) c.loop.value c.in-Ok.octet c.args.region (cursor g.I.Input c.loop.source) (cursor g.I.Input c.next_octet.new.source)
     (omega (arith, c.loop-test.true)) (c.in-Ok.ensures.gives (c.loop.invariant.moves.still_tells.1 t)) c.if-octet-ge128.true
-    ∙ ap (λ n. Ok (c.loop.value * 128 + n, cursor g.I.Input.rest c.next_octet.new.source)) (omega (arith, c.from.ensures)))
+    ∙ ap (λ n. Ok (c.loop.value * 128 + n, cursor g.I.Input c.next_octet.new.source)) (omega (arith, c.from.ensures)))
 
 pub returns-then-octet-ge128-clause-fits : goal.returns-then-octet-ge128-clause-fits
 returns-then-octet-ge128-clause-fits g c = seven-fits c.loop.value c.loop.counter c.from.result c.loop.invariant.small (omega (arith, c.loop-test.true)) (omega (arith, c.from.ensures))
@@ -43,18 +43,18 @@ loop-preserved g c =
     let inv = c.loop.invariant in
     let o = c.in-Ok.ensures in
     record {
-      stands = o.stands;
-      moves = moves-then g.I.Input.rest g.I.Input.tells c.args.source.now c.loop.source c.next_octet.new.source inv.moves o.moves;
-      steady = o.causes.steady (λ e. absurd (cc e)) ∙ inv.steady;
+      stands = o.reads.stands;
+      moves = moves-then g.I.Input c.args.source.now c.loop.source c.next_octet.new.source inv.moves o.reads.moves;
+      steady = o.reads.causes.steady (λ e. absurd (cc e)) ∙ inv.steady;
       same = λ t.
           inv.same t
-          ∙ (var_from-goes_on (9 - c.loop.counter) (9 - (c.loop.counter + 1)) c.loop.value c.in-Ok.octet c.args.region (cursor g.I.Input.rest c.loop.source) (cursor g.I.Input.rest c.next_octet.new.source)
+          ∙ (var_from-goes_on (9 - c.loop.counter) (9 - (c.loop.counter + 1)) c.loop.value c.in-Ok.octet c.args.region (cursor g.I.Input c.loop.source) (cursor g.I.Input c.next_octet.new.source)
           (omega (arith, c.loop-test.true)) (o.gives (inv.moves.still_tells.1 t)) c.if-octet-ge128.false
-          ∙ ap (λ n. var_from (9 - (c.loop.counter + 1)) (c.loop.value * 128 + n) c.args.region (cursor g.I.Input.rest c.next_octet.new.source)) (omega (arith, c.from.ensures)));
+          ∙ ap (λ n. var_from (9 - (c.loop.counter + 1)) (c.loop.value * 128 + n) c.args.region (cursor g.I.Input c.next_octet.new.source)) (omega (arith, c.from.ensures)));
       small = append-lt 128 c.loop.value c.loop.counter c.from.result inv.small (omega (arith, c.from.ensures));
       taken = omega (arith, inv.taken, o.taken);
     }
 
 pub returns-clause-gives : goal.returns-clause-gives
 returns-clause-gives g c t =
-    (c.loop.invariant.same t ∙ var_from-none (9 - c.loop.counter) c.loop.value c.args.region (cursor g.I.Input.rest c.loop.source) (omega (arith, c.loop-test.false)), refl)
+    (c.loop.invariant.same t ∙ var_from-none (9 - c.loop.counter) c.loop.value c.args.region (cursor g.I.Input c.loop.source) (omega (arith, c.loop-test.false)), refl)

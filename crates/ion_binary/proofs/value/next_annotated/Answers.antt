@@ -10,27 +10,27 @@ pub returns-in-Err-clause-gives : goal.returns-in-Err-clause-gives
 unfolding annotated_at
 returns-in-Err-clause-gives g c t frames top f region deep =
     step-refused frames top f (as_notes c.args.notes.now) c.args.text.now c.args.body.now as_wrapped c.in-Err.fault
-    (cursor g.I.Input.rest c.next_wrapper.new.source) (cursor g.I.Input.rest c.next_wrapper.new.source) c.args.place
-    (wrapper_at (region_of frames) c.args.low (cursor g.I.Input.rest c.args.source.now)) _
-    (subst (λ r. Answers as_wrapped (Err c.in-Err.fault) (cursor g.I.Input.rest c.next_wrapper.new.source) c.args.place (wrapper_at r c.args.low (cursor g.I.Input.rest c.args.source.now)))
+    (cursor g.I.Input c.next_wrapper.new.source) (cursor g.I.Input c.next_wrapper.new.source) c.args.place
+    (wrapper_at (region_of frames) c.args.low (cursor g.I.Input c.args.source.now)) _
+    (subst (λ r. Answers as_wrapped (Err c.in-Err.fault) (cursor g.I.Input c.next_wrapper.new.source) c.args.place (wrapper_at r c.args.low (cursor g.I.Input c.args.source.now)))
     (sym region) (c.in-Err.ensures.gives t))
 
 pub returns-in-Err-next_notes-clause-gives : goal.returns-in-Err-next_notes-clause-gives
 returns-in-Err-next_notes-clause-gives g c t frames top f region deep =
-    step-same frames top f (as_notes c.next_notes.new.notes) c.args.text.now c.args.body.now (Err c.in-Err-next_notes.fault) (cursor g.I.Input.rest c.next_notes.new.source) _ _
-    (annotated_at-wrapper c.args.limits frames top f c.args.place c.args.low (cursor g.I.Input.rest c.args.source.now) (cursor g.I.Input.rest c.next_wrapper.new.source) c.args.region
+    step-same frames top f (as_notes c.next_notes.new.notes) c.args.text.now c.args.body.now (Err c.in-Err-next_notes.fault) (cursor g.I.Input c.next_notes.new.source) _ _
+    (annotated_at-wrapper c.args.limits frames top f c.args.place c.args.low (cursor g.I.Input c.args.source.now) (cursor g.I.Input c.next_wrapper.new.source) c.args.region
     (as_wrapped c.in-Ok.wrapper) region (c.in-Ok.ensures.gives t))
     (step-refused_at frames top f (as_notes c.next_notes.new.notes) c.args.text.now c.args.body.now {T = Unit {0}} (λ _. as_notes c.next_notes.new.notes)
     c.in-Err-next_notes.fault
-    (cursor g.I.Input.rest c.next_notes.new.source) (cursor g.I.Input.rest c.next_notes.new.source) _ _
-    (c.in-Err-next_notes.ensures.gives (c.in-Ok.ensures.moves.still_tells.1 t)))
+    (cursor g.I.Input c.next_notes.new.source) (cursor g.I.Input c.next_notes.new.source) _ _
+    (c.in-Err-next_notes.ensures.gives (c.in-Ok.ensures.reads.moves.still_tells.1 t)))
 
 pub returns-clause-gives : goal.returns-clause-gives
 returns-clause-gives g c t frames top f region deep =
-    let tells = c.in-Ok.ensures.moves.still_tells.1 t in
-    step-same frames top f (as_notes c.next_notes.new.notes) c.next_inner.new.text c.next_inner.new.body c.next_inner.result (cursor g.I.Input.rest c.next_inner.new.source) _
-    (inner_at c.args.limits frames top f (as_notes c.next_notes.new.notes) c.in-Ok.wrapper.end (cursor g.I.Input.rest c.next_notes.new.source))
-    (annotated_at-wrapper c.args.limits frames top f c.args.place c.args.low (cursor g.I.Input.rest c.args.source.now) (cursor g.I.Input.rest c.next_wrapper.new.source) c.args.region
+    let tells = c.in-Ok.ensures.reads.moves.still_tells.1 t in
+    step-same frames top f (as_notes c.next_notes.new.notes) c.next_inner.new.text c.next_inner.new.body c.next_inner.result (cursor g.I.Input c.next_inner.new.source) _
+    (inner_at c.args.limits frames top f (as_notes c.next_notes.new.notes) c.in-Ok.wrapper.end (cursor g.I.Input c.next_notes.new.source))
+    (annotated_at-wrapper c.args.limits frames top f c.args.place c.args.low (cursor g.I.Input c.args.source.now) (cursor g.I.Input c.next_wrapper.new.source) c.args.region
     (as_wrapped c.in-Ok.wrapper) region (c.in-Ok.ensures.gives t)
     ∙ ap (λ r. r >>= λ notes. inner_at c.args.limits frames top f notes.0 c.in-Ok.wrapper.end notes.1) (c.in_default.ensures.gives tells))
-    (c.next_inner.ensures.gives (c.in_default.ensures.moves.still_tells.1 tells) frames top f (as_notes c.next_notes.new.notes) deep)
+    (c.next_inner.ensures.gives (c.in_default.ensures.reads.moves.still_tells.1 tells) frames top f (as_notes c.next_notes.new.notes) deep)

@@ -11,8 +11,8 @@ use Rattle.ion_binary.proofs.wrapper.next_notes.Goals as goal
 pub returns-in-Err-clause-gives : goal.returns-in-Err-clause-gives
 returns-in-Err-clause-gives g c t =
     let inv = c.loop-limits.invariant in
-    let here = cursor g.I.Input.rest c.loop-limits.source in
-    let new = cursor g.I.Input.rest c.next_var_uint.new.source in
+    let here = cursor g.I.Input c.loop-limits.source in
+    let new = cursor g.I.Input c.next_var_uint.new.source in
     answers_at-refused itself (λ (u : Unit {0}). []) c.in-Err.fault new new c.place-place.result (var_uint_at (Some c.args.end) here) _
     (c.in-Err.ensures.gives (inv.moves.still_tells.1 t))
     (λ e h. inv.same t
@@ -23,8 +23,8 @@ returns-in-Err-clause-gives g c t =
 pub returns-then-limits-as_slice-clause-gives : goal.returns-then-limits-as_slice-clause-gives
 returns-then-limits-as_slice-clause-gives g c t =
     let inv = c.loop-limits.invariant in
-    let here = cursor g.I.Input.rest c.loop-limits.source in
-    let new = cursor g.I.Input.rest c.next_var_uint.new.source in
+    let here = cursor g.I.Input c.loop-limits.source in
+    let new = cursor g.I.Input c.next_var_uint.new.source in
     let all : length c.as_slice.result.now ≡ length c.loop-limits.notes = ap length c.as_slice.ensures in
     inv.same t
     ∙ (ids_at-limited c.args.limits c.args.end (c.args.end - length c.loop-limits.notes) (length c.loop-limits.notes) c.in-Ok.id (as_notes c.loop-limits.notes) here new
@@ -36,20 +36,20 @@ pub returns-clause-gives : goal.returns-clause-gives
 returns-clause-gives g c t =
     c.loop-limits.invariant.same t
     ∙ ids_at-ended c.args.limits c.args.end (c.args.end - length c.loop-limits.notes) (length c.loop-limits.notes) (as_notes c.loop-limits.notes)
-    (cursor g.I.Input.rest c.loop-limits.source) (omega (arith, c.loop-limits-test.false, c.place.ensures))
+    (cursor g.I.Input c.loop-limits.source) (omega (arith, c.loop-limits-test.false, c.place.ensures))
 
 pub loop-limits-preserved : goal.loop-limits-preserved
 loop-limits-preserved g c =
     let inv = c.loop-limits.invariant in
     let o = c.in-Ok.ensures in
-    let here = cursor g.I.Input.rest c.loop-limits.source in
-    let new = cursor g.I.Input.rest c.next_var_uint.new.source in
+    let here = cursor g.I.Input c.loop-limits.source in
+    let new = cursor g.I.Input c.next_var_uint.new.source in
     let all : length c.as_slice.result.now ≡ length c.loop-limits.notes = ap length c.as_slice.ensures in
     let more : length c.push.new.self ≡ length c.loop-limits.notes + 1 = ap length c.in_default.ensures.ok ∙ length-append c.loop-limits.notes _ in
     record {
-      stands = o.stands;
-      moves = moves-then g.I.Input.rest g.I.Input.tells c.args.source.now c.loop-limits.source c.next_var_uint.new.source inv.moves o.moves;
-      steady = o.causes.steady (λ e. absurd (cc e)) ∙ inv.steady;
+      stands = o.reads.stands;
+      moves = moves-then g.I.Input c.args.source.now c.loop-limits.source c.next_var_uint.new.source inv.moves o.reads.moves;
+      steady = o.reads.causes.steady (λ e. absurd (cc e)) ∙ inv.steady;
       counted = c.in_default.ensures.cost.refused ∙ inv.counted;
       charges = charges-grown c.args.meter.now c.loop-limits.meter c.push.new.meter (16 * length c.loop-limits.notes) (16 * length c.push.new.self) c.args.limits.scalar
           inv.charges c.in_default.ensures.cost (omega (arith, more)) (omega (arith, more, all, c.if-limits-as_slice.false));

@@ -9,14 +9,14 @@ use Rattle.ion_binary.proofs.wrapper.next_notes.Given as goal
 abbrev pub invariant-loop-limits : goal.invariant-loop-limits
 invariant-loop-limits g l = record {
   stands : Stands l.source;
-  moves : Moves g.I.Input.rest g.I.Input.tells l.fn.source l.source;
+  moves : Moves g.I.Input l.fn.source l.source;
   steady : g.I.Input.failure_count l.source.device ≡ g.I.Input.failure_count l.fn.source.device;
   counted : l.meter.refused ≡ l.fn.meter.refused;
   charges : Charges l.fn.meter l.meter 0 (16 * length l.notes) l.limits.scalar;
   taken : length l.notes ≤ l.source.place;
   same : g.I.Input.tells l.fn.source.device
-      → ids_at l.end l.limits l.end 0 (cursor g.I.Input.rest l.fn.source)
-      ≡ behind (as_notes l.notes) (ids_at (l.end - length l.notes) l.limits l.end (length l.notes) (cursor g.I.Input.rest l.source));
+      → ids_at l.end l.limits l.end 0 (cursor g.I.Input l.fn.source)
+      ≡ behind (as_notes l.notes) (ids_at (l.end - length l.notes) l.limits l.end (length l.notes) (cursor g.I.Input l.source));
 }
 
 abbrev pub decreases-loop-limits : goal.decreases-loop-limits

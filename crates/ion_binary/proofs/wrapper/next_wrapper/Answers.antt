@@ -9,45 +9,45 @@ use Rattle.ion_binary.proofs.wrapper.next_wrapper.Goals as goal
 
 pub returns-in-Err-clause-gives : goal.returns-in-Err-clause-gives
 returns-in-Err-clause-gives g c t =
-    let old = cursor g.I.Input.rest c.args.source.now in
-    let new = cursor g.I.Input.rest c.next_length.new.source in
+    let old = cursor g.I.Input c.args.source.now in
+    let new = cursor g.I.Input c.next_length.new.source in
     answers-refused itself as_wrapped c.in-Err.fault new new c.args.place (length_at c.args.low c.args.region old) (wrapper_at c.args.region c.args.low old)
     (c.in-Err.ensures.gives t) (λ e h. wrapper_at-no_length c.args.region c.args.low old e h)
 
 pub returns-in-Err-next_var_uint-clause-gives : goal.returns-in-Err-next_var_uint-clause-gives
 returns-in-Err-next_var_uint-clause-gives g c t =
-    let old = cursor g.I.Input.rest c.args.source.now in
-    let sized = cursor g.I.Input.rest c.next_length.new.source in
-    let new = cursor g.I.Input.rest c.next_var_uint.new.source in
+    let old = cursor g.I.Input c.args.source.now in
+    let sized = cursor g.I.Input c.next_length.new.source in
+    let new = cursor g.I.Input c.next_var_uint.new.source in
     answers-refused itself as_wrapped c.in-Err-next_var_uint.fault new new c.args.place (var_uint_at (Some (c.place-here.result + c.in-Ok.count)) sized)
     (wrapper_at c.args.region c.args.low old)
-    (c.in-Err-next_var_uint.ensures.gives (c.in-Ok.ensures.moves.still_tells.1 t))
+    (c.in-Err-next_var_uint.ensures.gives (c.in-Ok.ensures.reads.moves.still_tells.1 t))
     (λ e h. wrapper_at-no_ids c.args.region c.args.low c.in-Ok.count c.place-here.result old sized e (c.in-Ok.ensures.gives t) c.place-here.ensures h)
 
 pub returns-then-passes_end-clause-gives : goal.returns-then-passes_end-clause-gives
 returns-then-passes_end-clause-gives g c t =
-    let old = cursor g.I.Input.rest c.args.source.now in
-    let sized = cursor g.I.Input.rest c.next_length.new.source in
-    let new = cursor g.I.Input.rest c.next_var_uint.new.source in
+    let old = cursor g.I.Input c.args.source.now in
+    let sized = cursor g.I.Input c.next_length.new.source in
+    let new = cursor g.I.Input c.next_var_uint.new.source in
     let e = wrapper_at-tested c.args.region c.args.low c.in-Ok.count c.in-Ok-next_var_uint.ids c.place-here.result c.next_var_uint.new.source.place old sized new true _
-    (c.in-Ok.ensures.gives t) c.place-here.ensures (c.in-Ok-next_var_uint.ensures.gives (c.in-Ok.ensures.moves.still_tells.1 t)) refl c.if-passes_end.ensures refl in
+    (c.in-Ok.ensures.gives t) c.place-here.ensures (c.in-Ok-next_var_uint.ensures.gives (c.in-Ok.ensures.reads.moves.still_tells.1 t)) refl c.if-passes_end.ensures refl in
     (e, refl)
 
 pub returns-then-is_no_wrapper-clause-gives : goal.returns-then-is_no_wrapper-clause-gives
 returns-then-is_no_wrapper-clause-gives g c t =
-    let old = cursor g.I.Input.rest c.args.source.now in
-    let sized = cursor g.I.Input.rest c.next_length.new.source in
-    let new = cursor g.I.Input.rest c.next_var_uint.new.source in
+    let old = cursor g.I.Input c.args.source.now in
+    let sized = cursor g.I.Input c.next_length.new.source in
+    let new = cursor g.I.Input c.next_var_uint.new.source in
     let e = wrapper_at-tested c.args.region c.args.low c.in-Ok.count c.in-Ok-next_var_uint.ids c.place-here.result c.place-behind.result old sized new false true
-    (c.in-Ok.ensures.gives t) c.place-here.ensures (c.in-Ok-next_var_uint.ensures.gives (c.in-Ok.ensures.moves.still_tells.1 t)) c.place-behind.ensures
+    (c.in-Ok.ensures.gives t) c.place-here.ensures (c.in-Ok-next_var_uint.ensures.gives (c.in-Ok.ensures.reads.moves.still_tells.1 t)) c.place-behind.ensures
     c.if-passes_end.ensures c.if-is_no_wrapper.ensures in
     (e, refl)
 
 pub returns-clause-gives : goal.returns-clause-gives
 returns-clause-gives g c t =
-    let old = cursor g.I.Input.rest c.args.source.now in
-    let sized = cursor g.I.Input.rest c.next_length.new.source in
-    let new = cursor g.I.Input.rest c.next_var_uint.new.source in
+    let old = cursor g.I.Input c.args.source.now in
+    let sized = cursor g.I.Input c.next_length.new.source in
+    let new = cursor g.I.Input c.next_var_uint.new.source in
     wrapper_at-tested c.args.region c.args.low c.in-Ok.count c.in-Ok-next_var_uint.ids c.place-here.result c.place-behind.result old sized new false false
-    (c.in-Ok.ensures.gives t) c.place-here.ensures (c.in-Ok-next_var_uint.ensures.gives (c.in-Ok.ensures.moves.still_tells.1 t)) c.place-behind.ensures
+    (c.in-Ok.ensures.gives t) c.place-here.ensures (c.in-Ok-next_var_uint.ensures.gives (c.in-Ok.ensures.reads.moves.still_tells.1 t)) c.place-behind.ensures
     c.if-passes_end.ensures c.if-is_no_wrapper.ensures

@@ -1,10 +1,10 @@
 -- A declaration as it is kept while it is read, and what its calls answer.
-use Rattle.std.specs.Prelude.{◌≡◌, ℕ, ◌+◌, ◌*◌, ◌<◌, ◌≤◌, Bool, true, false, List, [], length, Option, Some, None, Result, Ok, Err, ⊤, ◌⊎◌}
+use Rattle.std.specs.Prelude.{◌≡◌, ℕ, ◌+◌, ◌*◌, ◌<◌, ◌≤◌, Bool, true, false, List, [], length, Option, Some, None, Result, Ok, Err, ⊤}
 use Rattle.ion_meter.specs.Counts.{Counts}
 use Rattle.ion_meter.specs.declared.fault.Fault.{Fault}
 use Rattle.ion_meter.specs.declared.fault.Fault.TheVariants.{Refused, Memory, ReadFault, WriteFault, InputLimit}
-use Rattle.ion_symbols.specs.Table.{Shared, Import, Table, most_slots, slots_cost, table_cost, count_of}
-use Rattle.ion_symbols.specs.Present.{Starts, imports_in, slots_at}
+use Rattle.ion_symbols.specs.Table.{Shared, Table, most_slots, slots_cost, table_cost, count_of}
+use Rattle.ion_symbols.specs.Present.{Starts, imports_in}
 use Rattle.ion_symbols.specs.Declaration as d
 use Rattle.ion_symbols.specs.Declaration.{Pending, Declaring, Held, Told, Turn, on, made, stop, held, at, import_ended}
 use Rattle.ion_symbols.specs.declared.word.Area.{Area}
@@ -13,8 +13,6 @@ use Rattle.ion_symbols.specs.declared.told.What.{What}
 use Rattle.ion_symbols.specs.declared.told.What.TheVariants as what
 use Rattle.ion_symbols.specs.declared.told.Told as code
 use Rattle.ion_symbols.specs.declared.buffer.SymbolBuffer.{SymbolBuffer}
-use Rattle.ion_symbols.specs.declared.buffer.Import as found
-use Rattle.ion_symbols.specs.declared.buffer.Import.TheVariants as finds
 
 abbrev pub what_of : What → d.What
 what_of (what.Begins kind) = d.begins kind
@@ -116,14 +114,3 @@ depth_of d = area_depth d.area + d.inside
 -- the end of an import's struct
 abbrev pub import_end_turn : d.Ground → Pending → Turn
 import_end_turn g p = held (import_ended g p) (λ q. on (at area.Imports q))
-
--- a number of slots, where more than there are ids is that or any more
-abbrev pub CountAs : ℕ → ℕ → Type 0
-CountAs asked count = (asked ≡ count) ⊎ ((most_slots < asked) × (most_slots < count))
-
--- what was found is what the import stands for
-abbrev pub FoundAs : List Shared → Bool → Option Import → found.Import → Type 0
-FoundAs catalog ignored i finds.Ignored = ignored ≡ true
-FoundAs catalog ignored i finds.Missing = (ignored ≡ false) × (i ≡ None)
-FoundAs catalog ignored None (finds.Slots table count) = ⊥
-FoundAs catalog ignored (Some i) (finds.Slots table count) = (ignored ≡ false) × ((i.slots ≡ slots_at catalog table) × CountAs i.count count)

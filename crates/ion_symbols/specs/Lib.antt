@@ -5,6 +5,7 @@ pub mod Tree
 pub mod Output
 pub mod Laws
 pub mod Kept
+pub mod Catalogue
 pub mod Present
 pub mod Buffer
 pub mod User

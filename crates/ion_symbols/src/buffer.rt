@@ -1,30 +1,35 @@
 //! One declaration of a symbol table, item by item.
-ghost use Rattle.std.specs.Prelude.{◌≡◌, ℕ, ◌+◌, ◌-◌, ◌*◌, ◌^◌, ◌<◌, ◌≤◌, ◌≢◌, ◌&&◌, [], List, Option, None, Ok, Err, OnOk, true, false, nat_le};
+ghost use Rattle.std.specs.Prelude.{◌≡◌, ◌≢◌, ◌&&◌, ◌*◌, ◌+◌, ◌-◌, ◌<◌, ◌≤◌, ◌^◌, ◌↔◌, ◌∷◌, ℕ, [], IfErr, List, None, OnErr, OnOk, Option, Err, Ok, false, length, nat_le, true};
 ghost use Rattle.ion_meter.specs.Counts.{Shrinks};
-ghost use Rattle.ion_meter.specs.declared.fault.Fault.TheVariants.{Memory};
-ghost use Rattle.ion_value.specs.Shares.{Charges, fault_of};
+ghost use Rattle.ion_meter.specs.Limits.{AreChecked};
+ghost use Rattle.ion_meter.specs.declared.fault.Fault.TheVariants.{Memory, Refused};
+ghost use Rattle.ion_meter.specs.declared.fault.Reason.{Reason};
+ghost use Rattle.ion_value.specs.declared.ion_type.Kind.TheVariants as kinds;
 ghost use Rattle.ion_value.specs.Items.{raw_item};
+ghost use Rattle.ion_value.specs.Reading.{Finished, Stopped};
+ghost use Rattle.ion_value.specs.Shares.{Charges, ReadCauses, fault_of};
 ghost use Rattle.ion_symbols.specs.Table as tables;
 ghost use Rattle.ion_symbols.specs.Table.{Shared, most_slots, table_cost, text_at};
-ghost use Rattle.ion_symbols.specs.Declaration.{area_turn, at, element_turn, head_told, held, import_of, imports_turn, is_ignored, keeping, named, next, on, part_turn, passed, start, told, turn};
-ghost use Rattle.ion_symbols.specs.Buffer.{FoundAs, GrowthCauses, IsPending, TurnAs, declaring_of, import_end_turn, own_of, pending_of, told_of, what_of};
+ghost use Rattle.ion_symbols.specs.Declaration.{area_turn, at, element_turn, head_told, held, imports_turn, keeping, named, next, on, part_turn, passed, start, told, turn};
+ghost use Rattle.ion_symbols.specs.Users.{declaring, plain, users};
+ghost use Rattle.ion_symbols.specs.Buffer.{GrowthCauses, IsPending, TurnAs, declaring_of, depth_of, import_end_turn, own_of, pending_of, told_of, what_of};
 
-use crate::catalog::Catalog;
-use crate::slots::Slots;
+use crate::catalog::Import;
+use crate::checks::check_item;
+use crate::slots::{MOST_SLOTS, Slots};
 use crate::symbols::{Found, IMPORT_COST, Symbols};
 use crate::told::{Told, What, tell};
 use crate::word::{Area, Word};
 use ion_meter::buf::Buf;
 use ion_meter::fault::{Fault, Reason};
+use ion_meter::limits::Limits;
 use ion_meter::meter::Meter;
 use ion_meter::table::Table;
 use ion_value::ion_type::Kind;
 use ion_value::item::{Head, Item};
 use ion_value::names::NoNames;
+use ion_value::reader::RawReader;
 use std::alloc::Allocator;
-
-/// The most slots behind the system ones: the greatest id is 2^31 - 1.
-const MOST_SLOTS: u64 = 2_147_483_638;
 
 /// The cost of a slot besides its text, in counted bytes.
 const SLOT_COST: u64 = 16;
@@ -81,8 +86,59 @@ impl Entry {
 }
 
 impl<A: Allocator + Copy> SymbolBuffer<A> {
+    /// Reads a declaration whose beginning the raw reader has taken, and puts the table that it
+    /// leaves in place of the present one.
+    ///
+    /// It answers false where the reader ends inside of the declaration. It refuses an id above the
+    /// present table with `BadSymbol`, a field that stands twice and a shared table that is not there
+    /// with `BadTable`, and what passes the limit on symbol tables with `SymbolLimit`; the reader's
+    /// faults are passed on. Where it does not answer true, the present table stays, and what was
+    /// read of the other is given back. At no moment do the two hold more than twice the limit.
+    pub fn read<R: RawReader<A>>(
+        meter: &mut Meter<A>,
+        limits: Limits,
+        raw: &mut R,
+        symbols: &mut Symbols<'_, A>,
+    ) -> Result<bool, Fault>
+        requires room { meter.old.held ≤ 2 ^ 61 + (2 ^ 60 + 2 ^ 33) }
+        requires held { R.own raw.old + table_cost symbols.old.table ≤ meter.old.held }
+        requires countable { meter.old.refused < 2 ^ 64 - 1 }
+        requires limits { AreChecked limits × (table_cost symbols.old.table ≤ limits.symbols) }
+        requires sound { R.sound raw.old }
+        requires level { R.opened raw.old ≡ kinds.Struct ∷ [] }
+        ensures sound { R.sound raw.new }
+        ensures tells { R.tells raw.new ↔ R.tells raw.old }
+        ensures gives { R.tells raw.old → result ≡ Ok true
+            → users symbols.old.catalog limits.symbols (record { table = symbols.old.table; mode = declaring start }) (R.reading raw.old)
+            ≡ users symbols.old.catalog limits.symbols (record { table = symbols.new.table; mode = plain 0 }) (R.reading raw.new) }
+        ensures ends { R.tells raw.old → result ≡ Ok false
+            → (users symbols.old.catalog limits.symbols (record { table = symbols.old.table; mode = declaring start }) (R.reading raw.old) ≡ Finished) × (R.reading raw.new ≡ Finished) }
+        ensures refuses { R.tells raw.old → R.failed raw.old ≡ None → (r : Reason) (p : ℕ) → result ≡ Err (Refused r p)
+            → users symbols.old.catalog limits.symbols (record { table = symbols.old.table; mode = declaring start }) (R.reading raw.old) ≡ Stopped r p }
+        ensures catalog { symbols.new.catalog ≡ symbols.old.catalog }
+        ensures leaves { result ≢ Ok true → symbols.new ≡ symbols.old }
+        ensures cheap { table_cost symbols.new.table ≤ limits.symbols }
+        ensures level { result ≡ Ok true → R.opened raw.new ≡ [] }
+        ensures ended { result ≡ Ok false → R.ended raw.new }
+        ensures fresh { OnOk result (R.failed raw.new ≡ None) }
+        ensures falls { result ≡ Ok true → R.left raw.new < R.left raw.old }
+        ensures causes { R.failed raw.old ≡ None → ReadCauses (fault_of result) meter.old meter.new (R.failures raw.old) (R.failures raw.new) (R.exceeds raw.old) }
+        ensures exceeds { R.exceeds raw.new ↔ R.exceeds raw.old }
+        ensures kept { (R.depth raw.new ≡ R.depth raw.old) × (R.most raw.new ≡ R.most raw.old) }
+        ensures charges { Charges meter.old meter.new (R.own raw.old + table_cost symbols.old.table) (R.own raw.new + table_cost symbols.new.table) (R.most raw.old + 2 * limits.symbols) }
+    {
+        let mut buffer = SymbolBuffer::new(meter);
+        let outcome = gather(meter, limits.symbols, raw, symbols, &mut buffer);
+        if let Ok(true) = outcome {
+            buffer.install(meter, limits.symbols, symbols)?;
+            return Ok(true);
+        }
+        buffer.release(meter);
+        outcome
+    }
+
     // A declaration of which nothing was read. It takes no memory.
-    pub(crate) fn new(meter: &Meter<A>) -> Self
+    fn new(meter: &Meter<A>) -> Self
         ensures pending { (limit : ℕ) (old : tables.Table) → IsPending limit old result }
         ensures start { (catalog : List Shared) → declaring_of catalog result ≡ start }
         ensures own { own_of result ≡ 0 }
@@ -357,8 +413,7 @@ impl<A: Allocator + Copy> SymbolBuffer<A> {
     {
         self.area = Area::Imports;
         let length = self.name.as_slice().len() as u64;
-        let found = find_import(
-            symbols.catalog(),
+        let found = symbols.catalog().find_import(
             self.name.as_slice(),
             self.entry.version,
             self.entry.max_id,
@@ -391,7 +446,7 @@ impl<A: Allocator + Copy> SymbolBuffer<A> {
     }
 
     // Takes the next item of the declaration in; true as it ends.
-    pub(crate) fn take(
+    fn take(
         &mut self,
         meter: &mut Meter<A>,
         limit: u64,
@@ -446,8 +501,55 @@ impl<A: Allocator + Copy> SymbolBuffer<A> {
         }
     }
 
+    // Puts the table that was read behind the present one where that is kept, else in its place.
+    // Where memory is refused, that one stays; this one is given back.
+    fn install(
+        self,
+        meter: &mut Meter<A>,
+        limit: u64,
+        symbols: &mut Symbols<'_, A>,
+    ) -> Result<(), Fault>
+        requires room { meter.old.held ≤ 2 ^ 62 }
+        requires held { table_cost symbols.old.table + own_of self ≤ meter.old.held }
+        requires countable { meter.old.refused < 2 ^ 64 - 1 }
+        requires limit { (limit ≤ 2 ^ 30) × (table_cost symbols.old.table ≤ limit) }
+        requires pending { IsPending limit symbols.old.table self }
+        requires nameless { self.name ≡ [] }
+        ensures table { OnOk result (symbols.new.table ≡ next symbols.old.table (pending_of symbols.old.catalog self)) }
+        ensures cheap { table_cost symbols.new.table ≤ limit }
+        ensures err { OnErr result (symbols.new ≡ symbols.old) }
+        ensures catalog { symbols.new.catalog ≡ symbols.old.catalog }
+        ensures memory { IfErr result (λ fault. (fault ≡ Memory) × (meter.old.refused < meter.new.refused)) }
+        ensures counted { OnOk result (meter.new.refused ≡ meter.old.refused) }
+        ensures charges { Charges meter.old meter.new (table_cost symbols.old.table + own_of self) (table_cost symbols.new.table) (2 * limit) }
+    {
+        let SymbolBuffer {
+            area: _,
+            inside: _,
+            has_imports: _,
+            has_symbols: _,
+            keeps,
+            imports,
+            import_slots,
+            slots,
+            cost: _,
+            count: _,
+            entry: _,
+            name,
+        } = self;
+        name.release(meter);
+        if !keeps {
+            symbols.replace(meter, imports, import_slots, slots);
+            return Ok(());
+        }
+        let outcome = symbols.append(meter, &slots);
+        imports.release(meter);
+        slots.release(meter);
+        outcome
+    }
+
     // Gives all back.
-    pub(crate) fn release(self, meter: &mut Meter<A>)
+    fn release(self, meter: &mut Meter<A>)
         requires { own_of self ≤ meter.old.held }
         ensures { Shrinks meter.old meter.new (own_of self) }
     {
@@ -471,42 +573,52 @@ impl<A: Allocator + Copy> SymbolBuffer<A> {
     }
 }
 
-// What an import found.
-#[derive(Clone, Copy, Debug, PartialEq, Eq)]
-pub(crate) enum Import {
-    // It means nothing.
-    Ignored,
-    // It asks for a table that is not there.
-    Missing,
-    // The place of a table, if there is one, and a number of slots; more than there are ids stand
-    // for all such numbers.
-    Slots(Option<usize>, u64),
-}
-
-// What an import of this name, version and greatest id finds.
-fn find_import<A: Allocator + Copy>(
-    catalog: &Catalog<A>,
-    name: &[u8],
-    version: u128,
-    max_id: Option<u128>,
-) -> Import
-    ensures { FoundAs catalog.now (is_ignored name.now) (import_of catalog.now name.now version max_id) result }
+// Takes the items of a declaration in up to its end; false where the reader ends inside of it.
+fn gather<R: RawReader<A>, A: Allocator + Copy>(
+    meter: &mut Meter<A>,
+    limit: u64,
+    raw: &mut R,
+    symbols: &Symbols<'_, A>,
+    buffer: &mut SymbolBuffer<A>,
+) -> Result<bool, Fault>
+    requires room { meter.old.held ≤ 2 ^ 61 + (2 ^ 60 + 2 ^ 33) }
+    requires held { R.own raw.old + own_of buffer.old ≤ meter.old.held }
+    requires countable { meter.old.refused < 2 ^ 64 - 1 }
+    requires limit { (limit ≤ 2 ^ 30) × (table_cost symbols.now.table ≤ limit) }
+    requires sound { R.sound raw.old }
+    requires pending { IsPending limit symbols.now.table buffer.old }
+    requires level { length (R.opened raw.old) ≡ depth_of (declaring_of symbols.now.catalog buffer.old) }
+    ensures sound { R.sound raw.new }
+    ensures pending { OnOk result (IsPending limit symbols.now.table buffer.new) }
+    ensures nameless { result ≡ Ok true → buffer.new.name ≡ [] }
+    ensures tells { R.tells raw.new ↔ R.tells raw.old }
+    ensures gives { R.tells raw.old → result ≡ Ok true
+        → users symbols.now.catalog limit (record { table = symbols.now.table; mode = declaring (declaring_of symbols.now.catalog buffer.old) }) (R.reading raw.old)
+        ≡ users symbols.now.catalog limit (record { table = next symbols.now.table (pending_of symbols.now.catalog buffer.new); mode = plain 0 }) (R.reading raw.new) }
+    ensures ends { R.tells raw.old → result ≡ Ok false
+        → (users symbols.now.catalog limit (record { table = symbols.now.table; mode = declaring (declaring_of symbols.now.catalog buffer.old) }) (R.reading raw.old) ≡ Finished) × (R.reading raw.new ≡ Finished) }
+    ensures refuses { R.tells raw.old → R.failed raw.old ≡ None → (r : Reason) (p : ℕ) → result ≡ Err (Refused r p)
+        → users symbols.now.catalog limit (record { table = symbols.now.table; mode = declaring (declaring_of symbols.now.catalog buffer.old) }) (R.reading raw.old) ≡ Stopped r p }
+    ensures level { result ≡ Ok true → R.opened raw.new ≡ [] }
+    ensures ended { result ≡ Ok false → R.ended raw.new }
+    ensures fresh { OnOk result (R.failed raw.new ≡ None) }
+    ensures counted { OnOk result (meter.new.refused ≡ meter.old.refused) }
+    ensures falls { result ≡ Ok true → R.left raw.new < R.left raw.old }
+    ensures causes { R.failed raw.old ≡ None → ReadCauses (fault_of result) meter.old meter.new (R.failures raw.old) (R.failures raw.new) (R.exceeds raw.old) }
+    ensures exceeds { R.exceeds raw.new ↔ R.exceeds raw.old }
+    ensures kept { (R.depth raw.new ≡ R.depth raw.old) × (R.most raw.new ≡ R.most raw.old) }
+    ensures charges { Charges meter.old meter.new (R.own raw.old + own_of buffer.old) (R.own raw.new + own_of buffer.new) (R.most raw.old + limit) }
 {
-    if name.is_empty() || name == b"$ion".as_slice() {
-        return Import::Ignored;
-    }
-    let exact = catalog.place_of(name, version);
-    match max_id {
-        None => match exact {
-            None => Import::Missing,
-            Some(place) => Import::Slots(exact, catalog.count_at(place)),
-        },
-        Some(most) => {
-            let count = most.min(MOST_SLOTS as u128 + 1) as u64;
-            match exact {
-                Some(_) => Import::Slots(exact, count),
-                None => Import::Slots(catalog.greatest(name), count),
-            }
+    'items: while raw.next(meter)? {
+        let item = raw.item();
+        if let Err(fault) = check_item(symbols, false, &item) {
+            return Err(fault);
+        }
+        match buffer.take(meter, limit, symbols, &item) {
+            Ok(false) => {}
+            Ok(true) => return Ok(true),
+            Err(fault) => return Err(fault),
         }
     }
+    Ok(false)
 }

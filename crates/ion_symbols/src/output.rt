@@ -7,7 +7,8 @@ ghost use Rattle.ion_value.specs.Shares.{Charges};
 ghost use Rattle.ion_symbols.specs.Output.{Belongs, IsSorted, binary_digits, id_given, known_id, probes_for, system_id, texts_cost};
 ghost use Rattle.ion_value.specs.Items.{is_none_left};
 
-use crate::search::{Place, Search, place_of};
+use crate::ordered::{Place, Search};
+use crate::search::place_of;
 use ion_meter::buf::Buf;
 use ion_meter::fault::Fault;
 use ion_meter::limits::Limits;

@@ -12,6 +12,9 @@ use ion_meter::stack::Stack;
 use std::alloc::Allocator;
 use std::marker::Model;
 
+/// The most slots behind the system ones: the greatest id is 2^31 - 1.
+pub(crate) const MOST_SLOTS: u64 = 2_147_483_638;
+
 /// Where a slot's text stands among bytes, and whether it has one.
 #[derive(Clone, Copy, Debug, PartialEq, Eq)]
 pub(crate) struct Part {

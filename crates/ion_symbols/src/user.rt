@@ -13,9 +13,9 @@ ghost use Rattle.ion_symbols.specs.Table.{system, table_cost, text_at};
 ghost use Rattle.ion_symbols.specs.Users.{begins_declaration, level_after};
 ghost use Rattle.ion_symbols.specs.User.{IsReady, MayCome, coming_to, lent_by, owned_by, share_of};
 
+use crate::buffer::SymbolBuffer;
 use crate::catalog::Catalog;
 use crate::checks::check_item;
-use crate::declaration::replace;
 use crate::symbols::Symbols;
 use crate::told::word_in;
 use crate::word::Word;
@@ -182,7 +182,7 @@ impl<'c, R: RawReader<A>, A: Allocator + Copy> UserReader<'c, R, A> {
             if let Err(fault) = check_item(&self.symbols, false, &item) {
                 return Err(fault);
             }
-            return match replace(meter, self.limits, &mut self.raw, &mut self.symbols) {
+            return match SymbolBuffer::read(meter, self.limits, &mut self.raw, &mut self.symbols) {
                 Err(fault) => Err(fault),
                 Ok(false) => Ok(Taken::Ended),
                 Ok(true) => Ok(Taken::Passed),

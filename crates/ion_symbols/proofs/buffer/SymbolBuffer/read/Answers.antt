@@ -1,6 +1,6 @@
 use Rattle.std.proofs.Common.{ap, sym, ◌∙◌, length}
 use Rattle.ion_symbols.specs.Buffer.{depth_of}
-use Rattle.ion_symbols.proofs.declaration.replace.Goals as goal
+use Rattle.ion_symbols.proofs.buffer.SymbolBuffer.read.Goals as goal
 
 pub gather-outcome-requires-clause-pending : goal.gather-outcome-requires-clause-pending
 gather-outcome-requires-clause-pending g c = c.new-buffer.ensures.pending c.args.limits.symbols c.args.symbols.now.table

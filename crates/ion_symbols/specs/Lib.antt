@@ -8,5 +8,6 @@ pub mod Kept
 pub mod Catalogue
 pub mod Present
 pub mod Buffer
+pub mod Steps
 pub mod User
 pub mod Ordered

@@ -79,11 +79,13 @@ impl<A: Allocator + Copy> Catalog<A> {
     ) -> Result<(), (SharedTable<A>, Fault)>
         requires room { meter.old.held + 32 < 2 ^ 63 }
         requires countable { meter.old.refused < 2 ^ 64 - 1 }
-        ensures ok { OnOk result ((self.new ≡ self.old ++ table ∷ []) × (may_stand self.old table ≡ true)) }
+        ensures ok { OnOk result ((self.new ≡ self.old ++ table ∷ [])
+            × (may_stand self.old table ≡ true)) }
         ensures cost { OnOk result (Grows meter.old meter.new 32) }
         ensures returned { IfErr result (λ failed. failed.0 ≡ table) }
         ensures err { OnErr result (self.new ≡ self.old) }
-        ensures why { IfErr result (λ failed. WhyNotAdded self.old table meter.old meter.new failed.1) }
+        ensures why { IfErr result
+            (λ failed. WhyNotAdded self.old table meter.old meter.new failed.1) }
     {
         if !self.may_take(&table) {
             return Err((table, Fault::Refused(Reason::CatalogEntry, 0)));
@@ -105,7 +107,8 @@ impl<A: Allocator + Copy> Catalog<A> {
 
     /// The table of this name and version, if there is one.
     pub fn find(&self, name: &str, version: u32) -> Option<&SharedTable<A>>
-        ensures { MatchOption result (find self.now name.now version ≡ None) (λ table. find self.now name.now version ≡ Some table.now) }
+        ensures { MatchOption result (find self.now name.now version ≡ None)
+            (λ table. find self.now name.now version ≡ Some table.now) }
     {
         let place = self.place_of(name.as_bytes(), version as u128)?;
         self.get(place)
@@ -158,7 +161,8 @@ impl<A: Allocator + Copy> Catalog<A> {
 
     // Whether it is none, or a table of a smaller version.
     fn is_less(&self, best: Option<usize>, version: u32) -> bool
-        ensures { MatchOption best (result ≡ true) (λ b. MatchOption (slice_get self.now b) (result ≡ true) (λ s. result ≡ nat_lt s.version version)) }
+        ensures { MatchOption best (result ≡ true) (λ b. MatchOption (slice_get self.now b)
+            (result ≡ true) (λ s. result ≡ nat_lt s.version version)) }
     {
         match best {
             None => true,
@@ -172,7 +176,8 @@ impl<A: Allocator + Copy> Catalog<A> {
     // The table at a place, if there is one.
     #[inline]
     pub(crate) fn get(&self, place: usize) -> Option<&SharedTable<A>>
-        ensures { MatchOption result (slice_get self.now place ≡ None) (λ table. slice_get self.now place ≡ Some table.now) }
+        ensures { MatchOption result (slice_get self.now place ≡ None)
+            (λ table. slice_get self.now place ≡ Some table.now) }
     {
         self.tables.as_slice().get(place)
     }
@@ -189,7 +194,8 @@ impl<A: Allocator + Copy> Catalog<A> {
 
     // What an import of this name, version and greatest id finds.
     pub(crate) fn find_import(&self, name: &[u8], version: u128, max_id: Option<u128>) -> Import
-        ensures { FoundAs self.now (is_ignored name.now) (import_of self.now name.now version max_id) result }
+        ensures { FoundAs self.now (is_ignored name.now)
+            (import_of self.now name.now version max_id) result }
     {
         if name.is_empty() || name == b"$ion".as_slice() {
             return Import::Ignored;

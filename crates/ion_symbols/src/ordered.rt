@@ -36,7 +36,10 @@ impl<'a> Model for Search<'a> {
 
     ghost Value = { Searched };
 
-    ghost view = { λ s. record { texts = ordered_texts s.bytes.now s.places.now s.order.now; probes = s.probes } };
+    ghost view = { λ s. record {
+      texts = ordered_texts s.bytes.now s.places.now s.order.now;
+      probes = s.probes;
+    } };
 
     ghost invariant = { λ s. Ordered s.bytes.now s.places.now s.order.now };
 }
@@ -83,7 +86,8 @@ impl<'a> Search<'a> {
         requires within { place < length self.old.texts }
         requires countable { self.old.probes < 2 ^ 32 - 1 }
         ensures ascend { Ascend self.old.texts }
-        ensures order { MatchOption (slice_get self.old.texts place) ⊥ (λ kept. result ≡ text_cmp kept text.now) }
+        ensures order { MatchOption (slice_get self.old.texts place) ⊥
+            (λ kept. result ≡ text_cmp kept text.now) }
         ensures texts { self.new.texts ≡ self.old.texts }
         ensures probes { self.new.probes ≡ self.old.probes + 1 }
     {

@@ -76,7 +76,8 @@ impl<A: Allocator + Copy> Slots<A> {
     #[inline(always)]
     pub(crate) fn get(&self, i: usize) -> Option<&[u8]>
         requires { i < length self.now }
-        ensures { MatchOption result (slice_get self.now i ≡ Some None) (λ t. slice_get self.now i ≡ Some (Some t.now)) }
+        ensures { MatchOption result (slice_get self.now i ≡ Some None)
+            (λ t. slice_get self.now i ≡ Some (Some t.now)) }
     {
         let part = self.parts.as_slice()[i];
         if part.known {

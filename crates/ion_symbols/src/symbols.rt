@@ -63,7 +63,10 @@ impl<'c, A: Allocator + Copy> Model for Symbols<'c, A> {
 
     ghost Value = { Present };
 
-    ghost view = { λ s. record { table = record { imports = imports_in s.catalog.now s.imports.items; locals = s.slots }; catalog = s.catalog.now } };
+    ghost view = { λ s. record {
+      table = record { imports = imports_in s.catalog.now s.imports.items; locals = s.slots };
+      catalog = s.catalog.now;
+    } };
 
     ghost invariant = { λ s. IsKept s.imports.items s.imports.cost s.import_slots s.slots };
 }
@@ -124,7 +127,8 @@ fn shared<A: Allocator + Copy>(catalog: &Catalog<A>, table: Option<usize>, place
 // The import that a slot stands in: the last that begins at it or before.
 fn import_at(imports: &[Found], place: u64) -> usize
     requires { (end : ℕ) × (Starts 0 imports.now end × (place < end)) }
-    ensures { MatchOption (slice_get imports.now result) ⊥ (λ f. (f.start ≤ place) × (place < f.start + f.count)) }
+    ensures { MatchOption (slice_get imports.now result) ⊥
+        (λ f. (f.start ≤ place) × (place < f.start + f.count)) }
 {
     let mut low = 0;
     let mut high = imports.len();
@@ -147,7 +151,8 @@ fn imported<'a, A: Allocator + Copy>(
     place: u64,
 ) -> Slot<'a>
     requires { (end : ℕ) × (Starts 0 imports.now end × (place < end)) }
-    ensures { (locals : tables.Slots) → slot_told result ≡ slot_in (imports_in catalog.now imports.now) locals place }
+    ensures { (locals : tables.Slots)
+        → slot_told result ≡ slot_in (imports_in catalog.now imports.now) locals place }
 {
     let found = imports[import_at(imports, place)];
     shared(catalog, found.table, place - found.start)
@@ -242,7 +247,8 @@ impl<'c, A: Allocator + Copy> Symbols<'c, A> {
     )
         requires kept { IsKept imports.items imports.cost import_slots slots }
         requires held { table_cost self.old.table ≤ meter.old.held }
-        ensures table { self.new ≡ record self.old { table = kept_table self.old.catalog imports.items slots } }
+        ensures table { self.new
+            ≡ record self.old { table = kept_table self.old.catalog imports.items slots } }
         ensures cost { Shrinks meter.old meter.new (table_cost self.old.table) }
     {
         let mut imports = imports;

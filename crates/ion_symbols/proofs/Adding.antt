@@ -4,7 +4,7 @@ use Rattle.std.specs.List.{insert}
 use Rattle.std.proofs.lemmas.List.{length-map, length_push}
 use Rattle.ion_meter.specs.Counts.{Counts, Grows}
 use Rattle.ion_value.specs.Shares.{Charges}
-use Rattle.ion_symbols.specs.declared.search.Place.{Place}
+use Rattle.ion_symbols.specs.declared.ordered.Place.{Place}
 use Rattle.ion_symbols.specs.Output.{Belongs, IsSorted, texts_cost, known_id, id_or_new, id_given}
 use Rattle.ion_symbols.specs.Ordered.{texts_in, ordered_texts, Orders, Follow, Ordered, IsWithin}
 use Rattle.ion_symbols.proofs.OutputTexts.{kept_cost, texts_push, follow_push, cost_push}

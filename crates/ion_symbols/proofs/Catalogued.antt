@@ -3,7 +3,7 @@ use Rattle.std.proofs.Common.{◌≡◌, ℕ, suc, ◌+◌, ◌*◌, ◌++◌, �
 use Rattle.std.specs.Str.{bytes_eq}
 use Rattle.std.proofs.lemmas.Bool.{true≢false}
 use Rattle.ion_symbols.specs.Table.{Shared, shared_cost, catalog_cost, is_table, find, greater, greatest, greatest_from}
-use Rattle.ion_symbols.specs.Kept.{Points}
+use Rattle.ion_symbols.specs.Catalogue.{Points}
 use Rattle.ion_symbols.proofs.Listed.{left_at, got_at}
 
 -- a table of this name and version at a place

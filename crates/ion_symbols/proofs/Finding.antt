@@ -4,7 +4,7 @@ use Rattle.std.proofs.lemmas.List.{length-map}
 use Rattle.std.proofs.lemmas.Option.{slice_get_within}
 use Rattle.ion_meter.specs.Counts.{Counts}
 use Rattle.ion_value.specs.Shares.{Charges}
-use Rattle.ion_symbols.specs.declared.search.Place.{Place}
+use Rattle.ion_symbols.specs.declared.ordered.Place.{Place}
 use Rattle.ion_symbols.specs.Output.{Belongs, IsSorted, probes_for, texts_cost, position, system_id, or_given, known_id, id_or_new, id_given}
 use Rattle.ion_symbols.specs.Ordered.{texts_in, ordered_texts, Ordered, IsWithin}
 use Rattle.ion_symbols.proofs.Orders.{orders_sorted, one_sorted, found_position, belongs_none}

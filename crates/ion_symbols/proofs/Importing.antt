@@ -12,16 +12,6 @@ no_import = record { table = None; start = 0; count = 0 }
 abbrev pub start_at : List Found → ℕ → ℕ
 start_at fs i = (slice_index_or fs i no_import).start
 
--- there is an import where there is a slot
-pub some_import : (fs : List Found) (end place : ℕ) → Starts 0 fs end → place < end → 0 < length fs
-some_import [] end place h k = absurd (omega (arith, h, k))
-some_import (f ∷ fs) end place h k = omega arith
-
--- the first import begins where all begin
-pub first_start : (from : ℕ) (fs : List Found) (end : ℕ) → Starts from fs end → 0 < length fs → start_at fs 0 ≡ from
-first_start from [] end h k = absurd (omega (arith, k))
-first_start from (f ∷ fs) end h k = h.0
-
 -- the last import that begins at a place or before ends behind it
 pub ends_behind : (from : ℕ) (fs : List Found) (end i place : ℕ) → Starts from fs end → i < length fs → place < end →
     (suc i < length fs → place < start_at fs (suc i)) → place < start_at fs i + (slice_index_or fs i no_import).count

@@ -33,11 +33,6 @@ tile_at d from [] len i h k = (omega (arith, k), omega (arith, k))
 tile_at d from (p ∷ ps) len zero h k = let w : p.to ≤ len = tiles_within p.to ps len h.1.1.1 in (omega (arith, h.0, h.1.0), w)
 tile_at d from (p ∷ ps) len (suc i) h k = tile_at d p.to ps len i h.1.1.1 (omega (arith, k))
 
-pub kept_at : (d : Part) (texts : List ℕ) (ps : List Part) (i : ℕ) → i < length ps → slice_get (kept_slots texts ps) i ≡ Some (kept_slot texts (slice_index_or ps i d))
-kept_at d texts [] i k = absurd (omega (arith, k))
-kept_at d texts (p ∷ ps) zero k = refl
-kept_at d texts (p ∷ ps) (suc i) k = kept_at d texts ps i (omega (arith, k))
-
 pub tiles_push : (from : ℕ) (ps : List Part) (len : ℕ) (p : Part) → Tiles from ps len → p.from ≡ len → len ≤ p.to → (p.known ≡ false → p.to ≡ len) → Tiles from (ps ++ p ∷ []) p.to
 tiles_push from [] len p h a b c = (a ∙ sym h, (omega (arith, h, b), ((λ u. c u ∙ sym h), refl)))
 tiles_push from (q ∷ ps) len p h a b c = (h.0, (h.1.0, (h.1.1.0, tiles_push q.to ps len p h.1.1.1 a b c)))
@@ -85,10 +80,6 @@ cost_push xs x = let r = cost_append xs (x ∷ []) in omega (arith, r)
 pub kept_count : (texts : List ℕ) (ps : List Part) → length (kept_slots texts ps) ≡ length ps
 kept_count texts [] = refl
 kept_count texts (p ∷ ps) = ap suc (kept_count texts ps)
-
--- a slot without a text more
-pub kept_none : (texts : List ℕ) (ps : List Part) (a b : ℕ) → kept_slots texts (ps ++ record { from = a; to = b; known = false } ∷ []) ≡ kept_slots texts ps ++ None ∷ []
-kept_none texts ps a b = kept_append texts ps (record { from = a; to = b; known = false } ∷ [])
 
 -- what a push of a text leaves: the parts tile the longer texts, and there is one slot more
 pub pushed_tiles : (texts t texts2 : List ℕ) (ps ps2 : List Part) (from : ℕ) → Tiles 0 ps (length texts) → from ≡ length texts → ps2 ≡ ps ++ record { from = from; to = from + length t; known = true } ∷ [] → texts2 ≡ texts ++ t → Tiles 0 ps2 (length texts2)

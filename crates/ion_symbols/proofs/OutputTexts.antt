@@ -3,7 +3,7 @@ use Rattle.std.proofs.Common.{◌≡◌, ℕ, ◌+◌, ◌-◌, ◌*◌, ◌<◌
 use Rattle.std.proofs.lemmas.List.{drop-append-le, take-append-le, length-map, map-append, get_or-map, take_rest, drop_min, drop-map}
 use Rattle.std.proofs.lemmas.List.Elements.{All-nil, All-cons, All-take, All-drop}
 use Rattle.std.proofs.Math.Seq.{drop-append_seam, take-length}
-use Rattle.ion_symbols.specs.declared.search.Place.{Place}
+use Rattle.ion_symbols.specs.declared.ordered.Place.{Place}
 use Rattle.ion_symbols.specs.Output.{texts_cost}
 use Rattle.ion_symbols.specs.Ordered.{place_text, texts_in, ordered_texts, Follow, From, Ordered, IsWithin}
 

@@ -1,20 +1,19 @@
 -- A declaration as it is kept while it is read, and what its calls answer.
-use Rattle.std.specs.Prelude.{◌≡◌, ℕ, ◌+◌, ◌*◌, ◌<◌, ◌≤◌, Bool, true, false, List, [], length, Option, Some, None, Result, Ok, Err, ⊤, ◌⊎◌}
+use Rattle.std.specs.Prelude.{◌≡◌, ◌≢◌, ℕ, ◌+◌, ◌-◌, ◌*◌, ◌^◌, ◌<◌, ◌≤◌, Bool, true, false, List, [], length, Option, Some, None, Result, Ok, Err, ⊤}
 use Rattle.ion_meter.specs.Counts.{Counts}
 use Rattle.ion_meter.specs.declared.fault.Fault.{Fault}
 use Rattle.ion_meter.specs.declared.fault.Fault.TheVariants.{Refused, Memory, ReadFault, WriteFault, InputLimit}
-use Rattle.ion_symbols.specs.Table.{Shared, Import, Table, most_slots, slots_cost, table_cost, count_of}
-use Rattle.ion_symbols.specs.Present.{Starts, imports_in, slots_at}
+use Rattle.ion_symbols.specs.Table.{Shared, Table, most_slots, slots_cost, table_cost, count_of}
+use Rattle.ion_value.specs.Shares.{Charges, fault_of}
+use Rattle.ion_symbols.specs.Present.{Present, Starts, imports_in}
 use Rattle.ion_symbols.specs.Declaration as d
-use Rattle.ion_symbols.specs.Declaration.{Pending, Declaring, Held, Told, Turn, on, made, stop, held, at, import_ended}
+use Rattle.ion_symbols.specs.Declaration.{Ground, Pending, Declaring, Told, Turn, next, on, made, stop, held, at, import_ended}
 use Rattle.ion_symbols.specs.declared.word.Area.{Area}
 use Rattle.ion_symbols.specs.declared.word.Area.TheVariants as area
 use Rattle.ion_symbols.specs.declared.told.What.{What}
 use Rattle.ion_symbols.specs.declared.told.What.TheVariants as what
 use Rattle.ion_symbols.specs.declared.told.Told as code
 use Rattle.ion_symbols.specs.declared.buffer.SymbolBuffer.{SymbolBuffer}
-use Rattle.ion_symbols.specs.declared.buffer.Import as found
-use Rattle.ion_symbols.specs.declared.buffer.Import.TheVariants as finds
 
 abbrev pub what_of : What → d.What
 what_of (what.Begins kind) = d.begins kind
@@ -79,15 +78,6 @@ pub record IsPending {A : Type 0} (limit : ℕ) (old : Table) (b : SymbolBuffer 
   pub importing : is_importing b.area ≡ true → (b.has_imports ≡ true) × (b.keeps ≡ false)
   pub alone : b.keeps ≡ true → b.imports.items ≡ []
 
--- what a call answers that leaves a pending table
-abbrev pub HeldAs : Held → Result Unit Fault → Pending → Type 0
-HeldAs h (Ok done) p = h ≡ Ok p
-HeldAs h (Err (Refused reason place)) p = h ≡ Err (reason, place)
-HeldAs h (Err Memory) p = ⊤
-HeldAs h (Err ReadFault) p = ⊥
-HeldAs h (Err WriteFault) p = ⊥
-HeldAs h (Err InputLimit) p = ⊥
-
 -- what a call answers for an item: true as the declaration ends
 abbrev pub TurnAs : Turn → Result Bool Fault → Declaring → Table → Type 0
 TurnAs t (Ok false) d u = t ≡ on d
@@ -117,13 +107,43 @@ depth_of d = area_depth d.area + d.inside
 abbrev pub import_end_turn : d.Ground → Pending → Turn
 import_end_turn g p = held (import_ended g p) (λ q. on (at area.Imports q))
 
--- a number of slots, where more than there are ids is that or any more
-abbrev pub CountAs : ℕ → ℕ → Type 0
-CountAs asked count = (asked ≡ count) ⊎ ((most_slots < asked) × (most_slots < count))
+-- ---- what is seen of a declaration by the table before it
 
--- what was found is what the import stands for
-abbrev pub FoundAs : List Shared → Bool → Option Import → found.Import → Type 0
-FoundAs catalog ignored i finds.Ignored = ignored ≡ true
-FoundAs catalog ignored i finds.Missing = (ignored ≡ false) × (i ≡ None)
-FoundAs catalog ignored None (finds.Slots table count) = ⊥
-FoundAs catalog ignored (Some i) (finds.Slots table count) = (ignored ≡ false) × ((i.slots ≡ slots_at catalog table) × CountAs i.count count)
+-- what it is read by, with a limit
+abbrev pub ground_in : Present → ℕ → Ground
+ground_in now limit = record { catalog = now.catalog; limit = limit; old = now.table }
+
+abbrev pub pending_in : {A : Type 0} → Present → SymbolBuffer A → Pending
+pending_in now b = pending_of now.catalog b
+
+abbrev pub declaring_in : {A : Type 0} → Present → SymbolBuffer A → Declaring
+declaring_in now b = declaring_of now.catalog b
+
+-- the table that it leaves
+abbrev pub table_left : {A : Type 0} → Present → SymbolBuffer A → Table
+table_left now b = next now.table (pending_in now b)
+
+-- a call answers a turn, and leaves this
+abbrev pub TurnGives : {A : Type 0} → Present → Turn → Result Bool Fault → SymbolBuffer A → Type 0
+TurnGives now t result new = TurnAs t result (declaring_in now new) (table_left now new)
+
+-- ---- calls
+
+-- a call that may hold more can be made
+pub record CanTake {A : Type 0} (most : ℕ) (now : Present) (b : SymbolBuffer A) (meter : Counts) : Type 0 where
+  pub room : meter.held ≤ 2 ^ 62
+  pub held : own_of b ≤ meter.held
+  pub countable : meter.refused < 2 ^ 64 - 1
+  pub small : most ≤ 2 ^ 30
+  pub pending : IsPending most now.table b
+
+-- what it does to the meter
+pub record Takes {A : Type 0} (most : ℕ) (old new : SymbolBuffer A) (before after : Counts) (result : Result Bool Fault) : Type 0 where
+  pub causes : GrowthCauses (fault_of result) before after
+  pub charges : Charges before after (own_of old) (own_of new) most
+
+-- a call that holds no more
+pub record HoldsSame {A : Type 0} (old new : SymbolBuffer A) (result : Result Bool Fault) : Type 0 where
+  pub memory : result ≢ Err Memory
+  pub own : own_of new ≡ own_of old
+  pub name : new.name ≡ old.name

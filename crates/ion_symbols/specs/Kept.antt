@@ -1,10 +1,7 @@
 -- How slots are kept: the bytes of their texts, and where each stands; and how a growth is undone.
-use Rattle.std.specs.Prelude.{◌≡◌, ℕ, ◌+◌, ◌-◌, ◌≤◌, true, false, if◌then◌else◌, List, [], ◌∷◌, take, drop, map, slice_get, Option, Some, None, max, ⊤}
-use Rattle.ion_meter.specs.Counts.{Counts, IsRefused}
-use Rattle.ion_meter.specs.declared.fault.Fault.{Fault}
-use Rattle.ion_meter.specs.declared.fault.Fault.TheVariants.{Refused, Memory, ReadFault, WriteFault, InputLimit}
-use Rattle.ion_meter.specs.declared.fault.Reason.TheVariants.{CatalogEntry}
-use Rattle.ion_symbols.specs.Table.{Slots, Shared, may_stand}
+use Rattle.std.specs.Prelude.{◌≡◌, ℕ, ◌+◌, ◌-◌, ◌≤◌, true, false, if◌then◌else◌, List, [], ◌∷◌, take, drop, map, Option, Some, None, max}
+use Rattle.ion_meter.specs.Counts.{Counts}
+use Rattle.ion_symbols.specs.Table.{Slots}
 use Rattle.ion_symbols.specs.declared.slots.Part.{Part}
 
 abbrev pub kept_slot : List ℕ → Part → Option (List ℕ)
@@ -35,21 +32,6 @@ pub record Renames (old new : Counts) (before after : ℕ) : Type 0 where
   pub peak : new.peak ≤ max old.peak (max old.held new.held)
   pub rises : old.peak ≤ new.peak
   pub refused : new.refused ≡ old.refused
-
--- why a table was not added to a catalogue
-abbrev pub WhyNotAdded : List Shared → Shared → Counts → Counts → Fault → Type 0
-WhyNotAdded catalog s old new (Refused reason place) = (reason ≡ CatalogEntry) × ((place ≡ 0) × ((may_stand catalog s ≡ false) × (new ≡ old)))
-WhyNotAdded catalog s old new Memory = (may_stand catalog s ≡ true) × IsRefused old new
-WhyNotAdded catalog s old new ReadFault = ⊥
-WhyNotAdded catalog s old new WriteFault = ⊥
-WhyNotAdded catalog s old new InputLimit = ⊥
-
--- the place of the table that was found
-abbrev pub Points : List Shared → Option Shared → Option ℕ → Type 0
-Points catalog None None = ⊤
-Points catalog (Some s) (Some place) = slice_get catalog place ≡ Some s
-Points catalog None (Some place) = ⊥
-Points catalog (Some s) None = ⊥
 
 -- the text of a slot that is there and has one
 abbrev pub text_in : Option (Option (List ℕ)) → Option (List ℕ)

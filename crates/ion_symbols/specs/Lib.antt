@@ -5,7 +5,9 @@ pub mod Tree
 pub mod Output
 pub mod Laws
 pub mod Kept
+pub mod Catalogue
 pub mod Present
 pub mod Buffer
+pub mod Steps
 pub mod User
 pub mod Ordered

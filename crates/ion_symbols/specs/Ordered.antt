@@ -1,6 +1,6 @@
 -- How the texts of an output are kept: their bytes, where each stands, and their ids in order of bytes.
 use Rattle.std.specs.Prelude.{◌≡◌, ℕ, ◌+◌, ◌-◌, ◌*◌, ◌^◌, ◌<◌, ◌≤◌, List, [], ◌∷◌, length, take, drop, map, slice_get, slice_index_or, All, Some}
-use Rattle.ion_symbols.specs.declared.search.Place.{Place}
+use Rattle.ion_symbols.specs.declared.ordered.Place.{Place}
 use Rattle.ion_symbols.specs.Output.{Ascend}
 
 abbrev pub place_text : List ℕ → Place → List ℕ

@@ -1,5 +1,5 @@
 -- The present table as it is kept.
-use Rattle.std.specs.Prelude.{◌≡◌, ℕ, ◌+◌, ◌≤◌, List, [], ◌∷◌, length, map, slice_get, Option, Some, None}
+use Rattle.std.specs.Prelude.{◌≡◌, ℕ, ◌+◌, ◌≤◌, List, [], ◌∷◌, ◌++◌, length, map, slice_get, Option, Some, None}
 use Rattle.ion_symbols.specs.Table as slot
 use Rattle.ion_symbols.specs.Table.{Slot, Slots, Shared, Import, Table, count_of, most_slots}
 use Rattle.ion_symbols.specs.declared.symbols.Found.{Found}
@@ -25,6 +25,14 @@ import_in catalog f = record { slots = slots_at catalog f.table; count = f.count
 
 abbrev pub imports_in : List Shared → List Found → List Import
 imports_in catalog founds = map (import_in catalog) founds
+
+-- the table of kept imports and slots
+abbrev pub kept_table : List Shared → List Found → Slots → Table
+kept_table catalog founds slots = record { imports = imports_in catalog founds; locals = slots }
+
+-- local slots behind those that are there
+abbrev pub with_locals : Present → Slots → Present
+with_locals p more = record p { table = record p.table { locals = p.table.locals ++ more } }
 
 -- each import begins where the one before it ends
 abbrev pub Starts : ℕ → List Found → ℕ → Type 0

@@ -1,13 +1,17 @@
 -- What is seen of the reader of user values.
-use Rattle.std.specs.Prelude.{◌≡◌, ℕ, ◌+◌, ◌*◌, ◌≤◌, false, List, length, Option, None, Result, Ok, Err}
+use Rattle.std.specs.Prelude.{◌≡◌, ℕ, ◌+◌, ◌-◌, ◌*◌, ◌^◌, ◌<◌, ◌≤◌, ◌↔◌, false, List, length, Option, None, Result, Ok, Err}
 use Rattle.ion_meter.specs.declared.fault.Fault.{Fault}
 use Rattle.ion_meter.specs.declared.fault.Fault.TheVariants.{Refused}
+use Rattle.ion_meter.specs.declared.limits.Limits.{Limits}
+use Rattle.ion_meter.specs.Counts.{Counts}
 use Rattle.ion_meter.specs.Limits.{AreChecked}
 use Rattle.ion_value.specs.declared.ion_type.Kind.{Kind}
 use Rattle.ion_value.specs.Value.{PlacedItem}
+use Rattle.ion_value.specs.declared.reader.RawReader.{Ghosts as RawReaderOf}
 use Rattle.ion_value.specs.Reading.{Reading}
+use Rattle.ion_value.specs.Shares.{Charges}
 use Rattle.ion_value.specs.Standing.{Fits, is_marker, open_after}
-use Rattle.ion_symbols.specs.Table.{table_cost}
+use Rattle.ion_symbols.specs.Table.{Shared, Table, table_cost}
 use Rattle.ion_symbols.specs.Users.{Checked, fine, bad, State, plain, resolve, users}
 use Rattle.ion_symbols.specs.declared.user.UserReader.{UserReader}
 
@@ -49,3 +53,52 @@ pub record MayCome (depth : ℕ) (before after : List Kind) (item : PlacedItem) 
   pub fits : Fits depth before item
   pub value : is_marker item.head ≡ false
   pub opens : after ≡ open_after before item.head
+
+-- ---- what its calls say of it
+
+-- its raw reader, and the table, the catalogue and the limits that it goes by
+abbrev pub raw_of : {R A : Type 0} → UserReader R A → R
+raw_of u = u.raw
+
+abbrev pub table_of : {R A : Type 0} → UserReader R A → Table
+table_of u = u.symbols.table
+
+abbrev pub catalog_of : {R A : Type 0} → UserReader R A → List Shared
+catalog_of u = u.symbols.catalog
+
+abbrev pub limits_of : {R A : Type 0} → UserReader R A → Limits
+limits_of u = u.limits
+
+-- how many containers of a user value are open, and the fault that it answered
+abbrev pub level_of : {R A : Type 0} → UserReader R A → ℕ
+level_of u = u.count
+
+abbrev pub answered_by : {R A : Type 0} → UserReader R A → Option Fault
+answered_by u = u.failed
+
+-- it takes the next raw item
+pub record CanTurn {R A : Type 0} (r : RawReaderOf R A) (most : ℕ) (u : UserReader R A) (meter : Counts) : Type 0 where
+  pub room : meter.held ≤ most
+  pub held : owned_by r.own u ≤ meter.held
+  pub countable : meter.refused < 2 ^ 64 - 1
+  pub ready : IsReady r.sound r.opened r.failed r.ended u
+  pub well : u.failed ≡ None
+
+-- what such a call keeps and moves: `item` where it took one, and `over` at the end of the stream
+pub record UserSteps {R A T : Type 0} (r : RawReaderOf R A) (item over : T) (old new : UserReader R A) (before after : Counts) (result : Result T Fault) : Type 0 where
+  pub sound : r.sound new.raw
+  pub cheap : table_cost new.symbols.table ≤ new.limits.symbols
+  -- the item that is lent
+  pub lends : result ≡ Ok item → r.lends new.raw
+  pub comes : result ≡ Ok item → MayCome (r.depth old.raw) (r.opened old.raw) (r.opened new.raw) (lent_by r.current new)
+  pub ended : result ≡ Ok over → r.ended new.raw
+  -- what stays
+  pub tells : r.tells new.raw ↔ r.tells old.raw
+  pub exceeds : r.exceeds new.raw ↔ r.exceeds old.raw
+  pub depth : r.depth new.raw ≡ r.depth old.raw
+  pub most : r.most new.raw ≡ r.most old.raw
+  pub failed : new.failed ≡ old.failed
+  pub limits : new.limits ≡ old.limits
+  pub catalog : new.symbols.catalog ≡ old.symbols.catalog
+  -- memory
+  pub charges : Charges before after (owned_by r.own old) (owned_by r.own new) (share_of r.most old)

@@ -1,30 +1,34 @@
 //! One declaration of a symbol table, item by item.
-ghost use Rattle.std.specs.Prelude.{◌≡◌, ℕ, ◌+◌, ◌-◌, ◌*◌, ◌^◌, ◌<◌, ◌≤◌, ◌≢◌, ◌&&◌, [], List, Option, None, Ok, Err, OnOk, true, false, nat_le};
+ghost use Rattle.std.specs.Prelude.{◌≡◌, ◌≢◌, ◌&&◌, ◌*◌, ◌+◌, ◌-◌, ◌<◌, ◌≤◌, ◌^◌, ◌↔◌, ◌∷◌, ℕ, [], IfErr, List, None, OnErr, OnOk, Option, Err, Ok, false, length, nat_le, true};
 ghost use Rattle.ion_meter.specs.Counts.{Shrinks};
-ghost use Rattle.ion_meter.specs.declared.fault.Fault.TheVariants.{Memory};
-ghost use Rattle.ion_value.specs.Shares.{Charges, fault_of};
+ghost use Rattle.ion_meter.specs.declared.fault.Fault.TheVariants.{Memory, Refused};
+ghost use Rattle.ion_meter.specs.declared.fault.Reason.{Reason};
+ghost use Rattle.ion_value.specs.declared.ion_type.Kind.TheVariants as kinds;
 ghost use Rattle.ion_value.specs.Items.{raw_item};
+ghost use Rattle.ion_value.specs.Reading.{Finished, Stopped};
+ghost use Rattle.ion_value.specs.Shares.{Charges, ReadCauses, fault_of};
 ghost use Rattle.ion_symbols.specs.Table as tables;
 ghost use Rattle.ion_symbols.specs.Table.{Shared, most_slots, table_cost, text_at};
-ghost use Rattle.ion_symbols.specs.Declaration.{area_turn, at, element_turn, head_told, held, import_of, imports_turn, is_ignored, keeping, named, next, on, part_turn, passed, start, told, turn};
-ghost use Rattle.ion_symbols.specs.Buffer.{FoundAs, GrowthCauses, IsPending, TurnAs, declaring_of, import_end_turn, own_of, pending_of, told_of, what_of};
+ghost use Rattle.ion_symbols.specs.Declaration.{area_turn, at, element_turn, head_told, held, imports_turn, keeping, named, next, on, part_turn, passed, start, told, turn};
+ghost use Rattle.ion_symbols.specs.Buffer.{CanTake, HoldsSame, IsPending, Takes, TurnGives, declaring_in, declaring_of, ground_in, import_end_turn, own_of, pending_in, pending_of, table_left, told_of, what_of};
+ghost use Rattle.ion_symbols.specs.Steps.{CanGather, CanRead, Gathered, LeavesReader, LeavesTable, coming_behind, coming_inside};
 
-use crate::catalog::Catalog;
-use crate::slots::Slots;
+use crate::catalog::Import;
+use crate::checks::check_item;
+use crate::slots::{MOST_SLOTS, Slots};
 use crate::symbols::{Found, IMPORT_COST, Symbols};
 use crate::told::{Told, What, tell};
 use crate::word::{Area, Word};
 use ion_meter::buf::Buf;
 use ion_meter::fault::{Fault, Reason};
+use ion_meter::limits::Limits;
 use ion_meter::meter::Meter;
 use ion_meter::table::Table;
 use ion_value::ion_type::Kind;
 use ion_value::item::{Head, Item};
 use ion_value::names::NoNames;
+use ion_value::reader::RawReader;
 use std::alloc::Allocator;
-
-/// The most slots behind the system ones: the greatest id is 2^31 - 1.
-const MOST_SLOTS: u64 = 2_147_483_638;
 
 /// The cost of a slot besides its text, in counted bytes.
 const SLOT_COST: u64 = 16;
@@ -67,7 +71,14 @@ pub struct SymbolBuffer<A: Allocator + Copy> {
 impl Entry {
     // An import of which nothing was read, whose struct begins at a place.
     fn new(place: u64) -> Entry
-        ensures { result ≡ record { has_name = false; has_version = false; has_max = false; version = 1; max_id = None; place = place } }
+        ensures { result ≡ record {
+          has_name = false;
+          has_version = false;
+          has_max = false;
+          version = 1;
+          max_id = None;
+          place = place;
+        } }
     {
         Entry {
             has_name: false,
@@ -81,8 +92,51 @@ impl Entry {
 }
 
 impl<A: Allocator + Copy> SymbolBuffer<A> {
+    /// Reads a declaration whose beginning the raw reader has taken, and puts the table that it
+    /// leaves in place of the present one.
+    ///
+    /// It answers false where the reader ends inside of the declaration. It refuses an id above the
+    /// present table with `BadSymbol`, a field that stands twice and a shared table that is not there
+    /// with `BadTable`, and what passes the limit on symbol tables with `SymbolLimit`; the reader's
+    /// faults are passed on. Where it does not answer true, the present table stays, and what was
+    /// read of the other is given back. At no moment do the two hold more than twice the limit.
+    pub fn read<R: RawReader<A>>(
+        meter: &mut Meter<A>,
+        limits: Limits,
+        raw: &mut R,
+        symbols: &mut Symbols<'_, A>,
+    ) -> Result<bool, Fault>
+        requires can_read { CanRead R.RawReader limits symbols.old raw.old meter.old }
+        requires level { R.opened raw.old ≡ kinds.Struct ∷ [] }
+        ensures gives { R.tells raw.old → result ≡ Ok true
+            → coming_inside symbols.old limits.symbols start (R.reading raw.old)
+            ≡ coming_behind symbols.old limits.symbols symbols.new.table (R.reading raw.new) }
+        ensures ends { R.tells raw.old → result ≡ Ok false
+            → (coming_inside symbols.old limits.symbols start (R.reading raw.old) ≡ Finished)
+            × (R.reading raw.new ≡ Finished) }
+        ensures refuses { R.tells raw.old → R.failed raw.old ≡ None
+            → (r : Reason) (p : ℕ) → result ≡ Err (Refused r p)
+            → coming_inside symbols.old limits.symbols start (R.reading raw.old) ≡ Stopped r p }
+        ensures level { result ≡ Ok true → R.opened raw.new ≡ [] }
+        ensures table { LeavesTable limits.symbols symbols.old symbols.new result }
+        ensures leaves { LeavesReader R.RawReader raw.old raw.new result }
+        ensures causes { R.failed raw.old ≡ None → ReadCauses (fault_of result) meter.old meter.new
+            (R.failures raw.old) (R.failures raw.new) (R.exceeds raw.old) }
+        ensures charges { Charges meter.old meter.new (R.own raw.old + table_cost symbols.old.table)
+            (R.own raw.new + table_cost symbols.new.table) (R.most raw.old + 2 * limits.symbols) }
+    {
+        let mut buffer = SymbolBuffer::new(meter);
+        let outcome = gather(meter, limits.symbols, raw, symbols, &mut buffer);
+        if let Ok(true) = outcome {
+            buffer.install(meter, limits.symbols, symbols)?;
+            return Ok(true);
+        }
+        buffer.release(meter);
+        outcome
+    }
+
     // A declaration of which nothing was read. It takes no memory.
-    pub(crate) fn new(meter: &Meter<A>) -> Self
+    fn new(meter: &Meter<A>) -> Self
         ensures pending { (limit : ℕ) (old : tables.Table) → IsPending limit old result }
         ensures start { (catalog : List Shared) → declaring_of catalog result ≡ start }
         ensures own { own_of result ≡ 0 }
@@ -106,7 +160,8 @@ impl<A: Allocator + Copy> SymbolBuffer<A> {
     // Whether so much may be counted.
     fn fits(&self, limit: u64, cost: u64, count: u64) -> bool
         requires { limit ≤ 2 ^ 30 }
-        ensures { result ≡ nat_le (self.now.cost + cost) limit && nat_le (self.now.count + count) most_slots }
+        ensures { result
+            ≡ nat_le (self.now.cost + cost) limit && nat_le (self.now.count + count) most_slots }
     {
         self.cost.saturating_add(cost) <= limit && self.count.saturating_add(count) <= MOST_SLOTS
     }
@@ -114,7 +169,8 @@ impl<A: Allocator + Copy> SymbolBuffer<A> {
     // What means nothing is passed over.
     fn pass(&mut self, what: What<'_>)
         requires { self.old.inside < 2 ^ 31 }
-        ensures gives { (catalog : List Shared) → declaring_of catalog self.new ≡ passed (what_of what.entry) (declaring_of catalog self.old) }
+        ensures gives { (catalog : List Shared) → declaring_of catalog self.new
+            ≡ passed (what_of what.entry) (declaring_of catalog self.old) }
         ensures kept { self.new ≡ record self.old { inside = self.new.inside } }
     {
         match what {
@@ -133,16 +189,12 @@ impl<A: Allocator + Copy> SymbolBuffer<A> {
         symbols: &Symbols<'_, A>,
         told: &Told<'_>,
     ) -> Result<bool, Fault>
-        requires room { meter.old.held ≤ 2 ^ 62 }
-        requires held { own_of self.old ≤ meter.old.held }
-        requires countable { meter.old.refused < 2 ^ 64 - 1 }
-        requires limit { limit ≤ 2 ^ 30 }
+        requires can_take { CanTake limit symbols.now self.old meter.old }
         requires within { (self.old.area ≡ Area.Symbols) × (self.old.inside ≡ 0) }
-        requires pending { IsPending limit symbols.now.table self.old }
         ensures pending { OnOk result (IsPending limit symbols.now.table self.new) }
-        ensures turn { TurnAs (element_turn (record { catalog = symbols.now.catalog; limit = limit; old = symbols.now.table }) (told_of told.now) (pending_of symbols.now.catalog self.old)) result (declaring_of symbols.now.catalog self.new) (next symbols.now.table (pending_of symbols.now.catalog self.new)) }
-        ensures causes { GrowthCauses (fault_of result) meter.old meter.new }
-        ensures charges { Charges meter.old meter.new (own_of self.old) (own_of self.new) limit }
+        ensures turn { TurnGives symbols.now (element_turn (ground_in symbols.now limit)
+            (told_of told.now) (pending_in symbols.now self.old)) result self.new }
+        ensures takes { Takes limit self.old self.new meter.old meter.new result }
     {
         let length = match told.what {
             What::Text(text) => text.len() as u64,
@@ -164,14 +216,15 @@ impl<A: Allocator + Copy> SymbolBuffer<A> {
     // The present table is kept, and counted.
     fn keep(&mut self, limit: u64, symbols: &Symbols<'_, A>, place: u64) -> Result<bool, Fault>
         requires limit { (limit ≤ 2 ^ 30) × (table_cost symbols.now.table ≤ limit) }
-        requires within { (self.old.area ≡ Area.Fields) × ((self.old.inside ≡ 0) × (self.old.has_imports ≡ true)) }
+        requires within { (self.old.area ≡ Area.Fields)
+            × ((self.old.inside ≡ 0) × (self.old.has_imports ≡ true)) }
         requires alone { (self.old.imports.items ≡ []) × (self.old.keeps ≡ false) }
         requires pending { IsPending limit symbols.now.table self.old }
         ensures pending { OnOk result (IsPending limit symbols.now.table self.new) }
-        ensures turn { TurnAs (held (keeping (record { catalog = symbols.now.catalog; limit = limit; old = symbols.now.table }) place (pending_of symbols.now.catalog self.old)) (λ p. on (at Area.Fields p))) result (declaring_of symbols.now.catalog self.new) (next symbols.now.table (pending_of symbols.now.catalog self.new)) }
-        ensures memory { result ≢ Err Memory }
-        ensures own { own_of self.new ≡ own_of self.old }
-        ensures name { self.new.name ≡ self.old.name }
+        ensures turn { TurnGives symbols.now (held
+            (keeping (ground_in symbols.now limit) place (pending_in symbols.now self.old))
+            (λ p. on (at Area.Fields p))) result self.new }
+        ensures same { HoldsSame self.old self.new result }
     {
         let cost = symbols.cost();
         let count = symbols.count();
@@ -195,10 +248,9 @@ impl<A: Allocator + Copy> SymbolBuffer<A> {
         requires within { (self.old.area ≡ Area.Fields) × (self.old.inside ≡ 0) }
         requires pending { IsPending limit symbols.now.table self.old }
         ensures pending { OnOk result (IsPending limit symbols.now.table self.new) }
-        ensures turn { TurnAs (area_turn (record { catalog = symbols.now.catalog; limit = limit; old = symbols.now.table }) (told_of told.now) (pending_of symbols.now.catalog self.old) Area.Fields) result (declaring_of symbols.now.catalog self.new) (next symbols.now.table (pending_of symbols.now.catalog self.new)) }
-        ensures memory { result ≢ Err Memory }
-        ensures own { own_of self.new ≡ own_of self.old }
-        ensures name { self.new.name ≡ self.old.name }
+        ensures turn { TurnGives symbols.now (area_turn (ground_in symbols.now limit)
+            (told_of told.now) (pending_in symbols.now self.old) Area.Fields) result self.new }
+        ensures same { HoldsSame self.old self.new result }
     {
         if let What::Ends = told.what {
             return Ok(true);
@@ -234,9 +286,17 @@ impl<A: Allocator + Copy> SymbolBuffer<A> {
     fn import(&mut self, told: &Told<'_>)
         requires within { (self.old.area ≡ Area.Imports) × (self.old.inside ≡ 0) }
         requires nameless { self.old.name ≡ [] }
-        ensures turn { (catalog : List Shared) → imports_turn (told_of told.now) (pending_of catalog self.old) (what_of told.now.what) ≡ on (declaring_of catalog self.new) }
-        ensures kept { self.new ≡ record self.old { area = self.new.area; inside = self.new.inside; entry = self.new.entry } }
-        ensures pending { (limit : ℕ) (old : tables.Table) → IsPending limit old self.old → IsPending limit old self.new }
+        ensures turn { (catalog : List Shared)
+            → imports_turn (told_of told.now) (pending_of catalog self.old) (what_of told.now.what)
+            ≡ on (declaring_of catalog self.new) }
+        ensures kept { self.new
+            ≡ record self.old {
+              area = self.new.area;
+              inside = self.new.inside;
+              entry = self.new.entry;
+            } }
+        ensures pending { (limit : ℕ) (old : tables.Table)
+            → IsPending limit old self.old → IsPending limit old self.new }
     {
         match told.what {
             What::Ends => self.area = Area::Fields,
@@ -257,17 +317,15 @@ impl<A: Allocator + Copy> SymbolBuffer<A> {
         text: &[u8],
         place: u64,
     ) -> Result<bool, Fault>
-        requires room { meter.old.held ≤ 2 ^ 62 }
-        requires held { own_of self.old ≤ meter.old.held }
-        requires countable { meter.old.refused < 2 ^ 64 - 1 }
-        requires limit { limit ≤ 2 ^ 30 }
-        requires within { (self.old.area ≡ Area.Import) × ((self.old.inside ≡ 0) × (self.old.entry.has_name ≡ true)) }
+        requires can_take { CanTake limit symbols.now self.old meter.old }
+        requires within { (self.old.area ≡ Area.Import)
+            × ((self.old.inside ≡ 0) × (self.old.entry.has_name ≡ true)) }
         requires nameless { self.old.name ≡ [] }
-        requires pending { IsPending limit symbols.now.table self.old }
         ensures pending { OnOk result (IsPending limit symbols.now.table self.new) }
-        ensures turn { TurnAs (held (named (record { catalog = symbols.now.catalog; limit = limit; old = symbols.now.table }) place text.now (pending_of symbols.now.catalog self.old)) (λ p. on (at Area.Import p))) result (declaring_of symbols.now.catalog self.new) (next symbols.now.table (pending_of symbols.now.catalog self.new)) }
-        ensures causes { GrowthCauses (fault_of result) meter.old meter.new }
-        ensures charges { Charges meter.old meter.new (own_of self.old) (own_of self.new) limit }
+        ensures turn { TurnGives symbols.now (held
+            (named (ground_in symbols.now limit) place text.now (pending_in symbols.now self.old))
+            (λ p. on (at Area.Import p))) result self.new }
+        ensures takes { Takes limit self.old self.new meter.old meter.new result }
     {
         let length = text.len() as u64;
         if !self.fits(limit, length, 0) {
@@ -286,16 +344,12 @@ impl<A: Allocator + Copy> SymbolBuffer<A> {
         symbols: &Symbols<'_, A>,
         told: &Told<'_>,
     ) -> Result<bool, Fault>
-        requires room { meter.old.held ≤ 2 ^ 62 }
-        requires held { own_of self.old ≤ meter.old.held }
-        requires countable { meter.old.refused < 2 ^ 64 - 1 }
-        requires limit { limit ≤ 2 ^ 30 }
+        requires can_take { CanTake limit symbols.now self.old meter.old }
         requires within { (self.old.area ≡ Area.Import) × (self.old.inside ≡ 0) }
-        requires pending { IsPending limit symbols.now.table self.old }
         ensures pending { OnOk result (IsPending limit symbols.now.table self.new) }
-        ensures turn { TurnAs (part_turn (record { catalog = symbols.now.catalog; limit = limit; old = symbols.now.table }) (told_of told.now) (pending_of symbols.now.catalog self.old)) result (declaring_of symbols.now.catalog self.new) (next symbols.now.table (pending_of symbols.now.catalog self.new)) }
-        ensures causes { GrowthCauses (fault_of result) meter.old meter.new }
-        ensures charges { Charges meter.old meter.new (own_of self.old) (own_of self.new) limit }
+        ensures turn { TurnGives symbols.now (part_turn (ground_in symbols.now limit)
+            (told_of told.now) (pending_in symbols.now self.old)) result self.new }
+        ensures takes { Takes limit self.old self.new meter.old meter.new result }
     {
         match told.field {
             Word::Name => {
@@ -344,21 +398,16 @@ impl<A: Allocator + Copy> SymbolBuffer<A> {
         limit: u64,
         symbols: &Symbols<'_, A>,
     ) -> Result<bool, Fault>
-        requires room { meter.old.held ≤ 2 ^ 62 }
-        requires held { own_of self.old ≤ meter.old.held }
-        requires countable { meter.old.refused < 2 ^ 64 - 1 }
-        requires limit { limit ≤ 2 ^ 30 }
+        requires can_take { CanTake limit symbols.now self.old meter.old }
         requires within { (self.old.area ≡ Area.Import) × (self.old.inside ≡ 0) }
-        requires pending { IsPending limit symbols.now.table self.old }
         ensures pending { OnOk result (IsPending limit symbols.now.table self.new) }
-        ensures turn { TurnAs (import_end_turn (record { catalog = symbols.now.catalog; limit = limit; old = symbols.now.table }) (pending_of symbols.now.catalog self.old)) result (declaring_of symbols.now.catalog self.new) (next symbols.now.table (pending_of symbols.now.catalog self.new)) }
-        ensures causes { GrowthCauses (fault_of result) meter.old meter.new }
-        ensures charges { Charges meter.old meter.new (own_of self.old) (own_of self.new) limit }
+        ensures turn { TurnGives symbols.now (import_end_turn (ground_in symbols.now limit)
+            (pending_in symbols.now self.old)) result self.new }
+        ensures takes { Takes limit self.old self.new meter.old meter.new result }
     {
         self.area = Area::Imports;
         let length = self.name.as_slice().len() as u64;
-        let found = find_import(
-            symbols.catalog(),
+        let found = symbols.catalog().find_import(
             self.name.as_slice(),
             self.entry.version,
             self.entry.max_id,
@@ -391,24 +440,22 @@ impl<A: Allocator + Copy> SymbolBuffer<A> {
     }
 
     // Takes the next item of the declaration in; true as it ends.
-    pub(crate) fn take(
+    fn take(
         &mut self,
         meter: &mut Meter<A>,
         limit: u64,
         symbols: &Symbols<'_, A>,
         item: &Item<'_, NoNames>,
     ) -> Result<bool, Fault>
-        requires room { meter.old.held ≤ 2 ^ 62 }
-        requires held { own_of self.old ≤ meter.old.held }
-        requires countable { meter.old.refused < 2 ^ 64 - 1 }
-        requires limit { (limit ≤ 2 ^ 30) × (table_cost symbols.now.table ≤ limit) }
+        requires can_take { CanTake limit symbols.now self.old meter.old }
+        requires kept { table_cost symbols.now.table ≤ limit }
         requires inside { self.old.inside < 2 ^ 31 }
-        requires pending { IsPending limit symbols.now.table self.old }
         ensures pending { OnOk result (IsPending limit symbols.now.table self.new) }
         ensures nameless { result ≡ Ok true → self.new.name ≡ [] }
-        ensures turn { TurnAs (turn (record { catalog = symbols.now.catalog; limit = limit; old = symbols.now.table }) (declaring_of symbols.now.catalog self.old) (told (text_at symbols.now.table) (raw_item item.now))) result (declaring_of symbols.now.catalog self.new) (next symbols.now.table (pending_of symbols.now.catalog self.new)) }
-        ensures causes { GrowthCauses (fault_of result) meter.old meter.new }
-        ensures charges { Charges meter.old meter.new (own_of self.old) (own_of self.new) limit }
+        ensures turn { TurnGives symbols.now
+            (turn (ground_in symbols.now limit) (declaring_in symbols.now self.old)
+            (told (text_at symbols.now.table) (raw_item item.now))) result self.new }
+        ensures takes { Takes limit self.old self.new meter.old meter.new result }
     {
         if self.inside > 0 {
             self.pass_item(item);
@@ -436,7 +483,9 @@ impl<A: Allocator + Copy> SymbolBuffer<A> {
     #[inline]
     fn pass_item(&mut self, item: &Item<'_, NoNames>)
         requires { self.old.inside < 2 ^ 31 }
-        ensures gives { (catalog : List Shared) (texts : ℕ → Option (List ℕ)) → declaring_of catalog self.new ≡ passed (head_told texts (raw_item item.now).head) (declaring_of catalog self.old) }
+        ensures gives { (catalog : List Shared) (texts : ℕ → Option (List ℕ))
+            → declaring_of catalog self.new
+            ≡ passed (head_told texts (raw_item item.now).head) (declaring_of catalog self.old) }
         ensures kept { self.new ≡ record self.old { inside = self.new.inside } }
     {
         match item.head() {
@@ -446,8 +495,57 @@ impl<A: Allocator + Copy> SymbolBuffer<A> {
         }
     }
 
+    // Puts the table that was read behind the present one where that is kept, else in its place.
+    // Where memory is refused, that one stays; this one is given back.
+    fn install(
+        self,
+        meter: &mut Meter<A>,
+        limit: u64,
+        symbols: &mut Symbols<'_, A>,
+    ) -> Result<(), Fault>
+        requires room { meter.old.held ≤ 2 ^ 62 }
+        requires held { table_cost symbols.old.table + own_of self ≤ meter.old.held }
+        requires countable { meter.old.refused < 2 ^ 64 - 1 }
+        requires limit { (limit ≤ 2 ^ 30) × (table_cost symbols.old.table ≤ limit) }
+        requires pending { IsPending limit symbols.old.table self }
+        requires nameless { self.name ≡ [] }
+        ensures table { OnOk result (symbols.new.table ≡ table_left symbols.old self) }
+        ensures cheap { table_cost symbols.new.table ≤ limit }
+        ensures err { OnErr result (symbols.new ≡ symbols.old) }
+        ensures catalog { symbols.new.catalog ≡ symbols.old.catalog }
+        ensures memory { IfErr result
+            (λ fault. (fault ≡ Memory) × (meter.old.refused < meter.new.refused)) }
+        ensures counted { OnOk result (meter.new.refused ≡ meter.old.refused) }
+        ensures charges { Charges meter.old meter.new (table_cost symbols.old.table + own_of self)
+            (table_cost symbols.new.table) (2 * limit) }
+    {
+        let SymbolBuffer {
+            area: _,
+            inside: _,
+            has_imports: _,
+            has_symbols: _,
+            keeps,
+            imports,
+            import_slots,
+            slots,
+            cost: _,
+            count: _,
+            entry: _,
+            name,
+        } = self;
+        name.release(meter);
+        if !keeps {
+            symbols.replace(meter, imports, import_slots, slots);
+            return Ok(());
+        }
+        let outcome = symbols.append(meter, &slots);
+        imports.release(meter);
+        slots.release(meter);
+        outcome
+    }
+
     // Gives all back.
-    pub(crate) fn release(self, meter: &mut Meter<A>)
+    fn release(self, meter: &mut Meter<A>)
         requires { own_of self ≤ meter.old.held }
         ensures { Shrinks meter.old meter.new (own_of self) }
     {
@@ -471,42 +569,43 @@ impl<A: Allocator + Copy> SymbolBuffer<A> {
     }
 }
 
-// What an import found.
-#[derive(Clone, Copy, Debug, PartialEq, Eq)]
-pub(crate) enum Import {
-    // It means nothing.
-    Ignored,
-    // It asks for a table that is not there.
-    Missing,
-    // The place of a table, if there is one, and a number of slots; more than there are ids stand
-    // for all such numbers.
-    Slots(Option<usize>, u64),
-}
-
-// What an import of this name, version and greatest id finds.
-fn find_import<A: Allocator + Copy>(
-    catalog: &Catalog<A>,
-    name: &[u8],
-    version: u128,
-    max_id: Option<u128>,
-) -> Import
-    ensures { FoundAs catalog.now (is_ignored name.now) (import_of catalog.now name.now version max_id) result }
+// Takes the items of a declaration in up to its end; false where the reader ends inside of it.
+fn gather<R: RawReader<A>, A: Allocator + Copy>(
+    meter: &mut Meter<A>,
+    limit: u64,
+    raw: &mut R,
+    symbols: &Symbols<'_, A>,
+    buffer: &mut SymbolBuffer<A>,
+) -> Result<bool, Fault>
+    requires can_gather { CanGather R.RawReader limit symbols.now raw.old buffer.old meter.old }
+    ensures gives { R.tells raw.old → result ≡ Ok true
+        → coming_inside symbols.now limit (declaring_in symbols.now buffer.old) (R.reading raw.old)
+        ≡ coming_behind symbols.now limit (table_left symbols.now buffer.new) (R.reading raw.new) }
+    ensures ends { R.tells raw.old → result ≡ Ok false
+        → (coming_inside symbols.now limit (declaring_in symbols.now buffer.old) (R.reading raw.old)
+        ≡ Finished) × (R.reading raw.new ≡ Finished) }
+    ensures refuses { R.tells raw.old → R.failed raw.old ≡ None
+        → (r : Reason) (p : ℕ) → result ≡ Err (Refused r p)
+        → coming_inside symbols.now limit (declaring_in symbols.now buffer.old) (R.reading raw.old)
+        ≡ Stopped r p }
+    ensures level { result ≡ Ok true → R.opened raw.new ≡ [] }
+    ensures gathered { Gathered limit symbols.now buffer.new meter.old meter.new result }
+    ensures leaves { LeavesReader R.RawReader raw.old raw.new result }
+    ensures causes { R.failed raw.old ≡ None → ReadCauses (fault_of result) meter.old meter.new
+        (R.failures raw.old) (R.failures raw.new) (R.exceeds raw.old) }
+    ensures charges { Charges meter.old meter.new (R.own raw.old + own_of buffer.old)
+        (R.own raw.new + own_of buffer.new) (R.most raw.old + limit) }
 {
-    if name.is_empty() || name == b"$ion".as_slice() {
-        return Import::Ignored;
-    }
-    let exact = catalog.place_of(name, version);
-    match max_id {
-        None => match exact {
-            None => Import::Missing,
-            Some(place) => Import::Slots(exact, catalog.count_at(place)),
-        },
-        Some(most) => {
-            let count = most.min(MOST_SLOTS as u128 + 1) as u64;
-            match exact {
-                Some(_) => Import::Slots(exact, count),
-                None => Import::Slots(catalog.greatest(name), count),
-            }
+    'items: while raw.next(meter)? {
+        let item = raw.item();
+        if let Err(fault) = check_item(symbols, false, &item) {
+            return Err(fault);
+        }
+        match buffer.take(meter, limit, symbols, &item) {
+            Ok(false) => {}
+            Ok(true) => return Ok(true),
+            Err(fault) => return Err(fault),
         }
     }
+    Ok(false)
 }

@@ -8,9 +8,11 @@ ghost use Rattle.ion_meter.specs.Counts.{Grows, IsRefused, Shrinks};
 ghost use Rattle.ion_value.specs.Items.{is_none_left};
 ghost use Rattle.ion_symbols.specs.Table.{catalog_cost, find, greatest, may_stand};
 ghost use Rattle.ion_symbols.specs.Present.{slots_at};
-ghost use Rattle.ion_symbols.specs.Kept.{WhyNotAdded, Points};
+ghost use Rattle.ion_symbols.specs.Declaration.{import_of, is_ignored};
+ghost use Rattle.ion_symbols.specs.Catalogue.{FoundAs, Points, WhyNotAdded};
 
 use crate::shared::SharedTable;
+use crate::slots::MOST_SLOTS;
 use ion_meter::fault::{Fault, Reason};
 use ion_meter::meter::Meter;
 use ion_meter::table::Table;
@@ -22,6 +24,18 @@ const TABLE_COST: u64 = 32;
 
 /// The greatest version that a table may have.
 const MAX_VERSION: u32 = 2_147_483_647;
+
+// What an import found.
+#[derive(Clone, Copy, Debug, PartialEq, Eq)]
+pub(crate) enum Import {
+    // It means nothing.
+    Ignored,
+    // It asks for a table that is not there.
+    Missing,
+    // The place of a table, if there is one, and a number of slots; more than there are ids stand
+    // for all such numbers.
+    Slots(Option<usize>, u64),
+}
 
 /// Shared tables, of which no two have the same name and version.
 ///
@@ -65,11 +79,13 @@ impl<A: Allocator + Copy> Catalog<A> {
     ) -> Result<(), (SharedTable<A>, Fault)>
         requires room { meter.old.held + 32 < 2 ^ 63 }
         requires countable { meter.old.refused < 2 ^ 64 - 1 }
-        ensures ok { OnOk result ((self.new ≡ self.old ++ table ∷ []) × (may_stand self.old table ≡ true)) }
+        ensures ok { OnOk result ((self.new ≡ self.old ++ table ∷ [])
+            × (may_stand self.old table ≡ true)) }
         ensures cost { OnOk result (Grows meter.old meter.new 32) }
         ensures returned { IfErr result (λ failed. failed.0 ≡ table) }
         ensures err { OnErr result (self.new ≡ self.old) }
-        ensures why { IfErr result (λ failed. WhyNotAdded self.old table meter.old meter.new failed.1) }
+        ensures why { IfErr result
+            (λ failed. WhyNotAdded self.old table meter.old meter.new failed.1) }
     {
         if !self.may_take(&table) {
             return Err((table, Fault::Refused(Reason::CatalogEntry, 0)));
@@ -91,7 +107,8 @@ impl<A: Allocator + Copy> Catalog<A> {
 
     /// The table of this name and version, if there is one.
     pub fn find(&self, name: &str, version: u32) -> Option<&SharedTable<A>>
-        ensures { MatchOption result (find self.now name.now version ≡ None) (λ table. find self.now name.now version ≡ Some table.now) }
+        ensures { MatchOption result (find self.now name.now version ≡ None)
+            (λ table. find self.now name.now version ≡ Some table.now) }
     {
         let place = self.place_of(name.as_bytes(), version as u128)?;
         self.get(place)
@@ -144,7 +161,8 @@ impl<A: Allocator + Copy> Catalog<A> {
 
     // Whether it is none, or a table of a smaller version.
     fn is_less(&self, best: Option<usize>, version: u32) -> bool
-        ensures { MatchOption best (result ≡ true) (λ b. MatchOption (slice_get self.now b) (result ≡ true) (λ s. result ≡ nat_lt s.version version)) }
+        ensures { MatchOption best (result ≡ true) (λ b. MatchOption (slice_get self.now b)
+            (result ≡ true) (λ s. result ≡ nat_lt s.version version)) }
     {
         match best {
             None => true,
@@ -158,7 +176,8 @@ impl<A: Allocator + Copy> Catalog<A> {
     // The table at a place, if there is one.
     #[inline]
     pub(crate) fn get(&self, place: usize) -> Option<&SharedTable<A>>
-        ensures { MatchOption result (slice_get self.now place ≡ None) (λ table. slice_get self.now place ≡ Some table.now) }
+        ensures { MatchOption result (slice_get self.now place ≡ None)
+            (λ table. slice_get self.now place ≡ Some table.now) }
     {
         self.tables.as_slice().get(place)
     }
@@ -170,6 +189,30 @@ impl<A: Allocator + Copy> Catalog<A> {
         match self.get(place) {
             None => 0,
             Some(table) => table.len() as u64,
+        }
+    }
+
+    // What an import of this name, version and greatest id finds.
+    pub(crate) fn find_import(&self, name: &[u8], version: u128, max_id: Option<u128>) -> Import
+        ensures { FoundAs self.now (is_ignored name.now)
+            (import_of self.now name.now version max_id) result }
+    {
+        if name.is_empty() || name == b"$ion".as_slice() {
+            return Import::Ignored;
+        }
+        let exact = self.place_of(name, version);
+        match max_id {
+            None => match exact {
+                None => Import::Missing,
+                Some(place) => Import::Slots(exact, self.count_at(place)),
+            },
+            Some(most) => {
+                let count = most.min(MOST_SLOTS as u128 + 1) as u64;
+                match exact {
+                    Some(_) => Import::Slots(exact, count),
+                    None => Import::Slots(self.greatest(name), count),
+                }
+            }
         }
     }
 

@@ -51,7 +51,8 @@ fn check_annotations<A: Allocator + Copy>(
     user: bool,
     annotations: Annotations<'_, NoNames>,
 ) -> Result<(), Fault>
-    ensures { CheckedAs (notes_checked symbols.now.table user (raw_annotations annotations.entry)) result }
+    ensures { CheckedAs
+        (notes_checked symbols.now.table user (raw_annotations annotations.entry)) result }
 {
     let mut i = 0;
     while let Some(at) = annotations.get(i) {

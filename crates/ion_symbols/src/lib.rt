@@ -5,8 +5,8 @@
 pub mod buffer;
 pub mod catalog;
 mod checks;
-mod declaration;
 pub mod laws;
+mod ordered;
 pub mod output;
 pub mod search;
 pub mod shared;

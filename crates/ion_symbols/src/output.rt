@@ -7,7 +7,8 @@ ghost use Rattle.ion_value.specs.Shares.{Charges};
 ghost use Rattle.ion_symbols.specs.Output.{Belongs, IsSorted, binary_digits, id_given, known_id, probes_for, system_id, texts_cost};
 ghost use Rattle.ion_value.specs.Items.{is_none_left};
 
-use crate::search::{Place, Search, place_of};
+use crate::ordered::{Place, Search};
+use crate::search::place_of;
 use ion_meter::buf::Buf;
 use ion_meter::fault::Fault;
 use ion_meter::limits::Limits;
@@ -49,9 +50,14 @@ impl<A: Allocator + Copy> Model for OutSymbols<A> {
 
     ghost Value = { Output };
 
-    ghost view = { λ s. record { texts = texts_in s.bytes s.places.items; limit = s.limit; probes = s.probes } };
+    ghost view = { λ s. record {
+      texts = texts_in s.bytes s.places.items;
+      limit = s.limit;
+      probes = s.probes;
+    } };
 
-    ghost invariant = { λ s. Ordered s.bytes s.places.items s.order.items × IsWithin s.bytes s.places.items s.places.cost s.order.cost s.limit };
+    ghost invariant = { λ s. Ordered s.bytes s.places.items s.order.items
+        × IsWithin s.bytes s.places.items s.places.cost s.order.cost s.limit };
 }
 
 impl<'a> Model for Texts<'a> {
@@ -89,14 +95,18 @@ impl<A: Allocator + Copy> OutSymbols<A> {
         requires room { meter.old.held ≤ 2 ^ 62 }
         requires held { texts_cost self.old.texts ≤ meter.old.held }
         requires countable { meter.old.refused < 2 ^ 64 - 1 }
-        ensures gives { IfOk result (λ id. (id, self.new.texts) ≡ id_given self.old.limit self.old.texts text.now) }
+        ensures gives { IfOk result
+            (λ id. (id, self.new.texts) ≡ id_given self.old.limit self.old.texts text.now) }
         ensures limit { self.new.limit ≡ self.old.limit }
         ensures probes { self.new.probes ≤ binary_digits (length self.old.texts) }
         ensures system { (id : ℕ) → system_id text.now ≡ Some id → self.new.probes ≡ 0 }
-        ensures searched { (sorted : List (List ℕ)) → IsSorted sorted self.old.texts → system_id text.now ≡ None → self.new.probes ≡ probes_for sorted text.now }
-        ensures memory { IfErr result (λ fault. (fault ≡ Memory) × (self.new.texts ≡ self.old.texts) × (meter.new.refused ≡ meter.old.refused + 1)) }
+        ensures searched { (sorted : List (List ℕ)) → IsSorted sorted self.old.texts
+            → system_id text.now ≡ None → self.new.probes ≡ probes_for sorted text.now }
+        ensures memory { IfErr result (λ fault. (fault ≡ Memory)
+            × (self.new.texts ≡ self.old.texts) × (meter.new.refused ≡ meter.old.refused + 1)) }
         ensures counted { OnOk result (meter.new.refused ≡ meter.old.refused) }
-        ensures charges { Charges meter.old meter.new (texts_cost self.old.texts) (texts_cost self.new.texts) self.old.limit }
+        ensures charges { Charges meter.old meter.new
+            (texts_cost self.old.texts) (texts_cost self.new.texts) self.old.limit }
     {
         self.probes = 0;
         if let Some(id) = system_id(text) {
@@ -121,12 +131,16 @@ impl<A: Allocator + Copy> OutSymbols<A> {
         requires held { texts_cost self.old.texts ≤ meter.old.held }
         requires countable { meter.old.refused < 2 ^ 64 - 1 }
         requires new { known_id self.old.texts text.now ≡ None }
-        requires belongs { (sorted : List (List ℕ)) → IsSorted sorted self.old.texts → Belongs sorted text.now place }
-        ensures gives { IfOk result (λ id. (id, self.new.texts) ≡ id_given self.old.limit self.old.texts text.now) }
+        requires belongs { (sorted : List (List ℕ)) → IsSorted sorted self.old.texts
+            → Belongs sorted text.now place }
+        ensures gives { IfOk result
+            (λ id. (id, self.new.texts) ≡ id_given self.old.limit self.old.texts text.now) }
         ensures kept { (self.new.limit ≡ self.old.limit) × (self.new.probes ≡ self.old.probes) }
-        ensures memory { IfErr result (λ fault. (fault ≡ Memory) × (self.new.texts ≡ self.old.texts) × (meter.new.refused ≡ meter.old.refused + 1)) }
+        ensures memory { IfErr result (λ fault. (fault ≡ Memory)
+            × (self.new.texts ≡ self.old.texts) × (meter.new.refused ≡ meter.old.refused + 1)) }
         ensures counted { OnOk result (meter.new.refused ≡ meter.old.refused) }
-        ensures charges { Charges meter.old meter.new (texts_cost self.old.texts) (texts_cost self.new.texts) self.old.limit }
+        ensures charges { Charges meter.old meter.new
+            (texts_cost self.old.texts) (texts_cost self.new.texts) self.old.limit }
     {
         let from = self.bytes.as_slice().len();
         let id = self.places.as_slice().len();
@@ -224,7 +238,8 @@ impl<'a> Texts<'a> {
 
     /// The text at a place of the list, counted from 0, or none past its end.
     pub fn get(&self, index: usize) -> Option<&'a [u8]>
-        ensures { MatchOption result (slice_get self.now index ≡ None) (λ text. slice_get self.now index ≡ Some text.now) }
+        ensures { MatchOption result (slice_get self.now index ≡ None)
+            (λ text. slice_get self.now index ≡ Some text.now) }
     {
         let place = self.places.get(index)?;
         Some(&self.bytes[place.from as usize..place.to as usize])

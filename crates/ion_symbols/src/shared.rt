@@ -38,7 +38,8 @@ impl<A: Allocator + Copy> SharedTable<A> {
     pub fn new(meter: &mut Meter<A>, name: &str, version: u32) -> Result<SharedTable<A>, Fault>
         requires room { meter.old.held + length name.now < 2 ^ 63 }
         requires countable { meter.old.refused < 2 ^ 64 - 1 }
-        ensures table { IfOk result (λ table. table ≡ record { name = name.now; version = version; slots = [] }) }
+        ensures table { IfOk result
+            (λ table. table ≡ record { name = name.now; version = version; slots = [] }) }
         ensures cost { OnOk result (Grows meter.old meter.new (length name.now)) }
         ensures memory { IfErr result (λ fault. fault ≡ Memory) }
         ensures undone { OnErr result (IsUndone meter.old meter.new (length name.now)) }
@@ -54,14 +55,19 @@ impl<A: Allocator + Copy> SharedTable<A> {
 
     /// Adds a slot with this text, or without one. Where memory is refused, the table stays as it was.
     pub fn push(&mut self, meter: &mut Meter<A>, text: Option<&str>) -> Result<(), Fault>
-        requires room { meter.old.held + (16 + text_length (option_map (λ t. t.now) text)) < 2 ^ 63 }
+        requires room { meter.old.held
+            + (16 + text_length (option_map (λ t. t.now) text)) < 2 ^ 63 }
         requires held { shared_cost self.old ≤ meter.old.held }
         requires countable { meter.old.refused < 2 ^ 64 - 1 }
-        ensures ok { OnOk result (self.new ≡ record self.old { slots = self.old.slots ++ option_map (λ t. t.now) text.entry ∷ [] }) }
-        ensures cost { OnOk result (Grows meter.old meter.new (16 + text_length (option_map (λ t. t.now) text.entry))) }
+        ensures ok { OnOk result (self.new ≡ record self.old {
+          slots = self.old.slots ++ option_map (λ t. t.now) text.entry ∷ [];
+        }) }
+        ensures cost { OnOk result (Grows meter.old meter.new
+            (16 + text_length (option_map (λ t. t.now) text.entry))) }
         ensures memory { IfErr result (λ fault. fault ≡ Memory) }
         ensures err { OnErr result (self.new ≡ self.old) }
-        ensures undone { OnErr result (IsUndone meter.old meter.new (16 + text_length (option_map (λ t. t.now) text.entry))) }
+        ensures undone { OnErr result (IsUndone meter.old meter.new
+            (16 + text_length (option_map (λ t. t.now) text.entry))) }
     {
         match text {
             Some(text) => self.slots.push_text(meter, text.as_bytes()),
@@ -76,10 +82,12 @@ impl<A: Allocator + Copy> SharedTable<A> {
         requires held { shared_cost self.old ≤ meter.old.held }
         requires countable { meter.old.refused < 2 ^ 64 - 1 }
         ensures ok { OnOk result (self.new ≡ record self.old { name = name.now }) }
-        ensures cost { OnOk result (Renames meter.old meter.new (length self.old.name) (length name.now)) }
+        ensures cost { OnOk result
+            (Renames meter.old meter.new (length self.old.name) (length name.now)) }
         ensures memory { IfErr result (λ fault. fault ≡ Memory) }
         ensures err { OnErr result (self.new ≡ self.old) }
-        ensures undone { OnErr result (IsUndone meter.old meter.new (length name.now - length self.old.name)) }
+        ensures undone { OnErr result
+            (IsUndone meter.old meter.new (length name.now - length self.old.name)) }
     {
         let bytes = name.as_bytes();
         let had = self.name.as_slice().len();
@@ -129,7 +137,8 @@ impl<A: Allocator + Copy> SharedTable<A> {
 
     /// The text of the slot at a place, counted from 0; none where it has none, or past the end.
     pub fn get(&self, place: usize) -> Option<&[u8]>
-        ensures { MatchOption result (text_in (slice_get self.now.slots place) ≡ None) (λ text. text_in (slice_get self.now.slots place) ≡ Some text.now) }
+        ensures { MatchOption result (text_in (slice_get self.now.slots place) ≡ None)
+            (λ text. text_in (slice_get self.now.slots place) ≡ Some text.now) }
     {
         if place < self.slots.len() {
             self.slots.get(place)

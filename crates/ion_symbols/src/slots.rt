@@ -12,6 +12,9 @@ use ion_meter::stack::Stack;
 use std::alloc::Allocator;
 use std::marker::Model;
 
+/// The most slots behind the system ones: the greatest id is 2^31 - 1.
+pub(crate) const MOST_SLOTS: u64 = 2_147_483_638;
+
 /// Where a slot's text stands among bytes, and whether it has one.
 #[derive(Clone, Copy, Debug, PartialEq, Eq)]
 pub(crate) struct Part {
@@ -73,7 +76,8 @@ impl<A: Allocator + Copy> Slots<A> {
     #[inline(always)]
     pub(crate) fn get(&self, i: usize) -> Option<&[u8]>
         requires { i < length self.now }
-        ensures { MatchOption result (slice_get self.now i ≡ Some None) (λ t. slice_get self.now i ≡ Some (Some t.now)) }
+        ensures { MatchOption result (slice_get self.now i ≡ Some None)
+            (λ t. slice_get self.now i ≡ Some (Some t.now)) }
     {
         let part = self.parts.as_slice()[i];
         if part.known {

@@ -1,15 +1,12 @@
 //! The symbol table of a stream at a place.
 ghost use Rattle.std.specs.Prelude.{◌≡◌, ℕ, ◌+◌, ◌-◌, ◌*◌, ◌^◌, ◌<◌, ◌≤◌, [], Some, None, length, slice_get, MatchOption, IfErr, OnOk, OnErr, true};
 ghost use Rattle.ion_meter.specs.declared.fault.Fault.TheVariants.{Memory};
-ghost use Rattle.ion_meter.specs.Counts.{Shrinks};
-ghost use Rattle.ion_value.specs.Shares.{Charges};
+ghost use Rattle.ion_meter.specs.Counts.{Grows, Shrinks};
 ghost use Rattle.ion_symbols.specs.Table as tables;
-ghost use Rattle.ion_symbols.specs.Table.{count_of, import_slot, local_slot, slot_in, slot_of, system, system_slots, table_cost};
-ghost use Rattle.ion_symbols.specs.Declaration.{next};
-ghost use Rattle.ion_symbols.specs.Present.{Starts, imports_in, slot_told, slots_at};
-ghost use Rattle.ion_symbols.specs.Buffer.{IsPending, own_of, pending_of};
+ghost use Rattle.ion_symbols.specs.Table.{count_of, import_slot, local_slot, most_slots, slot_in, slot_of, slots_cost, system, system_slots, table_cost};
+ghost use Rattle.ion_symbols.specs.Present.{IsKept, Starts, imports_in, kept_table, slot_told, slots_at, with_locals};
+ghost use Rattle.ion_symbols.specs.Kept.{IsUndone};
 
-use crate::buffer::SymbolBuffer;
 use crate::catalog::Catalog;
 use crate::slots::Slots;
 use ion_meter::fault::Fault;
@@ -66,7 +63,10 @@ impl<'c, A: Allocator + Copy> Model for Symbols<'c, A> {
 
     ghost Value = { Present };
 
-    ghost view = { λ s. record { table = record { imports = imports_in s.catalog.now s.imports.items; locals = s.slots }; catalog = s.catalog.now } };
+    ghost view = { λ s. record {
+      table = record { imports = imports_in s.catalog.now s.imports.items; locals = s.slots };
+      catalog = s.catalog.now;
+    } };
 
     ghost invariant = { λ s. IsKept s.imports.items s.imports.cost s.import_slots s.slots };
 }
@@ -127,7 +127,8 @@ fn shared<A: Allocator + Copy>(catalog: &Catalog<A>, table: Option<usize>, place
 // The import that a slot stands in: the last that begins at it or before.
 fn import_at(imports: &[Found], place: u64) -> usize
     requires { (end : ℕ) × (Starts 0 imports.now end × (place < end)) }
-    ensures { MatchOption (slice_get imports.now result) ⊥ (λ f. (f.start ≤ place) × (place < f.start + f.count)) }
+    ensures { MatchOption (slice_get imports.now result) ⊥
+        (λ f. (f.start ≤ place) × (place < f.start + f.count)) }
 {
     let mut low = 0;
     let mut high = imports.len();
@@ -150,7 +151,8 @@ fn imported<'a, A: Allocator + Copy>(
     place: u64,
 ) -> Slot<'a>
     requires { (end : ℕ) × (Starts 0 imports.now end × (place < end)) }
-    ensures { (locals : tables.Slots) → slot_told result ≡ slot_in (imports_in catalog.now imports.now) locals place }
+    ensures { (locals : tables.Slots)
+        → slot_told result ≡ slot_in (imports_in catalog.now imports.now) locals place }
 {
     let found = imports[import_at(imports, place)];
     shared(catalog, found.table, place - found.start)
@@ -220,54 +222,42 @@ impl<'c, A: Allocator + Copy> Symbols<'c, A> {
         self.slots.clear(meter);
     }
 
-    // The table of a declaration that was read: behind this one where that is kept, else in its
-    // place. Where memory is refused, this one stays; the other is given back.
-    pub(crate) fn take_in(
+    // Local slots behind those that are there; where memory is refused, none.
+    pub(crate) fn append(&mut self, meter: &mut Meter<A>, more: &Slots<A>) -> Result<(), Fault>
+        requires room { meter.old.held + slots_cost more.now < 2 ^ 63 }
+        requires held { table_cost self.old.table ≤ meter.old.held }
+        requires countable { meter.old.refused < 2 ^ 64 - 1 }
+        requires few { count_of self.old.table + length more.now ≤ most_slots }
+        ensures ok { OnOk result (self.new ≡ with_locals self.old more.now) }
+        ensures cost { OnOk result (Grows meter.old meter.new (slots_cost more.now)) }
+        ensures memory { IfErr result (λ e. e ≡ Memory) }
+        ensures err { OnErr result (self.new ≡ self.old) }
+        ensures undone { OnErr result (IsUndone meter.old meter.new (slots_cost more.now)) }
+    {
+        self.slots.append(meter, more)
+    }
+
+    // Other imports and local slots in place of its own, which are given back.
+    pub(crate) fn replace(
         &mut self,
         meter: &mut Meter<A>,
-        limit: u64,
-        buffer: SymbolBuffer<A>,
-    ) -> Result<(), Fault>
-        requires room { meter.old.held ≤ 2 ^ 62 }
-        requires held { table_cost self.old.table + own_of buffer ≤ meter.old.held }
-        requires countable { meter.old.refused < 2 ^ 64 - 1 }
-        requires limit { (limit ≤ 2 ^ 30) × (table_cost self.old.table ≤ limit) }
-        requires pending { IsPending limit self.old.table buffer }
-        requires nameless { buffer.name ≡ [] }
-        ensures table { OnOk result (self.new.table ≡ next self.old.table (pending_of self.old.catalog buffer)) }
-        ensures cheap { table_cost self.new.table ≤ limit }
-        ensures err { OnErr result (self.new ≡ self.old) }
-        ensures catalog { self.new.catalog ≡ self.old.catalog }
-        ensures memory { IfErr result (λ fault. (fault ≡ Memory) × (meter.old.refused < meter.new.refused)) }
-        ensures counted { OnOk result (meter.new.refused ≡ meter.old.refused) }
-        ensures charges { Charges meter.old meter.new (table_cost self.old.table + own_of buffer) (table_cost self.new.table) (2 * limit) }
+        imports: Table<Found, A>,
+        import_slots: u64,
+        slots: Slots<A>,
+    )
+        requires kept { IsKept imports.items imports.cost import_slots slots }
+        requires held { table_cost self.old.table ≤ meter.old.held }
+        ensures table { self.new
+            ≡ record self.old { table = kept_table self.old.catalog imports.items slots } }
+        ensures cost { Shrinks meter.old meter.new (table_cost self.old.table) }
     {
-        let SymbolBuffer {
-            area: _,
-            inside: _,
-            has_imports: _,
-            has_symbols: _,
-            keeps,
-            mut imports,
-            import_slots,
-            mut slots,
-            cost: _,
-            count: _,
-            entry: _,
-            name,
-        } = buffer;
-        name.release(meter);
-        let mut outcome = Ok(());
-        if keeps {
-            outcome = self.slots.append(meter, &slots);
-        } else {
-            mem::swap(&mut self.imports, &mut imports);
-            mem::swap(&mut self.slots, &mut slots);
-            self.import_slots = import_slots;
-        }
+        let mut imports = imports;
+        let mut slots = slots;
+        mem::swap(&mut self.imports, &mut imports);
+        mem::swap(&mut self.slots, &mut slots);
+        self.import_slots = import_slots;
         imports.release(meter);
         slots.release(meter);
-        outcome
     }
 
     /// Gives all back.

@@ -11,11 +11,11 @@ ghost use Rattle.ion_value.specs.Shares.{Charges, ReadCauses, fault_of};
 ghost use Rattle.ion_value.specs.Standing.{is_marker};
 ghost use Rattle.ion_symbols.specs.Table.{system, table_cost, text_at};
 ghost use Rattle.ion_symbols.specs.Users.{begins_declaration, level_after};
-ghost use Rattle.ion_symbols.specs.User.{IsReady, MayCome, coming_to, lent_by, owned_by, share_of};
+ghost use Rattle.ion_symbols.specs.User.{CanTurn, IsReady, MayCome, UserSteps, answered_by, catalog_of, coming_to, lent_by, level_of, limits_of, owned_by, raw_of, share_of, table_of};
 
+use crate::buffer::SymbolBuffer;
 use crate::catalog::Catalog;
 use crate::checks::check_item;
-use crate::declaration::replace;
 use crate::symbols::Symbols;
 use crate::told::word_in;
 use crate::word::Word;
@@ -117,8 +117,9 @@ impl<'c, R: RawReader<A>, A: Allocator + Copy> UserReader<'c, R, A> {
         requires level { R.opened raw ≡ [] }
         requires fresh { R.failed raw ≡ None }
         ensures ready { IsReady R.sound R.opened R.failed R.ended result }
-        ensures raw { (result.raw ≡ raw) × (result.failed ≡ None) }
-        ensures table { (result.symbols.table ≡ system) × ((result.symbols.catalog ≡ catalog.now) × ((result.limits ≡ limits) × (result.count ≡ 0))) }
+        ensures raw { (raw_of result ≡ raw) × (answered_by result ≡ None) }
+        ensures table { (table_of result ≡ system) × ((catalog_of result ≡ catalog.now)
+            × ((limits_of result ≡ limits) × (level_of result ≡ 0))) }
     {
         UserReader {
             raw,
@@ -133,7 +134,7 @@ impl<'c, R: RawReader<A>, A: Allocator + Copy> UserReader<'c, R, A> {
     /// known text.
     #[inline(always)]
     pub fn item(&self) -> Item<'_, Symbols<'c, A>>
-        requires { R.lends self.now.raw }
+        requires { R.lends (raw_of self.now) }
         ensures { item_of (λ s. text_at s.table) result ≡ lent_by R.current self.now }
     {
         self.raw.item().with_names(&self.symbols)
@@ -142,30 +143,29 @@ impl<'c, R: RawReader<A>, A: Allocator + Copy> UserReader<'c, R, A> {
     // Takes one raw item in.
     #[inline(always)]
     fn turn(&mut self, meter: &mut Meter<A>) -> Result<Taken, Fault>
-        requires room { meter.old.held ≤ 2 ^ 61 + (2 ^ 59 + 2 ^ 32) }
-        requires held { owned_by R.own self.old ≤ meter.old.held }
-        requires countable { meter.old.refused < 2 ^ 64 - 1 }
-        requires ready { IsReady R.sound R.opened R.failed R.ended self.old }
-        requires well { self.old.failed ≡ None }
-        ensures sound { R.sound self.new.raw }
-        ensures cheap { table_cost self.new.symbols.table ≤ self.new.limits.symbols }
+        requires can_turn { CanTurn R.RawReader (2 ^ 61 + (2 ^ 59 + 2 ^ 32)) self.old meter.old }
         ensures ready { OnOk result (IsReady R.sound R.opened R.failed R.ended self.new) }
-        ensures tells { R.tells self.new.raw ↔ R.tells self.old.raw }
-        ensures gives { R.tells self.old.raw → result ≡ Ok Taken.Item → coming_to R.reading self.old ≡ More (lent_by R.current self.new) (coming_to R.reading self.new) }
-        ensures passes { R.tells self.old.raw → result ≡ Ok Taken.Passed → coming_to R.reading self.old ≡ coming_to R.reading self.new }
-        ensures ends { R.tells self.old.raw → result ≡ Ok Taken.Ended → (coming_to R.reading self.old ≡ Finished) × (coming_to R.reading self.new ≡ Finished) }
-        ensures refuses { R.tells self.old.raw → (r : Reason) (p : ℕ) → result ≡ Err (Refused r p) → coming_to R.reading self.old ≡ Stopped r p }
-        ensures lends { result ≡ Ok Taken.Item → R.lends self.new.raw }
-        ensures comes { result ≡ Ok Taken.Item → MayCome (R.depth self.old.raw) (R.opened self.old.raw) (R.opened self.new.raw) (lent_by R.current self.new) }
-        ensures stays_open { result ≡ Ok Taken.Passed → R.opened self.new.raw ≡ R.opened self.old.raw }
-        ensures ended { result ≡ Ok Taken.Ended → R.ended self.new.raw }
-        ensures stays { R.ended self.old.raw → (result ≡ Ok Taken.Ended) × (self.new ≡ self.old) × (meter.new ≡ meter.old) }
-        ensures falls { IfOk result (λ taken. taken ≢ Taken.Ended → R.left self.new.raw < R.left self.old.raw) }
-        ensures causes { ReadCauses (fault_of result) meter.old meter.new (R.failures self.old.raw) (R.failures self.new.raw) (R.exceeds self.old.raw) }
-        ensures exceeds { R.exceeds self.new.raw ↔ R.exceeds self.old.raw }
-        ensures kept { (R.depth self.new.raw ≡ R.depth self.old.raw) × (R.most self.new.raw ≡ R.most self.old.raw) }
-        ensures same { (self.new.failed ≡ self.old.failed) × ((self.new.limits ≡ self.old.limits) × (self.new.symbols.catalog ≡ self.old.symbols.catalog)) }
-        ensures charges { Charges meter.old meter.new (owned_by R.own self.old) (owned_by R.own self.new) (share_of R.most self.old) }
+        ensures gives { R.tells (raw_of self.old) → result ≡ Ok Taken.Item
+            → coming_to R.reading self.old
+            ≡ More (lent_by R.current self.new) (coming_to R.reading self.new) }
+        ensures passes { R.tells (raw_of self.old) → result ≡ Ok Taken.Passed
+            → coming_to R.reading self.old ≡ coming_to R.reading self.new }
+        ensures ends { R.tells (raw_of self.old) → result ≡ Ok Taken.Ended
+            → (coming_to R.reading self.old ≡ Finished)
+            × (coming_to R.reading self.new ≡ Finished) }
+        ensures refuses { R.tells (raw_of self.old) → (r : Reason) (p : ℕ)
+            → result ≡ Err (Refused r p) → coming_to R.reading self.old ≡ Stopped r p }
+        ensures stays_open { result ≡ Ok Taken.Passed
+            → R.opened (raw_of self.new) ≡ R.opened (raw_of self.old) }
+        ensures stays { R.ended (raw_of self.old) → (result ≡ Ok Taken.Ended)
+            × (self.new ≡ self.old) × (meter.new ≡ meter.old) }
+        ensures falls { IfOk result (λ taken. taken ≢ Taken.Ended
+            → R.left (raw_of self.new) < R.left (raw_of self.old)) }
+        ensures causes { ReadCauses (fault_of result) meter.old meter.new
+            (R.failures (raw_of self.old)) (R.failures (raw_of self.new))
+            (R.exceeds (raw_of self.old)) }
+        ensures steps { UserSteps R.RawReader Taken.Item Taken.Ended
+            self.old self.new meter.old meter.new result }
     {
         match self.raw.next(meter) {
             Err(fault) => return Err(fault),
@@ -182,7 +182,7 @@ impl<'c, R: RawReader<A>, A: Allocator + Copy> UserReader<'c, R, A> {
             if let Err(fault) = check_item(&self.symbols, false, &item) {
                 return Err(fault);
             }
-            return match replace(meter, self.limits, &mut self.raw, &mut self.symbols) {
+            return match SymbolBuffer::read(meter, self.limits, &mut self.raw, &mut self.symbols) {
                 Err(fault) => Err(fault),
                 Ok(false) => Ok(Taken::Ended),
                 Ok(true) => Ok(Taken::Passed),
@@ -198,28 +198,24 @@ impl<'c, R: RawReader<A>, A: Allocator + Copy> UserReader<'c, R, A> {
     // Takes the next item of a user value; false at the end of the stream.
     #[inline(always)]
     fn advance(&mut self, meter: &mut Meter<A>) -> Result<bool, Fault>
-        requires room { meter.old.held ≤ 2 ^ 61 }
-        requires held { owned_by R.own self.old ≤ meter.old.held }
-        requires countable { meter.old.refused < 2 ^ 64 - 1 }
-        requires ready { IsReady R.sound R.opened R.failed R.ended self.old }
-        requires well { self.old.failed ≡ None }
-        ensures sound { R.sound self.new.raw }
-        ensures cheap { table_cost self.new.symbols.table ≤ self.new.limits.symbols }
+        requires can_turn { CanTurn R.RawReader (2 ^ 61) self.old meter.old }
         ensures ready { OnOk result (IsReady R.sound R.opened R.failed R.ended self.new) }
-        ensures tells { R.tells self.new.raw ↔ R.tells self.old.raw }
-        ensures gives { R.tells self.old.raw → result ≡ Ok true → coming_to R.reading self.old ≡ More (lent_by R.current self.new) (coming_to R.reading self.new) }
-        ensures ends { R.tells self.old.raw → result ≡ Ok false → (coming_to R.reading self.old ≡ Finished) × (coming_to R.reading self.new ≡ Finished) }
-        ensures refuses { R.tells self.old.raw → (r : Reason) (p : ℕ) → result ≡ Err (Refused r p) → coming_to R.reading self.old ≡ Stopped r p }
-        ensures lends { result ≡ Ok true → R.lends self.new.raw }
-        ensures comes { result ≡ Ok true → MayCome (R.depth self.old.raw) (R.opened self.old.raw) (R.opened self.new.raw) (lent_by R.current self.new) }
-        ensures ended { result ≡ Ok false → R.ended self.new.raw }
-        ensures stays { R.ended self.old.raw → (result ≡ Ok false) × (self.new ≡ self.old) × (meter.new ≡ meter.old) }
-        ensures falls { result ≡ Ok true → R.left self.new.raw < R.left self.old.raw }
-        ensures causes { ReadCauses (fault_of result) meter.old meter.new (R.failures self.old.raw) (R.failures self.new.raw) (R.exceeds self.old.raw) }
-        ensures exceeds { R.exceeds self.new.raw ↔ R.exceeds self.old.raw }
-        ensures kept { (R.depth self.new.raw ≡ R.depth self.old.raw) × (R.most self.new.raw ≡ R.most self.old.raw) }
-        ensures same { (self.new.failed ≡ self.old.failed) × ((self.new.limits ≡ self.old.limits) × (self.new.symbols.catalog ≡ self.old.symbols.catalog)) }
-        ensures charges { Charges meter.old meter.new (owned_by R.own self.old) (owned_by R.own self.new) (share_of R.most self.old) }
+        ensures gives { R.tells (raw_of self.old) → result ≡ Ok true
+            → coming_to R.reading self.old
+            ≡ More (lent_by R.current self.new) (coming_to R.reading self.new) }
+        ensures ends { R.tells (raw_of self.old) → result ≡ Ok false
+            → (coming_to R.reading self.old ≡ Finished)
+            × (coming_to R.reading self.new ≡ Finished) }
+        ensures refuses { R.tells (raw_of self.old) → (r : Reason) (p : ℕ)
+            → result ≡ Err (Refused r p) → coming_to R.reading self.old ≡ Stopped r p }
+        ensures stays { R.ended (raw_of self.old) → (result ≡ Ok false)
+            × (self.new ≡ self.old) × (meter.new ≡ meter.old) }
+        ensures falls { result ≡ Ok true → R.left (raw_of self.new) < R.left (raw_of self.old) }
+        ensures causes { ReadCauses (fault_of result) meter.old meter.new
+            (R.failures (raw_of self.old)) (R.failures (raw_of self.new))
+            (R.exceeds (raw_of self.old)) }
+        ensures steps { UserSteps R.RawReader true false
+            self.old self.new meter.old meter.new result }
     {
         loop {
             match self.turn(meter) {
@@ -245,30 +241,45 @@ impl<'c, R: RawReader<A>, A: Allocator + Copy> UserReader<'c, R, A> {
         requires countable { meter.old.refused < 2 ^ 64 - 1 }
         requires ready { IsReady R.sound R.opened R.failed R.ended self.old }
         ensures ready { IsReady R.sound R.opened R.failed R.ended self.new }
-        ensures tells { R.tells self.new.raw ↔ R.tells self.old.raw }
+        ensures tells { R.tells (raw_of self.new) ↔ R.tells (raw_of self.old) }
 
         // The items, and how they end.
-        ensures gives { R.tells self.old.raw → result ≡ Ok true → coming_to R.reading self.old ≡ More (lent_by R.current self.new) (coming_to R.reading self.new) }
-        ensures ends { R.tells self.old.raw → result ≡ Ok false → (coming_to R.reading self.old ≡ Finished) × (coming_to R.reading self.new ≡ Finished) }
-        ensures refuses { R.tells self.old.raw → self.old.failed ≡ None → (r : Reason) (p : ℕ) → result ≡ Err (Refused r p) → coming_to R.reading self.old ≡ Stopped r p }
-        ensures lends { result ≡ Ok true → R.lends self.new.raw }
+        ensures gives { R.tells (raw_of self.old) → result ≡ Ok true
+            → coming_to R.reading self.old
+            ≡ More (lent_by R.current self.new) (coming_to R.reading self.new) }
+        ensures ends { R.tells (raw_of self.old) → result ≡ Ok false
+            → (coming_to R.reading self.old ≡ Finished)
+            × (coming_to R.reading self.new ≡ Finished) }
+        ensures refuses { R.tells (raw_of self.old) → answered_by self.old ≡ None
+            → (r : Reason) (p : ℕ) → result ≡ Err (Refused r p)
+            → coming_to R.reading self.old ≡ Stopped r p }
+        ensures lends { result ≡ Ok true → R.lends (raw_of self.new) }
 
         // Each step, whatever the device tells.
-        ensures comes { result ≡ Ok true → MayCome (R.depth self.old.raw) (R.opened self.old.raw) (R.opened self.new.raw) (lent_by R.current self.new) }
-        ensures falls { result ≡ Ok true → R.left self.new.raw < R.left self.old.raw }
-        ensures same { (self.new.limits ≡ self.old.limits) × (self.new.symbols.catalog ≡ self.old.symbols.catalog) }
+        ensures comes { result ≡ Ok true → MayCome (R.depth (raw_of self.old))
+            (R.opened (raw_of self.old)) (R.opened (raw_of self.new)) (lent_by R.current self.new) }
+        ensures falls { result ≡ Ok true → R.left (raw_of self.new) < R.left (raw_of self.old) }
+        ensures same { (limits_of self.new ≡ limits_of self.old)
+            × (catalog_of self.new ≡ catalog_of self.old) }
 
         // The end and faults.
-        ensures ended { result ≡ Ok false → R.ended self.new.raw }
-        ensures stays { self.old.failed ≡ None → R.ended self.old.raw → (result ≡ Ok false) × (self.new ≡ self.old) × (meter.new ≡ meter.old) }
-        ensures failed { self.new.failed ≡ fault_of result }
-        ensures again { (f : Fault) → self.old.failed ≡ Some f → (result ≡ Err f) × (self.new ≡ self.old) × (meter.new ≡ meter.old) }
-        ensures causes { self.old.failed ≡ None → ReadCauses (fault_of result) meter.old meter.new (R.failures self.old.raw) (R.failures self.new.raw) (R.exceeds self.old.raw) }
-        ensures exceeds { R.exceeds self.new.raw ↔ R.exceeds self.old.raw }
+        ensures ended { result ≡ Ok false → R.ended (raw_of self.new) }
+        ensures stays { answered_by self.old ≡ None → R.ended (raw_of self.old)
+            → (result ≡ Ok false) × (self.new ≡ self.old) × (meter.new ≡ meter.old) }
+        ensures failed { answered_by self.new ≡ fault_of result }
+        ensures again { (f : Fault) → answered_by self.old ≡ Some f
+            → (result ≡ Err f) × (self.new ≡ self.old) × (meter.new ≡ meter.old) }
+        ensures causes { answered_by self.old ≡ None
+            → ReadCauses (fault_of result) meter.old meter.new
+            (R.failures (raw_of self.old)) (R.failures (raw_of self.new))
+            (R.exceeds (raw_of self.old)) }
+        ensures exceeds { R.exceeds (raw_of self.new) ↔ R.exceeds (raw_of self.old) }
 
         // Memory, on every exit.
-        ensures kept { (R.depth self.new.raw ≡ R.depth self.old.raw) × (R.most self.new.raw ≡ R.most self.old.raw) }
-        ensures charges { Charges meter.old meter.new (owned_by R.own self.old) (owned_by R.own self.new) (share_of R.most self.old) }
+        ensures kept { (R.depth (raw_of self.new) ≡ R.depth (raw_of self.old))
+            × (R.most (raw_of self.new) ≡ R.most (raw_of self.old)) }
+        ensures charges { Charges meter.old meter.new (owned_by R.own self.old)
+            (owned_by R.own self.new) (share_of R.most self.old) }
     {
         if let Some(fault) = self.failed {
             return Err(fault);
@@ -282,9 +293,9 @@ impl<'c, R: RawReader<A>, A: Allocator + Copy> UserReader<'c, R, A> {
 
     /// Gives the symbol table back, and hands the raw reader out.
     pub fn release(self, meter: &mut Meter<A>) -> R
-        requires { table_cost self.symbols.table ≤ meter.old.held }
-        ensures raw { result ≡ self.entry.raw }
-        ensures cost { Shrinks meter.old meter.new (table_cost self.entry.symbols.table) }
+        requires { table_cost (table_of self) ≤ meter.old.held }
+        ensures raw { result ≡ raw_of self.entry }
+        ensures cost { Shrinks meter.old meter.new (table_cost (table_of self.entry)) }
     {
         let UserReader {
             raw,

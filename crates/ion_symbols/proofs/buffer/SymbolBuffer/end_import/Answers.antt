@@ -10,5 +10,5 @@ returns-clause-pending g c =
     let f : Found = record { table = c.in-Slots.table; start = b.import_slots; count = c.in-Slots.count } in
     let cheap : (b.cost - length c.as_slice.result.now) + 32 ≤ c.args.limit = grind arith in
     let few : b.count + c.in-Slots.count ≤ most_slots = grind arith in
-    import_pushed b c.push.new.self f (length c.as_slice.result.now) c.clear.new.self c.requires.pending c.requires.within.0
+    import_pushed b c.push.new.self f (length c.as_slice.result.now) c.clear.new.self c.requires.can_take.pending c.requires.within.0
     c.in_default.ensures.ok c.push.ensures.same_cost refl (ap length c.as_slice.ensures) c.clear.ensures.bytes cheap few

@@ -6,7 +6,7 @@ use Rattle.ion_symbols.proofs.buffer.SymbolBuffer.take.Goals as goal
 
 pub returns-in-Fields-clause-nameless : goal.returns-in-Fields-clause-nameless
 returns-in-Fields-clause-nameless g c =
-    λ u. c.field.ensures.name ∙ c.requires.pending.unnamed (ap (λ a. is_named a c.args.self.now.entry.has_name) c.in-Fields.is)
+    λ u. c.field.ensures.same.name ∙ c.requires.can_take.pending.unnamed (ap (λ a. is_named a c.args.self.now.entry.has_name) c.in-Fields.is)
 
 pub returns-in-Fields-clause-turn : goal.returns-in-Fields-clause-turn
 returns-in-Fields-clause-turn g c =

@@ -1,6 +1,6 @@
 use Rattle.std.proofs.Common.{◌≡◌, ◌-◌, ◌≤◌, length, drop, Option}
 use Rattle.ion_symbols.specs.Table.{Shared, greatest, greatest_from}
-use Rattle.ion_symbols.specs.Kept.{Points}
+use Rattle.ion_symbols.specs.Catalogue.{Points}
 use Rattle.ion_symbols.proofs.catalog.Catalog.greatest.Given as goal
 
 -- the best of the tables before the place

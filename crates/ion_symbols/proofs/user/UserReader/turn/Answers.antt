@@ -9,8 +9,8 @@ use Rattle.ion_symbols.proofs.user.UserReader.turn.Goals as goal
 
 pub returns-in-Err-check_item-2-clause-causes : goal.returns-in-Err-check_item-2-clause-causes
 returns-in-Err-check_item-2-clause-causes g c =
-    let refused : c.next.new.meter.refused ≡ c.args.meter.now.refused = (c.in-Ok-true.ensures.causes (c.requires.ready.fresh c.requires.well)).counted (λ e. absurd (cc e)) in
-    let failures : g.R.RawReader.failures c.next.new.self ≡ g.R.RawReader.failures c.args.self.now.raw = (c.in-Ok-true.ensures.causes (c.requires.ready.fresh c.requires.well)).steady (λ e. absurd (cc e)) in
+    let refused : c.next.new.meter.refused ≡ c.args.meter.now.refused = (c.in-Ok-true.ensures.causes (c.requires.can_turn.ready.fresh c.requires.can_turn.well)).counted (λ e. absurd (cc e)) in
+    let failures : g.R.RawReader.failures c.next.new.self ≡ g.R.RawReader.failures c.args.self.now.raw = (c.in-Ok-true.ensures.causes (c.requires.can_turn.ready.fresh c.requires.can_turn.well)).steady (λ e. absurd (cc e)) in
     check_causes (checked c.args.self.now.symbols.table true (raw_item c.item-item.result)) c.in-Err-check_item-2.fault c.args.meter.now c.next.new.meter
     (g.R.RawReader.failures c.args.self.now.raw) (g.R.RawReader.failures c.next.new.self) (g.R.RawReader.exceeds c.args.self.now.raw) c.in-Err-check_item-2.ensures refused failures
 

@@ -2,7 +2,7 @@ use Rattle.std.proofs.Common.{◌≡◌, ◌+◌, ◌≤◌, ◌↔◌, None, le
 use Rattle.ion_value.specs.Shares.{Charges}
 use Rattle.ion_symbols.specs.Users.{users, declaring}
 use Rattle.ion_symbols.specs.Buffer.{declaring_of, own_of, IsPending, depth_of}
-use Rattle.ion_symbols.proofs.declaration.gather.Given as goal
+use Rattle.ion_symbols.proofs.buffer.gather.Given as goal
 
 abbrev pub invariant-items : goal.invariant-items
 invariant-items g l =

@@ -8,7 +8,7 @@ use Rattle.ion_symbols.specs.Declaration.{Ground, next, told, turn, on, made}
 use Rattle.ion_symbols.specs.Users.{checked, declaring, users}
 use Rattle.ion_symbols.specs.Buffer.{declaring_of, pending_of}
 use Rattle.ion_symbols.proofs.Turns.{level-on, level-made, goes_on, goes_out, turn_refused, not_failed, stopped, check_causes}
-use Rattle.ion_symbols.proofs.declaration.gather.Goals as goal
+use Rattle.ion_symbols.proofs.buffer.gather.Goals as goal
 
 -- the item ends the declaration
 pub returns-in-Ok-true-clause-gives : goal.returns-in-Ok-true-clause-gives

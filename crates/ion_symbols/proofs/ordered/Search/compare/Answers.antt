@@ -2,7 +2,7 @@ use Rattle.std.proofs.Common.{◌≡◌, ap, ◌∙◌, sym, arith}
 use Rattle.ion_symbols.specs.Output.{Searched, text_cmp}
 use Rattle.ion_symbols.proofs.TextOrder.{at_place}
 use Rattle.ion_symbols.proofs.OutputTexts.{kept_place, kept_text}
-use Rattle.ion_symbols.proofs.search.Search.compare.Goals as goal
+use Rattle.ion_symbols.proofs.ordered.Search.compare.Goals as goal
 
 pub slice_bounds-cmp-count : goal.slice_bounds-cmp-count
 slice_bounds-cmp-count c = (kept_place _ _ _ _ c.self.invariant (ap (λ (s : Searched). s.texts) c.self.view_is) c.args.place c.requires.within _).0

@@ -4,8 +4,8 @@ use Rattle.ion_meter.specs.declared.fault.Fault.{Fault}
 use Rattle.ion_meter.specs.declared.fault.Fault.TheVariants.{Refused, Memory, ReadFault, WriteFault, InputLimit}
 use Rattle.ion_meter.specs.declared.fault.Reason.{Reason}
 use Rattle.ion_meter.specs.Windows.{Incoming, left, Extends}
-use Rattle.ion_binary.specs.Descriptor.{Cursor}
-use Rattle.ion_binary.specs.Parts.{cursor, Moves, Answers}
+use Rattle.ion_meter.specs.Sources.{Cursor, cursor, Moves}
+use Rattle.ion_value.specs.Answers.{Answers}
 
 pub moves-then : {I : Type 0} (rest : I → List ℕ) (tells : I → Type 0) (s t u : Incoming I) → Moves rest tells s t → Moves rest tells t u → Moves rest tells s u
 moves-then rest tells s t u a b = record {

@@ -14,9 +14,11 @@ use Rattle.ion_value.specs.Items.{raw_annotation}
 use Rattle.ion_value.specs.Name.{raw_id}
 use Rattle.ion_value.specs.Shares.{Charges}
 use Rattle.ion_value.specs.Value.{SymbolAt}
-use Rattle.ion_binary.specs.Descriptor.{◌>>=◌, Cursor, var_uint_at}
-use Rattle.ion_binary.specs.Parts.{Answers, AnswersAt}
-use Rattle.ion_binary.specs.Reading.{Placed, symbol_id, ids_at}
+use Rattle.ion_meter.specs.Sources.{Cursor}
+use Rattle.ion_value.specs.Parts.{◌>>=◌, Placed}
+use Rattle.ion_binary.specs.Descriptor.{var_uint_at}
+use Rattle.ion_value.specs.Answers.{Answers, AnswersAt}
+use Rattle.ion_binary.specs.Reading.{symbol_id, ids_at}
 use Rattle.ion_binary.specs.Wrappers.{as_notes}
 use Rattle.ion_binary.proofs.VarLoop.{positive}
 

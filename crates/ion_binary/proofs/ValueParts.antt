@@ -8,9 +8,11 @@ use Rattle.ion_value.specs.Value.{SymbolAt}
 use Rattle.ion_value.specs.Reading.{Step}
 use Rattle.ion_binary.specs.declared.body.Body.{Body}
 use Rattle.ion_binary.specs.declared.found.Found as found
-use Rattle.ion_binary.specs.Descriptor.{◌>>=◌, Cursor, Region, octet_at, shape_of}
-use Rattle.ion_binary.specs.Reading.{Placed, part, Frame, State, Wrapped, region_of, given, found_at, wrapper_at, ids_at, plain_at, inner_at, annotated_at, value_at, wrapper_length}
-use Rattle.ion_binary.specs.Parts.{Answers, AnswersAt}
+use Rattle.ion_meter.specs.Sources.{Cursor}
+use Rattle.ion_value.specs.Parts.{◌>>=◌, Placed, part}
+use Rattle.ion_binary.specs.Descriptor.{Region, octet_at, shape_of}
+use Rattle.ion_binary.specs.Reading.{Frame, State, Wrapped, region_of, given, found_at, wrapper_at, ids_at, plain_at, inner_at, annotated_at, value_at, wrapper_length}
+use Rattle.ion_value.specs.Answers.{Answers, AnswersAt}
 use Rattle.ion_binary.specs.Values.{GivesStep}
 
 module _ (frames : List Frame) (top : ℕ) (f : Option SymbolAt) (notes : List SymbolAt) (text : List ℕ) (scalar : Body) where

@@ -8,8 +8,10 @@ use Rattle.ion_value.specs.declared.ion_type.Kind.{Kind}
 use Rattle.ion_value.specs.declared.ion_type.Kind.TheVariants as kind
 use Rattle.ion_value.specs.Number.{VarUInt}
 use Rattle.ion_value.specs.Value.{SymbolAt}
-use Rattle.ion_binary.specs.Descriptor.{refuse, Cursor, Region, passes, length_at, var_uint_at}
-use Rattle.ion_binary.specs.Reading.{Wrapped, wrapper_at, symbol_id, part, ids_at, Frame, region_of, field_in, field_at}
+use Rattle.ion_meter.specs.Sources.{Cursor}
+use Rattle.ion_value.specs.Parts.{refuse, part}
+use Rattle.ion_binary.specs.Descriptor.{Region, passes, length_at, var_uint_at}
+use Rattle.ion_binary.specs.Reading.{Wrapped, wrapper_at, symbol_id, ids_at, Frame, region_of, field_in, field_at}
 use Rattle.ion_binary.specs.Grammar.{Descriptor, Ids, Field}
 use Rattle.ion_binary.specs.Paths.{FieldIn}
 use Rattle.ion_binary.proofs.Taken.{bind_ok, then_ok, passed, part_ok, ok_is, chosen, InRegion, Took, Took-none, Took-then, var_uint_at-taken, length_at-taken}

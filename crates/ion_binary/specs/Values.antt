@@ -6,8 +6,9 @@ use Rattle.ion_value.specs.Value.{SymbolAt}
 use Rattle.ion_value.specs.Reading.{Step}
 use Rattle.ion_binary.specs.declared.body.Body.{Body}
 use Rattle.ion_binary.specs.declared.found.Found as found
-use Rattle.ion_binary.specs.Descriptor.{Cursor}
-use Rattle.ion_binary.specs.Reading.{Placed, Frame, State, given}
+use Rattle.ion_meter.specs.Sources.{Cursor}
+use Rattle.ion_value.specs.Parts.{Placed}
+use Rattle.ion_binary.specs.Reading.{Frame, State, given}
 use Rattle.ion_binary.specs.Finds.{as_found}
 
 -- what a call answers that reads a value: what it is and the place of its first octet, as the step that reading gives of it

@@ -7,9 +7,10 @@ ghost use Rattle.ion_value.specs.Name.{raw_id};
 ghost use Rattle.ion_value.specs.Scalar.{scalar_of_body};
 ghost use Rattle.ion_value.specs.Shares.{Charges, ReadCauses, fault_of};
 ghost use Rattle.ion_value.specs.Standing.{InRange};
-ghost use Rattle.ion_binary.specs.Descriptor.{skip};
+ghost use Rattle.ion_meter.specs.Sources.{skip, cursor, Exceeds, Stands, Moves, Causes};
 ghost use Rattle.ion_binary.specs.Bodies.{as_scalar};
-ghost use Rattle.ion_binary.specs.Parts.{cursor, Exceeds, Stands, Moves, Causes, Answers, body_here};
+ghost use Rattle.ion_value.specs.Answers.{Answers};
+ghost use Rattle.ion_binary.specs.Parts.{body_here};
 
 use ion_meter::buf::Buf;
 use ion_meter::device::Input;

@@ -7,7 +7,8 @@ ghost use Rattle.ion_binary.specs.Reading.{a_pad, a_marker, a_scalar, a_containe
 ghost use Rattle.ion_binary.specs.Bodies.{as_scalar};
 ghost use Rattle.ion_binary.specs.Finds.{as_around, as_found, end_by, IsBodyCode, IsOfDescriptor};
 ghost use Rattle.ion_binary.specs.Shapes.{as_shape};
-ghost use Rattle.ion_binary.specs.Parts.{cursor, Exceeds, Stands, Moves, Causes, Answers};
+ghost use Rattle.ion_meter.specs.Sources.{cursor, Exceeds, Stands, Moves, Causes};
+ghost use Rattle.ion_value.specs.Answers.{Answers};
 
 use crate::body::{Body, next_body, pass_over};
 use crate::descriptor::Shape;

@@ -3,7 +3,8 @@
 ghost use Rattle.std.specs.Prelude.{◌≡◌, ◌+◌, ◌^◌, ◌<◌, ◌≤◌, ℕ, OnOk, IfOk};
 ghost use Rattle.ion_value.specs.Shares.{fault_of};
 ghost use Rattle.ion_binary.specs.Descriptor.{octet_at, var_uint_at, length_at};
-ghost use Rattle.ion_binary.specs.Parts.{cursor, Exceeds, Stands, Moves, Causes, Answers, itself};
+ghost use Rattle.ion_meter.specs.Sources.{cursor, Exceeds, Stands, Moves, Causes};
+ghost use Rattle.ion_value.specs.Answers.{Answers, itself};
 
 use ion_meter::device::Input;
 use ion_meter::fault::{Fault, Reason};

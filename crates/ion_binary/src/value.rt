@@ -7,7 +7,7 @@ ghost use Rattle.ion_value.specs.declared.ion_type.Kind as kinds;
 ghost use Rattle.ion_binary.specs.Descriptor.{shape_of};
 ghost use Rattle.ion_binary.specs.Reading.{Frame, region_of, wrapper_length, inner_at, annotated_at, value_at};
 ghost use Rattle.ion_binary.specs.Bodies.{as_scalar};
-ghost use Rattle.ion_binary.specs.Parts.{cursor, Exceeds, Stands, Moves};
+ghost use Rattle.ion_meter.specs.Sources.{cursor, Exceeds, Stands, Moves};
 ghost use Rattle.ion_binary.specs.Wrappers.{as_notes};
 ghost use Rattle.ion_binary.specs.Values.{GivesStep};
 

@@ -5,7 +5,8 @@ ghost use Rattle.ion_value.specs.Shares.{Charges, ReadCauses, fault_of};
 ghost use Rattle.ion_value.specs.Standing.{in_struct};
 ghost use Rattle.ion_binary.specs.Descriptor.{passes};
 ghost use Rattle.ion_binary.specs.Reading.{wrapper_at, ids_at, field_at};
-ghost use Rattle.ion_binary.specs.Parts.{cursor, Exceeds, Stands, Moves, Causes, Answers, AnswersAt};
+ghost use Rattle.ion_meter.specs.Sources.{cursor, Exceeds, Stands, Moves, Causes};
+ghost use Rattle.ion_value.specs.Answers.{Answers, AnswersAt};
 ghost use Rattle.ion_binary.specs.Wrappers.{as_wrapped, as_notes, as_field, innermost};
 
 use crate::body::id_of;

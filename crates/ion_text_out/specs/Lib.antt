@@ -1,6 +1,5 @@
 pub mod Escape
 pub mod Text
 pub mod Laws
-pub mod Putting
 pub mod Writing
 pub mod Written

@@ -2,7 +2,7 @@
 ghost use Rattle.std.specs.Prelude.{◌≡◌, ◌≤◌, None, length};
 ghost use Rattle.base64.specs.Engines.{standard};
 ghost use Rattle.base64.specs.GeneralPurpose.{encode_of};
-ghost use Rattle.ion_text_out.specs.Putting.{HasPut};
+ghost use Rattle.ion_meter.specs.Sinks.{HasPut};
 
 use crate::put::put;
 use base64::engine::general_purpose::STANDARD;

@@ -9,7 +9,7 @@ ghost use Rattle.ion_value.specs.Items.{raw_head, raw_field, symbol_at, symbol_o
 ghost use Rattle.ion_value.specs.Shares.{Charges, fault_of};
 ghost use Rattle.ion_value.specs.Standing.{HasPlace};
 ghost use Rattle.ion_text_out.specs.Text.{annotation_text, symbol_text, item_text, open_after};
-ghost use Rattle.ion_text_out.specs.Putting.{HasPut};
+ghost use Rattle.ion_meter.specs.Sinks.{HasPut};
 ghost use Rattle.ion_text_out.specs.Writing.{body_text, first_text, is_value, last_text, middle_text, name_text, note_text, notes_text, shown, user_at, user_item, HeadInRange, IsReady};
 
 use crate::between::{before, behind, behind_end, closing};

@@ -1,6 +1,6 @@
 //! Bytes that are put in parts.
 ghost use Rattle.std.specs.Prelude.{◌≡◌, ◌++◌, None, OnOk};
-ghost use Rattle.ion_text_out.specs.Putting.{HasPut};
+ghost use Rattle.ion_meter.specs.Sinks.{HasPut};
 
 use ion_meter::device::Output;
 use ion_meter::fault::Fault;

@@ -2,7 +2,7 @@
 ghost use Rattle.std.specs.Prelude.{◌≡◌, ◌<◌, ◌≤◌, true, false, None, length, take, drop};
 ghost use Rattle.std.specs.List.{flat_map};
 ghost use Rattle.ion_text_out.specs.Escape.{hex_digit, letter, is_shown, escaped, byte_text, between_quotes};
-ghost use Rattle.ion_text_out.specs.Putting.{HasPut};
+ghost use Rattle.ion_meter.specs.Sinks.{HasPut};
 ghost use Rattle.ion_value.specs.Digits.{first_is, all_are};
 
 use crate::put::put;

@@ -10,7 +10,7 @@ ghost use Rattle.ion_value.specs.Value.{user_symbol, map_head};
 ghost use Rattle.ion_value.specs.Items.{symbol_of, raw_head};
 ghost use Rattle.ion_text_out.specs.Escape.{between_quotes};
 ghost use Rattle.ion_text_out.specs.Text.{symbol_text};
-ghost use Rattle.ion_text_out.specs.Putting.{HasPut};
+ghost use Rattle.ion_meter.specs.Sinks.{HasPut};
 ghost use Rattle.ion_text_out.specs.Writing.{user_at, body_text, HeadInRange};
 
 use crate::between::opener;

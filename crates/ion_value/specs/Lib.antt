@@ -9,6 +9,8 @@ pub mod Scalar
 pub mod Items
 pub mod Path
 pub mod Reading
+pub mod Parts
+pub mod Answers
 pub mod Shares
 pub mod Standing
 pub mod Outcome

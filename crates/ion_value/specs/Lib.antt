@@ -14,8 +14,6 @@ pub mod Answers
 pub mod Shares
 pub mod Standing
 pub mod Outcome
-pub mod Small
-pub mod Holding
 pub mod TimestampFields
 pub mod TimestampRuns
 pub mod DigitReading

@@ -297,9 +297,10 @@ mod tests {
     struct OneName;
 
     impl Names for OneName {
-        ghost use Rattle.ion_value.specs.Small.{one_name};
+        ghost use Rattle.std.specs.Prelude.{Some, None, ◌∷◌, [], nat_eq, if◌then◌else◌};
 
-        ghost text = { λ _ id. one_name id };
+        // the letters n, a, m and e
+        ghost text = { λ _ id. if nat_eq id 10 then Some (110 ∷ 97 ∷ 109 ∷ 101 ∷ []) else None };
 
         fn text_of(&self, id: u32) -> Option<&[u8]> {
             if id == 10 { Some(b"name") } else { None }

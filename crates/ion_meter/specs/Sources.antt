@@ -1,8 +1,9 @@
 -- What contracts of reading calls say of a window on an input: where it stands, how it moves, and why it answers a fault.
-use Rattle.std.specs.Prelude.{◌≡◌, ℕ, ◌+◌, ◌^◌, ◌<◌, ◌≤◌, ◌↔◌, List, length, drop, Option, Some, None}
+use Rattle.std.specs.Prelude.{◌≡◌, ℕ, ◌+◌, ◌^◌, ◌<◌, ◌≤◌, ◌↔◌, ◌⊎◌, List, length, drop, Option, Some, None, Result, Err, OnOk, IfErr, IfSome}
+use Rattle.ion_meter.specs.declared.device.Input.{Ghosts as InputOf}
 use Rattle.ion_meter.specs.declared.fault.Fault.{Fault}
 use Rattle.ion_meter.specs.declared.fault.Fault.TheVariants.{Memory, ReadFault, WriteFault, InputLimit}
-use Rattle.ion_meter.specs.Windows.{Incoming, left}
+use Rattle.ion_meter.specs.Windows.{Incoming, left, failures_in, Extends}
 
 -- the bytes that are still to be read, and the place of the first of them
 pub record Cursor : Type 0 where
@@ -40,3 +41,12 @@ pub record Causes (fault : Option Fault) (failures_old failures_new : ℕ) (exce
   pub limit : fault ≡ Some InputLimit → exceeds
   pub no_memory : fault ≡ Some Memory → ⊥
   pub no_writes : fault ≡ Some WriteFault → ⊥
+
+-- what a call that reads does whatever it answers: nothing is passed over, and a fault is answered again
+pub record Reads {I T : Type 0} (device : InputOf I) (old new : Incoming I) (result : Result T Fault) : Type 0 where
+  pub kept : Extends device.rest device.tells old new
+  pub well : OnOk result ((old.fault ≡ None) × (new.fault ≡ None))
+  pub fault : IfErr result (λ f. new.fault ≡ Some f)
+  pub again : IfSome old.fault (λ f. (result ≡ Err f) × (new ≡ old))
+  pub cause : IfErr result (λ f. old.fault ≡ None → (f ≡ ReadFault) ⊎ (f ≡ InputLimit))
+  pub count : device.failure_count new.device ≡ device.failure_count old.device + failures_in old.fault result

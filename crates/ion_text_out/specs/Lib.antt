@@ -3,3 +3,4 @@ pub mod Text
 pub mod Laws
 pub mod Writing
 pub mod Written
+pub mod Steps

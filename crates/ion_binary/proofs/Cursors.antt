@@ -6,7 +6,8 @@ use Rattle.ion_meter.specs.declared.fault.Fault.TheVariants.{Refused, Memory, Re
 use Rattle.ion_meter.specs.declared.fault.Reason.{Reason}
 use Rattle.ion_meter.specs.Windows.{Incoming, left, Extends}
 use Rattle.ion_binary.specs.Positions.{Cursor}
-use Rattle.ion_binary.specs.Parts.{cursor, Moves, Answers}
+use Rattle.ion_meter.specs.Sources.{cursor, Moves}
+use Rattle.ion_value.specs.Answers.{Answers}
 
 pub moves-then : {I : Type 0} (device : InputOf I) (s t u : Incoming I) → Moves device s t → Moves device t u → Moves device s u
 moves-then device s t u a b = record {

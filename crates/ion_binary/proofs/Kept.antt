@@ -12,7 +12,8 @@ use Rattle.ion_value.specs.Path.{outermost, inner, Path, closed, opened, path_it
 use Rattle.ion_value.specs.Reading.{Step, Gives, GoesOn}
 use Rattle.ion_binary.specs.Positions.{Cursor, Frame, State, placed_scalar}
 use Rattle.ion_binary.specs.Descriptor.{Region, Shape, shape_of, octet_at}
-use Rattle.ion_binary.specs.Reading.{Around, Found, a_pad, a_marker, a_scalar, a_container, found_at, Wrapped, wrapper_at, Placed, part, ids_at, region_of, field_at, item_of, given, plain_at, inner_at, annotated_at, wrapper_length, by_wrapper, value_at, top_of, member_at, step_of, top_step, step_in, step}
+use Rattle.ion_value.specs.Parts.{Placed, part}
+use Rattle.ion_binary.specs.Reading.{Around, Found, a_pad, a_marker, a_scalar, a_container, found_at, Wrapped, wrapper_at, ids_at, region_of, field_at, item_of, given, plain_at, inner_at, annotated_at, wrapper_length, by_wrapper, value_at, top_of, member_at, step_of, top_step, step_in, step}
 use Rattle.ion_binary.specs.Grammar.{Descriptor, Ids, Front, Annotated, Wrapper, Plain, IsPad, Bin}
 use Rattle.ion_binary.specs.Paths.{FieldIn, Within, frame_of, open_in, Spells, Stands, IsTop, At, Follows}
 use Rattle.ion_binary.specs.Laws.{Bodies}

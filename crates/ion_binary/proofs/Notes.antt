@@ -15,9 +15,10 @@ use Rattle.ion_value.specs.Name.{raw_id}
 use Rattle.ion_value.specs.Shares.{Charges}
 use Rattle.ion_value.specs.Value.{SymbolAt}
 use Rattle.ion_binary.specs.Positions.{Cursor, symbol_id}
-use Rattle.ion_binary.specs.Descriptor.{◌>>=◌, var_uint_at}
-use Rattle.ion_binary.specs.Parts.{Answers, AnswersAt}
-use Rattle.ion_binary.specs.Reading.{Placed, ids_at}
+use Rattle.ion_value.specs.Parts.{◌>>=◌, Placed}
+use Rattle.ion_binary.specs.Descriptor.{var_uint_at}
+use Rattle.ion_value.specs.Answers.{Answers, AnswersAt}
+use Rattle.ion_binary.specs.Reading.{ids_at}
 use Rattle.ion_binary.specs.Wrappers.{as_notes}
 use Rattle.ion_binary.proofs.VarLoop.{positive}
 

@@ -6,8 +6,7 @@ use Rattle.std.proofs.lemmas.List.{drop-drop}
 use Rattle.ion_meter.specs.declared.device.Input.{Ghosts as InputOf}
 use Rattle.ion_meter.specs.Windows.{Incoming, left, lent, Extends, IsPassed}
 use Rattle.ion_meter.proofs.Lent.{lent-CanPass, IsPassed-left, IsPassed-total}
-use Rattle.ion_binary.specs.Descriptor.{skip}
-use Rattle.ion_binary.specs.Parts.{cursor, Stands, Moves}
+use Rattle.ion_meter.specs.Sources.{skip, cursor, Stands, Moves}
 use Rattle.ion_binary.proofs.Cursors.{moves-then}
 
 -- what is lent is there

@@ -24,10 +24,10 @@ use Rattle.ion_binary.specs.declared.reader.What.{What}
 use Rattle.ion_binary.specs.declared.reader.Taken.{Taken}
 use Rattle.ion_binary.specs.declared.reader.Taken.TheVariants as taken
 use Rattle.ion_binary.specs.Positions.{Cursor, Frame, State, placed_scalar}
-use Rattle.ion_binary.specs.Descriptor.{◌>>=◌}
-use Rattle.ion_binary.specs.Reading.{Placed, part, region_of, field_at, value_at, item_of, member_at, top_of, top_step, step_of, step}
+use Rattle.ion_value.specs.Parts.{◌>>=◌, Placed, part}
+use Rattle.ion_binary.specs.Reading.{region_of, field_at, value_at, item_of, member_at, top_of, top_step, step_of, step}
 use Rattle.ion_binary.specs.Bodies.{as_scalar}
-use Rattle.ion_binary.specs.Parts.{Answers}
+use Rattle.ion_value.specs.Answers.{Answers}
 use Rattle.ion_binary.specs.Values.{GivesStep}
 use Rattle.ion_binary.specs.Wrappers.{as_notes, as_field, as_frame, as_frames, innermost}
 use Rattle.ion_binary.specs.Reader.{item_seen, kinds_of, TakenGives, TakesAs, IsInnermost, at_top, inside}

@@ -12,7 +12,8 @@ use Rattle.ion_binary.specs.Positions.{Cursor, Frame, State}
 use Rattle.ion_binary.specs.Descriptor.{Region, octet_at, var_uint_at, length_at, wrapper, shape_by, shape_of}
 use Rattle.ion_binary.specs.Grammar.{Wrapper, Annotated, Ids}
 use Rattle.ion_binary.specs.Paths.{FieldIn, Within, frame_of}
-use Rattle.ion_binary.specs.Reading.{Around, Found, found_at, wrapper_at, Placed, ids_at, region_of, item_of, given, plain_at, inner_at, annotated_at, wrapper_length, value_at, top_of, member_at, step_of, step}
+use Rattle.ion_value.specs.Parts.{Placed}
+use Rattle.ion_binary.specs.Reading.{Around, Found, found_at, wrapper_at, ids_at, region_of, item_of, given, plain_at, inner_at, annotated_at, wrapper_length, value_at, top_of, member_at, step_of, step}
 use Rattle.ion_binary.proofs.Spelled.{cursor_at, Holds, Holds-before, octet_at-spelled, var_uint_at-spelled, Descriptor-headed, ids_at-spelled, field_at-spelled}
 use Rattle.ion_binary.proofs.SpelledParts.{shape_of-parts, passes-not, Suits, Finds}
 

@@ -11,7 +11,8 @@ use Rattle.ion_value.specs.Scalar.{scalar_of_body}
 use Rattle.ion_value.specs.Value as value
 use Rattle.ion_value.specs.Value.{Symbol, Scalar}
 use Rattle.ion_binary.specs.Positions.{Cursor}
-use Rattle.ion_binary.specs.Descriptor.{skip, Region, passes, falls_short, var_uint_at, length_at, Shape, null, bool, pad, body, container, sorted, marker, shape_by, shape_of, is_unwrappable}
+use Rattle.ion_meter.specs.Sources.{skip}
+use Rattle.ion_binary.specs.Descriptor.{Region, passes, falls_short, var_uint_at, length_at, Shape, null, bool, pad, body, container, sorted, marker, shape_by, shape_of, is_unwrappable}
 use Rattle.ion_binary.specs.Grammar.{IsNullOf, Body, Plain, IsPad, Front, code}
 use Rattle.ion_binary.specs.Laws.{Bodies}
 use Rattle.ion_binary.specs.Reading.{Around, Found, a_pad, a_marker, a_scalar, a_container, marker_at, bare_at, pad_at, body_at, scalar_at, begin_at, container_at, sorted_at, by_shape, found_at, wrapper_length}

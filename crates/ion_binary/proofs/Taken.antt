@@ -5,8 +5,9 @@ use Rattle.std.proofs.lemmas.List.{length-append, take-append-drop, length-take}
 use Rattle.ion_meter.specs.declared.fault.Reason.{Reason}
 use Rattle.ion_value.specs.Number.{IsVar, VarUInt, var_uint}
 use Rattle.ion_binary.specs.Positions.{Cursor}
-use Rattle.ion_binary.specs.Descriptor.{◌>>=◌, ◌>>◌, refuse, skip, Region, is_at_end, first_octet, octet_at, var_at, var_uint_at, length_at}
-use Rattle.ion_binary.specs.Reading.{part}
+use Rattle.ion_meter.specs.Sources.{skip}
+use Rattle.ion_value.specs.Parts.{◌>>=◌, ◌>>◌, refuse, part}
+use Rattle.ion_binary.specs.Descriptor.{Region, is_at_end, first_octet, octet_at, var_at, var_uint_at, length_at}
 use Rattle.ion_binary.specs.Grammar.{Descriptor, short, long}
 
 -- ---- steps that did not fail

@@ -9,9 +9,10 @@ use Rattle.ion_value.specs.Reading.{Step}
 use Rattle.ion_binary.specs.declared.body.Body.{Body}
 use Rattle.ion_binary.specs.declared.found.Found as found
 use Rattle.ion_binary.specs.Positions.{Cursor, Frame, State}
-use Rattle.ion_binary.specs.Descriptor.{◌>>=◌, Region, octet_at, shape_of}
-use Rattle.ion_binary.specs.Reading.{Placed, part, Wrapped, region_of, given, found_at, wrapper_at, ids_at, plain_at, inner_at, annotated_at, value_at, wrapper_length}
-use Rattle.ion_binary.specs.Parts.{Answers, AnswersAt}
+use Rattle.ion_value.specs.Parts.{◌>>=◌, Placed, part}
+use Rattle.ion_binary.specs.Descriptor.{Region, octet_at, shape_of}
+use Rattle.ion_binary.specs.Reading.{Wrapped, region_of, given, found_at, wrapper_at, ids_at, plain_at, inner_at, annotated_at, value_at, wrapper_length}
+use Rattle.ion_value.specs.Answers.{Answers, AnswersAt}
 use Rattle.ion_binary.specs.Values.{GivesStep}
 
 module _ (frames : List Frame) (top : ℕ) (f : Option SymbolAt) (notes : List SymbolAt) (text : List ℕ) (scalar : Body) where

@@ -8,7 +8,8 @@ use Rattle.ion_meter.specs.declared.fault.Reason.TheVariants.{BadVar}
 use Rattle.ion_value.proofs.Numbers.{seven-low}
 use Rattle.ion_value.specs.Number.{var_uint}
 use Rattle.ion_binary.specs.Positions.{Cursor}
-use Rattle.ion_binary.specs.Descriptor.{◌>>=◌, Region, octet_at, var_at, var_uint_at}
+use Rattle.ion_value.specs.Parts.{◌>>=◌}
+use Rattle.ion_binary.specs.Descriptor.{Region, octet_at, var_at, var_uint_at}
 use Rattle.ion_binary.specs.Parts.{var_from}
 
 -- the number of octets behind others that spell a number already

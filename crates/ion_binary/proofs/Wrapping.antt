@@ -9,8 +9,9 @@ use Rattle.ion_value.specs.declared.ion_type.Kind.TheVariants as kind
 use Rattle.ion_value.specs.Number.{VarUInt}
 use Rattle.ion_value.specs.Value.{SymbolAt}
 use Rattle.ion_binary.specs.Positions.{Cursor, symbol_id, Frame}
-use Rattle.ion_binary.specs.Descriptor.{refuse, Region, passes, length_at, var_uint_at}
-use Rattle.ion_binary.specs.Reading.{Wrapped, wrapper_at, part, ids_at, region_of, field_in, field_at}
+use Rattle.ion_value.specs.Parts.{refuse, part}
+use Rattle.ion_binary.specs.Descriptor.{Region, passes, length_at, var_uint_at}
+use Rattle.ion_binary.specs.Reading.{Wrapped, wrapper_at, ids_at, region_of, field_in, field_at}
 use Rattle.ion_binary.specs.Grammar.{Descriptor, Ids, Field}
 use Rattle.ion_binary.specs.Paths.{FieldIn}
 use Rattle.ion_binary.proofs.Taken.{bind_ok, then_ok, passed, part_ok, ok_is, chosen, InRegion, Took, Took-none, Took-then, var_uint_at-taken, length_at-taken}

@@ -3,7 +3,8 @@ use Rattle.std.proofs.Common.{refl, ap, sym, ◌∙◌, ◌≡◌, ℕ, ◌+◌,
 use Rattle.ion_meter.specs.declared.fault.Reason.{Reason}
 use Rattle.ion_meter.specs.declared.fault.Reason.TheVariants.{Overrun, BadAnnotation}
 use Rattle.ion_binary.specs.Positions.{Cursor}
-use Rattle.ion_binary.specs.Descriptor.{◌>>◌, refuse, Region, passes, var_uint_at, length_at}
+use Rattle.ion_value.specs.Parts.{◌>>◌, refuse}
+use Rattle.ion_binary.specs.Descriptor.{Region, passes, var_uint_at, length_at}
 use Rattle.ion_binary.specs.Reading.{Wrapped, wrapper_at}
 
 pub wrapper_at-no_length : (r : Region) (low : ℕ) (c : Cursor) (e : Reason) → length_at low r c ≡ Err e → wrapper_at r low c ≡ Err e

@@ -8,7 +8,8 @@ use Rattle.ion_meter.specs.declared.limits.Limits.{Limits}
 use Rattle.ion_meter.specs.Windows.{Incoming}
 use Rattle.ion_value.specs.Shares.{Charges, ReadCauses, fault_of}
 use Rattle.ion_binary.specs.Positions.{Cursor}
-use Rattle.ion_binary.specs.Parts.{cursor, Exceeds, Stands, Moves, Causes, Answers}
+use Rattle.ion_meter.specs.Sources.{cursor, Exceeds, Stands, Moves, Causes}
+use Rattle.ion_value.specs.Answers.{Answers}
 
 -- a call that may take so many counted bytes more may begin, the buffer being of this text
 pub record CanRead {I : Type 0} (limits : Limits) (most : ℕ) (source : Incoming I) (text : List ℕ) (meter : Counts) : Type 0 where

@@ -1,5 +1,5 @@
 -- Descriptor octets, and the octets and lengths behind them (binary encoding, "Typed Value Formats").
-use Rattle.std.specs.Prelude.{ℕ, zero, suc, ◌+◌, ◌/◌, ◌%◌, Bool, true, false, nat_le, nat_lt, nat_eq, if◌then◌else◌, List, [], ◌∷◌, drop, slice_index_or, Option, Some, None, Result, Ok, Err}
+use Rattle.std.specs.Prelude.{ℕ, zero, suc, ◌+◌, ◌/◌, ◌%◌, Bool, true, false, nat_le, nat_lt, nat_eq, if◌then◌else◌, List, [], ◌∷◌, slice_index_or, Option, Some, None, Result, Ok, Err}
 use Rattle.ion_meter.specs.declared.fault.Reason.{Reason}
 use Rattle.ion_meter.specs.declared.fault.Reason.TheVariants.{Truncated, BadVar, Overrun}
 use Rattle.ion_value.specs.declared.ion_type.IonType.{IonType}
@@ -7,29 +7,10 @@ use Rattle.ion_value.specs.declared.ion_type.IonType.TheVariants as type
 use Rattle.ion_value.specs.declared.ion_type.Kind.{Kind}
 use Rattle.ion_value.specs.declared.ion_type.Kind.TheVariants as kind
 use Rattle.ion_value.specs.Number.{var_uint}
+use Rattle.ion_value.specs.Parts.{◌>>=◌, ◌>>◌}
 use Rattle.ion_binary.specs.Positions.{Cursor}
 
--- ---- the first reason that holds
-
-infixl 20 ◌>>=◌
-abbrev pub ◌>>=◌ : {A B E : Type 0} → Result A E → (A → Result B E) → Result B E
-Ok x >>= f = f x
-Err e >>= f = Err e
-
--- whether something holds, as a reason to stop
-abbrev pub refuse : Bool → Reason → Result (Unit {0}) Reason
-refuse true reason = Err reason
-refuse false reason = Ok tt
-
-infixl 20 ◌>>◌
-abbrev pub ◌>>◌ : {A B E : Type 0} → Result A E → Result B E → Result B E
-Ok x >> r = r
-Err e >> r = Err e
-
 -- ---- regions
-
-abbrev pub skip : ℕ → Cursor → Cursor
-skip n c = record { place = c.place + n; rest = drop n c.rest }
 
 -- what is left of the innermost container or wrapper, known by the place where it ends; the top level has no end
 abbrev pub Region : Type 0

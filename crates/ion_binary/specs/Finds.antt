@@ -8,7 +8,8 @@ use Rattle.ion_binary.specs.declared.found.Around as code
 use Rattle.ion_binary.specs.declared.found.Found as found
 use Rattle.ion_binary.specs.declared.found.Found.TheVariants as kinds
 use Rattle.ion_binary.specs.Bodies.{as_scalar, IsBodyCode}
-use Rattle.ion_binary.specs.Descriptor.{◌>>◌, refuse, Shape, null, bool, pad, wrapper, body, container, sorted, marker, float, illegal}
+use Rattle.ion_value.specs.Parts.{◌>>◌, refuse}
+use Rattle.ion_binary.specs.Descriptor.{Shape, null, bool, pad, wrapper, body, container, sorted, marker, float, illegal}
 use Rattle.ion_binary.specs.Reading.{Around, Found, a_pad, a_marker, a_scalar, a_container, fits}
 
 abbrev pub as_around : code.Around → Around

@@ -9,9 +9,11 @@ use Rattle.ion_value.specs.Scalar.{scalar_of_body}
 use Rattle.ion_value.specs.Value as value
 use Rattle.ion_value.specs.Value.{Symbol, SymbolAt, Scalar, Head, PlacedItem}
 use Rattle.ion_value.specs.Reading.{Reading, Step, Ends, Stops, Gives, GoesOn, reading_by}
+use Rattle.ion_value.specs.Parts.{Placed, part, ◌>>=◌, ◌>>◌, refuse}
 use Rattle.ion_binary.specs.Positions.{Cursor, symbol_id, placed_scalar}
 pub use Rattle.ion_binary.specs.Positions.{Frame, State}
-use Rattle.ion_binary.specs.Descriptor.{◌>>=◌, ◌>>◌, refuse, skip, Region, passes, falls_short, octet_at, var_uint_at, length_at, Shape, null, bool, pad, wrapper, body, container, sorted, marker, float, illegal, shape_of, is_unwrappable}
+use Rattle.ion_meter.specs.Sources.{skip}
+use Rattle.ion_binary.specs.Descriptor.{Region, passes, falls_short, octet_at, var_uint_at, length_at, Shape, null, bool, pad, wrapper, body, container, sorted, marker, float, illegal, shape_of, is_unwrappable}
 
 -- ---- the part that is a descriptor, a length and, for a scalar, a body
 
@@ -131,14 +133,6 @@ wrapper_at r low c = do
   Ok (record { ids = ids.1.place + ids.0; end = n.1.place + n.0 }, ids.1)
 
 -- ---- an item
-
--- a fault stands at the first byte of its part
-abbrev pub Placed : Type 0 → Type 0
-Placed A = Result A (Reason × ℕ)
-
-abbrev pub part : {A : Type 0} → ℕ → Result A Reason → Placed A
-part place (Ok x) = Ok x
-part place (Err reason) = Err (reason, place)
 
 -- the ids of a wrapper up to their end, each counted as 16 with those before it; the first number is how many there are at most
 unfoldable pub ids_at : ℕ → Limits → ℕ → ℕ → Cursor → Placed (List SymbolAt × Cursor)

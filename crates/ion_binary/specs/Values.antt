@@ -6,7 +6,8 @@ use Rattle.ion_value.specs.Reading.{Step}
 use Rattle.ion_binary.specs.declared.body.Body.{Body}
 use Rattle.ion_binary.specs.declared.found.Found as found
 use Rattle.ion_binary.specs.Positions.{Cursor, Frame, State}
-use Rattle.ion_binary.specs.Reading.{Placed, given}
+use Rattle.ion_value.specs.Parts.{Placed}
+use Rattle.ion_binary.specs.Reading.{given}
 use Rattle.ion_binary.specs.Finds.{as_found}
 use Rattle.ion_binary.specs.Parts.{AnswersPlaced}
 

@@ -5,9 +5,10 @@ ghost use Rattle.ion_value.specs.Number.{uint};
 ghost use Rattle.ion_value.specs.Name.{raw_id};
 ghost use Rattle.ion_value.specs.Scalar.{scalar_of_body};
 ghost use Rattle.ion_value.specs.Standing.{InRange};
-ghost use Rattle.ion_binary.specs.Descriptor.{skip};
+ghost use Rattle.ion_meter.specs.Sources.{skip, cursor, Stands};
 ghost use Rattle.ion_binary.specs.Bodies.{as_scalar, IsNumberCode, IsBodyCode};
-ghost use Rattle.ion_binary.specs.Parts.{cursor, Stands, Answers, body_here};
+ghost use Rattle.ion_value.specs.Answers.{Answers};
+ghost use Rattle.ion_binary.specs.Parts.{body_here};
 ghost use Rattle.ion_binary.specs.Calls.{AnswersBy, CanRead, Reads, ReadsInto};
 
 use ion_meter::buf::Buf;

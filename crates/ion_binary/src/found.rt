@@ -6,7 +6,8 @@ ghost use Rattle.ion_binary.specs.Reading.{a_pad, a_marker, a_scalar, a_containe
 ghost use Rattle.ion_binary.specs.Bodies.{as_scalar, IsBodyCode};
 ghost use Rattle.ion_binary.specs.Finds.{as_around, as_found, end_by, IsOfDescriptor};
 ghost use Rattle.ion_binary.specs.Shapes.{as_shape};
-ghost use Rattle.ion_binary.specs.Parts.{cursor, Stands, Answers};
+ghost use Rattle.ion_meter.specs.Sources.{cursor, Stands};
+ghost use Rattle.ion_value.specs.Answers.{Answers};
 ghost use Rattle.ion_binary.specs.Calls.{AnswersBy, CanRead, Reads, ReadsInto};
 
 use crate::body::{Body, next_body, pass_over};

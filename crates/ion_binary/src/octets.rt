@@ -2,7 +2,8 @@
 //! Formats").
 ghost use Rattle.std.specs.Prelude.{◌≡◌, ◌+◌, ◌^◌, ◌<◌, OnOk, IfOk};
 ghost use Rattle.ion_binary.specs.Descriptor.{octet_at, var_uint_at, length_at};
-ghost use Rattle.ion_binary.specs.Parts.{Stands, itself};
+ghost use Rattle.ion_meter.specs.Sources.{Stands};
+ghost use Rattle.ion_value.specs.Answers.{itself};
 ghost use Rattle.ion_binary.specs.Calls.{AnswersBy, Reads};
 
 use ion_meter::device::Input;

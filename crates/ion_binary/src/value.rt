@@ -7,7 +7,7 @@ ghost use Rattle.ion_binary.specs.Descriptor.{shape_of};
 ghost use Rattle.ion_binary.specs.Positions.{Frame};
 ghost use Rattle.ion_binary.specs.Reading.{region_of, wrapper_length, inner_at, annotated_at, value_at};
 ghost use Rattle.ion_binary.specs.Bodies.{as_scalar};
-ghost use Rattle.ion_binary.specs.Parts.{cursor};
+ghost use Rattle.ion_meter.specs.Sources.{cursor};
 ghost use Rattle.ion_binary.specs.Calls.{CanRead, ReadsInto, ReadsValue};
 ghost use Rattle.ion_binary.specs.Wrappers.{as_notes};
 ghost use Rattle.ion_binary.specs.Values.{GivesStep};

@@ -4,7 +4,8 @@ ghost use Rattle.std.specs.Prelude.{◌≡◌, ◌||◌, nat_lt, nat_eq, nat_le,
 ghost use Rattle.ion_value.specs.Standing.{in_struct};
 ghost use Rattle.ion_binary.specs.Descriptor.{passes};
 ghost use Rattle.ion_binary.specs.Reading.{wrapper_at, ids_at, field_at};
-ghost use Rattle.ion_binary.specs.Parts.{cursor, Stands, AnswersAt};
+ghost use Rattle.ion_meter.specs.Sources.{cursor, Stands};
+ghost use Rattle.ion_value.specs.Answers.{AnswersAt};
 ghost use Rattle.ion_binary.specs.Calls.{AnswersBy, CanRead, Reads, ReadsInto};
 ghost use Rattle.ion_binary.specs.Wrappers.{as_wrapped, as_notes, as_field, innermost};
 

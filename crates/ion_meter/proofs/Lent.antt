@@ -33,10 +33,6 @@ IsPassed-left rest s t n h p =
     ap (λ (l : List ℕ). l ++ rest t.device) p.buffered
     ∙ (ap (λ d. drop n s.buffered ++ rest d) p.device ∙ sym (drop-append-le n s.buffered (rest s.device) h))
 
--- what may be passed over is lent
-pub CanPass-lent : {I : Type 0} (s : Incoming I) (n : ℕ) → s.fault ≡ None → CanPass s n → n ≤ length (lent s)
-CanPass-lent s n well can = rw well (grind (arith, common_steps))
-
 -- the place and what is left keep their sum
 pub IsPassed-total : {I : Type 0} (rest : I → List ℕ) (s t : Incoming I) (n : ℕ) → n ≤ length s.buffered → IsPassed s t n → t.place + length (left rest t) ≡ s.place + length (left rest s)
 IsPassed-total rest s t n h p =

@@ -107,7 +107,8 @@ impl<A: Allocator + Copy> Buf<A> {
         requires within { place ≤ length self.old }
         requires room { meter.old.held + length bytes.now < 2 ^ 63 }
         requires countable { meter.old.refused < 2 ^ 64 - 1 }
-        ensures ok { OnOk result (self.new ≡ take place self.old ++ (bytes.now ++ drop place self.old)) }
+        ensures ok { OnOk result (self.new
+            ≡ take place self.old ++ (bytes.now ++ drop place self.old)) }
         ensures cost { OnOk result (Grows meter.old meter.new (length bytes.now)) }
         ensures memory { IfErr result (λ e. e ≡ Fault.Memory) }
         ensures err { OnErr result (self.new ≡ self.old) }
@@ -133,8 +134,10 @@ impl<A: Allocator + Copy> Buf<A> {
     /// Takes the last byte off and hands it out.
     pub fn pop(&mut self, meter: &mut Meter<A>) -> Option<u8>
         requires { length self.old ≤ meter.old.held }
-        ensures bytes { MatchOption result ((self.old ≡ []) × (self.new ≡ [])) (λ byte. self.old ≡ self.new ++ byte ∷ []) }
-        ensures cost { MatchOption result (meter.new ≡ meter.old) (λ _. Shrinks meter.old meter.new 1) }
+        ensures bytes { MatchOption result ((self.old ≡ []) × (self.new ≡ []))
+            (λ byte. self.old ≡ self.new ++ byte ∷ []) }
+        ensures cost { MatchOption result (meter.new ≡ meter.old)
+            (λ _. Shrinks meter.old meter.new 1) }
     {
         let last = self.bytes.pop()?;
         meter.give_back(1);

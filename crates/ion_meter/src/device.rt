@@ -25,10 +25,15 @@ pub trait Input {
     fn read(&mut self, into: &mut [u8]) -> Result<usize, Broken>
         requires { failure_count self.old < 2 ^ 64 - 1 }
         ensures within { IfOk result (λ n. n ≤ length into.new) }
-        ensures count { MatchResult result (λ _. failure_count self.new ≡ failure_count self.old) (λ _. failure_count self.new ≡ failure_count self.old + 1) }
+        ensures count { MatchResult result
+            (λ _. failure_count self.new ≡ failure_count self.old)
+            (λ _. failure_count self.new ≡ failure_count self.old + 1) }
         ensures tells { tells self.new ↔ tells self.old }
-        ensures bytes { tells self.old → MatchResult result (λ n. rest self.old ≡ take n into.new ++ rest self.new) (λ _. rest self.new ≡ rest self.old) }
-        ensures end { tells self.old → IfOk result (λ n. n ≡ 0 → 0 < length into.new → rest self.old ≡ []) };
+        ensures bytes { tells self.old → MatchResult result
+            (λ n. rest self.old ≡ take n into.new ++ rest self.new)
+            (λ _. rest self.new ≡ rest self.old) }
+        ensures end { tells self.old → IfOk result
+            (λ n. n ≡ 0 → 0 < length into.new → rest self.old ≡ []) };
 
     /// How often the device has failed.
     fn failures(&self) -> u64
@@ -52,11 +57,15 @@ pub trait Output {
     fn write(&mut self, bytes: &[u8]) -> Result<usize, Broken>
         requires { failure_count self.old < 2 ^ 64 - 1 }
         ensures within { IfOk result (λ n. n ≤ length bytes.now) }
-        ensures moved { IfOk result (λ n. (0 < n) ⊎ (length bytes.now ≡ 0) → failure_count self.new ≡ failure_count self.old) }
-        ensures stuck { IfOk result (λ n. n ≡ 0 → 0 < length bytes.now → failure_count self.new ≡ failure_count self.old + 1) }
+        ensures moved { IfOk result (λ n. (0 < n) ⊎ (length bytes.now ≡ 0)
+            → failure_count self.new ≡ failure_count self.old) }
+        ensures stuck { IfOk result (λ n. n ≡ 0 → 0 < length bytes.now
+            → failure_count self.new ≡ failure_count self.old + 1) }
         ensures failed { OnErr result (failure_count self.new ≡ failure_count self.old + 1) }
         ensures tells { tells self.new ↔ tells self.old }
-        ensures bytes { tells self.old → MatchResult result (λ n. written self.new ≡ written self.old ++ take n bytes.now) (λ _. written self.new ≡ written self.old) };
+        ensures bytes { tells self.old → MatchResult result
+            (λ n. written self.new ≡ written self.old ++ take n bytes.now)
+            (λ _. written self.new ≡ written self.old) };
 
     /// How often the device has failed.
     fn failures(&self) -> u64
@@ -67,9 +76,13 @@ pub trait Output {
 pub(crate) fn write_out<O: Output>(device: &mut O, bytes: &[u8]) -> Result<(), Broken>
     requires { O.failure_count device.old < 2 ^ 64 - 1 }
     ensures tells { O.tells device.new ↔ O.tells device.old }
-    ensures count { MatchResult result (λ _. O.failure_count device.new ≡ O.failure_count device.old) (λ _. O.failure_count device.new ≡ O.failure_count device.old + 1) }
-    ensures all { O.tells device.old → OnOk result (O.written device.new ≡ O.written device.old ++ bytes.now) }
-    ensures front { O.tells device.old → (n : ℕ) × (O.written device.new ≡ O.written device.old ++ take n bytes.now) }
+    ensures count { MatchResult result
+        (λ _. O.failure_count device.new ≡ O.failure_count device.old)
+        (λ _. O.failure_count device.new ≡ O.failure_count device.old + 1) }
+    ensures all { O.tells device.old → OnOk result
+        (O.written device.new ≡ O.written device.old ++ bytes.now) }
+    ensures front { O.tells device.old → (n : ℕ)
+        × (O.written device.new ≡ O.written device.old ++ take n bytes.now) }
 {
     let mut at = 0;
     while at < bytes.len() {

@@ -1,5 +1,5 @@
 //! A window of 4,096 bytes on an output.
-ghost use Rattle.std.specs.Prelude.{◌≡◌, ◌+◌, ◌-◌, ◌^◌, ◌<◌, ◌≤◌, ◌++◌, ◌↔◌, [], List, ℕ, length, take, min, None, Some, Err, OnOk, OnErr, IfOk, IfErr, IfSome, MatchResult};
+ghost use Rattle.std.specs.Prelude.{◌≡◌, ◌+◌, ◌-◌, ◌^◌, ◌<◌, ◌≤◌, ◌++◌, [], length, take, min, None, Some, Err, OnOk, OnErr, IfOk, IfErr, IfSome, MatchResult};
 ghost use Rattle.ion_meter.specs.Counts.{Grows, Shrinks, IsRefused};
 ghost use Rattle.ion_meter.specs.Windows.{Outgoing, so_far, Puts, write_failures_in};
 
@@ -28,9 +28,14 @@ impl<O: Output, A: Allocator + Copy> Model for Sink<O, A> {
 
     ghost Value = { Outgoing O };
 
-    ghost view = { λ s. record { device = s.device; pending = take s.len s.window.value; fault = s.fault } };
+    ghost view = { λ s. record {
+      device = s.device;
+      pending = take s.len s.window.value;
+      fault = s.fault;
+    } };
 
-    ghost invariant = { λ s. (length s.window.value ≡ 4096) × (s.len ≤ 4096) × (s.fault ≡ None → O.failure_count s.device < 2 ^ 64 - 1) };
+    ghost invariant = { λ s. (length s.window.value ≡ 4096) × (s.len ≤ 4096)
+        × (s.fault ≡ None → O.failure_count s.device < 2 ^ 64 - 1) };
 }
 
 impl<O: Output, A: Allocator + Copy> Sink<O, A> {
@@ -76,10 +81,13 @@ impl<O: Output, A: Allocator + Copy> Sink<O, A> {
         requires { self.old.fault ≡ None }
         ensures puts { Puts O.written O.tells self.old self.new [] }
         ensures room { OnOk result (length self.new.pending < WINDOW) }
-        ensures ok { OnOk result (O.tells self.old.device → so_far O.written self.new ≡ so_far O.written self.old) }
+        ensures ok { OnOk result (O.tells self.old.device
+            → so_far O.written self.new ≡ so_far O.written self.old) }
         ensures well { OnOk result (self.new.fault ≡ None) }
         ensures err { IfErr result (λ f. (f ≡ Fault.WriteFault) × (self.new.fault ≡ Some f)) }
-        ensures count { MatchResult result (λ _. O.failure_count self.new.device ≡ O.failure_count self.old.device) (λ _. O.failure_count self.new.device ≡ O.failure_count self.old.device + 1) }
+        ensures count { MatchResult result
+            (λ _. O.failure_count self.new.device ≡ O.failure_count self.old.device)
+            (λ _. O.failure_count self.new.device ≡ O.failure_count self.old.device + 1) }
     {
         if self.len < WINDOW {
             return Ok(());
@@ -92,12 +100,14 @@ impl<O: Output, A: Allocator + Copy> Sink<O, A> {
     #[inline(never)]
     fn put_slowly(&mut self, bytes: &[u8]) -> Result<(), Fault>
         ensures puts { self.old.fault ≡ None → Puts O.written O.tells self.old self.new bytes.now }
-        ensures ok { OnOk result (O.tells self.old.device → so_far O.written self.new ≡ so_far O.written self.old ++ bytes.now) }
+        ensures ok { OnOk result (O.tells self.old.device
+            → so_far O.written self.new ≡ so_far O.written self.old ++ bytes.now) }
         ensures well { OnOk result ((self.old.fault ≡ None) × (self.new.fault ≡ None)) }
         ensures fault { IfErr result (λ f. self.new.fault ≡ Some f) }
         ensures again { IfSome self.old.fault (λ f. (result ≡ Err f) × (self.new ≡ self.old)) }
         ensures cause { IfErr result (λ f. self.old.fault ≡ None → f ≡ Fault.WriteFault) }
-        ensures count { O.failure_count self.new.device ≡ O.failure_count self.old.device + write_failures_in self.old.fault result }
+        ensures count { O.failure_count self.new.device
+            ≡ O.failure_count self.old.device + write_failures_in self.old.fault result }
     {
         if let Some(fault) = self.fault {
             return Err(fault);
@@ -117,12 +127,14 @@ impl<O: Output, A: Allocator + Copy> Sink<O, A> {
     #[inline]
     pub fn put(&mut self, bytes: &[u8]) -> Result<(), Fault>
         ensures puts { self.old.fault ≡ None → Puts O.written O.tells self.old self.new bytes.now }
-        ensures ok { OnOk result (O.tells self.old.device → so_far O.written self.new ≡ so_far O.written self.old ++ bytes.now) }
+        ensures ok { OnOk result (O.tells self.old.device
+            → so_far O.written self.new ≡ so_far O.written self.old ++ bytes.now) }
         ensures well { OnOk result ((self.old.fault ≡ None) × (self.new.fault ≡ None)) }
         ensures fault { IfErr result (λ f. self.new.fault ≡ Some f) }
         ensures again { IfSome self.old.fault (λ f. (result ≡ Err f) × (self.new ≡ self.old)) }
         ensures cause { IfErr result (λ f. self.old.fault ≡ None → f ≡ Fault.WriteFault) }
-        ensures count { O.failure_count self.new.device ≡ O.failure_count self.old.device + write_failures_in self.old.fault result }
+        ensures count { O.failure_count self.new.device
+            ≡ O.failure_count self.old.device + write_failures_in self.old.fault result }
     {
         if self.fault.is_none() && bytes.len() <= WINDOW - self.len {
             self.take(bytes);
@@ -137,12 +149,14 @@ impl<O: Output, A: Allocator + Copy> Sink<O, A> {
     pub fn flush(&mut self) -> Result<(), Fault>
         ensures puts { self.old.fault ≡ None → Puts O.written O.tells self.old self.new [] }
         ensures ok { OnOk result (self.new.pending ≡ []) }
-        ensures all { OnOk result (O.tells self.old.device → O.written self.new.device ≡ so_far O.written self.old) }
+        ensures all { OnOk result (O.tells self.old.device
+            → O.written self.new.device ≡ so_far O.written self.old) }
         ensures well { OnOk result ((self.old.fault ≡ None) × (self.new.fault ≡ None)) }
         ensures fault { IfErr result (λ f. self.new.fault ≡ Some f) }
         ensures again { IfSome self.old.fault (λ f. (result ≡ Err f) × (self.new ≡ self.old)) }
         ensures cause { IfErr result (λ f. self.old.fault ≡ None → f ≡ Fault.WriteFault) }
-        ensures count { O.failure_count self.new.device ≡ O.failure_count self.old.device + write_failures_in self.old.fault result }
+        ensures count { O.failure_count self.new.device
+            ≡ O.failure_count self.old.device + write_failures_in self.old.fault result }
     {
         if let Some(fault) = self.fault {
             return Err(fault);

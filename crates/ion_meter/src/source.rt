@@ -1,6 +1,7 @@
 //! A window of 4,096 bytes on an input.
-ghost use Rattle.std.specs.Prelude.{◌≡◌, ◌+◌, ◌-◌, ◌^◌, ◌<◌, ◌≤◌, ◌++◌, ◌↔◌, ◌⊎◌, [], List, ℕ, length, take, drop, None, Some, Ok, Err, false, true, slice_get, OnOk, OnErr, IfOk, IfErr, IfSome, IfNone, MatchResult};
+ghost use Rattle.std.specs.Prelude.{◌≡◌, ◌+◌, ◌-◌, ◌^◌, ◌<◌, ◌≤◌, ◌⊎◌, [], length, take, drop, None, Some, Ok, Err, false, true, slice_get, OnOk, OnErr, IfOk, IfErr, IfSome, IfNone, MatchResult};
 ghost use Rattle.ion_meter.specs.Counts.{Grows, Shrinks, IsRefused};
+ghost use Rattle.ion_meter.specs.Sources.{Reads};
 ghost use Rattle.ion_meter.specs.Windows.{left, lent, IsGiven, CanPass, IsPassed, Extends, failures_in};
 ghost use Rattle.ion_meter.specs.Limits.{AreChecked};
 
@@ -40,11 +41,21 @@ impl<I: Input, A: Allocator + Copy> Model for Source<I, A> {
 
     ghost Value = { Incoming I };
 
-    ghost view = { λ s. record { device = s.device; buffered = drop s.start (take s.end s.window.value); ended = s.ended; place = s.read - (s.end - s.start); limit = s.limit; fault = s.fault } };
+    ghost view = { λ s. record {
+      device = s.device;
+      buffered = drop s.start (take s.end s.window.value);
+      ended = s.ended;
+      place = s.read - (s.end - s.start);
+      limit = s.limit;
+      fault = s.fault;
+    } };
 
-    ghost invariant = { λ s. (length s.window.value ≡ 4096) × (s.start ≤ s.end) × (s.end ≤ 4096) × (s.end ≤ s.read + s.start) × (s.read + s.start ≤ s.limit + s.end) × (s.limit ≤ 2 ^ 48)
-        × (s.fault ≡ None → s.stop ≡ min s.end (s.limit + s.end - s.read)) × IfSome s.fault (λ _. s.stop ≡ 0)
-        × (s.fault ≡ None → I.failure_count s.device < 2 ^ 64 - 1) × (s.ended ≡ true → I.tells s.device → I.rest s.device ≡ []) };
+    ghost invariant = { λ s. (length s.window.value ≡ 4096) × (s.start ≤ s.end) × (s.end ≤ 4096)
+        × (s.end ≤ s.read + s.start) × (s.read + s.start ≤ s.limit + s.end) × (s.limit ≤ 2 ^ 48)
+        × (s.fault ≡ None → s.stop ≡ min s.end (s.limit + s.end - s.read))
+        × IfSome s.fault (λ _. s.stop ≡ 0)
+        × (s.fault ≡ None → I.failure_count s.device < 2 ^ 64 - 1)
+        × (s.ended ≡ true → I.tells s.device → I.rest s.device ≡ []) };
 }
 
 impl<I: Input, A: Allocator + Copy> Source<I, A> {
@@ -54,7 +65,14 @@ impl<I: Input, A: Allocator + Copy> Source<I, A> {
         requires countable { meter.old.refused < 2 ^ 64 - 1 }
         requires checked { AreChecked limits }
         requires failures { I.failure_count device < 2 ^ 64 - 1 }
-        ensures ok { IfOk result (λ s. s ≡ record { device = device; buffered = []; ended = false; place = 0; limit = limits.input; fault = None }) }
+        ensures ok { IfOk result (λ s. s ≡ record {
+          device = device;
+          buffered = [];
+          ended = false;
+          place = 0;
+          limit = limits.input;
+          fault = None;
+        }) }
         ensures cost { OnOk result (Grows meter.old meter.new WINDOW) }
         ensures err { IfErr result (λ d. d ≡ device) }
         ensures refused { OnErr result (IsRefused meter.old meter.new) }
@@ -85,8 +103,11 @@ impl<I: Input, A: Allocator + Copy> Source<I, A> {
         ensures kept { Extends I.rest I.tells self.old self.new }
         ensures ok { OnOk result (self.new.fault ≡ None) }
         ensures err { IfErr result (λ f. (f ≡ Fault.ReadFault) × (self.new.fault ≡ Some f)) }
-        ensures count { MatchResult result (λ _. I.failure_count self.new.device ≡ I.failure_count self.old.device) (λ _. I.failure_count self.new.device ≡ I.failure_count self.old.device + 1) }
-        ensures more { OnOk result (self.new.ended ≡ false → length self.old.buffered < length self.new.buffered) }
+        ensures count { MatchResult result
+            (λ _. I.failure_count self.new.device ≡ I.failure_count self.old.device)
+            (λ _. I.failure_count self.new.device ≡ I.failure_count self.old.device + 1) }
+        ensures more { OnOk result (self.new.ended ≡ false
+            → length self.old.buffered < length self.new.buffered) }
     {
         let live = self.end - self.start;
         self.window.copy_within(self.start..self.end, 0);
@@ -112,9 +133,12 @@ impl<I: Input, A: Allocator + Copy> Source<I, A> {
         ensures kept { Extends I.rest I.tells self.old self.new }
         ensures ok { OnOk result (self.new.fault ≡ None) }
         ensures stays { self.old.ended ≡ true → self.new ≡ self.old }
-        ensures reached { OnOk result ((ahead < length self.new.buffered) ⊎ (self.new.ended ≡ true)) }
+        ensures reached { OnOk result ((ahead < length self.new.buffered)
+            ⊎ (self.new.ended ≡ true)) }
         ensures err { IfErr result (λ f. (f ≡ Fault.ReadFault) × (self.new.fault ≡ Some f)) }
-        ensures count { MatchResult result (λ _. I.failure_count self.new.device ≡ I.failure_count self.old.device) (λ _. I.failure_count self.new.device ≡ I.failure_count self.old.device + 1) }
+        ensures count { MatchResult result
+            (λ _. I.failure_count self.new.device ≡ I.failure_count self.old.device)
+            (λ _. I.failure_count self.new.device ≡ I.failure_count self.old.device + 1) }
     {
         while self.end - self.start <= ahead && !self.ended {
             self.fill()?;
@@ -127,17 +151,19 @@ impl<I: Input, A: Allocator + Copy> Source<I, A> {
     #[inline(never)]
     fn peek_slowly(&mut self, ahead: usize) -> Result<Option<u8>, Fault>
         requires { ahead < 16 }
-        ensures byte { IfOk result (λ found. IfSome found (λ byte. IsGiven self.new ahead × (slice_get self.new.buffered ahead ≡ Some byte))) }
-        ensures gives { I.tells self.old.device → IfOk result (λ found. found ≡ slice_get (left I.rest self.old) ahead) }
+        ensures byte { IfOk result (λ found. IfSome found
+            (λ byte. IsGiven self.new ahead × (slice_get self.new.buffered ahead ≡ Some byte))) }
+        ensures gives { I.tells self.old.device
+            → IfOk result (λ found. found ≡ slice_get (left I.rest self.old) ahead) }
         ensures ended { IfOk result (λ found. IfNone found (self.new.ended ≡ true)) }
-        ensures stays { self.old.ended ≡ true → (self.new.buffered ≡ self.old.buffered) × (self.new.device ≡ self.old.device) × (self.new.ended ≡ true) }
-        ensures kept { Extends I.rest I.tells self.old self.new }
-        ensures well { OnOk result ((self.old.fault ≡ None) × (self.new.fault ≡ None)) }
-        ensures fault { IfErr result (λ f. self.new.fault ≡ Some f) }
-        ensures again { IfSome self.old.fault (λ f. (result ≡ Err f) × (self.new ≡ self.old)) }
-        ensures cause { IfErr result (λ f. self.old.fault ≡ None → (f ≡ Fault.ReadFault) ⊎ (f ≡ Fault.InputLimit)) }
-        ensures count { I.failure_count self.new.device ≡ I.failure_count self.old.device + failures_in self.old.fault result }
-        ensures limit { self.old.fault ≡ None → result ≡ Err Fault.InputLimit → (self.old.limit ≤ self.old.place + ahead) × (I.tells self.old.device → self.old.limit < self.old.place + length (left I.rest self.old)) }
+        ensures stays { self.old.ended ≡ true
+            → (self.new.buffered ≡ self.old.buffered) × (self.new.device ≡ self.old.device)
+            × (self.new.ended ≡ true) }
+        ensures reads { Reads I.Input self.old self.new result }
+        ensures limit { self.old.fault ≡ None → result ≡ Err Fault.InputLimit
+            → (self.old.limit ≤ self.old.place + ahead)
+            × (I.tells self.old.device
+            → self.old.limit < self.old.place + length (left I.rest self.old)) }
     {
         if let Some(fault) = self.fault {
             return Err(fault);
@@ -163,19 +189,29 @@ impl<I: Input, A: Allocator + Copy> Source<I, A> {
     #[inline]
     pub fn peek(&mut self, ahead: usize) -> Result<Option<u8>, Fault>
         requires { ahead < 16 }
-        ensures byte { IfOk result (λ found. IfSome found (λ byte. IsGiven self.new ahead × (slice_get self.new.buffered ahead ≡ Some byte))) }
-        ensures there { self.old.fault ≡ None → IsGiven self.old ahead → (result ≡ Ok (slice_get self.old.buffered ahead)) × (self.new ≡ self.old) }
-        ensures gives { I.tells self.old.device → IfOk result (λ found. found ≡ slice_get (left I.rest self.old) ahead) }
+        ensures byte { IfOk result (λ found. IfSome found
+            (λ byte. IsGiven self.new ahead × (slice_get self.new.buffered ahead ≡ Some byte))) }
+        ensures there { self.old.fault ≡ None → IsGiven self.old ahead
+            → (result ≡ Ok (slice_get self.old.buffered ahead)) × (self.new ≡ self.old) }
+        ensures gives { I.tells self.old.device
+            → IfOk result (λ found. found ≡ slice_get (left I.rest self.old) ahead) }
         ensures limits { (self.new.place ≤ self.new.limit) × (self.new.limit ≤ 2 ^ 48) }
         ensures ended { IfOk result (λ found. IfNone found (self.new.ended ≡ true)) }
-        ensures stays { self.old.ended ≡ true → (self.new.buffered ≡ self.old.buffered) × (self.new.device ≡ self.old.device) × (self.new.ended ≡ true) }
+        ensures stays { self.old.ended ≡ true
+            → (self.new.buffered ≡ self.old.buffered) × (self.new.device ≡ self.old.device)
+            × (self.new.ended ≡ true) }
         ensures kept { Extends I.rest I.tells self.old self.new }
         ensures well { OnOk result ((self.old.fault ≡ None) × (self.new.fault ≡ None)) }
         ensures fault { IfErr result (λ f. self.new.fault ≡ Some f) }
         ensures again { IfSome self.old.fault (λ f. (result ≡ Err f) × (self.new ≡ self.old)) }
-        ensures cause { IfErr result (λ f. self.old.fault ≡ None → (f ≡ Fault.ReadFault) ⊎ (f ≡ Fault.InputLimit)) }
-        ensures count { I.failure_count self.new.device ≡ I.failure_count self.old.device + failures_in self.old.fault result }
-        ensures limit { self.old.fault ≡ None → result ≡ Err Fault.InputLimit → (self.old.limit ≤ self.old.place + ahead) × (I.tells self.old.device → self.old.limit < self.old.place + length (left I.rest self.old)) }
+        ensures cause { IfErr result (λ f. self.old.fault ≡ None
+            → (f ≡ Fault.ReadFault) ⊎ (f ≡ Fault.InputLimit)) }
+        ensures count { I.failure_count self.new.device
+            ≡ I.failure_count self.old.device + failures_in self.old.fault result }
+        ensures limit { self.old.fault ≡ None → result ≡ Err Fault.InputLimit
+            → (self.old.limit ≤ self.old.place + ahead)
+            × (I.tells self.old.device
+            → self.old.limit < self.old.place + length (left I.rest self.old)) }
     {
         let at = self.start + ahead;
         if at < self.stop {

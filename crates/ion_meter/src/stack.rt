@@ -125,8 +125,10 @@ impl<T, A: Allocator + Copy> Stack<T, A> {
     /// Takes the last entry off and hands it out.
     pub fn pop(&mut self, meter: &mut Meter<A>) -> Option<T>
         requires { 16 * length self.old ≤ meter.old.held }
-        ensures items { MatchOption result ((self.old ≡ []) × (self.new ≡ [])) (λ entry. self.old ≡ self.new ++ entry ∷ []) }
-        ensures cost { MatchOption result (meter.new ≡ meter.old) (λ _. Shrinks meter.old meter.new 16) }
+        ensures items { MatchOption result ((self.old ≡ []) × (self.new ≡ []))
+            (λ entry. self.old ≡ self.new ++ entry ∷ []) }
+        ensures cost { MatchOption result (meter.new ≡ meter.old)
+            (λ _. Shrinks meter.old meter.new 16) }
     {
         self.table.pop(meter)
     }

@@ -72,7 +72,8 @@ impl<T, A: Allocator + Copy> Table<T, A> {
         requires room { meter.old.held + self.old.cost * length entries.now < 2 ^ 63 }
         requires countable { meter.old.refused < 2 ^ 64 - 1 }
         ensures ok { OnOk result (self.new.items ≡ self.old.items ++ entries.now) }
-        ensures cost { OnOk result (Grows meter.old meter.new (self.old.cost * length entries.now)) }
+        ensures cost { OnOk result (Grows meter.old meter.new
+            (self.old.cost * length entries.now)) }
         ensures same_cost { self.new.cost ≡ self.old.cost }
         ensures memory { IfErr result (λ e. e ≡ Fault.Memory) }
         ensures err { OnErr result (self.new ≡ self.old) }
@@ -120,8 +121,10 @@ impl<T, A: Allocator + Copy> Table<T, A> {
     /// Takes the last entry off and hands it out.
     pub fn pop(&mut self, meter: &mut Meter<A>) -> Option<T>
         requires { cost_of self.old ≤ meter.old.held }
-        ensures items { MatchOption result ((self.old.items ≡ []) × (self.new.items ≡ [])) (λ entry. self.old.items ≡ self.new.items ++ entry ∷ []) }
-        ensures cost { MatchOption result (meter.new ≡ meter.old) (λ _. Shrinks meter.old meter.new self.old.cost) }
+        ensures items { MatchOption result ((self.old.items ≡ []) × (self.new.items ≡ []))
+            (λ entry. self.old.items ≡ self.new.items ++ entry ∷ []) }
+        ensures cost { MatchOption result (meter.new ≡ meter.old)
+            (λ _. Shrinks meter.old meter.new self.old.cost) }
         ensures same_cost { self.new.cost ≡ self.old.cost }
     {
         let last = self.items.pop()?;

@@ -8,8 +8,8 @@ use Rattle.base64.specs.Rfc4648.{encode, encode_symbols, padding_len}
 use Rattle.base64.proofs.Canonical.{encode_symbols-append}
 use Rattle.ion_meter.specs.declared.fault.Fault.{Fault}
 use Rattle.ion_meter.specs.Windows.{Outgoing}
-use Rattle.ion_text_out.specs.Putting.{HasPut}
-use Rattle.ion_text_out.proofs.Putting.{put_nothing, put_cut, put_then}
+use Rattle.ion_meter.specs.Sinks.{HasPut}
+use Rattle.ion_meter.proofs.Putting.{put_nothing, put_cut, put_then}
 
 -- octets in threes are encoded for themselves
 groups : (t xs ys : List ℕ) → length xs % 3 ≡ 0 → encode t 61 true (xs ++ ys) ≡ encode t 61 true xs ++ encode t 61 true ys

@@ -5,9 +5,9 @@ use Rattle.ion_meter.specs.declared.fault.Fault.{Fault}
 use Rattle.ion_value.specs.Value as v
 use Rattle.ion_value.specs.Value.{PlacedItem, SymbolAt, map_head}
 use Rattle.ion_text_out.specs.Text.{Open, before_item, behind_value, head_text, item_text, opener}
-use Rattle.ion_text_out.specs.Putting.{HasPut}
+use Rattle.ion_meter.specs.Sinks.{HasPut}
 use Rattle.ion_text_out.specs.Writing.{body_text, first_text, is_value, last_text, middle_text, name_text, notes_text, user_at, user_item, where_value}
-use Rattle.ion_text_out.proofs.Putting.{put_cut, put_then}
+use Rattle.ion_meter.proofs.Putting.{put_cut, put_then}
 
 head_parts : (cs : Open) (name notes : List ℕ) (h : v.Head SymbolAt)
     → first_text cs h ++ (where_value (is_value h) (name ++ (notes ++ body_text (map_head user_at h))) ++ last_text cs h) ≡ head_text cs (name ++ notes) (map_head user_at h)

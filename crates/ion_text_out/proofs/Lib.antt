@@ -1,9 +1,7 @@
 mod Blobs
 mod ItemParts
 mod Notes
-mod Onward
 mod Paths
-mod Putting
 mod Quoted
 mod Rows
 mod Words

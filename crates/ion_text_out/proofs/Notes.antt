@@ -6,9 +6,9 @@ use Rattle.ion_meter.specs.Windows.{Outgoing}
 use Rattle.ion_meter.specs.declared.fault.Fault.{Fault}
 use Rattle.ion_value.specs.Value.{SymbolAt}
 use Rattle.ion_text_out.specs.Text.{annotation_text}
-use Rattle.ion_text_out.specs.Putting.{HasPut}
+use Rattle.ion_meter.specs.Sinks.{HasPut}
 use Rattle.ion_text_out.specs.Writing.{user_at, note_text, notes_text}
-use Rattle.ion_text_out.proofs.Putting.{put_cut, put_then}
+use Rattle.ion_meter.proofs.Putting.{put_cut, put_then}
 
 -- the texts of the first annotations, and of the next
 next_note : (xs : List SymbolAt) (i : ℕ) → notes_text (take (suc i) xs) ≡ notes_text (take i xs) ++ note_text (slice_get xs i)

@@ -12,10 +12,6 @@ behind_append : (cs : Open) (is js : List (Item UserSymbol ℕ)) → open_behind
 behind_append cs [] js = refl
 behind_append cs (i ∷ is) js = behind_append (open_after cs i.head) is js
 
-with_member-again : (cs : Open) → with_member (with_member cs) ≡ with_member cs
-with_member-again [] = refl
-with_member-again (c ∷ cs) = refl
-
 same_behind : (cs : Open) → behind_value (with_member cs) ≡ behind_value cs
 same_behind [] = refl
 same_behind (c ∷ cs) = refl

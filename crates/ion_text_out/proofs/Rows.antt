@@ -6,7 +6,7 @@ use Rattle.ion_value.specs.Digits.{cut_at}
 use Rattle.ion_value.specs.declared.ion_type.IonType.TheVariants as type
 use Rattle.ion_value.specs.declared.ion_type.Kind.TheVariants as kind
 use Rattle.ion_value.specs.Value as v
-use Rattle.ion_value.specs.Value.{UserSymbol, Known, Unknown, Scalar, Value, Members, Top, Item, scalar, container, nothing, member}
+use Rattle.ion_value.specs.Value.{UserSymbol, Known, Unknown, Value, Members, Top, Item, scalar, container, nothing, member}
 use Rattle.ion_text_out.specs.Text.{items_text, symbol_text, text}
 
 abbrev known : List ℕ → UserSymbol

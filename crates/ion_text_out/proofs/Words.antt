@@ -1,11 +1,12 @@
 -- Words among the texts of symbols.
-use Rattle.std.proofs.Common.{◌≡◌, ◌≢◌, ℕ, suc, ◌+◌, ◌<◌, ◌≤◌, Bool, true, false, not, ◌&&◌, ◌==◌, nat_eq, List, [], ◌∷◌, length, take, drop, get_or, codes, is_none, refl, ap, sym, ◌∙◌, arith, inl, inr, length-drop}
+use Rattle.std.proofs.Common.{◌≡◌, ◌≢◌, ℕ, suc, ◌+◌, ◌<◌, ◌≤◌, Bool, true, false, not, ◌&&◌, ◌==◌, nat_eq, List, [], ◌∷◌, length, take, drop, get_or, codes, is_none, refl, ap, sym, ◌∙◌, arith, inl, inr, length-drop, subst}
 use Rattle.std.proofs.lemmas.Bool.{and_parts, cases_Bool, eq-eqb, eqb-true, ne_eqb}
 use Rattle.std.proofs.lemmas.List.{drop_more, nil_from_length, take_all}
 use Rattle.std.specs.Cmp.Lexicographic.{pointwise}
 use Rattle.std.proofs.lemmas.Cmp.{nat_list_eq_equiv}
+use Rattle.std.specs.Str.{bytes_eq}
 use Rattle.ion_value.specs.Digits.{all_are, cut_at}
-use Rattle.ion_value.specs.Name.{begins_with, is_id, is_identifier, is_identifier_byte, is_plain, is_version, keyword, same_bytes}
+use Rattle.ion_value.specs.Name.{begins_with, is_id, is_identifier, is_identifier_byte, is_plain, is_version, keyword}
 
 -- ---- the bytes before the first that passes a test
 
@@ -56,13 +57,6 @@ cut_none b bytes i above below so_far =
 
 -- ---- comparing
 
--- two texts are the same where each byte is
-same_is : (cs bytes : List ℕ) → same_bytes cs bytes ≡ pointwise nat_eq cs bytes
-same_is [] [] = refl
-same_is [] (b ∷ bytes) = refl
-same_is (c ∷ cs) [] = refl
-same_is (c ∷ cs) (b ∷ bytes) = ap (λ e. (c == b) && e) (same_is cs bytes)
-
 -- what bytes begin with passes the tests that they pass
 begins_all : (test : ℕ → Bool) (cs bytes : List ℕ) → begins_with cs bytes ≡ true → all_are test bytes ≡ true → all_are test cs ≡ true
 begins_all test [] bytes begins all = refl
@@ -80,12 +74,24 @@ no_dot bytes all = elim (cases_Bool (begins_with (codes "null.") bytes)) [
 ]
 
 -- what a comparison answered
-pub same_as : (s t u : List ℕ) (r : Bool) → r ≡ pointwise nat_eq t u → u ≡ s → same_bytes s t ≡ r
-same_as s t u r a e = same_is s t ∙ (nat_list_eq_equiv.symm s t ∙ (ap (pointwise nat_eq t) (sym e) ∙ sym a))
+pub same_as : (s t u : List ℕ) (r : Bool) → r ≡ pointwise nat_eq t u → u ≡ s → bytes_eq s t ≡ r
+same_as s t u r a e = nat_list_eq_equiv.symm s t ∙ (ap (pointwise nat_eq t) (sym e) ∙ sym a)
+
+-- a word that is the same as a keyword is one
+is_same : (s word : List ℕ) → bytes_eq s word ≡ true → s ≡ word
+is_same [] [] e = refl
+is_same [] (b ∷ bytes) e = absurd (cc e)
+is_same (c ∷ cs) [] e = absurd (cc e)
+is_same (c ∷ cs) (b ∷ bytes) e =
+    let parts = and_parts (nat_eq c b) (bytes_eq cs bytes) e in
+    rw (eqb-true c b parts.0) (ap (λ (l : List ℕ). b ∷ l) (is_same cs bytes parts.1))
+
+pub keyword_found : (s word : List ℕ) → true ≡ not (is_none (keyword s)) → bytes_eq s word ≡ true → true ≡ not (is_none (keyword word))
+keyword_found s word found e = subst (λ (w : List ℕ). true ≡ not (is_none (keyword w))) (is_same s word e) found
 
 -- an identifier that is none of the first words is a keyword where it is the last
-pub keyword_last : (word : List ℕ) (r : Bool) → all_are is_identifier_byte word ≡ true → same_bytes (codes "null") word ≡ false → same_bytes (codes "true") word ≡ false
-    → same_bytes (codes "false") word ≡ false → same_bytes (codes "nan") word ≡ r → r ≡ not (is_none (keyword word))
+pub keyword_last : (word : List ℕ) (r : Bool) → all_are is_identifier_byte word ≡ true → bytes_eq (codes "null") word ≡ false → bytes_eq (codes "true") word ≡ false
+    → bytes_eq (codes "false") word ≡ false → bytes_eq (codes "nan") word ≡ r → r ≡ not (is_none (keyword word))
 keyword_last word true all null truth falsity nan = rw (null, no_dot word all, truth, falsity, nan) refl
 keyword_last word false all null truth falsity nan = rw (null, no_dot word all, truth, falsity, nan) refl
 

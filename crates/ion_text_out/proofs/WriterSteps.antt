@@ -9,19 +9,11 @@ use Rattle.ion_value.specs.Value.{PlacedItem, SymbolAt, UserSymbol, map_head}
 use Rattle.ion_value.specs.Standing as standing
 use Rattle.ion_value.specs.Standing.{Continues, HasPlace}
 use Rattle.ion_text_out.specs.Text.{Open, open_after, open_behind, with_member}
-use Rattle.ion_text_out.specs.Writing.{shown, shown_in, user_at, user_item, user_items, HasRoom, Stands}
-use Rattle.ion_text_out.specs.Written.{user_items-append}
+use Rattle.ion_text_out.specs.Writing.{shown_in, user_at, user_items, HasRoom, Stands}
 
 behind-append : (cs : Open) (path : List (v.Item UserSymbol ℕ)) (item : v.Item UserSymbol ℕ) → open_behind cs (path ++ item ∷ []) ≡ open_after (open_behind cs path) item.head
 behind-append cs [] item = refl
 behind-append cs (i ∷ path) item = behind-append (open_after cs i.head) path item
-
--- the writer goes where the item leads
-pub stands-on : (kinds later : List Kind) (empty now : Bool) (path : List PlacedItem) (item : PlacedItem)
-    → Stands kinds empty path → shown later now ≡ open_after (shown kinds empty) (map_head user_at item.head) → Stands later now (path ++ item ∷ [])
-stands-on kinds later empty now path item at e =
-    ap (λ (l : List (v.Item UserSymbol ℕ)). open_behind [] l) (user_items-append path item)
-    ∙ (behind-append [] (user_items path) (user_item item) ∙ (ap (λ (cs : Open). open_after cs (map_head user_at item.head)) at ∙ sym e))
 
 -- how many containers are open
 abbrev kinds_in : Open → List Kind

@@ -1,6 +1,6 @@
 pub mod Escape
 pub mod Text
 pub mod Laws
-pub mod Putting
 pub mod Writing
 pub mod Written
+pub mod Steps

@@ -6,7 +6,7 @@ use Rattle.ion_meter.specs.declared.limits.Limits.{Limits}
 use Rattle.ion_meter.specs.Limits.{AreChecked}
 use Rattle.ion_value.specs.declared.ion_type.Kind.{Kind}
 use Rattle.ion_value.specs.Value as v
-use Rattle.ion_value.specs.Value.{SymbolAt, UserSymbol, user_symbol, Scalar, map_head, map_item, Head, Item, PlacedItem}
+use Rattle.ion_value.specs.Value.{SymbolAt, UserSymbol, user_symbol, map_head, map_item, Head, Item, PlacedItem}
 use Rattle.ion_value.specs.Standing.{InRange}
 use Rattle.ion_text_out.specs.Text.{Open, annotation_text, before_item, behind_value, closer, field_text, item_text, items_text, open_behind, opener, scalar_text}
 
@@ -94,8 +94,11 @@ abbrev pub where_value : Bool → List ℕ → List ℕ
 where_value true text = text
 where_value false text = []
 
+abbrev pub value_text : Option SymbolAt → List SymbolAt → Head SymbolAt → List ℕ
+value_text field notes head = name_text field ++ (notes_text notes ++ body_text (map_head user_at head))
+
 abbrev pub middle_text : PlacedItem → List ℕ
-middle_text item = where_value (is_value item.head) (name_text item.field ++ (notes_text item.annotations ++ body_text (map_head user_at item.head)))
+middle_text item = where_value (is_value item.head) (value_text item.field item.annotations item.head)
 
 -- a value's numbers are those of this library
 abbrev pub HeadInRange : {S : Type 0} → Head S → Type 0

@@ -1,6 +1,6 @@
 //! What stands between values.
 ghost use Rattle.std.specs.Prelude.{◌≡◌, Bool};
-ghost use Rattle.ion_text_out.specs.Text.{before_item, before_next, behind_value, closer, opener, separator};
+ghost use Rattle.ion_text_out.specs.Text.{before_item, behind_value, closer, opener, separator};
 ghost use Rattle.ion_text_out.specs.Writing.{behind_end, closing, innermost, shown};
 
 use ion_value::ion_type::Kind;

@@ -2,7 +2,7 @@
 ghost use Rattle.std.specs.Prelude.{◌≡◌, ◌≤◌, None, length};
 ghost use Rattle.base64.specs.Engines.{standard};
 ghost use Rattle.base64.specs.GeneralPurpose.{encode_of};
-ghost use Rattle.ion_text_out.specs.Putting.{HasPut};
+ghost use Rattle.ion_meter.specs.Sinks.{IsPut};
 
 use crate::put::put;
 use base64::engine::general_purpose::STANDARD;
@@ -21,7 +21,7 @@ fn put_piece<O: Output, A: Allocator + Copy>(
 ) -> Result<(), Fault>
     requires well { sink.old.fault ≡ None }
     requires few { length bytes.now ≤ PIECE }
-    ensures { HasPut O.written O.tells O.failure_count sink.old sink.new result (encode_of standard bytes.now) }
+    ensures { IsPut O.Output sink.old sink.new result (encode_of standard bytes.now) }
 {
     let mut text = [0; 1024];
     let len = STANDARD.encode_slice(bytes, &mut text).unwrap();
@@ -34,7 +34,7 @@ pub fn put_base64<O: Output, A: Allocator + Copy>(
     bytes: &[u8],
 ) -> Result<(), Fault>
     requires well { sink.old.fault ≡ None }
-    ensures { HasPut O.written O.tells O.failure_count sink.old sink.new result (encode_of standard bytes.now) }
+    ensures { IsPut O.Output sink.old sink.new result (encode_of standard bytes.now) }
 {
     let mut at = 0;
     'pieces: while bytes.len() - at > PIECE {

@@ -1,26 +1,17 @@
 //! The text of an item, in parts.
-ghost use Rattle.std.specs.Prelude.{◌≡◌, ◌+◌, ◌*◌, ◌≤◌, ◌<◌, ◌^◌, ◌-◌, ◌++◌, ◌∷◌, ℕ, Bool, [], List, length, true, false, None, Some, Ok, Err, OnOk, OnErr, IfErr, codes, slice_get};
-ghost use Rattle.ion_meter.specs.declared.fault.Fault.TheVariants.{WriteFault, Memory};
-ghost use Rattle.ion_meter.specs.Limits.{AreChecked};
-ghost use Rattle.ion_meter.specs.Windows.{so_far, Puts, write_failures_in};
-ghost use Rattle.ion_meter.specs.Counts.{Grows, Shrinks, IsRefused};
-ghost use Rattle.ion_value.specs.Value.{map_head, user_symbol, PlacedItem};
-ghost use Rattle.ion_value.specs.Items.{raw_head, raw_field, symbol_at, symbol_of, item_of, annotations_of};
-ghost use Rattle.ion_value.specs.Shares.{Charges, fault_of};
-ghost use Rattle.ion_value.specs.Standing.{HasPlace};
-ghost use Rattle.ion_text_out.specs.Text.{annotation_text, symbol_text, item_text, open_after};
-ghost use Rattle.ion_text_out.specs.Putting.{HasPut};
-ghost use Rattle.ion_text_out.specs.Writing.{body_text, first_text, is_value, last_text, middle_text, name_text, note_text, notes_text, shown, user_at, user_item, HeadInRange, IsReady};
+ghost use Rattle.std.specs.Prelude.{◌≡◌, ◌+◌, ◌*◌, ◌<◌, ◌-◌, ◌++◌, Bool, None, Some, Ok, Err, OnOk, codes, slice_get};
+ghost use Rattle.ion_value.specs.Value.{user_symbol};
+ghost use Rattle.ion_value.specs.Items.{raw_head, raw_field, symbol_of, item_of, annotations_of};
+ghost use Rattle.ion_text_out.specs.Text.{symbol_text, item_text};
+ghost use Rattle.ion_meter.specs.Sinks.{IsPut};
+ghost use Rattle.ion_text_out.specs.Writing.{first_text, is_value, last_text, middle_text, name_text, note_text, notes_text, shown, user_item, value_text, HeadInRange};
 
 use crate::between::{before, behind, behind_end, closing};
 use crate::put::put;
 use crate::scalar::{put_body, put_symbol};
 use ion_meter::device::Output;
 use ion_meter::fault::Fault;
-use ion_meter::limits::Limits;
-use ion_meter::meter::Meter;
 use ion_meter::sink::Sink;
-use ion_meter::stack::Stack;
 use ion_value::ion_type::Kind;
 use ion_value::item::{Annotations, Head, Item, SymAt};
 use ion_value::names::Names;
@@ -33,7 +24,8 @@ fn put_name<O: Output, A: Allocator + Copy>(
     at: SymAt<'_>,
 ) -> Result<(), Fault>
     requires well { sink.old.fault ≡ None }
-    ensures { HasPut O.written O.tells O.failure_count sink.old sink.new result (symbol_text (user_symbol (symbol_of at.entry.sym)) ++ codes ":") }
+    ensures { IsPut O.Output sink.old sink.new result
+        (symbol_text (user_symbol (symbol_of at.entry.sym)) ++ codes ":") }
 {
     if let Err(fault) = put_symbol(sink, at.sym) {
         return Err(fault);
@@ -48,7 +40,7 @@ fn put_field<O: Output, A: Allocator + Copy>(
     field: Option<SymAt<'_>>,
 ) -> Result<(), Fault>
     requires well { sink.old.fault ≡ None }
-    ensures { HasPut O.written O.tells O.failure_count sink.old sink.new result (name_text (raw_field field.entry)) }
+    ensures { IsPut O.Output sink.old sink.new result (name_text (raw_field field.entry)) }
 {
     match field {
         None => put(sink, b""),
@@ -63,7 +55,8 @@ fn put_note<O: Output, A: Allocator + Copy>(
     at: SymAt<'_>,
 ) -> Result<(), Fault>
     requires well { sink.old.fault ≡ None }
-    ensures { HasPut O.written O.tells O.failure_count sink.old sink.new result (symbol_text (user_symbol (symbol_of at.entry.sym)) ++ codes "::") }
+    ensures { IsPut O.Output sink.old sink.new result
+        (symbol_text (user_symbol (symbol_of at.entry.sym)) ++ codes "::") }
 {
     if let Err(fault) = put_symbol(sink, at.sym) {
         return Err(fault);
@@ -79,7 +72,8 @@ fn put_note_at<O: Output, A: Allocator + Copy, N: Names>(
     index: usize,
 ) -> Result<(), Fault>
     requires well { sink.old.fault ≡ None }
-    ensures { HasPut O.written O.tells O.failure_count sink.old sink.new result (note_text (slice_get (annotations_of N.text notes.now) index)) }
+    ensures { IsPut O.Output sink.old sink.new result
+        (note_text (slice_get (annotations_of N.text notes.now) index)) }
 {
     match notes.get(index) {
         None => put(sink, b""),
@@ -94,7 +88,8 @@ fn put_notes<O: Output, A: Allocator + Copy, N: Names>(
     notes: &Annotations<'_, N>,
 ) -> Result<(), Fault>
     requires well { sink.old.fault ≡ None }
-    ensures { HasPut O.written O.tells O.failure_count sink.old sink.new result (notes_text (annotations_of N.text notes.now)) }
+    ensures { IsPut O.Output sink.old sink.new result
+        (notes_text (annotations_of N.text notes.now)) }
 {
     let count = notes.len();
     let mut index = 0;
@@ -118,7 +113,8 @@ fn put_first<O: Output, A: Allocator + Copy>(
     head: &Head<'_>,
 ) -> Result<(), Fault>
     ensures well { OnOk result (sink.old.fault ≡ None) }
-    ensures puts { sink.old.fault ≡ None → HasPut O.written O.tells O.failure_count sink.old sink.new result (first_text (shown kinds.now empty) (raw_head head.now)) }
+    ensures puts { sink.old.fault ≡ None → IsPut O.Output sink.old sink.new result
+        (first_text (shown kinds.now empty) (raw_head head.now)) }
 {
     match *head {
         Head::End => sink.put(closing(kinds)),
@@ -135,7 +131,8 @@ fn put_last<O: Output, A: Allocator + Copy>(
     head: &Head<'_>,
 ) -> Result<(), Fault>
     requires well { sink.old.fault ≡ None }
-    ensures { (empty : Bool) → HasPut O.written O.tells O.failure_count sink.old sink.new result (last_text (shown kinds.now empty) (raw_head head.now)) }
+    ensures { (empty : Bool) → IsPut O.Output sink.old sink.new result
+        (last_text (shown kinds.now empty) (raw_head head.now)) }
 {
     match *head {
         Head::End => put(sink, behind_end(kinds)),
@@ -163,7 +160,7 @@ fn put_middle<O: Output, A: Allocator + Copy, N: Names>(
     requires well { sink.old.fault ≡ None }
     requires head { raw_head head.now ≡ (item_of N.text item.now).head }
     requires range { HeadInRange (raw_head head.now) }
-    ensures { HasPut O.written O.tells O.failure_count sink.old sink.new result (middle_text (item_of N.text item.now)) }
+    ensures { IsPut O.Output sink.old sink.new result (middle_text (item_of N.text item.now)) }
 {
     if is_value(head) {
         put_value(sink, item.field(), &item.annotations(), head)
@@ -182,7 +179,8 @@ fn put_value<O: Output, A: Allocator + Copy, N: Names>(
 ) -> Result<(), Fault>
     requires well { sink.old.fault ≡ None }
     requires range { HeadInRange (raw_head head.now) }
-    ensures { HasPut O.written O.tells O.failure_count sink.old sink.new result (name_text (raw_field field.entry) ++ (notes_text (annotations_of N.text notes.now) ++ body_text (map_head user_at (raw_head head.now)))) }
+    ensures { IsPut O.Output sink.old sink.new result
+        (value_text (raw_field field.entry) (annotations_of N.text notes.now) (raw_head head.now)) }
 {
     if let Err(fault) = put_field(sink, field) {
         return Err(fault);
@@ -203,7 +201,8 @@ pub fn put_item<O: Output, A: Allocator + Copy, N: Names>(
 ) -> Result<(), Fault>
     requires range { HeadInRange (item_of N.text item.now).head }
     ensures well { OnOk result (sink.old.fault ≡ None) }
-    ensures puts { sink.old.fault ≡ None → HasPut O.written O.tells O.failure_count sink.old sink.new result (item_text (shown kinds.now empty) (user_item (item_of N.text item.now))) }
+    ensures puts { sink.old.fault ≡ None → IsPut O.Output sink.old sink.new result
+        (item_text (shown kinds.now empty) (user_item (item_of N.text item.now))) }
 {
     let head = item.head();
     if let Err(fault) = put_first(sink, kinds, empty, &head) {

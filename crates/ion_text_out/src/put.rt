@@ -1,6 +1,6 @@
 //! Bytes that are put in parts.
-ghost use Rattle.std.specs.Prelude.{◌≡◌, ◌++◌, None, OnOk};
-ghost use Rattle.ion_text_out.specs.Putting.{HasPut};
+ghost use Rattle.std.specs.Prelude.{◌≡◌, None};
+ghost use Rattle.ion_meter.specs.Sinks.{IsPut};
 
 use ion_meter::device::Output;
 use ion_meter::fault::Fault;
@@ -11,7 +11,7 @@ use std::alloc::Allocator;
 #[inline(always)]
 pub fn put<O: Output, A: Allocator + Copy>(sink: &mut Sink<O, A>, bytes: &[u8]) -> Result<(), Fault>
     requires well { sink.old.fault ≡ None }
-    ensures { HasPut O.written O.tells O.failure_count sink.old sink.new result bytes.now }
+    ensures { IsPut O.Output sink.old sink.new result bytes.now }
 {
     sink.put(bytes)
 }

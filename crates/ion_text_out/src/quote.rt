@@ -2,7 +2,7 @@
 ghost use Rattle.std.specs.Prelude.{◌≡◌, ◌<◌, ◌≤◌, true, false, None, length, take, drop};
 ghost use Rattle.std.specs.List.{flat_map};
 ghost use Rattle.ion_text_out.specs.Escape.{hex_digit, letter, is_shown, escaped, byte_text, between_quotes};
-ghost use Rattle.ion_text_out.specs.Putting.{HasPut};
+ghost use Rattle.ion_meter.specs.Sinks.{IsPut};
 ghost use Rattle.ion_value.specs.Digits.{first_is, all_are};
 
 use crate::put::put;
@@ -19,7 +19,7 @@ pub fn put_quoted<O: Output, A: Allocator + Copy>(
     bytes: &[u8],
 ) -> Result<(), Fault>
     requires well { sink.old.fault ≡ None }
-    ensures { HasPut O.written O.tells O.failure_count sink.old sink.new result (between_quotes quote top bytes.now) }
+    ensures { IsPut O.Output sink.old sink.new result (between_quotes quote top bytes.now) }
 {
     if let Err(fault) = put(sink, &[quote]) {
         return Err(fault);
@@ -39,7 +39,7 @@ fn put_inside<O: Output, A: Allocator + Copy>(
     bytes: &[u8],
 ) -> Result<(), Fault>
     requires well { sink.old.fault ≡ None }
-    ensures { HasPut O.written O.tells O.failure_count sink.old sink.new result (flat_map (byte_text quote top) bytes.now) }
+    ensures { IsPut O.Output sink.old sink.new result (flat_map (byte_text quote top) bytes.now) }
 {
     let mut rest = bytes;
     'runs: loop {
@@ -123,7 +123,7 @@ fn put_escape<O: Output, A: Allocator + Copy>(
     byte: u8,
 ) -> Result<(), Fault>
     requires well { sink.old.fault ≡ None }
-    ensures { HasPut O.written O.tells O.failure_count sink.old sink.new result (escaped quote byte) }
+    ensures { IsPut O.Output sink.old sink.new result (escaped quote byte) }
 {
     if byte == quote {
         return put(sink, &[b'\\', byte]);

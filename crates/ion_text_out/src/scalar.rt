@@ -2,7 +2,7 @@
 ghost use Rattle.std.specs.Prelude.{◌≡◌, ◌++◌, None, codes};
 ghost use Rattle.base64.specs.Engines.{standard};
 ghost use Rattle.base64.specs.GeneralPurpose.{encode_of};
-ghost use Rattle.ion_value.specs.Name.{bool_text, null_text};
+ghost use Rattle.ion_value.specs.Name.{null_text};
 ghost use Rattle.ion_value.specs.Int.{IsInt, int_text};
 ghost use Rattle.ion_value.specs.Decimal.{IsDecimal, decimal_text};
 ghost use Rattle.ion_value.specs.Timestamp.{IsTimestamp, timestamp_text};
@@ -10,7 +10,7 @@ ghost use Rattle.ion_value.specs.Value.{user_symbol, map_head};
 ghost use Rattle.ion_value.specs.Items.{symbol_of, raw_head};
 ghost use Rattle.ion_text_out.specs.Escape.{between_quotes};
 ghost use Rattle.ion_text_out.specs.Text.{symbol_text};
-ghost use Rattle.ion_text_out.specs.Putting.{HasPut};
+ghost use Rattle.ion_meter.specs.Sinks.{IsPut};
 ghost use Rattle.ion_text_out.specs.Writing.{user_at, body_text, HeadInRange};
 
 use crate::between::opener;
@@ -57,7 +57,8 @@ pub fn put_symbol<O: Output, A: Allocator + Copy>(
     symbol: Sym<'_>,
 ) -> Result<(), Fault>
     requires well { sink.old.fault ≡ None }
-    ensures { HasPut O.written O.tells O.failure_count sink.old sink.new result (symbol_text (user_symbol (symbol_of symbol.entry))) }
+    ensures { IsPut O.Output sink.old sink.new result
+        (symbol_text (user_symbol (symbol_of symbol.entry))) }
 {
     match symbol {
         Sym::Id(_) => put(sink, b"$0"),
@@ -72,7 +73,8 @@ fn put_clob<O: Output, A: Allocator + Copy>(
     bytes: &[u8],
 ) -> Result<(), Fault>
     requires well { sink.old.fault ≡ None }
-    ensures { HasPut O.written O.tells O.failure_count sink.old sink.new result (codes "{{" ++ (between_quotes 34 128 bytes.now ++ codes "}}")) }
+    ensures { IsPut O.Output sink.old sink.new result
+        (codes "{{" ++ (between_quotes 34 128 bytes.now ++ codes "}}")) }
 {
     if let Err(fault) = put(sink, b"{{") {
         return Err(fault);
@@ -89,7 +91,8 @@ fn put_blob<O: Output, A: Allocator + Copy>(
     bytes: &[u8],
 ) -> Result<(), Fault>
     requires well { sink.old.fault ≡ None }
-    ensures { HasPut O.written O.tells O.failure_count sink.old sink.new result (codes "{{" ++ (encode_of standard bytes.now ++ codes "}}")) }
+    ensures { IsPut O.Output sink.old sink.new result
+        (codes "{{" ++ (encode_of standard bytes.now ++ codes "}}")) }
 {
     if let Err(fault) = put(sink, b"{{") {
         return Err(fault);
@@ -105,7 +108,7 @@ fn put_blob<O: Output, A: Allocator + Copy>(
 fn put_int<O: Output, A: Allocator + Copy>(sink: &mut Sink<O, A>, int: Int) -> Result<(), Fault>
     requires well { sink.old.fault ≡ None }
     requires range { IsInt int }
-    ensures { HasPut O.written O.tells O.failure_count sink.old sink.new result (int_text int) }
+    ensures { IsPut O.Output sink.old sink.new result (int_text int) }
 {
     let text = int_to_text(int);
     put(sink, text.as_str().as_bytes())
@@ -118,7 +121,7 @@ fn put_decimal<O: Output, A: Allocator + Copy>(
 ) -> Result<(), Fault>
     requires well { sink.old.fault ≡ None }
     requires range { IsDecimal decimal }
-    ensures { HasPut O.written O.tells O.failure_count sink.old sink.new result (decimal_text decimal) }
+    ensures { IsPut O.Output sink.old sink.new result (decimal_text decimal) }
 {
     let text = decimal_to_text(decimal);
     put(sink, text.as_str().as_bytes())
@@ -131,7 +134,7 @@ fn put_timestamp<O: Output, A: Allocator + Copy>(
 ) -> Result<(), Fault>
     requires well { sink.old.fault ≡ None }
     requires range { IsTimestamp timestamp }
-    ensures { HasPut O.written O.tells O.failure_count sink.old sink.new result (timestamp_text timestamp) }
+    ensures { IsPut O.Output sink.old sink.new result (timestamp_text timestamp) }
 {
     let text = timestamp_to_text(timestamp);
     put(sink, text.as_str().as_bytes())
@@ -145,7 +148,8 @@ pub fn put_body<O: Output, A: Allocator + Copy>(
 ) -> Result<(), Fault>
     requires well { sink.old.fault ≡ None }
     requires range { HeadInRange (raw_head head.now) }
-    ensures { HasPut O.written O.tells O.failure_count sink.old sink.new result (body_text (map_head user_at (raw_head head.now))) }
+    ensures { IsPut O.Output sink.old sink.new result
+        (body_text (map_head user_at (raw_head head.now))) }
 {
     match *head {
         Head::Null(of) => put(sink, null(of)),

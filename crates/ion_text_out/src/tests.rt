@@ -1,5 +1,5 @@
 //! What the writer puts for items, whole and as long as containers are open.
-ghost use Rattle.std.specs.Prelude.{◌≡◌, ◌+◌, ◌^◌, ◌<◌, ◌≤◌, List, [], length, true, false, OnOk, IfSome};
+ghost use Rattle.std.specs.Prelude.{◌≡◌, ◌+◌, ◌^◌, ◌<◌, List, [], true, false, OnOk, IfSome};
 ghost use Rattle.ion_value.specs.Items.{item_of, raw_head};
 ghost use Rattle.ion_value.specs.Standing.{open_after, open_behind, is_marker, Fits};
 ghost use Rattle.ion_value.specs.Value.{PlacedItem};

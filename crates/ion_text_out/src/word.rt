@@ -87,7 +87,8 @@ fn is_version(word: &[u8]) -> bool
 
 // Whether these bytes are digits, an underscore and digits.
 fn are_two_numbers(bytes: &[u8]) -> bool
-    ensures { result ≡ (is_number (cut_at (λ b. b == 95) bytes.now).0 && is_number (drop 1 (cut_at (λ b. b == 95) bytes.now).1)) }
+    ensures { result ≡ (is_number (cut_at (λ b. b == 95) bytes.now).0
+        && is_number (drop 1 (cut_at (λ b. b == 95) bytes.now).1)) }
 {
     let (major, behind) = cut_at_underscore(bytes);
     match behind {

@@ -1,15 +1,15 @@
 //! The writer of text.
-ghost use Rattle.std.specs.Prelude.{◌≡◌, ◌*◌, ◌≤◌, ◌<◌, ◌^◌, ◌-◌, ◌++◌, ◌∷◌, ℕ, [], length, None, Err, OnOk, OnErr, IfErr};
+ghost use Rattle.std.specs.Prelude.{◌≡◌, ◌*◌, ◌≤◌, ◌<◌, ◌-◌, ℕ, [], length, None, Err, OnOk, OnErr, IfErr};
 ghost use Rattle.ion_meter.specs.declared.fault.Reason.{Reason};
 ghost use Rattle.ion_meter.specs.declared.fault.Fault.TheVariants.{Refused};
 ghost use Rattle.ion_meter.specs.Limits.{AreChecked};
-ghost use Rattle.ion_meter.specs.Windows.{so_far, Puts};
-ghost use Rattle.ion_meter.specs.Counts.{Grows, Shrinks, IsRefused};
-ghost use Rattle.ion_value.specs.Value.{map_head, PlacedItem};
+ghost use Rattle.ion_meter.specs.Counts.{Shrinks};
+ghost use Rattle.ion_value.specs.Value.{map_head};
 ghost use Rattle.ion_value.specs.Items.{raw_head, item_of};
-ghost use Rattle.ion_value.specs.Shares.{Charges, WriteCauses, fault_of};
-ghost use Rattle.ion_text_out.specs.Text.{item_text, open_after};
-ghost use Rattle.ion_text_out.specs.Writing.{text_puts, text_adds, text_refusal, shown, user_at, user_item, HasRoom, HeadInRange, IsReady, Stands};
+ghost use Rattle.ion_value.specs.Shares.{WriteCauses, fault_of};
+ghost use Rattle.ion_text_out.specs.Text.{open_after};
+ghost use Rattle.ion_text_out.specs.Writing.{text_puts, text_adds, text_refusal, user_at, HeadInRange, IsReady, Stands};
+ghost use Rattle.ion_text_out.specs.Steps.{held_by, opened_in, share_of, text_of, CanStep, HasRoomFor, PutsText, Stepped};
 ghost use Rattle.ion_text_out.specs.Written.{text_grows, text-within};
 
 use crate::item::put_item;
@@ -75,21 +75,18 @@ impl<A: Allocator + Copy> TextWriter<A> {
         sink: &mut Sink<O, A>,
         item: &Item<'_, N>,
     ) -> Result<(), Fault>
-        requires room { meter.old.held ≤ 2 ^ 62 }
-        requires held { 16 * length self.old.kinds ≤ meter.old.held }
-        requires countable { meter.old.refused < 2 ^ 64 - 1 }
-        requires ready { IsReady self.old.limits (length self.old.kinds) }
+        requires can_step { CanStep self.old meter.old }
         requires range { HeadInRange (item_of N.text item.now).head }
-        requires fits { HasRoom self.old.limits.depth (length self.old.kinds) (item_of N.text item.now).head }
-        ensures shown { OnOk result (shown self.new.kinds self.new.empty ≡ open_after (shown self.old.kinds self.old.empty) (map_head user_at (item_of N.text item.now).head)) }
-        ensures puts { OnOk result (O.tells sink.old.device → so_far O.written sink.new ≡ so_far O.written sink.old ++ item_text (shown self.old.kinds self.old.empty) (user_item (item_of N.text item.now))) }
-        ensures part { sink.old.fault ≡ None → Puts O.written O.tells sink.old sink.new (item_text (shown self.old.kinds self.old.empty) (user_item (item_of N.text item.now))) }
-        ensures well { OnOk result (sink.old.fault ≡ None → sink.new.fault ≡ None) }
-        ensures refuses { sink.old.fault ≡ None → (r : Reason) (p : ℕ) → result ≡ Err (Refused r p) → ⊥ }
-        ensures ready { IsReady self.new.limits (length self.new.kinds) }
-        ensures kept { (self.new.limits ≡ self.old.limits) × (self.new.failed ≡ self.old.failed) }
-        ensures causes { sink.old.fault ≡ None → WriteCauses (fault_of result) meter.old meter.new (O.failure_count sink.old.device) (O.failure_count sink.new.device) }
-        ensures charges { Charges meter.old meter.new (16 * length self.old.kinds) (16 * length self.new.kinds) (16 * self.old.limits.depth) }
+        requires fits { HasRoomFor self.old (item_of N.text item.now).head }
+        ensures opens { OnOk result (opened_in self.new
+            ≡ open_after (opened_in self.old) (map_head user_at (item_of N.text item.now).head)) }
+        ensures puts { PutsText O.Output sink.old sink.new result
+            (text_of self.old (item_of N.text item.now)) }
+        ensures refuses { sink.old.fault ≡ None
+            → (r : Reason) (p : ℕ) → result ≡ Err (Refused r p) → ⊥ }
+        ensures causes { sink.old.fault ≡ None → WriteCauses (fault_of result) meter.old meter.new
+            (O.failure_count sink.old.device) (O.failure_count sink.new.device) }
+        ensures stepped { Stepped self.old self.new meter.old meter.new }
     {
         if let Err(fault) = put_item(sink, self.kinds.as_slice(), self.empty, item) {
             return Err(fault);
@@ -101,18 +98,14 @@ impl<A: Allocator + Copy> TextWriter<A> {
     // Moves to behind a head.
     #[inline(always)]
     fn settle(&mut self, meter: &mut Meter<A>, head: &Head<'_>) -> Result<(), Fault>
-        requires room { meter.old.held ≤ 2 ^ 62 }
-        requires held { 16 * length self.old.kinds ≤ meter.old.held }
-        requires countable { meter.old.refused < 2 ^ 64 - 1 }
-        requires ready { IsReady self.old.limits (length self.old.kinds) }
-        requires fits { HasRoom self.old.limits.depth (length self.old.kinds) (raw_head head.now) }
-        ensures shown { OnOk result (shown self.new.kinds self.new.empty ≡ open_after (shown self.old.kinds self.old.empty) (map_head user_at (raw_head head.now))) }
+        requires can_step { CanStep self.old meter.old }
+        requires fits { HasRoomFor self.old (raw_head head.now) }
+        ensures opens { OnOk result (opened_in self.new
+            ≡ open_after (opened_in self.old) (map_head user_at (raw_head head.now))) }
         ensures memory { IfErr result (λ f. f ≡ Fault.Memory) }
         ensures refused { OnErr result (meter.old.refused < meter.new.refused) }
         ensures counted { OnOk result (meter.new.refused ≡ meter.old.refused) }
-        ensures ready { IsReady self.new.limits (length self.new.kinds) }
-        ensures kept { (self.new.limits ≡ self.old.limits) × (self.new.failed ≡ self.old.failed) }
-        ensures charges { Charges meter.old meter.new (16 * length self.old.kinds) (16 * length self.new.kinds) (16 * self.old.limits.depth) }
+        ensures stepped { Stepped self.old self.new meter.old meter.new }
     {
         match *head {
             Head::Begin(kind) => {
@@ -147,9 +140,9 @@ impl<O: Output, A: Allocator + Copy> ValueWriter<O, A> for TextWriter<A> {
 
     ghost failed = { λ w. w.failed };
 
-    ghost own = { λ w. 16 * length w.kinds };
+    ghost own = { held_by };
 
-    ghost most = { λ w. 16 * w.limits.depth };
+    ghost most = { share_of };
 
     ghost sound = { λ w. IsReady w.limits (length w.kinds) };
 

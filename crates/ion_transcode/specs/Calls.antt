@@ -11,7 +11,7 @@ use Rattle.ion_meter.specs.declared.limits.Limits.{Limits}
 use Rattle.ion_value.specs.Outcome.{Verdict, Accepted, Rejected}
 use Rattle.ion_value.specs.declared.reader.RawReader.{Ghosts as ReaderOf}
 use Rattle.ion_value.specs.declared.writer.ValueWriter.{Ghosts as WriterOf}
-use Rattle.ion_binary.specs.Parts.{Stands}
+use Rattle.ion_meter.specs.Sources.{Stands}
 use Rattle.ion_symbols.specs.User.{IsReady}
 use Rattle.ion_symbols.specs.declared.user.UserReader.{UserReader}
 use Rattle.ion_transcode.specs.declared.to.Form.{Form}

@@ -1,5 +1,5 @@
 -- Laws of where the VarUInt or VarInt at the front of a body ends.
-use Rattle.std.proofs.Common.{◌≡◌, ℕ, zero, suc, ◌<◌, ◌≤◌, inl, inr, true, false, ltb, List, [], ◌∷◌, ◌++◌, length, take, drop, Option, Some, None, refl, sym, ap, ◌∙◌, subst, arith}
+use Rattle.std.proofs.Common.{◌≡◌, ℕ, zero, suc, ◌<◌, ◌≤◌, inl, inr, true, false, ltb, List, [], ◌∷◌, ◌++◌, length, take, drop, Option, Some, None, refl, sym, ap, ◌∙◌, arith}
 use Rattle.std.specs.Option.{IfSome, option_map}
 use Rattle.std.proofs.lemmas.Bool.{cases_lt, lt-ltb, le-ltb}
 use Rattle.std.proofs.lemmas.List.{take-append-drop, take_at}
@@ -41,9 +41,6 @@ IfSome-Cut (suc most) (b ∷ body) =
       | inl low ↦ let e : ltb b 128 ≡ true = lt-ltb b 128 low in rw e (IfSome-Cut-more most b body (var_cut most body) low (IfSome-Cut most body))
       | inr high ↦ let e : ltb b 128 ≡ false = le-ltb b 128 high in rw e (record { ends = high; short = omega arith; whole = refl })
     ]
-
-pub var_cut-Cut : (most : ℕ) (body : List ℕ) (cut : List ℕ × List ℕ) → var_cut most body ≡ Some cut → Cut most body cut
-var_cut-Cut most body cut e = let P : Option (List ℕ × List ℕ) → Type 0 = λ o. IfSome o (Cut most body) in subst P e (IfSome-Cut most body)
 
 -- where no front of at most so many octets has the high bit on its last alone, the body is not cut
 none-by : (most : ℕ) (b : List ℕ) (o : Option (List ℕ × List ℕ)) → IfSome o (Cut most b) → ((k : ℕ) → IsVar (take k b) → length (take k b) ≤ most → ⊥) → o ≡ None

@@ -10,7 +10,7 @@ use Rattle.ion_value.specs.declared.decimal.Decimal.{Decimal}
 use Rattle.ion_value.specs.declared.var.Signed.{Signed}
 use Rattle.ion_value.specs.Number.{VarInt, var_int_negative, var_int_magnitude, int_negative, int_magnitude, signed, var_cut, digits_in, with_sign, var_int_octets, coefficient_octets}
 use Rattle.ion_value.specs.Decimal.{IsExponent, is_exponent, IsDecimal, decimal_in_range, zero_decimal, DecimalBody, nothing, parts, decimal_of_cut, decimal_of_bytes, exponent_octets, is_nothing, decimal_body}
-use Rattle.ion_value.proofs.Octets.{Below, All-Below, digits_in-Digits, Signing, with_sign-Signing, Signing-fewest}
+use Rattle.ion_value.proofs.Octets.{Below, Below-append, All-Below, digits_in-Digits, Signing, with_sign-Signing, Signing-fewest}
 use Rattle.ion_value.proofs.VarOctets.{var_int_octets-VarInt, var_int_octets-fewest, var_int_octets-short, var_int_octets-Below}
 use Rattle.ion_value.proofs.Cut.{Cut, IfSome-Cut, var_cut-IsVar, var_cut-VarInt, var_cut-no_VarInt}
 
@@ -221,10 +221,6 @@ decimal_body-DecimalBody d range =
 Below-right : (base : ℕ) (xs ys : List ℕ) → Below base (xs ++ ys) → Below base ys
 Below-right base [] ys h = h
 Below-right base (x ∷ xs) ys h = Below-right base xs ys h.1
-
-Below-append : (base : ℕ) (xs ys : List ℕ) → Below base xs → Below base ys → Below base (xs ++ ys)
-Below-append base [] ys h g = g
-Below-append base (x ∷ xs) ys h g = (h.0, Below-append base xs ys h.1 g)
 
 -- no octets that spell the decimal are fewer
 pub decimal_body-fewest : (d : Decimal) (b : List ℕ) → Below 256 b → DecimalBody d b → length (decimal_body d) ≤ length b

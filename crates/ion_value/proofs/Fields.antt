@@ -173,12 +173,6 @@ sign-small k short =
     let powers : 128 ^ (k - 1) ≤ 128 ^ 8 = pow-le-pow_right {n = 128} (omega arith) few in
     omega arith
 
-pub sign-fits : (k : ℕ) → 0 < k → 128 * 128 ^ (k - 1) ≡ 128 ^ k
-sign-fits zero some = absurd (omega arith)
-sign-fits (suc k) some =
-    let e : suc k - 1 ≡ k = omega arith in
-    rw e (omega (arith, pow-suc 128 k))
-
 -- a VarInt at the front of a list is unique, and so are its sign and magnitude
 pub VarInt-unique : (z w : Signed) (b c x y : List ℕ) → VarInt z b → VarInt w c → b ++ x ≡ c ++ y → (b ≡ c) × (z ≡ w)
 VarInt-unique z w b c x y hb hc e =

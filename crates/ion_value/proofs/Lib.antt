@@ -22,6 +22,4 @@ pub mod Readings
 pub mod Paths
 pub mod Items
 pub mod Outcomes
-mod Small
-mod Holding
 pub mod ValueRows

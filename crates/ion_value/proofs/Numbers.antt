@@ -1,10 +1,9 @@
 -- Laws of the numbers that digits and octets spell.
-use Rattle.std.proofs.Common.{◌≡◌, ℕ, zero, suc, ◌+◌, ◌-◌, ◌*◌, ◌%◌, ◌^◌, ◌<◌, ◌≤◌, List, [], ◌∷◌, ◌++◌, length, take, get_or, refl, ap, sym, ◌∙◌, arith, add-one, length-append, replicate, lit<}
+use Rattle.std.proofs.Common.{◌≡◌, ℕ, zero, suc, ◌+◌, ◌-◌, ◌*◌, ◌%◌, ◌^◌, ◌<◌, ◌≤◌, List, [], ◌∷◌, ◌++◌, length, take, get_or, refl, ap, sym, ◌∙◌, arith, add-one, length-append, lit<}
 use Rattle.std.proofs.lemmas.List.{length-map, length-take-le, take_more, get_or-take, map-append}
 use Rattle.std.proofs.lemmas.Nat.{pow-add}
 use Rattle.std.proofs.lemmas.Grind.{common_steps, pow_more}
 use Rattle.std.proofs.Math.Nat.{pow-zero, pow-suc, pow-le-pow_right, mul-le-mul_right}
-use Rattle.std.specs.Int.Digits.{number_from_digits, number_from_digits_after}
 use Rattle.ion_value.specs.Number.{number, IsVar, sevens, var_uint, VarUInt, uint}
 
 -- the first power
@@ -23,14 +22,6 @@ pub number-append_one : (base : ℕ) (ds : List ℕ) (d : ℕ) → number base (
 number-append_one base ds d =
     let last : number base (d ∷ []) ≡ d = rw pow-zero (omega arith) in
     number-append base ds (d ∷ []) ∙ rw (last, pow_one) refl
-
--- zeros at the front count nothing
-pub number-zero : (base : ℕ) (ds : List ℕ) → number base (0 ∷ ds) ≡ number base ds
-number-zero base ds = omega arith
-
-pub number-zeros : (base k : ℕ) (ds : List ℕ) → number base (replicate k 0 ++ ds) ≡ number base ds
-number-zeros base zero ds = refl
-number-zeros base (suc k) ds = number-zero base (replicate k 0 ++ ds) ∙ number-zeros base k ds
 
 -- the number of the digits up to and with the one at i
 pub number-take_more : (base : ℕ) (ds : List ℕ) (i : ℕ) → i < length ds → number base (take (i + 1) ds) ≡ number base (take i ds) * base + get_or ds i 0
@@ -52,16 +43,6 @@ number-ge base (d ∷ ds) k pos h lt =
     let powers : base ^ k ≤ base ^ length ds = pow-le-pow_right pos (omega arith) in
     let first : 1 * base ^ length ds ≤ d * base ^ length ds = mul-le-mul_right (base ^ length ds) h in
     omega arith
-
--- the number that std reads from digits, one after the other
-number_from_digits_after-number : (base n : ℕ) (ds : List ℕ) → number_from_digits_after base n ds ≡ n * base ^ length ds + number base ds
-number_from_digits_after-number base n [] = rw pow-zero (omega arith)
-number_from_digits_after-number base n (d ∷ ds) =
-    let rest = number_from_digits_after-number base (n * base + d) ds in
-    rest ∙ rw pow-suc (omega arith)
-
-pub number_from_digits-number : (base : ℕ) (ds : List ℕ) → number_from_digits base ds ≡ number base ds
-number_from_digits-number base ds = number_from_digits_after-number base 0 ds ∙ omega arith
 
 -- octets spell less than 256 to their number
 pub uint-lt : (b : List ℕ) → ((k : ℕ) → k < length b → get_or b k 0 < 256) → uint b < 256 ^ length b
@@ -155,13 +136,6 @@ var_uint-lt (x ∷ b) =
     let whole : suc (x % 128) * 128 ^ length b ≤ 128 * 128 ^ length b = mul-le-mul_right (128 ^ length b) first in
     let long : length (sevens b) ≡ length b = simp length-map in
     rw long (omega (arith, pow-suc 128 (length b)))
-
--- nine octets of seven bits
-pub VarUInt-lt : (n : ℕ) (b : List ℕ) → VarUInt n b → n < 2 ^ 63
-VarUInt-lt n b h =
-    let short = h.short in
-    let powers : 128 ^ length b ≤ 128 ^ 9 = pow-le-pow_right {n = 128} (omega arith) short in
-    omega (arith, h.value, var_uint-lt b)
 
 -- a VarUInt at the front of a list is no longer and no shorter than another
 pub IsVar-unique : (b c x y : List ℕ) → IsVar b → IsVar c → b ++ x ≡ c ++ y → b ≡ c

@@ -30,6 +30,10 @@ Below-All base ds h = Below-from base ds (λ k lt. All-get_or (λ d. d < base) d
 pub All-Below : (base : ℕ) (ds : List ℕ) → Below base ds → All (λ d. d < base) ds
 All-Below base ds h = All-from_get_or (λ d. d < base) ds 0 (Below-get_or base ds h)
 
+pub Below-append : (base : ℕ) (xs ys : List ℕ) → Below base xs → Below base ys → Below base (xs ++ ys)
+Below-append base [] ys h g = g
+Below-append base (x ∷ xs) ys h g = (h.0, Below-append base xs ys h.1 g)
+
 -- one digit more
 Below-push : (base : ℕ) (ds : List ℕ) (d : ℕ) → Below base ds → d < base → Below base (ds ++ d ∷ [])
 Below-push base [] d h small = (small, tt)

@@ -1,21 +1,18 @@
 -- Laws of what a reading comes to.
-use Rattle.std.proofs.Common.{◌≡◌, ℕ, ◌+◌, List, [], ◌∷◌, ◌++◌, Option, Some, None, refl, ap, sym, ◌∙◌, subst, append_assoc, arith, false}
+use Rattle.std.proofs.Common.{◌≡◌, ℕ, ◌+◌, List, [], ◌∷◌, ◌++◌, Option, Some, None, refl, ap, sym, ◌∙◌, subst, append_assoc, arith}
 use Rattle.std.proofs.lemmas.List.{append-nil}
 use Rattle.ion_meter.specs.Windows.{BeginsWith}
 use Rattle.ion_meter.specs.declared.fault.Reason.{Reason}
 use Rattle.ion_value.specs.declared.ion_type.Kind.{Kind}
-use Rattle.ion_value.specs.Value.{PlacedItem, SymbolAt, Head, whole, begin, end, marker}
+use Rattle.ion_value.specs.Value.{PlacedItem, whole}
 use Rattle.ion_value.specs.Reading.{Reading, Finished, Stopped, More}
-use Rattle.ion_value.specs.Standing.{open_after, open_behind, is_marker}
-use Rattle.ion_value.specs.Outcome.{Rejected, one_if_closed, values_in, verdict_with, verdict_behind, output_with, output_behind, skipping, without_markers}
+use Rattle.ion_value.specs.Standing.{open_after, open_behind}
+use Rattle.ion_value.specs.Outcome.{Rejected, one_if_closed, values_in, verdict_with, verdict_behind, output_with, output_behind}
 
 -- ---- fronts
 
 pub begins-self : (xs : List ℕ) → BeginsWith xs xs
 begins-self xs = ([], sym (append-nil xs))
-
-pub begins-append : (xs ys : List ℕ) → BeginsWith (xs ++ ys) xs
-begins-append xs ys = (ys, refl)
 
 pub begins-then : (xs ys zs : List ℕ) → BeginsWith zs ys → BeginsWith ys xs → BeginsWith zs xs
 begins-then xs ys zs f g = (g.0 ++ f.0, f.1 ∙ ap (λ l. l ++ f.0) g.1 ∙ append_assoc xs g.0 f.0)
@@ -129,13 +126,3 @@ walk-refused {puts = puts} {refusal = refusal} {all = all} {before = before} w i
   w.verdict r ∙ ap (verdict_behind refusal w.path) is ∙ ap (λ o. verdict_with o (verdict_behind refusal (w.path ++ item ∷ []) behind)) why,
   λ o. w.put o ∙ ap (λ l. before ++ l) (sym (w.output r ∙ ap (output_behind puts refusal w.path) is ∙ ap (λ o. output_with o (puts w.path) (output_behind puts refusal (w.path ++ item ∷ []) behind)) why)),
 )
-
--- an item that is no marker stays in front of a reading without markers
-pub without_markers-item : (item : PlacedItem) (rest : Reading) → is_marker item.head ≡ false → without_markers (More item rest) ≡ More item (without_markers rest)
-without_markers-item item rest e = kept item.head e
-  where
-    kept : (head : Head SymbolAt) → is_marker head ≡ false → skipping head item (without_markers rest) ≡ More item (without_markers rest)
-    kept (whole body) e = refl
-    kept (begin kind) e = refl
-    kept end e = refl
-    kept marker e = absurd (cc e)

@@ -1,8 +1,7 @@
 -- Laws of readings that are made of steps.
 use Rattle.std.proofs.Common.{arith, refl, ap, ◌∙◌, ◌≡◌, ℕ, zero, suc, ◌<◌, List, [], ◌∷◌, ◌++◌}
-use Rattle.ion_meter.specs.declared.fault.Reason.{Reason}
 use Rattle.ion_value.specs.Value.{PlacedItem}
-use Rattle.ion_value.specs.Reading.{Reading, Finished, Stopped, More, items_of, behind, Step, Ends, Stops, Gives, GoesOn, Leaves, behind_item, behind_nothing, next_reading, reading_for, reading_by, Shrinks}
+use Rattle.ion_value.specs.Reading.{Reading, Finished, More, items_of, behind, Step, Ends, Stops, Gives, GoesOn, Leaves, behind_item, behind_nothing, next_reading, reading_for, reading_by, Shrinks}
 
 -- readings that agree behind a step agree before it
 next_same : {T : Type 0} (f g : T → Reading) (o : Step T) → ((after : T) → Leaves o after → f after ≡ g after) → next_reading f o ≡ next_reading g o
@@ -28,9 +27,6 @@ reading_by-step step size shrinks s =
 -- the four steps
 pub reading_by-ends : {T : Type 0} (step : T → Step T) (size : T → ℕ) → Shrinks step size → (s : T) → step s ≡ Ends → reading_by step size s ≡ Finished
 reading_by-ends step size shrinks s e = reading_by-step step size shrinks s ∙ ap (next_reading (reading_by step size)) e
-
-pub reading_by-stops : {T : Type 0} (step : T → Step T) (size : T → ℕ) → Shrinks step size → (s : T) (reason : Reason) (place : ℕ) → step s ≡ Stops reason place → reading_by step size s ≡ Stopped reason place
-reading_by-stops step size shrinks s reason place e = reading_by-step step size shrinks s ∙ ap (next_reading (reading_by step size)) e
 
 pub reading_by-gives : {T : Type 0} (step : T → Step T) (size : T → ℕ) → Shrinks step size → (s after : T) (item : PlacedItem) → step s ≡ Gives item after → reading_by step size s ≡ More item (reading_by step size after)
 reading_by-gives step size shrinks s after item e = reading_by-step step size shrinks s ∙ ap (next_reading (reading_by step size)) e

@@ -457,18 +457,6 @@ pub decimal-text : (run bytes : List ℕ) (negative : Bool) → negative ≡ has
 unfolding decimal_of_text
 decimal-text run bytes negative e f = rw (e, f) refl
 
-exponent-valid : (e : ℤ) → is_exponent e ≡ true → IsExponent e
-exponent-valid e h = search (rules, and_parts)
-
-range-valid : (negative : Bool) (n : ℕ) (e : ℤ) → IfOk (decimal_in_range negative n e) IsDecimal
-range-valid negative n e = elim (cases_Bool (nat_lt n (2 ^ 128))) [
-  | inl small ↦ elim (cases_Bool (is_exponent e)) [
-    | inl within ↦ rw (small, within) (record { coefficient = ltb-true n (2 ^ 128) small; exponent = exponent-valid e within })
-    | inr past ↦ rw (small, past) tt
-  ]
-  | inr large ↦ rw large tt
-]
-
 pub range-refused : (negative : Bool) (n : ℕ) (e : ℤ) → IfErr (decimal_in_range negative n e) (λ r. (r ≡ BadToken) ⊎ ((r ≡ Float) ⊎ (r ≡ Range)))
 range-refused negative n e = elim (cases_Bool (nat_lt n (2 ^ 128) && is_exponent e)) [
   | inl h ↦ rw h tt

@@ -1,9 +1,9 @@
 -- Laws of digits in text: what they spell, and where they end.
-use Rattle.std.proofs.Common.{◌≡◌, ◌⊎◌, ℕ, suc, ◌+◌, ◌-◌, ◌*◌, ◌/◌, ◌%◌, ◌^◌, ◌<◌, ◌≤◌, ◌≢◌, inl, inr, Bool, true, false, not, ◌&&◌, ◌||◌, ◌==◌, nat_lt, if◌then◌else◌, Option, Some, None, Result, Err, List, [], ◌∷◌, ◌++◌, length, take, drop, get_or, map, filter, refl, sym, ap, ◌∙◌, arith}
+use Rattle.std.proofs.Common.{◌≡◌, ◌⊎◌, ℕ, suc, ◌+◌, ◌-◌, ◌*◌, ◌%◌, ◌^◌, ◌<◌, ◌≤◌, ◌≢◌, inl, inr, Bool, true, false, not, ◌&&◌, ◌||◌, ◌==◌, nat_lt, if◌then◌else◌, Option, Some, None, Result, Err, List, [], ◌∷◌, ◌++◌, length, take, drop, get_or, map, filter, refl, sym, ap, ◌∙◌, arith}
 use Rattle.std.proofs.lemmas.Bool.{cases_Bool, lt-ltb, ne_eqb, eq-eqb, eqb-true, not-false, both_ways, or_parts, not_from_true, and_left, and_right, and_cases, agree_below, agree_below_at}
 use Rattle.std.proofs.lemmas.Bool.Decides.{nat_tests}
 use Rattle.std.proofs.lemmas.List.{take_all, length-drop, length-map, append-nil, nil_from_length}
-use Rattle.std.proofs.Math.Nat.{pow-zero, pow-suc, mul-le-mul_right}
+use Rattle.std.proofs.Math.Nat.{pow-zero, pow-suc}
 use Rattle.ion_meter.specs.declared.fault.Reason.{Reason}
 use Rattle.ion_meter.specs.declared.fault.Reason.TheVariants.{BadToken}
 use Rattle.ion_value.specs.declared.int.Int.{Int}
@@ -64,12 +64,6 @@ read-bad base n k behind (b ∷ rest) some e before = rw (e, and_right (b == 95)
 -- a number that 128 bits hold
 pub in_128-small : (n : ℕ) → n < 2 ^ 128 → Some n ≡ in_128 n
 in_128-small n small = rw (lt-ltb n (2 ^ 128) small) refl
-
--- a digit more behind a number below the largest over the base
-pub digit-fits : (base largest n d : ℕ) → n < largest / base → d < base → n * base + d ≤ largest
-digit-fits base largest n d small digit =
-    let whole : (n + 1) * base ≤ largest / base * base = mul-le-mul_right base (omega arith) in
-    omega arith
 
 -- ---- the table of what the bytes from `0` to `f` count
 

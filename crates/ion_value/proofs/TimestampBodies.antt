@@ -16,8 +16,8 @@ use Rattle.ion_value.proofs.Days.{utc_of-unknown, utc-is, local_is_back}
 use Rattle.std.specs.List.{All}
 use Rattle.jiff_core.proofs.CalendarLemmas.{days_in_month_bounds}
 use Rattle.ion_value.proofs.Numbers.{IsVar-pos}
-use Rattle.ion_value.proofs.VarOctets.{var_uint-spelled, var_uint_octets-VarUInt, var_int_octets-VarInt}
-use Rattle.ion_value.proofs.Octets.{Below, All-Below, digits_in-Digits, Signing, with_sign-Signing}
+use Rattle.ion_value.proofs.VarOctets.{var_uint-spelled, var_uint_octets-VarUInt, var_int_octets-VarInt, var_int_octets-Below, Below-marked}
+use Rattle.ion_value.proofs.Octets.{Below, Below-append, All-Below, digits_in-Digits, Signing, with_sign-Signing}
 use Rattle.ion_value.proofs.Cut.{var_cut-IsVar}
 use Rattle.ion_value.proofs.TimestampOctets.{PartsRead, all-read, append-none, bytes-read, fields_cut-empty, fields_cut-some, fits, if_moment-is, joined, joined-more, joined-none, keeps-moved, one-cut, parts-moment}
 
@@ -161,24 +161,8 @@ body-fraction t u n e m is =
     ∙ sym (ap body_in_utc e)
 
 -- each is an octet
-Below-append : (base : ℕ) (xs ys : List ℕ) → Below base xs → Below base ys → Below base (xs ++ ys)
-Below-append base [] ys h g = g
-Below-append base (x ∷ xs) ys h g = (h.0, Below-append base xs ys h.1 g)
-
-Below-marked : (ds : List ℕ) → Below 128 ds → Below 256 (marked ds)
-Below-marked [] h = (omega arith, tt)
-Below-marked (d ∷ []) h = (omega (arith, h.0), tt)
-Below-marked (d ∷ e ∷ ds) h = (omega (arith, h.0), Below-marked (e ∷ ds) h.1)
-
 Below-var_uint : (n : ℕ) → Below 256 (var_uint_octets n)
 Below-var_uint n = Below-marked (digits_in 128 n) (digits_in-Digits 128 n (omega arith)).below
-
-Below-var_int : (negative : Bool) (n : ℕ) → Below 256 (var_int_octets negative n)
-Below-var_int negative n =
-    let s : List ℕ = with_sign 64 negative (digits_in 128 n) in
-    let signing = with_sign-Signing 128 64 n negative (digits_in 128 n) (omega arith) refl (digits_in-Digits 128 n (omega arith)) in
-    let below : Below 128 s = rw signing.is (signing.below, signing.rest_below) in
-    Below-marked s below
 
 Below-coefficient : (n : ℕ) → Below 256 (coefficient_octets false n)
 Below-coefficient zero = tt
@@ -187,9 +171,9 @@ Below-coefficient (suc n) =
     rw signing.is (signing.below, signing.rest_below)
 
 Below-offset : (offset : Option ℤ) → Below 256 (offset_octets offset)
-Below-offset None = Below-var_int true 0
-Below-offset (Some (pos n)) = Below-var_int false n
-Below-offset (Some (negsuc n)) = Below-var_int true (suc n)
+Below-offset None = var_int_octets-Below true 0
+Below-offset (Some (pos n)) = var_int_octets-Below false n
+Below-offset (Some (negsuc n)) = var_int_octets-Below true (suc n)
 
 Below-day : (t : Timestamp) → Below 256 (day_octets t)
 Below-day t = Below-append 256 _ _ (Below-var_uint t.year) (Below-append 256 _ _ (Below-var_uint t.month) (Below-var_uint t.day))
@@ -206,7 +190,7 @@ Below-told Month t = Below-append 256 _ _ (Below-var_uint t.year) (Below-var_uin
 Below-told Day t = Below-day t
 Below-told Minute t = Below-minute t
 Below-told Second t = Below-second t
-Below-told (Fraction n) t = Below-append 256 _ _ (Below-second t) (Below-append 256 _ _ (Below-var_int true n) (Below-coefficient t.fraction))
+Below-told (Fraction n) t = Below-append 256 _ _ (Below-second t) (Below-append 256 _ _ (var_int_octets-Below true n) (Below-coefficient t.fraction))
 
 Below-body_in_utc : (r : Result Timestamp Reason) → Below 256 (body_in_utc r)
 Below-body_in_utc (Ok u) = Below-append 256 _ _ (Below-offset u.offset) (Below-told u.precision u)

@@ -293,10 +293,6 @@ nothing-left : (b : List ℕ) → length b ≡ 0 → b ≡ []
 nothing-left [] e = refl
 nothing-left (x ∷ b) e = absurd (omega arith)
 
--- nothing read yet, and one field more, or one that does not end
-pub SoFar-none : (bytes : List ℕ) → SoFar bytes bytes []
-SoFar-none bytes = record { read = []; value = refl; few = omega arith; left = sym (joined-none (fields_cut 6 bytes)) }
-
 SoFar-cut : (bytes rest numbers e c : List ℕ) (n : ℕ) → SoFar bytes rest numbers → length numbers < 6 → var_cut 9 rest ≡ Some (e, c) → n ≡ var_uint e → SoFar bytes c (numbers ++ n ∷ [])
 SoFar-cut bytes rest numbers e c n h more cut is =
     let long : length (numbers ++ n ∷ []) ≡ suc (length numbers) = rw length-append (omega arith) in

@@ -16,7 +16,7 @@ IsVar-marked (d ∷ e ∷ []) h = (h.0, omega arith)
 IsVar-marked (d ∷ e ∷ f ∷ ds) h = (h.0, IsVar-marked (e ∷ f ∷ ds) h.1)
 
 -- they are octets, and as many
-Below-marked : (ds : List ℕ) → Below 128 ds → Below 256 (marked ds)
+pub Below-marked : (ds : List ℕ) → Below 128 ds → Below 256 (marked ds)
 Below-marked [] h = (omega arith, tt)
 Below-marked (d ∷ []) h = (omega (arith, h.0), tt)
 Below-marked (d ∷ e ∷ ds) h = (omega (arith, h.0), Below-marked (e ∷ ds) h.1)

@@ -9,11 +9,11 @@ pub mod Scalar
 pub mod Items
 pub mod Path
 pub mod Reading
+pub mod Parts
+pub mod Answers
 pub mod Shares
 pub mod Standing
 pub mod Outcome
-pub mod Small
-pub mod Holding
 pub mod TimestampFields
 pub mod TimestampRuns
 pub mod DigitReading

@@ -1,5 +1,6 @@
 -- Words of the text form: types, keywords, identifiers, ids, version words and operators (Ion text, "Symbols" and "Null Values").
 use Rattle.std.specs.Prelude.{ℕ, min, ◌^◌, Bool, true, false, not, ◌&&◌, ◌||◌, ◌==◌, nat_lt, if◌then◌else◌, List, [], ◌∷◌, ◌++◌, length, drop, map, codes, Option, Some, None, is_none}
+use Rattle.std.specs.Str.{bytes_eq}
 use Rattle.ion_value.specs.declared.ion_type.IonType.{IonType}
 use Rattle.ion_value.specs.declared.ion_type.IonType.TheVariants as type
 use Rattle.ion_value.specs.Number.{number}
@@ -22,12 +23,6 @@ type_name type.List = codes "list"
 type_name type.Sexp = codes "sexp"
 type_name type.Struct = codes "struct"
 
-abbrev pub same_bytes : List ℕ → List ℕ → Bool
-same_bytes [] [] = true
-same_bytes [] (b ∷ bytes) = false
-same_bytes (c ∷ cs) [] = false
-same_bytes (c ∷ cs) (b ∷ bytes) = (c == b) && same_bytes cs bytes
-
 abbrev pub begins_with : List ℕ → List ℕ → Bool
 begins_with [] bytes = true
 begins_with (c ∷ cs) [] = false
@@ -40,7 +35,7 @@ all_types =
 
 abbrev pub named_in : List IonType → List ℕ → Option IonType
 named_in [] name = None
-named_in (t ∷ types) name = if same_bytes (type_name t) name then Some t else named_in types name
+named_in (t ∷ types) name = if bytes_eq (type_name t) name then Some t else named_in types name
 
 -- the type of a name
 abbrev pub type_named : List ℕ → Option IonType
@@ -74,11 +69,11 @@ pub data Keyword : Type 0 where
 
 abbrev pub keyword : List ℕ → Option Keyword
 keyword word =
-    if same_bytes (codes "null") word then Some (a_null (Some type.Null))
+    if bytes_eq (codes "null") word then Some (a_null (Some type.Null))
     else (if begins_with (codes "null.") word then Some (a_null (type_named (drop 5 word)))
-    else (if same_bytes (codes "true") word then Some (a_bool true)
-    else (if same_bytes (codes "false") word then Some (a_bool false)
-    else (if same_bytes (codes "nan") word then Some a_nan
+    else (if bytes_eq (codes "true") word then Some (a_bool true)
+    else (if bytes_eq (codes "false") word then Some (a_bool false)
+    else (if bytes_eq (codes "nan") word then Some a_nan
     else None))))
 
 -- ---- ids and version words

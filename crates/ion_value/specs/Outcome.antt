@@ -2,7 +2,7 @@
 use Rattle.std.specs.Prelude.{ℕ, ◌+◌, List, [], ◌∷◌, ◌++◌, Option, Some, None}
 use Rattle.ion_meter.specs.declared.fault.Reason.{Reason}
 use Rattle.ion_value.specs.declared.ion_type.Kind.{Kind}
-use Rattle.ion_value.specs.Value.{PlacedItem, marker, whole, begin, end, Head}
+use Rattle.ion_value.specs.Value.{PlacedItem}
 use Rattle.ion_value.specs.Reading.{Reading, Finished, Stopped, More}
 use Rattle.ion_value.specs.Standing.{open_after}
 
@@ -42,15 +42,3 @@ output_behind puts refusal path Finished = puts path
 output_behind puts refusal path (Stopped reason place) = puts path
 output_behind puts refusal path (More item rest) =
     output_with (refusal path item) (puts path) (output_behind puts refusal (path ++ item ∷ []) rest)
-
--- a reading without its version markers
-abbrev pub skipping : {S : Type 0} → Head S → PlacedItem → Reading → Reading
-skipping marker item rest = rest
-skipping (whole body) item rest = More item rest
-skipping (begin kind) item rest = More item rest
-skipping end item rest = More item rest
-
-abbrev pub without_markers : Reading → Reading
-without_markers Finished = Finished
-without_markers (Stopped reason place) = Stopped reason place
-without_markers (More item rest) = skipping item.head item (without_markers rest)

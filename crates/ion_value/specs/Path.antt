@@ -13,15 +13,6 @@ pub data Path (S P : Type 0) : Type 0 where
   closed : (tops : List (Top S P)) → Path S P
   opened : (tops : List (Top S P)) → (first : P) → (nest : Nest S P) → Path S P
 
--- the kinds of the open containers, the innermost first
-abbrev pub nest_kinds : {S P : Type 0} → Nest S P → List Kind
-nest_kinds (outermost notes place kind members) = kind ∷ []
-nest_kinds (inner around f notes place kind members) = kind ∷ nest_kinds around
-
-abbrev pub path_kinds : {S P : Type 0} → Path S P → List Kind
-path_kinds (closed tops) = []
-path_kinds (opened tops first nest) = nest_kinds nest
-
 abbrev pub begin_item : {S P : Type 0} → P → Option S → List S → P → Kind → Item S P
 begin_item top f notes place kind = record { field = f; annotations = notes; head = begin kind; place = place; top = top }
 

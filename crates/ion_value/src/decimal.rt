@@ -55,7 +55,8 @@ pub fn decimal_from_bytes(body: &[u8]) -> Result<Decimal, Reason>
 // The decimal of an exponent and of the octets of a coefficient.
 #[inline]
 fn parts_read(exponent: Signed, coefficient: &[u8]) -> Result<Decimal, Reason>
-    ensures { result ≡ decimal_in_range (int_negative coefficient.now) (int_magnitude coefficient.now)
+    ensures { result ≡ decimal_in_range (int_negative coefficient.now)
+        (int_magnitude coefficient.now)
         (signed exponent.negative exponent.magnitude) }
 {
     if exponent.magnitude > LARGEST_EXPONENT {

@@ -70,7 +70,8 @@ fn go_on<const BASE: u64>(
 ) -> Option<Digits<'_>>
     requires base { IsBase BASE }
     requires room { count + length bytes.now < 2 ^ 64 }
-    ensures { (n : ℕ) → number ≡ in_128 n → Answers (read_digits BASE n behind count bytes.now) result }
+    ensures { (n : ℕ) → number ≡ in_128 n
+        → Answers (read_digits BASE n behind count bytes.now) result }
 {
     let Some(read) = long::<BASE>(number, behind, count, bytes) else {
         return None;
@@ -93,7 +94,8 @@ fn long<const BASE: u64>(
 ) -> Option<Digits<'_>>
     requires base { IsBase BASE }
     requires room { count + length bytes.now < 2 ^ 64 }
-    ensures { (n : ℕ) → start ≡ in_128 n → Answers (read_digits BASE n behind count bytes.now) result }
+    ensures { (n : ℕ) → start ≡ in_128 n
+        → Answers (read_digits BASE n behind count bytes.now) result }
 {
     let mut number = start;
     let mut behind = behind;

@@ -54,7 +54,8 @@ pub fn int_from_bytes(negative: bool, magnitude: &[u8]) -> Result<Int, Reason>
     ensures read { IfOk result (λ i. (i.negative ≡ negative) × (i.magnitude ≡ uint magnitude.now)) }
     ensures valid { IfOk result IsInt }
     ensures range { (result ≡ Err Reason.Range) ↔ (2 ^ 128 ≤ uint magnitude.now) }
-    ensures zero { (result ≡ Err Reason.BadNumber) ↔ ((negative ≡ true) × (uint magnitude.now ≡ 0)) }
+    ensures zero { (result ≡ Err Reason.BadNumber)
+        ↔ ((negative ≡ true) × (uint magnitude.now ≡ 0)) }
     ensures refused { IfErr result (λ e. (e ≡ Reason.Range) ⊎ (e ≡ Reason.BadNumber)) }
 {
     let significant = without_zeros(magnitude);

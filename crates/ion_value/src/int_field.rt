@@ -11,7 +11,8 @@ use arrayvec::ArrayVec;
 /// Zeros at the front of the magnitude are allowed, in any number.
 #[inline]
 pub(crate) fn int_field_read(octets: &[u8]) -> Option<(bool, u128)>
-    ensures read { IfSome result (λ r. (r.0 ≡ int_negative octets.now) × (r.1 ≡ int_magnitude octets.now)) }
+    ensures read { IfSome result (λ r. (r.0 ≡ int_negative octets.now)
+        × (r.1 ≡ int_magnitude octets.now)) }
     ensures range { IsNone result ↔ (2 ^ 128 ≤ int_magnitude octets.now) }
 {
     match octets {

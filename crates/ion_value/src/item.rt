@@ -169,7 +169,8 @@ impl<'a, N: Names> Annotations<'a, N> {
     // The symbol of an entry.
     #[inline]
     fn symbol(&self, entry: Annotation) -> SymAt<'a>
-        ensures { symbol_at result ≡ named_at (N.text self.now.names.now) (raw_annotation self.now.texts.now entry) }
+        ensures { symbol_at result ≡ named_at (N.text self.now.names.now)
+            (raw_annotation self.now.texts.now entry) }
     {
         let at = match entry {
             Annotation::Text { from, to, place } => SymAt {
@@ -196,7 +197,13 @@ impl<'a, N: Names> Item<'a, N> {
         place: u64,
         top: u64,
     ) -> Item<'a, N>
-        ensures item { raw_item result ≡ record { field = raw_field field.entry; annotations = raw_annotations annotations.entry; head = raw_head head.entry; place = place; top = top } }
+        ensures item { raw_item result ≡ record {
+          field = raw_field field.entry;
+          annotations = raw_annotations annotations.entry;
+          head = raw_head head.entry;
+          place = place;
+          top = top;
+        } }
         ensures names { result.annotations.names.now ≡ annotations.entry.names.now }
     {
         Item {
@@ -297,9 +304,10 @@ mod tests {
     struct OneName;
 
     impl Names for OneName {
-        ghost use Rattle.ion_value.specs.Small.{one_name};
+        ghost use Rattle.std.specs.Prelude.{Some, None, ◌∷◌, [], nat_eq, if◌then◌else◌};
 
-        ghost text = { λ _ id. one_name id };
+        // the letters n, a, m and e
+        ghost text = { λ _ id. if nat_eq id 10 then Some (110 ∷ 97 ∷ 109 ∷ 101 ∷ []) else None };
 
         fn text_of(&self, id: u32) -> Option<&[u8]> {
             if id == 10 { Some(b"name") } else { None }

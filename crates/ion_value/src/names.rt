@@ -8,7 +8,8 @@ pub trait Names {
 
     /// The text of an id, or none where it has none.
     fn text_of(&self, id: u32) -> Option<&[u8]>
-        ensures { MatchOption result (text self.now id ≡ None) (λ t. text self.now id ≡ Some t.now) };
+        ensures { MatchOption result (text self.now id ≡ None)
+            (λ t. text self.now id ≡ Some t.now) };
 }
 
 /// No id has a text, so that ids stay ids.

@@ -80,28 +80,38 @@ pub trait RawReader<A: Allocator + Copy> {
         ensures tells { tells self.new ↔ tells self.old }
 
         // The items, and how they end.
-        ensures gives { tells self.old → result ≡ Ok true → reading self.old ≡ More (current self.new) (reading self.new) }
-        ensures ends { tells self.old → result ≡ Ok false → (reading self.old ≡ Finished) × (reading self.new ≡ Finished) }
-        ensures refuses { tells self.old → failed self.old ≡ None → (r : Reason) (p : ℕ) → result ≡ Err (Refused r p) → reading self.old ≡ Stopped r p }
+        ensures gives { tells self.old → result ≡ Ok true
+            → reading self.old ≡ More (current self.new) (reading self.new) }
+        ensures ends { tells self.old → result ≡ Ok false
+            → (reading self.old ≡ Finished) × (reading self.new ≡ Finished) }
+        ensures refuses { tells self.old → failed self.old ≡ None → (r : Reason) (p : ℕ)
+            → result ≡ Err (Refused r p) → reading self.old ≡ Stopped r p }
         ensures lends { result ≡ Ok true → lends self.new }
 
         // Each step, whatever the device tells.
-        ensures fits { result ≡ Ok true → Fits (depth self.old) (opened self.old) (current self.new) }
-        ensures opens { result ≡ Ok true → opened self.new ≡ open_after (opened self.old) (current self.new).head }
+        ensures fits { result ≡ Ok true
+            → Fits (depth self.old) (opened self.old) (current self.new) }
+        ensures opens { result ≡ Ok true
+            → opened self.new ≡ open_after (opened self.old) (current self.new).head }
         ensures stays_open { result ≢ Ok true → opened self.new ≡ opened self.old }
         ensures falls { result ≡ Ok true → left self.new < left self.old }
         ensures depth { depth self.new ≡ depth self.old }
 
         // The end and faults.
         ensures ended { result ≡ Ok false → ended self.new }
-        ensures stays { ended self.old → (result ≡ Ok false) × (self.new ≡ self.old) × (meter.new ≡ meter.old) }
+        ensures stays { ended self.old → (result ≡ Ok false) × (self.new ≡ self.old)
+            × (meter.new ≡ meter.old) }
         ensures failed { failed self.new ≡ fault_of result }
-        ensures again { (f : Fault) → failed self.old ≡ Some f → (result ≡ Err f) × (self.new ≡ self.old) × (meter.new ≡ meter.old) }
-        ensures causes { failed self.old ≡ None → ReadCauses (fault_of result) meter.old meter.new (failures self.old) (failures self.new) (exceeds self.old) }
+        ensures again { (f : Fault) → failed self.old ≡ Some f
+            → (result ≡ Err f) × (self.new ≡ self.old) × (meter.new ≡ meter.old) }
+        ensures causes { failed self.old ≡ None
+            → ReadCauses (fault_of result) meter.old meter.new
+            (failures self.old) (failures self.new) (exceeds self.old) }
         ensures exceeds { exceeds self.new ↔ exceeds self.old }
 
         // Memory, on every exit.
-        ensures charges { Charges meter.old meter.new (own self.old) (own self.new) (most self.old) }
+        ensures charges { Charges meter.old meter.new
+            (own self.old) (own self.new) (most self.old) }
         ensures most { most self.new ≡ most self.old };
 
     /// The item that the last call of `next` took, its ids as the stream has them.
@@ -110,7 +120,8 @@ pub trait RawReader<A: Allocator + Copy> {
         ensures { raw_item result ≡ current self.now };
 
     /// What holds of the memory, the depth and the items to come of every reader.
-    ghost within: { (s : Self) → sound s → ReadsWithin (own s) (most s) (depth s) (length (opened s)) (left s) };
+    ghost within: { (s : Self) → sound s
+        → ReadsWithin (own s) (most s) (depth s) (length (opened s)) (left s) };
 
     /// A reader that has answered the end has not failed.
     ghost one_ending: { (s : Self) → sound s → ended s → failed s ≡ None };

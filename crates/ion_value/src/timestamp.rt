@@ -103,7 +103,8 @@ impl Timestamp {
         requires moment { IsMoment self }
         requires offset { IsOffset self.offset }
         ensures utc { result ≡ utc_of self }
-        ensures moved { IfOk result (λ t. IsMoment t × IsMoved (neg_ℤ (offset_minutes self)) self t) }
+        ensures moved { IfOk result (λ t. IsMoment t
+            × IsMoved (neg_ℤ (offset_minutes self)) self t) }
         ensures refused { IfErr result (λ e. (e ≡ Reason.BadTimestamp)
             × ((t : Timestamp) → IsMoment t → IsMoved (neg_ℤ (offset_minutes self)) self t → ⊥)) }
     {
@@ -198,7 +199,8 @@ impl Timestamp {
 pub fn timestamp_from_bytes(body: &[u8]) -> Result<Timestamp, Reason>
     ensures read { result ≡ timestamp_of_bytes body.now }
     ensures valid { IfOk result IsTimestamp }
-    ensures refused { IfErr result (λ e. (e ≡ Reason.BadVar) ⊎ ((e ≡ Reason.Range) ⊎ (e ≡ Reason.BadTimestamp))) }
+    ensures refused { IfErr result (λ e. (e ≡ Reason.BadVar)
+        ⊎ ((e ≡ Reason.Range) ⊎ (e ≡ Reason.BadTimestamp))) }
 {
     let (offset, rest) = match signed_field(body) {
         Ok(read) => read,
@@ -217,7 +219,8 @@ pub fn timestamp_from_bytes(body: &[u8]) -> Result<Timestamp, Reason>
 
 // The VarInt at the front of these bytes, if there are any, and the bytes behind it.
 fn signed_field(bytes: &[u8]) -> Result<(Signed, &[u8]), Reason>
-    ensures read { IfOk result (λ r. (f : List (List ℕ)) × (fields_cut 1 bytes.now ≡ Some (f, r.1.now)) × Spells r.0 (first_field f)) }
+    ensures read { IfOk result (λ r. (f : List (List ℕ))
+        × (fields_cut 1 bytes.now ≡ Some (f, r.1.now)) × Spells r.0 (first_field f)) }
     ensures refused { IfErr result (λ e. (e ≡ Reason.BadVar) × (fields_cut 1 bytes.now ≡ None)) }
 {
     if bytes.is_empty() {
@@ -235,7 +238,8 @@ fn signed_field(bytes: &[u8]) -> Result<(Signed, &[u8]), Reason>
 
 // The VarUInts at the front of these bytes, at most six, and the bytes behind them.
 fn number_fields(bytes: &[u8]) -> Result<(ArrayVec<u64, 6>, &[u8]), Reason>
-    ensures read { IfOk result (λ r. (f : List (List ℕ)) × (fields_cut 6 bytes.now ≡ Some (f, r.1.now)) × (r.0.items ≡ map var_uint f)) }
+    ensures read { IfOk result (λ r. (f : List (List ℕ))
+        × (fields_cut 6 bytes.now ≡ Some (f, r.1.now)) × (r.0.items ≡ map var_uint f)) }
     ensures refused { IfErr result (λ e. (e ≡ Reason.BadVar) × (fields_cut 6 bytes.now ≡ None)) }
 {
     let mut numbers = ArrayVec::new();
@@ -461,7 +465,8 @@ fn with_fraction(mut body: ArrayVec<u8, 26>, digits: u8, fraction: u128) -> Arra
     requires room { length body.items ≤ 9 }
     requires digits { digits ≤ 38 }
     requires fraction { fraction < 10 ^ digits }
-    ensures { result.items ≡ body.items ++ (var_int_octets true digits ++ coefficient_octets false fraction) }
+    ensures { result.items ≡ body.items
+        ++ (var_int_octets true digits ++ coefficient_octets false fraction) }
 {
     let exponent = Signed {
         negative: true,

@@ -26,7 +26,8 @@ pub struct Signed {
 #[inline]
 pub fn var_uint_read(bytes: &[u8]) -> Result<(u64, usize), Reason>
     ensures read { IfOk result (λ r. (r.1 ≤ length bytes.now) × VarUInt r.0 (take r.1 bytes.now)) }
-    ensures refused { IfErr result (λ r. (r ≡ Reason.BadVar) × ((n k : ℕ) → VarUInt n (take k bytes.now) → ⊥)) }
+    ensures refused { IfErr result (λ r. (r ≡ Reason.BadVar)
+        × ((n k : ℕ) → VarUInt n (take k bytes.now) → ⊥)) }
 {
     let front = &bytes[..bytes.len().min(LONGEST)];
     let mut value: u64 = 0;

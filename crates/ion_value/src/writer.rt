@@ -57,11 +57,17 @@ pub trait ValueWriter<O: Output, A: Allocator + Copy> {
         requires fresh { is_new self.old }
         requires sound { sound self.old }
         ensures sound { sound self.new }
-        ensures stands { OnOk result (stands self.new [] × (sink.old.fault ≡ None) × (sink.new.fault ≡ None)) }
-        ensures puts { OnOk result (O.tells sink.old.device → so_far O.written sink.new ≡ so_far O.written sink.old ++ puts (limits self.old) []) }
-        ensures part { sink.old.fault ≡ None → Puts O.written O.tells sink.old sink.new (puts (limits self.old) []) }
-        ensures device { sink.old.fault ≡ None → OnErr result ((result ≡ Err WriteFault) × (O.failure_count sink.old.device < O.failure_count sink.new.device)) }
-        ensures steady { OnOk result (O.failure_count sink.new.device ≡ O.failure_count sink.old.device) }
+        ensures stands { OnOk result (stands self.new [] × (sink.old.fault ≡ None)
+            × (sink.new.fault ≡ None)) }
+        ensures puts { OnOk result (O.tells sink.old.device
+            → so_far O.written sink.new ≡ so_far O.written sink.old ++ puts (limits self.old) []) }
+        ensures part { sink.old.fault ≡ None
+            → Puts O.written O.tells sink.old sink.new (puts (limits self.old) []) }
+        ensures device { sink.old.fault ≡ None
+            → OnErr result ((result ≡ Err WriteFault)
+            × (O.failure_count sink.old.device < O.failure_count sink.new.device)) }
+        ensures steady { OnOk result (O.failure_count sink.new.device
+            ≡ O.failure_count sink.old.device) }
         ensures failed { failed self.new ≡ fault_of result }
         ensures limits { limits self.new ≡ limits self.old }
         ensures own { own self.new ≡ own self.old }
@@ -82,37 +88,56 @@ pub trait ValueWriter<O: Output, A: Allocator + Copy> {
         requires held { own self.old ≤ meter.old.held }
         requires countable { meter.old.refused < 2 ^ 64 - 1 }
         requires sound { sound self.old }
-        requires path { failed self.old ≡ None → (path : List PlacedItem) × stands self.old path × Continues (limits self.old) path (item_of N.text item.now) }
+        requires path { failed self.old ≡ None
+            → (path : List PlacedItem) × stands self.old path
+            × Continues (limits self.old) path (item_of N.text item.now) }
         ensures sound { sound self.new }
 
         // What is put, for whatever items the writer stands behind.
-        ensures stands { (path : List PlacedItem) → stands self.old path → Continues (limits self.old) path (item_of N.text item.now)
-            → OnOk result (stands self.new (path ++ item_of N.text item.now ∷ []) × (refusal (limits self.old) path (item_of N.text item.now) ≡ None)) }
-        ensures puts { (path : List PlacedItem) → stands self.old path → Continues (limits self.old) path (item_of N.text item.now)
-            → OnOk result (O.tells sink.old.device → so_far O.written sink.new ≡ so_far O.written sink.old ++ adds (limits self.old) path (item_of N.text item.now)) }
-        ensures part { sink.old.fault ≡ None → (path : List PlacedItem) → stands self.old path → Continues (limits self.old) path (item_of N.text item.now)
-            → Puts O.written O.tells sink.old sink.new (adds (limits self.old) path (item_of N.text item.now)) }
-        ensures refuses { failed self.old ≡ None → sink.old.fault ≡ None → (path : List PlacedItem) → stands self.old path → Continues (limits self.old) path (item_of N.text item.now)
-            → (r : Reason) (p : ℕ) → result ≡ Err (Refused r p) → refusal (limits self.old) path (item_of N.text item.now) ≡ Some (r, p) }
-        ensures quiet { sink.old.fault ≡ None → (r : Reason) (p : ℕ) → result ≡ Err (Refused r p) → sink.new ≡ sink.old }
+        ensures stands { (path : List PlacedItem) → stands self.old path
+            → Continues (limits self.old) path (item_of N.text item.now)
+            → OnOk result (stands self.new (path ++ item_of N.text item.now ∷ [])
+            × (refusal (limits self.old) path (item_of N.text item.now) ≡ None)) }
+        ensures puts { (path : List PlacedItem) → stands self.old path
+            → Continues (limits self.old) path (item_of N.text item.now)
+            → OnOk result (O.tells sink.old.device → so_far O.written sink.new
+            ≡ so_far O.written sink.old ++ adds (limits self.old) path (item_of N.text item.now)) }
+        ensures part { sink.old.fault ≡ None → (path : List PlacedItem) → stands self.old path
+            → Continues (limits self.old) path (item_of N.text item.now)
+            → Puts O.written O.tells sink.old sink.new
+            (adds (limits self.old) path (item_of N.text item.now)) }
+        ensures refuses { failed self.old ≡ None → sink.old.fault ≡ None → (path : List PlacedItem)
+            → stands self.old path → Continues (limits self.old) path (item_of N.text item.now)
+            → (r : Reason) (p : ℕ) → result ≡ Err (Refused r p)
+            → refusal (limits self.old) path (item_of N.text item.now) ≡ Some (r, p) }
+        ensures quiet { sink.old.fault ≡ None → (r : Reason) (p : ℕ) → result ≡ Err (Refused r p)
+            → sink.new ≡ sink.old }
         ensures well { OnOk result (sink.old.fault ≡ None → sink.new.fault ≡ None) }
 
         // Faults.
         ensures failed { failed self.new ≡ fault_of result }
-        ensures again { (f : Fault) → failed self.old ≡ Some f → (result ≡ Err f) × (self.new ≡ self.old) × (sink.new ≡ sink.old) × (meter.new ≡ meter.old) }
+        ensures again { (f : Fault) → failed self.old ≡ Some f
+            → (result ≡ Err f) × (self.new ≡ self.old) × (sink.new ≡ sink.old)
+            × (meter.new ≡ meter.old) }
         ensures causes { failed self.old ≡ None → sink.old.fault ≡ None
-            → WriteCauses (fault_of result) meter.old meter.new (O.failure_count sink.old.device) (O.failure_count sink.new.device) }
+            → WriteCauses (fault_of result) meter.old meter.new
+            (O.failure_count sink.old.device) (O.failure_count sink.new.device) }
         ensures limits { limits self.new ≡ limits self.old }
 
         // Memory, on every exit.
-        ensures charges { Charges meter.old meter.new (own self.old) (own self.new) (most self.old) }
+        ensures charges { Charges meter.old meter.new
+            (own self.old) (own self.new) (most self.old) }
         ensures most { most self.new ≡ most self.old };
 
     /// What is put for one item more.
-    ghost grows: { (limits : Limits) (path : List PlacedItem) (item : PlacedItem) → refusal limits path item ≡ None → puts limits (path ++ item ∷ []) ≡ puts limits path ++ adds limits path item };
+    ghost grows: { (limits : Limits) (path : List PlacedItem) (item : PlacedItem)
+        → refusal limits path item ≡ None
+        → puts limits (path ++ item ∷ []) ≡ puts limits path ++ adds limits path item };
 
     /// Nothing is put for an item that is refused.
-    ghost silent: { (limits : Limits) (path : List PlacedItem) (item : PlacedItem) (why : Reason × ℕ) → refusal limits path item ≡ Some why → adds limits path item ≡ [] };
+    ghost silent: { (limits : Limits) (path : List PlacedItem) (item : PlacedItem)
+        (why : Reason × ℕ)
+        → refusal limits path item ≡ Some why → adds limits path item ≡ [] };
 
     /// What holds of the memory of every writer.
     ghost within: { (s : Self) → sound s → WritesWithin (own s) (most s) };

@@ -1,5 +1,5 @@
 // Calls that grow, each over an allocator that refuses it.
-ghost use Rattle.std.specs.Prelude.{◌≡◌, ◌^◌, ◌<◌};
+ghost use Rattle.std.specs.Prelude.{◌≡◌, ◌<◌};
 
 use super::refusing::Refusing;
 use super::{counts_of, is_refused, refuse_each};

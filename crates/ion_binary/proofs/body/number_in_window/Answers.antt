@@ -2,7 +2,7 @@ use Rattle.std.proofs.Common.{refl, ap, sym, ◌∙◌, ℕ, List, take}
 use Rattle.ion_meter.proofs.Lent.{lent-take}
 use Rattle.ion_value.specs.Scalar.{scalar_of_body}
 use Rattle.ion_binary.specs.Bodies.{as_scalar}
-use Rattle.ion_binary.specs.Parts.{cursor}
+use Rattle.ion_meter.specs.Sources.{cursor}
 use Rattle.ion_binary.proofs.BodyParts.{body_here-refused, body_here-read}
 use Rattle.ion_binary.proofs.Passing.{lent-there, IsPassed-cursor}
 use Rattle.ion_binary.proofs.body.number_in_window.Goals as goal

@@ -2,7 +2,8 @@ use Rattle.std.proofs.Common.{◌≡◌, ℕ, Ok, Err, refl, sym, ap, ◌∙◌}
 use Rattle.ion_binary.specs.Descriptor.{length_at}
 use Rattle.ion_binary.specs.Finds.{as_around, end_by}
 use Rattle.ion_binary.specs.Reading.{a_container}
-use Rattle.ion_binary.specs.Parts.{cursor, itself}
+use Rattle.ion_meter.specs.Sources.{cursor}
+use Rattle.ion_value.specs.Answers.{itself}
 use Rattle.ion_binary.proofs.Cursors.{answers-refused}
 use Rattle.ion_binary.proofs.Founds.{container_at-no_length, container_at-refused, container_at-begun}
 use Rattle.ion_binary.proofs.found.next_container.Goals as goal

@@ -2,7 +2,8 @@ use Rattle.std.proofs.Common.{◌≡◌, false, ◌&&◌, refl, sym, ap, subst, 
 use Rattle.std.proofs.lemmas.Bool.{and_from, and_left, and_right}
 use Rattle.ion_binary.specs.Descriptor.{is_unwrappable}
 use Rattle.ion_binary.specs.Finds.{as_around, as_found, IsOfDescriptor}
-use Rattle.ion_binary.specs.Parts.{cursor, Answers}
+use Rattle.ion_meter.specs.Sources.{cursor}
+use Rattle.ion_value.specs.Answers.{Answers}
 use Rattle.ion_binary.specs.Reading.{by_shape, found_at}
 use Rattle.ion_binary.specs.Shapes.{as_shape}
 use Rattle.ion_binary.proofs.Founds.{found_at-wrapped, found_at-shape, shape_of-is_of_descriptor}

@@ -1,7 +1,7 @@
 use Rattle.std.proofs.Common.{◌≡◌, ℕ, ◌+◌, Bool, true, false, not, List, take, drop, None, slice_get, refl, sym, ap, ◌∙◌}
 use Rattle.ion_meter.specs.Windows.{left}
 use Rattle.ion_meter.proofs.Lent.{lent-IsGiven, IsPassed-left}
-use Rattle.ion_binary.specs.Parts.{cursor}
+use Rattle.ion_meter.specs.Sources.{cursor}
 use Rattle.ion_binary.proofs.Founds.{is_version, lent-three, marker_at-inside, marker_at-cut, marker_at-other, marker_at-read}
 use Rattle.ion_binary.proofs.found.next_marker.Goals as goal
 

@@ -2,7 +2,9 @@ use Rattle.std.proofs.Common.{◌≡◌, Ok, Err, refl, sym, ap, ◌∙◌}
 use Rattle.ion_binary.specs.Descriptor.{length_at}
 use Rattle.ion_binary.specs.Bodies.{as_scalar}
 use Rattle.ion_binary.specs.Finds.{as_around}
-use Rattle.ion_binary.specs.Parts.{cursor, itself, body_here}
+use Rattle.ion_meter.specs.Sources.{cursor}
+use Rattle.ion_value.specs.Answers.{itself}
+use Rattle.ion_binary.specs.Parts.{body_here}
 use Rattle.ion_binary.specs.Reading.{fits, a_scalar}
 use Rattle.ion_binary.proofs.Cursors.{answers-refused}
 use Rattle.ion_binary.proofs.Founds.{answers-mapped, scalar_at-no_length, scalar_at-misfits, scalar_at-body}

@@ -3,7 +3,8 @@ use Rattle.ion_binary.specs.Descriptor.{var_uint_at}
 use Rattle.ion_binary.specs.Finds.{as_around, end_by}
 use Rattle.ion_binary.specs.Reading.{a_container}
 use Rattle.ion_value.specs.declared.ion_type.Kind.TheVariants as kind
-use Rattle.ion_binary.specs.Parts.{cursor, itself}
+use Rattle.ion_meter.specs.Sources.{cursor}
+use Rattle.ion_value.specs.Answers.{itself}
 use Rattle.ion_binary.proofs.Cursors.{answers-refused}
 use Rattle.ion_binary.proofs.Founds.{sorted_at-no_length, sorted_at-empty, sorted_at-refused, sorted_at-begun}
 use Rattle.ion_binary.proofs.found.next_sorted.Goals as goal

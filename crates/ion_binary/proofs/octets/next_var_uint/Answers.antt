@@ -1,7 +1,9 @@
 use Rattle.std.proofs.Common.{arith, refl, ap, ◌∙◌, ◌+◌, ◌-◌, ◌*◌, Ok}
 use Rattle.ion_value.proofs.Numbers.{seven-fits, append-lt}
 use Rattle.ion_binary.specs.Descriptor.{octet_at}
-use Rattle.ion_binary.specs.Parts.{cursor, itself, var_from}
+use Rattle.ion_meter.specs.Sources.{cursor}
+use Rattle.ion_value.specs.Answers.{itself}
+use Rattle.ion_binary.specs.Parts.{var_from}
 use Rattle.ion_binary.proofs.VarLoop.{var_uint_at-front, var_from-none, var_from-refused, var_from-ends, var_from-goes_on}
 use Rattle.ion_binary.proofs.Cursors.{moves-then, answers-refused}
 use Rattle.ion_binary.proofs.octets.next_var_uint.Goals as goal

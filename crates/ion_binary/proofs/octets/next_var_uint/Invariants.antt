@@ -1,6 +1,7 @@
 use Rattle.std.proofs.Common.{◌≡◌, ◌+◌, ◌-◌, ◌^◌, ◌<◌}
 use Rattle.ion_binary.specs.Descriptor.{var_uint_at}
-use Rattle.ion_binary.specs.Parts.{cursor, Stands, Moves, var_from}
+use Rattle.ion_meter.specs.Sources.{cursor, Stands, Moves}
+use Rattle.ion_binary.specs.Parts.{var_from}
 use Rattle.ion_binary.proofs.octets.next_var_uint.Given as goal
 
 abbrev pub invariant-loop : goal.invariant-loop

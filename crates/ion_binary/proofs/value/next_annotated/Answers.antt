@@ -1,7 +1,8 @@
 use Rattle.std.proofs.Common.{ap, ◌∙◌, sym, subst, Err}
-use Rattle.ion_binary.specs.Descriptor.{◌>>=◌}
+use Rattle.ion_value.specs.Parts.{◌>>=◌}
 use Rattle.ion_binary.specs.Reading.{wrapper_at, inner_at, annotated_at, region_of}
-use Rattle.ion_binary.specs.Parts.{cursor, Answers}
+use Rattle.ion_meter.specs.Sources.{cursor}
+use Rattle.ion_value.specs.Answers.{Answers}
 use Rattle.ion_binary.specs.Wrappers.{as_wrapped, as_notes}
 use Rattle.ion_binary.proofs.ValueParts.{step-refused, step-refused_at, step-same, annotated_at-wrapper}
 use Rattle.ion_binary.proofs.value.next_annotated.Goals as goal

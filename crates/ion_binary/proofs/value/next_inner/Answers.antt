@@ -1,7 +1,9 @@
 use Rattle.std.proofs.Common.{ap, ◌∙◌, sym, subst, Some, Ok, Err, true}
-use Rattle.ion_binary.specs.Descriptor.{◌>>=◌, octet_at}
-use Rattle.ion_binary.specs.Reading.{part, given, found_at, inner_at}
-use Rattle.ion_binary.specs.Parts.{cursor, itself, Answers}
+use Rattle.ion_value.specs.Parts.{◌>>=◌, part}
+use Rattle.ion_binary.specs.Descriptor.{octet_at}
+use Rattle.ion_binary.specs.Reading.{given, found_at, inner_at}
+use Rattle.ion_meter.specs.Sources.{cursor}
+use Rattle.ion_value.specs.Answers.{itself, Answers}
 use Rattle.ion_binary.specs.Finds.{as_found}
 use Rattle.ion_binary.proofs.ValueParts.{step-refused, step-same, inner_at-octet}
 use Rattle.ion_binary.proofs.value.next_inner.Goals as goal

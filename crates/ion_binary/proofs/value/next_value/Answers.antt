@@ -1,7 +1,9 @@
 use Rattle.std.proofs.Common.{ap, ◌∙◌, sym, subst, Ok, Err, false, []}
-use Rattle.ion_binary.specs.Descriptor.{◌>>=◌, octet_at}
-use Rattle.ion_binary.specs.Reading.{part, given, found_at, region_of, annotated_at, value_at}
-use Rattle.ion_binary.specs.Parts.{cursor, itself, Answers}
+use Rattle.ion_value.specs.Parts.{◌>>=◌, part}
+use Rattle.ion_binary.specs.Descriptor.{octet_at}
+use Rattle.ion_binary.specs.Reading.{given, found_at, region_of, annotated_at, value_at}
+use Rattle.ion_meter.specs.Sources.{cursor}
+use Rattle.ion_value.specs.Answers.{itself, Answers}
 use Rattle.ion_binary.specs.Finds.{as_found}
 use Rattle.ion_binary.specs.Wrappers.{as_notes}
 use Rattle.ion_binary.proofs.ValueParts.{step-refused, step-same, value_at-plain, value_at-wrapper}

@@ -1,7 +1,7 @@
 use Rattle.std.proofs.Common.{◌≡◌, ◌-◌, ◌*◌, ◌≤◌, length}
 use Rattle.ion_value.specs.Shares.{Charges}
 use Rattle.ion_binary.specs.Reading.{ids_at}
-use Rattle.ion_binary.specs.Parts.{cursor, Stands, Moves}
+use Rattle.ion_meter.specs.Sources.{cursor, Stands, Moves}
 use Rattle.ion_binary.specs.Wrappers.{as_notes}
 use Rattle.ion_binary.proofs.Notes.{behind}
 use Rattle.ion_binary.proofs.wrapper.next_notes.Given as goal

@@ -1,7 +1,8 @@
 use Rattle.std.proofs.Common.{refl, ◌+◌, true, false, Some}
 use Rattle.ion_binary.specs.Descriptor.{length_at, var_uint_at}
 use Rattle.ion_binary.specs.Reading.{wrapper_at}
-use Rattle.ion_binary.specs.Parts.{cursor, itself}
+use Rattle.ion_meter.specs.Sources.{cursor}
+use Rattle.ion_value.specs.Answers.{itself}
 use Rattle.ion_binary.specs.Wrappers.{as_wrapped}
 use Rattle.ion_binary.proofs.Cursors.{answers-refused}
 use Rattle.ion_binary.proofs.Wraps.{wrapper_at-no_length, wrapper_at-no_ids, wrapper_at-tested}

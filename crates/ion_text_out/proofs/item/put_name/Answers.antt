@@ -1,4 +1,4 @@
-use Rattle.ion_text_out.proofs.Putting.{put_cut}
+use Rattle.ion_meter.proofs.Putting.{put_cut}
 use Rattle.ion_text_out.proofs.item.put_name.Goals as goal
 
 pub returns-in-Err : goal.returns-in-Err

@@ -1,7 +1,7 @@
 use Rattle.std.proofs.Common.{arith}
 use Rattle.ion_value.specs.Items.{annotations_of}
 use Rattle.ion_text_out.proofs.Notes.{notes-next, notes-cut}
-use Rattle.ion_text_out.proofs.Putting.{put_nothing}
+use Rattle.ion_meter.proofs.Putting.{put_nothing}
 use Rattle.ion_text_out.proofs.item.put_notes.Goals as goal
 
 pub notes-init : goal.notes-init

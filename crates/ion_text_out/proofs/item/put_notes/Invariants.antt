@@ -1,6 +1,6 @@
 use Rattle.std.proofs.Common.{◌≡◌, ◌-◌, ◌≤◌, length, take, None, Ok}
 use Rattle.ion_value.specs.Items.{annotations_of}
-use Rattle.ion_text_out.specs.Putting.{HasPut}
+use Rattle.ion_meter.specs.Sinks.{HasPut}
 use Rattle.ion_text_out.specs.Writing.{notes_text}
 use Rattle.ion_text_out.proofs.item.put_notes.Given as goal
 

@@ -1,4 +1,4 @@
-use Rattle.ion_text_out.proofs.Onward.{onward_as, onward_then, onward_cut, onward_end}
+use Rattle.ion_meter.proofs.Onward.{onward_as, onward_then, onward_cut, onward_end}
 use Rattle.ion_text_out.proofs.Quoted.{run_then, run_last, escape_then}
 use Rattle.ion_text_out.proofs.quote.put_inside.Goals as goal
 

@@ -2,8 +2,8 @@
 use Rattle.std.proofs.Common.{◌≡◌, ℕ, List, [], ◌++◌, None, Result, Ok, Err, subst}
 use Rattle.ion_meter.specs.declared.fault.Fault.{Fault}
 use Rattle.ion_meter.specs.Windows.{Outgoing}
-use Rattle.ion_text_out.specs.Putting.{HasPut}
-use Rattle.ion_text_out.proofs.Putting.{put_nothing, put_cut, put_then}
+use Rattle.ion_meter.specs.Sinks.{HasPut}
+use Rattle.ion_meter.proofs.Putting.{put_nothing, put_cut, put_then}
 
 pub record Onward {O : Type 0} (written : O → List ℕ) (tells : O → Type 0) (failures : O → ℕ) (start now : Outgoing O) (whole rest : List ℕ) : Type 0 where
   pub well : now.fault ≡ None

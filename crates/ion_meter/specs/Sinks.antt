@@ -1,5 +1,6 @@
 -- What a call that puts bytes does to the window on the output, which had not failed.
 use Rattle.std.specs.Prelude.{◌≡◌, ℕ, ◌+◌, List, ◌++◌, None, Result, OnOk, IfErr}
+use Rattle.ion_meter.specs.declared.device.Output.{Ghosts as OutputOf}
 use Rattle.ion_meter.specs.declared.fault.Fault.{Fault}
 use Rattle.ion_meter.specs.declared.fault.Fault.TheVariants.{WriteFault}
 use Rattle.ion_meter.specs.Windows.{Outgoing, so_far, Puts, write_failures_in}
@@ -11,3 +12,7 @@ pub record HasPut {O T : Type 0} (written : O → List ℕ) (tells : O → Type 
   pub part : Puts written tells old new bytes
   pub cause : IfErr result (λ f. f ≡ WriteFault)
   pub count : failures new.device ≡ failures old.device + write_failures_in None result
+
+-- the same by the device's own words, as `IsPut O.Output sink.old sink.new result text`
+abbrev pub IsPut : {O T : Type 0} → OutputOf O → Outgoing O → Outgoing O → Result T Fault → List ℕ → Type 0
+IsPut device old new result bytes = HasPut device.written device.tells device.failure_count old new result bytes

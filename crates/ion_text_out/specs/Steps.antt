@@ -1,0 +1,53 @@
+-- What one step of the writer asks for, puts, keeps and moves.
+use Rattle.std.specs.Prelude.{◌≡◌, ℕ, ◌*◌, ◌-◌, ◌^◌, ◌<◌, ◌≤◌, List, length, ◌++◌, None, Result, OnOk}
+use Rattle.ion_meter.specs.Counts.{Counts}
+use Rattle.ion_meter.specs.Windows.{Outgoing, so_far, Puts}
+use Rattle.ion_meter.specs.declared.device.Output.{Ghosts as OutputOf}
+use Rattle.ion_meter.specs.declared.fault.Fault.{Fault}
+use Rattle.ion_value.specs.Shares.{Charges}
+use Rattle.ion_value.specs.Value.{Head, PlacedItem}
+use Rattle.ion_text_out.specs.declared.writer.TextWriter.{TextWriter}
+use Rattle.ion_text_out.specs.Text.{Open, item_text}
+use Rattle.ion_text_out.specs.Writing.{shown, user_item, HasRoom, IsReady}
+
+-- the containers that it has open
+abbrev pub opened_in : {A : Type 0} → TextWriter A → Open
+opened_in w = shown w.kinds w.empty
+
+-- the counted bytes that it holds, and the most that it may
+abbrev pub held_by : {A : Type 0} → TextWriter A → ℕ
+held_by w = 16 * length w.kinds
+
+abbrev pub share_of : {A : Type 0} → TextWriter A → ℕ
+share_of w = 16 * w.limits.depth
+
+abbrev pub IsSound : {A : Type 0} → TextWriter A → Type 0
+IsSound w = IsReady w.limits (length w.kinds)
+
+-- there is room for what begins here
+abbrev pub HasRoomFor : {A S : Type 0} → TextWriter A → Head S → Type 0
+HasRoomFor w head = HasRoom w.limits.depth (length w.kinds) head
+
+-- the text that an item adds here
+abbrev pub text_of : {A : Type 0} → TextWriter A → PlacedItem → List ℕ
+text_of w item = item_text (opened_in w) (user_item item)
+
+-- a step may begin
+pub record CanStep {A : Type 0} (w : TextWriter A) (meter : Counts) : Type 0 where
+  pub room : meter.held ≤ 2 ^ 62
+  pub held : held_by w ≤ meter.held
+  pub countable : meter.refused < 2 ^ 64 - 1
+  pub ready : IsSound w
+
+-- what a step keeps and moves whatever it answers
+pub record Stepped {A : Type 0} (old new : TextWriter A) (before after : Counts) : Type 0 where
+  pub ready : IsSound new
+  pub limits : new.limits ≡ old.limits
+  pub failed : new.failed ≡ old.failed
+  pub charges : Charges before after (held_by old) (held_by new) (share_of old)
+
+-- where it answers well, this text was put, and where it fails, a front of it
+pub record PutsText {O T : Type 0} (device : OutputOf O) (old new : Outgoing O) (result : Result T Fault) (text : List ℕ) : Type 0 where
+  pub whole : OnOk result (device.tells old.device → so_far device.written new ≡ so_far device.written old ++ text)
+  pub well : OnOk result (old.fault ≡ None → new.fault ≡ None)
+  pub part : old.fault ≡ None → Puts device.written device.tells old new text

@@ -113,7 +113,7 @@ empty_blob : shown (scalar (v.blob [])) ≡ codes "{{}}\n"
 unfolding encode_symbols
 empty_blob = refl
 
-decimal : shown (scalar (v.decimal (record { negative = true; coefficient = 0; exponent = pos 0 }))) ≡ codes "-0d0\n"
+decimal : shown (scalar (v.decimal (record { negative = true; coefficient = 0; exponent = pos 0 }))) ≡ codes "-0.\n"
 unfolding digits
 decimal = refl
 

@@ -7,7 +7,7 @@ use Rattle.std.proofs.lemmas.List.{append-nil}
 use Rattle.std.proofs.lemmas.Nat.{div-mul-add, mod-mul-add, pow-add}
 use Rattle.std.proofs.Math.Nat.{pow-zero, pow-suc, pow-le-pow_right, div-div-eq-div-mul, div-lt_iff_lt-mul}
 use Rattle.std.proofs.Math.Arith.{mod-mul}
-use Rattle.ion_value.specs.Timestamp.{fixed_digits}
+use Rattle.ion_value.specs.Digits.{fixed_digits}
 
 pub fixed_digits-two : (n : ℕ) → n < 100 → fixed_digits 2 n ≡ (48 + n / 10) ∷ (48 + n % 10) ∷ []
 unfolding fixed_digits
@@ -81,7 +81,7 @@ padded-written count n k ds xs zs e all is some fits small =
     let wide : n < 10 ^ 64 = omega arith in
     e ∙ append_assoc xs (replicate (k - length ds) 48) ds ∙ ap (λ ys. xs ++ ys) (rw (all, is) (fixed_digits-decimal count n some fits wide))
 
-pow-pos : (b : ℕ) → 0 < 10 ^ b
+pub pow-pos : (b : ℕ) → 0 < 10 ^ b
 pow-pos zero = rw pow-zero (omega arith)
 pow-pos (suc b) = omega (arith, pow-suc 10 b, pow-pos b)
 

@@ -10,12 +10,14 @@ pub mod TimestampBodies
 pub mod TextDigits
 pub mod TextDecimals
 pub mod FixedDigits
+pub mod PointedText
 pub mod FrontDigits
 pub mod TextParts
 pub mod TimestampText
 pub mod TextStages
 pub mod TextReadings
 pub mod TextRoundTrip
+pub mod DecimalRoundTrip
 pub mod TextKinds
 pub mod Rows
 pub mod Readings

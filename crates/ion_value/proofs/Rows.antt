@@ -4,10 +4,10 @@ use Rattle.std.specs.Prelude.{codes}
 use Rattle.std.specs.Fmt.{digits}
 use Rattle.ion_meter.specs.declared.fault.Reason.TheVariants.{BadVar, BadToken, BadTimestamp, Range, Float}
 use Rattle.ion_value.specs.Number.{var_uint, VarUInt, var_int_negative, var_int_magnitude, VarInt, uint, var_cut, digits_within, uint_octets, var_uint_octets, var_int_octets}
-use Rattle.ion_value.specs.Digits.{cut_at}
+use Rattle.ion_value.specs.Digits.{cut_at, fixed_digits}
 use Rattle.ion_value.specs.Int.{int_text, int_of_text}
 use Rattle.ion_value.specs.declared.timestamp.Precision.TheVariants.{Year, Month, Day, Minute, Second, Fraction}
-use Rattle.ion_value.specs.Timestamp.{fields, fields_cut, fixed_digits, local_of, utc_of, timestamp_of_bytes, timestamp_body, timestamp_of_text, timestamp_text}
+use Rattle.ion_value.specs.Timestamp.{fields, fields_cut, local_of, utc_of, timestamp_of_bytes, timestamp_body, timestamp_of_text, timestamp_text}
 use Rattle.ion_value.specs.Decimal.{decimal_of_bytes, decimal_body, decimal_of_text, decimal_text, parts_of}
 
 var_uint-one : var_uint (0x81 ∷ []) ≡ 1
@@ -207,13 +207,38 @@ decimal-underscore_in_exponent : decimal_of_text (codes "1d1_0") ≡ Err BadToke
 unfolding decimal_of_text parts_of cut_at
 decimal-underscore_in_exponent = refl
 
-decimal_text-minus_zero : decimal_text (record { negative = true; coefficient = 0; exponent = pos 0 }) ≡ codes "-0d0"
+decimal_text-minus_zero : decimal_text (record { negative = true; coefficient = 0; exponent = pos 0 }) ≡ codes "-0."
 unfolding digits
 decimal_text-minus_zero = refl
 
-decimal_text-fifteen_tenths : decimal_text (record { negative = false; coefficient = 15; exponent = negsuc 0 }) ≡ codes "15d-1"
+decimal_text-one_place : decimal_text (record { negative = false; coefficient = 15; exponent = negsuc 0 }) ≡ codes "1.5"
+unfolding digits fixed_digits
+decimal_text-one_place = refl
+
+decimal_text-zeros_in_front : decimal_text (record { negative = false; coefficient = 5; exponent = negsuc 2 }) ≡ codes "0.005"
+unfolding digits fixed_digits
+decimal_text-zeros_in_front = refl
+
+decimal_text-precise_zero : decimal_text (record { negative = false; coefficient = 0; exponent = negsuc 1 }) ≡ codes "0.00"
+unfolding digits fixed_digits
+decimal_text-precise_zero = refl
+
+decimal_text-above_zero : decimal_text (record { negative = false; coefficient = 15; exponent = pos 1 }) ≡ codes "15d1"
 unfolding digits
-decimal_text-fifteen_tenths = refl
+decimal_text-above_zero = refl
+
+decimal_text-past_38_places : decimal_text (record { negative = false; coefficient = 1; exponent = negsuc 38 }) ≡ codes "1d-39"
+unfolding digits
+decimal_text-past_38_places = refl
+
+decimal_text-most_places : decimal_text (record { negative = false; coefficient = 340282366920938463463374607431768211455; exponent = negsuc 37 })
+    ≡ codes "3.40282366920938463463374607431768211455"
+unfolding digits fixed_digits
+decimal_text-most_places = refl
+
+decimal_text-of_power : decimal_of_text (codes "15d-1") ≡ Ok (record { negative = false; coefficient = 15; exponent = negsuc 0 })
+unfolding decimal_of_text parts_of cut_at
+decimal_text-of_power = refl
 
 -- ---- timestamps
 

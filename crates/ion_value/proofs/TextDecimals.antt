@@ -14,7 +14,7 @@ use Rattle.ion_value.specs.declared.int.Int.{Int}
 use Rattle.ion_value.specs.Int.{IsInt, int_in_range, int_of_digits, int_text, int_of_text}
 use Rattle.ion_value.specs.Number.{number, signed}
 use Rattle.ion_value.specs.Digits.{is_digit, digit_value, digits_from, are_digits, digits_value, first_is, all_are, is_whole, has_minus, without_minus, cut_at}
-use Rattle.ion_value.specs.Decimal.{IsExponent, is_exponent, IsDecimal, decimal_in_range, integer_text, decimal_text, decimal_of_text, is_exponent_mark, is_decimal_mark, is_point, Parts, parts_of, is_fraction, fraction_digits, is_mantissa, has_sign, is_power, power_value, decimal_of_parts}
+use Rattle.ion_value.specs.Decimal.{IsExponent, is_exponent, IsDecimal, decimal_in_range, integer_text, decimal_of_text, is_exponent_mark, is_decimal_mark, is_point, Parts, parts_of, is_fraction, fraction_digits, is_mantissa, has_sign, is_power, power_value, decimal_of_parts}
 use Rattle.ion_value.specs.DigitReading.{is_digit_of, Read, read_digits, read_int, read_whole, read_fraction, decimal_behind}
 use Rattle.ion_value.proofs.Numbers.{number-append, number-append_one}
 use Rattle.ion_value.proofs.TextDigits.{int_of_read, int-text, zero_first, whole-is, and-true, suc-eqb, front, behind_front, front-whole, ten, reading, read-is, read-whole-is}
@@ -22,7 +22,7 @@ use Rattle.ion_value.proofs.TextDigits.{int_of_read, int-text, zero_first, whole
 -- ---- the parts of a number
 
 -- digits and underscores are no marks and no points
-apart-mark : (b : ℕ) → (is_digit b || b == 95) ≡ true → is_exponent_mark b ≡ false
+pub apart-mark : (b : ℕ) → (is_digit b || b == 95) ≡ true → is_exponent_mark b ≡ false
 apart-mark b e = grind (arith, nat_tests)
 
 apart-point : (b : ℕ) → (is_digit b || b == 95) ≡ true → is_point b ≡ false
@@ -31,7 +31,7 @@ apart-point b e = grind (arith, nat_tests)
 mark-no_point : (b : ℕ) → is_exponent_mark b ≡ true → is_point b ≡ false
 mark-no_point b e = grind (arith, nat_tests)
 
-cut-front : (test : ℕ → Bool) (bytes ys : List ℕ) → ((b : ℕ) → (is_digit b || b == 95) ≡ true → test b ≡ false)
+pub cut-front : (test : ℕ → Bool) (bytes ys : List ℕ) → ((b : ℕ) → (is_digit b || b == 95) ≡ true → test b ≡ false)
     → cut_at test (front is_digit bytes ++ ys) ≡ (front is_digit bytes ++ (cut_at test ys).0, (cut_at test ys).1)
 unfolding cut_at front
 cut-front test [] ys apart = refl
@@ -40,10 +40,10 @@ cut-front test (b ∷ bytes) ys apart = elim (cases_Bool (is_digit b || b == 95)
   | inr e ↦ rw e refl
 ]
 
-abbrev make_parts : List ℕ → List ℕ → List ℕ → Parts
+abbrev pub make_parts : List ℕ → List ℕ → List ℕ → Parts
 make_parts whole fraction power = record { whole = whole; fraction = fraction; power = power }
 
-parts-front : (bytes ys : List ℕ) → parts_of (front is_digit bytes ++ ys) ≡ make_parts (front is_digit bytes ++ (parts_of ys).whole) (parts_of ys).fraction (parts_of ys).power
+pub parts-front : (bytes ys : List ℕ) → parts_of (front is_digit bytes ++ ys) ≡ make_parts (front is_digit bytes ++ (parts_of ys).whole) (parts_of ys).fraction (parts_of ys).power
 unfolding parts_of
 parts-front bytes ys =
     rw (cut-front is_exponent_mark bytes ys apart-mark, cut-front is_point bytes (cut_at is_exponent_mark ys).0 apart-point) refl
@@ -52,7 +52,7 @@ parts-mark : (c : ℕ) (ys : List ℕ) → is_exponent_mark c ≡ true → parts
 unfolding parts_of cut_at
 parts-mark c ys e = rw e refl
 
-parts-point : (ys : List ℕ) → parts_of (46 ∷ ys) ≡ make_parts [] (46 ∷ (cut_at is_exponent_mark ys).0) (cut_at is_exponent_mark ys).1
+pub parts-point : (ys : List ℕ) → parts_of (46 ∷ ys) ≡ make_parts [] (46 ∷ (cut_at is_exponent_mark ys).0) (cut_at is_exponent_mark ys).1
 unfolding parts_of cut_at
 parts-point ys = refl
 
@@ -101,7 +101,7 @@ filter-digits (x ∷ xs) = elim (cases_Bool (is_digit x)) [
 abbrev pub spelled : List ℕ → ℕ
 spelled xs = number 10 (map digit_value (filter is_digit xs))
 
-value-both : (xs ys : List ℕ) → digits_value 10 (filter is_digit xs ++ filter is_digit ys)
+pub value-both : (xs ys : List ℕ) → digits_value 10 (filter is_digit xs ++ filter is_digit ys)
     ≡ (0 * 10 ^ length (filter is_digit xs) + spelled xs) * 10 ^ length (filter is_digit ys) + spelled ys
 value-both xs ys =
     let digits : filter (λ b. not (b == 95)) (filter is_digit xs ++ filter is_digit ys) ≡ filter is_digit xs ++ filter is_digit ys
@@ -154,7 +154,7 @@ made-if make false r = refl
 abbrev made_of_point : Makes → List ℕ → List ℕ × List ℕ → Result Decimal Reason
 made_of_point make xs cut = when (is_fraction (46 ∷ cut.0)) (make (digits_value 10 (filter is_digit xs ++ filter is_digit cut.0)) (length (filter is_digit cut.0)) cut.1)
 
-cut-nil : cut_at is_exponent_mark [] ≡ ([], [])
+pub cut-nil : cut_at is_exponent_mark [] ≡ ([], [])
 unfolding cut_at
 cut-nil = refl
 
@@ -338,14 +338,14 @@ filter-full (x ∷ xs) h = elim (cases_Bool (is_digit x)) [
   | inr e ↦ let less = simp e at h in absurd (omega (arith, filter-le xs))
 ]
 
-all-front : (xs : List ℕ) → all_are is_digit xs ≡ true → front is_digit xs ≡ xs
+pub all-front : (xs : List ℕ) → all_are is_digit xs ≡ true → front is_digit xs ≡ xs
 unfolding front
 all-front [] e = refl
 all-front (x ∷ xs) e =
     let parts = and_parts (is_digit x) (all_are is_digit xs) e in
     simp parts.0 (ap (λ ys. x ∷ ys) (all-front xs parts.1))
 
-all-filter : (xs : List ℕ) → all_are is_digit xs ≡ true → filter is_digit xs ≡ xs
+pub all-filter : (xs : List ℕ) → all_are is_digit xs ≡ true → filter is_digit xs ≡ xs
 all-filter [] e = refl
 all-filter (x ∷ xs) e =
     let parts = and_parts (is_digit x) (all_are is_digit xs) e in
@@ -357,12 +357,12 @@ all-digits (x ∷ xs) e =
     let parts = and_parts (is_digit x) (all_are is_digit xs) e in
     simp parts.0 (all-digits xs parts.1)
 
-all-some : (x : ℕ) (xs : List ℕ) → all_are is_digit (x ∷ xs) ≡ true → are_digits is_digit (x ∷ xs) ≡ true
+pub all-some : (x : ℕ) (xs : List ℕ) → all_are is_digit (x ∷ xs) ≡ true → are_digits is_digit (x ∷ xs) ≡ true
 all-some x xs e =
     let parts = and_parts (is_digit x) (all_are is_digit xs) e in
     simp parts.0 (all-digits xs parts.1)
 
-all-value : (xs : List ℕ) → all_are is_digit xs ≡ true → digits_value 10 xs ≡ spelled xs
+pub all-value : (xs : List ℕ) → all_are is_digit xs ≡ true → digits_value 10 xs ≡ spelled xs
 all-value xs e = ap (λ ys. number 10 (map digit_value (filter (λ b. not (b == 95)) ys))) (sym (all-filter xs e)) ∙ ap (λ ys. number 10 (map digit_value ys)) (filter-digits xs)
 
 front-length : (xs : List ℕ) → length xs ≡ length (front is_digit xs) + length (behind_front is_digit xs)
@@ -500,7 +500,7 @@ all-append (x ∷ xs) ys e f =
     let parts = and_parts (is_digit x) (all_are is_digit xs) e in
     and_from (is_digit x) (all_are is_digit (xs ++ ys)) parts.0 (all-append xs ys parts.1 f)
 
-first-append : (test : ℕ → Bool) (xs ys : List ℕ) → 0 < length xs → first_is test (xs ++ ys) ≡ first_is test xs
+pub first-append : (test : ℕ → Bool) (xs ys : List ℕ) → 0 < length xs → first_is test (xs ++ ys) ≡ first_is test xs
 first-append test [] ys some = absurd (omega arith)
 first-append test (x ∷ xs) ys some = refl
 
@@ -542,14 +542,14 @@ spells (suc n) small =
     }
 
 -- a sign in front of digits
-sign-plus : (ds : List ℕ) → all_are is_digit ds ≡ true → has_minus ds ≡ false
+pub sign-plus : (ds : List ℕ) → all_are is_digit ds ≡ true → has_minus ds ≡ false
 sign-plus [] e = refl
 sign-plus (d ∷ ds) e = let parts = and_parts (is_digit d) (all_are is_digit ds) e in let digit = parts.0 in grind (arith, nat_tests)
 
 abbrev pub signed_text : Bool → List ℕ → List ℕ
 signed_text negative text = (if negative then 45 ∷ [] else []) ++ text
 
-sign-read : (negative : Bool) (text : List ℕ) → has_minus text ≡ false → (has_minus (signed_text negative text) ≡ negative) × (without_minus (signed_text negative text) ≡ text)
+pub sign-read : (negative : Bool) (text : List ℕ) → has_minus text ≡ false → (has_minus (signed_text negative text) ≡ negative) × (without_minus (signed_text negative text) ≡ text)
 sign-read true text e = (refl, refl)
 sign-read false text e = (e, rw e refl)
 
@@ -578,9 +578,9 @@ int_text-is_read i valid =
     int-of_run (int_text i) (decimal i.magnitude) i.negative sign.0 sign.1 ∙ int-of_written i.negative i.magnitude (decimal i.magnitude) w ∙ int-in_range i valid
 
 -- an exponent behind its mark
-record Power (e : ℤ) (text : List ℕ) : Type 0 where
-  shape : is_power is_decimal_mark (100 ∷ text) ≡ true
-  value : power_value (100 ∷ text) ≡ e
+pub record Power (e : ℤ) (text : List ℕ) : Type 0 where
+  pub shape : is_power is_decimal_mark (100 ∷ text) ≡ true
+  pub value : power_value (100 ∷ text) ≡ e
 
 digits-no_sign : (ds : List ℕ) → all_are is_digit ds ≡ true → has_sign ds ≡ false
 digits-no_sign [] e = refl
@@ -598,7 +598,7 @@ power-minus n ds w = record {
   value = rw w.value refl;
 }
 
-power-written : (e : ℤ) → IsExponent e → Power e (integer_text e)
+pub power-written : (e : ℤ) → IsExponent e → Power e (integer_text e)
 power-written (pos n) within = power-plus n (decimal n) (spells n (omega (arith, ints)))
 power-written (negsuc n) within =
     let next : 1 + n ≡ suc n = omega arith in
@@ -612,7 +612,7 @@ behind-written negative n e text w =
     let same : e -ℤ pos 0 ≡ e = omega (arith, ints) in
     rw (w.shape, w.value, same) refl
 
-decimal-written : (negative : Bool) (n : ℕ) (e : ℤ) (ds text : List ℕ) → Spells n ds → Power e text → decimal_of_parts negative (parts_of (ds ++ (100 ∷ text))) ≡ decimal_in_range negative n e
+pub decimal-written : (negative : Bool) (n : ℕ) (e : ℤ) (ds text : List ℕ) → Spells n ds → Power e text → decimal_of_parts negative (parts_of (ds ++ (100 ∷ text))) ≡ decimal_in_range negative n e
 decimal-written negative n e ds text w p =
     let value : whole_number ds ≡ n = omega (arith, sym (all-value ds w.digits) ∙ w.value) in
     ap (decimal_of_parts negative) (parts-written ds text w.digits)
@@ -623,22 +623,11 @@ decimal-written negative n e ds text w p =
 exponent-within : (e : ℤ) → IsExponent e → is_exponent e ≡ true
 exponent-within e within = grind (arith, ints)
 
-decimal-in_range : (d : Decimal) → IsDecimal d → decimal_in_range d.negative d.coefficient d.exponent ≡ Ok d
+pub decimal-in_range : (d : Decimal) → IsDecimal d → decimal_in_range d.negative d.coefficient d.exponent ≡ Ok d
 decimal-in_range d valid =
     let small : nat_lt d.coefficient (2 ^ 128) ≡ true = lt-ltb d.coefficient (2 ^ 128) valid.coefficient in
     let within : is_exponent d.exponent ≡ true = exponent-within d.exponent valid.exponent in
     rw (small, within) refl
-
-pub decimal_text-is_read : (d : Decimal) → IsDecimal d → decimal_of_text (decimal_text d) ≡ Ok d
-decimal_text-is_read d valid =
-    let ds : List ℕ = decimal d.coefficient in
-    let text : List ℕ = integer_text d.exponent in
-    let w = spells d.coefficient (omega (arith, valid.coefficient)) in
-    let plus : has_minus (ds ++ (100 ∷ text)) ≡ false = first-append (λ b. b == 45) ds (100 ∷ text) w.some ∙ sign-plus ds w.digits in
-    let sign = sign-read d.negative (ds ++ (100 ∷ text)) plus in
-    sym (decimal-text (decimal_text d) (ds ++ (100 ∷ text)) d.negative (sym sign.0) (sym sign.1))
-    ∙ decimal-written d.negative d.coefficient d.exponent ds text w (power-written d.exponent valid.exponent)
-    ∙ decimal-in_range d valid
 
 -- ---- one shape
 

@@ -10,8 +10,8 @@ use Rattle.ion_value.specs.declared.timestamp.Precision.{Precision}
 use Rattle.ion_value.specs.declared.timestamp.Precision.TheVariants.{Year, Month, Day, Minute, Second, Fraction}
 use Rattle.ion_value.specs.declared.timestamp.Timestamp.{Timestamp}
 use Rattle.ion_value.specs.Number.{number}
-use Rattle.ion_value.specs.Digits.{is_digit, digit_value, all_are}
-use Rattle.ion_value.specs.Timestamp.{IsTimestamp, IsMoment, IsOffset, fields, is_offset_mark, has_offset_shape, is_text_offset, offset_of_text, date_in_range, time_in_range, timestamp_of_text, fixed_digits, day_text, minute_text, second_text, minutes_text, offset_text, text_to, timestamp_text}
+use Rattle.ion_value.specs.Digits.{is_digit, digit_value, all_are, fixed_digits}
+use Rattle.ion_value.specs.Timestamp.{IsTimestamp, IsMoment, IsOffset, fields, is_offset_mark, has_offset_shape, is_text_offset, offset_of_text, date_in_range, time_in_range, timestamp_of_text, day_text, minute_text, second_text, minutes_text, offset_text, text_to, timestamp_text}
 use Rattle.ion_value.specs.TimestampRuns.{two_digits, four_digits, unread, with_offset, with_fraction, behind_second, behind_minute, behind_day, behind_month, behind_year, from_year, offset_of}
 use Rattle.ion_value.proofs.Numbers.{number-append_one}
 use Rattle.ion_value.proofs.TimestampOctets.{is_moment-true}
@@ -46,7 +46,7 @@ fixed_digits-are (suc count) n =
     let last = digit-plus (n % 10) (omega arith) in
     rw (all_are-append is_digit (fixed_digits count (n / 10)) ((48 + n % 10) ∷ []), fixed_digits-are count (n / 10), last.0) refl
 
-number-fixed_digits : (count n : ℕ) → n < 10 ^ count → number 10 (map digit_value (fixed_digits count n)) ≡ n
+pub number-fixed_digits : (count n : ℕ) → n < 10 ^ count → number 10 (map digit_value (fixed_digits count n)) ≡ n
 unfolding fixed_digits
 number-fixed_digits zero n small = omega arith
 number-fixed_digits (suc count) n small =

@@ -7,8 +7,8 @@ use Rattle.ion_value.specs.declared.timestamp.Precision.{Precision}
 use Rattle.ion_value.specs.declared.timestamp.Precision.TheVariants.{Fraction}
 use Rattle.ion_value.specs.declared.timestamp.Timestamp.{Timestamp}
 use Rattle.ion_value.specs.declared.timestamp_text.TextOffset.{TextOffset}
-use Rattle.ion_value.specs.Digits.{is_digit}
-use Rattle.ion_value.specs.Timestamp.{IsMoment, is_moment, IsOffset, digits_at, has_offset_shape, date_in_range, time_in_range, fixed_digits, second_text, offset_text, text_to, timestamp_text}
+use Rattle.ion_value.specs.Digits.{is_digit, fixed_digits}
+use Rattle.ion_value.specs.Timestamp.{IsMoment, is_moment, IsOffset, digits_at, has_offset_shape, date_in_range, time_in_range, second_text, offset_text, text_to, timestamp_text}
 use Rattle.ion_value.specs.TimestampRuns.{two_digits, offset_of, IsOffsetOf, offset_in_range}
 use Rattle.ion_value.proofs.TimestampOctets.{is_moment-is}
 

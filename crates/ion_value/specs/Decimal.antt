@@ -1,11 +1,11 @@
 -- Decimals: their range, and how they are spelled in octets and in text.
-use Rattle.std.specs.Prelude.{ℕ, ◌+◌, ◌-◌, ◌^◌, ◌<◌, ℤ, pos, negsuc, neg_ℤ, ◌-ℤ◌, ◌≤ℤ◌, int_le, Bool, true, false, not, ◌&&◌, ◌||◌, ◌==◌, nat_lt, if◌then◌else◌, List, [], ◌∷◌, ◌++◌, length, drop, filter, decimal, Option, Some, None, Result, Ok, Err}
+use Rattle.std.specs.Prelude.{ℕ, ◌+◌, ◌-◌, ◌/◌, ◌^◌, ◌<◌, ℤ, pos, negsuc, neg_ℤ, ◌-ℤ◌, ◌≤ℤ◌, int_le, Bool, true, false, not, ◌&&◌, ◌||◌, ◌==◌, nat_lt, if◌then◌else◌, List, [], ◌∷◌, ◌++◌, length, drop, filter, decimal, Option, Some, None, Result, Ok, Err}
 use Rattle.ion_meter.specs.declared.fault.Reason.{Reason}
 use Rattle.ion_meter.specs.declared.fault.Reason.TheVariants.{BadVar, BadToken, Range, Float}
 use Rattle.ion_value.specs.declared.decimal.Decimal.{Decimal}
 use Rattle.ion_value.specs.declared.var.Signed.{Signed}
 use Rattle.ion_value.specs.Number.{VarInt, var_int_negative, var_int_magnitude, int_negative, int_magnitude, signed, var_cut, var_int_octets, coefficient_octets}
-use Rattle.ion_value.specs.Digits.{is_digit, are_digits, digits_value, first_is, all_are, is_whole, has_minus, without_minus, cut_at}
+use Rattle.ion_value.specs.Digits.{is_digit, are_digits, digits_value, first_is, all_are, is_whole, has_minus, without_minus, cut_at, fixed_digits}
 
 -- the exponents that decimals may have
 abbrev pub IsExponent : ℤ → Type 0
@@ -134,6 +134,23 @@ abbrev pub integer_text : ℤ → List ℕ
 integer_text (pos n) = decimal n
 integer_text (negsuc n) = 45 ∷ decimal (1 + n)
 
--- a minus where there is one, the coefficient's digits, `d`, and the exponent
+-- a number with a point before its last k digits: what is before the point, and k digits behind it, zeros in front of them where it has fewer
+abbrev pub pointed_text : ℕ → ℕ → List ℕ
+pointed_text n k = decimal (n / 10 ^ k) ++ (46 ∷ fixed_digits k n)
+
+-- a number, `d`, and an exponent
+abbrev pub power_text : ℕ → ℤ → List ℕ
+power_text n e = decimal n ++ (100 ∷ integer_text e)
+
+-- the most digits that are written behind a point, which is as many as 128 bits hold whichever they are
+abbrev pub most_places : ℕ
+most_places = 38
+
+-- exponents from 0 down to -38 are shown by a point, and all others behind a `d`
+abbrev pub magnitude_text : ℕ → ℤ → List ℕ
+magnitude_text n (pos e) = if e == 0 then decimal n ++ (46 ∷ []) else power_text n (pos e)
+magnitude_text n (negsuc e) = if nat_lt e most_places then pointed_text n (1 + e) else power_text n (negsuc e)
+
+-- a minus where there is one, and the coefficient with its exponent
 abbrev pub decimal_text : Decimal → List ℕ
-decimal_text d = (if d.negative then 45 ∷ [] else []) ++ (decimal d.coefficient ++ (100 ∷ integer_text d.exponent))
+decimal_text d = (if d.negative then 45 ∷ [] else []) ++ magnitude_text d.coefficient d.exponent

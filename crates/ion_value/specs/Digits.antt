@@ -1,5 +1,5 @@
 -- Digits in text, and how numbers are cut into their parts.
-use Rattle.std.specs.Prelude.{ℕ, ◌-◌, Bool, true, false, not, ◌&&◌, ◌||◌, ◌==◌, nat_le, if◌then◌else◌, List, [], ◌∷◌, length, drop, map, filter}
+use Rattle.std.specs.Prelude.{ℕ, zero, suc, ◌+◌, ◌-◌, ◌/◌, ◌%◌, Bool, true, false, not, ◌&&◌, ◌||◌, ◌==◌, nat_le, if◌then◌else◌, List, [], ◌∷◌, ◌++◌, length, drop, map, filter}
 use Rattle.ion_value.specs.Number.{number}
 
 abbrev pub is_between : ℕ → ℕ → ℕ → Bool
@@ -56,3 +56,8 @@ without_minus run = if has_minus run then drop 1 run else run
 unfoldable pub cut_at : (ℕ → Bool) → List ℕ → List ℕ × List ℕ
 cut_at test [] = ([], [])
 cut_at test (b ∷ bytes) = if test b then ([], b ∷ bytes) else (b ∷ (cut_at test bytes).0, (cut_at test bytes).1)
+
+-- the last so many decimal digits of a number, with zeros at their front
+unfoldable pub fixed_digits : ℕ → ℕ → List ℕ
+fixed_digits zero n = []
+fixed_digits (suc count) n = fixed_digits count (n / 10) ++ (48 + n % 10) ∷ []

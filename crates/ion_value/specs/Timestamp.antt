@@ -7,7 +7,7 @@ use Rattle.ion_value.specs.declared.timestamp.Precision.{Precision}
 use Rattle.ion_value.specs.declared.timestamp.Precision.TheVariants.{Year, Month, Day, Minute, Second, Fraction}
 use Rattle.ion_value.specs.declared.timestamp.Timestamp.{Timestamp}
 use Rattle.ion_value.specs.Number.{number, var_uint, var_int_negative, var_int_magnitude, int_negative, int_magnitude, signed, var_cut, var_uint_octets, var_int_octets, coefficient_octets}
-use Rattle.ion_value.specs.Digits.{is_between, is_digit, digit_value, first_is, all_are, cut_at}
+use Rattle.ion_value.specs.Digits.{is_between, is_digit, digit_value, first_is, all_are, cut_at, fixed_digits}
 
 -- ---- local time and UTC
 
@@ -295,11 +295,6 @@ timestamp_of_text run =
     then date_in_range (fields Day (digits_at 0 4 run) (digits_at 5 2 run) (digits_at 8 2 run) 0 0 0 0)
     else (if looks_like (codes "0000-00-00T00:00") (take 16 run) then time_of_text run (cut_at is_offset_mark (drop 16 run))
     else Err BadToken)))
-
--- the last so many decimal digits of a number, with zeros at their front
-unfoldable pub fixed_digits : ℕ → ℕ → List ℕ
-fixed_digits zero n = []
-fixed_digits (suc count) n = fixed_digits count (n / 10) ++ (48 + n % 10) ∷ []
 
 abbrev pub day_text : Timestamp → List ℕ
 day_text t = fixed_digits 4 t.year ++ (45 ∷ (fixed_digits 2 t.month ++ (45 ∷ fixed_digits 2 t.day)))

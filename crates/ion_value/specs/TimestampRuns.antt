@@ -7,8 +7,8 @@ use Rattle.ion_value.specs.declared.timestamp.Timestamp.{Timestamp}
 use Rattle.ion_value.specs.declared.timestamp_text.Digits.{Digits}
 use Rattle.ion_value.specs.declared.timestamp_text.TextOffset.{TextOffset}
 use Rattle.ion_value.specs.Number.{number, signed}
-use Rattle.ion_value.specs.Digits.{is_digit, digit_value, first_is, all_are, cut_at}
-use Rattle.ion_value.specs.Timestamp.{fields, looks_like, digits_at, is_offset_mark, has_offset_shape, is_text_offset, offset_of_text, date_in_range, time_in_range, fixed_digits}
+use Rattle.ion_value.specs.Digits.{is_digit, digit_value, first_is, all_are, cut_at, fixed_digits}
+use Rattle.ion_value.specs.Timestamp.{fields, looks_like, digits_at, is_offset_mark, has_offset_shape, is_text_offset, offset_of_text, date_in_range, time_in_range}
 
 -- the number of two or four bytes, where they are digits
 abbrev pub two_digits : ℕ → ℕ → Option ℕ

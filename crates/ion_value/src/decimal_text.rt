@@ -1,11 +1,13 @@
 //! Decimals in text.
-ghost use Rattle.std.specs.Prelude.{◌≡◌, ◌⊎◌, ◌-ℤ◌, ℕ, ℤ, pos, [], drop, ◌==◌, if◌then◌else◌, IfOk, IfErr};
+ghost use Rattle.std.specs.Prelude.{◌≡◌, ◌⊎◌, ◌-ℤ◌, ◌^◌, ◌<◌, ◌≤◌, ℕ, ℤ, pos, [], ◌∷◌, ◌++◌, drop, decimal, ◌==◌, if◌then◌else◌, IfOk, IfErr};
 ghost use Rattle.ion_value.specs.Number.{signed};
 ghost use Rattle.ion_value.specs.Digits.{first_is};
-ghost use Rattle.ion_value.specs.Decimal.{IsDecimal, has_sign, decimal_in_range, decimal_of_text, decimal_text};
+ghost use Rattle.ion_value.specs.Decimal.{IsDecimal, has_sign, decimal_in_range, decimal_of_text, decimal_text, magnitude_text, pointed_text, power_text};
+ghost use Rattle.arrayvec.specs.ArrayString.{array_string_len};
 ghost use Rattle.ion_value.specs.DigitReading.{in_128, read_fraction, Answers, ReadsMantissa, ReadsExponent, GivesExponent, ReadsPower};
 
 use crate::decimal::Decimal;
+use crate::digit_text::{push_byte, push_digits, push_fraction};
 use crate::digits::{Digits, digits_after, sign, whole_digits};
 use arrayvec::ArrayString;
 use ion_meter::fault::Reason;
@@ -219,22 +221,105 @@ fn in_range(
     }
 }
 
-/// The text of a decimal: its coefficient's decimal digits, `d`, and its exponent with a minus where
-/// that is below zero, behind a minus where the decimal has one (Ion specification, "Real
-/// Numbers").
-pub fn decimal_to_text(decimal: Decimal) -> ArrayString<52>
+/// The text of a decimal, behind a minus where it has one (Ion specification, "Real Numbers").
+///
+/// With an exponent from 0 down to -38 it has a point, and as many digits behind it as the exponent
+/// says: `15.`, `1.5`, `0.015`. With any other it is the coefficient's digits, `d` and the exponent:
+/// `15d1`, `1d-39`. Zeros behind the point and the sign of zero are kept.
+pub fn decimal_to_text(decimal: Decimal) -> ArrayString<64>
     requires { IsDecimal decimal }
     ensures { result.bytes ≡ decimal_text decimal }
 {
     let mut text = ArrayString::new();
     if decimal.negative {
-        text.push_str("-");
+        push_byte(&mut text, b'-');
     }
-    let mut buffer = Buffer::new();
-    text.push_str(buffer.format(decimal.coefficient));
-    text.push_str("d");
-    text.push_str(buffer.format(decimal.exponent));
+    push_magnitude(&mut text, decimal.coefficient, decimal.exponent);
     text
+}
+
+// Adds a coefficient with its exponent.
+#[inline]
+fn push_magnitude(text: &mut ArrayString<64>, number: u128, exponent: i32)
+    requires room { array_string_len text.old ≤ 1 }
+    ensures { text.new.bytes ≡ text.old.bytes ++ magnitude_text number exponent }
+{
+    if exponent == 0 {
+        push_whole(text, number);
+    } else if exponent < 0 && exponent >= -38 {
+        push_pointed(text, number, exponent.unsigned_abs() as u8);
+    } else {
+        push_power(text, number, exponent);
+    }
+}
+
+// Adds a number and a point.
+#[inline]
+fn push_whole(text: &mut ArrayString<64>, number: u128)
+    requires room { array_string_len text.old ≤ 1 }
+    ensures { text.new.bytes ≡ text.old.bytes ++ (decimal number ++ (46 ∷ [])) }
+{
+    let mut buffer = Buffer::new();
+    text.push_str(buffer.format(number));
+    push_byte(text, b'.');
+}
+
+// Adds a number with a point before its last digits.
+#[inline]
+fn push_pointed(text: &mut ArrayString<64>, number: u128, places: u8)
+    requires room { array_string_len text.old ≤ 1 }
+    requires some { 1 ≤ places }
+    requires few { places ≤ 38 }
+    ensures { text.new.bytes ≡ text.old.bytes ++ pointed_text number places }
+{
+    if number <= u64::MAX as u128 && places <= 19 {
+        push_short(text, number as u64, places);
+    } else {
+        push_long(text, number, places);
+    }
+}
+
+// The same in 64 bits.
+#[inline]
+fn push_short(text: &mut ArrayString<64>, number: u64, places: u8)
+    requires room { array_string_len text.old ≤ 1 }
+    requires some { 1 ≤ places }
+    requires few { places ≤ 19 }
+    ensures { text.new.bytes ≡ text.old.bytes ++ pointed_text number places }
+{
+    let power = 10u64.pow(u32::from(places));
+    let mut buffer = Buffer::new();
+    text.push_str(buffer.format(number / power));
+    push_byte(text, b'.');
+    push_digits(text, places, number % power);
+}
+
+// The same in 128 bits.
+#[cold]
+#[inline(never)]
+fn push_long(text: &mut ArrayString<64>, number: u128, places: u8)
+    requires room { array_string_len text.old ≤ 1 }
+    requires some { 1 ≤ places }
+    requires few { places ≤ 38 }
+    ensures { text.new.bytes ≡ text.old.bytes ++ pointed_text number places }
+{
+    let power = 10u128.pow(u32::from(places));
+    let mut buffer = Buffer::new();
+    text.push_str(buffer.format(number / power));
+    push_byte(text, b'.');
+    push_fraction(text, places, number % power);
+}
+
+// Adds a number, a `d` and an exponent.
+#[inline]
+fn push_power(text: &mut ArrayString<64>, number: u128, exponent: i32)
+    requires room { array_string_len text.old ≤ 1 }
+    ensures { text.new.bytes ≡ text.old.bytes ++ power_text number exponent }
+{
+    let mut buffer = Buffer::new();
+    text.push_str(buffer.format(number));
+    push_byte(text, b'd');
+    text.push_str(buffer.format(exponent));
 }
 
 #[cfg(test)]
@@ -340,8 +425,34 @@ mod tests {
     #[test]
     fn reads_the_decimals_that_it_writes(rt: HostRuntime) {
         for (negative, coefficient, exponent, want) in [
-            (true, 0, 0, "-0d0"),
-            (false, 15, -1, "15d-1"),
+            (true, 0, 0, "-0."),
+            (false, 15, 0, "15."),
+            (false, 15, -1, "1.5"),
+            (false, 5, -3, "0.005"),
+            (true, 5, -1, "-0.5"),
+            (false, 0, -2, "0.00"),
+            (false, 15, 1, "15d1"),
+            (false, 1, -38, "0.00000000000000000000000000000000000001"),
+            (false, 1, -39, "1d-39"),
+            (
+                false,
+                10_000_000_000_000_000_000,
+                -19,
+                "1.0000000000000000000",
+            ),
+            (
+                false,
+                18_446_744_073_709_551_616,
+                -19,
+                "1.8446744073709551616",
+            ),
+            (false, 7, -20, "0.00000000000000000007"),
+            (
+                false,
+                u128::MAX,
+                -38,
+                "3.40282366920938463463374607431768211455",
+            ),
             (
                 false,
                 u128::MAX,

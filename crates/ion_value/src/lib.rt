@@ -4,6 +4,7 @@
 
 pub mod decimal;
 mod decimal_text;
+mod digit_text;
 mod digits;
 pub mod int;
 mod int_field;

@@ -2,16 +2,16 @@
 ghost use Rattle.std.specs.Prelude.{◌≡◌, ℕ, ◌⊎◌, ◌↔◌, ◌+◌, ◌*◌, ◌^◌, ◌<◌, ◌≤◌, pos, ◌≤ℤ◌, true, false, ◌&&◌, nat_le, IsTrue, List, [], ◌∷◌, ◌++◌, length, take, drop, map, IfOk, IfErr, IfSome, MatchOption};
 ghost use Rattle.jiff_core.specs.Calendar.{IsCivilDate};
 ghost use Rattle.ion_value.specs.Number.{number};
-ghost use Rattle.ion_value.specs.Digits.{digit_value, first_is, all_are, is_digit};
-ghost use Rattle.ion_value.specs.Timestamp.{IsTimestamp, IsMoment, IsOffset, date_in_range, has_offset_shape, time_in_range, timestamp_of_text, fixed_digits, day_text, minute_text, second_text, minutes_text, offset_text, timestamp_text};
+ghost use Rattle.ion_value.specs.Digits.{digit_value, first_is, all_are, is_digit, fixed_digits};
+ghost use Rattle.ion_value.specs.Timestamp.{IsTimestamp, IsMoment, IsOffset, date_in_range, has_offset_shape, time_in_range, timestamp_of_text, day_text, minute_text, second_text, minutes_text, offset_text, timestamp_text};
 ghost use Rattle.ion_value.specs.TimestampRuns.{outcome, with_offset, with_fraction, behind_second, behind_minute, behind_day, behind_month, behind_year, from_year, offset_in_range, offset_of, IsOffsetOf, AreDigits, AreFront, month_text};
 ghost use Rattle.ion_value.specs.TimestampRuns as spec;
 ghost use Rattle.arrayvec.specs.ArrayString.{array_string_len};
 
+use crate::digit_text::{push_byte, push_fraction};
 use crate::timestamp::{Precision, Timestamp};
 use arrayvec::ArrayString;
 use ion_meter::fault::Reason;
-use itoa::Buffer;
 use jiff::civil::Date;
 
 /// The most digits that a fraction may have.
@@ -19,9 +19,6 @@ const MOST_DIGITS: usize = 38;
 
 /// So many digits 64 bits hold, whichever they are.
 const DIGITS_IN_64_BITS: usize = 19;
-
-/// Below it are the numbers of so many digits.
-const TEN_TO_19: u128 = 10_000_000_000_000_000_000;
 
 /// Reads a timestamp in text (Ion specification, "Timestamps").
 #[inline]
@@ -430,17 +427,6 @@ pub fn timestamp_to_text(timestamp: Timestamp) -> ArrayString<64>
     text
 }
 
-// Adds a byte of ASCII.
-#[inline]
-fn push_byte(text: &mut ArrayString<64>, byte: u8)
-    requires ascii { byte < 128 }
-    requires room { array_string_len text.old < 64 }
-    ensures text { text.new.bytes ≡ text.old.bytes ++ byte ∷ [] }
-    ensures len { array_string_len text.new ≡ array_string_len text.old + 1 }
-{
-    text.push(byte as char);
-}
-
 // Adds two digits.
 #[inline]
 fn push_two(text: &mut ArrayString<64>, number: u8)
@@ -517,41 +503,6 @@ fn push_second(text: &mut ArrayString<64>, timestamp: &Timestamp)
     push_minute(text, timestamp);
     push_byte(text, b':');
     push_two(text, timestamp.second);
-}
-
-// Adds so many digits of a fraction.
-#[inline]
-fn push_fraction(text: &mut ArrayString<64>, count: u8, fraction: u128)
-    requires some { 1 ≤ count }
-    requires few { count ≤ 38 }
-    requires small { fraction < 10 ^ count }
-    requires room { array_string_len text.old + count ≤ 64 }
-    ensures text { text.new.bytes ≡ text.old.bytes ++ fixed_digits count fraction }
-    ensures len { array_string_len text.new ≡ array_string_len text.old + count }
-{
-    if fraction < TEN_TO_19 {
-        push_digits(text, count, fraction as u64);
-    } else {
-        push_digits(text, count - 19, (fraction / TEN_TO_19) as u64);
-        push_digits(text, 19, (fraction % TEN_TO_19) as u64);
-    }
-}
-
-// Adds so many digits of a number.
-#[inline]
-fn push_digits(text: &mut ArrayString<64>, count: u8, number: u64)
-    requires some { 1 ≤ count }
-    requires small { number < 10 ^ count }
-    requires room { array_string_len text.old + count ≤ 64 }
-    ensures text { text.new.bytes ≡ text.old.bytes ++ fixed_digits count number }
-    ensures len { array_string_len text.new ≡ array_string_len text.old + count }
-{
-    let mut buffer = Buffer::new();
-    let digits = buffer.format(number);
-    'zeros: for _ in digits.len()..count as usize {
-        push_byte(text, b'0');
-    }
-    text.push_str(digits);
 }
 
 // Adds an offset.

@@ -35,9 +35,9 @@ const NUMBERS: &[Row] = &[
         b"-340282366920938463463374607431768211455\n",
     ),
     (Part::Int(b"0xff"), b"255\n"),
-    (Part::Decimal(b"0."), b"0d0\n"),
-    (Part::Decimal(b"-0."), b"-0d0\n"),
-    (Part::Decimal(b"1.2"), b"12d-1\n"),
+    (Part::Decimal(b"0."), b"0.\n"),
+    (Part::Decimal(b"-0."), b"-0.\n"),
+    (Part::Decimal(b"12d-1"), b"1.2\n"),
     (Part::Decimal(b"-1d5"), b"-1d5\n"),
 ];
 

@@ -1,4 +1,4 @@
-use Rattle.ion_value.proofs.TextDecimals.{decimal_text-is_read}
+use Rattle.ion_value.proofs.DecimalRoundTrip.{decimal_text-is_read}
 use Rattle.ion_value.proofs.laws.decimal_text_is_read.Goals as goal
 
 pub returns : goal.returns

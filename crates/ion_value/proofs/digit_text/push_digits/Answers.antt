@@ -1,6 +1,6 @@
 use Rattle.std.proofs.Common.{arith, length, ap, ◌∙◌, ◌++◌}
 use Rattle.ion_value.proofs.FixedDigits.{zeros-none, decimal-within, padded-written}
-use Rattle.ion_value.proofs.timestamp_text.push_digits.Goals as goal
+use Rattle.ion_value.proofs.digit_text.push_digits.Goals as goal
 
 pub zeros-init : goal.zeros-init
 zeros-init c =

@@ -1,5 +1,5 @@
 use Rattle.ion_value.proofs.FixedDigits.{high-digits, high-fits, high-low}
-use Rattle.ion_value.proofs.timestamp_text.push_fraction.Goals as goal
+use Rattle.ion_value.proofs.digit_text.push_fraction.Goals as goal
 
 pub overflow_cast-fraction-else-fraction-lt-TEN_TO_19 :
     goal.overflow_cast-fraction-else-fraction-lt-TEN_TO_19

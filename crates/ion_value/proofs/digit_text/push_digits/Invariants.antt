@@ -1,5 +1,5 @@
 use Rattle.std.proofs.Common.{◌≡◌, ◌-◌, ◌≤◌, ◌++◌, length, replicate}
-use Rattle.ion_value.proofs.timestamp_text.push_digits.Given as goal
+use Rattle.ion_value.proofs.digit_text.push_digits.Given as goal
 
 abbrev pub invariant-zeros : goal.invariant-zeros
 invariant-zeros l = record {

@@ -9,8 +9,7 @@ use Rattle.ion_meter.specs.declared.fault.Reason.{Reason}
 use Rattle.ion_meter.specs.declared.limits.Limits.{Limits}
 use Rattle.ion_value.specs.Scalar.{scalar_of_body}
 use Rattle.ion_value.specs.Value.{Symbol, Scalar, string}
-use Rattle.ion_binary.specs.Positions.{Cursor}
-use Rattle.ion_meter.specs.Sources.{skip}
+use Rattle.ion_meter.specs.Sources.{Cursor, skip}
 use Rattle.ion_binary.specs.Parts.{body_here}
 
 -- a test that is true of UTF-8 alone is the one of the grammar

@@ -5,8 +5,7 @@ use Rattle.ion_meter.specs.declared.fault.Fault.{Fault}
 use Rattle.ion_meter.specs.declared.fault.Fault.TheVariants.{Refused, Memory, ReadFault, WriteFault, InputLimit}
 use Rattle.ion_meter.specs.declared.fault.Reason.{Reason}
 use Rattle.ion_meter.specs.Windows.{Incoming, left, Extends}
-use Rattle.ion_binary.specs.Positions.{Cursor}
-use Rattle.ion_meter.specs.Sources.{cursor, Moves}
+use Rattle.ion_meter.specs.Sources.{Cursor, cursor, Moves}
 use Rattle.ion_value.specs.Answers.{Answers}
 
 pub moves-then : {I : Type 0} (device : InputOf I) (s t u : Incoming I) → Moves device s t → Moves device t u → Moves device s u

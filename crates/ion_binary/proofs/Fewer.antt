@@ -10,8 +10,8 @@ use Rattle.ion_value.specs.Scalar.{scalar_of_body}
 use Rattle.ion_value.specs.Value as value
 use Rattle.ion_value.specs.Value.{Symbol, SymbolAt, Scalar}
 use Rattle.ion_value.specs.Reading.{Step, Ends, Stops, Gives, GoesOn, Leaves, behind_item, behind_nothing, Shrinks}
-use Rattle.ion_binary.specs.Positions.{Cursor, Frame, State}
-use Rattle.ion_meter.specs.Sources.{skip}
+use Rattle.ion_binary.specs.Positions.{Frame, State}
+use Rattle.ion_meter.specs.Sources.{Cursor, skip}
 use Rattle.ion_value.specs.Parts.{◌>>=◌, ◌>>◌, refuse, Placed, part}
 use Rattle.ion_binary.specs.Descriptor.{Region, is_at_end, passes, falls_short, first_octet, octet_at, var_at, var_uint_at, length_at, Shape, null, bool, pad, wrapper, body, container, sorted, marker, float, illegal, shape_of, is_unwrappable}
 use Rattle.ion_binary.specs.Reading.{Around, Found, a_pad, a_marker, a_scalar, a_container, marker_rest, is_top, marker_at, fits, bare_at, pad_at, body_at, scalar_at, begin_at, container_at, sorted_at, by_shape, found_at, Wrapped, wrapper_at, ids_at, region_of, field_in, field_at, item_of, given, plain_at, inner_at, annotated_at, wrapper_length, by_wrapper, value_at, top_of, member_at, step_of, top_step, step_in, step, size}

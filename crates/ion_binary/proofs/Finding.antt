@@ -11,8 +11,7 @@ use Rattle.ion_value.specs.declared.ion_type.Kind.TheVariants as kind
 use Rattle.ion_value.specs.Scalar.{scalar_of_body}
 use Rattle.ion_value.specs.Value as value
 use Rattle.ion_value.specs.Value.{Symbol, Scalar}
-use Rattle.ion_binary.specs.Positions.{Cursor}
-use Rattle.ion_meter.specs.Sources.{skip}
+use Rattle.ion_meter.specs.Sources.{Cursor, skip}
 use Rattle.ion_binary.specs.Descriptor.{Region, passes, falls_short, Shape, null_shapes, sized_shapes, shape_by, shape_of, length_at, var_uint_at, is_unwrappable}
 use Rattle.ion_binary.specs.Reading.{Around, Found, a_pad, a_marker, a_scalar, a_container, marker_rest, is_top, marker_at, fits, bare_at, pad_at, body_at, scalar_at, begin_at, container_at, sorted_at, by_shape, found_at}
 use Rattle.ion_binary.specs.Grammar.{IsNullOf, IsPad, Front, Plain, code}

@@ -16,8 +16,7 @@ use Rattle.ion_meter.proofs.Lent.{lent-take, lent-CanPass}
 use Rattle.ion_value.specs.declared.ion_type.Kind.{Kind}
 use Rattle.ion_value.specs.declared.ion_type.Kind.TheVariants as kind
 use Rattle.ion_value.specs.Scalar.{scalar_of_body}
-use Rattle.ion_binary.specs.Positions.{Cursor}
-use Rattle.ion_meter.specs.Sources.{skip}
+use Rattle.ion_meter.specs.Sources.{Cursor, skip}
 use Rattle.ion_value.specs.Parts.{◌>>=◌, ◌>>◌, refuse}
 use Rattle.ion_binary.specs.Descriptor.{Region, Shape, bool_shape, struct_shape, wrapper_shape, null_shapes, sized_shapes, shape_of, length_at, var_uint_at, is_unwrappable}
 use Rattle.ion_binary.specs.Reading.{Around, a_marker, a_scalar, a_container, marker_rest, marker_at, fits, body_at, scalar_at, begin_at, container_at, sorted_at, by_shape, found_at}

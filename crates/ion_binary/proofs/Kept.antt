@@ -10,7 +10,8 @@ use Rattle.ion_value.specs.Value as value
 use Rattle.ion_value.specs.Value.{Symbol, SymbolAt, Scalar, Value, Top, PlacedItem, value_items, bare_item}
 use Rattle.ion_value.specs.Path.{outermost, inner, Path, closed, opened, path_items}
 use Rattle.ion_value.specs.Reading.{Step, Gives, GoesOn}
-use Rattle.ion_binary.specs.Positions.{Cursor, Frame, State, placed_scalar}
+use Rattle.ion_binary.specs.Positions.{Frame, State, placed_scalar}
+use Rattle.ion_meter.specs.Sources.{Cursor}
 use Rattle.ion_binary.specs.Descriptor.{Region, Shape, shape_of, octet_at}
 use Rattle.ion_value.specs.Parts.{Placed, part}
 use Rattle.ion_binary.specs.Reading.{Around, Found, a_pad, a_marker, a_scalar, a_container, found_at, Wrapped, wrapper_at, ids_at, region_of, field_at, item_of, given, plain_at, inner_at, annotated_at, wrapper_length, by_wrapper, value_at, top_of, member_at, step_of, top_step, step_in, step}

@@ -8,7 +8,8 @@ use Rattle.ion_value.specs.declared.ion_type.Kind.{Kind}
 use Rattle.ion_value.specs.declared.ion_type.Kind.TheVariants as kind
 use Rattle.ion_value.specs.Value.{SymbolAt, PlacedItem}
 use Rattle.ion_value.specs.Reading.{Reading, Step, Ends, Stops, Gives, GoesOn, next_reading, reading_for}
-use Rattle.ion_binary.specs.Positions.{Cursor, Frame, State}
+use Rattle.ion_binary.specs.Positions.{Frame, State}
+use Rattle.ion_meter.specs.Sources.{Cursor}
 use Rattle.ion_value.specs.Parts.{◌>>=◌, ◌>>◌, refuse, Placed, part}
 use Rattle.ion_binary.specs.Descriptor.{var_uint_at, Shape, null, bool, pad, wrapper, body, container, sorted, marker, float, illegal, shape_of}
 use Rattle.ion_binary.specs.Reading.{Around, body_at, scalar_at, begin_at, container_at, sorted_at, by_shape, found_at, ids_at, plain_at, inner_at, annotated_at, wrapper_length, by_wrapper, value_at, top_of, member_at, step_of, top_step, step_in, step, size, start, reading}

@@ -14,7 +14,8 @@ use Rattle.ion_value.specs.Items.{raw_annotation}
 use Rattle.ion_value.specs.Name.{raw_id}
 use Rattle.ion_value.specs.Shares.{Charges}
 use Rattle.ion_value.specs.Value.{SymbolAt}
-use Rattle.ion_binary.specs.Positions.{Cursor, symbol_id}
+use Rattle.ion_binary.specs.Positions.{symbol_id}
+use Rattle.ion_meter.specs.Sources.{Cursor}
 use Rattle.ion_value.specs.Parts.{◌>>=◌, Placed}
 use Rattle.ion_binary.specs.Descriptor.{var_uint_at}
 use Rattle.ion_value.specs.Answers.{Answers, AnswersAt}

@@ -23,7 +23,8 @@ use Rattle.ion_binary.specs.declared.wrapper.Frame as frame
 use Rattle.ion_binary.specs.declared.reader.What.{What}
 use Rattle.ion_binary.specs.declared.reader.Taken.{Taken}
 use Rattle.ion_binary.specs.declared.reader.Taken.TheVariants as taken
-use Rattle.ion_binary.specs.Positions.{Cursor, Frame, State, placed_scalar}
+use Rattle.ion_binary.specs.Positions.{Frame, State, placed_scalar}
+use Rattle.ion_meter.specs.Sources.{Cursor}
 use Rattle.ion_value.specs.Parts.{◌>>=◌, Placed, part}
 use Rattle.ion_binary.specs.Reading.{region_of, field_at, value_at, item_of, member_at, top_of, top_step, step_of, step}
 use Rattle.ion_binary.specs.Bodies.{as_scalar}

@@ -6,7 +6,8 @@ use Rattle.ion_meter.specs.declared.limits.Limits.{Limits}
 use Rattle.ion_value.specs.declared.ion_type.Kind.{Kind}
 use Rattle.ion_value.specs.Number.{IsVar, VarUInt}
 use Rattle.ion_value.specs.Value.{SymbolAt}
-use Rattle.ion_binary.specs.Positions.{Cursor, Frame}
+use Rattle.ion_binary.specs.Positions.{Frame}
+use Rattle.ion_meter.specs.Sources.{Cursor}
 use Rattle.ion_binary.specs.Descriptor.{Region, is_at_end, octet_at, var_at, var_uint_at, length_at}
 use Rattle.ion_binary.specs.Grammar.{Descriptor, Ids, Field}
 use Rattle.ion_binary.specs.Paths.{FieldIn, Within}

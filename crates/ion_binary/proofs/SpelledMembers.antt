@@ -8,7 +8,8 @@ use Rattle.ion_value.specs.declared.ion_type.Kind.{Kind}
 use Rattle.ion_value.specs.Value as value
 use Rattle.ion_value.specs.Value.{SymbolAt}
 use Rattle.ion_value.specs.Reading.{Step, Ends, Gives}
-use Rattle.ion_binary.specs.Positions.{Cursor, Frame, State}
+use Rattle.ion_binary.specs.Positions.{Frame, State}
+use Rattle.ion_meter.specs.Sources.{Cursor}
 use Rattle.ion_binary.specs.Descriptor.{Region, octet_at, var_uint_at, length_at, wrapper, shape_by, shape_of}
 use Rattle.ion_binary.specs.Grammar.{Wrapper, Annotated, Ids}
 use Rattle.ion_binary.specs.Paths.{FieldIn, Within, frame_of}

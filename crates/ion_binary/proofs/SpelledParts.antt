@@ -10,8 +10,7 @@ use Rattle.ion_value.specs.declared.ion_type.Kind.TheVariants as kind
 use Rattle.ion_value.specs.Scalar.{scalar_of_body}
 use Rattle.ion_value.specs.Value as value
 use Rattle.ion_value.specs.Value.{Symbol, Scalar}
-use Rattle.ion_binary.specs.Positions.{Cursor}
-use Rattle.ion_meter.specs.Sources.{skip}
+use Rattle.ion_meter.specs.Sources.{Cursor, skip}
 use Rattle.ion_binary.specs.Descriptor.{Region, passes, falls_short, var_uint_at, length_at, Shape, null, bool, pad, body, container, sorted, marker, shape_by, shape_of, is_unwrappable}
 use Rattle.ion_binary.specs.Grammar.{IsNullOf, Body, Plain, IsPad, Front, code}
 use Rattle.ion_binary.specs.Laws.{Bodies}

@@ -4,8 +4,7 @@ use Rattle.std.proofs.lemmas.Bool.{ltb-false, ltb-true, leb-false, eqb-true, eqb
 use Rattle.std.proofs.lemmas.List.{length-append, take-append-drop, length-take}
 use Rattle.ion_meter.specs.declared.fault.Reason.{Reason}
 use Rattle.ion_value.specs.Number.{IsVar, VarUInt, var_uint}
-use Rattle.ion_binary.specs.Positions.{Cursor}
-use Rattle.ion_meter.specs.Sources.{skip}
+use Rattle.ion_meter.specs.Sources.{Cursor, skip}
 use Rattle.ion_value.specs.Parts.{◌>>=◌, ◌>>◌, refuse, part}
 use Rattle.ion_binary.specs.Descriptor.{Region, is_at_end, first_octet, octet_at, var_at, var_uint_at, length_at}
 use Rattle.ion_binary.specs.Grammar.{Descriptor, short, long}

@@ -8,7 +8,8 @@ use Rattle.ion_value.specs.Value.{SymbolAt}
 use Rattle.ion_value.specs.Reading.{Step}
 use Rattle.ion_binary.specs.declared.body.Body.{Body}
 use Rattle.ion_binary.specs.declared.found.Found as found
-use Rattle.ion_binary.specs.Positions.{Cursor, Frame, State}
+use Rattle.ion_binary.specs.Positions.{Frame, State}
+use Rattle.ion_meter.specs.Sources.{Cursor}
 use Rattle.ion_value.specs.Parts.{◌>>=◌, Placed, part}
 use Rattle.ion_binary.specs.Descriptor.{Region, octet_at, shape_of}
 use Rattle.ion_binary.specs.Reading.{Wrapped, region_of, given, found_at, wrapper_at, ids_at, plain_at, inner_at, annotated_at, value_at, wrapper_length}

@@ -7,7 +7,7 @@ use Rattle.ion_meter.specs.declared.fault.Reason.{Reason}
 use Rattle.ion_meter.specs.declared.fault.Reason.TheVariants.{BadVar}
 use Rattle.ion_value.proofs.Numbers.{seven-low}
 use Rattle.ion_value.specs.Number.{var_uint}
-use Rattle.ion_binary.specs.Positions.{Cursor}
+use Rattle.ion_meter.specs.Sources.{Cursor}
 use Rattle.ion_value.specs.Parts.{◌>>=◌}
 use Rattle.ion_binary.specs.Descriptor.{Region, octet_at, var_at, var_uint_at}
 use Rattle.ion_binary.specs.Parts.{var_from}

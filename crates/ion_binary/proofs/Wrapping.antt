@@ -8,7 +8,8 @@ use Rattle.ion_value.specs.declared.ion_type.Kind.{Kind}
 use Rattle.ion_value.specs.declared.ion_type.Kind.TheVariants as kind
 use Rattle.ion_value.specs.Number.{VarUInt}
 use Rattle.ion_value.specs.Value.{SymbolAt}
-use Rattle.ion_binary.specs.Positions.{Cursor, symbol_id, Frame}
+use Rattle.ion_binary.specs.Positions.{symbol_id, Frame}
+use Rattle.ion_meter.specs.Sources.{Cursor}
 use Rattle.ion_value.specs.Parts.{refuse, part}
 use Rattle.ion_binary.specs.Descriptor.{Region, passes, length_at, var_uint_at}
 use Rattle.ion_binary.specs.Reading.{Wrapped, wrapper_at, ids_at, region_of, field_in, field_at}

@@ -2,7 +2,7 @@
 use Rattle.std.proofs.Common.{refl, ap, sym, ◌∙◌, ◌≡◌, ℕ, ◌+◌, Bool, nat_lt, nat_le, nat_eq, ◌||◌, Some, Result, Ok, Err}
 use Rattle.ion_meter.specs.declared.fault.Reason.{Reason}
 use Rattle.ion_meter.specs.declared.fault.Reason.TheVariants.{Overrun, BadAnnotation}
-use Rattle.ion_binary.specs.Positions.{Cursor}
+use Rattle.ion_meter.specs.Sources.{Cursor}
 use Rattle.ion_value.specs.Parts.{◌>>◌, refuse}
 use Rattle.ion_binary.specs.Descriptor.{Region, passes, var_uint_at, length_at}
 use Rattle.ion_binary.specs.Reading.{Wrapped, wrapper_at}

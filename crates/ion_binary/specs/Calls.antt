@@ -7,8 +7,7 @@ use Rattle.ion_meter.specs.declared.fault.Reason.{Reason}
 use Rattle.ion_meter.specs.declared.limits.Limits.{Limits}
 use Rattle.ion_meter.specs.Windows.{Incoming}
 use Rattle.ion_value.specs.Shares.{Charges, ReadCauses, fault_of}
-use Rattle.ion_binary.specs.Positions.{Cursor}
-use Rattle.ion_meter.specs.Sources.{cursor, Exceeds, Stands, Moves, Causes}
+use Rattle.ion_meter.specs.Sources.{Cursor, cursor, Exceeds, Stands, Moves, Causes}
 use Rattle.ion_value.specs.Answers.{Answers}
 
 -- a call that may take so many counted bytes more may begin, the buffer being of this text

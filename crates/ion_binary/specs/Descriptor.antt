@@ -8,7 +8,7 @@ use Rattle.ion_value.specs.declared.ion_type.Kind.{Kind}
 use Rattle.ion_value.specs.declared.ion_type.Kind.TheVariants as kind
 use Rattle.ion_value.specs.Number.{var_uint}
 use Rattle.ion_value.specs.Parts.{◌>>=◌, ◌>>◌}
-use Rattle.ion_binary.specs.Positions.{Cursor}
+use Rattle.ion_meter.specs.Sources.{Cursor}
 
 -- ---- regions
 

@@ -7,8 +7,7 @@ use Rattle.ion_meter.specs.declared.fault.Reason.TheVariants.{BadVar, ScalarLimi
 use Rattle.ion_meter.specs.declared.limits.Limits.{Limits}
 use Rattle.ion_value.specs.Scalar.{scalar_of_body}
 use Rattle.ion_value.specs.Value.{Symbol, Scalar}
-use Rattle.ion_binary.specs.Positions.{Cursor}
-use Rattle.ion_meter.specs.Sources.{skip}
+use Rattle.ion_meter.specs.Sources.{Cursor, skip}
 use Rattle.ion_value.specs.Parts.{◌>>=◌, ◌>>◌, refuse, Placed}
 use Rattle.ion_binary.specs.Descriptor.{Region, octet_at}
 
@@ -26,12 +25,3 @@ body_here limits code n c = do
   refuse (nat_lt (length c.rest) n) Truncated
   v ← scalar_of_body code (take n c.rest)
   Ok (v, skip n c)
-
--- what a call answers by what reading gives with the place of each fault
-abbrev pub AnswersPlaced : {T A : Type 0} → (T → A) → Result T Fault → Placed A → Type 0
-AnswersPlaced view (Ok x) given = given ≡ Ok (view x)
-AnswersPlaced view (Err (Refused reason at)) given = given ≡ Err (reason, at)
-AnswersPlaced view (Err Memory) given = Unit {0}
-AnswersPlaced view (Err ReadFault) given = Unit {0}
-AnswersPlaced view (Err WriteFault) given = Unit {0}
-AnswersPlaced view (Err InputLimit) given = Unit {0}

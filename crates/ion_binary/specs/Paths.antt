@@ -4,7 +4,8 @@ use Rattle.ion_value.specs.declared.ion_type.Kind.{Kind}
 use Rattle.ion_value.specs.Value.{SymbolAt, Members, Top}
 use Rattle.ion_value.specs.Path.{outermost, inner, Path, closed, opened, path_items}
 use Rattle.ion_value.specs.Reading.{Step, Ends, Stops, Gives, GoesOn}
-use Rattle.ion_binary.specs.Positions.{Cursor, Frame, State}
+use Rattle.ion_binary.specs.Positions.{Frame, State}
+use Rattle.ion_meter.specs.Sources.{Cursor}
 use Rattle.ion_binary.specs.Grammar.{Field, Front, Annotated, Inside, Tops}
 
 -- what stands before a value where containers are open: a field where the innermost of them is a struct

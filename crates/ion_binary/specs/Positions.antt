@@ -1,13 +1,9 @@
 -- What the grammar and the reading share: where a stream is read, and what a symbol's place is.
 use Rattle.std.specs.Prelude.{ℕ, List}
+use Rattle.ion_meter.specs.Sources.{Cursor}
 use Rattle.ion_value.specs.declared.ion_type.Kind.{Kind}
 use Rattle.ion_value.specs.Name.{raw_id}
 use Rattle.ion_value.specs.Value.{Symbol, Id, SymbolAt, Scalar, map_scalar}
-
--- the bytes that are still to be read, and the place of the first of them
-pub record Cursor : Type 0 where
-  pub place : ℕ
-  pub rest : List ℕ
 
 -- an open container, known by the place of its end
 pub record Frame : Type 0 where

@@ -10,9 +10,9 @@ use Rattle.ion_value.specs.Value as value
 use Rattle.ion_value.specs.Value.{Symbol, SymbolAt, Scalar, Head, PlacedItem}
 use Rattle.ion_value.specs.Reading.{Reading, Step, Ends, Stops, Gives, GoesOn, reading_by}
 use Rattle.ion_value.specs.Parts.{Placed, part, ◌>>=◌, ◌>>◌, refuse}
-use Rattle.ion_binary.specs.Positions.{Cursor, symbol_id, placed_scalar}
+use Rattle.ion_binary.specs.Positions.{symbol_id, placed_scalar}
+use Rattle.ion_meter.specs.Sources.{Cursor, skip}
 pub use Rattle.ion_binary.specs.Positions.{Frame, State}
-use Rattle.ion_meter.specs.Sources.{skip}
 use Rattle.ion_binary.specs.Descriptor.{Region, passes, falls_short, octet_at, var_uint_at, length_at, Shape, null, bool, pad, wrapper, body, container, sorted, marker, float, illegal, shape_of, is_unwrappable}
 
 -- ---- the part that is a descriptor, a length and, for a scalar, a body

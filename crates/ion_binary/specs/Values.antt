@@ -5,11 +5,12 @@ use Rattle.ion_value.specs.Value.{SymbolAt}
 use Rattle.ion_value.specs.Reading.{Step}
 use Rattle.ion_binary.specs.declared.body.Body.{Body}
 use Rattle.ion_binary.specs.declared.found.Found as found
-use Rattle.ion_binary.specs.Positions.{Cursor, Frame, State}
+use Rattle.ion_binary.specs.Positions.{Frame, State}
+use Rattle.ion_meter.specs.Sources.{Cursor}
 use Rattle.ion_value.specs.Parts.{Placed}
 use Rattle.ion_binary.specs.Reading.{given}
 use Rattle.ion_binary.specs.Finds.{as_found}
-use Rattle.ion_binary.specs.Parts.{AnswersPlaced}
+use Rattle.ion_value.specs.Answers.{AnswersPlaced}
 
 -- what a call answers that reads a value: what it is and the place of its first octet, as the step that reading gives of it
 abbrev pub GivesStep : List Frame → ℕ → Option SymbolAt → List SymbolAt → List ℕ → Body → Result (found.Found × ℕ) Fault → Cursor → Placed (Step State) → Type 0

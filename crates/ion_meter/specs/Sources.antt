@@ -14,12 +14,12 @@ abbrev pub skip : ℕ → Cursor → Cursor
 skip n c = record { place = c.place + n; rest = drop n c.rest }
 
 -- where a source stands, by what is left of its device
-abbrev pub cursor : {I : Type 0} → (I → List ℕ) → Incoming I → Cursor
-cursor rest s = record { place = s.place; rest = left rest s }
+abbrev pub cursor : {I : Type 0} → InputOf I → Incoming I → Cursor
+cursor device s = record { place = s.place; rest = left device.rest s }
 
 -- the input is longer than it may be
-abbrev pub Exceeds : {I : Type 0} → (I → List ℕ) → (I → Type 0) → Incoming I → Type 0
-Exceeds rest tells s = tells s.device → s.limit < s.place + length (left rest s)
+abbrev pub Exceeds : {I : Type 0} → InputOf I → Incoming I → Type 0
+Exceeds device s = device.tells s.device → s.limit < s.place + length (left device.rest s)
 
 -- a source that has not failed, and has not gone past its limit
 pub record Stands {I : Type 0} (s : Incoming I) : Type 0 where
@@ -28,11 +28,11 @@ pub record Stands {I : Type 0} (s : Incoming I) : Type 0 where
   pub small : s.limit ≤ 2 ^ 48
 
 -- octets were passed over, or more of the device was read
-pub record Moves {I : Type 0} (rest : I → List ℕ) (tells : I → Type 0) (old new : Incoming I) : Type 0 where
-  pub still_tells : tells new.device ↔ tells old.device
+pub record Moves {I : Type 0} (device : InputOf I) (old new : Incoming I) : Type 0 where
+  pub still_tells : device.tells new.device ↔ device.tells old.device
   pub limit : new.limit ≡ old.limit
   pub further : old.place ≤ new.place
-  pub total : tells old.device → new.place + length (left rest new) ≡ old.place + length (left rest old)
+  pub total : device.tells old.device → new.place + length (left device.rest new) ≡ old.place + length (left device.rest old)
 
 -- why a call that takes no memory answers a fault
 pub record Causes (fault : Option Fault) (failures_old failures_new : ℕ) (exceeds : Type 0) : Type 0 where

@@ -16,13 +16,17 @@ Answers view (Err WriteFault) behind place given = Unit {0}
 Answers view (Err InputLimit) behind place given = Unit {0}
 
 -- the same where reading gives the place of each fault
+abbrev pub AnswersPlaced : {T A : Type 0} → (T → A) → Result T Fault → Placed A → Type 0
+AnswersPlaced view (Ok x) given = given ≡ Ok (view x)
+AnswersPlaced view (Err (Refused reason at)) given = given ≡ Err (reason, at)
+AnswersPlaced view (Err Memory) given = Unit {0}
+AnswersPlaced view (Err ReadFault) given = Unit {0}
+AnswersPlaced view (Err WriteFault) given = Unit {0}
+AnswersPlaced view (Err InputLimit) given = Unit {0}
+
+-- a value and where the source stands behind it
 abbrev pub AnswersAt : {T A : Type 0} → (T → A) → Result T Fault → Cursor → Placed (A × Cursor) → Type 0
-AnswersAt view (Ok x) behind given = given ≡ Ok (view x, behind)
-AnswersAt view (Err (Refused reason at)) behind given = given ≡ Err (reason, at)
-AnswersAt view (Err Memory) behind given = Unit {0}
-AnswersAt view (Err ReadFault) behind given = Unit {0}
-AnswersAt view (Err WriteFault) behind given = Unit {0}
-AnswersAt view (Err InputLimit) behind given = Unit {0}
+AnswersAt view result behind given = AnswersPlaced (λ x. (view x, behind)) result given
 
 -- the view of a number
 abbrev pub itself : ℕ → ℕ

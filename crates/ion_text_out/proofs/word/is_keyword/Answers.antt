@@ -26,12 +26,12 @@ returns-then-eq-3 c =
     elim c.if-eq-2.branch [
       | then-eq-2 w ↦
           elim c.if-eq.branch [
-            | then-eq v ↦ keyword_found (codes "null") word refl (same_as (codes "null") word _ _ c.eq.ensures c.as_slice.ensures ∙ v.if-eq.true)
+            | then-eq v ↦ c.if-eq-3.true ∙ keyword_found (codes "null") word refl (same_as (codes "null") word _ _ c.eq.ensures c.as_slice.ensures ∙ v.if-eq.true)
             | else-eq v ↦
-                keyword_found (codes "true") word refl
+                c.if-eq-3.true ∙ keyword_found (codes "true") word refl
                 (same_as (codes "true") word _ _ v.eq-else-eq.ensures v.as_slice-else-eq.ensures ∙ (sym v.value-is ∙ w.if-eq-2.true))
           ]
       | else-eq-2 w ↦
-          keyword_found (codes "false") word refl
+          c.if-eq-3.true ∙ keyword_found (codes "false") word refl
           (same_as (codes "false") word _ _ w.eq-else-eq-2.ensures w.as_slice-else-eq-2.ensures ∙ (sym w.value-is ∙ c.if-eq-3.true))
     ]

@@ -1,4 +1,7 @@
-//! The binary encoding of Amazon Ion 1.0: its grammar and its reading.
+//! The binary encoding of Amazon Ion 1.0: its grammar, its reading, and `BinReader`, which reads a
+//! stream one item at a time. The laws tie the reading to the grammar.
+//!
+//! Nothing writes binary yet.
 #![tactic(auto)]
 
 mod body;

@@ -1,5 +1,9 @@
-//! Symbol tables of Amazon Ion 1.0: the catalogue of shared tables, the declarations of a stream,
-//! the reader of user values, and the table of an output.
+//! Symbol tables of Amazon Ion 1.0.
+//!
+//! `SharedTable` and `Catalog` are shared symbol tables; `Symbols` is the symbol table at a place
+//! of a stream. `SymbolBuffer` reads one declaration of a local symbol table, and `UserReader` the
+//! user values of whatever a `RawReader` reads, with their symbols resolved. `OutSymbols` has the
+//! ids of the texts of an output; it is for a writer of binary, which is still to come.
 #![tactic(auto)]
 
 pub mod buffer;

@@ -1,4 +1,5 @@
-//! The canonical text of Amazon Ion 1.0.
+//! The canonical text of Amazon Ion 1.0: its definition, and `TextWriter`, which writes items as
+//! they come. The laws tie the text of items to that of whole values.
 #![tactic(auto)]
 
 mod between;

@@ -1,5 +1,10 @@
-//! The plain values of Amazon Ion 1.0: ints, the types of values, and the variable-length fields of
-//! the binary encoding.
+//! The values of Amazon Ion 1.0, their items, and the traits of what reads and writes items.
+//!
+//! Ints, decimals, timestamps and the variable-length fields of the binary encoding are read from
+//! octets and written as octets; ints, decimals and timestamps also from text and as text. An
+//! `Item` is a field, annotations and a head, lent; `Names` gives symbol ids their texts.
+//! `RawReader` gives items and `ValueWriter` takes them, by laws that all crates above rest on.
+//! Nothing here takes memory.
 #![tactic(auto)]
 
 pub mod decimal;

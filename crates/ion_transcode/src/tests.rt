@@ -169,6 +169,10 @@ fn binary_streams(rt: HostRuntime) -> Result<(), Fail> {
             binary(2),
             "[5,[true,false]]\nname::5\n",
         ),
+        // Version markers are no values, wherever they stand at top level.
+        ("E0 01 00 EA", binary(0), ""),
+        ("21 05 E0 01 00 EA E0 01 00 EA 11", binary(2), "5\ntrue\n"),
+        ("B1 11 E0 01 00 EA", binary(1), "[true]\n"),
     ];
     expect_rows(&rt, rt.alloc(), LIMITS, &rows)
 }
@@ -189,6 +193,15 @@ fn refused_streams(rt: HostRuntime) -> Result<(), Fail> {
         ("71 0A", refused(Reason::BadSymbol, 4), ""),
         ("B1 21 05", refused(Reason::Overrun, 5), "["),
         ("D1 80", refused(Reason::BadDescriptor, 4), ""),
+        // A marker stands at top level alone, and ends what was declared.
+        ("B4 E0 01 00 EA", refused(Reason::BadDescriptor, 5), "["),
+        ("21 05 E0 02 00 EA", refused(Reason::BadVersion, 6), "5\n"),
+        ("21 05 E0 01", refused(Reason::Truncated, 6), "5\n"),
+        (
+            "EA 81 83 D7 87 B2 81 61 86 71 03 71 0A E0 01 00 EA 71 0A",
+            refused(Reason::BadSymbol, 21),
+            "a\n",
+        ),
         // What is open stays open.
         ("B2 11", refused(Reason::Truncated, 6), "[true"),
         ("B5 21 01 D3", refused(Reason::Overrun, 7), "[1"),

@@ -32,3 +32,5 @@ measure int $ints
 measure decimal $decimals
 measure timestamp $moments
 measure text $texts
+measure decimal_text 1.5 -0.005 12345678.901234
+measure decimal_text 15d1 -3.14159 3.40282366920938463463374607431768211455

@@ -18,6 +18,7 @@ struct Int {
     magnitude: u128,
 }
 
+#[derive(Clone, Copy)]
 struct Decimal {
     negative: bool,
     coefficient: u128,
@@ -333,6 +334,69 @@ fn timestamp_to_text(t: Timestamp) -> Text {
     text
 }
 
+// Decimal digits, in 64 bits where these hold the number.
+fn decimal_digits(mut n: u128, digits: &mut [u8; 40]) -> usize {
+    let mut at = 40;
+    while n > u64::MAX as u128 {
+        at -= 1;
+        digits[at] = b'0' + (n % 10) as u8;
+        n /= 10;
+    }
+    let mut n = n as u64;
+    loop {
+        at -= 1;
+        digits[at] = b'0' + (n % 10) as u8;
+        n /= 10;
+        if n == 0 {
+            return at;
+        }
+    }
+}
+
+fn decimal_to_text(d: Decimal) -> Text {
+    let mut text = Text { bytes: [0; 64], len: 0 };
+    if d.negative {
+        text.push(b'-');
+    }
+    let mut buffer = [0; 40];
+    let at = decimal_digits(d.coefficient, &mut buffer);
+    let digits = &buffer[at..];
+    if (-38..=0).contains(&d.exponent) {
+        let places = -d.exponent as usize;
+        if digits.len() > places {
+            for byte in &digits[..digits.len() - places] {
+                text.push(*byte);
+            }
+            text.push(b'.');
+            for byte in &digits[digits.len() - places..] {
+                text.push(*byte);
+            }
+        } else {
+            text.push(b'0');
+            text.push(b'.');
+            for _ in digits.len()..places {
+                text.push(b'0');
+            }
+            for byte in digits {
+                text.push(*byte);
+            }
+        }
+    } else {
+        for byte in digits {
+            text.push(*byte);
+        }
+        text.push(b'd');
+        if d.exponent < 0 {
+            text.push(b'-');
+        }
+        let at = decimal_digits(d.exponent.unsigned_abs() as u128, &mut buffer);
+        for byte in &buffer[at..] {
+            text.push(*byte);
+        }
+    }
+    text
+}
+
 fn main() {
     let words: Vec<String> = std::env::args().skip(1).collect();
     let mut sum: u64 = 0;
@@ -366,6 +430,13 @@ fn main() {
                         Err(_) => 1,
                     });
                 }
+            }
+        }
+        "decimal_text" => {
+            let decimals: Vec<Decimal> = rest.iter().filter_map(|word| decimal_from_text(word.as_bytes()).ok()).collect();
+            for turn in 0..TURNS {
+                let text = decimal_to_text(decimals[(sum.wrapping_add(turn as u64) % 3) as usize]);
+                sum = sum.wrapping_add(text.len as u64 + text.bytes[text.len / 2] as u64);
             }
         }
         _ => {

@@ -135,6 +135,37 @@ fn shows_and_checks(rt: HostRuntime) -> Result<(), Fail> {
     Ok(())
 }
 
+// Decimals behind a version marker, and how they are shown: with a point where the exponent is from
+// 0 down to -38.
+const DECIMALS: [(&[u8], &str); 9] = [
+    (b"\xE0\x01\x00\xEA\x52\xC1\x0F", "1.5\n"),
+    (b"\xE0\x01\x00\xEA\x52\xC3\x05", "0.005\n"),
+    (b"\xE0\x01\x00\xEA\x52\x80\x80", "-0.\n"),
+    (b"\xE0\x01\x00\xEA\x50", "0.\n"),
+    (b"\xE0\x01\x00\xEA\x51\xC2", "0.00\n"),
+    (b"\xE0\x01\x00\xEA\x52\x81\x0F", "15d1\n"),
+    (b"\xE0\x01\x00\xEA\x52\xE7\x01", "1d-39\n"),
+    (
+        b"\xE0\x01\x00\xEA\xC8\x52\x80\x0F\x52\x80\x80\x71\x04",
+        "(15. -0. name)\n",
+    ),
+    (
+        b"\xE0\x01\x00\xEA\x5E\x92\xE6\x00\xFF\xFF\xFF\xFF\xFF\xFF\xFF\xFF\xFF\xFF\xFF\xFF\xFF\xFF\xFF\xFF",
+        "3.40282366920938463463374607431768211455\n",
+    ),
+];
+
+#[test]
+fn shows_decimals_with_a_point(rt: HostRuntime) -> Result<(), Fail> {
+    for (input, out) in &DECIMALS {
+        let answer = served(rt.alloc(), &["show"], input)?;
+        assert_eq!(rt; answer.status, 0);
+        assert_eq!(rt; answer.out.as_slice(), out.as_bytes());
+        assert!(rt; answer.err.is_empty());
+    }
+    Ok(())
+}
+
 #[test]
 fn takes_files_and_limits(rt: HostRuntime) -> Result<(), Fail> {
     let table: [(&'static [&'static str], u8, &'static str, &'static str); 7] = [

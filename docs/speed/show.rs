@@ -386,7 +386,19 @@ impl<W: Write> Writer<W> {
                 }
                 let mut text = [0; 40];
                 let at = digits(coefficient, &mut text);
-                sink.put(&text[at..])?;
+                let number = &text[at..];
+                if (-38..=0).contains(&exponent) {
+                    let places = -exponent as usize;
+                    if number.len() > places {
+                        sink.put(&number[..number.len() - places])?;
+                        sink.byte(b'.')?;
+                        return sink.put(&number[number.len() - places..]);
+                    }
+                    sink.put(b"0.")?;
+                    sink.put(&[b'0'; 38][..places - number.len()])?;
+                    return sink.put(number);
+                }
+                sink.put(number)?;
                 sink.byte(b'd')?;
                 if exponent < 0 {
                     sink.byte(b'-')?;

@@ -1,0 +1,10 @@
+mod Growing
+mod BlankSteps
+mod Steps
+mod Shrinking
+mod Falling
+mod Sound
+mod Tokens
+mod Complete
+mod Wider
+mod One

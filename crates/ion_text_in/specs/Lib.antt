@@ -1,0 +1,11 @@
+pub mod Places
+pub mod Blanks
+pub mod Quoted
+pub mod Lob
+pub mod Token
+pub mod Reading
+pub mod Grammar
+pub mod Paths
+pub mod Fits
+pub mod Parts
+pub mod Laws

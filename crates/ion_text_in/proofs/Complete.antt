@@ -12,7 +12,8 @@ use Rattle.ion_value.specs.Value.{Symbol, SymbolAt, Scalar, Value, Members, Top,
 use Rattle.ion_value.specs.Path.{Path, closed, opened, path_kinds, begin_item, nest_items, path_items}
 use Rattle.ion_value.specs.Reading.{Reading, Finished, More, behind, Step, Ends, Gives, GoesOn, reading_by}
 use Rattle.ion_value.proofs.Readings.{reading_by-ends, reading_by-gives, reading_by-goes_on}
-use Rattle.ion_text_in.specs.Places.{Cursor, part, refuse, ◌>>=◌, ◌>>◌}
+use Rattle.ion_meter.specs.Sources.{Cursor}
+use Rattle.ion_value.specs.Parts.{part, refuse, ◌>>=◌, ◌>>◌}
 use Rattle.ion_text_in.specs.Blanks.{blanks}
 use Rattle.ion_text_in.specs.Token.{Token, plain, name, text, operator, begin, end, comma}
 use Rattle.ion_text_in.specs.Reading as reading

@@ -5,7 +5,7 @@ use Rattle.ion_value.specs.Value as value
 use Rattle.ion_value.specs.Value.{SymbolAt, Value, container, Members, Top, version, tree, Item, bare_item, value_items, member_items, one_top, top_items}
 use Rattle.ion_value.specs.Path.{Nest, outermost, inner, Path, closed, opened, begin_item, nest_items, path_items, with_member, with_end}
 use Rattle.ion_value.specs.Name.{version_word}
-use Rattle.ion_text_in.specs.Places.{Cursor}
+use Rattle.ion_meter.specs.Sources.{Cursor}
 use Rattle.ion_text_in.specs.Token.{name, begin, end, comma}
 use Rattle.ion_text_in.specs.Reading.{innermost, in_sexp, has_commas, first_place, behind_colons}
 use Rattle.ion_text_in.specs.Grammar.{Tok, Notes, Field, Txt, Inside, Tops}

@@ -1,5 +1,4 @@
 mod Growing
-mod BlankSteps
 mod Steps
 mod Shrinking
 mod Falling

@@ -9,7 +9,7 @@ use Rattle.ion_value.specs.Path.{Nest, outermost, inner, Path, closed, opened, n
 use Rattle.ion_value.specs.Reading.{Finished, items_of}
 use Rattle.ion_value.proofs.Readings.{items_of-behind}
 use Rattle.ion_value.proofs.Paths.{same_path}
-use Rattle.ion_text_in.specs.Places.{Cursor}
+use Rattle.ion_meter.specs.Sources.{Cursor}
 use Rattle.ion_text_in.specs.Token.{Token, cut}
 use Rattle.ion_text_in.specs.Reading.{cost}
 use Rattle.ion_text_in.specs.Grammar.{Tok, Notes, Field, Txt, Inside, Tops, Stream}

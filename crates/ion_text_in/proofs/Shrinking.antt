@@ -3,8 +3,10 @@ use Rattle.std.proofs.Common.{◌≡◌, ℕ, zero, suc, ◌+◌, ◌<◌, ◌�
 use Rattle.std.proofs.lemmas.List.{length-drop}
 use Rattle.std.specs.Str.{is_utf8}
 use Rattle.ion_meter.specs.declared.fault.Reason.{Reason}
-use Rattle.ion_meter.specs.declared.fault.Reason.TheVariants.{BadText, BadLob, ScalarLimit}
-use Rattle.ion_text_in.specs.Places.{Cursor, skip, Placed, refuse, run_of, behind_run, ◌>>=◌, ◌>>◌}
+use Rattle.ion_meter.specs.declared.fault.Reason.TheVariants.{Truncated, BadText, BadLob, ScalarLimit}
+use Rattle.ion_meter.specs.Sources.{Cursor, skip}
+use Rattle.ion_value.specs.Parts.{Placed, refuse, ◌>>=◌, ◌>>◌}
+use Rattle.ion_text_in.specs.Places.{run_of, behind_run}
 use Rattle.ion_value.specs.Digits.{first_is}
 use Rattle.ion_value.specs.Name.{begins_with, same_bytes}
 use Rattle.ion_value.specs.Value.{SymbolAt, Scalar}
@@ -235,11 +237,18 @@ groups-within zero limit count padded c = tt
 groups-within (suc most) limit count padded c =
     groups-by limit count padded c (λ n b d. groups_for most limit n b d) (λ n b d. groups-within most limit n b d) (nat_lt (length (group_of 4 c.rest).0) 4)
 
+refused-at : (c : Cursor) (b : Bool) (reason : Reason) (o : Result Cursor Reason) → WithinAt c o → WithinAt c (refuse b reason >> o)
+refused-at c true reason o w = tt
+refused-at c false reason o w = w
+
+clob-closed-within : (is_long : Bool) (c : Cursor) → WithinAt c (lob.clob_closed_at is_long c)
+clob-closed-within is_long c = refused-at c (is_long && lob.are_cut_quotes c.rest) Truncated (lob.closed_at c) (closed-within c)
+
 clob-within : (limit : ℕ) (is_long : Bool) (c : Cursor) → Within {A = Scalar SymbolAt} c (lob.clob_at limit is_long c)
 clob-within limit is_long c =
     within-then c (text_at (if is_long then quoted.long_quote true else quoted.short_quote true) limit c) _ (text-within (if is_long then quoted.long_quote true else quoted.short_quote true) limit c)
     (λ t. within-from t.1 (behind_run (first_is blanks.is_white) t.1) _ (skip-within (length (run_of (first_is blanks.is_white) t.1.rest).0) t.1)
-    (at-then (behind_run (first_is blanks.is_white) t.1) (lob.closed_at (behind_run (first_is blanks.is_white) t.1)) _ (closed-within (behind_run (first_is blanks.is_white) t.1)) (λ d. stays d)))
+    (at-then (behind_run (first_is blanks.is_white) t.1) (lob.clob_closed_at is_long (behind_run (first_is blanks.is_white) t.1)) _ (clob-closed-within is_long (behind_run (first_is blanks.is_white) t.1)) (λ d. stays d)))
 
 blob-within : (limit : ℕ) (c : Cursor) → Within {A = Scalar SymbolAt} c (lob.blob_at limit c)
 blob-within limit c = within-then c (groups_for (suc (length c.rest)) limit 0 false c) _ (groups-within (suc (length c.rest)) limit 0 false c) (λ b. stays b.1)

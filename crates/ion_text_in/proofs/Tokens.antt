@@ -9,7 +9,8 @@ use Rattle.ion_value.specs.Name.{Keyword, a_null, a_bool, a_nan, keyword, is_id,
 use Rattle.ion_value.specs.Scalar.{scalar_of_run}
 use Rattle.ion_value.specs.Value as value
 use Rattle.ion_value.specs.Value.{SymbolAt, Scalar}
-use Rattle.ion_text_in.specs.Places.{Cursor, skip, Placed, part, refuse, ◌>>=◌, ◌>>◌}
+use Rattle.ion_meter.specs.Sources.{Cursor, skip}
+use Rattle.ion_value.specs.Parts.{Placed, part, refuse, ◌>>=◌, ◌>>◌}
 use Rattle.ion_text_in.specs.Blanks.{blanks}
 use Rattle.ion_text_in.specs.Quoted as quoted
 use Rattle.ion_text_in.specs.Quoted.{text_at}

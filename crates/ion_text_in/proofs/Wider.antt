@@ -6,7 +6,9 @@ use Rattle.ion_meter.specs.declared.fault.Reason.TheVariants.{ScalarLimit}
 use Rattle.ion_value.specs.Digits.{first_is}
 use Rattle.ion_value.specs.Name.{begins_with}
 use Rattle.ion_value.specs.Value.{SymbolAt, Scalar}
-use Rattle.ion_text_in.specs.Places.{Cursor, skip, part, refuse, behind_run, ◌>>=◌, ◌>>◌}
+use Rattle.ion_meter.specs.Sources.{Cursor, skip}
+use Rattle.ion_value.specs.Parts.{part, refuse, ◌>>=◌, ◌>>◌}
+use Rattle.ion_text_in.specs.Places.{behind_run}
 use Rattle.ion_text_in.specs.Blanks.{blanks, is_white}
 use Rattle.ion_text_in.specs.Quoted as quoted
 use Rattle.ion_text_in.specs.Quoted.{Quote, Piece, char, close, illegal, cut, piece_at, pieces_for, segment_at, segments_for, text_at}

@@ -2,7 +2,8 @@
 use Rattle.std.specs.Prelude.{ℕ, suc, Bool, true, false, ◌&&◌, ◌||◌, ◌==◌, if◌then◌else◌, List, [], ◌∷◌, Ok, Err}
 use Rattle.ion_meter.specs.declared.fault.Reason.TheVariants.{Truncated}
 use Rattle.ion_value.specs.Digits.{is_between, first_is}
-use Rattle.ion_text_in.specs.Places.{Cursor, Placed}
+use Rattle.ion_meter.specs.Sources.{Cursor}
+use Rattle.ion_value.specs.Parts.{Placed}
 
 -- space, and from tab to carriage return
 abbrev pub is_white : ℕ → Bool

@@ -5,7 +5,7 @@ use Rattle.ion_value.specs.declared.ion_type.Kind.TheVariants as kind
 use Rattle.ion_value.specs.Name.{version_word}
 use Rattle.ion_value.specs.Value as value
 use Rattle.ion_value.specs.Value.{Symbol, SymbolAt, Scalar, Value, Members, Top}
-use Rattle.ion_text_in.specs.Places.{Cursor}
+use Rattle.ion_meter.specs.Sources.{Cursor}
 use Rattle.ion_text_in.specs.Blanks.{blanks}
 use Rattle.ion_text_in.specs.Token.{Token, plain, name, text, operator, begin, end, comma, colon, colons, cut, next_token}
 use Rattle.ion_text_in.specs.Reading.{is_sexp, in_sexp, has_commas, at, first_place, behind_colons, tells_version}

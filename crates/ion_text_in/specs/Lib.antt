@@ -7,5 +7,4 @@ pub mod Reading
 pub mod Grammar
 pub mod Paths
 pub mod Fits
-pub mod Parts
 pub mod Laws

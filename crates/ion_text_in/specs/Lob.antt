@@ -1,13 +1,15 @@
 -- Blobs and clobs (Ion specification, "Blobs", "Clobs").
-use Rattle.std.specs.Prelude.{ℕ, zero, suc, ◌+◌, ◌-◌, Bool, true, false, not, ◌&&◌, ◌==◌, nat_lt, if◌then◌else◌, List, [], ◌∷◌, ◌++◌, length, Some, None, Result, Ok, Err}
+use Rattle.std.specs.Prelude.{ℕ, zero, suc, ◌+◌, ◌-◌, Bool, true, false, not, ◌&&◌, ◌||◌, ◌==◌, nat_lt, if◌then◌else◌, List, [], ◌∷◌, ◌++◌, length, Some, None, Result, Ok, Err}
 use Rattle.base64.specs.Engines.{standard}
 use Rattle.base64.specs.GeneralPurpose.{decoded_of}
 use Rattle.ion_meter.specs.declared.fault.Reason.{Reason}
 use Rattle.ion_meter.specs.declared.fault.Reason.TheVariants.{Truncated, BadLob, ScalarLimit}
 use Rattle.ion_value.specs.Digits.{first_is}
-use Rattle.ion_value.specs.Name.{begins_with}
+use Rattle.ion_value.specs.Name.{begins_with, same_bytes}
 use Rattle.ion_value.specs.Value.{Scalar, clob, blob}
-use Rattle.ion_text_in.specs.Places.{Cursor, skip, refuse, behind_run, ◌>>=◌, ◌>>◌}
+use Rattle.ion_meter.specs.Sources.{Cursor, skip}
+use Rattle.ion_value.specs.Parts.{refuse, ◌>>=◌, ◌>>◌}
+use Rattle.ion_text_in.specs.Places.{behind_run}
 use Rattle.ion_text_in.specs.Blanks.{is_white}
 use Rattle.ion_text_in.specs.Quoted.{short_quote, long_quote, text_at}
 
@@ -68,10 +70,20 @@ blob_at limit c = do
 
 -- ---- clobs
 
+-- one quote or two at the input's end, which may begin a further segment
+abbrev pub are_cut_quotes : List ℕ → Bool
+are_cut_quotes bytes = same_bytes (39 ∷ []) bytes || same_bytes (39 ∷ 39 ∷ []) bytes
+
+-- the braces behind the text of a clob
+abbrev pub clob_closed_at : Bool → Cursor → Result Cursor Reason
+clob_closed_at is_long c = do
+  refuse (is_long && are_cut_quotes c.rest) Truncated
+  closed_at c
+
 abbrev pub clob_at : {S : Type 0} → ℕ → Bool → Cursor → Result (Scalar S × Cursor) Reason
 clob_at limit is_long c = do
   t ← text_at (if is_long then long_quote true else short_quote true) limit c
-  d ← closed_at (behind_run (first_is is_white) t.1)
+  d ← clob_closed_at is_long (behind_run (first_is is_white) t.1)
   Ok (clob t.0, d)
 
 -- a lob behind its opening braces

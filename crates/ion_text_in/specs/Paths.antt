@@ -5,7 +5,7 @@ use Rattle.ion_value.specs.declared.ion_type.Kind.TheVariants as kind
 use Rattle.ion_value.specs.Value.{SymbolAt, Members, Top}
 use Rattle.ion_value.specs.Path.{outermost, inner, Path, closed, opened, path_items}
 use Rattle.ion_value.specs.Reading.{Step, Ends, Stops, Gives, GoesOn}
-use Rattle.ion_text_in.specs.Places.{Cursor}
+use Rattle.ion_meter.specs.Sources.{Cursor}
 use Rattle.ion_text_in.specs.Blanks.{blanks}
 use Rattle.ion_text_in.specs.Token.{begin}
 use Rattle.ion_text_in.specs.Reading.{Wants, a_value, a_field, a_separator, State, innermost, in_sexp, first_place}

@@ -5,7 +5,9 @@ use Rattle.ion_meter.specs.declared.fault.Reason.{Reason}
 use Rattle.ion_meter.specs.declared.fault.Reason.TheVariants.{Truncated, BadText, BadLob, ScalarLimit}
 use Rattle.ion_value.specs.Digits.{is_between, is_hex_digit, digit_value, first_is}
 use Rattle.ion_value.specs.Name.{begins_with, is_one_of}
-use Rattle.ion_text_in.specs.Places.{Placed, Cursor, skip, refuse, behind_run, ◌>>=◌, ◌>>◌}
+use Rattle.ion_value.specs.Parts.{Placed, refuse, ◌>>=◌, ◌>>◌}
+use Rattle.ion_meter.specs.Sources.{Cursor, skip}
+use Rattle.ion_text_in.specs.Places.{behind_run}
 use Rattle.ion_text_in.specs.Blanks.{is_white, blanks}
 
 -- what closes a text, whether it is long, so that lines may end in it and further segments may follow, and whether it is a clob's

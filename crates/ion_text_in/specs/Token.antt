@@ -10,7 +10,9 @@ use Rattle.ion_value.specs.Name.{Keyword, a_null, a_bool, a_nan, begins_with, sa
 use Rattle.ion_value.specs.Scalar.{scalar_of_run}
 use Rattle.ion_value.specs.Value as value
 use Rattle.ion_value.specs.Value.{Symbol, SymbolAt, Scalar, null, bool}
-use Rattle.ion_text_in.specs.Places.{Cursor, skip, Placed, part, refuse, run_of, ◌>>=◌, ◌>>◌}
+use Rattle.ion_meter.specs.Sources.{Cursor, skip}
+use Rattle.ion_value.specs.Parts.{Placed, part, refuse, ◌>>=◌, ◌>>◌}
+use Rattle.ion_text_in.specs.Places.{run_of}
 use Rattle.ion_text_in.specs.Blanks.{is_white, begins_comment, blanks}
 use Rattle.ion_text_in.specs.Quoted.{symbol_quote, short_quote, long_quote, text_at}
 use Rattle.ion_text_in.specs.Lob.{lob_at}

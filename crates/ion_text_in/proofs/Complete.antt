@@ -9,7 +9,7 @@ use Rattle.ion_value.specs.Digits.{cut_at}
 use Rattle.ion_value.specs.Name.{version_word}
 use Rattle.ion_value.specs.Value as value
 use Rattle.ion_value.specs.Value.{Symbol, SymbolAt, Scalar, Value, Members, Top, PlacedItem, bare_item, value_items, member_items, top_items}
-use Rattle.ion_value.specs.Path.{Path, closed, opened, path_kinds, begin_item, nest_items, path_items}
+use Rattle.ion_value.specs.Path.{Path, closed, opened, begin_item, nest_items, path_items}
 use Rattle.ion_value.specs.Reading.{Reading, Finished, More, behind, Step, Ends, Gives, GoesOn, reading_by}
 use Rattle.ion_value.proofs.Readings.{reading_by-ends, reading_by-gives, reading_by-goes_on}
 use Rattle.ion_meter.specs.Sources.{Cursor}
@@ -21,7 +21,7 @@ use Rattle.ion_text_in.specs.Reading.{Wants, a_value, a_field, a_separator, Stat
 use Rattle.ion_text_in.specs.Grammar.{Tok, Notes, Field, Txt, Inside, Tops, start_of}
 use Rattle.ion_text_in.specs.Paths.{open_in, Spells, IsTop}
 use Rattle.ion_text_in.specs.Laws.{Complete, StreamsAreRead}
-use Rattle.ion_text_in.specs.Fits.{AnnotationsFit, DepthFits, ValueFits, MembersFit, TopFits, TopsFit, PathFits}
+use Rattle.ion_text_in.specs.Fits.{path_kinds, AnnotationsFit, DepthFits, ValueFits, MembersFit, TopFits, TopsFit, PathFits}
 use Rattle.ion_text_in.proofs.Growing.{Fits}
 use Rattle.ion_text_in.proofs.Steps.{fits}
 use Rattle.ion_text_in.proofs.Falling.{each_step_falls}

@@ -5,7 +5,7 @@ use Rattle.std.proofs.lemmas.List.Sums.{sum_by-append}
 use Rattle.ion_meter.specs.declared.limits.Limits.{Limits}
 use Rattle.ion_value.specs.declared.ion_type.Kind.{Kind}
 use Rattle.ion_value.specs.Value.{SymbolAt, Value, scalar, container, Members, nothing, member, Top, version, tree, PlacedItem, top_items}
-use Rattle.ion_value.specs.Path.{Nest, outermost, inner, Path, closed, opened, nest_kinds, path_items}
+use Rattle.ion_value.specs.Path.{Nest, outermost, inner, Path, closed, opened, path_items}
 use Rattle.ion_value.specs.Reading.{Finished, items_of}
 use Rattle.ion_value.proofs.Readings.{items_of-behind}
 use Rattle.ion_value.proofs.Paths.{same_path}
@@ -14,7 +14,7 @@ use Rattle.ion_text_in.specs.Token.{Token, cut}
 use Rattle.ion_text_in.specs.Reading.{cost}
 use Rattle.ion_text_in.specs.Grammar.{Tok, Notes, Field, Txt, Inside, Tops, Stream}
 use Rattle.ion_text_in.specs.Paths.{Spells, IsPath}
-use Rattle.ion_text_in.specs.Fits.{AnnotationsFit, DepthFits, ValueFits, MembersFit, TopFits, TopsFit, NestFits, PathFits}
+use Rattle.ion_text_in.specs.Fits.{nest_kinds, AnnotationsFit, DepthFits, ValueFits, MembersFit, TopFits, TopsFit, NestFits, PathFits}
 use Rattle.ion_text_in.specs.Laws.{IsBegun, OnePath, OneStream}
 use Rattle.ion_text_in.proofs.Wider.{next-wider}
 use Rattle.ion_text_in.proofs.Complete.{complete, streams_are_read}

@@ -1,14 +1,14 @@
 -- Each part of a text takes a byte.
 use Rattle.std.proofs.Common.{◌≡◌, ℕ, zero, suc, ◌+◌, ◌<◌, ◌≤◌, Bool, true, false, not, ◌&&◌, ◌||◌, ◌==◌, nat_lt, if◌then◌else◌, List, [], ◌∷◌, ◌++◌, length, drop, codes, Option, Some, None, Result, Ok, Err, refl, subst, arith}
 use Rattle.std.proofs.lemmas.List.{length-drop}
-use Rattle.std.specs.Str.{is_utf8}
+use Rattle.std.specs.Str.{bytes_eq, is_utf8}
 use Rattle.ion_meter.specs.declared.fault.Reason.{Reason}
 use Rattle.ion_meter.specs.declared.fault.Reason.TheVariants.{Truncated, BadText, BadLob, ScalarLimit}
 use Rattle.ion_meter.specs.Sources.{Cursor, skip}
 use Rattle.ion_value.specs.Parts.{Placed, refuse, ◌>>=◌, ◌>>◌}
 use Rattle.ion_text_in.specs.Places.{run_of, behind_run}
 use Rattle.ion_value.specs.Digits.{first_is}
-use Rattle.ion_value.specs.Name.{begins_with, same_bytes}
+use Rattle.ion_value.specs.Name.{begins_with}
 use Rattle.ion_value.specs.Value.{SymbolAt, Scalar}
 use Rattle.ion_text_in.specs.Blanks as blanks
 use Rattle.ion_text_in.specs.Quoted as quoted
@@ -311,7 +311,7 @@ with_type-some b front behind false = omega arith
 word_of-some : (bytes : List ℕ) → 0 < length bytes → 0 < length (word_of bytes)
 word_of-some [] some = absurd (omega (arith, some))
 word_of-some (b ∷ bytes) some =
-    with_type-some b (run_of in_word bytes).0 (run_of in_word bytes).1 (same_bytes (codes "null") (b ∷ (run_of in_word bytes).0) && first_is (λ b. b == 46) (run_of in_word bytes).1)
+    with_type-some b (run_of in_word bytes).0 (run_of in_word bytes).1 (bytes_eq (codes "null") (b ∷ (run_of in_word bytes).0) && first_is (λ b. b == 46) (run_of in_word bytes).1)
 
 pub token-past : (limit : ℕ) (first : First) (c : Cursor) → 0 < length c.rest → Past c (token_of limit first c)
 unfolding token_of

@@ -1,12 +1,13 @@
 -- Each step of a reading leads from a path of the grammar to the path with the item that it gives.
 use Rattle.std.proofs.Common.{◌≡◌, ◌==◌, ℕ, Bool, true, false, not, List, [], ◌∷◌, ◌++◌, Option, Some, None, Result, Ok, Err, nat_lt, nat_le, length, sum_by, refl, ap, subst, ◌∙◌}
 use Rattle.std.proofs.lemmas.Bool.{false≢true, eqb-true, and_parts}
+use Rattle.std.specs.Str.{bytes_eq}
 use Rattle.ion_meter.specs.declared.fault.Reason.{Reason}
 use Rattle.ion_meter.specs.declared.fault.Reason.TheVariants.{BadVersion, DepthLimit, AnnotationLimit}
 use Rattle.ion_meter.specs.declared.limits.Limits.{Limits}
 use Rattle.ion_value.specs.declared.ion_type.Kind.{Kind}
 use Rattle.ion_value.specs.declared.ion_type.Kind.TheVariants as kind
-use Rattle.ion_value.specs.Name.{same_bytes, version_word}
+use Rattle.ion_value.specs.Name.{version_word}
 use Rattle.ion_value.specs.Value as value
 use Rattle.ion_value.specs.Value.{Symbol, SymbolAt, Scalar, Value, Members, PlacedItem}
 use Rattle.ion_value.specs.Path.{Path, closed, opened, Nest, outermost, inner, path_items}
@@ -218,12 +219,12 @@ module _ (limits : Limits) (bytes : List ℕ) (path : Path SymbolAt ℕ) (top : 
 
 -- ---- version markers
 
-same-bytes : (xs ys : List ℕ) → same_bytes xs ys ≡ true → ys ≡ xs
+same-bytes : (xs ys : List ℕ) → bytes_eq xs ys ≡ true → ys ≡ xs
 same-bytes [] [] e = refl
 same-bytes [] (y ∷ ys) e = absurd (false≢true e)
 same-bytes (x ∷ xs) [] e = absurd (false≢true e)
 same-bytes (x ∷ xs) (y ∷ ys) e =
-    let both = and_parts (x == y) (same_bytes xs ys) e in
+    let both = and_parts (x == y) (bytes_eq xs ys) e in
     let first : x ≡ y = eqb-true x y both.0 in
     rw (first, same-bytes xs ys both.1) refl
 

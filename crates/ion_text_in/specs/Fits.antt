@@ -1,9 +1,19 @@
 -- Which values limits allow: how deep containers may stand in each other, and how long the annotations of a value may be.
 use Rattle.std.specs.Prelude.{◌≡◌, ℕ, suc, false, nat_le, nat_lt, sum_by, List, [], ◌∷◌, ◌++◌, length}
 use Rattle.ion_meter.specs.declared.limits.Limits.{Limits}
+use Rattle.ion_value.specs.declared.ion_type.Kind.{Kind}
 use Rattle.ion_value.specs.Value.{SymbolAt, Value, scalar, container, Members, nothing, member, Top, version, tree}
-use Rattle.ion_value.specs.Path.{Nest, outermost, inner, Path, closed, opened, nest_kinds}
+use Rattle.ion_value.specs.Path.{Nest, outermost, inner, Path, closed, opened}
 use Rattle.ion_text_in.specs.Reading.{cost}
+
+-- the kinds of the open containers, the innermost first
+abbrev pub nest_kinds : Nest SymbolAt ℕ → List Kind
+nest_kinds (outermost notes place kind members) = kind ∷ []
+nest_kinds (inner around field notes place kind members) = kind ∷ nest_kinds around
+
+abbrev pub path_kinds : Path SymbolAt ℕ → List Kind
+path_kinds (closed tops) = []
+path_kinds (opened tops first nest) = nest_kinds nest
 
 abbrev pub AnnotationsFit : Limits → List SymbolAt → Type 0
 AnnotationsFit limits notes = (front rest : List SymbolAt) → notes ≡ front ++ rest → nat_lt limits.scalar (sum_by cost front) ≡ false

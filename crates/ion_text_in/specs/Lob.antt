@@ -2,10 +2,11 @@
 use Rattle.std.specs.Prelude.{ℕ, zero, suc, ◌+◌, ◌-◌, Bool, true, false, not, ◌&&◌, ◌||◌, ◌==◌, nat_lt, if◌then◌else◌, List, [], ◌∷◌, ◌++◌, length, Some, None, Result, Ok, Err}
 use Rattle.base64.specs.Engines.{standard}
 use Rattle.base64.specs.GeneralPurpose.{decoded_of}
+use Rattle.std.specs.Str.{bytes_eq}
 use Rattle.ion_meter.specs.declared.fault.Reason.{Reason}
 use Rattle.ion_meter.specs.declared.fault.Reason.TheVariants.{Truncated, BadLob, ScalarLimit}
 use Rattle.ion_value.specs.Digits.{first_is}
-use Rattle.ion_value.specs.Name.{begins_with, same_bytes}
+use Rattle.ion_value.specs.Name.{begins_with}
 use Rattle.ion_value.specs.Value.{Scalar, clob, blob}
 use Rattle.ion_meter.specs.Sources.{Cursor, skip}
 use Rattle.ion_value.specs.Parts.{refuse, ◌>>=◌, ◌>>◌}
@@ -72,7 +73,7 @@ blob_at limit c = do
 
 -- one quote or two at the input's end, which may begin a further segment
 abbrev pub are_cut_quotes : List ℕ → Bool
-are_cut_quotes bytes = same_bytes (39 ∷ []) bytes || same_bytes (39 ∷ 39 ∷ []) bytes
+are_cut_quotes bytes = bytes_eq (39 ∷ []) bytes || bytes_eq (39 ∷ 39 ∷ []) bytes
 
 -- the braces behind the text of a clob
 abbrev pub clob_closed_at : Bool → Cursor → Result Cursor Reason

@@ -1,12 +1,13 @@
 -- Tokens: what tells a token's kind, how far it goes, and what it means (Ion specification, "Text Encoding").
 use Rattle.std.specs.Prelude.{ℕ, Bool, true, false, not, ◌&&◌, ◌||◌, ◌==◌, nat_lt, if◌then◌else◌, List, [], ◌∷◌, ◌++◌, length, drop, codes, Option, Some, None, Result, Ok, Err}
+use Rattle.std.specs.Str.{bytes_eq}
 use Rattle.ion_meter.specs.declared.fault.Reason.{Reason}
 use Rattle.ion_meter.specs.declared.fault.Reason.TheVariants.{BadToken, ScalarLimit}
 use Rattle.ion_value.specs.declared.ion_type.IonType.{IonType}
 use Rattle.ion_value.specs.declared.ion_type.Kind.{Kind}
 use Rattle.ion_value.specs.declared.ion_type.Kind.TheVariants as kind
 use Rattle.ion_value.specs.Digits.{is_digit, first_is}
-use Rattle.ion_value.specs.Name.{Keyword, a_null, a_bool, a_nan, begins_with, same_bytes, is_identifier_start, is_identifier_byte, is_one_of, is_operator_byte, is_id, id_of, keyword}
+use Rattle.ion_value.specs.Name.{Keyword, a_null, a_bool, a_nan, begins_with, is_identifier_start, is_identifier_byte, is_one_of, is_operator_byte, is_id, id_of, keyword}
 use Rattle.ion_value.specs.Scalar.{scalar_of_run}
 use Rattle.ion_value.specs.Value as value
 use Rattle.ion_value.specs.Value.{Symbol, SymbolAt, Scalar, null, bool}
@@ -97,7 +98,7 @@ counted limit bytes c = do
 -- the bytes of a word: behind `null` and a point, all up to the end of what could be an identifier
 abbrev pub with_type : List ℕ → List ℕ → List ℕ
 with_type word behind =
-    if same_bytes (codes "null") word && first_is (λ b. b == 46) behind then word ++ 46 ∷ (run_of in_word (drop 1 behind)).0 else word
+    if bytes_eq (codes "null") word && first_is (λ b. b == 46) behind then word ++ 46 ∷ (run_of in_word (drop 1 behind)).0 else word
 
 abbrev pub word_of : List ℕ → List ℕ
 word_of [] = []

@@ -8,3 +8,4 @@ pub mod Grammar
 pub mod Paths
 pub mod Fits
 pub mod Laws
+pub mod Meaning

@@ -1,6 +1,7 @@
 //! Laws of the grammar and the reading of the text form, each the contract of a function that does
 //! nothing.
 ghost use Rattle.ion_text_in.specs.Laws.{Complete, EachStepFalls, EachStepFollows, OnePath, OneStream, Sound, StreamsAreRead};
+ghost use Rattle.ion_text_in.specs.Meaning.{BoolTextIsRead, DecimalTextIsRead, IntTextIsRead, NullTextIsRead, TimestampTextIsRead};
 
 /// What is read is a path of the grammar, and where the reading finishes, the whole input is a
 /// stream.
@@ -40,6 +41,31 @@ pub fn one_stream()
     ensures { OneStream }
 {}
 
+/// The text of a null is a token that means this null.
+pub fn null_text_is_read()
+    ensures { NullTextIsRead }
+{}
+
+/// The text of a truth value is a token that means it.
+pub fn bool_text_is_read()
+    ensures { BoolTextIsRead }
+{}
+
+/// The text of an int is a token that means this int.
+pub fn int_text_is_read()
+    ensures { IntTextIsRead }
+{}
+
+/// The text of a decimal is a token that means this decimal.
+pub fn decimal_text_is_read()
+    ensures { DecimalTextIsRead }
+{}
+
+/// The text of a timestamp is a token that means this timestamp.
+pub fn timestamp_text_is_read()
+    ensures { TimestampTextIsRead }
+{}
+
 #[cfg(test)]
 mod tests {
     use super::*;
@@ -53,5 +79,10 @@ mod tests {
         streams_are_read();
         one_path();
         one_stream();
+        null_text_is_read();
+        bool_text_is_read();
+        int_text_is_read();
+        decimal_text_is_read();
+        timestamp_text_is_read();
     }
 }

@@ -1,0 +1,90 @@
+-- What a token means: the text of a scalar is read as that scalar, whatever stands behind it that does not go on with it, and the characters
+-- of a blob are the base64 of its bytes.
+use Rattle.std.specs.Prelude.{◌≡◌, ℕ, ◌+◌, ◌<◌, ◌≤◌, Bool, false, not, ◌||◌, ◌==◌, List, ◌∷◌, ◌++◌, All, length, filter, codes, Ok}
+use Rattle.base64.specs.Engines.{standard}
+use Rattle.base64.specs.GeneralPurpose.{encode_of}
+use Rattle.ion_meter.specs.Sources.{Cursor}
+use Rattle.ion_value.specs.declared.decimal.Decimal.{Decimal}
+use Rattle.ion_value.specs.declared.int.Int.{Int}
+use Rattle.ion_value.specs.declared.ion_type.IonType.{IonType}
+use Rattle.ion_value.specs.declared.ion_type.IonType.TheVariants as type
+use Rattle.ion_value.specs.declared.timestamp.Timestamp.{Timestamp}
+use Rattle.ion_value.specs.Decimal.{IsDecimal, decimal_text}
+use Rattle.ion_value.specs.Digits.{first_is}
+use Rattle.ion_value.specs.Int.{IsInt, int_text}
+use Rattle.ion_value.specs.Name.{null_text, bool_text}
+use Rattle.ion_value.specs.Timestamp.{IsTimestamp, timestamp_text}
+use Rattle.ion_value.specs.Value.{null, bool, int, decimal, timestamp, blob}
+use Rattle.ion_text_in.specs.Blanks.{is_white}
+use Rattle.ion_text_in.specs.Token.{Token, plain, in_run, in_word, token_at}
+
+-- a limit on what a token counts
+abbrev pub Limit : Type 0
+Limit = ℕ
+
+-- a limit that so many bytes do not pass
+abbrev pub Allows : Limit → ℕ → Type 0
+Allows limit count = count ≤ limit
+
+abbrev pub at : ℕ → List ℕ → Cursor
+at place rest = record { place = place; rest = rest }
+
+-- a text is a token wherever it stands and whatever stands behind it that does not go on with it, under every limit that allows so many bytes
+abbrev pub Means : ℕ → (List ℕ → Bool) → List ℕ → Token → Type 0
+Means count goes_on text t =
+    (limit : Limit) (sexp : Bool) (place : ℕ) (rest : List ℕ) → Allows limit count → goes_on rest ≡ false
+    → token_at limit sexp (at place (text ++ rest)) ≡ Ok (t, at (place + length text) rest)
+
+-- ---- words
+
+-- a point too goes on with `null` alone
+abbrev pub behind_null : IonType → List ℕ → Bool
+behind_null type.Null rest = in_word rest || first_is (λ b. b == 46) rest
+behind_null t rest = in_word rest
+
+abbrev pub NullTextIsRead : Type 0
+NullTextIsRead = (t : IonType) → Means (length (null_text t)) (behind_null t) (null_text t) (plain (null t))
+
+abbrev pub BoolTextIsRead : Type 0
+BoolTextIsRead = (truth : Bool) → Means (length (bool_text truth)) in_word (bool_text truth) (plain (bool truth))
+
+-- ---- runs
+
+abbrev pub IntTextIsRead : Type 0
+IntTextIsRead = (i : Int) → IsInt i → Means (length (int_text i)) in_run (int_text i) (plain (int i))
+
+abbrev pub DecimalTextIsRead : Type 0
+DecimalTextIsRead = (d : Decimal) → IsDecimal d → Means (length (decimal_text d)) in_run (decimal_text d) (plain (decimal d))
+
+abbrev pub TimestampTextIsRead : Type 0
+TimestampTextIsRead =
+    (t : Timestamp) → IsTimestamp t → Means (length (timestamp_text t)) in_run (timestamp_text t) (plain (timestamp t))
+
+-- ---- blobs
+
+-- without white space
+abbrev pub solid : List ℕ → List ℕ
+solid bytes = filter (λ b. not (is_white b)) bytes
+
+-- the base64 of some bytes, with white space anywhere
+abbrev pub IsBase64 : List ℕ → List ℕ → Type 0
+IsBase64 chars bytes = solid chars ≡ encode_of standard bytes
+
+-- such characters between braces are a blob of these bytes
+abbrev pub Base64IsRead : Type 0
+Base64IsRead =
+    (chars bytes : List ℕ) → All (λ octet. octet < 256) bytes → IsBase64 chars bytes
+    → Means (length bytes) (λ rest. false) (codes "{{" ++ (chars ++ codes "}}")) (plain (blob bytes))
+
+-- the characters of a blob and the braces that close it, from one place to another
+pub record BlobText (bytes : List ℕ) (c d : Cursor) : Type 0 where
+  pub chars : List ℕ
+  pub text : c.rest ≡ chars ++ (125 ∷ 125 ∷ d.rest)
+  pub place : d.place ≡ c.place + (length chars + 2)
+  pub base64 : IsBase64 chars bytes
+
+-- and no other characters are
+abbrev pub BlobsAreBase64 : Type 0
+BlobsAreBase64 =
+    (limit : Limit) (sexp : Bool) (place : ℕ) (rest bytes : List ℕ) (d : Cursor) → All (λ octet. octet < 256) rest
+    → token_at limit sexp (at place (123 ∷ 123 ∷ rest)) ≡ Ok (plain (blob bytes), d) → BlobText bytes (at (place + 2) rest) d

@@ -8,3 +8,4 @@ mod Complete
 mod Wider
 mod One
 mod Meaning
+mod Blobs

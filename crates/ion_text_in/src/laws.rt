@@ -1,7 +1,7 @@
 //! Laws of the grammar and the reading of the text form, each the contract of a function that does
 //! nothing.
 ghost use Rattle.ion_text_in.specs.Laws.{Complete, EachStepFalls, EachStepFollows, OnePath, OneStream, Sound, StreamsAreRead};
-ghost use Rattle.ion_text_in.specs.Meaning.{BoolTextIsRead, DecimalTextIsRead, IntTextIsRead, NullTextIsRead, TimestampTextIsRead};
+ghost use Rattle.ion_text_in.specs.Meaning.{BlobsAreBase64, BoolTextIsRead, DecimalTextIsRead, IntTextIsRead, NullTextIsRead, TimestampTextIsRead};
 
 /// What is read is a path of the grammar, and where the reading finishes, the whole input is a
 /// stream.
@@ -66,6 +66,12 @@ pub fn timestamp_text_is_read()
     ensures { TimestampTextIsRead }
 {}
 
+/// What is read as a blob is the base64 of its bytes, with white space anywhere, and the braces that
+/// close it.
+pub fn blobs_are_base64()
+    ensures { BlobsAreBase64 }
+{}
+
 #[cfg(test)]
 mod tests {
     use super::*;
@@ -84,5 +90,6 @@ mod tests {
         int_text_is_read();
         decimal_text_is_read();
         timestamp_text_is_read();
+        blobs_are_base64();
     }
 }

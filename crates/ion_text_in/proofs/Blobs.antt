@@ -1,0 +1,381 @@
+-- The characters of a blob are the base64 of its bytes, with white space anywhere.
+use Rattle.std.proofs.Common.{◌≡◌, ℕ, zero, suc, ◌+◌, ◌-◌, ◌*◌, ◌/◌, ◌%◌, ◌<◌, ◌≤◌, Bool, true, false, not, ◌&&◌, ◌==◌, nat_lt, if◌then◌else◌, List, [], ◌∷◌, ◌++◌, All, length, drop, replicate, Option, Some, None, Result, Ok, Err, refl, sym, ap, subst, ◌∙◌, inl, inr, append_assoc, append-nil, arith}
+use Rattle.std.proofs.lemmas.Bool.{cases_Bool, ltb-false, and_parts, eqb-true, false≢true}
+use Rattle.std.proofs.lemmas.List.{length-append, length-replicate}
+use Rattle.std.proofs.lemmas.List.Elements.{filter-append, All-filter, All-nil, All-cons, All-head, All-tail}
+use Rattle.std.specs.Result.{result_ok}
+use Rattle.base64.specs.Engines.{standard}
+use Rattle.base64.specs.GeneralPurpose.{IsBytes, decode_of, decoded_of, encode_of}
+use Rattle.base64.specs.Rfc4648.{encode_symbols, padding_len}
+use Rattle.base64.proofs.EngineFacts.{decode_of_strict, encode_of-append, encode_of-nil}
+use Rattle.base64.proofs.RoundTrip.{length-encode_symbols}
+use Rattle.ion_meter.specs.declared.fault.Reason.{Reason}
+use Rattle.ion_meter.specs.declared.fault.Reason.TheVariants.{BadLob, ScalarLimit}
+use Rattle.ion_meter.specs.Sources.{Cursor, skip}
+use Rattle.ion_value.specs.Parts.{refuse, ◌>>=◌, ◌>>◌}
+use Rattle.ion_text_in.specs.Blanks.{is_white}
+use Rattle.ion_text_in.specs.Lob as lob
+use Rattle.ion_text_in.specs.Lob.{braces, closed_at, group_of, behind_to, last_group, group_bytes, groups_for, lob_at}
+use Rattle.ion_text_in.specs.Places.{run_of, behind_run}
+use Rattle.ion_text_in.specs.Quoted.{short_quote, long_quote, text_at}
+use Rattle.ion_text_in.specs.Token.{Token, plain, first_at, token_of}
+use Rattle.ion_text_in.specs.Meaning.{Limit, at, solid, BlobText, BlobsAreBase64}
+use Rattle.ion_text_in.proofs.Meaning.{skip-front, run-more, run-none}
+use Rattle.ion_value.specs.Digits.{first_is}
+use Rattle.ion_value.specs.Name.{begins_with}
+use Rattle.ion_value.specs.Value.{SymbolAt, Scalar, blob, clob}
+
+-- ---- steps that went well
+
+record Went {A B : Type 0} (o : Result A Reason) (f : A → Result B Reason) (y : B) : Type 0 where
+  value : A
+  first : o ≡ Ok value
+  second : f value ≡ Ok y
+
+went : {A B : Type 0} (o : Result A Reason) (f : A → Result B Reason) (y : B) → (o >>= f) ≡ Ok y → Went o f y
+went (Ok x) f y e = record { value = x; first = refl; second = e }
+went (Err reason) f y e = absurd (cc e)
+
+passed : {B : Type 0} (b : Bool) (reason : Reason) (o : Result B Reason) (y : B) → (refuse b reason >> o) ≡ Ok y → (b ≡ false) × (o ≡ Ok y)
+passed true reason o y e = absurd (cc e)
+passed false reason o y e = (refl, e)
+
+-- ---- groups of characters
+
+group-white : (more b : ℕ) (bytes : List ℕ) → is_white b ≡ true → group_of (suc more) (b ∷ bytes) ≡ group_of (suc more) bytes
+unfolding group_of
+group-white more b bytes e = rw (group_of, e) refl
+
+group-brace : (more b : ℕ) (bytes : List ℕ) → is_white b ≡ false → (b == 125) ≡ true → group_of (suc more) (b ∷ bytes) ≡ ([], b ∷ bytes)
+unfolding group_of
+group-brace more b bytes e f = rw (group_of, e, f) refl
+
+group-char : (more b : ℕ) (bytes : List ℕ) → is_white b ≡ false → (b == 125) ≡ false
+    → group_of (suc more) (b ∷ bytes) ≡ (b ∷ (group_of more bytes).0, (group_of more bytes).1)
+unfolding group_of
+group-char more b bytes e f = rw (group_of, e, f) refl
+
+solid-white : (b : ℕ) (bytes : List ℕ) → is_white b ≡ true → solid (b ∷ bytes) ≡ solid bytes
+solid-white b bytes e = simp e refl
+
+solid-char : (b : ℕ) (bytes : List ℕ) → is_white b ≡ false → solid (b ∷ bytes) ≡ b ∷ solid bytes
+solid-char b bytes e = simp e refl
+
+-- what a group is cut from: its characters and white space
+record Grouped (n : ℕ) (bytes : List ℕ) (g : List ℕ × List ℕ) : Type 0 where
+  front : List ℕ
+  is : bytes ≡ front ++ g.1
+  chars : solid front ≡ g.0
+  few : length g.0 ≤ n
+
+grouped : (n : ℕ) (bytes : List ℕ) → Grouped n bytes (group_of n bytes)
+unfolding group_of
+grouped zero bytes = record { front = []; is = refl; chars = refl; few = omega arith }
+grouped (suc n) [] = record { front = []; is = refl; chars = refl; few = omega arith }
+grouped (suc n) (b ∷ bytes) = elim (cases_Bool (is_white b)) [
+  | inl white ↦
+      let g = grouped (suc n) bytes in
+      subst (Grouped (suc n) (b ∷ bytes)) (sym (group-white n b bytes white))
+      (record { front = b ∷ g.front; is = ap (λ (xs : List ℕ). b ∷ xs) g.is; chars = solid-white b g.front white ∙ g.chars; few = g.few })
+  | inr dark ↦ elim (cases_Bool (b == 125)) [
+      | inl brace ↦ subst (Grouped (suc n) (b ∷ bytes)) (sym (group-brace n b bytes dark brace)) (record { front = []; is = refl; chars = refl; few = omega arith })
+      | inr char ↦
+          let g = grouped n bytes in
+          subst (Grouped (suc n) (b ∷ bytes)) (sym (group-char n b bytes dark char))
+          (record {
+            front = b ∷ g.front;
+            is = ap (λ (xs : List ℕ). b ∷ xs) g.is;
+            chars = solid-char b g.front dark ∙ ap (λ (xs : List ℕ). b ∷ xs) g.chars;
+            few = let few = g.few in omega arith;
+          })
+    ]
+]
+
+-- ---- bytes of groups
+
+abbrev Octets : List ℕ → Type 0
+Octets bytes = All (λ octet. octet < 256) bytes
+
+octets-IsBytes : (bytes : List ℕ) → Octets bytes → IsBytes bytes
+octets-IsBytes [] all i = omega arith
+octets-IsBytes (b ∷ bytes) all zero = all 0 0 (omega arith)
+octets-IsBytes (b ∷ bytes) all (suc i) = octets-IsBytes bytes (λ k d lt. all (suc k) d (omega arith)) i
+
+decoded : (s bytes : List ℕ) → decoded_of standard s ≡ Some bytes → decode_of standard s ≡ Ok bytes
+unfolding decoded_of
+decoded s bytes e = go (decode_of standard s) e
+  where
+    go : {E : Type 0} (r : Result (List ℕ) E) → result_ok r ≡ Some bytes → r ≡ Ok bytes
+    go (Ok x) e = ap Ok (cc e)
+    go (Err x) e = absurd (cc e)
+
+length-encode_of : (bytes : List ℕ) → length (encode_of standard bytes) ≡ (4 * length bytes + 2) / 3 + (3 - length bytes % 3) % 3
+length-encode_of bytes =
+    length-append (encode_symbols standard.encode_table bytes) (replicate (padding_len (length bytes)) 61)
+    ∙ rw (length-encode_symbols standard.encode_table bytes, length-replicate {A = ℕ} (padding_len (length bytes)) 61) refl
+
+record IsGroup (padded : Bool) (group bytes : List ℕ) : Type 0 where
+  first : padded ≡ false
+  base64 : group ≡ encode_of standard bytes
+
+-- what is made of the bytes that a group decodes to
+abbrev by_decoded : Bool → Option (List ℕ) → Result (List ℕ) Reason
+by_decoded padded (Some bytes) = if padded then Err BadLob else Ok bytes
+by_decoded padded None = Err BadLob
+
+by-decoded : (padded : Bool) (group : List ℕ) → group_bytes padded group ≡ by_decoded padded (decoded_of standard group)
+by-decoded padded group = go (decoded_of standard group)
+  where
+    go : (o : Option (List ℕ)) → ◌≡◌ {A = Result (List ℕ) Reason} (elim o [ Some bytes ↦ if padded then Err BadLob else Ok bytes | None ↦ Err BadLob ]) (by_decoded padded o)
+    go (Some bytes) = refl
+    go None = refl
+
+group-is : (padded : Bool) (group bytes : List ℕ) → Octets group → group_bytes padded group ≡ Ok bytes → IsGroup padded group bytes
+group-is padded group bytes octets e = go padded (decoded_of standard group) refl (sym (by-decoded padded group) ∙ e)
+  where
+    go : (late : Bool) (o : Option (List ℕ)) → decoded_of standard group ≡ o → by_decoded late o ≡ Ok bytes → IsGroup late group bytes
+    go true (Some found) is e = absurd (cc e)
+    go false (Some found) is e =
+        let same : found ≡ bytes = cc e in
+        record { first = refl; base64 = decode_of_strict standard group bytes (refl, refl) (octets-IsBytes group octets) (decoded group bytes (is ∙ ap Some same)) }
+    go late None is e = absurd (cc e)
+
+-- ---- a blob is its base64
+
+octets-front : (xs ys : List ℕ) → Octets (xs ++ ys) → Octets xs
+octets-front [] ys all = All-nil (λ octet. octet < 256)
+octets-front (x ∷ xs) ys all =
+    All-cons (λ octet. octet < 256) x xs (All-head (λ octet. octet < 256) x (xs ++ ys) all) (octets-front xs ys (All-tail (λ octet. octet < 256) x (xs ++ ys) all))
+
+octets-behind : (xs ys : List ℕ) → Octets (xs ++ ys) → Octets ys
+octets-behind [] ys all = all
+octets-behind (x ∷ xs) ys all = octets-behind xs ys (All-tail (λ octet. octet < 256) x (xs ++ ys) all)
+
+-- the braces, and what stands behind them
+record Closed (c d : Cursor) : Type 0 where
+  text : c.rest ≡ 125 ∷ 125 ∷ d.rest
+  place : d.place ≡ c.place + 2
+
+from-not : (b : Bool) → not b ≡ false → b ≡ true
+from-not true e = refl
+from-not false e = absurd (false≢true (sym e))
+
+abbrev skipped : Cursor → Result Cursor Reason
+skipped c = Ok (skip 2 c)
+
+closed : (p : ℕ) (rest : List ℕ) (d : Cursor) → closed_at (at p rest) ≡ Ok d → Closed (at p rest) d
+closed p [] d e = absurd (cc e)
+closed p (b ∷ []) d e = elim (cases_Bool (b == 125)) [
+  | inl brace ↦ absurd (cc (rw brace at e))
+  | inr other ↦ absurd (cc (rw other at e))
+]
+closed p (b ∷ a ∷ rest) d e =
+    let ok = passed (not (b == 125 && a == 125)) BadLob (skipped (at p (b ∷ a ∷ rest))) d e in
+    let both = and_parts (b == 125) (a == 125) (from-not (b == 125 && a == 125) ok.0) in
+    let same : at (p + 2) rest ≡ d = cc ok.1 in
+    record {
+      text = rw (eqb-true b 125 both.0, eqb-true a 125 both.1) (ap (λ (d : Cursor). 125 ∷ 125 ∷ d.rest) same);
+      place = sym (ap (λ (d : Cursor). d.place) same);
+    }
+
+abbrev Got : Type 0
+Got = Result (List ℕ × Cursor) Reason
+
+abbrev got : List ℕ → Cursor → Got
+got bytes d = Ok (bytes, d)
+
+abbrev bad : Got
+bad = Err BadLob
+
+-- what fewer than four characters come to
+last-is : (group : List ℕ) (p : ℕ) (rest bytes : List ℕ) (d : Cursor) → last_group group (at p rest) ≡ got bytes d → (group ≡ []) × (bytes ≡ []) × Closed (at p rest) d
+last-is [] p rest bytes d e =
+    let w = went (closed_at (at p rest)) (λ d. got [] d) (bytes, d) e in
+    let both : ◌≡◌ {A = List ℕ × Cursor} ([], w.value) (bytes, d) = cc w.second in
+    (refl, sym (ap (λ (z : List ℕ × Cursor). z.0) both), closed p rest d (w.first ∙ ap Ok (ap (λ (z : List ℕ × Cursor). z.1) both)))
+last-is (b ∷ group) p rest bytes d e = go (closed_at (at p rest)) e
+  where
+    go : (o : Result Cursor Reason) → (o >> bad) ≡ got bytes d → (b ∷ group ≡ []) × (bytes ≡ []) × Closed (at p rest) d
+    go (Ok x) e = absurd (cc e)
+    go (Err x) e = absurd (cc e)
+
+-- the characters of a blob and its braces, where nothing follows a padded group
+record IsRead (padded : Bool) (bytes : List ℕ) (c d : Cursor) : Type 0 where
+  text : BlobText bytes c d
+  none : padded ≡ true → bytes ≡ []
+
+-- a place behind so many bytes
+behind-place : (p : ℕ) (all front rest : List ℕ) → all ≡ front ++ rest → p + (length all - length rest) ≡ p + length front
+behind-place p all front rest is = omega (arith, length-append front rest, ap (λ (xs : List ℕ). length xs) is)
+
+encode-nil : encode_of standard [] ≡ []
+encode-nil = encode_of-nil standard
+
+end-read : (padded : Bool) (p : ℕ) (all front rest bytes : List ℕ) (d : Cursor) → all ≡ front ++ rest → solid front ≡ [] → bytes ≡ []
+    → Closed (behind_to (at p all) rest) d → IsRead padded bytes (at p all) d
+end-read padded p all front rest bytes d is chars none closed =
+    let behind = behind-place p all front rest is in
+    let place = closed.place in
+    record {
+      text = record {
+        chars = front;
+        text = is ∙ ap (λ (xs : List ℕ). front ++ xs) closed.text;
+        place = omega (arith, behind, place);
+        base64 = rw (none, chars, encode-nil) refl;
+      };
+      none = λ _. none;
+    }
+
+-- a group and what follows it
+more-read : (padded : Bool) (p : ℕ) (all front rest group bytes others : List ℕ) (d : Cursor) → all ≡ front ++ rest → solid front ≡ group → length group ≡ 4
+    → IsGroup padded group bytes → IsRead (nat_lt (length bytes) 3) others (behind_to (at p all) rest) d → IsRead padded (bytes ++ others) (at p all) d
+more-read padded p all front rest group bytes others d is chars four group_is read =
+    let t = read.text in
+    let behind = behind-place p all front rest is in
+    let place = t.place in
+    let text_is : all ≡ (front ++ t.chars) ++ (125 ∷ 125 ∷ d.rest) =
+    is ∙ ap (λ (xs : List ℕ). front ++ xs) t.text ∙ sym (append_assoc front t.chars (125 ∷ 125 ∷ d.rest)) in
+    record {
+      text = record {
+        chars = front ++ t.chars;
+        text = text_is;
+        place = omega (arith, behind, place, length-append front t.chars);
+        base64 = filter-append (λ b. not (is_white b)) front t.chars ∙ rw (chars, t.base64, group_is.base64) (sym joined);
+      };
+      none = λ late. absurd (false≢true (sym group_is.first ∙ late));
+    }
+  where
+    long : length (encode_of standard bytes) ≡ 4
+    long = ap (λ (xs : List ℕ). length xs) (sym group_is.base64) ∙ four
+
+    joined : encode_of standard (bytes ++ others) ≡ encode_of standard bytes ++ encode_of standard others
+    joined = elim (cases_Bool (nat_lt (length bytes) 3)) [
+      | inl short ↦ rw (read.none short, encode-nil, append-nil, append-nil) refl
+      | inr full ↦
+          let many : 3 ≤ length bytes = ltb-false (length bytes) 3 full in
+          encode_of-append standard bytes others (omega (arith, many, sym (length-encode_of bytes) ∙ long))
+    ]
+
+-- what a group of four characters and what stands behind it come to
+abbrev grouping : ℕ → Limit → ℕ → Bool → Cursor → List ℕ × List ℕ → Got
+grouping most limit count padded c g =
+    group_bytes padded g.0 >>= (λ bytes. refuse (nat_lt limit (count + length bytes)) ScalarLimit
+    >> (groups_for most limit (count + length bytes) (nat_lt (length bytes) 3) (behind_to c g.1) >>= (λ others. got (bytes ++ others.0) others.1)))
+
+groups-read : (most : ℕ) (limit : Limit) (count : ℕ) (padded : Bool) (p : ℕ) (all bytes : List ℕ) (d : Cursor) → Octets all
+    → groups_for most limit count padded (at p all) ≡ got bytes d → IsRead padded bytes (at p all) d
+unfolding groups_for
+groups-read zero limit count padded p all bytes d octets e = absurd (cc e)
+groups-read (suc most) limit count padded p all bytes d octets e =
+    go (λ count padded p all bytes d octets e. groups-read most limit count padded p all bytes d octets e) (nat_lt (length (group_of 4 all).0) 4) refl e
+  where
+    go : ((count : ℕ) (padded : Bool) (p : ℕ) (all bytes : List ℕ) (d : Cursor) → Octets all → groups_for most limit count padded (at p all) ≡ got bytes d → IsRead padded bytes (at p all) d)
+        → (few : Bool) → nat_lt (length (group_of 4 all).0) 4 ≡ few
+        → (if few then last_group (group_of 4 all).0 (behind_to (at p all) (group_of 4 all).1) else grouping most limit count padded (at p all) (group_of 4 all)) ≡ got bytes d
+        → IsRead padded bytes (at p all) d
+    go later true few e =
+        let g = grouped 4 all in
+        let last = last-is (group_of 4 all).0 (p + (length all - length (group_of 4 all).1)) (group_of 4 all).1 bytes d e in
+        end-read padded p all g.front (group_of 4 all).1 bytes d g.is (g.chars ∙ last.0) last.1 last.2
+    go later false few e =
+        let g = grouped 4 all in
+        let most_four = g.few in
+        let four_at_least : 4 ≤ length (group_of 4 all).0 = ltb-false (length (group_of 4 all).0) 4 few in
+        let text : Octets (g.front ++ (group_of 4 all).1) = subst Octets g.is octets in
+        let chars : Octets (group_of 4 all).0 = subst Octets g.chars (All-filter (λ b. not (is_white b)) (λ octet. octet < 256) g.front (octets-front g.front (group_of 4 all).1 text)) in
+        let w = went (group_bytes padded (group_of 4 all).0) _ (bytes, d) e in
+        let ok = passed (nat_lt limit (count + length w.value)) ScalarLimit _ (bytes, d) w.second in
+        let v = went (groups_for most limit (count + length w.value) (nat_lt (length w.value) 3) (behind_to (at p all) (group_of 4 all).1)) _ (bytes, d) ok.1 in
+        let both : ◌≡◌ {A = List ℕ × Cursor} (w.value ++ v.value.0, v.value.1) (bytes, d) = cc v.second in
+        let rest_is : groups_for most limit (count + length w.value) (nat_lt (length w.value) 3) (behind_to (at p all) (group_of 4 all).1) ≡ got v.value.0 v.value.1 = v.first in
+        let rest = later (count + length w.value) (nat_lt (length w.value) 3) (p + (length all - length (group_of 4 all).1)) (group_of 4 all).1
+        v.value.0 v.value.1 (octets-behind g.front (group_of 4 all).1 text) rest_is in
+        let read : IsRead padded (w.value ++ v.value.0) (at p all) v.value.1 =
+        more-read padded p all g.front (group_of 4 all).1 (group_of 4 all).0 w.value v.value.0 v.value.1 g.is g.chars (omega arith)
+        (group-is padded (group_of 4 all).0 w.value chars w.first) rest in
+        subst (λ (z : List ℕ × Cursor). IsRead padded z.0 (at p all) z.1) both read
+
+-- ---- a token is a blob
+
+abbrev token : Token → Cursor → Result (Token × Cursor) Reason
+token t c = Ok (t, c)
+
+abbrev body : Scalar SymbolAt → Cursor → Result (Scalar SymbolAt × Cursor) Reason
+body v d = Ok (v, d)
+
+blob-of : (v w : Scalar SymbolAt) (c d : Cursor) → body v c ≡ body w d → (v ≡ w) × (c ≡ d)
+blob-of v w c d e =
+    let both : ◌≡◌ {A = Scalar SymbolAt × Cursor} (v, c) (w, d) = cc e in
+    (ap (λ (z : Scalar SymbolAt × Cursor). z.0) both, ap (λ (z : Scalar SymbolAt × Cursor). z.1) both)
+
+no-clob : (limit : Limit) (is_long : Bool) (c d : Cursor) (bytes : List ℕ) → lob.clob_at limit is_long c ≡ body (blob bytes) d → ⊥
+no-clob limit is_long c d bytes e =
+    let w = went (text_at (if is_long then long_quote true else short_quote true) limit c) _ (blob bytes, d) e in
+    let v = went (lob.clob_closed_at is_long (behind_run (first_is is_white) w.value.1)) _ (blob bytes, d) w.second in
+    let is = blob-of (clob w.value.0) (blob bytes) v.value d v.second in
+    cc is.0
+
+blob-read : (limit : Limit) (p : ℕ) (all bytes : List ℕ) (d : Cursor) → Octets all → lob.blob_at limit (at p all) ≡ body (blob bytes) d → BlobText bytes (at p all) d
+blob-read limit p all bytes d octets e =
+    let w = went (groups_for (suc (length all)) limit 0 false (at p all)) (λ b. body (blob b.0) b.1) (blob bytes, d) e in
+    let is = blob-of (blob w.value.0) (blob bytes) w.value.1 d w.second in
+    let same : w.value.0 ≡ bytes = cc is.0 in
+    subst (λ (d : Cursor). BlobText bytes (at p all) d) is.1
+    (subst (λ (bytes : List ℕ). BlobText bytes (at p all) w.value.1) same
+    (groups-read (suc (length all)) limit 0 false p all w.value.0 w.value.1 octets w.first).text)
+
+lob-in : (limit : Limit) (p : ℕ) (all bytes : List ℕ) (d : Cursor) → Octets all → lob.lob_in limit (at p all) ≡ body (blob bytes) d → BlobText bytes (at p all) d
+lob-in limit p all bytes d octets e = go (begins_with (34 ∷ []) all) (begins_with (39 ∷ 39 ∷ 39 ∷ []) all) e
+  where
+    go : (short long : Bool) → (if short then lob.clob_at limit false (skip 1 (at p all)) else (if long then lob.clob_at limit true (skip 3 (at p all)) else lob.blob_at limit (at p all))) ≡ body (blob bytes) d
+        → BlobText bytes (at p all) d
+    go true long e = absurd (no-clob limit false (skip 1 (at p all)) d bytes e)
+    go false true e = absurd (no-clob limit true (skip 3 (at p all)) d bytes e)
+    go false false e = blob-read limit p all bytes d octets e
+
+-- white space in front
+record Front (bytes : List ℕ) (r : List ℕ × List ℕ) : Type 0 where
+  is : bytes ≡ r.0 ++ r.1
+  white : solid r.0 ≡ []
+
+white-front : (bytes : List ℕ) → Front bytes (run_of (first_is is_white) bytes)
+white-front [] = subst (Front []) (sym (run-none (first_is is_white) [] refl)) (record { is = refl; white = refl })
+white-front (b ∷ bytes) = elim (cases_Bool (is_white b)) [
+  | inl white ↦
+      let f = white-front bytes in
+      subst (Front (b ∷ bytes)) (sym (run-more (first_is is_white) b bytes white))
+      (record { is = ap (λ (xs : List ℕ). b ∷ xs) f.is; white = solid-white b (run_of (first_is is_white) bytes).0 white ∙ f.white })
+  | inr dark ↦ subst (Front (b ∷ bytes)) (sym (run-none (first_is is_white) (b ∷ bytes) dark)) (record { is = refl; white = refl })
+]
+
+front-text : (p : ℕ) (all front rest bytes : List ℕ) (d : Cursor) → all ≡ front ++ rest → solid front ≡ [] → BlobText bytes (at (p + length front) rest) d → BlobText bytes (at p all) d
+front-text p all front rest bytes d is white t =
+    let place = t.place in
+    record {
+      chars = front ++ t.chars;
+      text = is ∙ ap (λ (xs : List ℕ). front ++ xs) t.text ∙ sym (append_assoc front t.chars (125 ∷ 125 ∷ d.rest));
+      place = omega (arith, place, length-append front t.chars);
+      base64 = filter-append (λ b. not (is_white b)) front t.chars ∙ ap (λ (xs : List ℕ). xs ++ solid t.chars) white ∙ t.base64;
+    }
+
+lob-read : (limit : Limit) (p : ℕ) (all bytes : List ℕ) (d : Cursor) → Octets all → lob.lob_at limit (at p all) ≡ body (blob bytes) d → BlobText bytes (at p all) d
+unfolding lob_at
+lob-read limit p all bytes d octets e =
+    let r : List ℕ × List ℕ = run_of (first_is is_white) all in
+    let f = white-front all in
+    let behind : behind_run (first_is is_white) (at p all) ≡ at (p + length r.0) r.1 = ap (λ (xs : List ℕ). at (p + length r.0) (drop (length r.0) xs)) f.is ∙ skip-front p r.0 r.1 in
+    front-text p all r.0 r.1 bytes d f.is f.white
+    (lob-in limit (p + length r.0) r.1 bytes d (octets-behind r.0 r.1 (subst Octets f.is octets)) (subst (λ (c : Cursor). lob.lob_in limit c ≡ body (blob bytes) d) behind e))
+
+pub blobs_are_base64 : BlobsAreBase64
+unfolding first_at token_of
+blobs_are_base64 limit sexp place rest bytes d octets e =
+    let w = went (lob.lob_at limit (at (place + 2) rest)) (λ l. token (plain l.0) l.1) (plain (blob bytes), d) e in
+    let both : ◌≡◌ {A = Token × Cursor} (plain w.value.0, w.value.1) (plain (blob bytes), d) = cc w.second in
+    let same : plain w.value.0 ≡ plain (blob bytes) = ap (λ (z : Token × Cursor). z.0) both in
+    let is : w.value.0 ≡ blob bytes = cc same in
+    let behind : w.value.1 ≡ d = ap (λ (z : Token × Cursor). z.1) both in
+    lob-read limit (place + 2) rest bytes d octets (w.first ∙ ap Ok (pair w.value (blob bytes) d is behind))
+  where
+    pair : (u : Scalar SymbolAt × Cursor) (v : Scalar SymbolAt) (d : Cursor) → u.0 ≡ v → u.1 ≡ d → u ≡ (v, d)
+    pair u v d is behind = rw (← is, ← behind) refl

@@ -1,13 +1,14 @@
 -- The characters of a blob are the base64 of its bytes, with white space anywhere.
-use Rattle.std.proofs.Common.{◌≡◌, ℕ, zero, suc, ◌+◌, ◌-◌, ◌*◌, ◌/◌, ◌%◌, ◌<◌, ◌≤◌, Bool, true, false, not, ◌&&◌, ◌==◌, nat_lt, if◌then◌else◌, List, [], ◌∷◌, ◌++◌, All, length, drop, replicate, Option, Some, None, Result, Ok, Err, refl, sym, ap, subst, ◌∙◌, inl, inr, append_assoc, append-nil, arith}
-use Rattle.std.proofs.lemmas.Bool.{cases_Bool, ltb-false, and_parts, eqb-true, false≢true}
+use Rattle.std.proofs.Common.{◌≡◌, ℕ, zero, suc, ◌+◌, ◌-◌, ◌*◌, ◌/◌, ◌%◌, ◌<◌, ◌≤◌, Bool, true, false, not, ◌&&◌, ◌==◌, nat_lt, if◌then◌else◌, List, [], ◌∷◌, ◌++◌, All, length, drop, replicate, Option, Some, None, Result, Ok, Err, refl, sym, ap, subst, ◌∙◌, inl, inr, append_assoc, append-nil, arith, slice_index}
+use Rattle.std.proofs.lemmas.Bool.{cases_Bool, ltb-false, and_parts, eqb-true, false≢true, le-ltb}
 use Rattle.std.proofs.lemmas.List.{length-append, length-replicate}
 use Rattle.std.proofs.lemmas.List.Elements.{filter-append, All-filter, All-nil, All-cons, All-head, All-tail}
 use Rattle.std.specs.Result.{result_ok}
 use Rattle.base64.specs.Engines.{standard}
 use Rattle.base64.specs.GeneralPurpose.{IsBytes, decode_of, decoded_of, encode_of}
-use Rattle.base64.specs.Rfc4648.{encode_symbols, padding_len}
-use Rattle.base64.proofs.EngineFacts.{decode_of_strict, encode_of-append, encode_of-nil}
+use Rattle.base64.specs.Rfc4648.{encode_symbols, encode_group, padding_len}
+use Rattle.base64.proofs.EngineFacts.{decode_of_strict, decode_of-encode_of, encode_of-append, encode_of-nil}
+use Rattle.base64.proofs.Streams.{decoded_of-ok}
 use Rattle.base64.proofs.RoundTrip.{length-encode_symbols}
 use Rattle.ion_meter.specs.declared.fault.Reason.{Reason}
 use Rattle.ion_meter.specs.declared.fault.Reason.TheVariants.{BadLob, ScalarLimit}
@@ -19,9 +20,9 @@ use Rattle.ion_text_in.specs.Lob.{braces, closed_at, group_of, behind_to, last_g
 use Rattle.ion_text_in.specs.Places.{run_of, behind_run}
 use Rattle.ion_text_in.specs.Quoted.{short_quote, long_quote, text_at}
 use Rattle.ion_text_in.specs.Token.{Token, plain, first_at, token_of}
-use Rattle.ion_text_in.specs.Meaning.{Limit, at, solid, BlobText, BlobsAreBase64}
-use Rattle.ion_text_in.proofs.Meaning.{skip-front, run-more, run-none}
-use Rattle.ion_value.specs.Digits.{first_is}
+use Rattle.ion_text_in.specs.Meaning.{Limit, Allows, IsBase64, at, solid, BlobText, BlobsAreBase64}
+use Rattle.ion_text_in.proofs.Meaning.{all-append, allowed, allows-fewer, skip-front, run-more, run-none}
+use Rattle.ion_value.specs.Digits.{first_is, all_are}
 use Rattle.ion_value.specs.Name.{begins_with}
 use Rattle.ion_value.specs.Value.{SymbolAt, Scalar, blob, clob}
 
@@ -39,6 +40,10 @@ went (Err reason) f y e = absurd (cc e)
 passed : {B : Type 0} (b : Bool) (reason : Reason) (o : Result B Reason) (y : B) → (refuse b reason >> o) ≡ Ok y → (b ≡ false) × (o ≡ Ok y)
 passed true reason o y e = absurd (cc e)
 passed false reason o y e = (refl, e)
+
+not-true : (b : Bool) → not b ≡ true → b ≡ false
+not-true true e = absurd (false≢true e)
+not-true false e = refl
 
 -- ---- groups of characters
 
@@ -379,3 +384,168 @@ blobs_are_base64 limit sexp place rest bytes d octets e =
   where
     pair : (u : Scalar SymbolAt × Cursor) (v : Scalar SymbolAt) (d : Cursor) → u.0 ≡ v → u.1 ≡ d → u ≡ (v, d)
     pair u v d is behind = rw (← is, ← behind) refl
+
+-- ---- base64 is a blob
+
+-- no brace that closes, and no quote
+abbrev is_char : ℕ → Bool
+is_char b = not (b == 125) && (not (b == 34) && not (b == 39))
+
+char-at : (t : List ℕ) (i : ℕ) → all_are is_char t ≡ true → is_char (slice_index t i) ≡ true
+char-at [] i all = refl
+char-at (b ∷ t) zero all = (and_parts (is_char b) (all_are is_char t) all).0
+char-at (b ∷ t) (suc i) all = char-at t i (and_parts (is_char b) (all_are is_char t) all).1
+
+module _ (t : List ℕ) (all : all_are is_char t ≡ true) where
+  symbols-chars : (m : List ℕ) → all_are is_char (encode_symbols t m) ≡ true
+  unfolding encode_symbols
+  symbols-chars [] = refl
+  symbols-chars (a ∷ []) = rw (char-at t (a / 4) all, char-at t (a % 4 * 16) all) refl
+  symbols-chars (a ∷ b ∷ []) = rw (char-at t (a / 4) all, char-at t (a % 4 * 16 + b / 16) all, char-at t (b % 16 * 4) all) refl
+  symbols-chars (a ∷ b ∷ c ∷ m) =
+      all-append is_char (encode_group t a b c) (encode_symbols t m)
+      (rw (char-at t (a / 4) all, char-at t (a % 4 * 16 + b / 16) all, char-at t (b % 16 * 4 + c / 64) all, char-at t (c % 64) all) refl)
+      (symbols-chars m)
+
+padding-chars : (n : ℕ) → all_are is_char (replicate n 61) ≡ true
+padding-chars zero = refl
+padding-chars (suc n) = padding-chars n
+
+base64-chars : (m : List ℕ) → all_are is_char (encode_of standard m) ≡ true
+base64-chars m =
+    all-append is_char (encode_symbols standard.encode_table m) (replicate (padding_len (length m)) 61)
+    (symbols-chars standard.encode_table refl m) (padding-chars (padding_len (length m)))
+
+-- the characters of a group are cut from the front, and what they leave
+record Taken (n : ℕ) (chars group tail behind : List ℕ) : Type 0 where
+  more : List ℕ
+  cut : group_of n (chars ++ behind) ≡ (group, more ++ behind)
+  rest : solid more ≡ tail
+  fewer : length more + n ≤ length chars
+
+taken : (n : ℕ) (chars group tail behind : List ℕ) → solid chars ≡ group ++ tail → length group ≡ n → all_are is_char group ≡ true → Taken n chars group tail behind
+unfolding group_of
+taken zero chars [] tail behind e len all = record { more = chars; cut = refl; rest = e; fewer = omega arith }
+taken zero chars (g ∷ group) tail behind e len all = absurd (omega (arith, len))
+taken (suc n) chars [] tail behind e len all = absurd (omega (arith, len))
+taken (suc n) [] (g ∷ group) tail behind e len all = absurd (cc e)
+taken (suc n) (b ∷ chars) (g ∷ group) tail behind e len all = elim (cases_Bool (is_white b)) [
+  | inl white ↦
+      let t = taken (suc n) chars (g ∷ group) tail behind (sym (solid-white b chars white) ∙ e) len all in
+      let fewer = t.fewer in
+      record { more = t.more; cut = group-white n b (chars ++ behind) white ∙ t.cut; rest = t.rest; fewer = omega (arith, fewer) }
+  | inr dark ↦
+      let cons : ◌≡◌ {A = List ℕ} (b ∷ solid chars) (g ∷ (group ++ tail)) = sym (solid-char b chars dark) ∙ e in
+      let same : b ≡ g = cc cons in
+      let later : solid chars ≡ group ++ tail = cc cons in
+      let parts = and_parts (is_char g) (all_are is_char group) all in
+      let t = taken n chars group tail behind later (omega (arith, len)) parts.1 in
+      let fewer = t.fewer in
+      let no_brace : (b == 125) ≡ false = rw same (not-true (g == 125) (and_parts (not (g == 125)) _ parts.0).0) in
+      record {
+        more = t.more;
+        cut = group-char n b (chars ++ behind) dark no_brace ∙ ap (λ (z : List ℕ × List ℕ). (b ∷ z.0, z.1)) t.cut ∙ ap (λ (g : ℕ). (g ∷ group, t.more ++ behind)) same;
+        rest = t.rest;
+        fewer = omega (arith, fewer);
+      }
+]
+
+none-taken : (n : ℕ) (chars behind : List ℕ) → solid chars ≡ [] → group_of (suc n) (chars ++ 125 ∷ behind) ≡ ([], 125 ∷ behind)
+none-taken n [] behind e = group-brace n 125 behind refl refl
+none-taken n (b ∷ chars) behind e = elim (cases_Bool (is_white b)) [
+  | inl white ↦ group-white n b (chars ++ 125 ∷ behind) white ∙ none-taken n chars behind (sym (solid-white b chars white) ∙ e)
+  | inr dark ↦ absurd (cc (sym (solid-char b chars dark) ∙ e))
+]
+
+group-decoded : (bytes : List ℕ) → Octets bytes → group_bytes false (encode_of standard bytes) ≡ Ok bytes
+group-decoded bytes octets =
+    by-decoded false (encode_of standard bytes)
+    ∙ ap (by_decoded false) (decoded_of-ok standard (encode_of standard bytes) bytes (decode_of-encode_of standard bytes refl (octets-IsBytes bytes octets)))
+
+closed-braces : (p q : ℕ) (behind : List ℕ) → p + 2 ≡ q → closed_at (at p (125 ∷ 125 ∷ behind)) ≡ Ok (at q behind)
+closed-braces p q behind e = ap (λ (q : ℕ). Ok (at q behind)) e
+
+-- the bytes of a group are those in front of the others, and it has four characters
+record Split (bytes : List ℕ) : Type 0 where
+  front : List ℕ
+  others : List ℕ
+  is : bytes ≡ front ++ others
+  some : 1 ≤ length front
+  base64 : encode_of standard bytes ≡ encode_of standard front ++ encode_of standard others
+  four : length (encode_of standard front) ≡ 4
+  last : nat_lt (length front) 3 ≡ true → others ≡ []
+
+whole-split : (bytes : List ℕ) → 1 ≤ length bytes → length bytes ≤ 3 → Split bytes
+whole-split bytes some few = record {
+  front = bytes;
+  others = [];
+  is = sym (append-nil bytes);
+  some = some;
+  base64 = rw encode-nil (sym (append-nil (encode_of standard bytes)));
+  four = length-encode_of bytes ∙ omega (arith, some, few);
+  last = λ _. refl;
+}
+
+split : (b : ℕ) (bytes : List ℕ) → Split (b ∷ bytes)
+split b [] = whole-split (b ∷ []) (omega arith) (omega arith)
+split b (c ∷ []) = whole-split (b ∷ c ∷ []) (omega arith) (omega arith)
+split b (c ∷ d ∷ bytes) = record {
+  front = b ∷ c ∷ d ∷ [];
+  others = bytes;
+  is = refl;
+  some = omega arith;
+  base64 = encode_of-append standard (b ∷ c ∷ d ∷ []) bytes refl;
+  four = length-encode_of (b ∷ c ∷ d ∷ []);
+  last = λ short. absurd (false≢true short);
+}
+
+-- a group is read, and what follows it
+one-group : (most : ℕ) (limit : Limit) (count : ℕ) (p : ℕ) (all group rest bytes others : List ℕ) (d : Cursor) → group_of 4 all ≡ (group, rest) → length group ≡ 4
+    → group_bytes false group ≡ Ok bytes → Allows limit (count + length bytes)
+    → groups_for most limit (count + length bytes) (nat_lt (length bytes) 3) (behind_to (at p all) rest) ≡ got others d
+    → groups_for (suc most) limit count false (at p all) ≡ got (bytes ++ others) d
+unfolding groups_for
+one-group most limit count p all group rest bytes others d cut four decoded allows later =
+    ap (λ (g : List ℕ × List ℕ). if nat_lt (length g.0) 4 then last_group g.0 (behind_to (at p all) g.1) else grouping most limit count false (at p all) g) cut
+    ∙ ap (λ (few : Bool). if few then last_group group (behind_to (at p all) rest) else grouping most limit count false (at p all) (group, rest)) (le-ltb (length group) 4 (omega (arith, four)))
+    ∙ ap (λ (o : Result (List ℕ) Reason). o >>= (λ bytes. refuse (nat_lt limit (count + length bytes)) ScalarLimit
+    >> (groups_for most limit (count + length bytes) (nat_lt (length bytes) 3) (behind_to (at p all) rest) >>= (λ others. got (bytes ++ others.0) others.1)))) decoded
+    ∙ ap (λ (over : Bool). refuse over ScalarLimit
+    >> (groups_for most limit (count + length bytes) (nat_lt (length bytes) 3) (behind_to (at p all) rest) >>= (λ others. got (bytes ++ others.0) others.1))) (allowed limit (count + length bytes) allows)
+    ∙ ap (λ (o : Got). o >>= (λ others. got (bytes ++ others.0) others.1)) later
+
+no-group : (most : ℕ) (limit : Limit) (count : ℕ) (padded : Bool) (p q : ℕ) (all behind : List ℕ) → group_of 4 all ≡ ([], 125 ∷ 125 ∷ behind)
+    → p + (length all - length (125 ∷ 125 ∷ behind)) + 2 ≡ q → groups_for (suc most) limit count padded (at p all) ≡ got [] (at q behind)
+unfolding groups_for
+no-group most limit count padded p q all behind cut place =
+    ap (λ (g : List ℕ × List ℕ). if nat_lt (length g.0) 4 then last_group g.0 (behind_to (at p all) g.1) else grouping most limit count padded (at p all) g) cut
+    ∙ ap (λ (q : ℕ). got [] (at q behind)) place
+
+behind-braces : (p : ℕ) (chars behind : List ℕ) → p + (length (chars ++ 125 ∷ 125 ∷ behind) - length (125 ∷ 125 ∷ behind)) + 2 ≡ p + (length chars + 2)
+behind-braces p chars behind = omega (arith, length-append chars (125 ∷ 125 ∷ behind))
+
+pub groups-given : (most : ℕ) (limit : Limit) (count : ℕ) (padded : Bool) (p q : ℕ) (bytes chars behind : List ℕ) → Octets bytes → IsBase64 chars bytes
+    → (padded ≡ true → bytes ≡ []) → Allows limit (count + length bytes) → length chars < most → p + (length chars + 2) ≡ q
+    → groups_for most limit count padded (at p (chars ++ 125 ∷ 125 ∷ behind)) ≡ got bytes (at q behind)
+groups-given zero limit count padded p q bytes chars behind octets base64 last allows enough place = absurd (omega (arith, enough))
+groups-given (suc most) limit count padded p q [] chars behind octets base64 last allows enough place =
+    no-group most limit count padded p q (chars ++ 125 ∷ 125 ∷ behind) behind (none-taken 3 chars (125 ∷ behind) (base64 ∙ encode-nil)) (behind-braces p chars behind ∙ place)
+groups-given (suc most) limit count true p q (b ∷ bytes) chars behind octets base64 last allows enough place = absurd (cc (last refl))
+groups-given (suc most) limit count false p q (b ∷ bytes) chars behind octets base64 last allows enough place =
+    let s = split b bytes in
+    let t = taken 4 chars (encode_of standard s.front) (encode_of standard s.others) (125 ∷ 125 ∷ behind) (base64 ∙ s.base64) s.four (base64-chars s.front) in
+    let all : Octets (s.front ++ s.others) = subst Octets s.is octets in
+    let many : length (b ∷ bytes) ≡ length s.front + length s.others = ap (λ (xs : List ℕ). length xs) s.is ∙ length-append s.front s.others in
+    let some = s.some in
+    let fewer = t.fewer in
+    let later = groups-given most limit (count + length s.front) (nat_lt (length s.front) 3)
+    (p + (length (chars ++ 125 ∷ 125 ∷ behind) - length (t.more ++ 125 ∷ 125 ∷ behind))) q s.others t.more behind
+    (octets-behind s.front s.others all) t.rest s.last
+    (subst (Allows limit) (total count (length s.front) (length s.others) (length (b ∷ bytes)) many) allows) (omega (arith, enough, fewer)) (omega (arith, place, fewer, length-append chars (125 ∷ 125 ∷ behind), length-append t.more (125 ∷ 125 ∷ behind))) in
+    one-group most limit count p (chars ++ 125 ∷ 125 ∷ behind) (encode_of standard s.front) (t.more ++ 125 ∷ 125 ∷ behind) s.front s.others (at q behind) t.cut s.four
+    (group-decoded s.front (octets-front s.front s.others all))
+    (allows-fewer limit (count + length (b ∷ bytes)) (count + length s.front) (omega (arith, many)) allows) later
+    ∙ ap (λ (xs : List ℕ). got xs (at q behind)) (sym s.is)
+  where
+    total : (count a b n : ℕ) → n ≡ a + b → count + n ≡ count + a + b
+    total count a b n e = omega (arith, e)

@@ -39,6 +39,9 @@ use Rattle.ion_text_in.specs.Meaning.{Limit, Allows, at, Means, behind_null, Nul
 pub allowed : (limit : Limit) (count : ℕ) → Allows limit count → nat_lt limit count ≡ false
 allowed limit count allows = le-ltb limit count allows
 
+pub allows-fewer : (limit : Limit) (count fewer : ℕ) → fewer ≤ count → Allows limit count → Allows limit fewer
+allows-fewer limit count fewer less allows = omega (arith, less, allows)
+
 pub skip-front : (place : ℕ) (text rest : List ℕ) → skip (length text) (at place (text ++ rest)) ≡ at (place + length text) rest
 skip-front place text rest = ap (λ (xs : List ℕ). at (place + length text) xs) (drop_at text rest (length text) refl)
 
@@ -120,7 +123,7 @@ run-means text v run means limit sexp place rest allows ends =
 
 -- ---- digits and what stands between them
 
-all-append : (test : ℕ → Bool) (xs ys : List ℕ) → all_are test xs ≡ true → all_are test ys ≡ true → all_are test (xs ++ ys) ≡ true
+pub all-append : (test : ℕ → Bool) (xs ys : List ℕ) → all_are test xs ≡ true → all_are test ys ≡ true → all_are test (xs ++ ys) ≡ true
 all-append test [] ys e f = f
 all-append test (x ∷ xs) ys e f =
     let parts = and_parts (test x) (all_are test xs) e in

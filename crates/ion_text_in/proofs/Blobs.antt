@@ -1,7 +1,8 @@
 -- The characters of a blob are the base64 of its bytes, with white space anywhere.
-use Rattle.std.proofs.Common.{◌≡◌, ℕ, zero, suc, ◌+◌, ◌-◌, ◌*◌, ◌/◌, ◌%◌, ◌<◌, ◌≤◌, Bool, true, false, not, ◌&&◌, ◌==◌, nat_lt, if◌then◌else◌, List, [], ◌∷◌, ◌++◌, All, length, drop, replicate, Option, Some, None, Result, Ok, Err, refl, sym, ap, subst, ◌∙◌, inl, inr, append_assoc, append-nil, arith, slice_index}
+use Rattle.std.proofs.Common.{◌≡◌, ℕ, zero, suc, ◌+◌, ◌-◌, ◌*◌, ◌/◌, ◌%◌, ◌<◌, ◌≤◌, Bool, true, false, not, ◌&&◌, ◌==◌, nat_lt, if◌then◌else◌, List, [], ◌∷◌, ◌++◌, All, length, drop, replicate, Option, Some, None, Result, Ok, Err, refl, sym, ap, subst, ◌∙◌, inl, inr, append_assoc, append-nil, arith, slice_index, codes}
 use Rattle.std.proofs.lemmas.Bool.{cases_Bool, ltb-false, and_parts, eqb-true, false≢true, le-ltb}
 use Rattle.std.proofs.lemmas.List.{length-append, length-replicate}
+use Rattle.std.proofs.lemmas.Bool.Decides.{nat_tests}
 use Rattle.std.proofs.lemmas.List.Elements.{filter-append, All-filter, All-nil, All-cons, All-head, All-tail}
 use Rattle.std.specs.Result.{result_ok}
 use Rattle.base64.specs.Engines.{standard}
@@ -20,7 +21,7 @@ use Rattle.ion_text_in.specs.Lob.{braces, closed_at, group_of, behind_to, last_g
 use Rattle.ion_text_in.specs.Places.{run_of, behind_run}
 use Rattle.ion_text_in.specs.Quoted.{short_quote, long_quote, text_at}
 use Rattle.ion_text_in.specs.Token.{Token, plain, first_at, token_of}
-use Rattle.ion_text_in.specs.Meaning.{Limit, Allows, IsBase64, at, solid, BlobText, BlobsAreBase64}
+use Rattle.ion_text_in.specs.Meaning.{Limit, Allows, IsBase64, at, solid, BlobText, BlobsAreBase64, Base64IsRead}
 use Rattle.ion_text_in.proofs.Meaning.{all-append, allowed, allows-fewer, skip-front, run-more, run-none}
 use Rattle.ion_value.specs.Digits.{first_is, all_are}
 use Rattle.ion_value.specs.Name.{begins_with}
@@ -549,3 +550,89 @@ groups-given (suc most) limit count false p q (b ∷ bytes) chars behind octets 
   where
     total : (count a b n : ℕ) → n ≡ a + b → count + n ≡ count + a + b
     total count a b n e = omega (arith, e)
+
+-- ---- and so is its token
+
+abbrev is_open : ℕ → Bool
+is_open b = not (b == 34) && not (b == 39)
+
+-- the white space in front of the characters, and what stands behind it, which does not begin with a quote
+record Led (chars tail : List ℕ) : Type 0 where
+  white : List ℕ
+  more : List ℕ
+  is : chars ≡ white ++ more
+  run : run_of (first_is is_white) (chars ++ 125 ∷ tail) ≡ (white, more ++ 125 ∷ tail)
+  same : solid more ≡ solid chars
+  first : first_is is_open (more ++ 125 ∷ tail) ≡ true
+
+led : (chars tail : List ℕ) → all_are is_char (solid chars) ≡ true → Led chars tail
+led [] tail all = record { white = []; more = []; is = refl; run = run-none (first_is is_white) (125 ∷ tail) refl; same = refl; first = refl }
+led (b ∷ chars) tail all = elim (cases_Bool (is_white b)) [
+  | inl white ↦
+      let l = led chars tail (subst (λ (xs : List ℕ). all_are is_char xs ≡ true) (solid-white b chars white) all) in
+      record {
+        white = b ∷ l.white;
+        more = l.more;
+        is = ap (λ (xs : List ℕ). b ∷ xs) l.is;
+        run = run-more (first_is is_white) b (chars ++ 125 ∷ tail) white ∙ ap (λ (z : List ℕ × List ℕ). (b ∷ z.0, z.1)) l.run;
+        same = l.same ∙ sym (solid-white b chars white);
+        first = l.first;
+      }
+  | inr dark ↦
+      let chars_are : all_are is_char (b ∷ solid chars) ≡ true = subst (λ (xs : List ℕ). all_are is_char xs ≡ true) (solid-char b chars dark) all in
+      record {
+        white = [];
+        more = b ∷ chars;
+        is = refl;
+        run = run-none (first_is is_white) (b ∷ (chars ++ 125 ∷ tail)) dark;
+        same = refl;
+        first = (and_parts (not (b == 125)) (is_open b) (and_parts (is_char b) (all_are is_char (solid chars)) chars_are).0).1;
+      }
+]
+
+no-quote : (bytes : List ℕ) → first_is is_open bytes ≡ true → (begins_with (34 ∷ []) bytes ≡ false) × (begins_with (39 ∷ 39 ∷ 39 ∷ []) bytes ≡ false)
+no-quote [] e = absurd (false≢true e)
+no-quote (b ∷ bytes) e =
+    let parts = and_parts (not (b == 34)) (not (b == 39)) e in
+    let short : (34 == b) ≡ false = flip 34 b (not-true (b == 34) parts.0) in
+    let long : (39 == b) ≡ false = flip 39 b (not-true (b == 39) parts.1) in
+    (rw short refl, rw long refl)
+  where
+    flip : (a b : ℕ) → (b == a) ≡ false → (a == b) ≡ false
+    flip a b e = grind (arith, nat_tests)
+
+lob-given : (limit : Limit) (p q : ℕ) (bytes chars behind : List ℕ) → Octets bytes → IsBase64 chars bytes → Allows limit (length bytes)
+    → first_is is_open (chars ++ 125 ∷ 125 ∷ behind) ≡ true → p + (length chars + 2) ≡ q → lob.lob_in limit (at p (chars ++ 125 ∷ 125 ∷ behind)) ≡ body (blob bytes) (at q behind)
+lob-given limit p q bytes chars behind octets base64 allows first place =
+    let all : List ℕ = chars ++ 125 ∷ 125 ∷ behind in
+    let quotes = no-quote (chars ++ 125 ∷ 125 ∷ behind) first in
+    ap (λ (short : Bool). if short then lob.clob_at limit false (skip 1 (at p all)) else (if begins_with (39 ∷ 39 ∷ 39 ∷ []) all then lob.clob_at limit true (skip 3 (at p all)) else lob.blob_at limit (at p all))) quotes.0
+    ∙ ap (λ (long : Bool). if long then lob.clob_at limit true (skip 3 (at p all)) else lob.blob_at limit (at p all)) quotes.1
+    ∙ ap (λ (o : Got). o >>= (λ b. body (blob b.0) b.1))
+    (groups-given (suc (length (chars ++ 125 ∷ 125 ∷ behind))) limit 0 false p q bytes chars behind octets base64 (λ late. absurd (false≢true late))
+    (subst (Allows limit) (zero-more (length bytes)) allows) (omega (arith, length-append chars (125 ∷ 125 ∷ behind))) place)
+  where
+    zero-more : (n : ℕ) → n ≡ 0 + n
+    zero-more n = omega arith
+
+lob_at-given : (limit : Limit) (p q : ℕ) (bytes chars behind : List ℕ) → Octets bytes → IsBase64 chars bytes → Allows limit (length bytes)
+    → p + (length chars + 2) ≡ q → lob.lob_at limit (at p (chars ++ 125 ∷ 125 ∷ behind)) ≡ body (blob bytes) (at q behind)
+unfolding lob_at
+lob_at-given limit p q bytes chars behind octets base64 allows place =
+    let l = led chars (125 ∷ behind) (rw base64 (base64-chars bytes)) in
+    let parts : chars ++ 125 ∷ 125 ∷ behind ≡ l.white ++ (l.more ++ 125 ∷ 125 ∷ behind) = ap (λ (xs : List ℕ). xs ++ 125 ∷ 125 ∷ behind) l.is ∙ append_assoc l.white l.more (125 ∷ 125 ∷ behind) in
+    let start : behind_run (first_is is_white) (at p (chars ++ 125 ∷ 125 ∷ behind)) ≡ at (p + length l.white) (l.more ++ 125 ∷ 125 ∷ behind) =
+    ap (λ (z : List ℕ × List ℕ). skip (length z.0) (at p (chars ++ 125 ∷ 125 ∷ behind))) l.run
+    ∙ ap (λ (xs : List ℕ). skip (length l.white) (at p xs)) parts
+    ∙ skip-front p l.white (l.more ++ 125 ∷ 125 ∷ behind) in
+    ap (λ (c : Cursor). lob.lob_in limit c) start
+    ∙ lob-given limit (p + length l.white) q bytes l.more behind octets (l.same ∙ base64) allows l.first
+    (omega (arith, place, length-append l.white l.more, ap (λ (xs : List ℕ). length xs) l.is))
+
+pub base64_is_read : Base64IsRead
+unfolding first_at token_of
+base64_is_read chars bytes octets base64 limit sexp place rest allows ends =
+    let text : (chars ++ 125 ∷ 125 ∷ []) ++ rest ≡ chars ++ 125 ∷ 125 ∷ rest = append_assoc chars (125 ∷ 125 ∷ []) rest in
+    ap (λ (xs : List ℕ). lob.lob_at limit (at (place + 2) xs) >>= (λ l. token (plain l.0) l.1)) text
+    ∙ ap (λ (o : Result (Scalar SymbolAt × Cursor) Reason). o >>= (λ l. token (plain l.0) l.1))
+    (lob_at-given limit (place + 2) (place + length (codes "{{" ++ (chars ++ codes "}}"))) bytes chars rest octets base64 allows (omega (arith, length-append chars (125 ∷ 125 ∷ []))))

@@ -1,7 +1,7 @@
 //! Laws of the grammar and the reading of the text form, each the contract of a function that does
 //! nothing.
 ghost use Rattle.ion_text_in.specs.Laws.{Complete, EachStepFalls, EachStepFollows, OnePath, OneStream, Sound, StreamsAreRead};
-ghost use Rattle.ion_text_in.specs.Meaning.{BlobsAreBase64, BoolTextIsRead, DecimalTextIsRead, IntTextIsRead, NullTextIsRead, TimestampTextIsRead};
+ghost use Rattle.ion_text_in.specs.Meaning.{Base64IsRead, BlobsAreBase64, BoolTextIsRead, DecimalTextIsRead, IntTextIsRead, NullTextIsRead, TimestampTextIsRead};
 
 /// What is read is a path of the grammar, and where the reading finishes, the whole input is a
 /// stream.
@@ -72,6 +72,12 @@ pub fn blobs_are_base64()
     ensures { BlobsAreBase64 }
 {}
 
+/// The base64 of some bytes, with white space anywhere, between double braces is read as the blob of
+/// these bytes.
+pub fn base64_is_read()
+    ensures { Base64IsRead }
+{}
+
 #[cfg(test)]
 mod tests {
     use super::*;
@@ -91,5 +97,6 @@ mod tests {
         decimal_text_is_read();
         timestamp_text_is_read();
         blobs_are_base64();
+        base64_is_read();
     }
 }

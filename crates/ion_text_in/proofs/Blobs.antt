@@ -84,17 +84,17 @@ grouped (suc n) (b ∷ bytes) = elim (cases_Bool (is_white b)) [
       subst (Grouped (suc n) (b ∷ bytes)) (sym (group-white n b bytes white))
       (record { front = b ∷ g.front; is = ap (λ (xs : List ℕ). b ∷ xs) g.is; chars = solid-white b g.front white ∙ g.chars; few = g.few })
   | inr dark ↦ elim (cases_Bool (b == 125)) [
-      | inl brace ↦ subst (Grouped (suc n) (b ∷ bytes)) (sym (group-brace n b bytes dark brace)) (record { front = []; is = refl; chars = refl; few = omega arith })
-      | inr char ↦
-          let g = grouped n bytes in
-          subst (Grouped (suc n) (b ∷ bytes)) (sym (group-char n b bytes dark char))
-          (record {
-            front = b ∷ g.front;
-            is = ap (λ (xs : List ℕ). b ∷ xs) g.is;
-            chars = solid-char b g.front dark ∙ ap (λ (xs : List ℕ). b ∷ xs) g.chars;
-            few = let few = g.few in omega arith;
-          })
-    ]
+    | inl brace ↦ subst (Grouped (suc n) (b ∷ bytes)) (sym (group-brace n b bytes dark brace)) (record { front = []; is = refl; chars = refl; few = omega arith })
+    | inr char ↦
+        let g = grouped n bytes in
+        subst (Grouped (suc n) (b ∷ bytes)) (sym (group-char n b bytes dark char))
+        (record {
+          front = b ∷ g.front;
+          is = ap (λ (xs : List ℕ). b ∷ xs) g.is;
+          chars = solid-char b g.front dark ∙ ap (λ (xs : List ℕ). b ∷ xs) g.chars;
+          few = let few = g.few in omega arith;
+        })
+  ]
 ]
 
 -- ---- bytes of groups

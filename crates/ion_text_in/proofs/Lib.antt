@@ -9,3 +9,4 @@ mod Wider
 mod One
 mod Meaning
 mod Blobs
+mod Strings

@@ -1,6 +1,7 @@
 -- What a token means: the text of a scalar is read as that scalar, whatever stands behind it that does not go on with it, and the characters
 -- of a blob are the base64 of its bytes.
-use Rattle.std.specs.Prelude.{◌≡◌, ℕ, ◌+◌, ◌<◌, ◌≤◌, Bool, false, not, ◌||◌, ◌==◌, List, ◌∷◌, ◌++◌, All, length, filter, codes, Ok}
+use Rattle.std.specs.Prelude.{◌≡◌, ◌≢◌, ℕ, ◌+◌, ◌*◌, ◌<◌, ◌≤◌, Bool, true, false, not, ◌&&◌, ◌||◌, ◌==◌, List, [], ◌∷◌, ◌++◌, All, length, filter, codes, Ok}
+use Rattle.std.specs.Str.{is_utf8}
 use Rattle.base64.specs.Engines.{standard}
 use Rattle.base64.specs.GeneralPurpose.{encode_of}
 use Rattle.ion_meter.specs.Sources.{Cursor}
@@ -10,12 +11,13 @@ use Rattle.ion_value.specs.declared.ion_type.IonType.{IonType}
 use Rattle.ion_value.specs.declared.ion_type.IonType.TheVariants as type
 use Rattle.ion_value.specs.declared.timestamp.Timestamp.{Timestamp}
 use Rattle.ion_value.specs.Decimal.{IsDecimal, decimal_text}
-use Rattle.ion_value.specs.Digits.{first_is}
+use Rattle.ion_value.specs.Digits.{is_hex_digit, digit_value, first_is}
 use Rattle.ion_value.specs.Int.{IsInt, int_text}
 use Rattle.ion_value.specs.Name.{null_text, bool_text}
 use Rattle.ion_value.specs.Timestamp.{IsTimestamp, timestamp_text}
-use Rattle.ion_value.specs.Value.{null, bool, int, decimal, timestamp, blob}
+use Rattle.ion_value.specs.Value.{Text, null, bool, int, decimal, timestamp, blob}
 use Rattle.ion_text_in.specs.Blanks.{is_white}
+use Rattle.ion_text_in.specs.Token as tokens
 use Rattle.ion_text_in.specs.Token.{Token, plain, in_run, in_word, token_at}
 
 -- a limit on what a token counts
@@ -88,3 +90,50 @@ abbrev pub BlobsAreBase64 : Type 0
 BlobsAreBase64 =
     (limit : Limit) (sexp : Bool) (place : ℕ) (rest bytes : List ℕ) (d : Cursor) → All (λ octet. octet < 256) rest
     → token_at limit sexp (at place (123 ∷ 123 ∷ rest)) ≡ Ok (plain (blob bytes), d) → BlobText bytes (at (place + 2) rest) d
+
+-- ---- texts between quotes
+
+-- the letter of an escape behind a backslash, and the byte that it means
+pub data Escape : ℕ → ℕ → Type 0 where
+  bell : Escape 97 7
+  backspace : Escape 98 8
+  tab : Escape 116 9
+  line_feed : Escape 110 10
+  form_feed : Escape 102 12
+  carriage_return : Escape 114 13
+  vertical_tab : Escape 118 11
+  nul : Escape 48 0
+  question_mark : Escape 63 63
+  double_quote : Escape 34 34
+  single_quote : Escape 39 39
+  backslash : Escape 92 92
+  slash : Escape 47 47
+
+-- how a byte may be written between such quotes: as itself, by an escape, or where it is ASCII by its code in two digits
+pub data Char (quote : ℕ) : List ℕ → ℕ → Type 0 where
+  shown : (b : ℕ) → 32 ≤ b → b ≢ quote → b ≢ 92 → Char quote (b ∷ []) b
+  escaped : (letter b : ℕ) → Escape letter b → Char quote (92 ∷ letter ∷ []) b
+  coded : (x y : ℕ) → is_hex_digit x ≡ true → is_hex_digit y ≡ true → 16 * digit_value x + digit_value y < 128
+      → Char quote (92 ∷ 120 ∷ x ∷ y ∷ []) (16 * digit_value x + digit_value y)
+
+-- characters between such quotes, and the bytes that they mean
+pub data Chars (quote : ℕ) : List ℕ → List ℕ → Type 0 where
+  none : Chars quote [] []
+  and_then : {text chars bytes : List ℕ} {b : ℕ} → Char quote text b → Chars quote chars bytes → Chars quote (text ++ chars) (b ∷ bytes)
+
+abbrev pub quoted : ℕ → List ℕ → List ℕ
+quoted quote chars = quote ∷ (chars ++ quote ∷ [])
+
+abbrev pub StringTextIsRead : Type 0
+StringTextIsRead =
+    (chars bytes : List ℕ) → Chars 34 chars bytes → is_utf8 bytes ≡ true
+    → Means (length bytes) (λ rest. false) (quoted 34 chars) (tokens.text bytes)
+
+-- behind two quotes alone a third begins a long string
+abbrev pub behind_symbol : List ℕ → List ℕ → Bool
+behind_symbol bytes rest = length bytes == 0 && first_is (λ b. b == 39) rest
+
+abbrev pub QuotedSymbolIsRead : Type 0
+QuotedSymbolIsRead =
+    (chars bytes : List ℕ) → Chars 39 chars bytes → is_utf8 bytes ≡ true
+    → Means (length bytes) (behind_symbol bytes) (quoted 39 chars) (tokens.name true (Text bytes))

@@ -1,7 +1,7 @@
 //! Laws of the grammar and the reading of the text form, each the contract of a function that does
 //! nothing.
 ghost use Rattle.ion_text_in.specs.Laws.{Complete, EachStepFalls, EachStepFollows, OnePath, OneStream, Sound, StreamsAreRead};
-ghost use Rattle.ion_text_in.specs.Meaning.{Base64IsRead, BlobsAreBase64, BoolTextIsRead, DecimalTextIsRead, IntTextIsRead, NullTextIsRead, TimestampTextIsRead};
+ghost use Rattle.ion_text_in.specs.Meaning.{Base64IsRead, BlobsAreBase64, BoolTextIsRead, DecimalTextIsRead, IntTextIsRead, NullTextIsRead, QuotedSymbolIsRead, StringTextIsRead, TimestampTextIsRead};
 
 /// What is read is a path of the grammar, and where the reading finishes, the whole input is a
 /// stream.
@@ -78,6 +78,17 @@ pub fn base64_is_read()
     ensures { Base64IsRead }
 {}
 
+/// Characters between double quotes are a token that means the bytes that they spell, by themselves
+/// or by escapes.
+pub fn string_text_is_read()
+    ensures { StringTextIsRead }
+{}
+
+/// Characters between single quotes are a token that means the symbol that they spell.
+pub fn quoted_symbol_is_read()
+    ensures { QuotedSymbolIsRead }
+{}
+
 #[cfg(test)]
 mod tests {
     use super::*;
@@ -98,5 +109,7 @@ mod tests {
         timestamp_text_is_read();
         blobs_are_base64();
         base64_is_read();
+        string_text_is_read();
+        quoted_symbol_is_read();
     }
 }

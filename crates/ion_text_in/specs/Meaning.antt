@@ -11,11 +11,11 @@ use Rattle.ion_value.specs.declared.ion_type.IonType.{IonType}
 use Rattle.ion_value.specs.declared.ion_type.IonType.TheVariants as type
 use Rattle.ion_value.specs.declared.timestamp.Timestamp.{Timestamp}
 use Rattle.ion_value.specs.Decimal.{IsDecimal, decimal_text}
-use Rattle.ion_value.specs.Digits.{is_hex_digit, digit_value, first_is}
+use Rattle.ion_value.specs.Digits.{is_hex_digit, digit_value, first_is, all_are}
 use Rattle.ion_value.specs.Int.{IsInt, int_text}
 use Rattle.ion_value.specs.Name.{null_text, bool_text}
 use Rattle.ion_value.specs.Timestamp.{IsTimestamp, timestamp_text}
-use Rattle.ion_value.specs.Value.{Text, null, bool, int, decimal, timestamp, blob}
+use Rattle.ion_value.specs.Value.{Text, null, bool, int, decimal, timestamp, clob, blob}
 use Rattle.ion_text_in.specs.Blanks.{is_white}
 use Rattle.ion_text_in.specs.Token as tokens
 use Rattle.ion_text_in.specs.Token.{Token, plain, in_run, in_word, token_at}
@@ -109,24 +109,27 @@ pub data Escape : ℕ → ℕ → Type 0 where
   backslash : Escape 92 92
   slash : Escape 47 47
 
--- how a byte may be written between such quotes: as itself, by an escape, or where it is ASCII by its code in two digits
-pub data Char (quote : ℕ) : List ℕ → ℕ → Type 0 where
-  shown : (b : ℕ) → 32 ≤ b → b ≢ quote → b ≢ 92 → Char quote (b ∷ []) b
-  escaped : (letter b : ℕ) → Escape letter b → Char quote (92 ∷ letter ∷ []) b
-  coded : (x y : ℕ) → is_hex_digit x ≡ true → is_hex_digit y ≡ true → 16 * digit_value x + digit_value y < 128
-      → Char quote (92 ∷ 120 ∷ x ∷ y ∷ []) (16 * digit_value x + digit_value y)
+-- how a byte may be written between such quotes: as itself, which in a clob only ASCII is, by an escape, or by its code in two digits, which
+-- is ASCII but in a clob
+pub data Char (quote : ℕ) (in_clob : Bool) : List ℕ → ℕ → Type 0 where
+  shown : (b : ℕ) → 32 ≤ b → b ≢ quote → b ≢ 92 → (in_clob ≡ true → b < 128) → Char quote in_clob (b ∷ []) b
+  escaped : (letter b : ℕ) → Escape letter b → Char quote in_clob (92 ∷ letter ∷ []) b
+  coded : (x y : ℕ) → is_hex_digit x ≡ true → is_hex_digit y ≡ true
+      → (in_clob ≡ false → 16 * digit_value x + digit_value y < 128)
+      → Char quote in_clob (92 ∷ 120 ∷ x ∷ y ∷ []) (16 * digit_value x + digit_value y)
 
 -- characters between such quotes, and the bytes that they mean
-pub data Chars (quote : ℕ) : List ℕ → List ℕ → Type 0 where
-  none : Chars quote [] []
-  and_then : {text chars bytes : List ℕ} {b : ℕ} → Char quote text b → Chars quote chars bytes → Chars quote (text ++ chars) (b ∷ bytes)
+pub data Chars (quote : ℕ) (in_clob : Bool) : List ℕ → List ℕ → Type 0 where
+  none : Chars quote in_clob [] []
+  and_then : {text chars bytes : List ℕ} {b : ℕ} → Char quote in_clob text b → Chars quote in_clob chars bytes
+      → Chars quote in_clob (text ++ chars) (b ∷ bytes)
 
 abbrev pub quoted : ℕ → List ℕ → List ℕ
 quoted quote chars = quote ∷ (chars ++ quote ∷ [])
 
 abbrev pub StringTextIsRead : Type 0
 StringTextIsRead =
-    (chars bytes : List ℕ) → Chars 34 chars bytes → is_utf8 bytes ≡ true
+    (chars bytes : List ℕ) → Chars 34 false chars bytes → is_utf8 bytes ≡ true
     → Means (length bytes) (λ rest. false) (quoted 34 chars) (tokens.text bytes)
 
 -- behind two quotes alone a third begins a long string
@@ -135,5 +138,10 @@ behind_symbol bytes rest = length bytes == 0 && first_is (λ b. b == 39) rest
 
 abbrev pub QuotedSymbolIsRead : Type 0
 QuotedSymbolIsRead =
-    (chars bytes : List ℕ) → Chars 39 chars bytes → is_utf8 bytes ≡ true
+    (chars bytes : List ℕ) → Chars 39 false chars bytes → is_utf8 bytes ≡ true
     → Means (length bytes) (behind_symbol bytes) (quoted 39 chars) (tokens.name true (Text bytes))
+
+abbrev pub ClobTextIsRead : Type 0
+ClobTextIsRead =
+    (front chars back bytes : List ℕ) → all_are is_white front ≡ true → Chars 34 true chars bytes → all_are is_white back ≡ true
+    → Means (length bytes) (λ rest. false) (codes "{{" ++ (front ++ (quoted 34 chars ++ (back ++ codes "}}")))) (plain (clob bytes))

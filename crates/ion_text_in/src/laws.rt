@@ -1,7 +1,7 @@
 //! Laws of the grammar and the reading of the text form, each the contract of a function that does
 //! nothing.
 ghost use Rattle.ion_text_in.specs.Laws.{Complete, EachStepFalls, EachStepFollows, OnePath, OneStream, Sound, StreamsAreRead};
-ghost use Rattle.ion_text_in.specs.Meaning.{Base64IsRead, BlobsAreBase64, BoolTextIsRead, DecimalTextIsRead, IntTextIsRead, NullTextIsRead, QuotedSymbolIsRead, StringTextIsRead, TimestampTextIsRead};
+ghost use Rattle.ion_text_in.specs.Meaning.{Base64IsRead, BlobsAreBase64, BoolTextIsRead, ClobTextIsRead, DecimalTextIsRead, IntTextIsRead, NullTextIsRead, QuotedSymbolIsRead, StringTextIsRead, TimestampTextIsRead};
 
 /// What is read is a path of the grammar, and where the reading finishes, the whole input is a
 /// stream.
@@ -89,6 +89,12 @@ pub fn quoted_symbol_is_read()
     ensures { QuotedSymbolIsRead }
 {}
 
+/// Characters between double quotes in double braces, with white space around them, are a token that
+/// means the clob of the bytes that they spell.
+pub fn clob_text_is_read()
+    ensures { ClobTextIsRead }
+{}
+
 #[cfg(test)]
 mod tests {
     use super::*;
@@ -111,5 +117,6 @@ mod tests {
         base64_is_read();
         string_text_is_read();
         quoted_symbol_is_read();
+        clob_text_is_read();
     }
 }

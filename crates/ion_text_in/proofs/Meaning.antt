@@ -1,5 +1,5 @@
 -- The texts of scalars that are runs or words are tokens that mean them.
-use Rattle.std.proofs.Common.{◌≡◌, ℕ, zero, suc, ◌+◌, ◌/◌, ◌%◌, ◌^◌, ◌<◌, ◌≤◌, inl, inr, ℤ, pos, negsuc, Bool, true, false, ◌&&◌, ◌||◌, ◌==◌, nat_lt, if◌then◌else◌, List, [], ◌∷◌, ◌++◌, length, drop, codes, decimal, Option, Some, None, Result, Ok, refl, sym, ap, subst, ◌∙◌, append-nil, arith}
+use Rattle.std.proofs.Common.{◌≡◌, ℕ, zero, suc, ◌+◌, ◌/◌, ◌%◌, ◌^◌, ◌<◌, ◌≤◌, inl, inr, ℤ, pos, negsuc, Bool, true, false, ◌&&◌, ◌||◌, ◌==◌, nat_lt, if◌then◌else◌, List, [], ◌∷◌, ◌++◌, length, drop, codes, decimal, Option, Some, None, Result, Ok, refl, sym, ap, subst, ◌∙◌, append-nil, arith, is_none, not}
 use Rattle.std.proofs.lemmas.Bool.{cases_Bool, le-ltb, and_from, and_parts, or_parts, eqb-true, false≢true}
 use Rattle.std.proofs.lemmas.Bool.Decides.{nat_tests}
 use Rattle.std.proofs.lemmas.Int.{ints}
@@ -16,10 +16,11 @@ use Rattle.ion_value.specs.declared.timestamp.Precision.TheVariants.{Year, Month
 use Rattle.ion_value.specs.Decimal.{IsExponent, integer_text, magnitude_text, most_places, decimal_text, decimal_of_text}
 use Rattle.ion_value.specs.Digits.{is_digit, first_is, all_are, fixed_digits}
 use Rattle.ion_value.specs.Int.{int_text, int_of_text}
-use Rattle.ion_value.specs.Name.{is_identifier_start, is_identifier_byte, is_one_of, null_text, bool_text}
+use Rattle.ion_value.specs.Name.{is_identifier, is_version, keyword, is_id, id_of, is_identifier_start, is_identifier_byte, is_one_of, null_text, bool_text}
 use Rattle.ion_value.specs.declared.ion_type.IonType.{IonType}
 use Rattle.ion_value.specs.declared.ion_type.IonType.TheVariants as type
 use Rattle.std.specs.Str.{bytes_eq}
+use Rattle.std.specs.Prelude.{is_none}
 use Rattle.ion_value.specs.Scalar.{scalar_of_readings, scalar_of_run}
 use Rattle.ion_value.specs.Timestamp.{day_text, minute_text, second_text, minutes_text, offset_text, text_to, timestamp_text, timestamp_of_text}
 use Rattle.ion_value.specs.Value.{SymbolAt, Scalar, int, timestamp}
@@ -31,8 +32,9 @@ use Rattle.ion_value.proofs.TextRoundTrip.{text-read, fixed_digits-are}
 use Rattle.ion_value.proofs.TextKinds.{timestamp-no_number}
 use Rattle.ion_text_in.specs.Places.{run_of}
 use Rattle.ion_text_in.specs.Blanks.{is_white}
+use Rattle.ion_text_in.specs.Token as tokens
 use Rattle.ion_text_in.specs.Token.{First, a_run, a_word, first_at, begins_run, in_run, in_word, bytes_of, with_type, word_of, word_token, counted, run_token, Token, plain, token_of}
-use Rattle.ion_text_in.specs.Meaning.{Limit, Allows, at, Means, behind_null, NullTextIsRead, BoolTextIsRead, IntTextIsRead, DecimalTextIsRead, TimestampTextIsRead}
+use Rattle.ion_text_in.specs.Meaning.{Limit, Allows, at, Means, behind_null, NullTextIsRead, BoolTextIsRead, PlainSymbolIsRead, IntTextIsRead, DecimalTextIsRead, TimestampTextIsRead}
 
 -- ---- limits and cursors
 
@@ -374,3 +376,45 @@ null-token type.Struct = refl
 
 pub null-means : NullTextIsRead
 null-means t = word-means (behind_null t) (null_text t) (plain (value.null t)) (null-word t) (null-first t) (null-token t)
+
+-- ---- symbols without quotes
+
+no-null : (word : List ℕ) → is_none (keyword word) ≡ true → bytes_eq (codes "null") word ≡ false
+no-null word none = elim (cases_Bool (bytes_eq (codes "null") word)) [
+  | inl is ↦ absurd (false≢true (rw is at none))
+  | inr other ↦ other
+]
+
+none-is : {A : Type 0} (o : Option A) → is_none o ≡ true → o ≡ None
+none-is None e = refl
+none-is (Some x) e = absurd (false≢true e)
+
+not-id : (b : Bool) → not b ≡ true → b ≡ false
+not-id true e = absurd (false≢true e)
+not-id false e = refl
+
+symbol-token : (word : List ℕ) → keyword word ≡ None → is_id word ≡ false → word_token word ≡ Ok (tokens.name false (value.Text word))
+unfolding word_token
+symbol-token word none no_id =
+    ap (λ k. tokens.by_keyword k word) none ∙ ap (λ (id : Bool). ok_name (if id then value.Id (id_of word) else value.Text word)) no_id
+  where
+    ok_name : value.Symbol → Result Token Reason
+    ok_name s = Ok (tokens.name false s)
+
+pub plain-symbol-means : PlainSymbolIsRead
+unfolding first_at
+plain-symbol-means [] is = absurd (false≢true is)
+plain-symbol-means (b ∷ word) is =
+    let three = and_parts (is_identifier (b ∷ word) && is_none (keyword (b ∷ word)) && not (is_id (b ∷ word))) (not (is_version (b ∷ word))) is in
+    let two = and_parts (is_identifier (b ∷ word) && is_none (keyword (b ∷ word))) (not (is_id (b ∷ word))) three.0 in
+    let one = and_parts (is_identifier (b ∷ word)) (is_none (keyword (b ∷ word))) two.0 in
+    let bytes = and_parts (is_identifier_start b) (all_are is_identifier_byte (b ∷ word)) one.0 in
+    let others = and_parts (is_identifier_byte b) (all_are is_identifier_byte word) bytes.1 in
+    let no_null : bytes_eq (codes "null") (b ∷ word) ≡ false = no-null (b ∷ word) one.1 in
+    word-means in_word (b ∷ word) (tokens.name false (value.Text (b ∷ word)))
+    (λ rest ends. whole-word b word rest others.1 ends (ap (λ (n : Bool). n && first_is (λ b. b == 46) rest) no_null))
+    (λ sexp rest. begins sexp (word ++ rest) bytes.0)
+    (symbol-token (b ∷ word) (none-is (keyword (b ∷ word)) one.1) (not-id (is_id (b ∷ word)) two.1))
+  where
+    begins : (sexp : Bool) (more : List ℕ) → is_identifier_start b ≡ true → first_at sexp (b ∷ more) ≡ a_word
+    begins sexp more e = rw (first_at, e) refl

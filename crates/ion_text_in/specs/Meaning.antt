@@ -13,7 +13,7 @@ use Rattle.ion_value.specs.declared.timestamp.Timestamp.{Timestamp}
 use Rattle.ion_value.specs.Decimal.{IsDecimal, decimal_text}
 use Rattle.ion_value.specs.Digits.{is_hex_digit, digit_value, first_is, all_are}
 use Rattle.ion_value.specs.Int.{IsInt, int_text}
-use Rattle.ion_value.specs.Name.{null_text, bool_text}
+use Rattle.ion_value.specs.Name.{null_text, bool_text, is_plain}
 use Rattle.ion_value.specs.Timestamp.{IsTimestamp, timestamp_text}
 use Rattle.ion_value.specs.Value.{Text, null, bool, int, decimal, timestamp, clob, blob}
 use Rattle.ion_text_in.specs.Blanks.{is_white}
@@ -49,6 +49,11 @@ NullTextIsRead = (t : IonType) → Means (length (null_text t)) (behind_null t) 
 
 abbrev pub BoolTextIsRead : Type 0
 BoolTextIsRead = (truth : Bool) → Means (length (bool_text truth)) in_word (bool_text truth) (plain (bool truth))
+
+-- an identifier that means nothing else
+abbrev pub PlainSymbolIsRead : Type 0
+PlainSymbolIsRead =
+    (word : List ℕ) → is_plain word ≡ true → Means (length word) in_word word (tokens.name false (Text word))
 
 -- ---- runs
 

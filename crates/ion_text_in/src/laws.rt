@@ -1,7 +1,7 @@
 //! Laws of the grammar and the reading of the text form, each the contract of a function that does
 //! nothing.
 ghost use Rattle.ion_text_in.specs.Laws.{Complete, EachStepFalls, EachStepFollows, OnePath, OneStream, Sound, StreamsAreRead};
-ghost use Rattle.ion_text_in.specs.Meaning.{Base64IsRead, BlobsAreBase64, BoolTextIsRead, ClobTextIsRead, DecimalTextIsRead, IntTextIsRead, NullTextIsRead, QuotedSymbolIsRead, StringTextIsRead, TimestampTextIsRead};
+ghost use Rattle.ion_text_in.specs.Meaning.{Base64IsRead, BlobsAreBase64, BoolTextIsRead, ClobTextIsRead, DecimalTextIsRead, IntTextIsRead, NullTextIsRead, PlainSymbolIsRead, QuotedSymbolIsRead, StringTextIsRead, TimestampTextIsRead};
 
 /// What is read is a path of the grammar, and where the reading finishes, the whole input is a
 /// stream.
@@ -95,6 +95,11 @@ pub fn clob_text_is_read()
     ensures { ClobTextIsRead }
 {}
 
+/// An identifier that means nothing else is a token that means the symbol of its bytes.
+pub fn plain_symbol_is_read()
+    ensures { PlainSymbolIsRead }
+{}
+
 #[cfg(test)]
 mod tests {
     use super::*;
@@ -118,5 +123,6 @@ mod tests {
         string_text_is_read();
         quoted_symbol_is_read();
         clob_text_is_read();
+        plain_symbol_is_read();
     }
 }

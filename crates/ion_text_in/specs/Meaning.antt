@@ -1,5 +1,5 @@
--- What a token means: the text of a scalar is read as that scalar, whatever stands behind it that does not go on with it, and the characters
--- of a blob are the base64 of its bytes.
+-- What a token means: the text of a scalar is read as that scalar, whatever stands behind it that does not go
+-- on with it, and the characters of a blob are the base64 of its bytes.
 use Rattle.std.specs.Prelude.{◌≡◌, ◌≢◌, ℕ, ◌+◌, ◌*◌, ◌<◌, ◌≤◌, Bool, true, false, not, ◌&&◌, ◌||◌, ◌==◌, List, [], ◌∷◌, ◌++◌, All, length, filter, codes, Ok}
 use Rattle.std.specs.Str.{is_utf8}
 use Rattle.base64.specs.Engines.{standard}
@@ -31,7 +31,8 @@ Allows limit count = count ≤ limit
 abbrev pub at : ℕ → List ℕ → Cursor
 at place rest = record { place = place; rest = rest }
 
--- a text is a token wherever it stands and whatever stands behind it that does not go on with it, under every limit that allows so many bytes
+-- a text is a token wherever it stands and whatever stands behind it that does not go on with it, under every
+-- limit that allows so many bytes
 abbrev pub Means : ℕ → (List ℕ → Bool) → List ℕ → Token → Type 0
 Means count goes_on text t =
     (limit : Limit) (sexp : Bool) (place : ℕ) (rest : List ℕ) → Allows limit count → goes_on rest ≡ false
@@ -61,7 +62,8 @@ abbrev pub IntTextIsRead : Type 0
 IntTextIsRead = (i : Int) → IsInt i → Means (length (int_text i)) in_run (int_text i) (plain (int i))
 
 abbrev pub DecimalTextIsRead : Type 0
-DecimalTextIsRead = (d : Decimal) → IsDecimal d → Means (length (decimal_text d)) in_run (decimal_text d) (plain (decimal d))
+DecimalTextIsRead =
+    (d : Decimal) → IsDecimal d → Means (length (decimal_text d)) in_run (decimal_text d) (plain (decimal d))
 
 abbrev pub TimestampTextIsRead : Type 0
 TimestampTextIsRead =
@@ -94,7 +96,8 @@ pub record BlobText (bytes : List ℕ) (c d : Cursor) : Type 0 where
 abbrev pub BlobsAreBase64 : Type 0
 BlobsAreBase64 =
     (limit : Limit) (sexp : Bool) (place : ℕ) (rest bytes : List ℕ) (d : Cursor) → All (λ octet. octet < 256) rest
-    → token_at limit sexp (at place (123 ∷ 123 ∷ rest)) ≡ Ok (plain (blob bytes), d) → BlobText bytes (at (place + 2) rest) d
+    → token_at limit sexp (at place (123 ∷ 123 ∷ rest)) ≡ Ok (plain (blob bytes), d)
+    → BlobText bytes (at (place + 2) rest) d
 
 -- ---- texts between quotes
 
@@ -114,8 +117,8 @@ pub data Escape : ℕ → ℕ → Type 0 where
   backslash : Escape 92 92
   slash : Escape 47 47
 
--- how a byte may be written between such quotes: as itself, which in a clob only ASCII is, by an escape, or by its code in two digits, which
--- is ASCII but in a clob
+-- how a byte may be written between such quotes: as itself, which in a clob is ASCII alone, by an escape, or by
+-- its code in two digits, which is ASCII alone but in a clob
 pub data Char (quote : ℕ) (in_clob : Bool) : List ℕ → ℕ → Type 0 where
   shown : (b : ℕ) → 32 ≤ b → b ≢ quote → b ≢ 92 → (in_clob ≡ true → b < 128) → Char quote in_clob (b ∷ []) b
   escaped : (letter b : ℕ) → Escape letter b → Char quote in_clob (92 ∷ letter ∷ []) b
@@ -146,7 +149,10 @@ QuotedSymbolIsRead =
     (chars bytes : List ℕ) → Chars 39 false chars bytes → is_utf8 bytes ≡ true
     → Means (length bytes) (behind_symbol bytes) (quoted 39 chars) (tokens.name true (Text bytes))
 
+-- a clob has white space around its quotes, and no comments
 abbrev pub ClobTextIsRead : Type 0
 ClobTextIsRead =
-    (front chars back bytes : List ℕ) → all_are is_white front ≡ true → Chars 34 true chars bytes → all_are is_white back ≡ true
-    → Means (length bytes) (λ rest. false) (codes "{{" ++ (front ++ (quoted 34 chars ++ (back ++ codes "}}")))) (plain (clob bytes))
+    (front chars back bytes : List ℕ)
+    → all_are is_white front ≡ true → Chars 34 true chars bytes → all_are is_white back ≡ true
+    → Means (length bytes) (λ rest. false) (codes "{{" ++ (front ++ (quoted 34 chars ++ (back ++ codes "}}"))))
+    (plain (clob bytes))

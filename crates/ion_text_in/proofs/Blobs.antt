@@ -22,7 +22,7 @@ use Rattle.ion_text_in.specs.Places.{run_of, behind_run}
 use Rattle.ion_text_in.specs.Quoted.{short_quote, long_quote, text_at}
 use Rattle.ion_text_in.specs.Token.{Token, plain, first_at, token_of}
 use Rattle.ion_text_in.specs.Meaning.{Limit, Allows, IsBase64, at, solid, BlobText, BlobsAreBase64, Base64IsRead}
-use Rattle.ion_text_in.proofs.Meaning.{all-append, allowed, allows-fewer, skip-front, run-more, run-none}
+use Rattle.ion_text_in.proofs.Meaning.{all-append, allowed, allows-fewer, passes, skip-front, run-more, run-none}
 use Rattle.ion_value.specs.Digits.{first_is, all_are}
 use Rattle.ion_value.specs.Name.{begins_with}
 use Rattle.ion_value.specs.Value.{SymbolAt, Scalar, blob, clob}
@@ -265,7 +265,7 @@ more-read padded p all front rest group bytes others d is chars four group_is re
 -- what a group of four characters and what stands behind it come to
 abbrev grouping : ℕ → Limit → ℕ → Bool → Cursor → List ℕ × List ℕ → Got
 grouping most limit count padded c g =
-    group_bytes padded g.0 >>= (λ bytes. refuse (nat_lt limit (count + length bytes)) ScalarLimit
+    group_bytes padded g.0 >>= (λ bytes. refuse (passes limit (count + length bytes)) ScalarLimit
     >> (groups_for most limit (count + length bytes) (nat_lt (length bytes) 3) (behind_to c g.1) >>= (λ others. got (bytes ++ others.0) others.1)))
 
 groups-read : (most : ℕ) (limit : Limit) (count : ℕ) (padded : Bool) (p : ℕ) (all bytes : List ℕ) (d : Cursor) → Octets all
@@ -290,7 +290,7 @@ groups-read (suc most) limit count padded p all bytes d octets e =
         let text : Octets (g.front ++ (group_of 4 all).1) = subst Octets g.is octets in
         let chars : Octets (group_of 4 all).0 = subst Octets g.chars (All-filter (λ b. not (is_white b)) (λ octet. octet < 256) g.front (octets-front g.front (group_of 4 all).1 text)) in
         let w = went (group_bytes padded (group_of 4 all).0) _ (bytes, d) e in
-        let ok = passed (nat_lt limit (count + length w.value)) ScalarLimit _ (bytes, d) w.second in
+        let ok = passed (passes limit (count + length w.value)) ScalarLimit _ (bytes, d) w.second in
         let v = went (groups_for most limit (count + length w.value) (nat_lt (length w.value) 3) (behind_to (at p all) (group_of 4 all).1)) _ (bytes, d) ok.1 in
         let both : ◌≡◌ {A = List ℕ × Cursor} (w.value ++ v.value.0, v.value.1) (bytes, d) = cc v.second in
         let rest_is : groups_for most limit (count + length w.value) (nat_lt (length w.value) 3) (behind_to (at p all) (group_of 4 all).1) ≡ got v.value.0 v.value.1 = v.first in
@@ -509,7 +509,7 @@ unfolding groups_for
 one-group most limit count p all group rest bytes others d cut four decoded allows later =
     ap (λ (g : List ℕ × List ℕ). if nat_lt (length g.0) 4 then last_group g.0 (behind_to (at p all) g.1) else grouping most limit count false (at p all) g) cut
     ∙ ap (λ (few : Bool). if few then last_group group (behind_to (at p all) rest) else grouping most limit count false (at p all) (group, rest)) (le-ltb (length group) 4 (omega (arith, four)))
-    ∙ ap (λ (o : Result (List ℕ) Reason). o >>= (λ bytes. refuse (nat_lt limit (count + length bytes)) ScalarLimit
+    ∙ ap (λ (o : Result (List ℕ) Reason). o >>= (λ bytes. refuse (passes limit (count + length bytes)) ScalarLimit
     >> (groups_for most limit (count + length bytes) (nat_lt (length bytes) 3) (behind_to (at p all) rest) >>= (λ others. got (bytes ++ others.0) others.1)))) decoded
     ∙ ap (λ (over : Bool). refuse over ScalarLimit
     >> (groups_for most limit (count + length bytes) (nat_lt (length bytes) 3) (behind_to (at p all) rest) >>= (λ others. got (bytes ++ others.0) others.1))) (allowed limit (count + length bytes) allows)

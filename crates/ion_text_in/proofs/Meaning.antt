@@ -38,7 +38,11 @@ use Rattle.ion_text_in.specs.Meaning.{Limit, Allows, at, Means, behind_null, Nul
 
 -- ---- limits and cursors
 
-pub allowed : (limit : Limit) (count : ℕ) → Allows limit count → nat_lt limit count ≡ false
+-- so many bytes pass a limit
+abbrev pub passes : Limit → ℕ → Bool
+passes limit count = nat_lt limit count
+
+pub allowed : (limit : Limit) (count : ℕ) → Allows limit count → passes limit count ≡ false
 allowed limit count allows = le-ltb limit count allows
 
 pub allows-fewer : (limit : Limit) (count fewer : ℕ) → fewer ≤ count → Allows limit count → Allows limit fewer
@@ -112,7 +116,7 @@ run-first sexp text rest run =
 abbrev token_behind : Token → Cursor → Result (Token × Cursor) Reason
 token_behind t c = Ok (t, c)
 
-counted-run : (limit : Limit) (place : ℕ) (text bytes rest : List ℕ) (v : Scalar SymbolAt) → bytes ≡ text → nat_lt limit (length text) ≡ false → scalar_of_run text ≡ Ok v
+counted-run : (limit : Limit) (place : ℕ) (text bytes rest : List ℕ) (v : Scalar SymbolAt) → bytes ≡ text → passes limit (length text) ≡ false → scalar_of_run text ≡ Ok v
     → (counted limit bytes (at place (text ++ rest)) >>= (λ r. run_token r.0 >>= (λ t. token_behind t r.1))) ≡ Ok (plain v, at (place + length text) rest)
 counted-run limit place text bytes rest v is fits means =
     rw (is, fits, means, skip-front place text rest) refl
@@ -287,7 +291,7 @@ word-means goes_on text t word first means limit sexp place rest allows ends =
     ap (λ (f : First). token_of limit f (at place (text ++ rest))) (first sexp rest)
     ∙ counted-word limit place text (word_of (text ++ rest)) rest t (word rest ends) (allowed limit (length text) allows) means
   where
-    counted-word : (limit : Limit) (place : ℕ) (text bytes rest : List ℕ) (t : Token) → bytes ≡ text → nat_lt limit (length text) ≡ false → word_token text ≡ Ok t
+    counted-word : (limit : Limit) (place : ℕ) (text bytes rest : List ℕ) (t : Token) → bytes ≡ text → passes limit (length text) ≡ false → word_token text ≡ Ok t
         → (counted limit bytes (at place (text ++ rest)) >>= (λ w. word_token w.0 >>= (λ t. token_behind t w.1))) ≡ Ok (t, at (place + length text) rest)
     counted-word limit place text bytes rest t is fits means = rw (is, fits, means, skip-front place text rest) refl
 

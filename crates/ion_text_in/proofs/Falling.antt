@@ -152,16 +152,16 @@ less-from n m (Stops reason place) lt most = tt
 less-from n m (Gives item after) lt most = omega (arith, lt, most)
 less-from n m (GoesOn after) lt most = omega (arith, lt, most)
 
-cut-less : (limits : Limits) (s : State) (b : Cursor) (first : First) → 0 < length b.rest → (o : Result (Token × Cursor) Reason) → token_of limits.scalar first b ≡ o
+cut-less : (limits : Limits) (s : State) (b : Cursor) (first : First) → 0 < length b.rest → (o : Result (Token × Cursor) Reason) → token_of (Some limits.scalar) first b ≡ o
     → Leaves_less (length b.rest) (step_of (part b.place o >>= (λ t. take limits s.kinds s.top s.wants b.place t.0 t.1)))
 cut-less limits s b first some (Err reason) e = tt
 cut-less limits s b first some (Ok t) e =
-    let less : length t.1.rest < length b.rest = subst (λ o. Past b o) e (token-past limits.scalar first b some) in
+    let less : length t.1.rest < length b.rest = subst (λ o. Past b o) e (token-past (Some limits.scalar) first b some) in
     less-from (length t.1.rest) (length b.rest) (step_of (take limits s.kinds s.top s.wants b.place t.0 t.1)) less (take-most limits s.kinds s.top s.wants b.place t.0 t.1)
 
 coming-less : (limits : Limits) (s : State) (b : Cursor) (first : First) (may : Bool) → 0 < length b.rest → Leaves_less (length b.rest) (step_of (reading.coming limits s b first may))
 coming-less limits s b first false some = tt
-coming-less limits s b first true some = cut-less limits s b first some (token_of limits.scalar first b) refl
+coming-less limits s b first true some = cut-less limits s b first some (token_of (Some limits.scalar) first b) refl
 
 ended-less : (n : ℕ) (kinds : List Kind) (wants : Wants) (p : ℕ) → Leaves_less n (step_of (reading.ended kinds wants p))
 ended-less n [] (a_value None []) p = tt

@@ -4,6 +4,8 @@ mod Shrinking
 mod Falling
 mod Sound
 mod Tokens
+mod Advancing
 mod Complete
-mod Wider
+mod TokenCuts
+mod Counting
 mod One

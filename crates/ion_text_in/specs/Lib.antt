@@ -1,4 +1,5 @@
 pub mod Places
+pub mod Limit
 pub mod Blanks
 pub mod Quoted
 pub mod Lob
@@ -6,5 +7,4 @@ pub mod Token
 pub mod Reading
 pub mod Grammar
 pub mod Paths
-pub mod Fits
 pub mod Laws

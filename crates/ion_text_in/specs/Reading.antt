@@ -251,7 +251,7 @@ ended _ _ place = Err (Truncated, place)
 abbrev pub coming : Limits → State → Cursor → First → Bool → Placed (Step State)
 coming limits s c first false = Err (BadToken, c.place)
 coming limits s c first true = do
-  t ← part c.place (token_of limits.scalar first c)
+  t ← part c.place (token_of (Some limits.scalar) first c)
   take limits s.kinds s.top s.wants c.place t.0 t.1
 
 abbrev pub part_from : Limits → State → Cursor → First → Placed (Step State)

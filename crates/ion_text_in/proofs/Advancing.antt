@@ -7,7 +7,8 @@ use Rattle.ion_value.specs.Value.{Symbol, SymbolAt, Value, Members, Top}
 use Rattle.ion_value.specs.Path.{Path}
 use Rattle.ion_meter.specs.Sources.{Cursor}
 use Rattle.ion_text_in.specs.Token.{Token, name, first_at, token_of}
-use Rattle.ion_text_in.specs.Reading.{at, cost}
+use Rattle.ion_text_in.specs.Positions.{at}
+use Rattle.ion_text_in.specs.Reading.{cost}
 use Rattle.ion_text_in.specs.Grammar.{Tok, Annotations, Field, Txt, Inside, Tops}
 use Rattle.ion_text_in.specs.Paths.{Spells}
 use Rattle.ion_text_in.proofs.Shrinking.{Past, blanks-within, token-past}

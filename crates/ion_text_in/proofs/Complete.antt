@@ -18,12 +18,13 @@ use Rattle.ion_value.specs.Parts.{part, refuse, ◌>>=◌, ◌>>◌}
 use Rattle.ion_text_in.specs.Blanks.{blanks}
 use Rattle.ion_text_in.specs.Token.{Token, plain, name, text, operator, begin, end, comma}
 use Rattle.ion_text_in.specs.Reading as reading
-use Rattle.ion_text_in.specs.Reading.{Wants, a_value, a_field, a_separator, State, innermost, in_sexp, has_commas, member_of, at_member, behind_member, at, first_place, top_of, item_of, cost, tells_version, behind_colons, step, step_of, take, size, start}
+use Rattle.ion_text_in.specs.Positions.{Wants, a_value, a_field, a_separator, State, innermost, in_sexp, has_commas, at, first_place}
+use Rattle.ion_text_in.specs.Reading.{member_of, at_member, behind_member, top_of, item_of, cost, tells_version, behind_colons, step, step_of, take, size, start}
 use Rattle.ion_text_in.specs.Grammar.{Tok, Annotations, Field, Txt, Inside, Tops, start_of}
 use Rattle.ion_text_in.specs.Paths.{open_in, Spells, IsTop}
 use Rattle.ion_text_in.specs.Laws.{Allows, Complete, StreamsAreRead}
 use Rattle.ion_text_in.proofs.Growing.{Fits}
-use Rattle.ion_text_in.proofs.Steps.{fits}
+use Rattle.ion_text_in.proofs.Steps.{colons-none, version-none, fits}
 use Rattle.ion_text_in.proofs.Advancing.{notes-cost, notes-advance, field-advances, tok-advances, inside-advances, tops-advance, spells-advance}
 use Rattle.ion_text_in.proofs.Falling.{each_step_falls}
 use Rattle.ion_text_in.proofs.Tokens.{state, Suits, value-suits, mark-suits, end-suits, naming-suits, step-token, colons-stand, colon-stands}
@@ -176,8 +177,8 @@ module _ (limits : Limits) where
     value-read kinds top field _ c e _ p _ is (Txt.of_symbol {k = k} {d = d} {notes = notes} {quoted = quoted} {symbol = symbol} ns tok alone no_version) room =
         scalar-read limits kinds top field notes c d e p (name quoted symbol) (value.symbol (at symbol p)) (subst (λ k. Annotations (in_sexp k) c notes d) (sym is) ns) room
         (subst (λ k. Tok (in_sexp k) d (name quoted symbol) p e) (sym is) tok)
-        (ap (λ o. step_of (part p (reading.symbol_given limits kinds top field notes quoted (at symbol p) e o))) (ap (λ k. behind_colons (in_sexp k) e) is ∙ alone)
-        ∙ ap (λ told. step_of (part p (reading.value_or_version kinds top field notes (at symbol p) e told))) (ap (λ k. tells_version k notes quoted symbol) is ∙ no_version))
+        (ap (λ o. step_of (part p (reading.symbol_given limits kinds top field notes quoted (at symbol p) e o))) (ap (λ k. behind_colons (in_sexp k) e) is ∙ colons-none (in_sexp k) e alone)
+        ∙ ap (λ told. step_of (part p (reading.value_or_version kinds top field notes (at symbol p) e told))) (ap (λ k. tells_version k notes quoted symbol) is ∙ version-none k notes quoted symbol no_version))
     value-read kinds top field _ c g _ p _ is (Txt.of_members {d = d} {e = e} {f = f} {notes = notes} {q = q} {j = j} {members = members} {full = full} ns tok ins tok') room =
         let top' : ℕ = top_of kinds top notes p in
         let room_d = room-later limits (length kinds) c d (notes-advance ns) room in
@@ -241,7 +242,7 @@ module _ (limits : Limits) (bytes : List ℕ) (allows : Allows limits bytes) whe
       let front = tops-read d tops before in
       let room = all-room limits bytes 0 d allows (let le = tops-advance before in omega (arith, le)) in
       let one = step-token limits [] front.0 (a_value None []) d (name false (value.Text version_word)) p e (value-suits None [] (name false (value.Text version_word))) (room-token limits 0 d room) tok
-      ∙ ap (λ o. step_of (part p (reading.symbol_given limits [] front.0 None [] false (at (value.Text version_word) p) e o))) alone
+      ∙ ap (λ o. step_of (part p (reading.symbol_given limits [] front.0 None [] false (at (value.Text version_word) p) e o))) (colons-none false e alone)
       ∙ marker-taken front.0 p e in
       let all = reads-then limits (start bytes) (state [] front.0 (a_value None []) d) (state [] p (a_value None []) e) (top_items tops) (item_of p None [] p value.marker ∷ [])
       front.1 (reads-gives limits (state [] front.0 (a_value None []) d) (state [] p (a_value None []) e) (item_of p None [] p value.marker) one) in

@@ -7,8 +7,8 @@ use Rattle.ion_value.specs.Path.{Nest, outermost, inner, Path, closed, opened, b
 use Rattle.ion_value.specs.Name.{version_word}
 use Rattle.ion_meter.specs.Sources.{Cursor}
 use Rattle.ion_text_in.specs.Token.{name, begin, end, comma}
-use Rattle.ion_text_in.specs.Reading.{innermost, in_sexp, has_commas, first_place, behind_colons}
-use Rattle.ion_text_in.specs.Grammar.{Tok, Annotations, Field, Txt, Inside, Tops}
+use Rattle.ion_text_in.specs.Positions.{innermost, in_sexp, has_commas, first_place}
+use Rattle.ion_text_in.specs.Grammar.{Tok, NoColons, Annotations, Field, Txt, Inside, Tops}
 use Rattle.ion_text_in.specs.Paths.{open_in, Spells}
 
 abbrev pub tail_of : List Kind → List Kind
@@ -108,7 +108,7 @@ Spells-value {b} {c} {d} {e} _ _ _ field notes p v free (Spells.inside path g ow
     (Spells.inside path g own q k (value.member members field notes p v) s around ns tok (Inside.with_value ins' f txt))
 
 pub Spells-marker : {b c d e : Cursor} (path : Path SymbolAt ℕ) (kinds : List Kind) (full : Bool) (field : Option SymbolAt) (p : ℕ)
-    → kinds ≡ [] → Spells b path kinds full c → Field None c field d → Tok false d (name false (value.Text version_word)) p e → behind_colons false e ≡ None
+    → kinds ≡ [] → Spells b path kinds full c → Field None c field d → Tok false d (name false (value.Text version_word)) p e → NoColons false e
     → Spells b (mark_in path p) kinds false e
 Spells-marker _ _ _ field p none (Spells.top t) Field.at_top tok alone = Spells.top (Tops.marker t tok alone)
 Spells-marker _ _ _ field p none (Spells.inside path g own q k members s around ns tok' ins) f tok alone = absurd (cc none)

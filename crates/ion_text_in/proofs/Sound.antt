@@ -7,7 +7,8 @@ use Rattle.ion_value.specs.Value.{SymbolAt, Top}
 use Rattle.ion_value.specs.Path.{Path, closed, path_items}
 use Rattle.ion_value.specs.Reading.{Reading, Finished, Stopped, items_of, Step, Ends, Stops, Gives, GoesOn, Leaves, behind_item, behind_nothing, next_reading, reading_for}
 use Rattle.ion_meter.specs.Sources.{Cursor}
-use Rattle.ion_text_in.specs.Reading.{Wants, a_value, State, step, size, start, reading}
+use Rattle.ion_text_in.specs.Positions.{Wants, a_value, State}
+use Rattle.ion_text_in.specs.Reading.{step, size, start, reading}
 use Rattle.ion_text_in.specs.Grammar.{Field, Annotations, Tops, Stream, start_of}
 use Rattle.ion_text_in.specs.Paths.{Spells, IsPath, Begun, at_separator, at_field, in_item, At, Follows}
 use Rattle.ion_text_in.specs.Laws.{ending_of, Sound}

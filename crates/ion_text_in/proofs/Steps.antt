@@ -1,5 +1,5 @@
 -- Each step of a reading leads from a path of the grammar to the path with the item that it gives.
-use Rattle.std.proofs.Common.{◌≡◌, ◌==◌, ℕ, Bool, true, false, not, List, [], ◌∷◌, ◌++◌, Option, Some, None, Result, Ok, Err, nat_lt, nat_le, length, sum_by, refl, ap, subst, ◌∙◌}
+use Rattle.std.proofs.Common.{◌≡◌, ◌==◌, ℕ, Bool, true, false, not, List, [], ◌∷◌, ◌++◌, Option, Some, None, Result, Ok, Err, nat_lt, nat_le, length, sum_by, refl, sym, ap, subst, ◌∙◌}
 use Rattle.std.proofs.lemmas.Bool.{false≢true, eqb-true, and_parts}
 use Rattle.std.specs.Str.{bytes_eq}
 use Rattle.ion_meter.specs.declared.fault.Reason.{Reason}
@@ -7,7 +7,7 @@ use Rattle.ion_meter.specs.declared.fault.Reason.TheVariants.{BadVersion, DepthL
 use Rattle.ion_meter.specs.declared.limits.Limits.{Limits}
 use Rattle.ion_value.specs.declared.ion_type.Kind.{Kind}
 use Rattle.ion_value.specs.declared.ion_type.Kind.TheVariants as kind
-use Rattle.ion_value.specs.Name.{version_word}
+use Rattle.ion_value.specs.Name.{is_version, version_word}
 use Rattle.ion_value.specs.Value as value
 use Rattle.ion_value.specs.Value.{Symbol, SymbolAt, Scalar, Value, Members, PlacedItem}
 use Rattle.ion_value.specs.Path.{Path, closed, opened, Nest, outermost, inner, path_items}
@@ -17,10 +17,12 @@ use Rattle.ion_value.specs.Parts.{Placed, part, refuse, ◌>>=◌, ◌>>◌}
 use Rattle.ion_text_in.specs.Blanks.{blanks}
 use Rattle.ion_text_in.specs.Token.{First, a_word, a_quoted, a_short, a_long, a_run, a_lob, an_operator, an_infinity, a_begin, an_end, a_comma, a_colon, two_colons, no_token, first_at, Token, plain, name, text, operator, no_number, begin, end, comma, colon, colons, token_of, next_token}
 use Rattle.ion_text_in.specs.Reading as reading
-use Rattle.ion_text_in.specs.Reading.{Wants, a_value, a_field, a_separator, State, innermost, in_sexp, has_commas, at_member, behind_member, may_come, at, first_place, top_of, item_of, tells_version, is_marker, behind_colons, step, step_of, take, part_at}
-use Rattle.ion_text_in.specs.Grammar.{Tok, Annotations, Field, Txt, start_of}
+use Rattle.ion_text_in.specs.Positions.{Wants, a_value, a_field, a_separator, State, innermost, in_sexp, has_commas, at, first_place}
+use Rattle.ion_text_in.specs.Reading.{at_member, behind_member, may_come, top_of, item_of, tells_version, is_marker, behind_colons, step, step_of, take, part_at}
+use Rattle.ion_text_in.specs.Grammar.{Tok, NoColons, IsVersionWord, bare, Annotations, Field, Txt, start_of}
 use Rattle.ion_text_in.specs.Paths.{open_in, Spells, Begun, at_separator, at_field, in_item, IsTop, At, Follows}
 use Rattle.ion_text_in.proofs.TokenCuts.{token-free}
+use Rattle.ion_text_in.proofs.Tokens.{colons-stand}
 use Rattle.ion_text_in.proofs.Growing.{Fits, put_in, mark_in, end_in, path_items-put_in, path_items-mark_in, path_items-open_in, path_items-end_in, Spells-value, Spells-marker, Spells-comma, Spells-begin, Spells-end}
 
 -- ---- tokens as the reading cuts them
@@ -66,6 +68,35 @@ colons-blank sexp c d (Err fault) blank found = absurd (cc found)
 
 pub colons-behind : (sexp : Bool) (c d : Cursor) → behind_colons sexp c ≡ Some d → Colons sexp c d
 colons-behind sexp c d found = colons-blank sexp c d (blanks c) refl found
+
+-- the grammar's words for what the reading tests behind and of a symbol
+no-colons : (sexp : Bool) (c : Cursor) → behind_colons sexp c ≡ None → NoColons sexp c
+no-colons sexp c none p d tok = absurd (cc (sym none ∙ colons-stand sexp c d p tok))
+
+pub colons-none : (sexp : Bool) (c : Cursor) → NoColons sexp c → behind_colons sexp c ≡ None
+colons-none sexp c none = from (behind_colons sexp c) refl
+  where
+    from : (o : Option Cursor) → behind_colons sexp c ≡ o → o ≡ None
+    from None is = refl
+    from (Some d) is = let found = colons-behind sexp c d is in absurd (none found.0 d found.1)
+
+no-version : (k : Option Kind) (notes : List SymbolAt) (quoted : Bool) (symbol : Symbol) → tells_version k notes quoted symbol ≡ false
+    → IsVersionWord k notes quoted symbol → ⊥
+unfolding tells_version
+no-version _ _ _ _ none (bare is) = false≢true (sym none ∙ is)
+
+pub version-none : (k : Option Kind) (notes : List SymbolAt) (quoted : Bool) (symbol : Symbol) → (IsVersionWord k notes quoted symbol → ⊥)
+    → tells_version k notes quoted symbol ≡ false
+unfolding tells_version
+version-none (Some k) notes quoted symbol none = refl
+version-none None (a ∷ notes) quoted symbol none = refl
+version-none None [] true symbol none = refl
+version-none None [] false (value.Id id) none = refl
+version-none None [] false (value.Text word) none = from (is_version word) refl
+  where
+    from : (b : Bool) → is_version word ≡ b → b ≡ false
+    from true is = absurd (none (bare is))
+    from false is = refl
 
 -- ---- what begins behind a path
 
@@ -263,7 +294,7 @@ module _ (limits : Limits) (bytes : List ℕ) (path : Path SymbolAt ℕ) (top : 
         record {
           full = false;
           behind = d;
-          spells = Spells-marker (closed tops) [] false None p refl (Spells.top t) Field.at_top tok alone;
+          spells = Spells-marker (closed tops) [] false None p refl (Spells.top t) Field.at_top tok (no-colons false d alone);
           begun = begun-member d [];
           top = tt;
         },
@@ -291,7 +322,7 @@ module _ (limits : Limits) (bytes : List ℕ) (path : Path SymbolAt ℕ) (top : 
   told-goes kinds field notes quoted symbol behind b c spells f ns tok alone true is s =
       version-goes kinds field notes quoted symbol behind b c spells f ns tok alone (told-version (innermost kinds) notes quoted symbol is) s
   told-goes kinds field notes quoted symbol behind b c spells f ns tok alone false is s =
-      value-goes limits bytes path top is_top p d kinds field notes (value.symbol (at symbol p)) behind b spells f (Txt.of_symbol ns tok alone is) s
+      value-goes limits bytes path top is_top p d kinds field notes (value.symbol (at symbol p)) behind b spells f (Txt.of_symbol ns tok (no-colons (in_sexp (innermost kinds)) d alone) (no-version (innermost kinds) notes quoted symbol is)) s
 
   symbol-goes : (kinds : List Kind) (field : Option SymbolAt) (notes : List SymbolAt) (quoted : Bool) (symbol : Symbol) (behind b c : Cursor)
       → Spells (start_of bytes) path kinds false behind → Field (innermost kinds) behind field b → Annotations (in_sexp (innermost kinds)) b notes c

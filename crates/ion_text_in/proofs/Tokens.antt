@@ -19,7 +19,8 @@ use Rattle.ion_text_in.specs.Lob.{lob_at}
 use Rattle.ion_text_in.specs.Token as tokens
 use Rattle.ion_text_in.specs.Token.{First, a_word, a_quoted, a_short, a_long, a_run, a_lob, an_operator, an_infinity, a_begin, an_end, a_comma, a_colon, two_colons, no_token, first_at, Token, plain, name, text, operator, no_number, begin, end, comma, colon, colons, token_of, token_at, next_token, word_token, run_token, counted, bytes_of, word_of, in_run, in_operator}
 use Rattle.ion_text_in.specs.Reading as reading
-use Rattle.ion_text_in.specs.Reading.{Wants, a_value, a_field, a_separator, State, innermost, in_sexp, is_punctuation, names_field, may_come, step, step_of, take, part_at}
+use Rattle.ion_text_in.specs.Positions.{Wants, a_value, a_field, a_separator, State, innermost, in_sexp}
+use Rattle.ion_text_in.specs.Reading.{is_punctuation, names_field, may_come, step, step_of, take, part_at}
 use Rattle.ion_text_in.specs.Grammar.{Tok}
 use Rattle.ion_text_in.proofs.Shrinking.{blanks-within}
 use Rattle.ion_text_in.proofs.Counting.{token-same}

@@ -2,17 +2,21 @@
 use Rattle.std.specs.Prelude.{◌≡◌, ℕ, Bool, true, false, List, [], ◌∷◌, ◌++◌, Option, Some, None, Ok}
 use Rattle.ion_value.specs.declared.ion_type.Kind.{Kind}
 use Rattle.ion_value.specs.declared.ion_type.Kind.TheVariants as kind
-use Rattle.ion_value.specs.Name.{version_word}
+use Rattle.ion_value.specs.Name.{is_version, version_word}
 use Rattle.ion_value.specs.Value as value
 use Rattle.ion_value.specs.Value.{Symbol, SymbolAt, Scalar, Value, Members, Top}
 use Rattle.ion_meter.specs.Sources.{Cursor}
 use Rattle.ion_text_in.specs.Blanks.{blanks}
 use Rattle.ion_text_in.specs.Token.{Token, plain, name, text, operator, begin, end, comma, colon, colons, cut, next_token}
-use Rattle.ion_text_in.specs.Reading.{is_sexp, in_sexp, has_commas, at, first_place, behind_colons, tells_version}
+use Rattle.ion_text_in.specs.Positions.{is_sexp, in_sexp, has_commas, at, first_place}
 
 -- between the cursors c and d stand blanks and then the token t, whose first byte is at p; in a sexp it may be an operator
 abbrev pub Tok : Bool → Cursor → Token → ℕ → Cursor → Type 0
 Tok sexp c t p d = next_token None sexp c ≡ Ok (cut t p d)
+
+-- the next token is not two colons; so too where the input ends, or a comment has no end
+abbrev pub NoColons : Bool → Cursor → Type 0
+NoColons sexp c = (p : ℕ) (d : Cursor) → Tok sexp c colons p d → ⊥
 
 -- annotations, each a symbol and two colons
 pub data Annotations (sexp : Bool) (c : Cursor) : List SymbolAt → Cursor → Type 0 where
@@ -30,6 +34,10 @@ pub data Field : Option Kind → Cursor → Option SymbolAt → Cursor → Type 
   in_quotes : {c d e : Cursor} {p q : ℕ} {bytes : List ℕ} → Tok false c (text bytes) p d → Tok false d colon q e
       → Field (Some kind.Struct) c (Some (at (value.Text bytes) p)) e
 
+-- a version's word stands at top level, without quotes and annotations
+pub data IsVersionWord : Option Kind → List SymbolAt → Bool → Symbol → Type 0 where
+  bare : {word : List ℕ} → is_version word ≡ true → IsVersionWord None [] false (value.Text word)
+
 mutual
   -- annotations and a value, which stands at a place; a symbol is a value where no two colons follow it, and it is no version's word
   pub data Txt : Option Kind → Cursor → List SymbolAt → ℕ → Value SymbolAt ℕ → Cursor → Type 0 where
@@ -41,7 +49,7 @@ mutual
         → Tok (in_sexp k) d (operator bytes) p e → Txt k c notes p (value.scalar (value.symbol (at (value.Text bytes) p))) e
     of_symbol : {k : Option Kind} {c d e : Cursor} {notes : List SymbolAt} {p : ℕ} {quoted : Bool} {symbol : Symbol}
         → Annotations (in_sexp k) c notes d → Tok (in_sexp k) d (name quoted symbol) p e
-        → behind_colons (in_sexp k) e ≡ None → tells_version k notes quoted symbol ≡ false
+        → NoColons (in_sexp k) e → (IsVersionWord k notes quoted symbol → ⊥)
         → Txt k c notes p (value.scalar (value.symbol (at symbol p))) e
     of_members : {k : Option Kind} {c d e f g : Cursor} {notes : List SymbolAt} {p q : ℕ} {j : Kind} {members : Members SymbolAt ℕ} {full : Bool}
         → Annotations (in_sexp k) c notes d → Tok (in_sexp k) d (begin j) p e → Inside j e members full f
@@ -60,7 +68,7 @@ mutual
 pub data Tops (c : Cursor) : List (Top SymbolAt ℕ) → Cursor → Type 0 where
   nothing : Tops c [] c
   marker : {tops : List (Top SymbolAt ℕ)} {d e : Cursor} {p : ℕ} → Tops c tops d → Tok false d (name false (value.Text version_word)) p e
-      → behind_colons false e ≡ None → Tops c (tops ++ value.version p ∷ []) e
+      → NoColons false e → Tops c (tops ++ value.version p ∷ []) e
   with_value : {tops : List (Top SymbolAt ℕ)} {d e : Cursor} {notes : List SymbolAt} {p : ℕ} {v : Value SymbolAt ℕ} → Tops c tops d
       → Txt None d notes p v e → Tops c (tops ++ value.tree (first_place notes p) notes p v ∷ []) e
 

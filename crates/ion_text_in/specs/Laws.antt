@@ -4,7 +4,8 @@ use Rattle.ion_meter.specs.declared.limits.Limits.{Limits}
 use Rattle.ion_value.specs.Value.{SymbolAt, Top, PlacedItem}
 use Rattle.ion_value.specs.Path.{Path, closed, path_items}
 use Rattle.ion_value.specs.Reading.{Reading, Finished, Stopped, Shrinks, items_of, behind}
-use Rattle.ion_text_in.specs.Reading.{State, step, size, reading}
+use Rattle.ion_text_in.specs.Positions.{State}
+use Rattle.ion_text_in.specs.Reading.{step, size, reading}
 use Rattle.ion_text_in.specs.Grammar.{Stream}
 use Rattle.ion_text_in.specs.Paths.{IsPath, At, Follows}
 

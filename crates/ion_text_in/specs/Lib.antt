@@ -1,5 +1,6 @@
 pub mod Places
 pub mod Limit
+pub mod Positions
 pub mod Blanks
 pub mod Quoted
 pub mod Lob

@@ -8,7 +8,7 @@ use Rattle.ion_value.specs.Reading.{Step, Ends, Stops, Gives, GoesOn}
 use Rattle.ion_meter.specs.Sources.{Cursor}
 use Rattle.ion_text_in.specs.Blanks.{blanks}
 use Rattle.ion_text_in.specs.Token.{begin}
-use Rattle.ion_text_in.specs.Reading.{Wants, a_value, a_field, a_separator, State, innermost, in_sexp, first_place}
+use Rattle.ion_text_in.specs.Positions.{Wants, a_value, a_field, a_separator, State, innermost, in_sexp, first_place}
 use Rattle.ion_text_in.specs.Grammar.{Tok, Annotations, Field, Inside, Tops, start_of}
 
 -- the path behind a container's beginning and some of its members

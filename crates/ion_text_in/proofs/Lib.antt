@@ -9,3 +9,5 @@ mod Complete
 mod TokenCuts
 mod Counting
 mod One
+mod Narrow
+mod Refused

@@ -1,5 +1,7 @@
 -- What is true of the grammar and the reading: laws that contracts cite.
 use Rattle.std.specs.Prelude.{◌≡◌, ℕ, ◌*◌, ◌≤◌, ◌⊎◌, List, ◌++◌, length}
+use Rattle.ion_meter.specs.declared.fault.Reason.{Reason}
+use Rattle.ion_meter.specs.declared.fault.Reason.TheVariants.{DepthLimit, ScalarLimit, AnnotationLimit}
 use Rattle.ion_meter.specs.declared.limits.Limits.{Limits}
 use Rattle.ion_value.specs.Value.{SymbolAt, Top, PlacedItem}
 use Rattle.ion_value.specs.Path.{Path, closed, path_items}
@@ -51,6 +53,31 @@ abbrev pub StreamsAreRead : Type 0
 StreamsAreRead =
     (limits : Limits) (bytes : List ℕ) (tops : List (Top SymbolAt ℕ)) → Allows limits bytes → Stream bytes tops
     → reading limits bytes ≡ behind (path_items (closed tops)) Finished
+
+abbrev pub IsLimit : Reason → Type 0
+IsLimit reason = (reason ≡ DepthLimit) ⊎ (reason ≡ ScalarLimit) ⊎ (reason ≡ AnnotationLimit)
+
+-- limits of which the others pass nothing that these do not
+pub record AreWithin (limits wide : Limits) : Type 0 where
+  pub depth : limits.depth ≤ wide.depth
+  pub scalar : limits.scalar ≤ wide.scalar
+
+-- a reading is the front of another, up to a limit's fault
+pub data IsCut : Reading → Reading → Type 0 where
+  here : (reason : Reason) (place : ℕ) (r : Reading) → IsLimit reason → IsCut (Stopped reason place) r
+  later : (item : PlacedItem) (r s : Reading) → IsCut r s → IsCut (Reading.More item r) (Reading.More item s)
+
+-- narrower limits change nothing, or cut the reading short by a limit's fault
+abbrev pub Narrow : Type 0
+Narrow =
+    (limits wide : Limits) (bytes : List ℕ) → AreWithin limits wide
+    → (reading limits bytes ≡ reading wide bytes) ⊎ IsCut (reading limits bytes) (reading wide bytes)
+
+-- where a reading stops, and not at a limit, the bytes are no stream
+abbrev pub RightlyRefused : Type 0
+RightlyRefused =
+    (limits : Limits) (bytes : List ℕ) (reason : Reason) (place : ℕ) (tops : List (Top SymbolAt ℕ))
+    → ending_of (reading limits bytes) ≡ Stopped reason place → (IsLimit reason → ⊥) → Stream bytes tops → ⊥
 
 -- one list of items begins another
 abbrev pub IsBegun : List PlacedItem → List PlacedItem → Type 0

@@ -4,19 +4,22 @@ use Rattle.ion_meter.specs.declared.fault.Reason.{Reason}
 use Rattle.ion_meter.specs.declared.limits.Limits.{Limits}
 use Rattle.ion_value.specs.Value.{SymbolAt, Top, PlacedItem, top_items}
 use Rattle.ion_value.specs.Reading.{Reading, Finished, Stopped, behind}
+use Rattle.ion_value.specs.Path.{path_items}
+use Rattle.ion_text_in.specs.Positions.{State}
 use Rattle.ion_text_in.specs.Reading.{reading}
-use Rattle.ion_text_in.specs.Laws.{ending_of, IsLimit, IsCut, here, later, RightlyRefused}
+use Rattle.ion_text_in.specs.Laws.{ending_of, IsLimit, Passes, IsCut, RightlyRefused}
 use Rattle.ion_text_in.proofs.Narrow.{narrow}
 use Rattle.ion_text_in.proofs.Complete.{streams_are_read}
 
--- a reading that is cut short ends at a limit
-cut-ending : (reason : Reason) (place : ℕ) (r s : Reading) → IsCut r s → ending_of r ≡ Stopped reason place → IsLimit reason
-cut-ending reason place _ _ (here other p r is) e = let same : other ≡ reason = cc e in subst IsLimit same is
-cut-ending reason place _ _ (later item r s cut) e = cut-ending reason place r s cut e
+-- what passes a limit is a limit's fault
+passes-limit : (limits : Limits) (s : State) (place : ℕ) (reason : Reason) → Passes limits s place reason → IsLimit reason
+passes-limit limits s place _ (Passes.token is) = inr (inl refl)
+passes-limit limits s place _ (Passes.container k d tok full) = inl refl
+passes-limit limits s place _ (Passes.annotations field notes quoted symbol q d e are tok after more) = inr (inr refl)
 
-ending_of-behind : (items : List PlacedItem) → ending_of (behind items Finished) ≡ Finished
-ending_of-behind [] = refl
-ending_of-behind (item ∷ items) = ending_of-behind items
+ending_of-behind : (items : List PlacedItem) (r : Reading) → ending_of (behind items r) ≡ ending_of r
+ending_of-behind [] r = refl
+ending_of-behind (item ∷ items) r = ending_of-behind items r
 
 pub rightly_refused : RightlyRefused
 rightly_refused limits bytes reason place tops stops no_limit stream =
@@ -24,7 +27,10 @@ rightly_refused limits bytes reason place tops stops no_limit stream =
     let read = streams_are_read wide bytes tops (omega arith, omega arith) stream in
     elim (narrow limits wide bytes (record { depth = omega arith; scalar = omega arith })) [
       | inl same ↦
-          let ends : Stopped reason place ≡ Finished = sym stops ∙ ap ending_of (same ∙ read) ∙ ending_of-behind (top_items tops) in
+          let ends : Stopped reason place ≡ Finished = sym stops ∙ ap ending_of (same ∙ read) ∙ ending_of-behind (top_items tops) Finished in
           absurd (cc ends)
-      | inr cut ↦ no_limit (cut-ending reason place (reading limits bytes) (reading wide bytes) cut stops)
+      | inr cut ↦
+          let ends : Stopped cut.reason cut.place ≡ Stopped reason place = sym (ending_of-behind (path_items cut.path) (Stopped cut.reason cut.place)) ∙ sym (ap ending_of cut.short) ∙ stops in
+          let same : cut.reason ≡ reason = cc ends in
+          no_limit (subst IsLimit same (passes-limit limits cut.state cut.place cut.reason cut.passes))
     ]

@@ -1,14 +1,17 @@
 -- What is true of the grammar and the reading: laws that contracts cite.
-use Rattle.std.specs.Prelude.{◌≡◌, ℕ, ◌*◌, ◌≤◌, ◌⊎◌, List, ◌++◌, length}
+use Rattle.std.specs.Prelude.{◌≡◌, ℕ, ◌*◌, ◌<◌, ◌≤◌, ◌⊎◌, Bool, List, [], ◌∷◌, ◌++◌, length, sum_by, Option, Some, Err}
 use Rattle.ion_meter.specs.declared.fault.Reason.{Reason}
 use Rattle.ion_meter.specs.declared.fault.Reason.TheVariants.{DepthLimit, ScalarLimit, AnnotationLimit}
 use Rattle.ion_meter.specs.declared.limits.Limits.{Limits}
-use Rattle.ion_value.specs.Value.{SymbolAt, Top, PlacedItem}
+use Rattle.ion_value.specs.declared.ion_type.Kind.{Kind}
+use Rattle.ion_value.specs.Value.{Symbol, SymbolAt, Top, PlacedItem}
 use Rattle.ion_value.specs.Path.{Path, closed, path_items}
-use Rattle.ion_value.specs.Reading.{Reading, Finished, Stopped, Shrinks, items_of, behind}
-use Rattle.ion_text_in.specs.Positions.{State}
-use Rattle.ion_text_in.specs.Reading.{step, size, reading}
-use Rattle.ion_text_in.specs.Grammar.{Stream}
+use Rattle.ion_value.specs.Reading.{Reading, Finished, Stopped, Shrinks, items_of, behind, reading_by}
+use Rattle.ion_meter.specs.Sources.{Cursor}
+use Rattle.ion_text_in.specs.Token.{name, begin, colons, next_token}
+use Rattle.ion_text_in.specs.Positions.{State, a_value, innermost, in_sexp, at}
+use Rattle.ion_text_in.specs.Reading.{cost, step, size, reading}
+use Rattle.ion_text_in.specs.Grammar.{Tok, Stream}
 use Rattle.ion_text_in.specs.Paths.{IsPath, At, Follows}
 
 -- how a reading ends
@@ -62,16 +65,34 @@ pub record AreWithin (limits wide : Limits) : Type 0 where
   pub depth : limits.depth ≤ wide.depth
   pub scalar : limits.scalar ≤ wide.scalar
 
--- a reading is the front of another, up to a limit's fault
-pub data IsCut : Reading → Reading → Type 0 where
-  here : (reason : Reason) (place : ℕ) (r : Reading) → IsLimit reason → IsCut (Stopped reason place) r
-  later : (item : PlacedItem) (r s : Reading) → IsCut r s → IsCut (Reading.More item r) (Reading.More item s)
+-- a limit is passed where a reading stands, at the place of the next token: by this token, by the container that it begins, or by the
+-- annotations with the one that it is
+pub data Passes (limits : Limits) (s : State) (place : ℕ) : Reason → Type 0 where
+  token : next_token (Some limits.scalar) (in_sexp (innermost s.kinds)) s.cursor ≡ Err (ScalarLimit, place)
+      → Passes limits s place ScalarLimit
+  container : (k : Kind) (d : Cursor) → Tok (in_sexp (innermost s.kinds)) s.cursor (begin k) place d
+      → limits.depth ≤ length s.kinds → Passes limits s place DepthLimit
+  annotations : (field : Option SymbolAt) (notes : List SymbolAt) (quoted : Bool) (symbol : Symbol) (q : ℕ) (d e : Cursor)
+      → s.wants ≡ a_value field notes → Tok (in_sexp (innermost s.kinds)) s.cursor (name quoted symbol) place d
+      → Tok (in_sexp (innermost s.kinds)) d colons q e → limits.scalar < sum_by cost (notes ++ at symbol place ∷ [])
+      → Passes limits s place AnnotationLimit
 
--- narrower limits change nothing, or cut the reading short by a limit's fault
+-- two readings come to one state with the same items; there one stops, since its limits are passed, and the other goes on
+pub record IsCut (limits wide : Limits) (bytes : List ℕ) : Type 0 where
+  pub path : Path SymbolAt ℕ
+  pub state : State
+  pub stands : At bytes path state
+  pub reason : Reason
+  pub place : ℕ
+  pub passes : Passes limits state place reason
+  pub short : reading limits bytes ≡ behind (path_items path) (Stopped reason place)
+  pub long : reading wide bytes ≡ behind (path_items path) (reading_by (step wide) size state)
+
+-- narrower limits change nothing, or cut the reading short where they are passed
 abbrev pub Narrow : Type 0
 Narrow =
     (limits wide : Limits) (bytes : List ℕ) → AreWithin limits wide
-    → (reading limits bytes ≡ reading wide bytes) ⊎ IsCut (reading limits bytes) (reading wide bytes)
+    → (reading limits bytes ≡ reading wide bytes) ⊎ IsCut limits wide bytes
 
 -- where a reading stops, and not at a limit, the bytes are no stream
 abbrev pub RightlyRefused : Type 0

@@ -30,7 +30,8 @@ pub fn streams_are_read()
     ensures { StreamsAreRead }
 {}
 
-/// Narrower limits change nothing in what is read, or cut it short by a limit's fault.
+/// Narrower limits change nothing in what is read, or cut it short at the token, container or
+/// annotation that passes them.
 pub fn limits_only_cut_short()
     ensures { Narrow }
 {}

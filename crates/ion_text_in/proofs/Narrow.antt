@@ -1,12 +1,12 @@
 -- Narrower limits change nothing in what is read, or cut it short where they are passed.
-use Rattle.std.proofs.Common.{◌≡◌, ℕ, zero, suc, ◌+◌, ◌<◌, ◌≤◌, ◌⊎◌, inl, inr, Bool, true, false, nat_le, nat_lt, sum_by, List, [], ◌∷◌, ◌++◌, length, Option, Some, None, Result, Ok, Err, refl, sym, ap, ◌∙◌, append_assoc, append-nil, arith}
+use Rattle.std.proofs.Common.{◌≡◌, ℕ, zero, suc, ◌<◌, ◌⊎◌, inl, inr, Bool, true, false, nat_le, nat_lt, sum_by, List, [], ◌∷◌, ◌++◌, length, Option, Some, None, Result, Ok, Err, refl, sym, ap, ◌∙◌, append_assoc, append-nil, arith}
 use Rattle.std.proofs.lemmas.Bool.{ltb-true, leb-true, lt-ltb, le-leb}
 use Rattle.ion_meter.specs.declared.fault.Reason.{Reason}
 use Rattle.ion_meter.specs.declared.fault.Reason.TheVariants.{DepthLimit, AnnotationLimit}
 use Rattle.ion_meter.specs.declared.limits.Limits.{Limits}
 use Rattle.ion_value.specs.declared.ion_type.Kind.{Kind}
 use Rattle.ion_value.specs.Value.{Symbol, SymbolAt, PlacedItem}
-use Rattle.ion_value.specs.Reading.{Reading, Finished, Stopped, Step, Ends, Stops, Gives, GoesOn, Leaves, behind_item, behind_nothing, next_reading, reading_for, reading_by, behind}
+use Rattle.ion_value.specs.Reading.{Reading, Stopped, Step, Ends, Stops, Gives, GoesOn, Leaves, behind_item, behind_nothing, next_reading, reading_for, reading_by, behind}
 use Rattle.ion_value.specs.Path.{Path, closed, path_items}
 use Rattle.ion_value.proofs.Readings.{reading_for-enough}
 use Rattle.ion_meter.specs.Sources.{Cursor}
@@ -215,7 +215,7 @@ module _ (limits wide : Limits) (within : AreWithin limits wide) where
     unfolding reading.reading
     whole-narrow =
         let at_start : At bytes (closed []) (start bytes) =
-            record { full = false; behind = start_of bytes; spells = Spells.top Tops.nothing; begun = in_item Field.at_top Annotations.nothing; top = tt } in
+        record { full = false; behind = start_of bytes; spells = Spells.top Tops.nothing; begun = in_item Field.at_top Annotations.nothing; top = tt } in
         elim (steps-narrow (suc (size (start bytes))) (closed []) (start bytes) at_start (omega arith)) [
           | inl e ↦ inl e
           | inr cut ↦ inr (record {

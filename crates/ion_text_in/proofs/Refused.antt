@@ -1,13 +1,12 @@
 -- Where a reading stops, and not at a limit, the bytes are no stream.
-use Rattle.std.proofs.Common.{◌≡◌, ℕ, ◌+◌, ◌*◌, ◌≤◌, ◌⊎◌, inl, inr, List, [], ◌∷◌, length, refl, sym, ap, ◌∙◌, arith, subst}
+use Rattle.std.proofs.Common.{◌≡◌, ℕ, ◌+◌, ◌*◌, inl, inr, List, [], ◌∷◌, length, refl, sym, ap, ◌∙◌, arith, subst}
 use Rattle.ion_meter.specs.declared.fault.Reason.{Reason}
 use Rattle.ion_meter.specs.declared.limits.Limits.{Limits}
-use Rattle.ion_value.specs.Value.{SymbolAt, Top, PlacedItem, top_items}
+use Rattle.ion_value.specs.Value.{PlacedItem, top_items}
 use Rattle.ion_value.specs.Reading.{Reading, Finished, Stopped, behind}
 use Rattle.ion_value.specs.Path.{path_items}
 use Rattle.ion_text_in.specs.Positions.{State}
-use Rattle.ion_text_in.specs.Reading.{reading}
-use Rattle.ion_text_in.specs.Laws.{ending_of, IsLimit, Passes, IsCut, RightlyRefused}
+use Rattle.ion_text_in.specs.Laws.{ending_of, IsLimit, Passes, RightlyRefused}
 use Rattle.ion_text_in.proofs.Narrow.{narrow}
 use Rattle.ion_text_in.proofs.Complete.{streams_are_read}
 

@@ -31,8 +31,8 @@ pub record IsRead (bytes : List ℕ) (r : Reading) : Type 0 where
 abbrev pub Sound : Type 0
 Sound = (limits : Limits) (bytes : List ℕ) → IsRead bytes (reading limits bytes)
 
--- a step from behind a path and the front of an item gives an item and the path with it, or it keeps the path; it ends where nothing is open and
--- nothing but blanks is left
+-- a step from behind a path and the front of an item gives an item and the path with it, or it keeps the path; it ends
+-- where nothing is open and nothing but blanks is left
 abbrev pub EachStepFollows : Type 0
 EachStepFollows =
     (limits : Limits) (bytes : List ℕ) (path : Path SymbolAt ℕ) (s : State) → At bytes path s → Follows bytes path s (step limits s)
@@ -65,8 +65,8 @@ pub record AreWithin (limits wide : Limits) : Type 0 where
   pub depth : limits.depth ≤ wide.depth
   pub scalar : limits.scalar ≤ wide.scalar
 
--- a limit is passed where a reading stands, at the place of the next token: by this token, by the container that it begins, or by the
--- annotations with the one that it is
+-- a limit is passed where a reading stands, at the place of the next token: by this token, by the container that it
+-- begins, or by the annotations with the one that it is
 pub data Passes (limits : Limits) (s : State) (place : ℕ) : Reason → Type 0 where
   token : next_token (Some limits.scalar) (in_sexp (innermost s.kinds)) s.cursor ≡ Err (ScalarLimit, place)
       → Passes limits s place ScalarLimit
@@ -77,7 +77,8 @@ pub data Passes (limits : Limits) (s : State) (place : ℕ) : Reason → Type 0 
       → Tok (in_sexp (innermost s.kinds)) d colons q e → limits.scalar < sum_by cost (notes ++ at symbol place ∷ [])
       → Passes limits s place AnnotationLimit
 
--- two readings come to one state with the same items; there one stops, since its limits are passed, and the other goes on
+-- two readings come to one state with the same items; there one stops, since its limits are passed, and the other goes
+-- on
 pub record IsCut (limits wide : Limits) (bytes : List ℕ) : Type 0 where
   pub path : Path SymbolAt ℕ
   pub state : State

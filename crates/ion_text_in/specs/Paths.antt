@@ -12,16 +12,19 @@ use Rattle.ion_text_in.specs.Positions.{Wants, a_value, a_field, a_separator, St
 use Rattle.ion_text_in.specs.Grammar.{Tok, Annotations, Field, Inside, Tops, start_of}
 
 -- the path behind a container's beginning and some of its members
-abbrev pub open_in : Path SymbolAt ℕ → ℕ → Option SymbolAt → List SymbolAt → ℕ → Kind → Members SymbolAt ℕ → Path SymbolAt ℕ
+abbrev pub open_in : Path SymbolAt ℕ → ℕ → Option SymbolAt → List SymbolAt → ℕ → Kind → Members SymbolAt ℕ
+    → Path SymbolAt ℕ
 open_in (closed tops) q field notes p k members = opened tops q (outermost notes p k members)
 open_in (opened tops first nest) q field notes p k members = opened tops first (inner nest field notes p k members)
 
--- between the cursors b and c stand the items of the path, of which these containers are open; where the innermost is full, a comma or its end comes next
+-- between the cursors b and c stand the items of the path, of which these containers are open; where the innermost is
+-- full, a comma or its end comes next
 pub data Spells (b : Cursor) : Path SymbolAt ℕ → List Kind → Bool → Cursor → Type 0 where
   top : {tops : List (Top SymbolAt ℕ)} {c : Cursor} → Tops b tops c → Spells b (closed tops) [] false c
-  inside : (path : Path SymbolAt ℕ) (field : Option SymbolAt) (notes : List SymbolAt) (p : ℕ) (k : Kind) (members : Members SymbolAt ℕ)
-      {kinds : List Kind} {c d e f g : Cursor} {full : Bool} → Spells b path kinds false c → Field (innermost kinds) c field d
-      → Annotations (in_sexp (innermost kinds)) d notes e → Tok (in_sexp (innermost kinds)) e (begin k) p f → Inside k f members full g
+  inside : (path : Path SymbolAt ℕ) (field : Option SymbolAt) (notes : List SymbolAt) (p : ℕ) (k : Kind)
+      (members : Members SymbolAt ℕ) {kinds : List Kind} {c d e f g : Cursor} {full : Bool}
+      → Spells b path kinds false c → Field (innermost kinds) c field d → Annotations (in_sexp (innermost kinds)) d notes e
+      → Tok (in_sexp (innermost kinds)) e (begin k) p f → Inside k f members full g
       → Spells b (open_in path (first_place notes p) field notes p k members) (k ∷ kinds) full g
 
 -- the bytes before a place spell the path
@@ -38,8 +41,9 @@ pub record IsPath (bytes : List ℕ) (q : ℕ) (path : Path SymbolAt ℕ) : Type
 pub data Begun (c : Cursor) : List Kind → Bool → Wants → Cursor → Type 0 where
   at_separator : {kinds : List Kind} → Begun c kinds true a_separator c
   at_field : {kinds : List Kind} → Begun c (kind.Struct ∷ kinds) false a_field c
-  in_item : {kinds : List Kind} {d e : Cursor} {field : Option SymbolAt} {notes : List SymbolAt} → Field (innermost kinds) c field d
-      → Annotations (in_sexp (innermost kinds)) d notes e → Begun c kinds false (a_value field notes) e
+  in_item : {kinds : List Kind} {d e : Cursor} {field : Option SymbolAt} {notes : List SymbolAt}
+      → Field (innermost kinds) c field d → Annotations (in_sexp (innermost kinds)) d notes e
+      → Begun c kinds false (a_value field notes) e
 
 -- the place of the open top-level value, where one is
 abbrev pub IsTop : Path SymbolAt ℕ → ℕ → Type 0
@@ -54,9 +58,12 @@ pub record At (bytes : List ℕ) (path : Path SymbolAt ℕ) (s : State) : Type 0
   pub begun : Begun behind s.kinds full s.wants s.cursor
   pub top : IsTop path s.top
 
--- a step gives an item, and a path that has it behind the items so far, or it keeps the path; it ends where nothing is open, nothing of an item is read, and nothing is left
+-- a step gives an item, and a path that has it behind the items so far, or it keeps the path; it ends where nothing is
+-- open, nothing of an item is read, and nothing is left
 abbrev pub Follows : List ℕ → Path SymbolAt ℕ → State → Step State → Type 0
-Follows bytes path s Ends = (s.kinds ≡ []) × (s.wants ≡ a_value None []) × (end : Cursor) × (blanks s.cursor ≡ Ok end) × (end.rest ≡ [])
+Follows bytes path s Ends =
+    (s.kinds ≡ []) × (s.wants ≡ a_value None []) × (end : Cursor) × (blanks s.cursor ≡ Ok end) × (end.rest ≡ [])
 Follows bytes path s (Stops reason place) = Unit {0}
-Follows bytes path s (Gives item after) = (next : Path SymbolAt ℕ) × At bytes next after × (path_items next ≡ path_items path ++ item ∷ [])
+Follows bytes path s (Gives item after) =
+    (next : Path SymbolAt ℕ) × At bytes next after × (path_items next ≡ path_items path ++ item ∷ [])
 Follows bytes path s (GoesOn after) = At bytes path after

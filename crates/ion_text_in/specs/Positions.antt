@@ -1,4 +1,4 @@
--- What the grammar and the reading share: open containers, the places of symbols and of top-level values, and where a reading stands.
+-- What the grammar and the reading share: open containers, the places of symbols and values, and where a reading stands.
 use Rattle.std.specs.Prelude.{ℕ, Bool, true, false, List, [], ◌∷◌, Option, Some, None}
 use Rattle.ion_value.specs.declared.ion_type.Kind.{Kind}
 use Rattle.ion_value.specs.declared.ion_type.Kind.TheVariants as kind
@@ -46,7 +46,7 @@ pub data Wants : Type 0 where
   a_field : Wants
   a_separator : Wants
 
--- the open containers, the innermost first; the place of the present top-level value; what must come; and what is to be read
+-- the open containers, the innermost first; the place of the present top-level value; what must come; what is to be read
 pub record State : Type 0 where
   pub kinds : List Kind
   pub top : ℕ

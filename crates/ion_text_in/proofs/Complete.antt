@@ -1,5 +1,6 @@
 -- Whatever the grammar spells is read, where the limits allow it.
-use Rattle.std.proofs.Common.{◌≡◌, ℕ, suc, Bool, true, false, nat_le, nat_lt, sum_by, List, [], ◌∷◌, ◌++◌, length, Option, None, Some, Ok, Result, if◌then◌else◌, refl, sym, ap, subst, ◌∙◌, append_assoc, append-nil}
+use Rattle.std.proofs.Common.{◌≡◌, ℕ, suc, ◌+◌, ◌*◌, ◌<◌, ◌≤◌, arith, Bool, true, false, nat_le, nat_lt, sum_by, List, [], ◌∷◌, ◌++◌, length, Option, None, Some, Ok, Result, if◌then◌else◌, refl, sym, ap, subst, ◌∙◌, append_assoc, append-nil}
+use Rattle.std.proofs.lemmas.Bool.{le-ltb, lt-leb}
 use Rattle.ion_meter.specs.declared.fault.Reason.{Reason}
 use Rattle.ion_meter.specs.declared.fault.Reason.TheVariants.{AnnotationLimit, DepthLimit}
 use Rattle.ion_meter.specs.declared.limits.Limits.{Limits}
@@ -17,13 +18,14 @@ use Rattle.ion_value.specs.Parts.{part, refuse, ◌>>=◌, ◌>>◌}
 use Rattle.ion_text_in.specs.Blanks.{blanks}
 use Rattle.ion_text_in.specs.Token.{Token, plain, name, text, operator, begin, end, comma}
 use Rattle.ion_text_in.specs.Reading as reading
-use Rattle.ion_text_in.specs.Reading.{Wants, a_value, a_field, a_separator, State, innermost, in_sexp, has_commas, member_of, at_member, behind_member, at, first_place, top_of, item_of, cost, tells_version, behind_colons, step, step_of, take, size, start}
-use Rattle.ion_text_in.specs.Grammar.{Tok, Notes, Field, Txt, Inside, Tops, start_of}
+use Rattle.ion_text_in.specs.Positions.{Wants, a_value, a_field, a_separator, State, innermost, in_sexp, has_commas, at, first_place}
+use Rattle.ion_text_in.specs.Reading.{member_of, at_member, behind_member, top_of, item_of, cost, tells_version, behind_colons, step, step_of, take, size, start}
+use Rattle.ion_text_in.specs.Grammar.{Tok, Annotations, Field, Txt, Inside, Tops, start_of}
 use Rattle.ion_text_in.specs.Paths.{open_in, Spells, IsTop}
-use Rattle.ion_text_in.specs.Laws.{Complete, StreamsAreRead}
-use Rattle.ion_text_in.specs.Fits.{path_kinds, AnnotationsFit, DepthFits, ValueFits, MembersFit, TopFits, TopsFit, PathFits}
+use Rattle.ion_text_in.specs.Laws.{Allows, Complete, StreamsAreRead}
 use Rattle.ion_text_in.proofs.Growing.{Fits}
-use Rattle.ion_text_in.proofs.Steps.{fits}
+use Rattle.ion_text_in.proofs.Steps.{colons-none, version-none, fits}
+use Rattle.ion_text_in.proofs.Advancing.{notes-cost, notes-advance, field-advances, tok-advances, inside-advances, tops-advance, spells-advance}
 use Rattle.ion_text_in.proofs.Falling.{each_step_falls}
 use Rattle.ion_text_in.proofs.Tokens.{state, Suits, value-suits, mark-suits, end-suits, naming-suits, step-token, colons-stand, colon-stands}
 
@@ -58,34 +60,56 @@ read_from-ends limits s e = reading_by-ends (step limits) size (each_step_falls 
 not-refused : (p : ℕ) (b : Bool) (reason : Reason) (o : Result (Step State) Reason) → b ≡ false → step_of (part p (refuse b reason >> o)) ≡ step_of (part p o)
 not-refused p b reason o e = ap (λ b. step_of (part p (refuse b reason >> o))) e
 
+-- ---- limits that allow what is left
+
+-- so many open containers and all that can be opened yet, and whatever the bytes that are left can count
+abbrev Room : Limits → ℕ → Cursor → Type 0
+Room limits depth c = (depth + length c.rest ≤ limits.depth) × (16 * length c.rest ≤ limits.scalar)
+
+room-later : (limits : Limits) (depth : ℕ) (c d : Cursor) → length d.rest ≤ length c.rest → Room limits depth c → Room limits depth d
+room-later limits depth c d le room = let deep = room.0 in let wide = room.1 in (omega (arith, le, deep), omega (arith, le, wide))
+
+-- for a container that opens
+room-inside : (limits : Limits) (depth : ℕ) (c d : Cursor) → length d.rest < length c.rest → Room limits depth c → Room limits (suc depth) d
+room-inside limits depth c d lt room = let deep = room.0 in let wide = room.1 in (omega (arith, lt, deep), omega (arith, lt, wide))
+
+-- for a token
+room-token : (limits : Limits) (depth : ℕ) (c : Cursor) → Room limits depth c → length c.rest ≤ limits.scalar
+room-token limits depth c room = let wide = room.1 in omega (arith, wide)
+
+room-depth : (limits : Limits) (depth : ℕ) (c d : Cursor) → length d.rest < length c.rest → Room limits depth c → nat_le limits.depth depth ≡ false
+room-depth limits depth c d lt room = lt-leb limits.depth depth (let deep = room.0 in omega (arith, lt, deep))
+
 -- ---- annotations and fields
 
-notes-read : (limits : Limits) (kinds : List Kind) (top : ℕ) (field : Option SymbolAt) (c d : Cursor) (notes : List SymbolAt) → Notes limits.scalar (in_sexp (innermost kinds)) c notes d
-    → AnnotationsFit limits notes → Reads limits (state kinds top (a_value field []) c) [] (state kinds top (a_value field notes) d)
+notes-read : (limits : Limits) (kinds : List Kind) (top : ℕ) (field : Option SymbolAt) (c d : Cursor) (notes : List SymbolAt) → Annotations (in_sexp (innermost kinds)) c notes d
+    → Room limits (length kinds) c → Reads limits (state kinds top (a_value field []) c) [] (state kinds top (a_value field notes) d)
 unfolding take
-notes-read limits kinds top field c _ _ Notes.nothing fit = refl
-notes-read limits kinds top field c f _ (Notes.then {notes = notes} {d = d} {e = e} {p = p} {q = q} {quoted = quoted} {symbol = symbol} before tok after) fit =
-    let front = notes-read limits kinds top field c d notes before (λ xs ys is. fit xs (ys ++ at symbol p ∷ []) (ap (λ ns. ns ++ at symbol p ∷ []) is ∙ append_assoc xs ys (at symbol p ∷ []))) in
+notes-read limits kinds top field c _ _ Annotations.nothing room = refl
+notes-read limits kinds top field c f _ (Annotations.then {notes = notes} {d = d} {e = e} {p = p} {q = q} {quoted = quoted} {symbol = symbol} before tok after) room =
+    let front = notes-read limits kinds top field c d notes before room in
+    let cost_is = notes-cost (Annotations.then before tok after) in let wide = room.1 in
     let next : State = state kinds top (a_value field (notes ++ at symbol p ∷ [])) f in
-    let one = step-token limits kinds top (a_value field notes) d (name quoted symbol) p e (value-suits field notes (name quoted symbol)) tok
-    ∙ ap (λ o. step_of (part p (reading.symbol_given limits kinds top field notes quoted (at symbol p) e o))) (colons-stand limits.scalar (in_sexp (innermost kinds)) e f q after)
-    ∙ not-refused p (nat_lt limits.scalar (sum_by cost (notes ++ at symbol p ∷ []))) AnnotationLimit (Ok (GoesOn next)) (fit (notes ++ at symbol p ∷ []) [] (sym (append-nil (notes ++ at symbol p ∷ [])))) in
+    let one = step-token limits kinds top (a_value field notes) d (name quoted symbol) p e (value-suits field notes (name quoted symbol))
+    (room-token limits (length kinds) d (room-later limits (length kinds) c d (notes-advance before) room)) tok
+    ∙ ap (λ o. step_of (part p (reading.symbol_given limits kinds top field notes quoted (at symbol p) e o))) (colons-stand (in_sexp (innermost kinds)) e f q after)
+    ∙ not-refused p (nat_lt limits.scalar (sum_by cost (notes ++ at symbol p ∷ []))) AnnotationLimit (Ok (GoesOn next)) (le-ltb limits.scalar (sum_by cost (notes ++ at symbol p ∷ [])) (omega (arith, cost_is, wide))) in
     front ∙ reads-goes_on limits (state kinds top (a_value field notes) d) next one
 
-field-read : (limits : Limits) (kinds : List Kind) (top : ℕ) (k : Option Kind) (field : Option SymbolAt) (c d : Cursor) → innermost kinds ≡ k → Field limits.scalar k c field d
+field-read : (limits : Limits) (kinds : List Kind) (top : ℕ) (k : Option Kind) (field : Option SymbolAt) (c d : Cursor) → innermost kinds ≡ k → Field k c field d → Room limits (length kinds) c
     → Reads limits (state kinds top (at_member k) c) [] (state kinds top (a_value field []) d)
 unfolding take
-field-read limits kinds top _ _ c _ is Field.at_top = refl
-field-read limits kinds top _ _ c _ is Field.in_list = refl
-field-read limits kinds top _ _ c _ is Field.in_a_sexp = refl
-field-read limits kinds top _ _ c e is (Field.named {d = d} {p = p} {q = q} {quoted = quoted} {symbol = symbol} tok after) =
-    let tok' : Tok limits.scalar (in_sexp (innermost kinds)) c (name quoted symbol) p d = subst (λ k. Tok limits.scalar (in_sexp k) c (name quoted symbol) p d) (sym is) tok in
+field-read limits kinds top _ _ c _ is Field.at_top room = refl
+field-read limits kinds top _ _ c _ is Field.in_list room = refl
+field-read limits kinds top _ _ c _ is Field.in_a_sexp room = refl
+field-read limits kinds top _ _ c e is (Field.named {d = d} {p = p} {q = q} {quoted = quoted} {symbol = symbol} tok after) room =
+    let tok' : Tok (in_sexp (innermost kinds)) c (name quoted symbol) p d = subst (λ k. Tok (in_sexp k) c (name quoted symbol) p d) (sym is) tok in
     reads-goes_on limits (state kinds top a_field c) (state kinds top (a_value (Some (at symbol p)) []) e)
-    (step-token limits kinds top a_field c (name quoted symbol) p d (naming-suits (name quoted symbol) refl refl) tok' ∙ ap step_of (colon-stands limits.scalar d e q kinds top (at symbol p) after))
-field-read limits kinds top _ _ c e is (Field.in_quotes {d = d} {p = p} {q = q} {bytes = bytes} tok after) =
-    let tok' : Tok limits.scalar (in_sexp (innermost kinds)) c (text bytes) p d = subst (λ k. Tok limits.scalar (in_sexp k) c (text bytes) p d) (sym is) tok in
+    (step-token limits kinds top a_field c (name quoted symbol) p d (naming-suits (name quoted symbol) refl refl) (room-token limits (length kinds) c room) tok' ∙ ap step_of (colon-stands d e q kinds top (at symbol p) after))
+field-read limits kinds top _ _ c e is (Field.in_quotes {d = d} {p = p} {q = q} {bytes = bytes} tok after) room =
+    let tok' : Tok (in_sexp (innermost kinds)) c (text bytes) p d = subst (λ k. Tok (in_sexp k) c (text bytes) p d) (sym is) tok in
     reads-goes_on limits (state kinds top a_field c) (state kinds top (a_value (Some (at (value.Text bytes) p)) []) e)
-    (step-token limits kinds top a_field c (text bytes) p d (naming-suits (text bytes) refl refl) tok' ∙ ap step_of (colon-stands limits.scalar d e q kinds top (at (value.Text bytes) p) after))
+    (step-token limits kinds top a_field c (text bytes) p d (naming-suits (text bytes) refl refl) (room-token limits (length kinds) c room) tok' ∙ ap step_of (colon-stands d e q kinds top (at (value.Text bytes) p) after))
 
 -- ---- values and members
 
@@ -104,14 +128,14 @@ same-kind kind.Sexp = refl
 same-kind kind.Struct = refl
 
 scalar-read : (limits : Limits) (kinds : List Kind) (top : ℕ) (field : Option SymbolAt) (notes : List SymbolAt) (c d e : Cursor) (p : ℕ) (t : Token) (body : Scalar SymbolAt)
-    → Notes limits.scalar (in_sexp (innermost kinds)) c notes d → AnnotationsFit limits notes → Tok limits.scalar (in_sexp (innermost kinds)) d t p e
+    → Annotations (in_sexp (innermost kinds)) c notes d → Room limits (length kinds) c → Tok (in_sexp (innermost kinds)) d t p e
     → step_of (take limits kinds top (a_value field notes) p t e) ≡ reading.scalar_given kinds top field notes p body e
     → Reads limits (state kinds top (a_value field []) c) (value_items (top_of kinds top notes p) field notes p (value.scalar body)) (state kinds (top_of kinds top notes p) (behind_member (innermost kinds)) e)
-scalar-read limits kinds top field notes c d e p t body ns fit tok taken =
-    notes-read limits kinds top field c d notes ns fit
+scalar-read limits kinds top field notes c d e p t body ns room tok taken =
+    notes-read limits kinds top field c d notes ns room
     ∙ reads-gives limits (state kinds top (a_value field notes) d) (state kinds (top_of kinds top notes p) (behind_member (innermost kinds)) e)
     (item_of (top_of kinds top notes p) field notes p (value.whole body))
-    (step-token limits kinds top (a_value field notes) d t p e (value-suits field notes t) tok ∙ taken)
+    (step-token limits kinds top (a_value field notes) d t p e (value-suits field notes t) (room-token limits (length kinds) d (room-later limits (length kinds) c d (notes-advance ns) room)) tok ∙ taken)
 
 -- the end of a container behind its members
 end-suits-behind : (k : Kind) (full : Bool) → Suits (wants_behind (Some k) full) (end k)
@@ -139,51 +163,56 @@ module _ (limits : Limits) where
     unfolding take
 
     value-read : (kinds : List Kind) (top : ℕ) (field : Option SymbolAt) (k : Option Kind) (c e : Cursor) (notes : List SymbolAt) (p : ℕ) (v : Value SymbolAt ℕ) → innermost kinds ≡ k
-        → Txt limits.scalar k c notes p v e → AnnotationsFit limits notes → ValueFits limits (length kinds) v
+        → Txt k c notes p v e → Room limits (length kinds) c
         → Reads limits (state kinds top (a_value field []) c) (value_items (top_of kinds top notes p) field notes p v) (state kinds (top_of kinds top notes p) (behind_member (innermost kinds)) e)
-    value-read kinds top field _ c e _ p _ is (Txt.of_plain {d = d} {notes = notes} {v = v} ns tok) fit fits =
-        scalar-read limits kinds top field notes c d e p (plain v) v (subst (λ k. Notes limits.scalar (in_sexp k) c notes d) (sym is) ns) fit
-        (subst (λ k. Tok limits.scalar (in_sexp k) d (plain v) p e) (sym is) tok) refl
-    value-read kinds top field _ c e _ p _ is (Txt.of_text {d = d} {notes = notes} {bytes = bytes} ns tok) fit fits =
-        scalar-read limits kinds top field notes c d e p (text bytes) (value.string bytes) (subst (λ k. Notes limits.scalar (in_sexp k) c notes d) (sym is) ns) fit
-        (subst (λ k. Tok limits.scalar (in_sexp k) d (text bytes) p e) (sym is) tok) refl
-    value-read kinds top field _ c e _ p _ is (Txt.of_operator {d = d} {notes = notes} {bytes = bytes} ns tok) fit fits =
-        scalar-read limits kinds top field notes c d e p (operator bytes) (value.symbol (at (value.Text bytes) p)) (subst (λ k. Notes limits.scalar (in_sexp k) c notes d) (sym is) ns) fit
-        (subst (λ k. Tok limits.scalar (in_sexp k) d (operator bytes) p e) (sym is) tok) refl
-    value-read kinds top field _ c e _ p _ is (Txt.of_symbol {k = k} {d = d} {notes = notes} {quoted = quoted} {symbol = symbol} ns tok alone no_version) fit fits =
-        scalar-read limits kinds top field notes c d e p (name quoted symbol) (value.symbol (at symbol p)) (subst (λ k. Notes limits.scalar (in_sexp k) c notes d) (sym is) ns) fit
-        (subst (λ k. Tok limits.scalar (in_sexp k) d (name quoted symbol) p e) (sym is) tok)
-        (ap (λ o. step_of (part p (reading.symbol_given limits kinds top field notes quoted (at symbol p) e o))) (ap (λ k. behind_colons (in_sexp k) e) is ∙ alone)
-        ∙ ap (λ told. step_of (part p (reading.value_or_version kinds top field notes (at symbol p) e told))) (ap (λ k. tells_version k notes quoted symbol) is ∙ no_version))
-    value-read kinds top field _ c g _ p _ is (Txt.of_members {d = d} {e = e} {f = f} {notes = notes} {q = q} {j = j} {members = members} {full = full} ns tok ins tok') fit fits =
+    value-read kinds top field _ c e _ p _ is (Txt.of_plain {d = d} {notes = notes} {v = v} ns tok) room =
+        scalar-read limits kinds top field notes c d e p (plain v) v (subst (λ k. Annotations (in_sexp k) c notes d) (sym is) ns) room
+        (subst (λ k. Tok (in_sexp k) d (plain v) p e) (sym is) tok) refl
+    value-read kinds top field _ c e _ p _ is (Txt.of_text {d = d} {notes = notes} {bytes = bytes} ns tok) room =
+        scalar-read limits kinds top field notes c d e p (text bytes) (value.string bytes) (subst (λ k. Annotations (in_sexp k) c notes d) (sym is) ns) room
+        (subst (λ k. Tok (in_sexp k) d (text bytes) p e) (sym is) tok) refl
+    value-read kinds top field _ c e _ p _ is (Txt.of_operator {d = d} {notes = notes} {bytes = bytes} ns tok) room =
+        scalar-read limits kinds top field notes c d e p (operator bytes) (value.symbol (at (value.Text bytes) p)) (subst (λ k. Annotations (in_sexp k) c notes d) (sym is) ns) room
+        (subst (λ k. Tok (in_sexp k) d (operator bytes) p e) (sym is) tok) refl
+    value-read kinds top field _ c e _ p _ is (Txt.of_symbol {k = k} {d = d} {notes = notes} {quoted = quoted} {symbol = symbol} ns tok alone no_version) room =
+        scalar-read limits kinds top field notes c d e p (name quoted symbol) (value.symbol (at symbol p)) (subst (λ k. Annotations (in_sexp k) c notes d) (sym is) ns) room
+        (subst (λ k. Tok (in_sexp k) d (name quoted symbol) p e) (sym is) tok)
+        (ap (λ o. step_of (part p (reading.symbol_given limits kinds top field notes quoted (at symbol p) e o))) (ap (λ k. behind_colons (in_sexp k) e) is ∙ colons-none (in_sexp k) e alone)
+        ∙ ap (λ told. step_of (part p (reading.value_or_version kinds top field notes (at symbol p) e told))) (ap (λ k. tells_version k notes quoted symbol) is ∙ version-none k notes quoted symbol no_version))
+    value-read kinds top field _ c g _ p _ is (Txt.of_members {d = d} {e = e} {f = f} {notes = notes} {q = q} {j = j} {members = members} {full = full} ns tok ins tok') room =
         let top' : ℕ = top_of kinds top notes p in
-        let ns' = subst (λ k. Notes limits.scalar (in_sexp k) c notes d) (sym is) ns in
-        let begun = step-token limits kinds top (a_value field notes) d (begin j) p e (value-suits field notes (begin j)) (subst (λ k. Tok limits.scalar (in_sexp k) d (begin j) p e) (sym is) tok)
-        ∙ not-refused p (nat_le limits.depth (length kinds)) DepthLimit (Ok (Gives (item_of top' field notes p (value.begin j)) (state (j ∷ kinds) top' (member_of j) e))) fits.0 in
-        let first = notes-read limits kinds top field c d notes ns' fit
+        let room_d = room-later limits (length kinds) c d (notes-advance ns) room in
+        let room_e = room-inside limits (length kinds) d e (tok-advances _ _ _ _ _ tok) room_d in
+        let room_f = room-later limits (suc (length kinds)) e f (inside-advances ins) room_e in
+        let ns' = subst (λ k. Annotations (in_sexp k) c notes d) (sym is) ns in
+        let begun = step-token limits kinds top (a_value field notes) d (begin j) p e (value-suits field notes (begin j)) (room-token limits (length kinds) d room_d) (subst (λ k. Tok (in_sexp k) d (begin j) p e) (sym is) tok)
+        ∙ not-refused p (nat_le limits.depth (length kinds)) DepthLimit (Ok (Gives (item_of top' field notes p (value.begin j)) (state (j ∷ kinds) top' (member_of j) e))) (room-depth limits (length kinds) d e (tok-advances _ _ _ _ _ tok) room_d) in
+        let first = notes-read limits kinds top field c d notes ns' room
         ∙ reads-gives limits (state kinds top (a_value field notes) d) (state (j ∷ kinds) top' (member_of j) e) (item_of top' field notes p (value.begin j)) begun in
-        let inner = members-read kinds top' j e f members full ins fits.1 in
+        let inner = members-read kinds top' j e f members full ins room_e in
         let last = reads-gives limits (state (j ∷ kinds) top' (wants_behind (Some j) full) f) (state kinds top' (behind_member (innermost kinds)) g) (item_of top' None [] q value.end)
-        (step-token limits (j ∷ kinds) top' (wants_behind (Some j) full) f (end j) q g (end-suits-behind j full) tok' ∙ end-taken limits kinds top' j full q g) in
+        (step-token limits (j ∷ kinds) top' (wants_behind (Some j) full) f (end j) q g (end-suits-behind j full) (room-token limits (suc (length kinds)) f room_f) tok' ∙ end-taken limits kinds top' j full q g) in
         first ∙ ap (More (item_of top' field notes p (value.begin j)))
         (reads-then limits (state (j ∷ kinds) top' (member_of j) e) (state (j ∷ kinds) top' (wants_behind (Some j) full) f) (state kinds top' (behind_member (innermost kinds)) g)
         (member_items top' members) (item_of top' None [] q value.end ∷ []) inner last)
 
-    members-read : (kinds : List Kind) (top : ℕ) (j : Kind) (c d : Cursor) (members : Members SymbolAt ℕ) (full : Bool) → Inside limits.scalar j c members full d
-        → MembersFit limits (suc (length kinds)) members
+    members-read : (kinds : List Kind) (top : ℕ) (j : Kind) (c d : Cursor) (members : Members SymbolAt ℕ) (full : Bool) → Inside j c members full d
+        → Room limits (suc (length kinds)) c
         → Reads limits (state (j ∷ kinds) top (member_of j) c) (member_items top members) (state (j ∷ kinds) top (wants_behind (Some j) full) d)
-    members-read kinds top j c _ _ _ Inside.nothing fits = refl
-    members-read kinds top j c f _ _ (Inside.with_value {d = d} {e = e} {members = members} {field = field} {notes = notes} {p = p} {v = v} ins field_is txt) fits =
-        let before = members-read kinds top j c d members false ins fits.0 in
-        let name = field-read limits (j ∷ kinds) top (Some j) field d e refl field_is in
-        let one = value-read (j ∷ kinds) top field (Some j) e f notes p v refl txt fits.1 fits.2 in
+    members-read kinds top j c _ _ _ Inside.nothing room = refl
+    members-read kinds top j c f _ _ (Inside.with_value {d = d} {e = e} {members = members} {field = field} {notes = notes} {p = p} {v = v} ins field_is txt) room =
+        let before = members-read kinds top j c d members false ins room in
+        let room_d = room-later limits (suc (length kinds)) c d (inside-advances ins) room in
+        let room_e = room-later limits (suc (length kinds)) d e (field-advances field_is) room_d in
+        let name = field-read limits (j ∷ kinds) top (Some j) field d e refl field_is room_d in
+        let one = value-read (j ∷ kinds) top field (Some j) e f notes p v refl txt room_e in
         let all = reads-then limits (state (j ∷ kinds) top (member_of j) c) (state (j ∷ kinds) top (at_member (Some j)) d) (state (j ∷ kinds) top (behind_member (Some j)) f)
         (member_items top members) (value_items top field notes p v) before (name ∙ one) in
         subst (λ wants. Reads limits (state (j ∷ kinds) top (member_of j) c) (member_items top members ++ value_items top field notes p v) (state (j ∷ kinds) top wants f)) (same-wants j) all
-    members-read kinds top j c e _ _ (Inside.with_comma {d = d} {members = members} {p = p} ins tok) fits =
-        let before = members-read kinds top j c d members true ins fits in
+    members-read kinds top j c e _ _ (Inside.with_comma {d = d} {members = members} {p = p} ins tok) room =
+        let before = members-read kinds top j c d members true ins room in
         let comma_read = reads-goes_on limits (state (j ∷ kinds) top a_separator d) (state (j ∷ kinds) top (at_member (Some j)) e)
-        (step-token limits (j ∷ kinds) top a_separator d comma p e (mark-suits comma refl) tok) in
+        (step-token limits (j ∷ kinds) top a_separator d comma p e (mark-suits comma refl) (room-token limits (suc (length kinds)) d (room-later limits (suc (length kinds)) c d (inside-advances ins) room)) tok) in
         before ∙ ap (behind (member_items top members)) comma_read
 
 -- ---- the top level, and paths
@@ -191,10 +220,6 @@ module _ (limits : Limits) where
 top_items-snoc : (tops : List (Top SymbolAt ℕ)) (t : Top SymbolAt ℕ) → top_items (tops ++ t ∷ []) ≡ top_items tops ++ value.one_top t
 top_items-snoc [] t = append-nil (value.one_top t)
 top_items-snoc (u ∷ tops) t = ap (λ items. value.one_top u ++ items) (top_items-snoc tops t) ∙ sym (append_assoc (value.one_top u) (top_items tops) (value.one_top t))
-
-TopsFit-front : (limits : Limits) (tops : List (Top SymbolAt ℕ)) (t : Top SymbolAt ℕ) → TopsFit limits (tops ++ t ∷ []) → TopsFit limits tops × TopFits limits t
-TopsFit-front limits [] t fits = (tt, fits.0)
-TopsFit-front limits (u ∷ tops) t fits = let others = TopsFit-front limits tops t fits.1 in ((fits.0, others.0), others.1)
 
 marker-taken : (top p : ℕ) (e : Cursor) → step_of (part p (reading.value_or_version [] top None [] (at (value.Text version_word) p) e (tells_version None [] false (value.Text version_word))))
     ≡ Gives (item_of p None [] p value.marker) (state [] p (a_value None []) e)
@@ -205,37 +230,32 @@ marker-taken top p e = refl
 abbrev TopsRead : Limits → List ℕ → List (Top SymbolAt ℕ) → Cursor → Type 0
 TopsRead limits bytes tops c = (top : ℕ) × Reads limits (start bytes) (top_items tops) (state [] top (a_value None []) c)
 
-module _ (limits : Limits) (bytes : List ℕ) where
-  tops-read : (c : Cursor) (tops : List (Top SymbolAt ℕ)) → Tops limits.scalar (start_of bytes) tops c → TopsFit limits tops → TopsRead limits bytes tops c
+-- limits that allow the bytes have room for what is left of them
+all-room : (limits : Limits) (bytes : List ℕ) (depth : ℕ) (c : Cursor) → Allows limits bytes → depth + length c.rest ≤ length bytes → Room limits depth c
+all-room limits bytes depth c allows le = let deep = allows.0 in let wide = allows.1 in (omega (arith, le, deep), omega (arith, le, wide))
+
+module _ (limits : Limits) (bytes : List ℕ) (allows : Allows limits bytes) where
+  tops-read : (c : Cursor) (tops : List (Top SymbolAt ℕ)) → Tops (start_of bytes) tops c → TopsRead limits bytes tops c
   unfolding take
-  tops-read _ _ Tops.nothing fits = (0, refl)
-  tops-read e _ (Tops.marker {tops = tops} {d = d} {p = p} before tok alone) fits =
-      let front = tops-read d tops before ((TopsFit-front limits tops (value.version p) fits).0) in
-      let one = step-token limits [] front.0 (a_value None []) d (name false (value.Text version_word)) p e (value-suits None [] (name false (value.Text version_word))) tok
-      ∙ ap (λ o. step_of (part p (reading.symbol_given limits [] front.0 None [] false (at (value.Text version_word) p) e o))) alone
+  tops-read _ _ Tops.nothing = (0, refl)
+  tops-read e _ (Tops.marker {tops = tops} {d = d} {p = p} before tok alone) =
+      let front = tops-read d tops before in
+      let room = all-room limits bytes 0 d allows (let le = tops-advance before in omega (arith, le)) in
+      let one = step-token limits [] front.0 (a_value None []) d (name false (value.Text version_word)) p e (value-suits None [] (name false (value.Text version_word))) (room-token limits 0 d room) tok
+      ∙ ap (λ o. step_of (part p (reading.symbol_given limits [] front.0 None [] false (at (value.Text version_word) p) e o))) (colons-none false e alone)
       ∙ marker-taken front.0 p e in
       let all = reads-then limits (start bytes) (state [] front.0 (a_value None []) d) (state [] p (a_value None []) e) (top_items tops) (item_of p None [] p value.marker ∷ [])
       front.1 (reads-gives limits (state [] front.0 (a_value None []) d) (state [] p (a_value None []) e) (item_of p None [] p value.marker) one) in
       (p, subst (λ items. Reads limits (start bytes) items (state [] p (a_value None []) e)) (sym (top_items-snoc tops (value.version p))) all)
-  tops-read e _ (Tops.with_value {tops = tops} {d = d} {notes = notes} {p = p} {v = v} before txt) fits =
-      let parts = TopsFit-front limits tops (value.tree (first_place notes p) notes p v) fits in
-      let front = tops-read d tops before parts.0 in
+  tops-read e _ (Tops.with_value {tops = tops} {d = d} {notes = notes} {p = p} {v = v} before txt) =
+      let front = tops-read d tops before in
+      let room = all-room limits bytes 0 d allows (let le = tops-advance before in omega (arith, le)) in
       let all = reads-then limits (start bytes) (state [] front.0 (a_value None []) d) (state [] (first_place notes p) (a_value None []) e) (top_items tops)
-      (value_items (first_place notes p) None notes p v) front.1 (value-read limits [] front.0 None None d e notes p v refl txt parts.1.0 parts.1.1) in
+      (value_items (first_place notes p) None notes p v) front.1 (value-read limits [] front.0 None None d e notes p v refl txt room) in
       (first_place notes p, subst (λ items. Reads limits (start bytes) items (state [] (first_place notes p) (a_value None []) e)) (sym (top_items-snoc tops (value.tree (first_place notes p) notes p v))) all)
 
-open_in-kinds : (path : Path SymbolAt ℕ) (q : ℕ) (field : Option SymbolAt) (notes : List SymbolAt) (p : ℕ) (k : Kind) (members : Members SymbolAt ℕ)
-    → k ∷ path_kinds path ≡ path_kinds (open_in path q field notes p k members)
-open_in-kinds (closed tops) q field notes p k members = refl
-open_in-kinds (opened tops first nest) q field notes p k members = refl
-
-spells-kinds : {limit : ℕ} {b c : Cursor} (path : Path SymbolAt ℕ) (kinds : List Kind) (full : Bool) → Spells limit b path kinds full c → kinds ≡ path_kinds path
-spells-kinds _ _ _ (Spells.top t) = refl
-spells-kinds _ _ _ (Spells.inside path field notes p k members {kinds} s f ns tok ins) =
-    ap (λ kinds. k ∷ kinds) (spells-kinds path kinds false s) ∙ open_in-kinds path (first_place notes p) field notes p k members
-
-open-top : {limit : ℕ} {b c : Cursor} (path : Path SymbolAt ℕ) (kinds : List Kind) (full : Bool) (top : ℕ) (field : Option SymbolAt) (notes : List SymbolAt) (p : ℕ) (k : Kind) (members : Members SymbolAt ℕ)
-    → Spells limit b path kinds full c → IsTop path top → IsTop (open_in path (first_place notes p) field notes p k members) (top_of kinds top notes p)
+open-top : {b c : Cursor} (path : Path SymbolAt ℕ) (kinds : List Kind) (full : Bool) (top : ℕ) (field : Option SymbolAt) (notes : List SymbolAt) (p : ℕ) (k : Kind) (members : Members SymbolAt ℕ)
+    → Spells b path kinds full c → IsTop path top → IsTop (open_in path (first_place notes p) field notes p k members) (top_of kinds top notes p)
 open-top _ _ _ top field notes p j members (Spells.top t) is = refl
 open-top _ _ _ top field notes p j members (Spells.inside (closed tops) g own q k ms s around ns tok ins) is = is
 open-top _ _ _ top field notes p j members (Spells.inside (opened tops first nest) g own q k ms s around ns tok ins) is = is
@@ -246,39 +266,29 @@ open-items (closed tops) q top field notes p k members fits = rw (← fits.0, fi
 open-items (opened tops first nest) q top field notes p k members fits =
     rw (← fits) (sym (append_assoc (top_items tops) (nest_items first nest) (begin_item first field notes p k ∷ member_items first members)))
 
-record FitsIn (limits : Limits) (path : Path SymbolAt ℕ) (kinds : List Kind) (notes : List SymbolAt) (members : Members SymbolAt ℕ) : Type 0 where
-  around : PathFits limits path
-  annotations : AnnotationsFit limits notes
-  depth : DepthFits limits (length kinds)
-  inside : MembersFit limits (suc (length kinds)) members
-
-fits-in : (limits : Limits) (path : Path SymbolAt ℕ) (kinds : List Kind) (q : ℕ) (field : Option SymbolAt) (notes : List SymbolAt) (p : ℕ) (k : Kind) (members : Members SymbolAt ℕ)
-    → kinds ≡ path_kinds path → PathFits limits (open_in path q field notes p k members) → FitsIn limits path kinds notes members
-fits-in limits (closed tops) kinds q field notes p k members are all =
-    rw are (record { around = all.0; annotations = all.1.0; depth = all.1.1; inside = all.1.2 })
-fits-in limits (opened tops first nest) kinds q field notes p k members are all =
-    rw are (record { around = (all.0, all.1.0); annotations = all.1.1; depth = all.1.2; inside = all.1.3 })
-
 -- where the open top-level value began, or the last
 record PathRead (limits : Limits) (bytes : List ℕ) (path : Path SymbolAt ℕ) (kinds : List Kind) (full : Bool) (c : Cursor) : Type 0 where
   top : ℕ
   is_top : IsTop path top
   read : Reads limits (start bytes) (path_items path) (state kinds top (wants_behind (innermost kinds) full) c)
 
-module _ (limits : Limits) (bytes : List ℕ) where
-  path-read : (c : Cursor) (path : Path SymbolAt ℕ) (kinds : List Kind) (full : Bool) → Spells limits.scalar (start_of bytes) path kinds full c → PathFits limits path
+module _ (limits : Limits) (bytes : List ℕ) (allows : Allows limits bytes) where
+  path-read : (c : Cursor) (path : Path SymbolAt ℕ) (kinds : List Kind) (full : Bool) → Spells (start_of bytes) path kinds full c
       → PathRead limits bytes path kinds full c
   unfolding take
-  path-read c _ _ _ (Spells.top {tops = tops} t) fit = let all = tops-read limits bytes c tops t fit in record { top = all.0; is_top = tt; read = all.1 }
-  path-read g _ _ _ (Spells.inside path field notes p k members {kinds = kinds} {c = c} {d = d} {e = e} {f = f} {full = full} s f_is ns tok ins) fit =
-      let parts = fits-in limits path kinds (first_place notes p) field notes p k members (spells-kinds path kinds false s) fit in
-      let before = path-read c path kinds false s parts.around in
+  path-read c _ _ _ (Spells.top {tops = tops} t) = let all = tops-read limits bytes allows c tops t in record { top = all.0; is_top = tt; read = all.1 }
+  path-read g _ _ _ (Spells.inside path field notes p k members {kinds = kinds} {c = c} {d = d} {e = e} {f = f} {full = full} s f_is ns tok ins) =
+      let room_c = all-room limits bytes (length kinds) c allows (spells-advance s) in
+      let room_d = room-later limits (length kinds) c d (field-advances f_is) room_c in
+      let room_e = room-later limits (length kinds) d e (notes-advance ns) room_d in
+      let room_f = room-inside limits (length kinds) e f (tok-advances _ _ _ _ _ tok) room_e in
+      let before = path-read c path kinds false s in
       let top' : ℕ = top_of kinds before.top notes p in
-      let begun = step-token limits kinds before.top (a_value field notes) e (begin k) p f (value-suits field notes (begin k)) tok
-      ∙ not-refused p (nat_le limits.depth (length kinds)) DepthLimit (Ok (Gives (item_of top' field notes p (value.begin k)) (state (k ∷ kinds) top' (member_of k) f))) parts.depth in
-      let first = field-read limits kinds before.top (innermost kinds) field c d refl f_is ∙ notes-read limits kinds before.top field d e notes ns parts.annotations
+      let begun = step-token limits kinds before.top (a_value field notes) e (begin k) p f (value-suits field notes (begin k)) (room-token limits (length kinds) e room_e) tok
+      ∙ not-refused p (nat_le limits.depth (length kinds)) DepthLimit (Ok (Gives (item_of top' field notes p (value.begin k)) (state (k ∷ kinds) top' (member_of k) f))) (room-depth limits (length kinds) e f (tok-advances _ _ _ _ _ tok) room_e) in
+      let first = field-read limits kinds before.top (innermost kinds) field c d refl f_is room_c ∙ notes-read limits kinds before.top field d e notes ns room_d
       ∙ reads-gives limits (state kinds before.top (a_value field notes) e) (state (k ∷ kinds) top' (member_of k) f) (item_of top' field notes p (value.begin k)) begun in
-      let inner = members-read limits kinds top' k f g members full ins parts.inside in
+      let inner = members-read limits kinds top' k f g members full ins room_f in
       let all = reads-then limits (start bytes) (state kinds before.top (at_member (innermost kinds)) c) (state (k ∷ kinds) top' (wants_behind (Some k) full) g) (path_items path)
       (item_of top' field notes p (value.begin k) ∷ member_items top' members) before.read (first ∙ ap (More (item_of top' field notes p (value.begin k))) inner) in
       record {
@@ -293,8 +303,8 @@ unfolding read_from reading.reading
 reading-read_from limits bytes = refl
 
 pub complete : Complete
-complete limits bytes q path fit is =
-    let all = path-read limits bytes is.behind path is.kinds is.full is.spells fit in
+complete limits bytes q path allows is =
+    let all = path-read limits bytes allows is.behind path is.kinds is.full is.spells in
     (read_from limits (state is.kinds all.top (wants_behind (innermost is.kinds) is.full) is.behind), reading-read_from limits bytes ∙ all.read)
 
 ends-step : (limits : Limits) (top : ℕ) (c e : Cursor) → blanks c ≡ Ok e → e.rest ≡ [] → step limits (state [] top (a_value None []) c) ≡ Ends
@@ -303,6 +313,6 @@ ends-step limits top c e blank none =
     ap step_of (ap (λ o. o >>= (λ b. reading.part_behind limits (state [] top (a_value None []) c) b b.rest)) blank ∙ ap (reading.part_behind limits (state [] top (a_value None []) c) e) none)
 
 pub streams_are_read : StreamsAreRead
-streams_are_read limits bytes tops fit is =
-    let all = tops-read limits bytes is.last tops is.spells fit in
+streams_are_read limits bytes tops allows is =
+    let all = tops-read limits bytes allows is.last tops is.spells in
     reading-read_from limits bytes ∙ all.1 ∙ ap (behind (top_items tops)) (read_from-ends limits (state [] all.0 (a_value None []) is.last) (ends-step limits all.0 is.last is.end is.blank is.nothing_left))

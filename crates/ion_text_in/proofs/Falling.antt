@@ -12,7 +12,8 @@ use Rattle.ion_value.specs.Parts.{Placed, part, refuse, ◌>>=◌, ◌>>◌}
 use Rattle.ion_text_in.specs.Blanks.{blanks}
 use Rattle.ion_text_in.specs.Token.{First, a_word, a_quoted, a_short, a_long, a_run, a_lob, an_operator, an_infinity, a_begin, an_end, a_comma, a_colon, two_colons, no_token, first_at, Token, plain, name, text, operator, no_number, begin, end, comma, colon, colons, token_of}
 use Rattle.ion_text_in.specs.Reading as reading
-use Rattle.ion_text_in.specs.Reading.{Wants, a_value, a_field, a_separator, State, innermost, in_sexp, may_come, behind_colons, step, step_of, take, part_at, size}
+use Rattle.ion_text_in.specs.Positions.{at, Wants, a_value, a_field, a_separator, State, innermost, in_sexp}
+use Rattle.ion_text_in.specs.Reading.{may_come, behind_colons, step, step_of, take, part_at, size}
 use Rattle.ion_text_in.proofs.Shrinking.{NoLonger, Past, stays, skip-within, blanks-within, token-past}
 
 -- a step leaves no more than so many bytes
@@ -116,8 +117,8 @@ take-most limits kinds top a_separator p (begin k) c = tt
 take-most limits kinds top a_separator p colon c = tt
 take-most limits kinds top a_separator p colons c = tt
 take-most limits kinds top a_field p (end k) c = closed-most kinds top k p c
-take-most limits kinds top a_field p (name quoted symbol) c = named-blank kinds top (reading.at symbol p) c (blanks c) refl
-take-most limits kinds top a_field p (text t) c = named-blank kinds top (reading.at (value.Text t) p) c (blanks c) refl
+take-most limits kinds top a_field p (name quoted symbol) c = named-blank kinds top (at symbol p) c (blanks c) refl
+take-most limits kinds top a_field p (text t) c = named-blank kinds top (at (value.Text t) p) c (blanks c) refl
 take-most limits kinds top a_field p (plain v) c = tt
 take-most limits kinds top a_field p (operator t) c = tt
 take-most limits kinds top a_field p no_number c = tt
@@ -130,7 +131,7 @@ take-most limits kinds top (a_value field notes) p (plain v) c = stays c
 take-most limits kinds top (a_value field notes) p (text t) c = stays c
 take-most limits kinds top (a_value field notes) p (operator t) c = stays c
 take-most limits kinds top (a_value field notes) p (name quoted symbol) c =
-    symbol-most limits kinds top field notes quoted (reading.at symbol p) p c (behind_colons (in_sexp (innermost kinds)) c) refl
+    symbol-most limits kinds top field notes quoted (at symbol p) p c (behind_colons (in_sexp (innermost kinds)) c) refl
 take-most limits kinds top (a_value field notes) p (begin k) c = most-refuse (length c.rest) p (nat_le limits.depth (length kinds)) DepthLimit _ (stays c)
 take-most limits kinds top (a_value field notes) p no_number c = tt
 take-most limits kinds top (a_value field notes) p comma c = tt
@@ -152,16 +153,16 @@ less-from n m (Stops reason place) lt most = tt
 less-from n m (Gives item after) lt most = omega (arith, lt, most)
 less-from n m (GoesOn after) lt most = omega (arith, lt, most)
 
-cut-less : (limits : Limits) (s : State) (b : Cursor) (first : First) → 0 < length b.rest → (o : Result (Token × Cursor) Reason) → token_of limits.scalar first b ≡ o
+cut-less : (limits : Limits) (s : State) (b : Cursor) (first : First) → 0 < length b.rest → (o : Result (Token × Cursor) Reason) → token_of (Some limits.scalar) first b ≡ o
     → Leaves_less (length b.rest) (step_of (part b.place o >>= (λ t. take limits s.kinds s.top s.wants b.place t.0 t.1)))
 cut-less limits s b first some (Err reason) e = tt
 cut-less limits s b first some (Ok t) e =
-    let less : length t.1.rest < length b.rest = subst (λ o. Past b o) e (token-past limits.scalar first b some) in
+    let less : length t.1.rest < length b.rest = subst (λ o. Past b o) e (token-past (Some limits.scalar) first b some) in
     less-from (length t.1.rest) (length b.rest) (step_of (take limits s.kinds s.top s.wants b.place t.0 t.1)) less (take-most limits s.kinds s.top s.wants b.place t.0 t.1)
 
 coming-less : (limits : Limits) (s : State) (b : Cursor) (first : First) (may : Bool) → 0 < length b.rest → Leaves_less (length b.rest) (step_of (reading.coming limits s b first may))
 coming-less limits s b first false some = tt
-coming-less limits s b first true some = cut-less limits s b first some (token_of limits.scalar first b) refl
+coming-less limits s b first true some = cut-less limits s b first some (token_of (Some limits.scalar) first b) refl
 
 ended-less : (n : ℕ) (kinds : List Kind) (wants : Wants) (p : ℕ) → Leaves_less n (step_of (reading.ended kinds wants p))
 ended-less n [] (a_value None []) p = tt

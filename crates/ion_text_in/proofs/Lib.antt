@@ -4,9 +4,13 @@ mod Shrinking
 mod Falling
 mod Sound
 mod Tokens
+mod Advancing
 mod Complete
-mod Wider
+mod TokenCuts
+mod Counting
 mod One
 mod Meaning
 mod Blobs
 mod Strings
+mod Narrow
+mod Refused

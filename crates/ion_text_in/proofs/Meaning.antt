@@ -30,6 +30,7 @@ use Rattle.ion_value.proofs.TextDecimals.{int_text-is_read, one-shape, spells}
 use Rattle.ion_value.proofs.DecimalRoundTrip.{decimal_text-is_read}
 use Rattle.ion_value.proofs.TextRoundTrip.{text-read, fixed_digits-are}
 use Rattle.ion_value.proofs.TextKinds.{timestamp-no_number}
+use Rattle.ion_text_in.specs.Limit.{passes}
 use Rattle.ion_text_in.specs.Places.{run_of}
 use Rattle.ion_text_in.specs.Blanks.{is_white}
 use Rattle.ion_text_in.specs.Token as tokens
@@ -38,15 +39,13 @@ use Rattle.ion_text_in.specs.Meaning.{Limit, Allows, at, Means, behind_null, Nul
 
 -- ---- limits and cursors
 
--- so many bytes pass a limit
-abbrev pub passes : Limit → ℕ → Bool
-passes limit count = nat_lt limit count
-
 pub allowed : (limit : Limit) (count : ℕ) → Allows limit count → passes limit count ≡ false
-allowed limit count allows = le-ltb limit count allows
+allowed None count allows = refl
+allowed (Some limit) count allows = le-ltb limit count allows
 
 pub allows-fewer : (limit : Limit) (count fewer : ℕ) → fewer ≤ count → Allows limit count → Allows limit fewer
-allows-fewer limit count fewer less allows = omega (arith, less, allows)
+allows-fewer None count fewer less allows = tt
+allows-fewer (Some limit) count fewer less allows = omega (arith, less, allows)
 
 pub skip-front : (place : ℕ) (text rest : List ℕ) → skip (length text) (at place (text ++ rest)) ≡ at (place + length text) rest
 skip-front place text rest = ap (λ (xs : List ℕ). at (place + length text) xs) (drop_at text rest (length text) refl)

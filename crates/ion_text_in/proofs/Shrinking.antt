@@ -7,6 +7,7 @@ use Rattle.ion_meter.specs.declared.fault.Reason.TheVariants.{Truncated, BadText
 use Rattle.ion_meter.specs.Sources.{Cursor, skip}
 use Rattle.ion_value.specs.Parts.{Placed, refuse, ◌>>=◌, ◌>>◌}
 use Rattle.ion_text_in.specs.Places.{run_of, behind_run}
+use Rattle.ion_text_in.specs.Limit.{passes}
 use Rattle.ion_value.specs.Digits.{first_is}
 use Rattle.ion_value.specs.Name.{begins_with}
 use Rattle.ion_value.specs.Value.{SymbolAt, Scalar}
@@ -103,7 +104,7 @@ within-refuse c false reason o w = w
 
 -- ---- texts
 
-with_piece-within : (later : ℕ → Cursor → Result (List ℕ × Cursor) Reason) (q : Quote) (limit count : ℕ) (c : Cursor) (piece : Piece) → ((n : ℕ) (d : Cursor) → Within d (later n d))
+with_piece-within : (later : ℕ → Cursor → Result (List ℕ × Cursor) Reason) (q : Quote) (limit : Option ℕ) (count : ℕ) (c : Cursor) (piece : Piece) → ((n : ℕ) (d : Cursor) → Within d (later n d))
     → Within c (quoted.with_piece later q limit count c piece)
 with_piece-within later q limit count c (char bytes taken) more =
     within-refuse c _ _ _ (within-from c (skip taken c) _ (skip-within taken c)
@@ -112,17 +113,17 @@ with_piece-within later q limit count c (close taken) more = skip-within taken c
 with_piece-within later q limit count c illegal more = tt
 with_piece-within later q limit count c cut more = tt
 
-pieces-within : (most : ℕ) (q : Quote) (limit count : ℕ) (c : Cursor) → Within c (pieces_for most q limit count c)
+pieces-within : (most : ℕ) (q : Quote) (limit : Option ℕ) (count : ℕ) (c : Cursor) → Within c (pieces_for most q limit count c)
 unfolding pieces_for
 pieces-within zero q limit count c = tt
 pieces-within (suc most) q limit count c = with_piece-within (λ n d. pieces_for most q limit n d) q limit count c (piece_at q c.rest) (λ n d. pieces-within most q limit n d)
 
-segment-within : (q : Quote) (limit count : ℕ) (c : Cursor) → Within c (segment_at q limit count c)
+segment-within : (q : Quote) (limit : Option ℕ) (count : ℕ) (c : Cursor) → Within c (segment_at q limit count c)
 unfolding segment_at
 segment-within q limit count c =
     within-then c (pieces_for (suc (length c.rest)) q limit count c) _ (pieces-within (suc (length c.rest)) q limit count c) (λ x. within-refuse x.1 (not (q.in_clob || is_utf8 x.0)) BadText (Ok x) (stays x.1))
 
-abbrev WithinIf : Cursor → Option Cursor → Type 0
+abbrev pub WithinIf : Cursor → Option Cursor → Type 0
 WithinIf c (Some d) = NoLonger c d
 WithinIf c None = Unit {0}
 
@@ -146,7 +147,7 @@ between-within : (in_clob : Bool) (c : Cursor) → WithinIf c (quoted.between in
 between-within true c = skip-within (length (run_of (first_is blanks.is_white) c.rest).0) c
 between-within false c = blanks-if c (blanks.blanks c) refl
 
-next-within : (q : Quote) (c : Cursor) (is_long : Bool) → WithinIf c (if is_long then quoted.in_next q (quoted.between q.in_clob c) else None)
+pub next-within : (q : Quote) (c : Cursor) (is_long : Bool) → WithinIf c (if is_long then quoted.in_next q (quoted.between q.in_clob c) else None)
 next-within q c true = in_next-within q c (quoted.between q.in_clob c) (between-within q.in_clob c)
 next-within q c false = tt
 
@@ -155,7 +156,7 @@ with_segments-within : (later : Cursor → Result (List ℕ × Cursor) Reason) (
 with_segments-within later c s None le w more = le
 with_segments-within later c s (Some d) le w more = within-from c d _ (omega (arith, le, w)) (within-then d (later d) _ (more d) (λ x. omega arith))
 
-segments-within : (most : ℕ) (q : Quote) (limit count : ℕ) (c : Cursor) → Within c (segments_for most q limit count c)
+segments-within : (most : ℕ) (q : Quote) (limit : Option ℕ) (count : ℕ) (c : Cursor) → Within c (segments_for most q limit count c)
 unfolding segments_for
 segments-within zero q limit count c = tt
 segments-within (suc most) q limit count c =
@@ -163,7 +164,7 @@ segments-within (suc most) q limit count c =
     (λ s. with_segments-within (λ d. segments_for most q limit (count + length s.0) d) s.1 s (quoted.next_segment q s.1) (omega arith) (next-within q s.1 q.is_long)
     (λ d. segments-within most q limit (count + length s.0) d))
 
-pub text-within : (q : Quote) (limit : ℕ) (c : Cursor) → Within c (text_at q limit c)
+pub text-within : (q : Quote) (limit : Option ℕ) (c : Cursor) → Within c (text_at q limit c)
 text-within q limit c = segments-within (suc (length c.rest)) q limit 0 c
 
 -- ---- lobs
@@ -211,7 +212,7 @@ bytes-then : (c d : Cursor) (o : Result (List ℕ) Reason) (f : List ℕ → Res
 bytes-then c d (Ok bytes) f more = more bytes
 bytes-then c d (Err reason) f more = tt
 
-module _ (limit count : ℕ) (padded : Bool) (c : Cursor) (later : ℕ → Bool → Cursor → Result (List ℕ × Cursor) Reason) (within : (n : ℕ) (b : Bool) (d : Cursor) → Within d (later n b d)) where
+module _ (limit : Option ℕ) (count : ℕ) (padded : Bool) (c : Cursor) (later : ℕ → Bool → Cursor → Result (List ℕ × Cursor) Reason) (within : (n : ℕ) (b : Bool) (d : Cursor) → Within d (later n b d)) where
   abbrev group : List ℕ × List ℕ
   group = group_of 4 c.rest
 
@@ -226,12 +227,12 @@ module _ (limit count : ℕ) (padded : Bool) (c : Cursor) (later : ℕ → Bool 
       (within-then after (later (count + length bytes) (nat_lt (length bytes) 3) after) (λ more. Ok (bytes ++ more.0, more.1))
       (within (count + length bytes) (nat_lt (length bytes) 3) after) (λ x. stays x.1))
 
-  groups-by : (few : Bool) → Within c (if few then lob.last_group group.0 after else (lob.group_bytes padded group.0 >>= (λ bytes. refuse (nat_lt limit (count + length bytes)) ScalarLimit >> others bytes)))
+  groups-by : (few : Bool) → Within c (if few then lob.last_group group.0 after else (lob.group_bytes padded group.0 >>= (λ bytes. refuse (passes limit (count + length bytes)) ScalarLimit >> others bytes)))
   groups-by true = within-from c after (lob.last_group group.0 after) (group-within 4 c.rest) (last-within group.0 after)
-  groups-by false = bytes-then c after (lob.group_bytes padded group.0) (λ bytes. refuse (nat_lt limit (count + length bytes)) ScalarLimit >> others bytes)
-      (λ bytes. within-refuse c (nat_lt limit (count + length bytes)) ScalarLimit (others bytes) (others-within bytes))
+  groups-by false = bytes-then c after (lob.group_bytes padded group.0) (λ bytes. refuse (passes limit (count + length bytes)) ScalarLimit >> others bytes)
+      (λ bytes. within-refuse c (passes limit (count + length bytes)) ScalarLimit (others bytes) (others-within bytes))
 
-groups-within : (most limit count : ℕ) (padded : Bool) (c : Cursor) → Within c (groups_for most limit count padded c)
+groups-within : (most : ℕ) (limit : Option ℕ) (count : ℕ) (padded : Bool) (c : Cursor) → Within c (groups_for most limit count padded c)
 unfolding groups_for
 groups-within zero limit count padded c = tt
 groups-within (suc most) limit count padded c =
@@ -244,27 +245,27 @@ refused-at c false reason o w = w
 clob-closed-within : (is_long : Bool) (c : Cursor) → WithinAt c (lob.clob_closed_at is_long c)
 clob-closed-within is_long c = refused-at c (is_long && lob.are_cut_quotes c.rest) Truncated (lob.closed_at c) (closed-within c)
 
-clob-within : (limit : ℕ) (is_long : Bool) (c : Cursor) → Within {A = Scalar SymbolAt} c (lob.clob_at limit is_long c)
+clob-within : (limit : Option ℕ) (is_long : Bool) (c : Cursor) → Within {A = Scalar SymbolAt} c (lob.clob_at limit is_long c)
 clob-within limit is_long c =
     within-then c (text_at (if is_long then quoted.long_quote true else quoted.short_quote true) limit c) _ (text-within (if is_long then quoted.long_quote true else quoted.short_quote true) limit c)
     (λ t. within-from t.1 (behind_run (first_is blanks.is_white) t.1) _ (skip-within (length (run_of (first_is blanks.is_white) t.1.rest).0) t.1)
     (at-then (behind_run (first_is blanks.is_white) t.1) (lob.clob_closed_at is_long (behind_run (first_is blanks.is_white) t.1)) _ (clob-closed-within is_long (behind_run (first_is blanks.is_white) t.1)) (λ d. stays d)))
 
-blob-within : (limit : ℕ) (c : Cursor) → Within {A = Scalar SymbolAt} c (lob.blob_at limit c)
+blob-within : (limit : Option ℕ) (c : Cursor) → Within {A = Scalar SymbolAt} c (lob.blob_at limit c)
 blob-within limit c = within-then c (groups_for (suc (length c.rest)) limit 0 false c) _ (groups-within (suc (length c.rest)) limit 0 false c) (λ b. stays b.1)
 
 within-if : {A : Type 0} (c : Cursor) (b : Bool) (x y : Result (A × Cursor) Reason) → Within c x → Within c y → Within c (if b then x else y)
 within-if c true x y wx wy = wx
 within-if c false x y wx wy = wy
 
-lob_in-within : (limit : ℕ) (c : Cursor) → Within {A = Scalar SymbolAt} c (lob.lob_in limit c)
+lob_in-within : (limit : Option ℕ) (c : Cursor) → Within {A = Scalar SymbolAt} c (lob.lob_in limit c)
 lob_in-within limit c =
     within-if c (begins_with (34 ∷ []) c.rest) (lob.clob_at limit false (skip 1 c)) _
     (within-from c (skip 1 c) (lob.clob_at limit false (skip 1 c)) (skip-within 1 c) (clob-within limit false (skip 1 c)))
     (within-if c (begins_with (39 ∷ 39 ∷ 39 ∷ []) c.rest) (lob.clob_at limit true (skip 3 c)) (lob.blob_at limit c)
     (within-from c (skip 3 c) (lob.clob_at limit true (skip 3 c)) (skip-within 3 c) (clob-within limit true (skip 3 c))) (blob-within limit c))
 
-pub lob-within : (limit : ℕ) (c : Cursor) → Within {A = Scalar SymbolAt} c (lob_at limit c)
+pub lob-within : (limit : Option ℕ) (c : Cursor) → Within {A = Scalar SymbolAt} c (lob_at limit c)
 unfolding lob_at
 lob-within limit c =
     within-from c (behind_run (first_is blanks.is_white) c) (lob.lob_in limit (behind_run (first_is blanks.is_white) c)) (skip-within (length (run_of (first_is blanks.is_white) c.rest).0) c)
@@ -297,8 +298,8 @@ value-then : {A B : Type 0} (d : Cursor) (o : Result A Reason) (f : A → B) →
 value-then d (Ok x) f = stays d
 value-then d (Err reason) f = tt
 
-counted-past : (limit : ℕ) (bytes : List ℕ) (c : Cursor) → 0 < length bytes → 0 < length c.rest → Past c (counted limit bytes c)
-counted-past limit bytes c long some = past-refuse c (nat_lt limit (length bytes)) ScalarLimit (Ok (bytes, skip (length bytes) c)) (past-skip (length bytes) c (Ok (bytes, skip (length bytes) c)) long some (stays (skip (length bytes) c)))
+counted-past : (limit : Option ℕ) (bytes : List ℕ) (c : Cursor) → 0 < length bytes → 0 < length c.rest → Past c (counted limit bytes c)
+counted-past limit bytes c long some = past-refuse c (passes limit (length bytes)) ScalarLimit (Ok (bytes, skip (length bytes) c)) (past-skip (length bytes) c (Ok (bytes, skip (length bytes) c)) long some (stays (skip (length bytes) c)))
 
 bytes_of-some : (test : List ℕ → Bool) (bytes : List ℕ) → 0 < length bytes → 0 < length (bytes_of test bytes)
 bytes_of-some test [] some = absurd (omega (arith, some))
@@ -313,7 +314,7 @@ word_of-some [] some = absurd (omega (arith, some))
 word_of-some (b ∷ bytes) some =
     with_type-some b (run_of in_word bytes).0 (run_of in_word bytes).1 (bytes_eq (codes "null") (b ∷ (run_of in_word bytes).0) && first_is (λ b. b == 46) (run_of in_word bytes).1)
 
-pub token-past : (limit : ℕ) (first : First) (c : Cursor) → 0 < length c.rest → Past c (token_of limit first c)
+pub token-past : (limit : Option ℕ) (first : First) (c : Cursor) → 0 < length c.rest → Past c (token_of limit first c)
 unfolding token_of
 token-past limit a_run c some =
     past-then c (counted limit (bytes_of in_run c.rest) c) _ (counted-past limit (bytes_of in_run c.rest) c (bytes_of-some in_run c.rest some) some) (λ r. value-then r.1 (run_token r.0) (λ t. t))
@@ -325,7 +326,7 @@ token-past limit a_long c some = past-skip 3 c _ (omega arith) some (within-then
 token-past limit a_lob c some = past-skip 2 c _ (omega arith) some (within-then (skip 2 c) (lob_at limit (skip 2 c)) _ (lob-within limit (skip 2 c)) (λ t. stays t.1))
 token-past limit an_operator c some =
     past-then c (counted limit (bytes_of in_operator c.rest) c) _ (counted-past limit (bytes_of in_operator c.rest) c (bytes_of-some in_operator c.rest some) some) (λ r. stays r.1)
-token-past limit an_infinity c some = past-refuse c (nat_lt limit 4) ScalarLimit (mark no_number 4 c) (past-skip 4 c (mark no_number 4 c) (omega arith) some (stays (skip 4 c)))
+token-past limit an_infinity c some = past-refuse c (passes limit 4) ScalarLimit (mark no_number 4 c) (past-skip 4 c (mark no_number 4 c) (omega arith) some (stays (skip 4 c)))
 token-past limit (a_begin k) c some = past-skip 1 c (mark (begin k) 1 c) (omega arith) some (stays (skip 1 c))
 token-past limit (an_end k) c some = past-skip 1 c (mark (end k) 1 c) (omega arith) some (stays (skip 1 c))
 token-past limit a_comma c some = past-skip 1 c (mark comma 1 c) (omega arith) some (stays (skip 1 c))

@@ -1,5 +1,5 @@
 -- A token that stands at a place is the next that a reading takes there.
-use Rattle.std.proofs.Common.{◌≡◌, ℕ, ◌||◌, if◌then◌else◌, Bool, true, false, List, [], ◌∷◌, Option, Some, None, Result, Ok, Err, nat_lt, refl, sym, ap, subst, ◌∙◌}
+use Rattle.std.proofs.Common.{◌≡◌, ℕ, ◌||◌, if◌then◌else◌, Bool, true, false, ◌≤◌, List, [], ◌∷◌, length, arith, Option, Some, None, Result, Ok, Err, refl, sym, ap, subst, ◌∙◌}
 use Rattle.std.proofs.lemmas.Bool.{false≢true}
 use Rattle.ion_meter.specs.declared.fault.Reason.{Reason}
 use Rattle.ion_meter.specs.declared.fault.Reason.TheVariants.{ScalarLimit}
@@ -11,6 +11,7 @@ use Rattle.ion_value.specs.Value as value
 use Rattle.ion_value.specs.Value.{SymbolAt, Scalar}
 use Rattle.ion_meter.specs.Sources.{Cursor, skip}
 use Rattle.ion_value.specs.Parts.{Placed, part, refuse, ◌>>=◌, ◌>>◌}
+use Rattle.ion_text_in.specs.Limit.{passes}
 use Rattle.ion_text_in.specs.Blanks.{blanks}
 use Rattle.ion_text_in.specs.Quoted as quoted
 use Rattle.ion_text_in.specs.Quoted.{text_at}
@@ -18,8 +19,11 @@ use Rattle.ion_text_in.specs.Lob.{lob_at}
 use Rattle.ion_text_in.specs.Token as tokens
 use Rattle.ion_text_in.specs.Token.{First, a_word, a_quoted, a_short, a_long, a_run, a_lob, an_operator, an_infinity, a_begin, an_end, a_comma, a_colon, two_colons, no_token, first_at, Token, plain, name, text, operator, no_number, begin, end, comma, colon, colons, token_of, token_at, next_token, word_token, run_token, counted, bytes_of, word_of, in_run, in_operator}
 use Rattle.ion_text_in.specs.Reading as reading
-use Rattle.ion_text_in.specs.Reading.{Wants, a_value, a_field, a_separator, State, innermost, in_sexp, is_punctuation, names_field, may_come, step, step_of, take, part_at}
+use Rattle.ion_text_in.specs.Positions.{Wants, a_value, a_field, a_separator, State, innermost, in_sexp}
+use Rattle.ion_text_in.specs.Reading.{is_punctuation, names_field, may_come, step, step_of, take, part_at}
 use Rattle.ion_text_in.specs.Grammar.{Tok}
+use Rattle.ion_text_in.proofs.Shrinking.{blanks-within}
+use Rattle.ion_text_in.proofs.Counting.{token-same}
 
 -- ---- what a token's first bytes told
 
@@ -84,7 +88,7 @@ run-told t c d (Ok v) e = told-same a_run t (plain v) c d (bare a_run _ refl ref
 run-told t c d (Err reason) e = absurd (cc e)
 
 -- a token is of the kind that its first bytes told
-pub token-told : (limit : ℕ) (first : First) (b d : Cursor) (t : Token) → token_of limit first b ≡ got t d → Told first t
+pub token-told : (limit : Option ℕ) (first : First) (b d : Cursor) (t : Token) → token_of limit first b ≡ got t d → Told first t
 unfolding token_of
 token-told limit a_run b d t e = told-by a_run t d (counted limit (bytes_of in_run b.rest) b) _ (λ r e. run-told t r.1 d (scalar_of_run r.0) e) e
 token-told limit a_word b d t e = told-by a_word t d (counted limit (word_of b.rest) b) _ (λ r e. word-told t r.1 d r.0 e) e
@@ -97,7 +101,7 @@ token-told limit a_long b d t e =
 token-told limit a_lob b d t e = told-by a_lob t d (lob_at limit (skip 2 b)) _ (λ r e. told-same a_lob t (plain r.0) r.1 d (bare a_lob _ refl refl) e) e
 token-told limit an_operator b d t e =
     told-by an_operator t d (counted limit (bytes_of in_operator b.rest) b) _ (λ r e. told-same an_operator t (operator r.0) r.1 d (bare an_operator _ refl refl) e) e
-token-told limit an_infinity b d t e = infinity (nat_lt limit 4) e
+token-told limit an_infinity b d t e = infinity (passes limit 4) e
   where
     infinity : (long : Bool) → (refuse long ScalarLimit >> got no_number (skip 4 b)) ≡ got t d → Told an_infinity t
     infinity true e = absurd (cc e)
@@ -112,15 +116,15 @@ token-told limit no_token b d t e = absurd (cc e)
 -- ---- where a token stands
 
 -- the blanks before it, and itself
-pub record Stands (limit : ℕ) (sexp : Bool) (c : Cursor) (t : Token) (p : ℕ) (d : Cursor) : Type 0 where
+pub record Stands (sexp : Bool) (c : Cursor) (t : Token) (p : ℕ) (d : Cursor) : Type 0 where
   pub front : Cursor
   pub blank : blanks c ≡ Ok front
-  pub token : token_of limit (first_at sexp front.rest) front ≡ got t d
+  pub token : token_of None (first_at sexp front.rest) front ≡ got t d
   pub place : front.place ≡ p
 
-tok-cut : (limit : ℕ) (sexp : Bool) (c b d : Cursor) (t : Token) (p : ℕ) → blanks c ≡ Ok b → (o : Result (Token × Cursor) Reason) → token_of limit (first_at sexp b.rest) b ≡ o
-    → (part b.place o >>= (λ t. Ok (tokens.cut t.0 b.place t.1))) ≡ Ok (tokens.cut t p d) → Stands limit sexp c t p d
-tok-cut limit sexp c b d t p blank (Ok u) token e =
+tok-cut : (sexp : Bool) (c b d : Cursor) (t : Token) (p : ℕ) → blanks c ≡ Ok b → (o : Result (Token × Cursor) Reason) → token_of None (first_at sexp b.rest) b ≡ o
+    → (part b.place o >>= (λ t. Ok (tokens.cut t.0 b.place t.1))) ≡ Ok (tokens.cut t p d) → Stands sexp c t p d
+tok-cut sexp c b d t p blank (Ok u) token e =
     let same : tokens.cut u.0 b.place u.1 ≡ tokens.cut t p d = cc e in
     let is : u.0 ≡ t = ap (λ (z : tokens.Cut). z.token) same in
     let behind : u.1 ≡ d = ap (λ (z : tokens.Cut). z.behind) same in
@@ -128,16 +132,16 @@ tok-cut limit sexp c b d t p blank (Ok u) token e =
   where
     pair : (u : Token × Cursor) (t : Token) (d : Cursor) → u.0 ≡ t → u.1 ≡ d → u ≡ (t, d)
     pair u t d is behind = rw (← is, ← behind) refl
-tok-cut limit sexp c b d t p blank (Err reason) token e = absurd (cc e)
+tok-cut sexp c b d t p blank (Err reason) token e = absurd (cc e)
 
-tok-blank : (limit : ℕ) (sexp : Bool) (c d : Cursor) (t : Token) (p : ℕ) (o : Placed Cursor) → blanks c ≡ o
-    → (o >>= (λ b. part b.place (token_at limit sexp b) >>= (λ t. Ok (tokens.cut t.0 b.place t.1)))) ≡ Ok (tokens.cut t p d) → Stands limit sexp c t p d
-tok-blank limit sexp c d t p (Ok b) blank e = tok-cut limit sexp c b d t p blank (token_at limit sexp b) refl e
-tok-blank limit sexp c d t p (Err fault) blank e = absurd (cc e)
+tok-blank : (sexp : Bool) (c d : Cursor) (t : Token) (p : ℕ) (o : Placed Cursor) → blanks c ≡ o
+    → (o >>= (λ b. part b.place (token_at None sexp b) >>= (λ t. Ok (tokens.cut t.0 b.place t.1)))) ≡ Ok (tokens.cut t p d) → Stands sexp c t p d
+tok-blank sexp c d t p (Ok b) blank e = tok-cut sexp c b d t p blank (token_at None sexp b) refl e
+tok-blank sexp c d t p (Err fault) blank e = absurd (cc e)
 
-pub tok-stands : (limit : ℕ) (sexp : Bool) (c d : Cursor) (t : Token) (p : ℕ) → Tok limit sexp c t p d → Stands limit sexp c t p d
+pub tok-stands : (sexp : Bool) (c d : Cursor) (t : Token) (p : ℕ) → Tok sexp c t p d → Stands sexp c t p d
 unfolding next_token
-tok-stands limit sexp c d t p e = tok-blank limit sexp c d t p (blanks c) refl e
+tok-stands sexp c d t p e = tok-blank sexp c d t p (blanks c) refl e
 
 -- ---- the step that takes a token
 
@@ -165,27 +169,29 @@ unfolding may_come
 naming-suits t bare naming first told = ap (λ b. b || names_field first) (sym told.mark ∙ bare) ∙ told.naming naming
 
 module _ (limits : Limits) (kinds : List Kind) (top : ℕ) (wants : Wants) (c : Cursor) (t : Token) (d : Cursor) (suits : Suits wants t) (b : Cursor) where
-  rest-token : (rest : List ℕ) → b.rest ≡ rest → token_of limits.scalar (first_at (in_sexp (innermost kinds)) b.rest) b ≡ got t d
+  rest-token : (rest : List ℕ) → b.rest ≡ rest → token_of (Some limits.scalar) (first_at (in_sexp (innermost kinds)) b.rest) b ≡ got t d
       → reading.part_behind limits (state kinds top wants c) b rest ≡ take limits kinds top wants b.place t d
   unfolding first_at token_of
   rest-token [] is e =
-      let cut : token_of limits.scalar (first_at (in_sexp (innermost kinds)) []) b ≡ got t d = subst (λ rest. token_of limits.scalar (first_at (in_sexp (innermost kinds)) rest) b ≡ got t d) is e in
+      let cut : token_of (Some limits.scalar) (first_at (in_sexp (innermost kinds)) []) b ≡ got t d = subst (λ rest. token_of (Some limits.scalar) (first_at (in_sexp (innermost kinds)) rest) b ≡ got t d) is e in
       absurd (cc cut)
   rest-token (x ∷ rest) is e =
       let first : First = first_at (in_sexp (innermost kinds)) (x ∷ rest) in
-      let e' : token_of limits.scalar first b ≡ got t d = subst (λ rest. token_of limits.scalar (first_at (in_sexp (innermost kinds)) rest) b ≡ got t d) is e in
-      let may : may_come wants first ≡ true = suits first (token-told limits.scalar first b d t e') in
+      let e' : token_of (Some limits.scalar) first b ≡ got t d = subst (λ rest. token_of (Some limits.scalar) (first_at (in_sexp (innermost kinds)) rest) b ≡ got t d) is e in
+      let may : may_come wants first ≡ true = suits first (token-told (Some limits.scalar) first b d t e') in
       ap (λ m. reading.coming limits (state kinds top wants c) b first m) may
       ∙ ap (λ (o : Result (Token × Cursor) Reason). part b.place o >>= (λ t. take limits kinds top wants b.place t.0 t.1)) e'
 
 pub step-token : (limits : Limits) (kinds : List Kind) (top : ℕ) (wants : Wants) (c : Cursor) (t : Token) (p : ℕ) (d : Cursor) → Suits wants t
-    → Tok limits.scalar (in_sexp (innermost kinds)) c t p d → step limits (state kinds top wants c) ≡ step_of (take limits kinds top wants p t d)
+    → length c.rest ≤ limits.scalar → Tok (in_sexp (innermost kinds)) c t p d
+    → step limits (state kinds top wants c) ≡ step_of (take limits kinds top wants p t d)
 unfolding step part_at
-step-token limits kinds top wants c t p d suits tok =
-    let stands = tok-stands limits.scalar (in_sexp (innermost kinds)) c d t p tok in
+step-token limits kinds top wants c t p d suits room tok =
+    let stands = tok-stands (in_sexp (innermost kinds)) c d t p tok in
     let b : Cursor = stands.front in
+    let same = token-same limits.scalar (in_sexp (innermost kinds)) b (let within = (blanks-within c b stands.blank).0 in omega (arith, room, within)) in
     ap step_of (ap (λ o. o >>= (λ b. reading.part_behind limits (state kinds top wants c) b b.rest)) stands.blank
-    ∙ rest-token limits kinds top wants c t d suits b b.rest refl stands.token
+    ∙ rest-token limits kinds top wants c t d suits b b.rest refl (same ∙ stands.token)
     ∙ ap (λ p. take limits kinds top wants p t d) stands.place)
 
 -- ---- colons
@@ -195,7 +201,7 @@ given-same u t c d e =
     let both : ◌≡◌ {A = Token × Cursor} (u, c) (t, d) = cc e in
     ap (λ (z : Token × Cursor). z.0) both
 
-one-colon : (limit : ℕ) (first : First) (b d : Cursor) → token_of limit first b ≡ got colon d → is_punctuation first ≡ true → (first ≡ a_colon) × (d ≡ skip 1 b)
+one-colon : (limit : Option ℕ) (first : First) (b d : Cursor) → token_of limit first b ≡ got colon d → is_punctuation first ≡ true → (first ≡ a_colon) × (d ≡ skip 1 b)
 unfolding token_of
 one-colon limit a_colon b d e is = let both : ◌≡◌ {A = Token × Cursor} (colon, skip 1 b) (colon, d) = cc e in (refl, sym (ap (λ (z : Token × Cursor). z.1) both))
 one-colon limit (a_begin k) b d e is = absurd (cc (given-same (begin k) colon (skip 1 b) d e))
@@ -212,7 +218,7 @@ one-colon limit a_lob b d e is = absurd (false≢true is)
 one-colon limit an_operator b d e is = absurd (false≢true is)
 one-colon limit an_infinity b d e is = absurd (false≢true is)
 
-both-colons : (limit : ℕ) (first : First) (b d : Cursor) → token_of limit first b ≡ got colons d → is_punctuation first ≡ true → (first ≡ two_colons) × (d ≡ skip 2 b)
+both-colons : (limit : Option ℕ) (first : First) (b d : Cursor) → token_of limit first b ≡ got colons d → is_punctuation first ≡ true → (first ≡ two_colons) × (d ≡ skip 2 b)
 unfolding token_of
 both-colons limit two_colons b d e is = let both : ◌≡◌ {A = Token × Cursor} (colons, skip 2 b) (colons, d) = cc e in (refl, sym (ap (λ (z : Token × Cursor). z.1) both))
 both-colons limit a_colon b d e is = absurd (cc (given-same colon colons (skip 1 b) d e))
@@ -229,11 +235,11 @@ both-colons limit a_lob b d e is = absurd (false≢true is)
 both-colons limit an_operator b d e is = absurd (false≢true is)
 both-colons limit an_infinity b d e is = absurd (false≢true is)
 
-pub colons-stand : (limit : ℕ) (sexp : Bool) (c d : Cursor) (p : ℕ) → Tok limit sexp c colons p d → reading.behind_colons sexp c ≡ Some d
-colons-stand limit sexp c d p tok =
-    let s = tok-stands limit sexp c d colons p tok in
-    let told = token-told limit (first_at sexp s.front.rest) s.front d colons s.token in
-    let are = both-colons limit (first_at sexp s.front.rest) s.front d s.token (sym told.mark) in
+pub colons-stand : (sexp : Bool) (c d : Cursor) (p : ℕ) → Tok sexp c colons p d → reading.behind_colons sexp c ≡ Some d
+colons-stand sexp c d p tok =
+    let s = tok-stands sexp c d colons p tok in
+    let told = token-told None (first_at sexp s.front.rest) s.front d colons s.token in
+    let are = both-colons None (first_at sexp s.front.rest) s.front d s.token (sym told.mark) in
     ap (λ o. reading.colons_behind sexp o) s.blank ∙ ap (λ first. reading.colons_at first s.front) are.0 ∙ ap Some (sym are.1)
 
 colon-from : (kinds : List Kind) (top : ℕ) (a : SymbolAt) (b : Cursor) (rest : List ℕ) → first_at false rest ≡ a_colon
@@ -243,12 +249,12 @@ colon-from kinds top a b [] is = absurd (cc is)
 colon-from kinds top a b (x ∷ rest) is = ap (reading.colon_of kinds top a b) is
 
 -- behind a field's name
-pub colon-stands : (limit : ℕ) (c d : Cursor) (p : ℕ) (kinds : List Kind) (top : ℕ) (a : SymbolAt) → Tok limit false c colon p d
+pub colon-stands : (c d : Cursor) (p : ℕ) (kinds : List Kind) (top : ℕ) (a : SymbolAt) → Tok false c colon p d
     → reading.named kinds top a c ≡ Ok (reading.going_on kinds top (a_value (Some a) []) d)
-colon-stands limit c d p kinds top a tok =
-    let s = tok-stands limit false c d colon p tok in
-    let told = token-told limit (first_at false s.front.rest) s.front d colon s.token in
-    let is = one-colon limit (first_at false s.front.rest) s.front d s.token (sym told.mark) in
+colon-stands c d p kinds top a tok =
+    let s = tok-stands false c d colon p tok in
+    let told = token-told None (first_at false s.front.rest) s.front d colon s.token in
+    let is = one-colon None (first_at false s.front.rest) s.front d s.token (sym told.mark) in
     ap (λ o. o >>= (λ b. reading.colon_from kinds top a b b.rest)) s.blank
     ∙ colon-from kinds top a s.front s.front.rest is.0
     ∙ ap (λ d. Ok (reading.going_on kinds top (a_value (Some a) []) d)) (sym is.1)

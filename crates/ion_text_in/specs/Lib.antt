@@ -1,4 +1,6 @@
 pub mod Places
+pub mod Limit
+pub mod Positions
 pub mod Blanks
 pub mod Quoted
 pub mod Lob
@@ -6,6 +8,5 @@ pub mod Token
 pub mod Reading
 pub mod Grammar
 pub mod Paths
-pub mod Fits
 pub mod Laws
 pub mod Meaning

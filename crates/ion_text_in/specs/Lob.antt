@@ -1,5 +1,5 @@
 -- Blobs and clobs (Ion specification, "Blobs", "Clobs").
-use Rattle.std.specs.Prelude.{ℕ, zero, suc, ◌+◌, ◌-◌, Bool, true, false, not, ◌&&◌, ◌||◌, ◌==◌, nat_lt, if◌then◌else◌, List, [], ◌∷◌, ◌++◌, length, Some, None, Result, Ok, Err}
+use Rattle.std.specs.Prelude.{ℕ, zero, suc, ◌+◌, ◌-◌, Bool, true, false, not, ◌&&◌, ◌||◌, ◌==◌, nat_lt, if◌then◌else◌, List, [], ◌∷◌, ◌++◌, length, Option, Some, None, Result, Ok, Err}
 use Rattle.base64.specs.Engines.{standard}
 use Rattle.base64.specs.GeneralPurpose.{decoded_of}
 use Rattle.std.specs.Str.{bytes_eq}
@@ -11,6 +11,7 @@ use Rattle.ion_value.specs.Value.{Scalar, clob, blob}
 use Rattle.ion_meter.specs.Sources.{Cursor, skip}
 use Rattle.ion_value.specs.Parts.{refuse, ◌>>=◌, ◌>>◌}
 use Rattle.ion_text_in.specs.Places.{behind_run}
+use Rattle.ion_text_in.specs.Limit.{passes}
 use Rattle.ion_text_in.specs.Blanks.{is_white}
 use Rattle.ion_text_in.specs.Quoted.{short_quote, long_quote, text_at}
 
@@ -53,18 +54,18 @@ abbrev pub group_bytes : Bool → List ℕ → Result (List ℕ) Reason
 group_bytes padded group = elim (decoded_of standard group) [ Some bytes ↦ if padded then Err BadLob else Ok bytes | None ↦ Err BadLob ]
 
 -- the groups of a blob, where so many bytes came before; the first number is how many there are at most
-unfoldable pub groups_for : ℕ → ℕ → ℕ → Bool → Cursor → Result (List ℕ × Cursor) Reason
+unfoldable pub groups_for : ℕ → Option ℕ → ℕ → Bool → Cursor → Result (List ℕ × Cursor) Reason
 groups_for zero limit count padded c = Err Truncated
 groups_for (suc most) limit count padded c =
     let g = group_of 4 c.rest in
     if nat_lt (length g.0) 4 then last_group g.0 (behind_to c g.1)
     else (do
       bytes ← group_bytes padded g.0
-      refuse (nat_lt limit (count + length bytes)) ScalarLimit
+      refuse (passes limit (count + length bytes)) ScalarLimit
       others ← groups_for most limit (count + length bytes) (nat_lt (length bytes) 3) (behind_to c g.1)
       Ok (bytes ++ others.0, others.1))
 
-abbrev pub blob_at : {S : Type 0} → ℕ → Cursor → Result (Scalar S × Cursor) Reason
+abbrev pub blob_at : {S : Type 0} → Option ℕ → Cursor → Result (Scalar S × Cursor) Reason
 blob_at limit c = do
   b ← groups_for (suc (length c.rest)) limit 0 false c
   Ok (blob b.0, b.1)
@@ -81,18 +82,18 @@ clob_closed_at is_long c = do
   refuse (is_long && are_cut_quotes c.rest) Truncated
   closed_at c
 
-abbrev pub clob_at : {S : Type 0} → ℕ → Bool → Cursor → Result (Scalar S × Cursor) Reason
+abbrev pub clob_at : {S : Type 0} → Option ℕ → Bool → Cursor → Result (Scalar S × Cursor) Reason
 clob_at limit is_long c = do
   t ← text_at (if is_long then long_quote true else short_quote true) limit c
   d ← clob_closed_at is_long (behind_run (first_is is_white) t.1)
   Ok (clob t.0, d)
 
 -- a lob behind its opening braces
-abbrev pub lob_in : {S : Type 0} → ℕ → Cursor → Result (Scalar S × Cursor) Reason
+abbrev pub lob_in : {S : Type 0} → Option ℕ → Cursor → Result (Scalar S × Cursor) Reason
 lob_in limit c =
     if begins_with (34 ∷ []) c.rest then clob_at limit false (skip 1 c)
     else (if begins_with (39 ∷ 39 ∷ 39 ∷ []) c.rest then clob_at limit true (skip 3 c)
     else blob_at limit c)
 
-unfoldable pub lob_at : {S : Type 0} → ℕ → Cursor → Result (Scalar S × Cursor) Reason
+unfoldable pub lob_at : {S : Type 0} → Option ℕ → Cursor → Result (Scalar S × Cursor) Reason
 lob_at limit c = lob_in limit (behind_run (first_is is_white) c)

@@ -1,6 +1,6 @@
 -- What a token means: the text of a scalar is read as that scalar, whatever stands behind it that does not go
 -- on with it, and the characters of a blob are the base64 of its bytes.
-use Rattle.std.specs.Prelude.{◌≡◌, ◌≢◌, ℕ, ◌+◌, ◌*◌, ◌<◌, ◌≤◌, Bool, true, false, not, ◌&&◌, ◌||◌, ◌==◌, List, [], ◌∷◌, ◌++◌, All, length, filter, codes, Ok}
+use Rattle.std.specs.Prelude.{◌≡◌, ◌≢◌, ℕ, ◌+◌, ◌*◌, ◌<◌, ◌≤◌, Bool, true, false, not, ◌&&◌, ◌||◌, ◌==◌, List, [], ◌∷◌, ◌++◌, All, length, filter, codes, Option, Some, None, Ok}
 use Rattle.std.specs.Str.{is_utf8}
 use Rattle.base64.specs.Engines.{standard}
 use Rattle.base64.specs.GeneralPurpose.{encode_of}
@@ -20,13 +20,14 @@ use Rattle.ion_text_in.specs.Blanks.{is_white}
 use Rattle.ion_text_in.specs.Token as tokens
 use Rattle.ion_text_in.specs.Token.{Token, plain, in_run, in_word, token_at}
 
--- a limit on what a token counts
+-- a limit on what a token counts, where there is one
 abbrev pub Limit : Type 0
-Limit = ℕ
+Limit = Option ℕ
 
 -- a limit that so many bytes do not pass
 abbrev pub Allows : Limit → ℕ → Type 0
-Allows limit count = count ≤ limit
+Allows None count = Unit {0}
+Allows (Some limit) count = count ≤ limit
 
 abbrev pub at : ℕ → List ℕ → Cursor
 at place rest = record { place = place; rest = rest }

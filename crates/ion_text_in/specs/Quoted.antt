@@ -8,6 +8,7 @@ use Rattle.ion_value.specs.Name.{begins_with, is_one_of}
 use Rattle.ion_value.specs.Parts.{Placed, refuse, ◌>>=◌, ◌>>◌}
 use Rattle.ion_meter.specs.Sources.{Cursor, skip}
 use Rattle.ion_text_in.specs.Places.{behind_run}
+use Rattle.ion_text_in.specs.Limit.{passes}
 use Rattle.ion_text_in.specs.Blanks.{is_white, blanks}
 
 -- what closes a text, whether it is long, so that lines may end in it and further segments may follow, and whether it is a clob's
@@ -136,9 +137,9 @@ abbrev pub bad_text : Quote → Reason
 bad_text q = if q.in_clob then BadLob else BadText
 
 -- what a piece gives, and then the others, where so many bytes came before
-abbrev pub with_piece : (ℕ → Cursor → Result (List ℕ × Cursor) Reason) → Quote → ℕ → ℕ → Cursor → Piece → Result (List ℕ × Cursor) Reason
+abbrev pub with_piece : (ℕ → Cursor → Result (List ℕ × Cursor) Reason) → Quote → Option ℕ → ℕ → Cursor → Piece → Result (List ℕ × Cursor) Reason
 with_piece later q limit count c (char bytes taken) = do
-  refuse (nat_lt limit (count + length bytes)) ScalarLimit
+  refuse (passes limit (count + length bytes)) ScalarLimit
   others ← later (count + length bytes) (skip taken c)
   Ok (bytes ++ others.0, others.1)
 with_piece later q limit count c (close taken) = Ok ([], skip taken c)
@@ -146,12 +147,12 @@ with_piece later q limit count c illegal = Err (bad_text q)
 with_piece later q limit count c cut = Err Truncated
 
 -- the pieces from behind opening quotes to behind the closing ones; the first number is how many there are at most
-unfoldable pub pieces_for : ℕ → Quote → ℕ → ℕ → Cursor → Result (List ℕ × Cursor) Reason
+unfoldable pub pieces_for : ℕ → Quote → Option ℕ → ℕ → Cursor → Result (List ℕ × Cursor) Reason
 pieces_for zero q limit count c = Err Truncated
 pieces_for (suc most) q limit count c = with_piece (λ n d. pieces_for most q limit n d) q limit count c (piece_at q c.rest)
 
 -- a segment; what it spells is UTF-8 but in a clob
-unfoldable pub segment_at : Quote → ℕ → ℕ → Cursor → Result (List ℕ × Cursor) Reason
+unfoldable pub segment_at : Quote → Option ℕ → ℕ → Cursor → Result (List ℕ × Cursor) Reason
 segment_at q limit count c = do
   s ← pieces_for (suc (length c.rest)) q limit count c
   refuse (not (q.in_clob || is_utf8 s.0)) BadText
@@ -183,12 +184,12 @@ with_segments later s (Some c) = do
   others ← later c
   Ok (s.0 ++ others.0, others.1)
 
-unfoldable pub segments_for : ℕ → Quote → ℕ → ℕ → Cursor → Result (List ℕ × Cursor) Reason
+unfoldable pub segments_for : ℕ → Quote → Option ℕ → ℕ → Cursor → Result (List ℕ × Cursor) Reason
 segments_for zero q limit count c = Err Truncated
 segments_for (suc most) q limit count c = do
   s ← segment_at q limit count c
   with_segments (λ d. segments_for most q limit (count + length s.0) d) s (next_segment q s.1)
 
--- a text behind its opening quotes: the bytes that it spells, of which a limit says how many there may be
-abbrev pub text_at : Quote → ℕ → Cursor → Result (List ℕ × Cursor) Reason
+-- a text behind its opening quotes: the bytes that it spells, of which a limit may say how many there may be
+abbrev pub text_at : Quote → Option ℕ → Cursor → Result (List ℕ × Cursor) Reason
 text_at q limit c = segments_for (suc (length c.rest)) q limit 0 c

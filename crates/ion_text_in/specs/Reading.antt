@@ -12,37 +12,11 @@ use Rattle.ion_value.specs.Value.{Symbol, SymbolAt, Scalar, Head, PlacedItem}
 use Rattle.ion_value.specs.Reading.{Reading, Step, Ends, Stops, Gives, GoesOn, reading_by}
 use Rattle.ion_meter.specs.Sources.{Cursor, skip}
 use Rattle.ion_value.specs.Parts.{Placed, part, refuse, ◌>>=◌, ◌>>◌}
+use Rattle.ion_text_in.specs.Positions.{Wants, a_value, a_field, a_separator, State, innermost, in_sexp, has_commas, at, first_place}
 use Rattle.ion_text_in.specs.Blanks.{blanks}
 use Rattle.ion_text_in.specs.Token.{First, a_word, a_quoted, a_short, a_long, a_run, a_lob, an_operator, an_infinity, a_begin, an_end, a_comma, a_colon, two_colons, no_token, first_at, Token, plain, name, text, operator, no_number, begin, end, comma, token_of}
 
--- ---- where reading stands
-
--- what must come: a value, behind what is read of its item; a field; or what separates two members
-pub data Wants : Type 0 where
-  a_value : (field : Option SymbolAt) → (annotations : List SymbolAt) → Wants
-  a_field : Wants
-  a_separator : Wants
-
--- the open containers, the innermost first; the place of the present top-level value; what must come; and what is to be read
-pub record State : Type 0 where
-  pub kinds : List Kind
-  pub top : ℕ
-  pub wants : Wants
-  pub cursor : Cursor
-
-abbrev pub is_sexp : Kind → Bool
-is_sexp kind.Sexp = true
-is_sexp kind.List = false
-is_sexp kind.Struct = false
-
--- the kind of the container that an item stands in, and none at top level
-abbrev pub innermost : List Kind → Option Kind
-innermost [] = None
-innermost (k ∷ kinds) = Some k
-
-abbrev pub in_sexp : Option Kind → Bool
-in_sexp None = false
-in_sexp (Some k) = is_sexp k
+-- ---- members
 
 -- where a member may begin
 abbrev pub member_of : Kind → Wants
@@ -53,13 +27,6 @@ member_of kind.Sexp = a_value None []
 abbrev pub at_member : Option Kind → Wants
 at_member None = a_value None []
 at_member (Some k) = member_of k
-
--- commas stand in lists and structs
-abbrev pub has_commas : Option Kind → Bool
-has_commas None = false
-has_commas (Some kind.List) = true
-has_commas (Some kind.Sexp) = false
-has_commas (Some kind.Struct) = true
 
 -- behind a member a comma must come where there are commas, or the container's end
 abbrev pub behind_member : Option Kind → Wants
@@ -106,14 +73,6 @@ may_come a_field first = is_punctuation first || names_field first
 may_come a_separator first = is_punctuation first
 
 -- ---- items
-
-abbrev pub at : Symbol → ℕ → SymbolAt
-at symbol place = record { symbol = symbol; place = place }
-
--- a top-level value begins at its first annotation, or at its head
-abbrev pub first_place : List SymbolAt → ℕ → ℕ
-first_place [] place = place
-first_place (a ∷ notes) place = a.place
 
 abbrev pub top_of : List Kind → ℕ → List SymbolAt → ℕ → ℕ
 top_of [] top notes place = first_place notes place
@@ -251,7 +210,7 @@ ended _ _ place = Err (Truncated, place)
 abbrev pub coming : Limits → State → Cursor → First → Bool → Placed (Step State)
 coming limits s c first false = Err (BadToken, c.place)
 coming limits s c first true = do
-  t ← part c.place (token_of limits.scalar first c)
+  t ← part c.place (token_of (Some limits.scalar) first c)
   take limits s.kinds s.top s.wants c.place t.0 t.1
 
 abbrev pub part_from : Limits → State → Cursor → First → Placed (Step State)

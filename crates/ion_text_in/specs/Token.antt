@@ -1,5 +1,5 @@
 -- Tokens: what tells a token's kind, how far it goes, and what it means (Ion specification, "Text Encoding").
-use Rattle.std.specs.Prelude.{ℕ, Bool, true, false, not, ◌&&◌, ◌||◌, ◌==◌, nat_lt, if◌then◌else◌, List, [], ◌∷◌, ◌++◌, length, drop, codes, Option, Some, None, Result, Ok, Err}
+use Rattle.std.specs.Prelude.{ℕ, Bool, true, false, not, ◌&&◌, ◌||◌, ◌==◌, if◌then◌else◌, List, [], ◌∷◌, ◌++◌, length, drop, codes, Option, Some, None, Result, Ok, Err}
 use Rattle.std.specs.Str.{bytes_eq}
 use Rattle.ion_meter.specs.declared.fault.Reason.{Reason}
 use Rattle.ion_meter.specs.declared.fault.Reason.TheVariants.{BadToken, ScalarLimit}
@@ -14,6 +14,7 @@ use Rattle.ion_value.specs.Value.{Symbol, SymbolAt, Scalar, null, bool}
 use Rattle.ion_meter.specs.Sources.{Cursor, skip}
 use Rattle.ion_value.specs.Parts.{Placed, part, refuse, ◌>>=◌, ◌>>◌}
 use Rattle.ion_text_in.specs.Places.{run_of}
+use Rattle.ion_text_in.specs.Limit.{passes}
 use Rattle.ion_text_in.specs.Blanks.{is_white, begins_comment, blanks}
 use Rattle.ion_text_in.specs.Quoted.{symbol_quote, short_quote, long_quote, text_at}
 use Rattle.ion_text_in.specs.Lob.{lob_at}
@@ -89,10 +90,10 @@ abbrev pub bytes_of : (List ℕ → Bool) → List ℕ → List ℕ
 bytes_of test [] = []
 bytes_of test (b ∷ bytes) = b ∷ (run_of test bytes).0
 
--- a token of bytes, and what stands behind it, where a limit says how long it may be
-abbrev pub counted : ℕ → List ℕ → Cursor → Result (List ℕ × Cursor) Reason
+-- a token of bytes, and what stands behind it, where a limit may say how long it may be
+abbrev pub counted : Option ℕ → List ℕ → Cursor → Result (List ℕ × Cursor) Reason
 counted limit bytes c = do
-  refuse (nat_lt limit (length bytes)) ScalarLimit
+  refuse (passes limit (length bytes)) ScalarLimit
   Ok (bytes, skip (length bytes) c)
 
 -- the bytes of a word: behind `null` and a point, all up to the end of what could be an identifier
@@ -142,8 +143,8 @@ run_token run = do
 abbrev pub mark : Token → ℕ → Cursor → Result (Token × Cursor) Reason
 mark t n c = Ok (t, skip n c)
 
--- the token of a kind that begins at a place, where a limit says how many bytes it may count
-unfoldable pub token_of : ℕ → First → Cursor → Result (Token × Cursor) Reason
+-- the token of a kind that begins at a place, where a limit may say how many bytes it counts
+unfoldable pub token_of : Option ℕ → First → Cursor → Result (Token × Cursor) Reason
 token_of limit a_run c = do
   r ← counted limit (bytes_of in_run c.rest) c
   t ← run_token r.0
@@ -168,7 +169,7 @@ token_of limit an_operator c = do
   r ← counted limit (bytes_of in_operator c.rest) c
   Ok (operator r.0, r.1)
 token_of limit an_infinity c = do
-  refuse (nat_lt limit 4) ScalarLimit
+  refuse (passes limit 4) ScalarLimit
   mark no_number 4 c
 token_of limit (a_begin kind) c = mark (begin kind) 1 c
 token_of limit (an_end kind) c = mark (end kind) 1 c
@@ -177,7 +178,7 @@ token_of limit a_colon c = mark colon 1 c
 token_of limit two_colons c = mark colons 2 c
 token_of limit no_token c = Err BadToken
 
-abbrev pub token_at : ℕ → Bool → Cursor → Result (Token × Cursor) Reason
+abbrev pub token_at : Option ℕ → Bool → Cursor → Result (Token × Cursor) Reason
 token_at limit in_sexp c = token_of limit (first_at in_sexp c.rest) c
 
 -- a token, the place of its first byte, and what stands behind it
@@ -190,7 +191,7 @@ abbrev pub cut : Token → ℕ → Cursor → Cut
 cut t first behind = record { token = t; first = first; behind = behind }
 
 -- the next token behind blanks
-unfoldable pub next_token : ℕ → Bool → Cursor → Placed Cut
+unfoldable pub next_token : Option ℕ → Bool → Cursor → Placed Cut
 next_token limit in_sexp c = do
   b ← blanks c
   t ← part b.place (token_at limit in_sexp b)

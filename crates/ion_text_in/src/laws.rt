@@ -1,7 +1,7 @@
 //! Laws of the grammar and the reading of the text form, each the contract of a function that does
 //! nothing.
-ghost use Rattle.ion_text_in.specs.Laws.{Complete, EachStepFalls, EachStepFollows, OnePath, OneStream, Sound, StreamsAreRead};
 ghost use Rattle.ion_text_in.specs.Meaning.{Base64IsRead, BlobsAreBase64, BoolTextIsRead, ClobTextIsRead, DecimalTextIsRead, IntTextIsRead, NullTextIsRead, PlainSymbolIsRead, QuotedSymbolIsRead, StringTextIsRead, TimestampTextIsRead};
+ghost use Rattle.ion_text_in.specs.Laws.{Complete, EachStepFalls, EachStepFollows, Narrow, OnePath, OneStream, RightlyRefused, Sound, StreamsAreRead};
 
 /// What is read is a path of the grammar, and where the reading finishes, the whole input is a
 /// stream.
@@ -29,6 +29,17 @@ pub fn what_is_spelled_is_read()
 /// A stream is read to its end, under limits that allow it.
 pub fn streams_are_read()
     ensures { StreamsAreRead }
+{}
+
+/// Narrower limits change nothing in what is read, or cut it short at the token, container or
+/// annotation that passes them.
+pub fn limits_only_cut_short()
+    ensures { Narrow }
+{}
+
+/// Where a reading stops, and not at a limit, the input is no stream of the grammar.
+pub fn rightly_refused()
+    ensures { RightlyRefused }
 {}
 
 /// Of two paths of one input, the items of one begin the other's.
@@ -111,6 +122,8 @@ mod tests {
         each_step_falls();
         what_is_spelled_is_read();
         streams_are_read();
+        limits_only_cut_short();
+        rightly_refused();
         one_path();
         one_stream();
         null_text_is_read();

@@ -1,0 +1,318 @@
+-- Whatever the grammar spells is read, where the limits allow it.
+use Rattle.std.proofs.Common.{◌≡◌, ℕ, suc, ◌+◌, ◌*◌, ◌<◌, ◌≤◌, arith, Bool, true, false, nat_le, nat_lt, sum_by, List, [], ◌∷◌, ◌++◌, length, Option, None, Some, Ok, Result, if◌then◌else◌, refl, sym, ap, subst, ◌∙◌, append_assoc, append-nil}
+use Rattle.std.proofs.lemmas.Bool.{le-ltb, lt-leb}
+use Rattle.ion_meter.specs.declared.fault.Reason.{Reason}
+use Rattle.ion_meter.specs.declared.fault.Reason.TheVariants.{AnnotationLimit, DepthLimit}
+use Rattle.ion_meter.specs.declared.limits.Limits.{Limits}
+use Rattle.ion_value.specs.declared.ion_type.Kind.{Kind}
+use Rattle.ion_value.specs.declared.ion_type.Kind.TheVariants as kind
+use Rattle.ion_value.specs.Digits.{cut_at}
+use Rattle.ion_value.specs.Name.{version_word}
+use Rattle.ion_value.specs.Value as value
+use Rattle.ion_value.specs.Value.{Symbol, SymbolAt, Scalar, Value, Members, Top, PlacedItem, bare_item, value_items, member_items, top_items}
+use Rattle.ion_value.specs.Path.{Path, closed, opened, begin_item, nest_items, path_items}
+use Rattle.ion_value.specs.Reading.{Reading, Finished, More, behind, Step, Ends, Gives, GoesOn, reading_by}
+use Rattle.ion_value.proofs.Readings.{reading_by-ends, reading_by-gives, reading_by-goes_on}
+use Rattle.ion_meter.specs.Sources.{Cursor}
+use Rattle.ion_value.specs.Parts.{part, refuse, ◌>>=◌, ◌>>◌}
+use Rattle.ion_text_in.specs.Blanks.{blanks}
+use Rattle.ion_text_in.specs.Token.{Token, plain, name, text, operator, begin, end, comma}
+use Rattle.ion_text_in.specs.Reading as reading
+use Rattle.ion_text_in.specs.Positions.{Wants, a_value, a_field, a_separator, State, innermost, in_sexp, has_commas, at, first_place}
+use Rattle.ion_text_in.specs.Reading.{member_of, at_member, behind_member, top_of, item_of, cost, tells_version, behind_colons, step, step_of, take, size, start}
+use Rattle.ion_text_in.specs.Grammar.{Tok, Annotations, Field, Txt, Inside, Tops, start_of}
+use Rattle.ion_text_in.specs.Paths.{open_in, Spells, IsTop}
+use Rattle.ion_text_in.specs.Laws.{Allows, Complete, StreamsAreRead}
+use Rattle.ion_text_in.proofs.Growing.{Fits}
+use Rattle.ion_text_in.proofs.Steps.{colons-none, version-none, fits}
+use Rattle.ion_text_in.proofs.Advancing.{notes-cost, notes-advance, field-advances, tok-advances, inside-advances, tops-advance, spells-advance}
+use Rattle.ion_text_in.proofs.Falling.{each_step_falls}
+use Rattle.ion_text_in.proofs.Tokens.{state, Suits, value-suits, mark-suits, end-suits, naming-suits, step-token, colons-stand, colon-stands}
+
+-- ---- from one state to another
+
+unfoldable read_from : Limits → State → Reading
+read_from limits s = reading_by (step limits) size s
+
+-- from a state on these items are read, and what is read behind them is read from the other
+abbrev Reads : Limits → State → List PlacedItem → State → Type 0
+Reads limits s items t = read_from limits s ≡ behind items (read_from limits t)
+
+behind-append : (xs ys : List PlacedItem) (r : Reading) → behind (xs ++ ys) r ≡ behind xs (behind ys r)
+behind-append [] ys r = refl
+behind-append (x ∷ xs) ys r = ap (More x) (behind-append xs ys r)
+
+reads-then : (limits : Limits) (s t u : State) (xs ys : List PlacedItem) → Reads limits s xs t → Reads limits t ys u → Reads limits s (xs ++ ys) u
+reads-then limits s t u xs ys p q = p ∙ ap (behind xs) q ∙ sym (behind-append xs ys (read_from limits u))
+
+reads-gives : (limits : Limits) (s t : State) (item : PlacedItem) → step limits s ≡ Gives item t → Reads limits s (item ∷ []) t
+unfolding read_from
+reads-gives limits s t item e = reading_by-gives (step limits) size (each_step_falls limits) s t item e
+
+reads-goes_on : (limits : Limits) (s t : State) → step limits s ≡ GoesOn t → Reads limits s [] t
+unfolding read_from
+reads-goes_on limits s t e = reading_by-goes_on (step limits) size (each_step_falls limits) s t e
+
+read_from-ends : (limits : Limits) (s : State) → step limits s ≡ Ends → read_from limits s ≡ Finished
+unfolding read_from
+read_from-ends limits s e = reading_by-ends (step limits) size (each_step_falls limits) s e
+
+not-refused : (p : ℕ) (b : Bool) (reason : Reason) (o : Result (Step State) Reason) → b ≡ false → step_of (part p (refuse b reason >> o)) ≡ step_of (part p o)
+not-refused p b reason o e = ap (λ b. step_of (part p (refuse b reason >> o))) e
+
+-- ---- limits that allow what is left
+
+-- so many open containers and all that can be opened yet, and whatever the bytes that are left can count
+abbrev Room : Limits → ℕ → Cursor → Type 0
+Room limits depth c = (depth + length c.rest ≤ limits.depth) × (16 * length c.rest ≤ limits.scalar)
+
+room-later : (limits : Limits) (depth : ℕ) (c d : Cursor) → length d.rest ≤ length c.rest → Room limits depth c → Room limits depth d
+room-later limits depth c d le room = let deep = room.0 in let wide = room.1 in (omega (arith, le, deep), omega (arith, le, wide))
+
+-- for a container that opens
+room-inside : (limits : Limits) (depth : ℕ) (c d : Cursor) → length d.rest < length c.rest → Room limits depth c → Room limits (suc depth) d
+room-inside limits depth c d lt room = let deep = room.0 in let wide = room.1 in (omega (arith, lt, deep), omega (arith, lt, wide))
+
+-- for a token
+room-token : (limits : Limits) (depth : ℕ) (c : Cursor) → Room limits depth c → length c.rest ≤ limits.scalar
+room-token limits depth c room = let wide = room.1 in omega (arith, wide)
+
+room-depth : (limits : Limits) (depth : ℕ) (c d : Cursor) → length d.rest < length c.rest → Room limits depth c → nat_le limits.depth depth ≡ false
+room-depth limits depth c d lt room = lt-leb limits.depth depth (let deep = room.0 in omega (arith, lt, deep))
+
+-- ---- annotations and fields
+
+notes-read : (limits : Limits) (kinds : List Kind) (top : ℕ) (field : Option SymbolAt) (c d : Cursor) (notes : List SymbolAt) → Annotations (in_sexp (innermost kinds)) c notes d
+    → Room limits (length kinds) c → Reads limits (state kinds top (a_value field []) c) [] (state kinds top (a_value field notes) d)
+unfolding take
+notes-read limits kinds top field c _ _ Annotations.nothing room = refl
+notes-read limits kinds top field c f _ (Annotations.then {notes = notes} {d = d} {e = e} {p = p} {q = q} {quoted = quoted} {symbol = symbol} before tok after) room =
+    let front = notes-read limits kinds top field c d notes before room in
+    let cost_is = notes-cost (Annotations.then before tok after) in let wide = room.1 in
+    let next : State = state kinds top (a_value field (notes ++ at symbol p ∷ [])) f in
+    let one = step-token limits kinds top (a_value field notes) d (name quoted symbol) p e (value-suits field notes (name quoted symbol))
+    (room-token limits (length kinds) d (room-later limits (length kinds) c d (notes-advance before) room)) tok
+    ∙ ap (λ o. step_of (part p (reading.symbol_given limits kinds top field notes quoted (at symbol p) e o))) (colons-stand (in_sexp (innermost kinds)) e f q after)
+    ∙ not-refused p (nat_lt limits.scalar (sum_by cost (notes ++ at symbol p ∷ []))) AnnotationLimit (Ok (GoesOn next)) (le-ltb limits.scalar (sum_by cost (notes ++ at symbol p ∷ [])) (omega (arith, cost_is, wide))) in
+    front ∙ reads-goes_on limits (state kinds top (a_value field notes) d) next one
+
+field-read : (limits : Limits) (kinds : List Kind) (top : ℕ) (k : Option Kind) (field : Option SymbolAt) (c d : Cursor) → innermost kinds ≡ k → Field k c field d → Room limits (length kinds) c
+    → Reads limits (state kinds top (at_member k) c) [] (state kinds top (a_value field []) d)
+unfolding take
+field-read limits kinds top _ _ c _ is Field.at_top room = refl
+field-read limits kinds top _ _ c _ is Field.in_list room = refl
+field-read limits kinds top _ _ c _ is Field.in_a_sexp room = refl
+field-read limits kinds top _ _ c e is (Field.named {d = d} {p = p} {q = q} {quoted = quoted} {symbol = symbol} tok after) room =
+    let tok' : Tok (in_sexp (innermost kinds)) c (name quoted symbol) p d = subst (λ k. Tok (in_sexp k) c (name quoted symbol) p d) (sym is) tok in
+    reads-goes_on limits (state kinds top a_field c) (state kinds top (a_value (Some (at symbol p)) []) e)
+    (step-token limits kinds top a_field c (name quoted symbol) p d (naming-suits (name quoted symbol) refl refl) (room-token limits (length kinds) c room) tok' ∙ ap step_of (colon-stands d e q kinds top (at symbol p) after))
+field-read limits kinds top _ _ c e is (Field.in_quotes {d = d} {p = p} {q = q} {bytes = bytes} tok after) room =
+    let tok' : Tok (in_sexp (innermost kinds)) c (text bytes) p d = subst (λ k. Tok (in_sexp k) c (text bytes) p d) (sym is) tok in
+    reads-goes_on limits (state kinds top a_field c) (state kinds top (a_value (Some (at (value.Text bytes) p)) []) e)
+    (step-token limits kinds top a_field c (text bytes) p d (naming-suits (text bytes) refl refl) (room-token limits (length kinds) c room) tok' ∙ ap step_of (colon-stands d e q kinds top (at (value.Text bytes) p) after))
+
+-- ---- values and members
+
+-- what must come behind members
+abbrev wants_behind : Option Kind → Bool → Wants
+wants_behind k full = if full then a_separator else at_member k
+
+same-wants : (k : Kind) → behind_member (Some k) ≡ wants_behind (Some k) (has_commas (Some k))
+same-wants kind.List = refl
+same-wants kind.Sexp = refl
+same-wants kind.Struct = refl
+
+same-kind : (k : Kind) → reading.is_same k k ≡ true
+same-kind kind.List = refl
+same-kind kind.Sexp = refl
+same-kind kind.Struct = refl
+
+scalar-read : (limits : Limits) (kinds : List Kind) (top : ℕ) (field : Option SymbolAt) (notes : List SymbolAt) (c d e : Cursor) (p : ℕ) (t : Token) (body : Scalar SymbolAt)
+    → Annotations (in_sexp (innermost kinds)) c notes d → Room limits (length kinds) c → Tok (in_sexp (innermost kinds)) d t p e
+    → step_of (take limits kinds top (a_value field notes) p t e) ≡ reading.scalar_given kinds top field notes p body e
+    → Reads limits (state kinds top (a_value field []) c) (value_items (top_of kinds top notes p) field notes p (value.scalar body)) (state kinds (top_of kinds top notes p) (behind_member (innermost kinds)) e)
+scalar-read limits kinds top field notes c d e p t body ns room tok taken =
+    notes-read limits kinds top field c d notes ns room
+    ∙ reads-gives limits (state kinds top (a_value field notes) d) (state kinds (top_of kinds top notes p) (behind_member (innermost kinds)) e)
+    (item_of (top_of kinds top notes p) field notes p (value.whole body))
+    (step-token limits kinds top (a_value field notes) d t p e (value-suits field notes t) (room-token limits (length kinds) d (room-later limits (length kinds) c d (notes-advance ns) room)) tok ∙ taken)
+
+-- the end of a container behind its members
+end-suits-behind : (k : Kind) (full : Bool) → Suits (wants_behind (Some k) full) (end k)
+end-suits-behind k true = mark-suits (end k) refl
+end-suits-behind kind.List false = value-suits None [] (end kind.List)
+end-suits-behind kind.Sexp false = value-suits None [] (end kind.Sexp)
+end-suits-behind kind.Struct false = end-suits (end kind.Struct) refl
+
+closed-is : (kinds : List Kind) (top : ℕ) (k : Kind) (q : ℕ) (c : Cursor) → step_of (part q (reading.closed (k ∷ kinds) top k q c))
+    ≡ Gives (item_of top None [] q value.end) (state kinds top (behind_member (innermost kinds)) c)
+closed-is kinds top kind.List q c = refl
+closed-is kinds top kind.Sexp q c = refl
+closed-is kinds top kind.Struct q c = refl
+
+end-taken : (limits : Limits) (kinds : List Kind) (top : ℕ) (k : Kind) (full : Bool) (q : ℕ) (c : Cursor) → step_of (take limits (k ∷ kinds) top (wants_behind (Some k) full) q (end k) c)
+    ≡ Gives (item_of top None [] q value.end) (state kinds top (behind_member (innermost kinds)) c)
+unfolding take
+end-taken limits kinds top k true q c = closed-is kinds top k q c
+end-taken limits kinds top kind.List false q c = refl
+end-taken limits kinds top kind.Sexp false q c = refl
+end-taken limits kinds top kind.Struct false q c = refl
+
+module _ (limits : Limits) where
+  mutual
+    unfolding take
+
+    value-read : (kinds : List Kind) (top : ℕ) (field : Option SymbolAt) (k : Option Kind) (c e : Cursor) (notes : List SymbolAt) (p : ℕ) (v : Value SymbolAt ℕ) → innermost kinds ≡ k
+        → Txt k c notes p v e → Room limits (length kinds) c
+        → Reads limits (state kinds top (a_value field []) c) (value_items (top_of kinds top notes p) field notes p v) (state kinds (top_of kinds top notes p) (behind_member (innermost kinds)) e)
+    value-read kinds top field _ c e _ p _ is (Txt.of_plain {d = d} {notes = notes} {v = v} ns tok) room =
+        scalar-read limits kinds top field notes c d e p (plain v) v (subst (λ k. Annotations (in_sexp k) c notes d) (sym is) ns) room
+        (subst (λ k. Tok (in_sexp k) d (plain v) p e) (sym is) tok) refl
+    value-read kinds top field _ c e _ p _ is (Txt.of_text {d = d} {notes = notes} {bytes = bytes} ns tok) room =
+        scalar-read limits kinds top field notes c d e p (text bytes) (value.string bytes) (subst (λ k. Annotations (in_sexp k) c notes d) (sym is) ns) room
+        (subst (λ k. Tok (in_sexp k) d (text bytes) p e) (sym is) tok) refl
+    value-read kinds top field _ c e _ p _ is (Txt.of_operator {d = d} {notes = notes} {bytes = bytes} ns tok) room =
+        scalar-read limits kinds top field notes c d e p (operator bytes) (value.symbol (at (value.Text bytes) p)) (subst (λ k. Annotations (in_sexp k) c notes d) (sym is) ns) room
+        (subst (λ k. Tok (in_sexp k) d (operator bytes) p e) (sym is) tok) refl
+    value-read kinds top field _ c e _ p _ is (Txt.of_symbol {k = k} {d = d} {notes = notes} {quoted = quoted} {symbol = symbol} ns tok alone no_version) room =
+        scalar-read limits kinds top field notes c d e p (name quoted symbol) (value.symbol (at symbol p)) (subst (λ k. Annotations (in_sexp k) c notes d) (sym is) ns) room
+        (subst (λ k. Tok (in_sexp k) d (name quoted symbol) p e) (sym is) tok)
+        (ap (λ o. step_of (part p (reading.symbol_given limits kinds top field notes quoted (at symbol p) e o))) (ap (λ k. behind_colons (in_sexp k) e) is ∙ colons-none (in_sexp k) e alone)
+        ∙ ap (λ told. step_of (part p (reading.value_or_version kinds top field notes (at symbol p) e told))) (ap (λ k. tells_version k notes quoted symbol) is ∙ version-none k notes quoted symbol no_version))
+    value-read kinds top field _ c g _ p _ is (Txt.of_members {d = d} {e = e} {f = f} {notes = notes} {q = q} {j = j} {members = members} {full = full} ns tok ins tok') room =
+        let top' : ℕ = top_of kinds top notes p in
+        let room_d = room-later limits (length kinds) c d (notes-advance ns) room in
+        let room_e = room-inside limits (length kinds) d e (tok-advances _ _ _ _ _ tok) room_d in
+        let room_f = room-later limits (suc (length kinds)) e f (inside-advances ins) room_e in
+        let ns' = subst (λ k. Annotations (in_sexp k) c notes d) (sym is) ns in
+        let begun = step-token limits kinds top (a_value field notes) d (begin j) p e (value-suits field notes (begin j)) (room-token limits (length kinds) d room_d) (subst (λ k. Tok (in_sexp k) d (begin j) p e) (sym is) tok)
+        ∙ not-refused p (nat_le limits.depth (length kinds)) DepthLimit (Ok (Gives (item_of top' field notes p (value.begin j)) (state (j ∷ kinds) top' (member_of j) e))) (room-depth limits (length kinds) d e (tok-advances _ _ _ _ _ tok) room_d) in
+        let first = notes-read limits kinds top field c d notes ns' room
+        ∙ reads-gives limits (state kinds top (a_value field notes) d) (state (j ∷ kinds) top' (member_of j) e) (item_of top' field notes p (value.begin j)) begun in
+        let inner = members-read kinds top' j e f members full ins room_e in
+        let last = reads-gives limits (state (j ∷ kinds) top' (wants_behind (Some j) full) f) (state kinds top' (behind_member (innermost kinds)) g) (item_of top' None [] q value.end)
+        (step-token limits (j ∷ kinds) top' (wants_behind (Some j) full) f (end j) q g (end-suits-behind j full) (room-token limits (suc (length kinds)) f room_f) tok' ∙ end-taken limits kinds top' j full q g) in
+        first ∙ ap (More (item_of top' field notes p (value.begin j)))
+        (reads-then limits (state (j ∷ kinds) top' (member_of j) e) (state (j ∷ kinds) top' (wants_behind (Some j) full) f) (state kinds top' (behind_member (innermost kinds)) g)
+        (member_items top' members) (item_of top' None [] q value.end ∷ []) inner last)
+
+    members-read : (kinds : List Kind) (top : ℕ) (j : Kind) (c d : Cursor) (members : Members SymbolAt ℕ) (full : Bool) → Inside j c members full d
+        → Room limits (suc (length kinds)) c
+        → Reads limits (state (j ∷ kinds) top (member_of j) c) (member_items top members) (state (j ∷ kinds) top (wants_behind (Some j) full) d)
+    members-read kinds top j c _ _ _ Inside.nothing room = refl
+    members-read kinds top j c f _ _ (Inside.with_value {d = d} {e = e} {members = members} {field = field} {notes = notes} {p = p} {v = v} ins field_is txt) room =
+        let before = members-read kinds top j c d members false ins room in
+        let room_d = room-later limits (suc (length kinds)) c d (inside-advances ins) room in
+        let room_e = room-later limits (suc (length kinds)) d e (field-advances field_is) room_d in
+        let name = field-read limits (j ∷ kinds) top (Some j) field d e refl field_is room_d in
+        let one = value-read (j ∷ kinds) top field (Some j) e f notes p v refl txt room_e in
+        let all = reads-then limits (state (j ∷ kinds) top (member_of j) c) (state (j ∷ kinds) top (at_member (Some j)) d) (state (j ∷ kinds) top (behind_member (Some j)) f)
+        (member_items top members) (value_items top field notes p v) before (name ∙ one) in
+        subst (λ wants. Reads limits (state (j ∷ kinds) top (member_of j) c) (member_items top members ++ value_items top field notes p v) (state (j ∷ kinds) top wants f)) (same-wants j) all
+    members-read kinds top j c e _ _ (Inside.with_comma {d = d} {members = members} {p = p} ins tok) room =
+        let before = members-read kinds top j c d members true ins room in
+        let comma_read = reads-goes_on limits (state (j ∷ kinds) top a_separator d) (state (j ∷ kinds) top (at_member (Some j)) e)
+        (step-token limits (j ∷ kinds) top a_separator d comma p e (mark-suits comma refl) (room-token limits (suc (length kinds)) d (room-later limits (suc (length kinds)) c d (inside-advances ins) room)) tok) in
+        before ∙ ap (behind (member_items top members)) comma_read
+
+-- ---- the top level, and paths
+
+top_items-snoc : (tops : List (Top SymbolAt ℕ)) (t : Top SymbolAt ℕ) → top_items (tops ++ t ∷ []) ≡ top_items tops ++ value.one_top t
+top_items-snoc [] t = append-nil (value.one_top t)
+top_items-snoc (u ∷ tops) t = ap (λ items. value.one_top u ++ items) (top_items-snoc tops t) ∙ sym (append_assoc (value.one_top u) (top_items tops) (value.one_top t))
+
+marker-taken : (top p : ℕ) (e : Cursor) → step_of (part p (reading.value_or_version [] top None [] (at (value.Text version_word) p) e (tells_version None [] false (value.Text version_word))))
+    ≡ Gives (item_of p None [] p value.marker) (state [] p (a_value None []) e)
+unfolding tells_version cut_at
+marker-taken top p e = refl
+
+-- where the top-level value began that was read last
+abbrev TopsRead : Limits → List ℕ → List (Top SymbolAt ℕ) → Cursor → Type 0
+TopsRead limits bytes tops c = (top : ℕ) × Reads limits (start bytes) (top_items tops) (state [] top (a_value None []) c)
+
+-- limits that allow the bytes have room for what is left of them
+all-room : (limits : Limits) (bytes : List ℕ) (depth : ℕ) (c : Cursor) → Allows limits bytes → depth + length c.rest ≤ length bytes → Room limits depth c
+all-room limits bytes depth c allows le = let deep = allows.0 in let wide = allows.1 in (omega (arith, le, deep), omega (arith, le, wide))
+
+module _ (limits : Limits) (bytes : List ℕ) (allows : Allows limits bytes) where
+  tops-read : (c : Cursor) (tops : List (Top SymbolAt ℕ)) → Tops (start_of bytes) tops c → TopsRead limits bytes tops c
+  unfolding take
+  tops-read _ _ Tops.nothing = (0, refl)
+  tops-read e _ (Tops.marker {tops = tops} {d = d} {p = p} before tok alone) =
+      let front = tops-read d tops before in
+      let room = all-room limits bytes 0 d allows (let le = tops-advance before in omega (arith, le)) in
+      let one = step-token limits [] front.0 (a_value None []) d (name false (value.Text version_word)) p e (value-suits None [] (name false (value.Text version_word))) (room-token limits 0 d room) tok
+      ∙ ap (λ o. step_of (part p (reading.symbol_given limits [] front.0 None [] false (at (value.Text version_word) p) e o))) (colons-none false e alone)
+      ∙ marker-taken front.0 p e in
+      let all = reads-then limits (start bytes) (state [] front.0 (a_value None []) d) (state [] p (a_value None []) e) (top_items tops) (item_of p None [] p value.marker ∷ [])
+      front.1 (reads-gives limits (state [] front.0 (a_value None []) d) (state [] p (a_value None []) e) (item_of p None [] p value.marker) one) in
+      (p, subst (λ items. Reads limits (start bytes) items (state [] p (a_value None []) e)) (sym (top_items-snoc tops (value.version p))) all)
+  tops-read e _ (Tops.with_value {tops = tops} {d = d} {notes = notes} {p = p} {v = v} before txt) =
+      let front = tops-read d tops before in
+      let room = all-room limits bytes 0 d allows (let le = tops-advance before in omega (arith, le)) in
+      let all = reads-then limits (start bytes) (state [] front.0 (a_value None []) d) (state [] (first_place notes p) (a_value None []) e) (top_items tops)
+      (value_items (first_place notes p) None notes p v) front.1 (value-read limits [] front.0 None None d e notes p v refl txt room) in
+      (first_place notes p, subst (λ items. Reads limits (start bytes) items (state [] (first_place notes p) (a_value None []) e)) (sym (top_items-snoc tops (value.tree (first_place notes p) notes p v))) all)
+
+open-top : {b c : Cursor} (path : Path SymbolAt ℕ) (kinds : List Kind) (full : Bool) (top : ℕ) (field : Option SymbolAt) (notes : List SymbolAt) (p : ℕ) (k : Kind) (members : Members SymbolAt ℕ)
+    → Spells b path kinds full c → IsTop path top → IsTop (open_in path (first_place notes p) field notes p k members) (top_of kinds top notes p)
+open-top _ _ _ top field notes p j members (Spells.top t) is = refl
+open-top _ _ _ top field notes p j members (Spells.inside (closed tops) g own q k ms s around ns tok ins) is = is
+open-top _ _ _ top field notes p j members (Spells.inside (opened tops first nest) g own q k ms s around ns tok ins) is = is
+
+open-items : (path : Path SymbolAt ℕ) (q top : ℕ) (field : Option SymbolAt) (notes : List SymbolAt) (p : ℕ) (k : Kind) (members : Members SymbolAt ℕ) → Fits path q top field
+    → path_items (open_in path q field notes p k members) ≡ path_items path ++ (begin_item top field notes p k ∷ member_items top members)
+open-items (closed tops) q top field notes p k members fits = rw (← fits.0, fits.1) refl
+open-items (opened tops first nest) q top field notes p k members fits =
+    rw (← fits) (sym (append_assoc (top_items tops) (nest_items first nest) (begin_item first field notes p k ∷ member_items first members)))
+
+-- where the open top-level value began, or the last
+record PathRead (limits : Limits) (bytes : List ℕ) (path : Path SymbolAt ℕ) (kinds : List Kind) (full : Bool) (c : Cursor) : Type 0 where
+  top : ℕ
+  is_top : IsTop path top
+  read : Reads limits (start bytes) (path_items path) (state kinds top (wants_behind (innermost kinds) full) c)
+
+module _ (limits : Limits) (bytes : List ℕ) (allows : Allows limits bytes) where
+  path-read : (c : Cursor) (path : Path SymbolAt ℕ) (kinds : List Kind) (full : Bool) → Spells (start_of bytes) path kinds full c
+      → PathRead limits bytes path kinds full c
+  unfolding take
+  path-read c _ _ _ (Spells.top {tops = tops} t) = let all = tops-read limits bytes allows c tops t in record { top = all.0; is_top = tt; read = all.1 }
+  path-read g _ _ _ (Spells.inside path field notes p k members {kinds = kinds} {c = c} {d = d} {e = e} {f = f} {full = full} s f_is ns tok ins) =
+      let room_c = all-room limits bytes (length kinds) c allows (spells-advance s) in
+      let room_d = room-later limits (length kinds) c d (field-advances f_is) room_c in
+      let room_e = room-later limits (length kinds) d e (notes-advance ns) room_d in
+      let room_f = room-inside limits (length kinds) e f (tok-advances _ _ _ _ _ tok) room_e in
+      let before = path-read c path kinds false s in
+      let top' : ℕ = top_of kinds before.top notes p in
+      let begun = step-token limits kinds before.top (a_value field notes) e (begin k) p f (value-suits field notes (begin k)) (room-token limits (length kinds) e room_e) tok
+      ∙ not-refused p (nat_le limits.depth (length kinds)) DepthLimit (Ok (Gives (item_of top' field notes p (value.begin k)) (state (k ∷ kinds) top' (member_of k) f))) (room-depth limits (length kinds) e f (tok-advances _ _ _ _ _ tok) room_e) in
+      let first = field-read limits kinds before.top (innermost kinds) field c d refl f_is room_c ∙ notes-read limits kinds before.top field d e notes ns room_d
+      ∙ reads-gives limits (state kinds before.top (a_value field notes) e) (state (k ∷ kinds) top' (member_of k) f) (item_of top' field notes p (value.begin k)) begun in
+      let inner = members-read limits kinds top' k f g members full ins room_f in
+      let all = reads-then limits (start bytes) (state kinds before.top (at_member (innermost kinds)) c) (state (k ∷ kinds) top' (wants_behind (Some k) full) g) (path_items path)
+      (item_of top' field notes p (value.begin k) ∷ member_items top' members) before.read (first ∙ ap (More (item_of top' field notes p (value.begin k))) inner) in
+      record {
+        top = top';
+        is_top = open-top path kinds false before.top field notes p k members s before.is_top;
+        read = subst (λ items. Reads limits (start bytes) items (state (k ∷ kinds) top' (wants_behind (Some k) full) g))
+            (sym (open-items path (first_place notes p) top' field notes p k members (fits path kinds false before.top field notes p s before.is_top f_is))) all;
+      }
+
+reading-read_from : (limits : Limits) (bytes : List ℕ) → reading.reading limits bytes ≡ read_from limits (start bytes)
+unfolding read_from reading.reading
+reading-read_from limits bytes = refl
+
+pub complete : Complete
+complete limits bytes q path allows is =
+    let all = path-read limits bytes allows is.behind path is.kinds is.full is.spells in
+    (read_from limits (state is.kinds all.top (wants_behind (innermost is.kinds) is.full) is.behind), reading-read_from limits bytes ∙ all.read)
+
+ends-step : (limits : Limits) (top : ℕ) (c e : Cursor) → blanks c ≡ Ok e → e.rest ≡ [] → step limits (state [] top (a_value None []) c) ≡ Ends
+unfolding step reading.part_at
+ends-step limits top c e blank none =
+    ap step_of (ap (λ o. o >>= (λ b. reading.part_behind limits (state [] top (a_value None []) c) b b.rest)) blank ∙ ap (reading.part_behind limits (state [] top (a_value None []) c) e) none)
+
+pub streams_are_read : StreamsAreRead
+streams_are_read limits bytes tops allows is =
+    let all = tops-read limits bytes allows is.last tops is.spells in
+    reading-read_from limits bytes ∙ all.1 ∙ ap (behind (top_items tops)) (read_from-ends limits (state [] all.0 (a_value None []) is.last) (ends-step limits all.0 is.last is.end is.blank is.nothing_left))

@@ -1,0 +1,16 @@
+mod Growing
+mod Steps
+mod Shrinking
+mod Falling
+mod Sound
+mod Tokens
+mod Advancing
+mod Complete
+mod TokenCuts
+mod Counting
+mod One
+mod Meaning
+mod Blobs
+mod Strings
+mod Narrow
+mod Refused

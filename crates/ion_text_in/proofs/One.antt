@@ -1,0 +1,44 @@
+-- One text has one path up to a place, and is one stream.
+use Rattle.std.proofs.Common.{◌≡◌, ℕ, ◌*◌, ◌⊎◌, inl, inr, List, [], ◌∷◌, ◌++◌, length, refl, sym, ap, ◌∙◌, append-nil, arith}
+use Rattle.ion_meter.specs.declared.limits.Limits.{Limits}
+use Rattle.ion_value.specs.Value.{PlacedItem, top_items}
+use Rattle.ion_value.specs.Path.{closed, path_items}
+use Rattle.ion_value.specs.Reading.{Finished, items_of}
+use Rattle.ion_value.proofs.Readings.{items_of-behind}
+use Rattle.ion_value.proofs.Paths.{same_path}
+use Rattle.ion_text_in.specs.Laws.{Allows, IsBegun, OnePath, OneStream}
+use Rattle.ion_text_in.proofs.Complete.{complete, streams_are_read}
+
+-- limits that allow an input
+abbrev roomy : List ℕ → Limits
+roomy bytes = record { depth = length bytes; scalar = 16 * length bytes; symbols = 0; value = 0; input = 0 }
+
+allowed : (bytes : List ℕ) → Allows (roomy bytes) bytes
+allowed bytes = (omega arith, omega arith)
+
+is-begun-more : (item : PlacedItem) (xs ys : List PlacedItem) → IsBegun xs ys → IsBegun (item ∷ xs) (item ∷ ys)
+is-begun-more item xs ys begun = (begun.0, ap (λ l. item ∷ l) begun.1)
+
+fronts : (xs ys us vs : List PlacedItem) → xs ++ us ≡ ys ++ vs → IsBegun xs ys ⊎ IsBegun ys xs
+fronts [] ys us vs e = inl (ys, refl)
+fronts (x ∷ xs) [] us vs e = inr (x ∷ xs, refl)
+fronts (x ∷ xs) (y ∷ ys) us vs e =
+    let first : x ≡ y = cc e in
+    let rest : xs ++ us ≡ ys ++ vs = cc e in
+    rw first (elim (fronts xs ys us vs rest) [ inl begun ↦ inl (is-begun-more y xs ys begun) | inr begun ↦ inr (is-begun-more y ys xs begun) ])
+
+pub one_path : OnePath
+one_path bytes q r a b is_a is_b =
+    let first = complete (roomy bytes) bytes q a (allowed bytes) is_a in
+    let second = complete (roomy bytes) bytes r b (allowed bytes) is_b in
+    fronts (path_items a) (path_items b) (items_of first.0) (items_of second.0)
+    (sym (items_of-behind (path_items a) first.0) ∙ ap items_of (sym first.1 ∙ second.1) ∙ items_of-behind (path_items b) second.0)
+
+pub one_stream : OneStream
+one_stream bytes a b is_a is_b =
+    let first = streams_are_read (roomy bytes) bytes a (allowed bytes) is_a in
+    let second = streams_are_read (roomy bytes) bytes b (allowed bytes) is_b in
+    let items : top_items a ++ [] ≡ top_items b ++ [] =
+    sym (items_of-behind (top_items a) Finished) ∙ ap items_of (sym first ∙ second) ∙ items_of-behind (top_items b) Finished in
+    let path : closed a ≡ closed b = same_path (closed a) (closed b) (sym (append-nil (top_items a)) ∙ items ∙ append-nil (top_items b)) in
+    cc path

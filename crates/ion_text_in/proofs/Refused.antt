@@ -1,0 +1,35 @@
+-- Where a reading stops, and not at a limit, the bytes are no stream.
+use Rattle.std.proofs.Common.{◌≡◌, ℕ, ◌+◌, ◌*◌, inl, inr, List, [], ◌∷◌, length, refl, sym, ap, ◌∙◌, arith, subst}
+use Rattle.ion_meter.specs.declared.fault.Reason.{Reason}
+use Rattle.ion_meter.specs.declared.limits.Limits.{Limits}
+use Rattle.ion_value.specs.Value.{PlacedItem, top_items}
+use Rattle.ion_value.specs.Reading.{Reading, Finished, Stopped, behind}
+use Rattle.ion_value.specs.Path.{path_items}
+use Rattle.ion_text_in.specs.Positions.{State}
+use Rattle.ion_text_in.specs.Laws.{ending_of, IsLimit, Passes, RightlyRefused}
+use Rattle.ion_text_in.proofs.Narrow.{narrow}
+use Rattle.ion_text_in.proofs.Complete.{streams_are_read}
+
+-- what passes a limit is a limit's fault
+passes-limit : (limits : Limits) (s : State) (place : ℕ) (reason : Reason) → Passes limits s place reason → IsLimit reason
+passes-limit limits s place _ (Passes.token is) = inr (inl refl)
+passes-limit limits s place _ (Passes.container k d tok full) = inl refl
+passes-limit limits s place _ (Passes.annotations field notes quoted symbol q d e are tok after more) = inr (inr refl)
+
+ending_of-behind : (items : List PlacedItem) (r : Reading) → ending_of (behind items r) ≡ ending_of r
+ending_of-behind [] r = refl
+ending_of-behind (item ∷ items) r = ending_of-behind items r
+
+pub rightly_refused : RightlyRefused
+rightly_refused limits bytes reason place tops stops no_limit stream =
+    let wide : Limits = record { depth = limits.depth + length bytes; scalar = limits.scalar + 16 * length bytes; symbols = 0; value = 0; input = 0 } in
+    let read = streams_are_read wide bytes tops (omega arith, omega arith) stream in
+    elim (narrow limits wide bytes (record { depth = omega arith; scalar = omega arith })) [
+      | inl same ↦
+          let ends : Stopped reason place ≡ Finished = sym stops ∙ ap ending_of (same ∙ read) ∙ ending_of-behind (top_items tops) Finished in
+          absurd (cc ends)
+      | inr cut ↦
+          let ends : Stopped cut.reason cut.place ≡ Stopped reason place = sym (ending_of-behind (path_items cut.path) (Stopped cut.reason cut.place)) ∙ sym (ap ending_of cut.short) ∙ stops in
+          let same : cut.reason ≡ reason = cc ends in
+          no_limit (subst IsLimit same (passes-limit limits cut.state cut.place cut.reason cut.passes))
+    ]

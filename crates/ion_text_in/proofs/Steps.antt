@@ -1,0 +1,468 @@
+-- Each step of a reading leads from a path of the grammar to the path with the item that it gives.
+use Rattle.std.proofs.Common.{◌≡◌, ◌==◌, ℕ, Bool, true, false, not, List, [], ◌∷◌, ◌++◌, Option, Some, None, Result, Ok, Err, nat_lt, nat_le, length, sum_by, refl, sym, ap, subst, ◌∙◌}
+use Rattle.std.proofs.lemmas.Bool.{false≢true, eqb-true, and_parts}
+use Rattle.std.specs.Str.{bytes_eq}
+use Rattle.ion_meter.specs.declared.fault.Reason.{Reason}
+use Rattle.ion_meter.specs.declared.fault.Reason.TheVariants.{BadVersion, DepthLimit, AnnotationLimit}
+use Rattle.ion_meter.specs.declared.limits.Limits.{Limits}
+use Rattle.ion_value.specs.declared.ion_type.Kind.{Kind}
+use Rattle.ion_value.specs.declared.ion_type.Kind.TheVariants as kind
+use Rattle.ion_value.specs.Name.{is_version, version_word}
+use Rattle.ion_value.specs.Value as value
+use Rattle.ion_value.specs.Value.{Symbol, SymbolAt, Scalar, Value, Members, PlacedItem}
+use Rattle.ion_value.specs.Path.{Path, closed, opened, Nest, outermost, inner, path_items}
+use Rattle.ion_value.specs.Reading.{Step, Gives, GoesOn}
+use Rattle.ion_meter.specs.Sources.{Cursor, skip}
+use Rattle.ion_value.specs.Parts.{Placed, part, refuse, ◌>>=◌, ◌>>◌}
+use Rattle.ion_text_in.specs.Blanks.{blanks}
+use Rattle.ion_text_in.specs.Token.{First, a_word, a_quoted, a_short, a_long, a_run, a_lob, an_operator, an_infinity, a_begin, an_end, a_comma, a_colon, two_colons, no_token, first_at, Token, plain, name, text, operator, no_number, begin, end, comma, colon, colons, token_of, next_token}
+use Rattle.ion_text_in.specs.Reading as reading
+use Rattle.ion_text_in.specs.Positions.{Wants, a_value, a_field, a_separator, State, innermost, in_sexp, has_commas, at, first_place}
+use Rattle.ion_text_in.specs.Reading.{at_member, behind_member, may_come, top_of, item_of, tells_version, is_marker, behind_colons, step, step_of, take, part_at}
+use Rattle.ion_text_in.specs.Grammar.{Tok, NoColons, IsVersionWord, bare, Annotations, Field, Txt, start_of}
+use Rattle.ion_text_in.specs.Paths.{open_in, Spells, Begun, at_separator, at_field, in_item, IsTop, At, Follows}
+use Rattle.ion_text_in.proofs.TokenCuts.{token-free}
+use Rattle.ion_text_in.proofs.Tokens.{colons-stand}
+use Rattle.ion_text_in.proofs.Growing.{Fits, put_in, mark_in, end_in, path_items-put_in, path_items-mark_in, path_items-open_in, path_items-end_in, Spells-value, Spells-marker, Spells-comma, Spells-begin, Spells-end}
+
+-- ---- tokens as the reading cuts them
+
+-- a token of the kind that its first bytes tell stands behind the blanks
+pub tok-read : (limit : Option ℕ) (sexp : Bool) (c b d : Cursor) (t : Token) → blanks c ≡ Ok b → token_of limit (first_at sexp b.rest) b ≡ Ok (t, d) → Tok sexp c t b.place d
+unfolding next_token
+tok-read limit sexp c b d t blank token = let free = token-free limit (first_at sexp b.rest) b (t, d) token in rw (blank, free) refl
+
+pub colon-tok : (c b : Cursor) → blanks c ≡ Ok b → first_at false b.rest ≡ a_colon → Tok false c colon b.place (skip 1 b)
+unfolding next_token token_of
+colon-tok c b blank first = rw (blank, first) refl
+
+pub colons-tok : (sexp : Bool) (c b : Cursor) → blanks c ≡ Ok b → first_at sexp b.rest ≡ two_colons → Tok sexp c colons b.place (skip 2 b)
+unfolding next_token token_of
+colons-tok sexp c b blank first = rw (blank, first) refl
+
+-- the two colons that a reading looks for
+abbrev Colons : Bool → Cursor → Cursor → Type 0
+Colons sexp c d = (q : ℕ) × Tok sexp c colons q d
+
+colons-first : (sexp : Bool) (c b d : Cursor) (first : First) → blanks c ≡ Ok b → first_at sexp b.rest ≡ first → reading.colons_at first b ≡ Some d → Colons sexp c d
+colons-first sexp c b d a_run blank is found = absurd (cc found)
+colons-first sexp c b d a_word blank is found = absurd (cc found)
+colons-first sexp c b d a_quoted blank is found = absurd (cc found)
+colons-first sexp c b d a_short blank is found = absurd (cc found)
+colons-first sexp c b d a_long blank is found = absurd (cc found)
+colons-first sexp c b d a_lob blank is found = absurd (cc found)
+colons-first sexp c b d an_operator blank is found = absurd (cc found)
+colons-first sexp c b d an_infinity blank is found = absurd (cc found)
+colons-first sexp c b d (a_begin k) blank is found = absurd (cc found)
+colons-first sexp c b d (an_end k) blank is found = absurd (cc found)
+colons-first sexp c b d a_comma blank is found = absurd (cc found)
+colons-first sexp c b d a_colon blank is found = absurd (cc found)
+colons-first sexp c b d two_colons blank is found =
+    let same : skip 2 b ≡ d = cc found in
+    (b.place, subst (λ d. Tok sexp c colons b.place d) same (colons-tok sexp c b blank is))
+colons-first sexp c b d no_token blank is found = absurd (cc found)
+
+colons-blank : (sexp : Bool) (c d : Cursor) (o : Placed Cursor) → blanks c ≡ o → reading.colons_behind sexp o ≡ Some d → Colons sexp c d
+colons-blank sexp c d (Ok b) blank found = colons-first sexp c b d (first_at sexp b.rest) blank refl found
+colons-blank sexp c d (Err fault) blank found = absurd (cc found)
+
+pub colons-behind : (sexp : Bool) (c d : Cursor) → behind_colons sexp c ≡ Some d → Colons sexp c d
+colons-behind sexp c d found = colons-blank sexp c d (blanks c) refl found
+
+-- the grammar's words for what the reading tests behind and of a symbol
+no-colons : (sexp : Bool) (c : Cursor) → behind_colons sexp c ≡ None → NoColons sexp c
+no-colons sexp c none p d tok = absurd (cc (sym none ∙ colons-stand sexp c d p tok))
+
+pub colons-none : (sexp : Bool) (c : Cursor) → NoColons sexp c → behind_colons sexp c ≡ None
+colons-none sexp c none = from (behind_colons sexp c) refl
+  where
+    from : (o : Option Cursor) → behind_colons sexp c ≡ o → o ≡ None
+    from None is = refl
+    from (Some d) is = let found = colons-behind sexp c d is in absurd (none found.0 d found.1)
+
+no-version : (k : Option Kind) (notes : List SymbolAt) (quoted : Bool) (symbol : Symbol) → tells_version k notes quoted symbol ≡ false
+    → IsVersionWord k notes quoted symbol → ⊥
+unfolding tells_version
+no-version _ _ _ _ none (bare is) = false≢true (sym none ∙ is)
+
+pub version-none : (k : Option Kind) (notes : List SymbolAt) (quoted : Bool) (symbol : Symbol) → (IsVersionWord k notes quoted symbol → ⊥)
+    → tells_version k notes quoted symbol ≡ false
+unfolding tells_version
+version-none (Some k) notes quoted symbol none = refl
+version-none None (a ∷ notes) quoted symbol none = refl
+version-none None [] true symbol none = refl
+version-none None [] false (value.Id id) none = refl
+version-none None [] false (value.Text word) none = from (is_version word) refl
+  where
+    from : (b : Bool) → is_version word ≡ b → b ≡ false
+    from true is = absurd (none (bare is))
+    from false is = refl
+
+-- ---- what begins behind a path
+
+pub begun-member : (c : Cursor) (kinds : List Kind) → Begun c kinds false (at_member (innermost kinds)) c
+begun-member c [] = in_item Field.at_top Annotations.nothing
+begun-member c (kind.List ∷ kinds) = in_item Field.in_list Annotations.nothing
+begun-member c (kind.Sexp ∷ kinds) = in_item Field.in_a_sexp Annotations.nothing
+begun-member c (kind.Struct ∷ kinds) = at_field
+
+begun-behind : (c : Cursor) (kinds : List Kind) → Begun c kinds (has_commas (innermost kinds)) (behind_member (innermost kinds)) c
+begun-behind c [] = in_item Field.at_top Annotations.nothing
+begun-behind c (kind.List ∷ kinds) = at_separator
+begun-behind c (kind.Sexp ∷ kinds) = in_item Field.in_a_sexp Annotations.nothing
+begun-behind c (kind.Struct ∷ kinds) = at_separator
+
+-- ---- the places of top-level values
+
+pub fits : {b c d : Cursor} (path : Path SymbolAt ℕ) (kinds : List Kind) (full : Bool) (top : ℕ) (field : Option SymbolAt) (notes : List SymbolAt) (p : ℕ)
+    → Spells b path kinds full c → IsTop path top → Field (innermost kinds) c field d → Fits path (first_place notes p) (top_of kinds top notes p) field
+fits _ _ _ top field notes p (Spells.top t) is Field.at_top = (refl, refl)
+fits _ _ _ top field notes p (Spells.inside (closed tops) g own q k members s around ns tok ins) is f = is
+fits _ _ _ top field notes p (Spells.inside (opened tops first nest) g own q k members s around ns tok ins) is f = is
+
+put_in-top : {b c : Cursor} (path : Path SymbolAt ℕ) (kinds : List Kind) (full : Bool) (top : ℕ) (field : Option SymbolAt) (notes : List SymbolAt) (p : ℕ) (v : Value SymbolAt ℕ)
+    → Spells b path kinds full c → IsTop path top → IsTop (put_in path (first_place notes p) field notes p v) (top_of kinds top notes p)
+put_in-top _ _ _ top field notes p v (Spells.top t) is = tt
+put_in-top _ _ _ top field notes p v (Spells.inside (closed tops) g own q k members s around ns tok ins) is = is
+put_in-top _ _ _ top field notes p v (Spells.inside (opened tops first nest) g own q k members s around ns tok ins) is = is
+
+open_in-top : {b c : Cursor} (path : Path SymbolAt ℕ) (kinds : List Kind) (full : Bool) (top : ℕ) (field : Option SymbolAt) (notes : List SymbolAt) (p : ℕ) (k : Kind)
+    → Spells b path kinds full c → IsTop path top → IsTop (open_in path (first_place notes p) field notes p k value.nothing) (top_of kinds top notes p)
+open_in-top _ _ _ top field notes p j (Spells.top t) is = refl
+open_in-top _ _ _ top field notes p j (Spells.inside (closed tops) g own q k members s around ns tok ins) is = is
+open_in-top _ _ _ top field notes p j (Spells.inside (opened tops first nest) g own q k members s around ns tok ins) is = is
+
+nest_end-top : (tops : List (value.Top SymbolAt ℕ)) (first : ℕ) (nest : Nest SymbolAt ℕ) (q top : ℕ) → first ≡ top → IsTop (end_in (opened tops first nest) q) top
+nest_end-top tops first (outermost notes p k members) q top is = tt
+nest_end-top tops first (inner around field notes p k members) q top is = is
+
+-- the path behind a container's end, and its items
+pub record EndsIn (path : Path SymbolAt ℕ) (top q : ℕ) : Type 0 where
+  pub top_is : IsTop (end_in path q) top
+  pub items : path_items (end_in path q) ≡ path_items path ++ item_of top None [] q value.end ∷ []
+
+ends-nest : (tops : List (value.Top SymbolAt ℕ)) (first : ℕ) (nest : Nest SymbolAt ℕ) (top q : ℕ) → first ≡ top → EndsIn (opened tops first nest) top q
+ends-nest tops first nest top q is = record { top_is = nest_end-top tops first nest q top is; items = subst (λ top. path_items (end_in (opened tops first nest) q) ≡ path_items (opened tops first nest) ++ item_of top None [] q value.end ∷ []) is (path_items-end_in tops first nest q) }
+
+ends-in : {b c : Cursor} (path : Path SymbolAt ℕ) (kinds : List Kind) (full : Bool) (j : Kind) (js : List Kind) (top q : ℕ)
+    → kinds ≡ j ∷ js → Spells b path kinds full c → IsTop path top → EndsIn path top q
+ends-in _ _ _ j js top q are (Spells.top t) is = absurd (cc are)
+ends-in _ _ _ j js top q are (Spells.inside (closed tops) g own p k members s around ns tok ins) is = ends-nest tops (first_place own p) (outermost own p k members) top q is
+ends-in _ _ _ j js top q are (Spells.inside (opened tops first nest) g own p k members s around ns tok ins) is = ends-nest tops first (inner nest g own p k members) top q is
+
+not_snoc : (notes : List SymbolAt) (a : SymbolAt) → notes ++ a ∷ [] ≡ [] → ⊥
+not_snoc [] a e = cc e
+not_snoc (b ∷ notes) a e = cc e
+
+pub notes-none : {sexp : Bool} {c d : Cursor} {notes : List SymbolAt} → Annotations sexp c notes d → notes ≡ [] → d ≡ c
+notes-none Annotations.nothing e = refl
+notes-none (Annotations.then {notes = ns} {p = p} {symbol = x} before tok after) e = absurd (not_snoc ns (at x p) e)
+
+pub field-none : {k : Option Kind} {c d : Cursor} {field : Option SymbolAt} → Field k c field d → field ≡ None → d ≡ c
+field-none Field.at_top e = refl
+field-none Field.in_list e = refl
+field-none Field.in_a_sexp e = refl
+field-none (Field.named tok after) e = absurd (cc e)
+field-none (Field.in_quotes tok after) e = absurd (cc e)
+
+-- ---- what a token makes of what must come
+
+-- what a part comes to follows the path
+abbrev Goes : List ℕ → Path SymbolAt ℕ → State → Placed (Step State) → Type 0
+Goes bytes path s o = Follows bytes path s (step_of o)
+
+refused-goes : (bytes : List ℕ) (path : Path SymbolAt ℕ) (s : State) (p : ℕ) (b : Bool) (reason : Reason) (o : Result (Step State) Reason)
+    → Goes bytes path s (part p o) → Goes bytes path s (part p (refuse b reason >> o))
+refused-goes bytes path s p true reason o goes = tt
+refused-goes bytes path s p false reason o goes = goes
+
+abbrev state : List Kind → ℕ → Wants → Cursor → State
+state kinds top wants c = record { kinds = kinds; top = top; wants = wants; cursor = c }
+
+module _ (limits : Limits) (bytes : List ℕ) (path : Path SymbolAt ℕ) (top : ℕ) (is_top : IsTop path top) (p : ℕ) (d : Cursor) where
+  -- a bracket that closes
+  end-goes : (j : Kind) (js : List Kind) (wants : Wants) (full : Bool) (behind : Cursor) → Spells (start_of bytes) path (j ∷ js) full behind
+      → Tok (in_sexp (Some j)) behind (end j) p d → (s : State)
+      → Follows bytes path s (Gives (item_of top None [] p value.end) (state js top (behind_member (innermost js)) d))
+  end-goes j js wants full behind spells tok s =
+      let e = ends-in path (j ∷ js) full j js top p refl spells is_top in
+      (end_in path p, record { full = has_commas (innermost js); behind = d; spells = Spells-end path j js (j ∷ js) full p refl spells tok; begun = begun-behind d js; top = e.top_is }, e.items)
+
+  closed-goes : (kinds : List Kind) (k : Kind) (wants : Wants) (full : Bool) (behind : Cursor) → Spells (start_of bytes) path kinds full behind
+      → Tok (in_sexp (innermost kinds)) behind (end k) p d → (s : State) → Goes bytes path s (part p (reading.closed kinds top k p d))
+  closed-goes [] k wants full behind spells tok s = tt
+  closed-goes (kind.List ∷ js) kind.List wants full behind spells tok s = end-goes kind.List js wants full behind spells tok s
+  closed-goes (kind.List ∷ js) kind.Sexp wants full behind spells tok s = tt
+  closed-goes (kind.List ∷ js) kind.Struct wants full behind spells tok s = tt
+  closed-goes (kind.Sexp ∷ js) kind.List wants full behind spells tok s = tt
+  closed-goes (kind.Sexp ∷ js) kind.Sexp wants full behind spells tok s = end-goes kind.Sexp js wants full behind spells tok s
+  closed-goes (kind.Sexp ∷ js) kind.Struct wants full behind spells tok s = tt
+  closed-goes (kind.Struct ∷ js) kind.List wants full behind spells tok s = tt
+  closed-goes (kind.Struct ∷ js) kind.Sexp wants full behind spells tok s = tt
+  closed-goes (kind.Struct ∷ js) kind.Struct wants full behind spells tok s = end-goes kind.Struct js wants full behind spells tok s
+
+  -- no bracket closes behind a field or an annotation
+  bare-goes : (kinds : List Kind) (k : Kind) (field : Option SymbolAt) (notes : List SymbolAt) (behind b c : Cursor) → Spells (start_of bytes) path kinds false behind
+      → Field (innermost kinds) behind field b → Annotations (in_sexp (innermost kinds)) b notes c
+      → Tok (in_sexp (innermost kinds)) c (end k) p d → (s : State) → Goes bytes path s (part p (reading.closed_bare field notes kinds top k p d))
+  bare-goes kinds k (Some a) notes behind b c spells f ns tok s = tt
+  bare-goes kinds k None (a ∷ notes) behind b c spells f ns tok s = tt
+  bare-goes kinds k None [] behind b c spells f ns tok s =
+      let same : c ≡ behind = notes-none ns refl ∙ field-none f refl in
+      let tok' : Tok (in_sexp (innermost kinds)) behind (end k) p d = subst (λ c. Tok (in_sexp (innermost kinds)) c (end k) p d) same tok in
+      closed-goes kinds k (a_value None []) false behind spells tok' s
+
+  -- a whole value
+  value-goes : (kinds : List Kind) (field : Option SymbolAt) (notes : List SymbolAt) (v : Scalar SymbolAt) (behind b : Cursor) → Spells (start_of bytes) path kinds false behind
+      → Field (innermost kinds) behind field b → Txt (innermost kinds) b notes p (value.scalar v) d → (s : State)
+      → Follows bytes path s (reading.scalar_given kinds top field notes p v d)
+  value-goes kinds field notes v behind b spells f txt s = (
+    put_in path (first_place notes p) field notes p (value.scalar v),
+    record {
+      full = has_commas (innermost kinds);
+      behind = d;
+      spells = Spells-value path kinds false field notes p (value.scalar v) refl spells f txt;
+      begun = begun-behind d kinds;
+      top = put_in-top path kinds false top field notes p (value.scalar v) spells is_top;
+    },
+    path_items-put_in path (first_place notes p) (top_of kinds top notes p) field notes p (value.scalar v) (fits path kinds false top field notes p spells is_top f),
+  )
+
+  -- a bracket that opens
+  begin-goes : (kinds : List Kind) (k : Kind) (field : Option SymbolAt) (notes : List SymbolAt) (behind b c : Cursor) → Spells (start_of bytes) path kinds false behind
+      → Field (innermost kinds) behind field b → Annotations (in_sexp (innermost kinds)) b notes c
+      → Tok (in_sexp (innermost kinds)) c (begin k) p d → (s : State)
+      → Goes bytes path s (part p (reading.begun limits kinds top field notes k p d))
+  begin-goes kinds k field notes behind b c spells f ns tok s =
+      let after : State = state (k ∷ kinds) (top_of kinds top notes p) (reading.member_of k) d in
+      let item : PlacedItem = item_of (top_of kinds top notes p) field notes p (value.begin k) in
+      let goes : Follows bytes path s (Gives item after) = (
+        open_in path (first_place notes p) field notes p k value.nothing,
+        record {
+          full = false;
+          behind = d;
+          spells = Spells-begin path kinds false field notes p k refl spells f ns tok;
+          begun = begun-member d (k ∷ kinds);
+          top = open_in-top path kinds false top field notes p k spells is_top;
+        },
+        path_items-open_in path (first_place notes p) (top_of kinds top notes p) field notes p k (fits path kinds false top field notes p spells is_top f),
+      ) in
+      refused-goes bytes path s p (nat_le limits.depth (length kinds)) DepthLimit (Ok (Gives item after)) goes
+
+-- ---- version markers
+
+same-bytes : (xs ys : List ℕ) → bytes_eq xs ys ≡ true → ys ≡ xs
+same-bytes [] [] e = refl
+same-bytes [] (y ∷ ys) e = absurd (false≢true e)
+same-bytes (x ∷ xs) [] e = absurd (false≢true e)
+same-bytes (x ∷ xs) (y ∷ ys) e =
+    let both = and_parts (x == y) (bytes_eq xs ys) e in
+    let first : x ≡ y = eqb-true x y both.0 in
+    rw (first, same-bytes xs ys both.1) refl
+
+-- the word of a version stands alone at top level
+record IsVersion (k : Option Kind) (notes : List SymbolAt) (quoted : Bool) (symbol : Symbol) : Type 0 where
+  at_top : k ≡ None
+  bare : notes ≡ []
+  unquoted : quoted ≡ false
+
+told-version : (k : Option Kind) (notes : List SymbolAt) (quoted : Bool) (symbol : Symbol) → tells_version k notes quoted symbol ≡ true → IsVersion k notes quoted symbol
+unfolding tells_version
+told-version None [] false (value.Text word) e = record { at_top = refl; bare = refl; unquoted = refl }
+told-version None [] false (value.Id id) e = absurd (false≢true e)
+told-version None [] true symbol e = absurd (false≢true e)
+told-version None (a ∷ notes) quoted symbol e = absurd (false≢true e)
+told-version (Some k) notes quoted symbol e = absurd (false≢true e)
+
+marker-word : (symbol : Symbol) → is_marker symbol ≡ true → symbol ≡ value.Text version_word
+marker-word (value.Text word) e = ap value.Text (same-bytes version_word word e)
+marker-word (value.Id id) e = absurd (false≢true e)
+
+module _ (limits : Limits) (bytes : List ℕ) (path : Path SymbolAt ℕ) (top : ℕ) (is_top : IsTop path top) (p : ℕ) (d : Cursor) where
+  marker-goes : (symbol : Symbol) (behind : Cursor) → Spells (start_of bytes) path [] false behind → Tok false behind (name false symbol) p d
+      → behind_colons false d ≡ None → (m : Bool) → is_marker symbol ≡ m → (s : State)
+      → Goes bytes path s (part p (refuse (not m) BadVersion >> Ok (reading.given [] top None [] p value.marker [] (behind_member None) d)))
+  marker-goes symbol behind spells tok alone false is s = tt
+  marker-goes symbol behind spells tok alone true is s =
+      let tok' : Tok false behind (name false (value.Text version_word)) p d = subst (λ symbol. Tok false behind (name false symbol) p d) (marker-word symbol is) tok in
+      mark-goes path spells tok' alone s
+    where
+      mark-goes : (path : Path SymbolAt ℕ) → Spells (start_of bytes) path [] false behind → Tok false behind (name false (value.Text version_word)) p d
+          → behind_colons false d ≡ None → (s : State) → Follows bytes path s (reading.given [] top None [] p value.marker [] (behind_member None) d)
+      mark-goes _ (Spells.top {tops} t) tok alone s = (
+        mark_in (closed tops) p,
+        record {
+          full = false;
+          behind = d;
+          spells = Spells-marker (closed tops) [] false None p refl (Spells.top t) Field.at_top tok (no-colons false d alone);
+          begun = begun-member d [];
+          top = tt;
+        },
+        path_items-mark_in tops p,
+      )
+
+  version-goes : (kinds : List Kind) (field : Option SymbolAt) (notes : List SymbolAt) (quoted : Bool) (symbol : Symbol) (behind b c : Cursor)
+      → Spells (start_of bytes) path kinds false behind → Field (innermost kinds) behind field b → Annotations (in_sexp (innermost kinds)) b notes c
+      → Tok (in_sexp (innermost kinds)) c (name quoted symbol) p d → behind_colons (in_sexp (innermost kinds)) d ≡ None → IsVersion (innermost kinds) notes quoted symbol
+      → (s : State) → Goes bytes path s (part p (reading.version_given kinds top field notes (at symbol p) d))
+  version-goes (k ∷ kinds) field notes quoted symbol behind b c spells f ns tok alone told s = absurd (cc told.at_top)
+  version-goes [] field (a ∷ notes) quoted symbol behind b c spells f ns tok alone told s = absurd (cc told.bare)
+  version-goes [] field [] true symbol behind b c spells f ns tok alone told s = absurd (cc told.unquoted)
+  version-goes [] _ [] false symbol behind _ c spells Field.at_top ns tok alone told s =
+      let same : c ≡ behind = notes-none ns refl in
+      marker-goes symbol behind spells (subst (λ c. Tok false c (name false symbol) p d) same tok) alone (is_marker symbol) refl s
+
+  -- ---- symbols
+
+  told-goes : (kinds : List Kind) (field : Option SymbolAt) (notes : List SymbolAt) (quoted : Bool) (symbol : Symbol) (behind b c : Cursor)
+      → Spells (start_of bytes) path kinds false behind → Field (innermost kinds) behind field b → Annotations (in_sexp (innermost kinds)) b notes c
+      → Tok (in_sexp (innermost kinds)) c (name quoted symbol) p d → behind_colons (in_sexp (innermost kinds)) d ≡ None
+      → (told : Bool) → tells_version (innermost kinds) notes quoted symbol ≡ told
+      → (s : State) → Goes bytes path s (part p (reading.value_or_version kinds top field notes (at symbol p) d told))
+  told-goes kinds field notes quoted symbol behind b c spells f ns tok alone true is s =
+      version-goes kinds field notes quoted symbol behind b c spells f ns tok alone (told-version (innermost kinds) notes quoted symbol is) s
+  told-goes kinds field notes quoted symbol behind b c spells f ns tok alone false is s =
+      value-goes limits bytes path top is_top p d kinds field notes (value.symbol (at symbol p)) behind b spells f (Txt.of_symbol ns tok (no-colons (in_sexp (innermost kinds)) d alone) (no-version (innermost kinds) notes quoted symbol is)) s
+
+  symbol-goes : (kinds : List Kind) (field : Option SymbolAt) (notes : List SymbolAt) (quoted : Bool) (symbol : Symbol) (behind b c : Cursor)
+      → Spells (start_of bytes) path kinds false behind → Field (innermost kinds) behind field b → Annotations (in_sexp (innermost kinds)) b notes c
+      → Tok (in_sexp (innermost kinds)) c (name quoted symbol) p d
+      → (colons : Option Cursor) → behind_colons (in_sexp (innermost kinds)) d ≡ colons
+      → (s : State) → Goes bytes path s (part p (reading.symbol_given limits kinds top field notes quoted (at symbol p) d colons))
+  symbol-goes kinds field notes quoted symbol behind b c spells f ns tok None alone s =
+      told-goes kinds field notes quoted symbol behind b c spells f ns tok alone (tells_version (innermost kinds) notes quoted symbol) refl s
+  symbol-goes kinds field notes quoted symbol behind b c spells f ns tok (Some e) found s =
+      let more = colons-behind (in_sexp (innermost kinds)) d e found in
+      let after : State = state kinds top (a_value field (notes ++ at symbol p ∷ [])) e in
+      let goes : Follows bytes path s (GoesOn after) = record { full = false; behind = behind; spells = spells; begun = in_item f (Annotations.then ns tok more.1); top = is_top } in
+      refused-goes bytes path s p (nat_lt limits.scalar (sum_by reading.cost (notes ++ at symbol p ∷ []))) AnnotationLimit (Ok (GoesOn after)) goes
+
+  -- ---- fields
+
+  colon-goes : (kinds : List Kind) (a : SymbolAt) (behind b e : Cursor) → Spells (start_of bytes) path kinds false behind
+      → ((q : ℕ) (f : Cursor) → Tok false b colon q f → Field (innermost kinds) behind (Some a) f) → blanks b ≡ Ok e
+      → (first : First) → first_at false e.rest ≡ first → (s : State) → Goes bytes path s (reading.colon_of kinds top a e first)
+  colon-goes kinds a behind b e spells field blank a_colon is s = record {
+    full = false;
+    behind = behind;
+    spells = spells;
+    begun = in_item (field e.place (skip 1 e) (colon-tok b e blank is)) Annotations.nothing;
+    top = is_top;
+  }
+  colon-goes kinds a behind b e spells field blank a_run is s = tt
+  colon-goes kinds a behind b e spells field blank a_word is s = tt
+  colon-goes kinds a behind b e spells field blank a_quoted is s = tt
+  colon-goes kinds a behind b e spells field blank a_short is s = tt
+  colon-goes kinds a behind b e spells field blank a_long is s = tt
+  colon-goes kinds a behind b e spells field blank a_lob is s = tt
+  colon-goes kinds a behind b e spells field blank an_operator is s = tt
+  colon-goes kinds a behind b e spells field blank an_infinity is s = tt
+  colon-goes kinds a behind b e spells field blank (a_begin k) is s = tt
+  colon-goes kinds a behind b e spells field blank (an_end k) is s = tt
+  colon-goes kinds a behind b e spells field blank a_comma is s = tt
+  colon-goes kinds a behind b e spells field blank two_colons is s = tt
+  colon-goes kinds a behind b e spells field blank no_token is s = tt
+
+  rest-goes : (kinds : List Kind) (a : SymbolAt) (behind b e : Cursor) → Spells (start_of bytes) path kinds false behind
+      → ((q : ℕ) (f : Cursor) → Tok false b colon q f → Field (innermost kinds) behind (Some a) f) → blanks b ≡ Ok e
+      → (rest : List ℕ) → e.rest ≡ rest → (s : State) → Goes bytes path s (reading.colon_from kinds top a e rest)
+  rest-goes kinds a behind b e spells field blank [] is s = tt
+  rest-goes kinds a behind b e spells field blank (x ∷ rest) is s = colon-goes kinds a behind b e spells field blank (first_at false (x ∷ rest)) (ap (first_at false) is) s
+
+  blank-goes : (kinds : List Kind) (a : SymbolAt) (behind b : Cursor) → Spells (start_of bytes) path kinds false behind
+      → ((q : ℕ) (f : Cursor) → Tok false b colon q f → Field (innermost kinds) behind (Some a) f)
+      → (o : Placed Cursor) → blanks b ≡ o → (s : State) → Goes bytes path s (o >>= (λ e. reading.colon_from kinds top a e e.rest))
+  blank-goes kinds a behind b spells field (Err fault) blank s = tt
+  blank-goes kinds a behind b spells field (Ok e) blank s = rest-goes kinds a behind b e spells field blank e.rest refl s
+
+  named-goes : (kinds : List Kind) (a : SymbolAt) (behind b : Cursor) → Spells (start_of bytes) path kinds false behind
+      → ((q : ℕ) (f : Cursor) → Tok false b colon q f → Field (innermost kinds) behind (Some a) f)
+      → (s : State) → Goes bytes path s (reading.named kinds top a b)
+  named-goes kinds a behind b spells field s = blank-goes kinds a behind b spells field (blanks b) refl s
+
+  -- ---- all tokens
+
+  take-goes : (kinds : List Kind) (full : Bool) (behind c : Cursor) (wants : Wants) (t : Token) → Spells (start_of bytes) path kinds full behind
+      → Begun behind kinds full wants c → Tok (in_sexp (innermost kinds)) c t p d
+      → (s : State) → Goes bytes path s (take limits kinds top wants p t d)
+  unfolding take
+  take-goes kinds _ behind _ _ (end k) spells at_separator tok s = closed-goes limits bytes path top is_top p d kinds k a_separator true behind spells tok s
+  take-goes kinds _ behind _ _ comma spells at_separator tok s = record {
+    full = false;
+    behind = d;
+    spells = Spells-comma path kinds true p refl spells tok;
+    begun = begun-member d kinds;
+    top = is_top;
+  }
+  take-goes kinds _ behind _ _ (plain v) spells at_separator tok s = tt
+  take-goes kinds _ behind _ _ (name quoted symbol) spells at_separator tok s = tt
+  take-goes kinds _ behind _ _ (text t) spells at_separator tok s = tt
+  take-goes kinds _ behind _ _ (operator t) spells at_separator tok s = tt
+  take-goes kinds _ behind _ _ no_number spells at_separator tok s = tt
+  take-goes kinds _ behind _ _ (begin k) spells at_separator tok s = tt
+  take-goes kinds _ behind _ _ colon spells at_separator tok s = tt
+  take-goes kinds _ behind _ _ colons spells at_separator tok s = tt
+  take-goes _ _ behind _ _ (end k) spells (at_field {kinds}) tok s = closed-goes limits bytes path top is_top p d (kind.Struct ∷ kinds) k a_field false behind spells tok s
+  take-goes _ _ behind _ _ (name quoted symbol) spells (at_field {kinds}) tok s = named-goes (kind.Struct ∷ kinds) (at symbol p) behind d spells (λ q f after. Field.named tok after) s
+  take-goes _ _ behind _ _ (text t) spells (at_field {kinds}) tok s = named-goes (kind.Struct ∷ kinds) (at (value.Text t) p) behind d spells (λ q f after. Field.in_quotes tok after) s
+  take-goes _ _ behind _ _ (plain v) spells at_field tok s = tt
+  take-goes _ _ behind _ _ (operator t) spells at_field tok s = tt
+  take-goes _ _ behind _ _ no_number spells at_field tok s = tt
+  take-goes _ _ behind _ _ (begin k) spells at_field tok s = tt
+  take-goes _ _ behind _ _ comma spells at_field tok s = tt
+  take-goes _ _ behind _ _ colon spells at_field tok s = tt
+  take-goes _ _ behind _ _ colons spells at_field tok s = tt
+  take-goes kinds _ behind c _ (end k) spells (in_item {d = b} {field = field} {notes = notes} f ns) tok s = bare-goes limits bytes path top is_top p d kinds k field notes behind b c spells f ns tok s
+  take-goes kinds _ behind c _ (plain v) spells (in_item {d = b} {field = field} {notes = notes} f ns) tok s = value-goes limits bytes path top is_top p d kinds field notes v behind b spells f (Txt.of_plain ns tok) s
+  take-goes kinds _ behind c _ (text t) spells (in_item {d = b} {field = field} {notes = notes} f ns) tok s = value-goes limits bytes path top is_top p d kinds field notes (value.string t) behind b spells f (Txt.of_text ns tok) s
+  take-goes kinds _ behind c _ (operator t) spells (in_item {d = b} {field = field} {notes = notes} f ns) tok s =
+      value-goes limits bytes path top is_top p d kinds field notes (value.symbol (at (value.Text t) p)) behind b spells f (Txt.of_operator ns tok) s
+  take-goes kinds _ behind c _ (name quoted symbol) spells (in_item {d = b} {field = field} {notes = notes} f ns) tok s =
+      symbol-goes kinds field notes quoted symbol behind b c spells f ns tok (behind_colons (in_sexp (innermost kinds)) d) refl s
+  take-goes kinds _ behind c _ (begin k) spells (in_item {d = b} {field = field} {notes = notes} f ns) tok s = begin-goes limits bytes path top is_top p d kinds k field notes behind b c spells f ns tok s
+  take-goes kinds _ behind c _ no_number spells (in_item f ns) tok s = tt
+  take-goes kinds _ behind c _ comma spells (in_item f ns) tok s = tt
+  take-goes kinds _ behind c _ colon spells (in_item f ns) tok s = tt
+  take-goes kinds _ behind c _ colons spells (in_item f ns) tok s = tt
+
+-- ---- a step
+
+-- a token of the kind that its first bytes tell, or a fault
+cut-goes : (limits : Limits) (bytes : List ℕ) (path : Path SymbolAt ℕ) (s : State) (b : Cursor) → At bytes path s → blanks s.cursor ≡ Ok b
+    → (o : Result (Token × Cursor) Reason) → token_of (Some limits.scalar) (first_at (in_sexp (innermost s.kinds)) b.rest) b ≡ o
+    → Goes bytes path s (part b.place o >>= (λ t. take limits s.kinds s.top s.wants b.place t.0 t.1))
+cut-goes limits bytes path s b stands blank (Err reason) token = tt
+cut-goes limits bytes path s b stands blank (Ok t) token =
+    take-goes limits bytes path s.top stands.top b.place t.1 s.kinds stands.full stands.behind s.cursor s.wants t.0 stands.spells stands.begun
+    (tok-read (Some limits.scalar) (in_sexp (innermost s.kinds)) s.cursor b t.1 t.0 blank token) s
+
+coming-goes : (limits : Limits) (bytes : List ℕ) (path : Path SymbolAt ℕ) (s : State) (b : Cursor) → At bytes path s → blanks s.cursor ≡ Ok b
+    → (first : First) → first_at (in_sexp (innermost s.kinds)) b.rest ≡ first → (may : Bool) → Goes bytes path s (reading.coming limits s b first may)
+coming-goes limits bytes path s b stands blank first is false = tt
+coming-goes limits bytes path s b stands blank first is true =
+    cut-goes limits bytes path s b stands blank (token_of (Some limits.scalar) first b) (ap (λ first. token_of (Some limits.scalar) first b) is)
+
+ended-goes : (limits : Limits) (bytes : List ℕ) (path : Path SymbolAt ℕ) (s : State) (b : Cursor) → blanks s.cursor ≡ Ok b → b.rest ≡ []
+    → (kinds : List Kind) (wants : Wants) → s.kinds ≡ kinds → s.wants ≡ wants → Goes bytes path s (reading.ended kinds wants b.place)
+ended-goes limits bytes path s b blank none [] (a_value None []) kinds_are wants_are = (kinds_are, wants_are, b, blank, none)
+ended-goes limits bytes path s b blank none [] (a_value None (a ∷ notes)) kinds_are wants_are = tt
+ended-goes limits bytes path s b blank none [] (a_value (Some a) notes) kinds_are wants_are = tt
+ended-goes limits bytes path s b blank none [] a_field kinds_are wants_are = tt
+ended-goes limits bytes path s b blank none [] a_separator kinds_are wants_are = tt
+ended-goes limits bytes path s b blank none (k ∷ kinds) wants kinds_are wants_are = tt
+
+behind-goes : (limits : Limits) (bytes : List ℕ) (path : Path SymbolAt ℕ) (s : State) (b : Cursor) → At bytes path s → blanks s.cursor ≡ Ok b
+    → (rest : List ℕ) → b.rest ≡ rest → Goes bytes path s (reading.part_behind limits s b rest)
+behind-goes limits bytes path s b stands blank [] is = ended-goes limits bytes path s b blank is s.kinds s.wants refl refl
+behind-goes limits bytes path s b stands blank (x ∷ rest) is =
+    coming-goes limits bytes path s b stands blank (first_at (in_sexp (innermost s.kinds)) (x ∷ rest)) (ap (first_at (in_sexp (innermost s.kinds))) is)
+    (may_come s.wants (first_at (in_sexp (innermost s.kinds)) (x ∷ rest)))
+
+part-goes : (limits : Limits) (bytes : List ℕ) (path : Path SymbolAt ℕ) (s : State) → At bytes path s → (o : Placed Cursor) → blanks s.cursor ≡ o
+    → Goes bytes path s (o >>= (λ c. reading.part_behind limits s c c.rest))
+part-goes limits bytes path s stands (Err fault) blank = tt
+part-goes limits bytes path s stands (Ok b) blank = behind-goes limits bytes path s b stands blank b.rest refl
+
+pub step-follows : (limits : Limits) (bytes : List ℕ) (path : Path SymbolAt ℕ) (s : State) → At bytes path s → Follows bytes path s (step limits s)
+unfolding step part_at
+step-follows limits bytes path s stands = part-goes limits bytes path s stands (blanks s.cursor) refl

@@ -1,0 +1,260 @@
+-- A token that stands at a place is the next that a reading takes there.
+use Rattle.std.proofs.Common.{◌≡◌, ℕ, ◌||◌, if◌then◌else◌, Bool, true, false, ◌≤◌, List, [], ◌∷◌, length, arith, Option, Some, None, Result, Ok, Err, refl, sym, ap, subst, ◌∙◌}
+use Rattle.std.proofs.lemmas.Bool.{false≢true}
+use Rattle.ion_meter.specs.declared.fault.Reason.{Reason}
+use Rattle.ion_meter.specs.declared.fault.Reason.TheVariants.{ScalarLimit}
+use Rattle.ion_meter.specs.declared.limits.Limits.{Limits}
+use Rattle.ion_value.specs.declared.ion_type.Kind.{Kind}
+use Rattle.ion_value.specs.Name.{Keyword, a_null, a_bool, a_nan, keyword, is_id, id_of}
+use Rattle.ion_value.specs.Scalar.{scalar_of_run}
+use Rattle.ion_value.specs.Value as value
+use Rattle.ion_value.specs.Value.{SymbolAt, Scalar}
+use Rattle.ion_meter.specs.Sources.{Cursor, skip}
+use Rattle.ion_value.specs.Parts.{Placed, part, refuse, ◌>>=◌, ◌>>◌}
+use Rattle.ion_text_in.specs.Limit.{passes}
+use Rattle.ion_text_in.specs.Blanks.{blanks}
+use Rattle.ion_text_in.specs.Quoted as quoted
+use Rattle.ion_text_in.specs.Quoted.{text_at}
+use Rattle.ion_text_in.specs.Lob.{lob_at}
+use Rattle.ion_text_in.specs.Token as tokens
+use Rattle.ion_text_in.specs.Token.{First, a_word, a_quoted, a_short, a_long, a_run, a_lob, an_operator, an_infinity, a_begin, an_end, a_comma, a_colon, two_colons, no_token, first_at, Token, plain, name, text, operator, no_number, begin, end, comma, colon, colons, token_of, token_at, next_token, word_token, run_token, counted, bytes_of, word_of, in_run, in_operator}
+use Rattle.ion_text_in.specs.Reading as reading
+use Rattle.ion_text_in.specs.Positions.{Wants, a_value, a_field, a_separator, State, innermost, in_sexp}
+use Rattle.ion_text_in.specs.Reading.{is_punctuation, names_field, may_come, step, step_of, take, part_at}
+use Rattle.ion_text_in.specs.Grammar.{Tok}
+use Rattle.ion_text_in.proofs.Shrinking.{blanks-within}
+use Rattle.ion_text_in.proofs.Counting.{token-same}
+
+-- ---- what a token's first bytes told
+
+abbrev pub is_mark : Token → Bool
+is_mark (begin k) = true
+is_mark (end k) = true
+is_mark comma = true
+is_mark colon = true
+is_mark colons = true
+is_mark (plain v) = false
+is_mark (name quoted symbol) = false
+is_mark (text t) = false
+is_mark (operator t) = false
+is_mark no_number = false
+
+abbrev pub is_naming : Token → Bool
+is_naming (name quoted symbol) = true
+is_naming (text t) = true
+is_naming (plain v) = false
+is_naming (operator t) = false
+is_naming no_number = false
+is_naming (begin k) = false
+is_naming (end k) = false
+is_naming comma = false
+is_naming colon = false
+is_naming colons = false
+
+abbrev pub got : Token → Cursor → Result (Token × Cursor) Reason
+got t c = Ok (t, c)
+
+pub record Told (first : First) (t : Token) : Type 0 where
+  pub mark : is_mark t ≡ is_punctuation first
+  pub naming : is_naming t ≡ true → names_field first ≡ true
+
+told-by : {A : Type 0} (first : First) (t : Token) (d : Cursor) (o : Result A Reason) (f : A → Result (Token × Cursor) Reason) → ((x : A) → f x ≡ got t d → Told first t)
+    → (o >>= f) ≡ got t d → Told first t
+told-by first t d (Ok x) f told e = told x e
+told-by first t d (Err reason) f told e = absurd (cc e)
+
+-- a token and what is behind it are those that are given
+told-same : (first : First) (t u : Token) (c d : Cursor) → Told first u → got u c ≡ got t d → Told first t
+told-same first t u c d told e =
+    let both : ◌≡◌ {A = Token × Cursor} (u, c) (t, d) = cc e in
+    subst (λ t. Told first t) (ap (λ (z : Token × Cursor). z.0) both) told
+
+bare : (first : First) (t : Token) → is_mark t ≡ is_punctuation first → is_naming t ≡ false → Told first t
+bare first t mark none = record { mark = mark; naming = λ e. absurd (false≢true (sym none ∙ e)) }
+
+keyword-told : (t : Token) (c d : Cursor) (k : Option Keyword) (word : List ℕ) → (tokens.by_keyword k word >>= (λ t. got t c)) ≡ got t d → Told a_word t
+keyword-told t c d (Some (a_null (Some type))) word e = told-same a_word t (plain (value.null type)) c d (bare a_word _ refl refl) e
+keyword-told t c d (Some (a_null None)) word e = absurd (cc e)
+keyword-told t c d (Some (a_bool truth)) word e = told-same a_word t (plain (value.bool truth)) c d (bare a_word _ refl refl) e
+keyword-told t c d (Some a_nan) word e = told-same a_word t no_number c d (bare a_word _ refl refl) e
+keyword-told t c d None word e = told-same a_word t (name false (if is_id word then value.Id (id_of word) else value.Text word)) c d (record { mark = refl; naming = λ _. refl }) e
+
+word-told : (t : Token) (c d : Cursor) (word : List ℕ) → (word_token word >>= (λ t. got t c)) ≡ got t d → Told a_word t
+unfolding word_token
+word-told t c d word e = keyword-told t c d (keyword word) word e
+
+run-told : (t : Token) (c d : Cursor) (o : Result (Scalar SymbolAt) Reason) → ((o >>= (λ v. Ok (plain v))) >>= (λ t. got t c)) ≡ got t d → Told a_run t
+run-told t c d (Ok v) e = told-same a_run t (plain v) c d (bare a_run _ refl refl) e
+run-told t c d (Err reason) e = absurd (cc e)
+
+-- a token is of the kind that its first bytes told
+pub token-told : (limit : Option ℕ) (first : First) (b d : Cursor) (t : Token) → token_of limit first b ≡ got t d → Told first t
+unfolding token_of
+token-told limit a_run b d t e = told-by a_run t d (counted limit (bytes_of in_run b.rest) b) _ (λ r e. run-told t r.1 d (scalar_of_run r.0) e) e
+token-told limit a_word b d t e = told-by a_word t d (counted limit (word_of b.rest) b) _ (λ r e. word-told t r.1 d r.0 e) e
+token-told limit a_quoted b d t e =
+    told-by a_quoted t d (text_at quoted.symbol_quote limit (skip 1 b)) _ (λ r e. told-same a_quoted t (name true (value.Text r.0)) r.1 d (record { mark = refl; naming = λ _. refl }) e) e
+token-told limit a_short b d t e =
+    told-by a_short t d (text_at (quoted.short_quote false) limit (skip 1 b)) _ (λ r e. told-same a_short t (text r.0) r.1 d (record { mark = refl; naming = λ _. refl }) e) e
+token-told limit a_long b d t e =
+    told-by a_long t d (text_at (quoted.long_quote false) limit (skip 3 b)) _ (λ r e. told-same a_long t (text r.0) r.1 d (record { mark = refl; naming = λ _. refl }) e) e
+token-told limit a_lob b d t e = told-by a_lob t d (lob_at limit (skip 2 b)) _ (λ r e. told-same a_lob t (plain r.0) r.1 d (bare a_lob _ refl refl) e) e
+token-told limit an_operator b d t e =
+    told-by an_operator t d (counted limit (bytes_of in_operator b.rest) b) _ (λ r e. told-same an_operator t (operator r.0) r.1 d (bare an_operator _ refl refl) e) e
+token-told limit an_infinity b d t e = infinity (passes limit 4) e
+  where
+    infinity : (long : Bool) → (refuse long ScalarLimit >> got no_number (skip 4 b)) ≡ got t d → Told an_infinity t
+    infinity true e = absurd (cc e)
+    infinity false e = told-same an_infinity t no_number (skip 4 b) d (bare an_infinity _ refl refl) e
+token-told limit (a_begin k) b d t e = told-same (a_begin k) t (begin k) (skip 1 b) d (bare (a_begin k) _ refl refl) e
+token-told limit (an_end k) b d t e = told-same (an_end k) t (end k) (skip 1 b) d (bare (an_end k) _ refl refl) e
+token-told limit a_comma b d t e = told-same a_comma t comma (skip 1 b) d (bare a_comma _ refl refl) e
+token-told limit a_colon b d t e = told-same a_colon t colon (skip 1 b) d (bare a_colon _ refl refl) e
+token-told limit two_colons b d t e = told-same two_colons t colons (skip 2 b) d (bare two_colons _ refl refl) e
+token-told limit no_token b d t e = absurd (cc e)
+
+-- ---- where a token stands
+
+-- the blanks before it, and itself
+pub record Stands (sexp : Bool) (c : Cursor) (t : Token) (p : ℕ) (d : Cursor) : Type 0 where
+  pub front : Cursor
+  pub blank : blanks c ≡ Ok front
+  pub token : token_of None (first_at sexp front.rest) front ≡ got t d
+  pub place : front.place ≡ p
+
+tok-cut : (sexp : Bool) (c b d : Cursor) (t : Token) (p : ℕ) → blanks c ≡ Ok b → (o : Result (Token × Cursor) Reason) → token_of None (first_at sexp b.rest) b ≡ o
+    → (part b.place o >>= (λ t. Ok (tokens.cut t.0 b.place t.1))) ≡ Ok (tokens.cut t p d) → Stands sexp c t p d
+tok-cut sexp c b d t p blank (Ok u) token e =
+    let same : tokens.cut u.0 b.place u.1 ≡ tokens.cut t p d = cc e in
+    let is : u.0 ≡ t = ap (λ (z : tokens.Cut). z.token) same in
+    let behind : u.1 ≡ d = ap (λ (z : tokens.Cut). z.behind) same in
+    record { front = b; blank = blank; token = token ∙ ap Ok (pair u t d is behind); place = ap (λ (z : tokens.Cut). z.first) same }
+  where
+    pair : (u : Token × Cursor) (t : Token) (d : Cursor) → u.0 ≡ t → u.1 ≡ d → u ≡ (t, d)
+    pair u t d is behind = rw (← is, ← behind) refl
+tok-cut sexp c b d t p blank (Err reason) token e = absurd (cc e)
+
+tok-blank : (sexp : Bool) (c d : Cursor) (t : Token) (p : ℕ) (o : Placed Cursor) → blanks c ≡ o
+    → (o >>= (λ b. part b.place (token_at None sexp b) >>= (λ t. Ok (tokens.cut t.0 b.place t.1)))) ≡ Ok (tokens.cut t p d) → Stands sexp c t p d
+tok-blank sexp c d t p (Ok b) blank e = tok-cut sexp c b d t p blank (token_at None sexp b) refl e
+tok-blank sexp c d t p (Err fault) blank e = absurd (cc e)
+
+pub tok-stands : (sexp : Bool) (c d : Cursor) (t : Token) (p : ℕ) → Tok sexp c t p d → Stands sexp c t p d
+unfolding next_token
+tok-stands sexp c d t p e = tok-blank sexp c d t p (blanks c) refl e
+
+-- ---- the step that takes a token
+
+abbrev pub state : List Kind → ℕ → Wants → Cursor → State
+state kinds top wants c = record { kinds = kinds; top = top; wants = wants; cursor = c }
+
+-- a token may come where its first bytes do not tell that it cannot
+abbrev pub Suits : Wants → Token → Type 0
+Suits wants t = (first : First) → Told first t → may_come wants first ≡ true
+
+pub value-suits : (field : Option SymbolAt) (notes : List SymbolAt) (t : Token) → Suits (a_value field notes) t
+unfolding may_come
+value-suits field notes t first told = refl
+
+pub mark-suits : (t : Token) → is_mark t ≡ true → Suits a_separator t
+unfolding may_come
+mark-suits t mark first told = sym told.mark ∙ mark
+
+pub end-suits : (t : Token) → is_mark t ≡ true → Suits a_field t
+unfolding may_come
+end-suits t mark first told = ap (λ b. b || names_field first) (sym told.mark ∙ mark)
+
+pub naming-suits : (t : Token) → is_mark t ≡ false → is_naming t ≡ true → Suits a_field t
+unfolding may_come
+naming-suits t bare naming first told = ap (λ b. b || names_field first) (sym told.mark ∙ bare) ∙ told.naming naming
+
+module _ (limits : Limits) (kinds : List Kind) (top : ℕ) (wants : Wants) (c : Cursor) (t : Token) (d : Cursor) (suits : Suits wants t) (b : Cursor) where
+  rest-token : (rest : List ℕ) → b.rest ≡ rest → token_of (Some limits.scalar) (first_at (in_sexp (innermost kinds)) b.rest) b ≡ got t d
+      → reading.part_behind limits (state kinds top wants c) b rest ≡ take limits kinds top wants b.place t d
+  unfolding first_at token_of
+  rest-token [] is e =
+      let cut : token_of (Some limits.scalar) (first_at (in_sexp (innermost kinds)) []) b ≡ got t d = subst (λ rest. token_of (Some limits.scalar) (first_at (in_sexp (innermost kinds)) rest) b ≡ got t d) is e in
+      absurd (cc cut)
+  rest-token (x ∷ rest) is e =
+      let first : First = first_at (in_sexp (innermost kinds)) (x ∷ rest) in
+      let e' : token_of (Some limits.scalar) first b ≡ got t d = subst (λ rest. token_of (Some limits.scalar) (first_at (in_sexp (innermost kinds)) rest) b ≡ got t d) is e in
+      let may : may_come wants first ≡ true = suits first (token-told (Some limits.scalar) first b d t e') in
+      ap (λ m. reading.coming limits (state kinds top wants c) b first m) may
+      ∙ ap (λ (o : Result (Token × Cursor) Reason). part b.place o >>= (λ t. take limits kinds top wants b.place t.0 t.1)) e'
+
+pub step-token : (limits : Limits) (kinds : List Kind) (top : ℕ) (wants : Wants) (c : Cursor) (t : Token) (p : ℕ) (d : Cursor) → Suits wants t
+    → length c.rest ≤ limits.scalar → Tok (in_sexp (innermost kinds)) c t p d
+    → step limits (state kinds top wants c) ≡ step_of (take limits kinds top wants p t d)
+unfolding step part_at
+step-token limits kinds top wants c t p d suits room tok =
+    let stands = tok-stands (in_sexp (innermost kinds)) c d t p tok in
+    let b : Cursor = stands.front in
+    let same = token-same limits.scalar (in_sexp (innermost kinds)) b (let within = (blanks-within c b stands.blank).0 in omega (arith, room, within)) in
+    ap step_of (ap (λ o. o >>= (λ b. reading.part_behind limits (state kinds top wants c) b b.rest)) stands.blank
+    ∙ rest-token limits kinds top wants c t d suits b b.rest refl (same ∙ stands.token)
+    ∙ ap (λ p. take limits kinds top wants p t d) stands.place)
+
+-- ---- colons
+
+given-same : (u t : Token) (c d : Cursor) → got u c ≡ got t d → u ≡ t
+given-same u t c d e =
+    let both : ◌≡◌ {A = Token × Cursor} (u, c) (t, d) = cc e in
+    ap (λ (z : Token × Cursor). z.0) both
+
+one-colon : (limit : Option ℕ) (first : First) (b d : Cursor) → token_of limit first b ≡ got colon d → is_punctuation first ≡ true → (first ≡ a_colon) × (d ≡ skip 1 b)
+unfolding token_of
+one-colon limit a_colon b d e is = let both : ◌≡◌ {A = Token × Cursor} (colon, skip 1 b) (colon, d) = cc e in (refl, sym (ap (λ (z : Token × Cursor). z.1) both))
+one-colon limit (a_begin k) b d e is = absurd (cc (given-same (begin k) colon (skip 1 b) d e))
+one-colon limit (an_end k) b d e is = absurd (cc (given-same (end k) colon (skip 1 b) d e))
+one-colon limit a_comma b d e is = absurd (cc (given-same comma colon (skip 1 b) d e))
+one-colon limit two_colons b d e is = absurd (cc (given-same colons colon (skip 2 b) d e))
+one-colon limit no_token b d e is = absurd (cc e)
+one-colon limit a_run b d e is = absurd (false≢true is)
+one-colon limit a_word b d e is = absurd (false≢true is)
+one-colon limit a_quoted b d e is = absurd (false≢true is)
+one-colon limit a_short b d e is = absurd (false≢true is)
+one-colon limit a_long b d e is = absurd (false≢true is)
+one-colon limit a_lob b d e is = absurd (false≢true is)
+one-colon limit an_operator b d e is = absurd (false≢true is)
+one-colon limit an_infinity b d e is = absurd (false≢true is)
+
+both-colons : (limit : Option ℕ) (first : First) (b d : Cursor) → token_of limit first b ≡ got colons d → is_punctuation first ≡ true → (first ≡ two_colons) × (d ≡ skip 2 b)
+unfolding token_of
+both-colons limit two_colons b d e is = let both : ◌≡◌ {A = Token × Cursor} (colons, skip 2 b) (colons, d) = cc e in (refl, sym (ap (λ (z : Token × Cursor). z.1) both))
+both-colons limit a_colon b d e is = absurd (cc (given-same colon colons (skip 1 b) d e))
+both-colons limit (a_begin k) b d e is = absurd (cc (given-same (begin k) colons (skip 1 b) d e))
+both-colons limit (an_end k) b d e is = absurd (cc (given-same (end k) colons (skip 1 b) d e))
+both-colons limit a_comma b d e is = absurd (cc (given-same comma colons (skip 1 b) d e))
+both-colons limit no_token b d e is = absurd (cc e)
+both-colons limit a_run b d e is = absurd (false≢true is)
+both-colons limit a_word b d e is = absurd (false≢true is)
+both-colons limit a_quoted b d e is = absurd (false≢true is)
+both-colons limit a_short b d e is = absurd (false≢true is)
+both-colons limit a_long b d e is = absurd (false≢true is)
+both-colons limit a_lob b d e is = absurd (false≢true is)
+both-colons limit an_operator b d e is = absurd (false≢true is)
+both-colons limit an_infinity b d e is = absurd (false≢true is)
+
+pub colons-stand : (sexp : Bool) (c d : Cursor) (p : ℕ) → Tok sexp c colons p d → reading.behind_colons sexp c ≡ Some d
+colons-stand sexp c d p tok =
+    let s = tok-stands sexp c d colons p tok in
+    let told = token-told None (first_at sexp s.front.rest) s.front d colons s.token in
+    let are = both-colons None (first_at sexp s.front.rest) s.front d s.token (sym told.mark) in
+    ap (λ o. reading.colons_behind sexp o) s.blank ∙ ap (λ first. reading.colons_at first s.front) are.0 ∙ ap Some (sym are.1)
+
+colon-from : (kinds : List Kind) (top : ℕ) (a : SymbolAt) (b : Cursor) (rest : List ℕ) → first_at false rest ≡ a_colon
+    → reading.colon_from kinds top a b rest ≡ Ok (reading.going_on kinds top (a_value (Some a) []) (skip 1 b))
+unfolding first_at
+colon-from kinds top a b [] is = absurd (cc is)
+colon-from kinds top a b (x ∷ rest) is = ap (reading.colon_of kinds top a b) is
+
+-- behind a field's name
+pub colon-stands : (c d : Cursor) (p : ℕ) (kinds : List Kind) (top : ℕ) (a : SymbolAt) → Tok false c colon p d
+    → reading.named kinds top a c ≡ Ok (reading.going_on kinds top (a_value (Some a) []) d)
+colon-stands c d p kinds top a tok =
+    let s = tok-stands false c d colon p tok in
+    let told = token-told None (first_at false s.front.rest) s.front d colon s.token in
+    let is = one-colon None (first_at false s.front.rest) s.front d s.token (sym told.mark) in
+    ap (λ o. o >>= (λ b. reading.colon_from kinds top a b b.rest)) s.blank
+    ∙ colon-from kinds top a s.front s.front.rest is.0
+    ∙ ap (λ d. Ok (reading.going_on kinds top (a_value (Some a) []) d)) (sym is.1)

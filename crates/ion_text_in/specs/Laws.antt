@@ -1,0 +1,116 @@
+-- What is true of the grammar and the reading: laws that contracts cite.
+use Rattle.std.specs.Prelude.{◌≡◌, ℕ, ◌*◌, ◌<◌, ◌≤◌, ◌⊎◌, Bool, List, [], ◌∷◌, ◌++◌, length, sum_by, Option, Some, Err}
+use Rattle.ion_meter.specs.declared.fault.Reason.{Reason}
+use Rattle.ion_meter.specs.declared.fault.Reason.TheVariants.{DepthLimit, ScalarLimit, AnnotationLimit}
+use Rattle.ion_meter.specs.declared.limits.Limits.{Limits}
+use Rattle.ion_value.specs.declared.ion_type.Kind.{Kind}
+use Rattle.ion_value.specs.Value.{Symbol, SymbolAt, Top, PlacedItem}
+use Rattle.ion_value.specs.Path.{Path, closed, path_items}
+use Rattle.ion_value.specs.Reading.{Reading, Finished, Stopped, Shrinks, items_of, behind, reading_by}
+use Rattle.ion_meter.specs.Sources.{Cursor}
+use Rattle.ion_text_in.specs.Token.{name, begin, colons, next_token}
+use Rattle.ion_text_in.specs.Positions.{State, a_value, innermost, in_sexp, at}
+use Rattle.ion_text_in.specs.Reading.{cost, step, size, reading}
+use Rattle.ion_text_in.specs.Grammar.{Tok, Stream}
+use Rattle.ion_text_in.specs.Paths.{IsPath, At, Follows}
+
+-- how a reading ends
+abbrev pub ending_of : Reading → Reading
+ending_of Finished = Finished
+ending_of (Stopped reason place) = Stopped reason place
+ending_of (Reading.More item rest) = ending_of rest
+
+-- what is read is a path of the bytes, and a stream where reading finishes
+pub record IsRead (bytes : List ℕ) (r : Reading) : Type 0 where
+  pub path : Path SymbolAt ℕ
+  pub place : ℕ
+  pub is_path : IsPath bytes place path
+  pub items : items_of r ≡ path_items path
+  pub whole : ending_of r ≡ Finished → (tops : List (Top SymbolAt ℕ)) × (path ≡ closed tops) × Stream bytes tops
+
+abbrev pub Sound : Type 0
+Sound = (limits : Limits) (bytes : List ℕ) → IsRead bytes (reading limits bytes)
+
+-- a step from behind a path and the front of an item gives an item and the path with it, or it keeps the path; it ends
+-- where nothing is open and nothing but blanks is left
+abbrev pub EachStepFollows : Type 0
+EachStepFollows =
+    (limits : Limits) (bytes : List ℕ) (path : Path SymbolAt ℕ) (s : State) → At bytes path s → Follows bytes path s (step limits s)
+
+-- each step takes a byte
+abbrev pub EachStepFalls : Type 0
+EachStepFalls = (limits : Limits) → Shrinks (step limits) size
+
+-- limits that nothing that stands in so many bytes passes
+abbrev pub Allows : Limits → List ℕ → Type 0
+Allows limits bytes = (length bytes ≤ limits.depth) × (16 * length bytes ≤ limits.scalar)
+
+-- whatever path the bytes have, its items are read first where the limits allow them
+abbrev pub Complete : Type 0
+Complete =
+    (limits : Limits) (bytes : List ℕ) (q : ℕ) (path : Path SymbolAt ℕ) → Allows limits bytes → IsPath bytes q path
+    → (rest : Reading) × (reading limits bytes ≡ behind (path_items path) rest)
+
+-- and a stream is read to its end
+abbrev pub StreamsAreRead : Type 0
+StreamsAreRead =
+    (limits : Limits) (bytes : List ℕ) (tops : List (Top SymbolAt ℕ)) → Allows limits bytes → Stream bytes tops
+    → reading limits bytes ≡ behind (path_items (closed tops)) Finished
+
+abbrev pub IsLimit : Reason → Type 0
+IsLimit reason = (reason ≡ DepthLimit) ⊎ (reason ≡ ScalarLimit) ⊎ (reason ≡ AnnotationLimit)
+
+-- limits of which the others pass nothing that these do not
+pub record AreWithin (limits wide : Limits) : Type 0 where
+  pub depth : limits.depth ≤ wide.depth
+  pub scalar : limits.scalar ≤ wide.scalar
+
+-- a limit is passed where a reading stands, at the place of the next token: by this token, by the container that it
+-- begins, or by the annotations with the one that it is
+pub data Passes (limits : Limits) (s : State) (place : ℕ) : Reason → Type 0 where
+  token : next_token (Some limits.scalar) (in_sexp (innermost s.kinds)) s.cursor ≡ Err (ScalarLimit, place)
+      → Passes limits s place ScalarLimit
+  container : (k : Kind) (d : Cursor) → Tok (in_sexp (innermost s.kinds)) s.cursor (begin k) place d
+      → limits.depth ≤ length s.kinds → Passes limits s place DepthLimit
+  annotations : (field : Option SymbolAt) (notes : List SymbolAt) (quoted : Bool) (symbol : Symbol) (q : ℕ) (d e : Cursor)
+      → s.wants ≡ a_value field notes → Tok (in_sexp (innermost s.kinds)) s.cursor (name quoted symbol) place d
+      → Tok (in_sexp (innermost s.kinds)) d colons q e → limits.scalar < sum_by cost (notes ++ at symbol place ∷ [])
+      → Passes limits s place AnnotationLimit
+
+-- two readings come to one state with the same items; there one stops, since its limits are passed, and the other goes
+-- on
+pub record IsCut (limits wide : Limits) (bytes : List ℕ) : Type 0 where
+  pub path : Path SymbolAt ℕ
+  pub state : State
+  pub stands : At bytes path state
+  pub reason : Reason
+  pub place : ℕ
+  pub passes : Passes limits state place reason
+  pub short : reading limits bytes ≡ behind (path_items path) (Stopped reason place)
+  pub long : reading wide bytes ≡ behind (path_items path) (reading_by (step wide) size state)
+
+-- narrower limits change nothing, or cut the reading short where they are passed
+abbrev pub Narrow : Type 0
+Narrow =
+    (limits wide : Limits) (bytes : List ℕ) → AreWithin limits wide
+    → (reading limits bytes ≡ reading wide bytes) ⊎ IsCut limits wide bytes
+
+-- where a reading stops, and not at a limit, the bytes are no stream
+abbrev pub RightlyRefused : Type 0
+RightlyRefused =
+    (limits : Limits) (bytes : List ℕ) (reason : Reason) (place : ℕ) (tops : List (Top SymbolAt ℕ))
+    → ending_of (reading limits bytes) ≡ Stopped reason place → (IsLimit reason → ⊥) → Stream bytes tops → ⊥
+
+-- one list of items begins another
+abbrev pub IsBegun : List PlacedItem → List PlacedItem → Type 0
+IsBegun items all = (more : List PlacedItem) × (all ≡ items ++ more)
+
+-- of two paths of the same bytes the items of one begin the other's
+abbrev pub OnePath : Type 0
+OnePath =
+    (bytes : List ℕ) (q r : ℕ) (a b : Path SymbolAt ℕ) → IsPath bytes q a → IsPath bytes r b
+    → IsBegun (path_items a) (path_items b) ⊎ IsBegun (path_items b) (path_items a)
+
+-- the same bytes are one list of markers and values
+abbrev pub OneStream : Type 0
+OneStream = (bytes : List ℕ) (a b : List (Top SymbolAt ℕ)) → Stream bytes a → Stream bytes b → a ≡ b

@@ -1,0 +1,12 @@
+pub mod Places
+pub mod Limit
+pub mod Positions
+pub mod Blanks
+pub mod Quoted
+pub mod Lob
+pub mod Token
+pub mod Reading
+pub mod Grammar
+pub mod Paths
+pub mod Laws
+pub mod Meaning

@@ -1,0 +1,159 @@
+-- What a token means: the text of a scalar is read as that scalar, whatever stands behind it that does not go
+-- on with it, and the characters of a blob are the base64 of its bytes.
+use Rattle.std.specs.Prelude.{◌≡◌, ◌≢◌, ℕ, ◌+◌, ◌*◌, ◌<◌, ◌≤◌, Bool, true, false, not, ◌&&◌, ◌||◌, ◌==◌, List, [], ◌∷◌, ◌++◌, All, length, filter, codes, Option, Some, None, Ok}
+use Rattle.std.specs.Str.{is_utf8}
+use Rattle.base64.specs.Engines.{standard}
+use Rattle.base64.specs.GeneralPurpose.{encode_of}
+use Rattle.ion_meter.specs.Sources.{Cursor}
+use Rattle.ion_value.specs.declared.decimal.Decimal.{Decimal}
+use Rattle.ion_value.specs.declared.int.Int.{Int}
+use Rattle.ion_value.specs.declared.ion_type.IonType.{IonType}
+use Rattle.ion_value.specs.declared.ion_type.IonType.TheVariants as type
+use Rattle.ion_value.specs.declared.timestamp.Timestamp.{Timestamp}
+use Rattle.ion_value.specs.Decimal.{IsDecimal, decimal_text}
+use Rattle.ion_value.specs.Digits.{is_hex_digit, digit_value, first_is, all_are}
+use Rattle.ion_value.specs.Int.{IsInt, int_text}
+use Rattle.ion_value.specs.Name.{null_text, bool_text, is_plain}
+use Rattle.ion_value.specs.Timestamp.{IsTimestamp, timestamp_text}
+use Rattle.ion_value.specs.Value.{Text, null, bool, int, decimal, timestamp, clob, blob}
+use Rattle.ion_text_in.specs.Blanks.{is_white}
+use Rattle.ion_text_in.specs.Token as tokens
+use Rattle.ion_text_in.specs.Token.{Token, plain, in_run, in_word, token_at}
+
+-- a limit on what a token counts, where there is one
+abbrev pub Limit : Type 0
+Limit = Option ℕ
+
+-- a limit that so many bytes do not pass
+abbrev pub Allows : Limit → ℕ → Type 0
+Allows None count = Unit {0}
+Allows (Some limit) count = count ≤ limit
+
+abbrev pub at : ℕ → List ℕ → Cursor
+at place rest = record { place = place; rest = rest }
+
+-- a text is a token wherever it stands and whatever stands behind it that does not go on with it, under every
+-- limit that allows so many bytes
+abbrev pub Means : ℕ → (List ℕ → Bool) → List ℕ → Token → Type 0
+Means count goes_on text t =
+    (limit : Limit) (sexp : Bool) (place : ℕ) (rest : List ℕ) → Allows limit count → goes_on rest ≡ false
+    → token_at limit sexp (at place (text ++ rest)) ≡ Ok (t, at (place + length text) rest)
+
+-- ---- words
+
+-- a point too goes on with `null` alone
+abbrev pub behind_null : IonType → List ℕ → Bool
+behind_null type.Null rest = in_word rest || first_is (λ b. b == 46) rest
+behind_null t rest = in_word rest
+
+abbrev pub NullTextIsRead : Type 0
+NullTextIsRead = (t : IonType) → Means (length (null_text t)) (behind_null t) (null_text t) (plain (null t))
+
+abbrev pub BoolTextIsRead : Type 0
+BoolTextIsRead = (truth : Bool) → Means (length (bool_text truth)) in_word (bool_text truth) (plain (bool truth))
+
+-- an identifier that means nothing else
+abbrev pub PlainSymbolIsRead : Type 0
+PlainSymbolIsRead =
+    (word : List ℕ) → is_plain word ≡ true → Means (length word) in_word word (tokens.name false (Text word))
+
+-- ---- runs
+
+abbrev pub IntTextIsRead : Type 0
+IntTextIsRead = (i : Int) → IsInt i → Means (length (int_text i)) in_run (int_text i) (plain (int i))
+
+abbrev pub DecimalTextIsRead : Type 0
+DecimalTextIsRead =
+    (d : Decimal) → IsDecimal d → Means (length (decimal_text d)) in_run (decimal_text d) (plain (decimal d))
+
+abbrev pub TimestampTextIsRead : Type 0
+TimestampTextIsRead =
+    (t : Timestamp) → IsTimestamp t → Means (length (timestamp_text t)) in_run (timestamp_text t) (plain (timestamp t))
+
+-- ---- blobs
+
+-- without white space
+abbrev pub solid : List ℕ → List ℕ
+solid bytes = filter (λ b. not (is_white b)) bytes
+
+-- the base64 of some bytes, with white space anywhere
+abbrev pub IsBase64 : List ℕ → List ℕ → Type 0
+IsBase64 chars bytes = solid chars ≡ encode_of standard bytes
+
+-- such characters between braces are a blob of these bytes
+abbrev pub Base64IsRead : Type 0
+Base64IsRead =
+    (chars bytes : List ℕ) → All (λ octet. octet < 256) bytes → IsBase64 chars bytes
+    → Means (length bytes) (λ rest. false) (codes "{{" ++ (chars ++ codes "}}")) (plain (blob bytes))
+
+-- the characters of a blob and the braces that close it, from one place to another
+pub record BlobText (bytes : List ℕ) (c d : Cursor) : Type 0 where
+  pub chars : List ℕ
+  pub text : c.rest ≡ chars ++ (125 ∷ 125 ∷ d.rest)
+  pub place : d.place ≡ c.place + (length chars + 2)
+  pub base64 : IsBase64 chars bytes
+
+-- and no other characters are
+abbrev pub BlobsAreBase64 : Type 0
+BlobsAreBase64 =
+    (limit : Limit) (sexp : Bool) (place : ℕ) (rest bytes : List ℕ) (d : Cursor) → All (λ octet. octet < 256) rest
+    → token_at limit sexp (at place (123 ∷ 123 ∷ rest)) ≡ Ok (plain (blob bytes), d)
+    → BlobText bytes (at (place + 2) rest) d
+
+-- ---- texts between quotes
+
+-- the letter of an escape behind a backslash, and the byte that it means
+pub data Escape : ℕ → ℕ → Type 0 where
+  bell : Escape 97 7
+  backspace : Escape 98 8
+  tab : Escape 116 9
+  line_feed : Escape 110 10
+  form_feed : Escape 102 12
+  carriage_return : Escape 114 13
+  vertical_tab : Escape 118 11
+  nul : Escape 48 0
+  question_mark : Escape 63 63
+  double_quote : Escape 34 34
+  single_quote : Escape 39 39
+  backslash : Escape 92 92
+  slash : Escape 47 47
+
+-- how a byte may be written between such quotes: as itself, which in a clob is ASCII alone, by an escape, or by
+-- its code in two digits, which is ASCII alone but in a clob
+pub data Char (quote : ℕ) (in_clob : Bool) : List ℕ → ℕ → Type 0 where
+  shown : (b : ℕ) → 32 ≤ b → b ≢ quote → b ≢ 92 → (in_clob ≡ true → b < 128) → Char quote in_clob (b ∷ []) b
+  escaped : (letter b : ℕ) → Escape letter b → Char quote in_clob (92 ∷ letter ∷ []) b
+  coded : (x y : ℕ) → is_hex_digit x ≡ true → is_hex_digit y ≡ true
+      → (in_clob ≡ false → 16 * digit_value x + digit_value y < 128)
+      → Char quote in_clob (92 ∷ 120 ∷ x ∷ y ∷ []) (16 * digit_value x + digit_value y)
+
+-- characters between such quotes, and the bytes that they mean
+pub data Chars (quote : ℕ) (in_clob : Bool) : List ℕ → List ℕ → Type 0 where
+  none : Chars quote in_clob [] []
+  and_then : {text chars bytes : List ℕ} {b : ℕ} → Char quote in_clob text b → Chars quote in_clob chars bytes
+      → Chars quote in_clob (text ++ chars) (b ∷ bytes)
+
+abbrev pub quoted : ℕ → List ℕ → List ℕ
+quoted quote chars = quote ∷ (chars ++ quote ∷ [])
+
+abbrev pub StringTextIsRead : Type 0
+StringTextIsRead =
+    (chars bytes : List ℕ) → Chars 34 false chars bytes → is_utf8 bytes ≡ true
+    → Means (length bytes) (λ rest. false) (quoted 34 chars) (tokens.text bytes)
+
+-- behind two quotes alone a third begins a long string
+abbrev pub behind_symbol : List ℕ → List ℕ → Bool
+behind_symbol bytes rest = length bytes == 0 && first_is (λ b. b == 39) rest
+
+abbrev pub QuotedSymbolIsRead : Type 0
+QuotedSymbolIsRead =
+    (chars bytes : List ℕ) → Chars 39 false chars bytes → is_utf8 bytes ≡ true
+    → Means (length bytes) (behind_symbol bytes) (quoted 39 chars) (tokens.name true (Text bytes))
+
+-- a clob has white space around its quotes, and no comments
+abbrev pub ClobTextIsRead : Type 0
+ClobTextIsRead =
+    (front chars back bytes : List ℕ)
+    → all_are is_white front ≡ true → Chars 34 true chars bytes → all_are is_white back ≡ true
+    → Means (length bytes) (λ rest. false) (codes "{{" ++ (front ++ (quoted 34 chars ++ (back ++ codes "}}"))))
+    (plain (clob bytes))

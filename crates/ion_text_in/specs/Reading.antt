@@ -1,0 +1,246 @@
+-- Reading a text: its items in order, and how they end. In each part of an item the first line that refuses is its fault.
+use Rattle.std.specs.Prelude.{ℕ, ◌+◌, Bool, true, false, not, ◌||◌, nat_le, nat_lt, if◌then◌else◌, List, [], ◌∷◌, ◌++◌, length, sum_by, Option, Some, None, Result, Ok, Err}
+use Rattle.std.specs.Str.{bytes_eq}
+use Rattle.ion_meter.specs.declared.fault.Reason.{Reason}
+use Rattle.ion_meter.specs.declared.fault.Reason.TheVariants.{Truncated, BadToken, BadVersion, Float, DepthLimit, AnnotationLimit}
+use Rattle.ion_meter.specs.declared.limits.Limits.{Limits}
+use Rattle.ion_value.specs.declared.ion_type.Kind.{Kind}
+use Rattle.ion_value.specs.declared.ion_type.Kind.TheVariants as kind
+use Rattle.ion_value.specs.Name.{is_version, version_word}
+use Rattle.ion_value.specs.Value as value
+use Rattle.ion_value.specs.Value.{Symbol, SymbolAt, Scalar, Head, PlacedItem}
+use Rattle.ion_value.specs.Reading.{Reading, Step, Ends, Stops, Gives, GoesOn, reading_by}
+use Rattle.ion_meter.specs.Sources.{Cursor, skip}
+use Rattle.ion_value.specs.Parts.{Placed, part, refuse, ◌>>=◌, ◌>>◌}
+use Rattle.ion_text_in.specs.Positions.{Wants, a_value, a_field, a_separator, State, innermost, in_sexp, has_commas, at, first_place}
+use Rattle.ion_text_in.specs.Blanks.{blanks}
+use Rattle.ion_text_in.specs.Token.{First, a_word, a_quoted, a_short, a_long, a_run, a_lob, an_operator, an_infinity, a_begin, an_end, a_comma, a_colon, two_colons, no_token, first_at, Token, plain, name, text, operator, no_number, begin, end, comma, token_of}
+
+-- ---- members
+
+-- where a member may begin
+abbrev pub member_of : Kind → Wants
+member_of kind.Struct = a_field
+member_of kind.List = a_value None []
+member_of kind.Sexp = a_value None []
+
+abbrev pub at_member : Option Kind → Wants
+at_member None = a_value None []
+at_member (Some k) = member_of k
+
+-- behind a member a comma must come where there are commas, or the container's end
+abbrev pub behind_member : Option Kind → Wants
+behind_member k = if has_commas k then a_separator else a_value None []
+
+-- ---- which tokens may come
+
+abbrev pub is_punctuation : First → Bool
+is_punctuation (a_begin k) = true
+is_punctuation (an_end k) = true
+is_punctuation a_comma = true
+is_punctuation a_colon = true
+is_punctuation two_colons = true
+is_punctuation no_token = true
+is_punctuation a_run = false
+is_punctuation a_word = false
+is_punctuation a_quoted = false
+is_punctuation a_short = false
+is_punctuation a_long = false
+is_punctuation a_lob = false
+is_punctuation an_operator = false
+is_punctuation an_infinity = false
+
+abbrev pub names_field : First → Bool
+names_field a_word = true
+names_field a_quoted = true
+names_field a_short = true
+names_field a_long = true
+names_field a_run = false
+names_field a_lob = false
+names_field an_operator = false
+names_field an_infinity = false
+names_field (a_begin k) = false
+names_field (an_end k) = false
+names_field a_comma = false
+names_field a_colon = false
+names_field two_colons = false
+names_field no_token = false
+
+-- a token that so begins is read, and may have faults of its own, before it is found not to belong here
+unfoldable pub may_come : Wants → First → Bool
+may_come (a_value field notes) first = true
+may_come a_field first = is_punctuation first || names_field first
+may_come a_separator first = is_punctuation first
+
+-- ---- items
+
+abbrev pub top_of : List Kind → ℕ → List SymbolAt → ℕ → ℕ
+top_of [] top notes place = first_place notes place
+top_of (k ∷ kinds) top notes place = top
+
+abbrev pub item_of : ℕ → Option SymbolAt → List SymbolAt → ℕ → Head SymbolAt → PlacedItem
+item_of top field notes place head = record { field = field; annotations = notes; head = head; place = place; top = top }
+
+-- an item whose head begins at a place, and what must come behind it
+abbrev pub given : List Kind → ℕ → Option SymbolAt → List SymbolAt → ℕ → Head SymbolAt → List Kind → Wants → Cursor → Step State
+given kinds top field notes place head after wants c =
+    Gives (item_of (top_of kinds top notes place) field notes place head)
+    (record { kinds = after; top = top_of kinds top notes place; wants = wants; cursor = c })
+
+abbrev pub scalar_given : List Kind → ℕ → Option SymbolAt → List SymbolAt → ℕ → Scalar SymbolAt → Cursor → Step State
+scalar_given kinds top field notes place body c =
+    given kinds top field notes place (value.whole body) kinds (behind_member (innermost kinds)) c
+
+abbrev pub going_on : List Kind → ℕ → Wants → Cursor → Step State
+going_on kinds top wants c = GoesOn (record { kinds = kinds; top = top; wants = wants; cursor = c })
+
+-- ---- symbols where a value may stand
+
+-- what an annotation costs
+abbrev pub cost : SymbolAt → ℕ
+cost a = cost_of a.symbol where
+  cost_of : Symbol → ℕ
+  cost_of (value.Text bytes) = 16 + length bytes
+  cost_of (value.Id id) = 16
+
+abbrev pub noted : Limits → List Kind → ℕ → Option SymbolAt → List SymbolAt → SymbolAt → Cursor → Result (Step State) Reason
+noted limits kinds top field notes a c = do
+  refuse (nat_lt limits.scalar (sum_by cost (notes ++ a ∷ []))) AnnotationLimit
+  Ok (going_on kinds top (a_value field (notes ++ a ∷ [])) c)
+
+-- a version's word without quotes and annotations at top level
+unfoldable pub tells_version : Option Kind → List SymbolAt → Bool → Symbol → Bool
+tells_version None [] false (value.Text word) = is_version word
+tells_version _ _ _ _ = false
+
+abbrev pub is_marker : Symbol → Bool
+is_marker (value.Text word) = bytes_eq version_word word
+is_marker (value.Id id) = false
+
+abbrev pub version_given : List Kind → ℕ → Option SymbolAt → List SymbolAt → SymbolAt → Cursor → Result (Step State) Reason
+version_given kinds top field notes a c = do
+  refuse (not (is_marker a.symbol)) BadVersion
+  Ok (given kinds top field notes a.place value.marker kinds (behind_member (innermost kinds)) c)
+
+abbrev pub value_or_version : List Kind → ℕ → Option SymbolAt → List SymbolAt → SymbolAt → Cursor → Bool → Result (Step State) Reason
+value_or_version kinds top field notes a c true = version_given kinds top field notes a c
+value_or_version kinds top field notes a c false = Ok (scalar_given kinds top field notes a.place (value.symbol a) c)
+
+-- behind the two colons, where they are the next token
+abbrev pub colons_at : First → Cursor → Option Cursor
+colons_at two_colons c = Some (skip 2 c)
+colons_at _ c = None
+
+abbrev pub colons_behind : Bool → Placed Cursor → Option Cursor
+colons_behind sexp (Ok c) = colons_at (first_at sexp c.rest) c
+colons_behind sexp (Err fault) = None
+
+abbrev pub behind_colons : Bool → Cursor → Option Cursor
+behind_colons sexp c = colons_behind sexp (blanks c)
+
+-- an annotation where two colons follow, else the value or a marker
+abbrev pub symbol_given : Limits → List Kind → ℕ → Option SymbolAt → List SymbolAt → Bool → SymbolAt → Cursor → Option Cursor → Result (Step State) Reason
+symbol_given limits kinds top field notes quoted a c (Some behind) = noted limits kinds top field notes a behind
+symbol_given limits kinds top field notes quoted a c None =
+    value_or_version kinds top field notes a c (tells_version (innermost kinds) notes quoted a.symbol)
+
+-- ---- brackets, commas and fields
+
+abbrev pub is_same : Kind → Kind → Bool
+is_same kind.List kind.List = true
+is_same kind.Sexp kind.Sexp = true
+is_same kind.Struct kind.Struct = true
+is_same _ _ = false
+
+abbrev pub closed : List Kind → ℕ → Kind → ℕ → Cursor → Result (Step State) Reason
+closed [] top k place c = Err BadToken
+closed (j ∷ kinds) top k place c = do
+  refuse (not (is_same j k)) BadToken
+  Ok (Gives (item_of top None [] place value.end) (record { kinds = kinds; top = top; wants = behind_member (innermost kinds); cursor = c }))
+
+-- nothing closes behind a field or an annotation
+abbrev pub closed_bare : Option SymbolAt → List SymbolAt → List Kind → ℕ → Kind → ℕ → Cursor → Result (Step State) Reason
+closed_bare None [] kinds top k place c = closed kinds top k place c
+closed_bare _ _ kinds top k place c = Err BadToken
+
+abbrev pub begun : Limits → List Kind → ℕ → Option SymbolAt → List SymbolAt → Kind → ℕ → Cursor → Result (Step State) Reason
+begun limits kinds top field notes k place c = do
+  refuse (nat_le limits.depth (length kinds)) DepthLimit
+  Ok (given kinds top field notes place (value.begin k) (k ∷ kinds) (member_of k) c)
+
+-- behind a field's name
+abbrev pub colon_of : List Kind → ℕ → SymbolAt → Cursor → First → Placed (Step State)
+colon_of kinds top a c a_colon = Ok (going_on kinds top (a_value (Some a) []) (skip 1 c))
+colon_of kinds top a c _ = Err (BadToken, c.place)
+
+abbrev pub colon_from : List Kind → ℕ → SymbolAt → Cursor → List ℕ → Placed (Step State)
+colon_from kinds top a c [] = Err (Truncated, c.place)
+colon_from kinds top a c (b ∷ bytes) = colon_of kinds top a c (first_at false (b ∷ bytes))
+
+abbrev pub named : List Kind → ℕ → SymbolAt → Cursor → Placed (Step State)
+named kinds top a c = do
+  d ← blanks c
+  colon_from kinds top a d d.rest
+
+-- ---- a part
+
+-- what a token that begins at a place makes of what must come
+unfoldable pub take : Limits → List Kind → ℕ → Wants → ℕ → Token → Cursor → Placed (Step State)
+take limits kinds top a_separator place (end k) c = part place (closed kinds top k place c)
+take limits kinds top a_separator place comma c = Ok (going_on kinds top (at_member (innermost kinds)) c)
+take limits kinds top a_field place (end k) c = part place (closed kinds top k place c)
+take limits kinds top a_field place (name quoted symbol) c = named kinds top (at symbol place) c
+take limits kinds top a_field place (text bytes) c = named kinds top (at (value.Text bytes) place) c
+take limits kinds top (a_value field notes) place (end k) c = part place (closed_bare field notes kinds top k place c)
+take limits kinds top (a_value field notes) place (plain body) c = Ok (scalar_given kinds top field notes place body c)
+take limits kinds top (a_value field notes) place (text bytes) c = Ok (scalar_given kinds top field notes place (value.string bytes) c)
+take limits kinds top (a_value field notes) place (operator bytes) c =
+    Ok (scalar_given kinds top field notes place (value.symbol (at (value.Text bytes) place)) c)
+take limits kinds top (a_value field notes) place (name quoted symbol) c =
+    part place (symbol_given limits kinds top field notes quoted (at symbol place) c (behind_colons (in_sexp (innermost kinds)) c))
+take limits kinds top (a_value field notes) place (begin k) c = part place (begun limits kinds top field notes k place c)
+take limits kinds top (a_value field notes) place no_number c = Err (Float, place)
+take limits kinds top _ place _ c = Err (BadToken, place)
+
+-- the stream ends where nothing is open and a value may begin
+abbrev pub ended : List Kind → Wants → ℕ → Placed (Step State)
+ended [] (a_value None []) place = Ok Ends
+ended _ _ place = Err (Truncated, place)
+
+abbrev pub coming : Limits → State → Cursor → First → Bool → Placed (Step State)
+coming limits s c first false = Err (BadToken, c.place)
+coming limits s c first true = do
+  t ← part c.place (token_of (Some limits.scalar) first c)
+  take limits s.kinds s.top s.wants c.place t.0 t.1
+
+abbrev pub part_from : Limits → State → Cursor → First → Placed (Step State)
+part_from limits s c first = coming limits s c first (may_come s.wants first)
+
+abbrev pub part_behind : Limits → State → Cursor → List ℕ → Placed (Step State)
+part_behind limits s c [] = ended s.kinds s.wants c.place
+part_behind limits s c (b ∷ bytes) = part_from limits s c (first_at (in_sexp (innermost s.kinds)) (b ∷ bytes))
+
+unfoldable pub part_at : Limits → State → Placed (Step State)
+part_at limits s = do
+  c ← blanks s.cursor
+  part_behind limits s c c.rest
+
+-- ---- the stream
+
+abbrev pub step_of : Placed (Step State) → Step State
+step_of (Ok s) = s
+step_of (Err fault) = Stops fault.0 fault.1
+
+unfoldable pub step : Limits → State → Step State
+step limits s = step_of (part_at limits s)
+
+-- each part takes a byte
+abbrev pub size : State → ℕ
+size s = length s.cursor.rest
+
+abbrev pub start : List ℕ → State
+start bytes = record { kinds = []; top = 0; wants = a_value None []; cursor = record { place = 0; rest = bytes } }
+
+-- all that a reader gives of these bytes
+unfoldable pub reading : Limits → List ℕ → Reading
+reading limits bytes = reading_by (step limits) size (start bytes)

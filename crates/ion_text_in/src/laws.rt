@@ -1,0 +1,141 @@
+//! Laws of the grammar and the reading of the text form, each the contract of a function that does
+//! nothing.
+ghost use Rattle.ion_text_in.specs.Meaning.{Base64IsRead, BlobsAreBase64, BoolTextIsRead, ClobTextIsRead, DecimalTextIsRead, IntTextIsRead, NullTextIsRead, PlainSymbolIsRead, QuotedSymbolIsRead, StringTextIsRead, TimestampTextIsRead};
+ghost use Rattle.ion_text_in.specs.Laws.{Complete, EachStepFalls, EachStepFollows, Narrow, OnePath, OneStream, RightlyRefused, Sound, StreamsAreRead};
+
+/// What is read is a path of the grammar, and where the reading finishes, the whole input is a
+/// stream.
+pub fn what_is_read_is_spelled()
+    ensures { Sound }
+{}
+
+/// Each step of a reading leads from a path of the grammar to the path with the item that it gives,
+/// and it ends where nothing is open and nothing but blanks is left.
+pub fn each_step_follows()
+    ensures { EachStepFollows }
+{}
+
+/// Each step of a reading takes a byte.
+pub fn each_step_falls()
+    ensures { EachStepFalls }
+{}
+
+/// Whatever path of the grammar the front of an input spells, its items are read first, under
+/// limits that allow them.
+pub fn what_is_spelled_is_read()
+    ensures { Complete }
+{}
+
+/// A stream is read to its end, under limits that allow it.
+pub fn streams_are_read()
+    ensures { StreamsAreRead }
+{}
+
+/// Narrower limits change nothing in what is read, or cut it short at the token, container or
+/// annotation that passes them.
+pub fn limits_only_cut_short()
+    ensures { Narrow }
+{}
+
+/// Where a reading stops, and not at a limit, the input is no stream of the grammar.
+pub fn rightly_refused()
+    ensures { RightlyRefused }
+{}
+
+/// Of two paths of one input, the items of one begin the other's.
+pub fn one_path()
+    ensures { OnePath }
+{}
+
+/// An input is one stream of markers and values at most.
+pub fn one_stream()
+    ensures { OneStream }
+{}
+
+/// The text of a null is a token that means this null.
+pub fn null_text_is_read()
+    ensures { NullTextIsRead }
+{}
+
+/// The text of a truth value is a token that means it.
+pub fn bool_text_is_read()
+    ensures { BoolTextIsRead }
+{}
+
+/// The text of an int is a token that means this int.
+pub fn int_text_is_read()
+    ensures { IntTextIsRead }
+{}
+
+/// The text of a decimal is a token that means this decimal.
+pub fn decimal_text_is_read()
+    ensures { DecimalTextIsRead }
+{}
+
+/// The text of a timestamp is a token that means this timestamp.
+pub fn timestamp_text_is_read()
+    ensures { TimestampTextIsRead }
+{}
+
+/// What is read as a blob is the base64 of its bytes, with white space anywhere, and the braces that
+/// close it.
+pub fn blobs_are_base64()
+    ensures { BlobsAreBase64 }
+{}
+
+/// The base64 of some bytes, with white space anywhere, between double braces is read as the blob of
+/// these bytes.
+pub fn base64_is_read()
+    ensures { Base64IsRead }
+{}
+
+/// Characters between double quotes are a token that means the bytes that they spell, by themselves
+/// or by escapes.
+pub fn string_text_is_read()
+    ensures { StringTextIsRead }
+{}
+
+/// Characters between single quotes are a token that means the symbol that they spell.
+pub fn quoted_symbol_is_read()
+    ensures { QuotedSymbolIsRead }
+{}
+
+/// Characters between double quotes in double braces, with white space around them, are a token that
+/// means the clob of the bytes that they spell.
+pub fn clob_text_is_read()
+    ensures { ClobTextIsRead }
+{}
+
+/// An identifier that means nothing else is a token that means the symbol of its bytes.
+pub fn plain_symbol_is_read()
+    ensures { PlainSymbolIsRead }
+{}
+
+#[cfg(test)]
+mod tests {
+    use super::*;
+
+    #[test]
+    fn states_laws() {
+        what_is_read_is_spelled();
+        each_step_follows();
+        each_step_falls();
+        what_is_spelled_is_read();
+        streams_are_read();
+        limits_only_cut_short();
+        rightly_refused();
+        one_path();
+        one_stream();
+        null_text_is_read();
+        bool_text_is_read();
+        int_text_is_read();
+        decimal_text_is_read();
+        timestamp_text_is_read();
+        blobs_are_base64();
+        base64_is_read();
+        string_text_is_read();
+        quoted_symbol_is_read();
+        clob_text_is_read();
+        plain_symbol_is_read();
+    }
+}

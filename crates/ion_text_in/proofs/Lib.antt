@@ -7,3 +7,4 @@ mod Tokens
 mod Complete
 mod Wider
 mod One
+mod Rows

@@ -441,6 +441,18 @@ symbol_of_surrogate : read "'\\uD83D'" ≡ shown "BadText at 0"
 unfolding read_within
 symbol_of_surrogate = refl
 
+high_in_open_string : read "\"\\uD83Dx" ≡ shown "BadText at 0"
+unfolding read_within
+high_in_open_string = refl
+
+low_in_open_string : read "\"\\uDE00" ≡ shown "BadText at 0"
+unfolding read_within
+low_in_open_string = refl
+
+pair_in_open_string : read "\"\\uD83D\\uDE00" ≡ shown "Truncated at 0"
+unfolding read_within
+pair_in_open_string = refl
+
 long_escape : read "\"\\U0001F600\"" ≡ shown "0 \"\\f0\\9f\\98\\80\"; done"
 unfolding read_within
 long_escape = refl

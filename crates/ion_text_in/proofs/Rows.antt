@@ -453,6 +453,10 @@ pair_in_open_string : read "\"\\uD83D\\uDE00" ≡ shown "Truncated at 0"
 unfolding read_within
 pair_in_open_string = refl
 
+past_unicode_in_open_string : read "\"\\U00110000" ≡ shown "BadText at 0"
+unfolding read_within
+past_unicode_in_open_string = refl
+
 long_escape : read "\"\\U0001F600\"" ≡ shown "0 \"\\f0\\9f\\98\\80\"; done"
 unfolding read_within
 long_escape = refl
@@ -597,6 +601,10 @@ null_and_operator : read "(null .int)" ≡ shown "0 (; 1/0 null; 6/0 '.'@6; 7/0 
 unfolding read_within
 null_and_operator = refl
 
+point_behind_symbol : read "(nulls.a)" ≡ shown "0 (; 1/0 'nulls'@1; 6/0 '.'@6; 7/0 'a'@7; 8/0 end; done"
+unfolding read_within
+point_behind_symbol = refl
+
 keyword_and_more : read "truely nulls nano" ≡ shown "0 'truely'@0; 7 'nulls'@7; 13 'nano'@13; done"
 unfolding read_within
 keyword_and_more = refl
@@ -638,6 +646,10 @@ line_to_the_end = refl
 cut_block : read "(/*)" ≡ shown "0 (; Truncated at 1"
 unfolding read_within
 cut_block = refl
+
+each_white : read " \t\n\x0b\x0c\r5" ≡ shown "6 5; done"
+unfolding read_within
+each_white = refl
 
 stars : read "/***/5//" ≡ shown "5 5; done"
 unfolding read_within
@@ -840,6 +852,10 @@ braces_apart = refl
 braces_apart_before : read "{ {}}" ≡ shown "0 {; BadToken at 2"
 unfolding read_within
 braces_apart_before = refl
+
+second_group_limit : read_within 64 5 "{{YWJjYWJj}}" ≡ shown "ScalarLimit at 0"
+unfolding read_within
+second_group_limit = refl
 
 blob_limit : read_within 64 2 "{{YWJj}}" ≡ shown "ScalarLimit at 0"
 unfolding read_within

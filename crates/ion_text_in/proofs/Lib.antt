@@ -14,3 +14,4 @@ mod Blobs
 mod Strings
 mod Narrow
 mod Refused
+mod Rows

@@ -229,11 +229,11 @@ version_in_quotes : read "'$ion_1_0'" ≡ shown "0 '$ion_1_0'@0; done"
 unfolding read_within
 version_in_quotes = refl
 
-byte_order_mark : read "\u{ef}\u{bb}\u{bf}5" ≡ shown "BadToken at 0"
+byte_order_mark : read "ï»¿5" ≡ shown "BadToken at 0"
 unfolding read_within
 byte_order_mark = refl
 
-binary_without_marker : read "!\x05" ≡ shown "BadToken at 0"
+binary_without_marker : read "!\u{5}" ≡ shown "BadToken at 0"
 unfolding read_within
 binary_without_marker = refl
 
@@ -469,15 +469,15 @@ cut_pair_is_not_counted : read_within 64 1 "\"a\\uD83D\\uDE0" ≡ shown "Truncat
 unfolding read_within
 cut_pair_is_not_counted = refl
 
-split_character : read "\"\u{c3}\\\n\u{a9}\"" ≡ shown "0 \"\\c3\\a9\"; done"
+split_character : read "\"Ã\\\n©\"" ≡ shown "0 \"\\c3\\a9\"; done"
 unfolding read_within
 split_character = refl
 
-split_over_segments : read "'''\u{c3}''' '''\u{a9}'''" ≡ shown "BadText at 0"
+split_over_segments : read "'''Ã''' '''©'''" ≡ shown "BadText at 0"
 unfolding read_within
 split_over_segments = refl
 
-surrogate_in_utf8 : read "\"\u{ed}\u{a0}\u{80}\"" ≡ shown "BadText at 0"
+surrogate_in_utf8 : read "\"í\u{a0}\u{80}\"" ≡ shown "BadText at 0"
 unfolding read_within
 surrogate_in_utf8 = refl
 
@@ -647,7 +647,7 @@ cut_block : read "(/*)" ≡ shown "0 (; Truncated at 1"
 unfolding read_within
 cut_block = refl
 
-each_white : read " \t\n\x0b\x0c\r5" ≡ shown "6 5; done"
+each_white : read " \t\n\u{b}\u{c}\r5" ≡ shown "6 5; done"
 unfolding read_within
 each_white = refl
 
@@ -691,11 +691,11 @@ vanishing_line_ends : read "'''a\\\r\nb\\\rc\\\nd'''" ≡ shown "0 \"abcd\"; don
 unfolding read_within
 vanishing_line_ends = refl
 
-raw_controls : read "\"\t\x0b\x0c\x7f\"" ≡ shown "0 \"\\09\\0b\\0c\\7f\"; done"
+raw_controls : read "\"\t\u{b}\u{c}\u{7f}\"" ≡ shown "0 \"\\09\\0b\\0c\\7f\"; done"
 unfolding read_within
 raw_controls = refl
 
-raw_nul : read "\"\x00\"" ≡ shown "BadText at 0"
+raw_nul : read "\"\0\"" ≡ shown "BadText at 0"
 unfolding read_within
 raw_nul = refl
 
@@ -825,7 +825,7 @@ escape_in_clob : read "{{\"\\u0041\"}}" ≡ shown "BadLob at 0"
 unfolding read_within
 escape_in_clob = refl
 
-high_byte_in_clob : read "{{\"\u{c3}\u{a9}\"}}" ≡ shown "BadLob at 0"
+high_byte_in_clob : read "{{\"Ã©\"}}" ≡ shown "BadLob at 0"
 unfolding read_within
 high_byte_in_clob = refl
 

@@ -27,12 +27,12 @@ string-refused b test law e = rw (is_utf8-test b test law, e) refl
 
 -- ---- a body by what holds of it
 
-pub body_here-refused : (limits : Limits) (code n : ℕ) (c : Cursor) (e : Reason) → n ≤ limits.scalar → n ≤ length c.rest → scalar_of_body code (take n c.rest) ≡ Err e
-    → body_here limits code n c ≡ Err e
+pub body_here-refused : (limits : Limits) (type_code n : ℕ) (c : Cursor) (e : Reason) → n ≤ limits.scalar → n ≤ length c.rest → scalar_of_body type_code (take n c.rest) ≡ Err e
+    → body_here limits type_code n c ≡ Err e
 unfolding body_here
-body_here-refused limits code n c e fits there read = rw (le-ltb limits.scalar n fits, le-ltb (length c.rest) n there, read) refl
+body_here-refused limits type_code n c e fits there read = rw (le-ltb limits.scalar n fits, le-ltb (length c.rest) n there, read) refl
 
-pub body_here-read : (limits : Limits) (code n : ℕ) (c : Cursor) (v : Scalar Symbol) → n ≤ limits.scalar → n ≤ length c.rest → scalar_of_body code (take n c.rest) ≡ Ok v
-    → body_here limits code n c ≡ Ok (v, skip n c)
+pub body_here-read : (limits : Limits) (type_code n : ℕ) (c : Cursor) (v : Scalar Symbol) → n ≤ limits.scalar → n ≤ length c.rest → scalar_of_body type_code (take n c.rest) ≡ Ok v
+    → body_here limits type_code n c ≡ Ok (v, skip n c)
 unfolding body_here
-body_here-read limits code n c v fits there read = rw (le-ltb limits.scalar n fits, le-ltb (length c.rest) n there, read) refl
+body_here-read limits type_code n c v fits there read = rw (le-ltb limits.scalar n fits, le-ltb (length c.rest) n there, read) refl

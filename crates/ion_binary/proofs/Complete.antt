@@ -9,13 +9,13 @@ use Rattle.ion_value.specs.Path.{Path, closed, opened, nest_items, path_items}
 use Rattle.ion_value.specs.Reading.{Reading, Finished, More, items_of, behind, Ends, Gives, GoesOn, reading_by, Shrinks}
 use Rattle.ion_value.proofs.Readings.{reading_by-ends, reading_by-gives, reading_by-goes_on, items_of-behind}
 use Rattle.ion_value.proofs.Paths.{same_path}
-use Rattle.ion_binary.specs.Grammar.{IsPad, code, Front, Annotated, Bin, Inside, Tops}
+use Rattle.ion_binary.specs.Grammar.{IsNopPad, type_code, Header, Annotated, Bin, Inside, Tops}
 use Rattle.ion_binary.specs.Laws.{Bodies, Allows, Complete, StreamsAreRead, IsBegun, OnePath, OneStream}
 use Rattle.ion_binary.specs.Paths.{FieldIn, Within, frame_of, open_in, Spells}
 use Rattle.ion_binary.specs.Positions.{placed_scalar, Frame, State}
-use Rattle.ion_binary.specs.Reading.{Around, Found, a_pad, a_marker, a_scalar, a_container, item_of, given, region_of, top_of, step, size, start, reading}
+use Rattle.ion_binary.specs.Reading.{Around, TypedValue, a_nop_pad, a_marker, a_scalar, a_container, placed_item, step_for, region_of, top_of, step, size, start, reading}
 use Rattle.ion_binary.proofs.Spelled.{cursor_at, Holds, Holds-before, Holds-within, Descriptor-headed}
-use Rattle.ion_binary.proofs.SpelledParts.{Suits, Finds, Plain-found, IsPad-found, marker-found, Front-found}
+use Rattle.ion_binary.proofs.SpelledParts.{Suits, Finds, Plain-found, IsNopPad-found, marker-found, Header-found}
 use Rattle.ion_binary.proofs.SpelledMembers.{unwrapped, wrapped_to, value_at-bare, value_at-spelled, member_at-spelled, state, step-member, step-end, step-ends}
 
 abbrev pub Shrinking : Type 0
@@ -63,42 +63,42 @@ Within-before : (frames : List Frame) (p q : ℕ) → Within frames q → p ≤ 
 Within-before [] p q h le = tt
 Within-before (frame ∷ frames) p q h le = omega arith
 
-Front-pos : (k : Kind) (n : ℕ) (front : List ℕ) → Front k n front → 0 < length front
-Front-pos _ _ _ (Front.plain k n head descriptor other) = let headed = Descriptor-headed (code k) n head descriptor in omega (arith, ap length headed.is)
-Front-pos _ _ _ (Front.sorted n len spells some) = omega arith
+Header-pos : (k : Kind) (n : ℕ) (header : List ℕ) → Header k n header → 0 < length header
+Header-pos _ _ _ (Header.plain k n head descriptor other) = let headed = Descriptor-headed (type_code k) n head descriptor in omega (arith, ap length headed.is)
+Header-pos _ _ _ (Header.sorted n len spells some) = omega arith
 
--- a value of n octets, of which what is found is the front, is read in one step
-value_step : (limits : Limits) (frames : List Frame) (top p : ℕ) (f : Option SymbolAt) (b : List ℕ) (q : ℕ) (notes : List SymbolAt) (n : ℕ) (v : Found) (w x rest : List ℕ)
-    → FieldIn frames p f b → q ≡ p + length b → Annotated q notes n w → 16 * length w ≤ limits.scalar → Within frames (q + length w + n) → length x ≤ n
+-- a value of n octets, of which what is found is the header, is read in one step
+value_step : (limits : Limits) (frames : List Frame) (top p : ℕ) (f : Option SymbolAt) (b : List ℕ) (q : ℕ) (annotations : List SymbolAt) (n : ℕ) (v : TypedValue) (w x rest : List ℕ)
+    → FieldIn frames p f b → q ≡ p + length b → Annotated q annotations n w → 16 * length w ≤ limits.scalar → Within frames (q + length w + n) → length x ≤ n
     → ((a : Around) → a.depth ≡ length frames → Suits a (q + length w + n) → Finds limits a (q + length w) v x)
-    → step limits (state frames top (cursor_at p (b ++ (w ++ (x ++ rest))))) ≡ given frames (top_of frames top p) f notes (q + length w) v (cursor_at (q + length w + length x) rest)
-value_step limits frames top p f b q notes n v w x rest field place annotated limit within fits found =
+    → step limits (state frames top (cursor_at p (b ++ (w ++ (x ++ rest))))) ≡ step_for frames (top_of frames top p) f annotations (q + length w) v (cursor_at (q + length w + length x) rest)
+value_step limits frames top p f b q annotations n v w x rest field place annotated limit within fits found =
     let found_wrapped = found (wrapped_to frames (q + length w + n)) refl (record { holds = omega arith; fills = λ w. omega arith }) in
     let some : length x ≡ suc (length found_wrapped.more) = ap length found_wrapped.is in
     let long : length (b ++ (w ++ x)) ≡ length b + length (w ++ x) = length-append b (w ++ x) in
     let longer : length (w ++ x) ≡ length w + length x = length-append w x in
     let holds : Holds (region_of frames) (q + length w + n) = Holds-within frames (q + length w + n) within in
     let parts : (b ++ (w ++ x)) ++ rest ≡ b ++ (w ++ (x ++ rest)) = append_assoc b (w ++ x) rest ∙ ap (λ l. b ++ l) (append_assoc w x rest) in
-    let read = value_at-spelled limits frames (top_of frames top p) f q notes n v w x rest annotated limit holds fits found in
-    rw parts at (step-member limits frames top p (b ++ (w ++ x)) rest (given frames (top_of frames top p) f notes (q + length w) v (cursor_at (q + length w + length x) rest)) (omega arith)
+    let read = value_at-spelled limits frames (top_of frames top p) f q annotations n v w x rest annotated limit holds fits found in
+    rw parts at (step-member limits frames top p (b ++ (w ++ x)) rest (step_for frames (top_of frames top p) f annotations (q + length w) v (cursor_at (q + length w + length x) rest)) (omega arith)
     (Within-before frames (p + length (b ++ (w ++ x))) (q + length w + n) within (omega arith))
     (rw parts
-    (member_at-spelled limits frames top p f b (w ++ (x ++ rest)) (Ok (given frames (top_of frames top p) f notes (q + length w) v (cursor_at (q + length w + length x) rest))) field
+    (member_at-spelled limits frames top p f b (w ++ (x ++ rest)) (Ok (step_for frames (top_of frames top p) f annotations (q + length w) v (cursor_at (q + length w + length x) rest))) field
     (Holds-before (region_of frames) (p + length b) (q + length w + n) holds (omega arith)) (rw (← place) read))))
 
--- a pad, or a marker, is read in one step
-bare_step : (limits : Limits) (frames : List Frame) (top p : ℕ) (f : Option SymbolAt) (b : List ℕ) (v : Found) (x rest : List ℕ)
+-- a NOP pad, or a version marker, is read in one step
+bare_step : (limits : Limits) (frames : List Frame) (top p : ℕ) (f : Option SymbolAt) (b : List ℕ) (v : TypedValue) (x rest : List ℕ)
     → FieldIn frames p f b → Within frames (p + length (b ++ x)) → Finds limits (unwrapped frames) (p + length b) v x
-    → step limits (state frames top (cursor_at p ((b ++ x) ++ rest))) ≡ given frames (top_of frames top p) f [] (p + length b) v (cursor_at (p + length (b ++ x)) rest)
+    → step limits (state frames top (cursor_at p ((b ++ x) ++ rest))) ≡ step_for frames (top_of frames top p) f [] (p + length b) v (cursor_at (p + length (b ++ x)) rest)
 bare_step limits frames top p f b v x rest field within found =
     let some : length x ≡ suc (length found.more) = ap length found.is in
     let long : length (b ++ x) ≡ length b + length x = length-append b x in
     let holds : Holds (region_of frames) (p + length (b ++ x)) = Holds-within frames (p + length (b ++ x)) within in
     let place : p + length b + length x ≡ p + length (b ++ x) = omega arith in
     let read = value_at-bare limits frames (top_of frames top p) f (p + length b) v x rest found (Holds-before (region_of frames) (p + length b + length x) (p + length (b ++ x)) holds (omega arith)) in
-    step-member limits frames top p (b ++ x) rest (given frames (top_of frames top p) f [] (p + length b) v (cursor_at (p + length (b ++ x)) rest)) (omega arith) within
+    step-member limits frames top p (b ++ x) rest (step_for frames (top_of frames top p) f [] (p + length b) v (cursor_at (p + length (b ++ x)) rest)) (omega arith) within
     (rw append_assoc
-    (member_at-spelled limits frames top p f b (x ++ rest) (Ok (given frames (top_of frames top p) f [] (p + length b) v (cursor_at (p + length (b ++ x)) rest))) field
+    (member_at-spelled limits frames top p f b (x ++ rest) (Ok (step_for frames (top_of frames top p) f [] (p + length b) v (cursor_at (p + length (b ++ x)) rest))) field
     (Holds-before (region_of frames) (p + length b) (p + length (b ++ x)) holds (omega arith)) (rw place at read)))
 
 -- one top-level value more
@@ -107,80 +107,80 @@ top_items-append [] t = append-nil (one_top t)
 top_items-append (u ∷ ts) t = ap (λ l. one_top u ++ l) (top_items-append ts t) ∙ sym (append_assoc (one_top u) (top_items ts) (one_top t))
 
 -- where a path stands: in the top-level value that is open, or in none
-abbrev Stands : Path SymbolAt ℕ → List Frame → ℕ → Type 0
-Stands (closed ts) frames top = frames ≡ []
-Stands (opened ts first nest) frames top = (top ≡ first) × (0 < length frames)
+abbrev IsTopIn : Path SymbolAt ℕ → List Frame → ℕ → Type 0
+IsTopIn (closed ts) frames top = frames ≡ []
+IsTopIn (opened ts first nest) frames top = (top ≡ first) × (0 < length frames)
 
 top_of-open : (frames : List Frame) (top q : ℕ) → 0 < length frames → top_of frames top q ≡ top
 top_of-open [] top q some = absurd (omega arith)
 top_of-open (frame ∷ frames) top q some = refl
 
 -- a container that was opened: its path stands in it, and its items are one more and those of its members
-open_in-Stands : (path : Path SymbolAt ℕ) (frame : Frame) (frames : List Frame) (top q : ℕ) (f : Option SymbolAt) (notes : List SymbolAt) (h : ℕ) (k : Kind) (ms : Members SymbolAt ℕ)
-    → Stands path frames top → Stands (open_in path q f notes h k ms) (frame ∷ frames) (top_of frames top q)
-open_in-Stands (closed ts) frame frames top q f notes h k ms stands = (ap (λ l. top_of l top q) stands, omega arith)
-open_in-Stands (opened ts first nest) frame frames top q f notes h k ms stands = (top_of-open frames top q stands.1 ∙ stands.0, omega arith)
+open_in-IsTopIn : (path : Path SymbolAt ℕ) (frame : Frame) (frames : List Frame) (top q : ℕ) (f : Option SymbolAt) (annotations : List SymbolAt) (h : ℕ) (k : Kind) (ms : Members SymbolAt ℕ)
+    → IsTopIn path frames top → IsTopIn (open_in path q f annotations h k ms) (frame ∷ frames) (top_of frames top q)
+open_in-IsTopIn (closed ts) frame frames top q f annotations h k ms stands = (ap (λ l. top_of l top q) stands, omega arith)
+open_in-IsTopIn (opened ts first nest) frame frames top q f annotations h k ms stands = (top_of-open frames top q stands.1 ∙ stands.0, omega arith)
 
 no_field : (frames : List Frame) (q : ℕ) (f : Option SymbolAt) (b : List ℕ) → frames ≡ [] → FieldIn frames q f b → f ≡ None
 no_field [] q f b e field = field.0
 no_field (frame ∷ frames) q f b e field = absurd (cc e)
 
-open_in-items : (path : Path SymbolAt ℕ) (frames : List Frame) (top q : ℕ) (f : Option SymbolAt) (b : List ℕ) (notes : List SymbolAt) (h : ℕ) (k : Kind) (ms : Members SymbolAt ℕ)
-    → Stands path frames top → FieldIn frames q f b
-    → path_items (open_in path q f notes h k ms) ≡ path_items path ++ item_of (top_of frames top q) f notes h (value.begin k) ∷ member_items (top_of frames top q) ms
-open_in-items (closed ts) frames top q f b notes h k ms stands field =
+open_in-items : (path : Path SymbolAt ℕ) (frames : List Frame) (top q : ℕ) (f : Option SymbolAt) (b : List ℕ) (annotations : List SymbolAt) (h : ℕ) (k : Kind) (ms : Members SymbolAt ℕ)
+    → IsTopIn path frames top → FieldIn frames q f b
+    → path_items (open_in path q f annotations h k ms) ≡ path_items path ++ placed_item (top_of frames top q) f annotations h (value.begin k) ∷ member_items (top_of frames top q) ms
+open_in-items (closed ts) frames top q f b annotations h k ms stands field =
     let at_top : top_of frames top q ≡ q = ap (λ l. top_of l top q) stands in
     rw (no_field frames q f b stands field, at_top) refl
-open_in-items (opened ts first nest) frames top q f b notes h k ms stands field =
+open_in-items (opened ts first nest) frames top q f b annotations h k ms stands field =
     let same : top_of frames top q ≡ first = top_of-open frames top q stands.1 ∙ stands.0 in
-    rw same (sym (append_assoc (top_items ts) (nest_items first nest) (item_of first f notes h (value.begin k) ∷ member_items first ms)))
+    rw same (sym (append_assoc (top_items ts) (nest_items first nest) (placed_item first f annotations h (value.begin k) ∷ member_items first ms)))
 
 module _ (bodies : Bodies) (limits : Limits) (shrinks : Shrinks (step limits) size) where
-  -- a pad gives nothing
-  pad-reads : (frames : List Frame) (top p : ℕ) (f : Option SymbolAt) (b x rest : List ℕ) → FieldIn frames p f b → Within frames (p + length (b ++ x)) → IsPad x
+  -- a NOP pad gives nothing
+  nop_pad-reads : (frames : List Frame) (top p : ℕ) (f : Option SymbolAt) (b x rest : List ℕ) → FieldIn frames p f b → Within frames (p + length (b ++ x)) → IsNopPad x
       → Reads limits (state frames top (cursor_at p ((b ++ x) ++ rest))) [] (state frames (top_of frames top p) (cursor_at (p + length (b ++ x)) rest))
-  pad-reads frames top p f b x rest field within is =
+  nop_pad-reads frames top p f b x rest field within is =
       let place : p + length b + length x ≡ p + length (b ++ x) = omega (arith, length-append b x) in
-      let found = IsPad-found limits (unwrapped frames) (p + length b) x is refl (rw place (Holds-within frames (p + length (b ++ x)) within)) in
+      let found = IsNopPad-found limits (unwrapped frames) (p + length b) x is refl (rw place (Holds-within frames (p + length (b ++ x)) within)) in
       Reads-goes_on limits shrinks (state frames top (cursor_at p ((b ++ x) ++ rest))) (state frames (top_of frames top p) (cursor_at (p + length (b ++ x)) rest))
-      (bare_step limits frames top p f b a_pad x rest field within found)
+      (bare_step limits frames top p f b a_nop_pad x rest field within found)
 
   mutual
     -- a value's items are read, and reading stands behind it
-    Bin-reads : (q : ℕ) (notes : List SymbolAt) (h : ℕ) (v : Value SymbolAt ℕ) (x : List ℕ) → Bin q notes h v x
+    Bin-reads : (q : ℕ) (annotations : List SymbolAt) (h : ℕ) (v : Value SymbolAt ℕ) (x : List ℕ) → Bin q annotations h v x
         → (frames : List Frame) (top p : ℕ) (f : Option SymbolAt) (b rest : List ℕ) → FieldIn frames p f b → q ≡ p + length b → Within frames (q + length x)
         → length frames + length x ≤ limits.depth → 16 * length x ≤ limits.scalar
-        → Reads limits (state frames top (cursor_at p (b ++ (x ++ rest)))) (value_items (top_of frames top p) f notes h v) (state frames (top_of frames top p) (cursor_at (q + length x) rest))
-    Bin-reads _ _ _ _ _ (Bin.scalar q notes v w x annotated plain) frames top p f b rest field place within deep limit =
+        → Reads limits (state frames top (cursor_at p (b ++ (x ++ rest)))) (value_items (top_of frames top p) f annotations h v) (state frames (top_of frames top p) (cursor_at (q + length x) rest))
+    Bin-reads _ _ _ _ _ (Bin.scalar q annotations v w x annotated plain) frames top p f b rest field place within deep limit =
         let long : length (w ++ x) ≡ length w + length x = length-append w x in
         let end : q + length w + length x ≡ q + length (w ++ x) = omega arith in
-        let once = value_step limits frames top p f b q notes (length x) (a_scalar v) w x rest field place annotated (omega arith) (rw end within) (omega arith)
+        let once = value_step limits frames top p f b q annotations (length x) (a_scalar v) w x rest field place annotated (omega arith) (rw end within) (omega arith)
         (λ a same suits. Plain-found bodies limits a (q + length w) v x plain suits (omega arith)) in
         rw (append_assoc w x rest)
         (Reads-gives limits shrinks (state frames top (cursor_at p (b ++ (w ++ (x ++ rest))))) (state frames (top_of frames top p) (cursor_at (q + length (w ++ x)) rest))
-        (item_of (top_of frames top p) f notes (q + length w) (value.whole (placed_scalar (q + length w) v))) (rw end at once))
-    Bin-reads _ _ _ _ _ (Bin.container q notes k ms w front x annotated is_front inside) frames top p f b rest field place within deep limit =
-        let some : 0 < length front = Front-pos k (length x) front is_front in
-        let long : length (w ++ front) ≡ length w + length front = length-append w front in
-        let whole : length ((w ++ front) ++ x) ≡ length (w ++ front) + length x = length-append (w ++ front) x in
-        let first : q + length w + length front ≡ q + length (w ++ front) = omega arith in
-        let last : q + length w + length front + length x ≡ q + length ((w ++ front) ++ x) = omega arith in
-        let sum : q + length w + (length front + length x) ≡ q + length w + length front + length x = omega arith in
-        let once = value_step limits frames top p f b q notes (length front + length x) (a_container k (q + length w + length front + length x)) w front (x ++ rest) field place annotated (omega arith)
+        (placed_item (top_of frames top p) f annotations (q + length w) (value.whole (placed_scalar (q + length w) v))) (rw end at once))
+    Bin-reads _ _ _ _ _ (Bin.container q annotations k ms w header x annotated is_header inside) frames top p f b rest field place within deep limit =
+        let some : 0 < length header = Header-pos k (length x) header is_header in
+        let long : length (w ++ header) ≡ length w + length header = length-append w header in
+        let whole : length ((w ++ header) ++ x) ≡ length (w ++ header) + length x = length-append (w ++ header) x in
+        let first : q + length w + length header ≡ q + length (w ++ header) = omega arith in
+        let last : q + length w + length header + length x ≡ q + length ((w ++ header) ++ x) = omega arith in
+        let sum : q + length w + (length header + length x) ≡ q + length w + length header + length x = omega arith in
+        let once = value_step limits frames top p f b q annotations (length header + length x) (a_container k (q + length w + length header + length x)) w header (x ++ rest) field place annotated (omega arith)
         (rw (sum, last) within) (omega arith)
-        (λ a same suits. Front-found limits a (q + length w) k (length x) front is_front (rw sum at suits) (omega arith)) in
-        let start_in : State = state (frame_of k (q + length ((w ++ front) ++ x)) ∷ frames) (top_of frames top p) (cursor_at (q + length (w ++ front)) (x ++ rest)) in
-        let end_in : State = state (frame_of k (q + length ((w ++ front) ++ x)) ∷ frames) (top_of frames top p) (cursor_at (q + length ((w ++ front) ++ x)) rest) in
-        let after : State = state frames (top_of frames top p) (cursor_at (q + length ((w ++ front) ++ x)) rest) in
-        let before : State = state frames top (cursor_at p (b ++ (w ++ (front ++ (x ++ rest))))) in
-        let begin : PlacedItem = item_of (top_of frames top p) f notes (q + length w) (value.begin k) in
-        let end : PlacedItem = item_of (top_of frames top p) None [] (q + length ((w ++ front) ++ x)) value.end in
+        (λ a same suits. Header-found limits a (q + length w) k (length x) header is_header (rw sum at suits) (omega arith)) in
+        let start_in : State = state (frame_of k (q + length ((w ++ header) ++ x)) ∷ frames) (top_of frames top p) (cursor_at (q + length (w ++ header)) (x ++ rest)) in
+        let end_in : State = state (frame_of k (q + length ((w ++ header) ++ x)) ∷ frames) (top_of frames top p) (cursor_at (q + length ((w ++ header) ++ x)) rest) in
+        let after : State = state frames (top_of frames top p) (cursor_at (q + length ((w ++ header) ++ x)) rest) in
+        let before : State = state frames top (cursor_at p (b ++ (w ++ (header ++ (x ++ rest))))) in
+        let begin : PlacedItem = placed_item (top_of frames top p) f annotations (q + length w) (value.begin k) in
+        let end : PlacedItem = placed_item (top_of frames top p) None [] (q + length ((w ++ header) ++ x)) value.end in
         let begins : Reads limits before (begin ∷ []) start_in = Reads-gives limits shrinks before start_in begin (rw (last, first) at once) in
-        let place_in : q + length (w ++ front) + length x ≡ q + length ((w ++ front) ++ x) = omega arith in
+        let place_in : q + length (w ++ header) + length x ≡ q + length ((w ++ header) ++ x) = omega arith in
         let members : Reads limits start_in (member_items (top_of frames top p) ms) end_in =
-        rw place_in at (Inside-reads k (q + length (w ++ front)) ms x inside frames (top_of frames top p) (q + length ((w ++ front) ++ x)) rest (omega arith) (omega arith) (omega arith)) in
-        let ends : Reads limits end_in (end ∷ []) after = Reads-gives limits shrinks end_in after end (step-end limits k frames (top_of frames top p) (q + length ((w ++ front) ++ x)) rest) in
-        rw (append_assoc (w ++ front) x rest, append_assoc w front (x ++ rest))
+        rw place_in at (Inside-reads k (q + length (w ++ header)) ms x inside frames (top_of frames top p) (q + length ((w ++ header) ++ x)) rest (omega arith) (omega arith) (omega arith)) in
+        let ends : Reads limits end_in (end ∷ []) after = Reads-gives limits shrinks end_in after end (step-end limits k frames (top_of frames top p) (q + length ((w ++ header) ++ x)) rest) in
+        rw (append_assoc (w ++ header) x rest, append_assoc w header (x ++ rest))
         (Reads-then limits before start_in after (begin ∷ []) (member_items (top_of frames top p) ms ++ end ∷ []) begins
         (Reads-then limits start_in end_in after (member_items (top_of frames top p) ms) (end ∷ []) members ends))
 
@@ -189,26 +189,26 @@ module _ (bodies : Bodies) (limits : Limits) (shrinks : Shrinks (step limits) si
         → (frames : List Frame) (top end : ℕ) (rest : List ℕ) → q + length x ≤ end → suc (length frames) + length x ≤ limits.depth → 16 * length x ≤ limits.scalar
         → Reads limits (state (frame_of k end ∷ frames) top (cursor_at q (x ++ rest))) (member_items top ms) (state (frame_of k end ∷ frames) top (cursor_at (q + length x) rest))
     Inside-reads _ _ _ _ (Inside.nothing k q) frames top end rest within deep limit = let same : q + 0 ≡ q = omega arith in rw same refl
-    Inside-reads _ _ _ _ (Inside.pad k q f ms c b p more field is) frames top end rest within deep limit =
+    Inside-reads _ _ _ _ (Inside.nop_pad k q f ms c b p more field is) frames top end rest within deep limit =
         let long : length (c ++ (b ++ p)) ≡ length c + length (b ++ p) = length-append c (b ++ p) in
         let place : q + length c + length (b ++ p) ≡ q + length (c ++ (b ++ p)) = omega arith in
         let open_ones : List Frame = frame_of k end ∷ frames in
         let members = Inside-reads k q ms c more frames top end ((b ++ p) ++ rest) (omega arith) (omega arith) (omega arith) in
-        let skipped = pad-reads open_ones top (q + length c) f b p rest field (omega arith) is in
+        let skipped = nop_pad-reads open_ones top (q + length c) f b p rest field (omega arith) is in
         rw append_assoc
         (Reads-silent limits (state open_ones top (cursor_at q (c ++ ((b ++ p) ++ rest)))) (state open_ones top (cursor_at (q + length c) ((b ++ p) ++ rest)))
         (state open_ones top (cursor_at (q + length (c ++ (b ++ p))) rest)) (member_items top ms) members (rw place at skipped))
-    Inside-reads _ _ _ _ (Inside.with_value k q h f notes v ms c b x more field bin) frames top end rest within deep limit =
+    Inside-reads _ _ _ _ (Inside.with_value k q h f annotations v ms c b x more field bin) frames top end rest within deep limit =
         let long : length (c ++ (b ++ x)) ≡ length c + length (b ++ x) = length-append c (b ++ x) in
         let longer : length (b ++ x) ≡ length b + length x = length-append b x in
-        let front : length (c ++ b) ≡ length c + length b = length-append c b in
+        let header : length (c ++ b) ≡ length c + length b = length-append c b in
         let place : q + length (c ++ b) + length x ≡ q + length (c ++ (b ++ x)) = omega arith in
         let open_ones : List Frame = frame_of k end ∷ frames in
         let members = Inside-reads k q ms c more frames top end (b ++ (x ++ rest)) (omega arith) (omega arith) (omega arith) in
-        let one = Bin-reads (q + length (c ++ b)) notes h v x bin open_ones top (q + length c) f b rest field (omega arith) (omega arith) (omega arith) (omega arith) in
+        let one = Bin-reads (q + length (c ++ b)) annotations h v x bin open_ones top (q + length c) f b rest field (omega arith) (omega arith) (omega arith) (omega arith) in
         rw (append_assoc c (b ++ x) rest, append_assoc b x rest)
         (Reads-then limits (state open_ones top (cursor_at q (c ++ (b ++ (x ++ rest))))) (state open_ones top (cursor_at (q + length c) (b ++ (x ++ rest))))
-        (state open_ones top (cursor_at (q + length (c ++ (b ++ x))) rest)) (member_items top ms) (value_items top f notes h v) members (rw place at one))
+        (state open_ones top (cursor_at (q + length (c ++ (b ++ x))) rest)) (member_items top ms) (value_items top f annotations h v) members (rw place at one))
 
   -- the items of what is spelled at top level are read
   Tops-reads : (ts : List (Top SymbolAt ℕ)) (b : List ℕ) → Tops ts b → length b ≤ limits.depth → 16 * length b ≤ limits.scalar
@@ -221,7 +221,7 @@ module _ (bodies : Bodies) (limits : Limits) (shrinks : Shrinks (step limits) si
       let same : length b + 0 ≡ length b = omega arith in
       let found : Finds limits (unwrapped []) (length b + 0) a_marker four = marker-found limits (unwrapped []) (length b + 0) refl refl in
       let once = bare_step limits [] before.0 (length b) None [] a_marker four rest (refl, refl) tt found in
-      let item : PlacedItem = item_of (length b) None [] (length b) value.marker in
+      let item : PlacedItem = placed_item (length b) None [] (length b) value.marker in
       let s : State = state [] before.0 (cursor_at (length b) (224 ∷ 1 ∷ 0 ∷ 234 ∷ rest)) in
       let t : State = state [] (length b) (cursor_at (length (b ++ four)) rest) in
       let one : Reads limits s (item ∷ []) t = Reads-gives limits shrinks s t item (rw (same, ← long) at once) in (
@@ -229,61 +229,61 @@ module _ (bodies : Bodies) (limits : Limits) (shrinks : Shrinks (step limits) si
         rw (append_assoc b four rest, top_items-append ts (value.version (length b)))
             (Reads-then limits (start (b ++ (four ++ rest))) s t (top_items ts) (item ∷ []) before.1 one),
       )
-  Tops-reads _ _ (Tops.pad ts b p more is) deep limit rest =
+  Tops-reads _ _ (Tops.nop_pad ts b p more is) deep limit rest =
       let long : length (b ++ p) ≡ length b + length p = length-append b p in
       let before = Tops-reads ts b more (omega arith) (omega arith) (p ++ rest) in
       let s : State = state [] before.0 (cursor_at (length b) (p ++ rest)) in
       let t : State = state [] (length b) (cursor_at (length (b ++ p)) rest) in
-      let one : Reads limits s [] t = rw (← long) at (pad-reads [] before.0 (length b) None [] p rest (refl, refl) tt is) in
+      let one : Reads limits s [] t = rw (← long) at (nop_pad-reads [] before.0 (length b) None [] p rest (refl, refl) tt is) in
       (length b, rw (append_assoc b p rest) (Reads-silent limits (start (b ++ (p ++ rest))) s t (top_items ts) before.1 one))
-  Tops-reads _ _ (Tops.with_value ts h notes v b x more bin) deep limit rest =
+  Tops-reads _ _ (Tops.with_value ts h annotations v b x more bin) deep limit rest =
       let long : length (b ++ x) ≡ length b + length x = length-append b x in
       let before = Tops-reads ts b more (omega arith) (omega arith) (x ++ rest) in
       let s : State = state [] before.0 (cursor_at (length b) (x ++ rest)) in
       let t : State = state [] (length b) (cursor_at (length (b ++ x)) rest) in
-      let one : Reads limits s (value_items (length b) None notes h v) t =
-      rw (← long) at (Bin-reads (length b) notes h v x bin [] before.0 (length b) None [] rest (refl, refl) (omega arith) tt (omega arith) (omega arith)) in (
+      let one : Reads limits s (value_items (length b) None annotations h v) t =
+      rw (← long) at (Bin-reads (length b) annotations h v x bin [] before.0 (length b) None [] rest (refl, refl) (omega arith) tt (omega arith) (omega arith)) in (
         length b,
-        rw (append_assoc b x rest, top_items-append ts (value.tree (length b) notes h v))
-            (Reads-then limits (start (b ++ (x ++ rest))) s t (top_items ts) (value_items (length b) None notes h v) before.1 one),
+        rw (append_assoc b x rest, top_items-append ts (value.tree (length b) annotations h v))
+            (Reads-then limits (start (b ++ (x ++ rest))) s t (top_items ts) (value_items (length b) None annotations h v) before.1 one),
       )
 
   -- the bytes of a path are read to where it stands: its frames are open, and its items are read
   Spells-reads : (path : Path SymbolAt ℕ) (frames : List Frame) (b : List ℕ) → Spells path frames b → length b ≤ limits.depth → 16 * length b ≤ limits.scalar
-      → (rest : List ℕ) → (top : ℕ) × Stands path frames top × (length frames ≤ length b) × Reads limits (start (b ++ rest)) (path_items path) (state frames top (cursor_at (length b) rest))
+      → (rest : List ℕ) → (top : ℕ) × IsTopIn path frames top × (length frames ≤ length b) × Reads limits (start (b ++ rest)) (path_items path) (state frames top (cursor_at (length b) rest))
   Spells-reads _ _ _ (Spells.top ts b tops) deep limit rest =
       let whole = Tops-reads ts b tops deep limit rest in
       (whole.0, refl, omega arith, whole.1)
-  Spells-reads _ _ _ (Spells.inside path frames f notes k ms n b x w front c spells field annotated is_front inside fits within) deep limit rest =
-      let some : 0 < length front = Front-pos k n front is_front in
+  Spells-reads _ _ _ (Spells.inside path frames f annotations k ms n b x w header c spells field annotated is_header inside fits within) deep limit rest =
+      let some : 0 < length header = Header-pos k n header is_header in
       let l1 : length (b ++ x) ≡ length b + length x = length-append b x in
-      let l2 : length (w ++ front) ≡ length w + length front = length-append w front in
-      let l3 : length ((b ++ x) ++ (w ++ front)) ≡ length (b ++ x) + length (w ++ front) = length-append (b ++ x) (w ++ front) in
-      let l4 : length (((b ++ x) ++ (w ++ front)) ++ c) ≡ length ((b ++ x) ++ (w ++ front)) + length c = length-append ((b ++ x) ++ (w ++ front)) c in
-      let before = Spells-reads path frames b spells (omega arith) (omega arith) (x ++ (w ++ (front ++ (c ++ rest)))) in
+      let l2 : length (w ++ header) ≡ length w + length header = length-append w header in
+      let l3 : length ((b ++ x) ++ (w ++ header)) ≡ length (b ++ x) + length (w ++ header) = length-append (b ++ x) (w ++ header) in
+      let l4 : length (((b ++ x) ++ (w ++ header)) ++ c) ≡ length ((b ++ x) ++ (w ++ header)) + length c = length-append ((b ++ x) ++ (w ++ header)) c in
+      let before = Spells-reads path frames b spells (omega arith) (omega arith) (x ++ (w ++ (header ++ (c ++ rest)))) in
       let l5 : length ((b ++ x) ++ w) ≡ length (b ++ x) + length w = length-append (b ++ x) w in
       let top : ℕ = top_of frames before.0 (length b) in
-      let end : ℕ = length ((b ++ x) ++ (w ++ front)) + n in
+      let end : ℕ = length ((b ++ x) ++ (w ++ header)) + n in
       let head : ℕ = length (b ++ x) + length w in
-      let first : head + length front ≡ length ((b ++ x) ++ (w ++ front)) = omega arith in
-      let sum : head + (length front + n) ≡ head + length front + n = omega arith in
-      let s : State = state frames before.0 (cursor_at (length b) (x ++ (w ++ (front ++ (c ++ rest))))) in
-      let t : State = state (frame_of k end ∷ frames) top (cursor_at (length ((b ++ x) ++ (w ++ front))) (c ++ rest)) in
-      let u : State = state (frame_of k end ∷ frames) top (cursor_at (length (((b ++ x) ++ (w ++ front)) ++ c)) rest) in
-      let begin : PlacedItem = item_of top f notes (length ((b ++ x) ++ w)) (value.begin k) in
-      let once = value_step limits frames before.0 (length b) f x (length (b ++ x)) notes (length front + n) (a_container k (head + length front + n)) w front (c ++ rest) field l1 annotated (omega arith)
+      let first : head + length header ≡ length ((b ++ x) ++ (w ++ header)) = omega arith in
+      let sum : head + (length header + n) ≡ head + length header + n = omega arith in
+      let s : State = state frames before.0 (cursor_at (length b) (x ++ (w ++ (header ++ (c ++ rest))))) in
+      let t : State = state (frame_of k end ∷ frames) top (cursor_at (length ((b ++ x) ++ (w ++ header))) (c ++ rest)) in
+      let u : State = state (frame_of k end ∷ frames) top (cursor_at (length (((b ++ x) ++ (w ++ header)) ++ c)) rest) in
+      let begin : PlacedItem = placed_item top f annotations (length ((b ++ x) ++ w)) (value.begin k) in
+      let once = value_step limits frames before.0 (length b) f x (length (b ++ x)) annotations (length header + n) (a_container k (head + length header + n)) w header (c ++ rest) field l1 annotated (omega arith)
       (rw (sum, first) within) (omega arith)
-      (λ a same suits. Front-found limits a head k n front is_front (rw sum at suits) (omega arith)) in
+      (λ a same suits. Header-found limits a head k n header is_header (rw sum at suits) (omega arith)) in
       let begins : Reads limits s (begin ∷ []) t = Reads-gives limits shrinks s t begin (rw (first, ← l5) at once) in
-      let members : Reads limits t (member_items top ms) u = rw (← l4) at (Inside-reads k (length ((b ++ x) ++ (w ++ front))) ms c inside frames top end rest (omega arith) (omega arith) (omega arith)) in
-      let parts : (((b ++ x) ++ (w ++ front)) ++ c) ++ rest ≡ b ++ (x ++ (w ++ (front ++ (c ++ rest)))) =
-      append_assoc ((b ++ x) ++ (w ++ front)) c rest ∙ append_assoc (b ++ x) (w ++ front) (c ++ rest) ∙ append_assoc b x ((w ++ front) ++ (c ++ rest))
-      ∙ ap (λ l. b ++ (x ++ l)) (append_assoc w front (c ++ rest)) in (
+      let members : Reads limits t (member_items top ms) u = rw (← l4) at (Inside-reads k (length ((b ++ x) ++ (w ++ header))) ms c inside frames top end rest (omega arith) (omega arith) (omega arith)) in
+      let parts : (((b ++ x) ++ (w ++ header)) ++ c) ++ rest ≡ b ++ (x ++ (w ++ (header ++ (c ++ rest)))) =
+      append_assoc ((b ++ x) ++ (w ++ header)) c rest ∙ append_assoc (b ++ x) (w ++ header) (c ++ rest) ∙ append_assoc b x ((w ++ header) ++ (c ++ rest))
+      ∙ ap (λ l. b ++ (x ++ l)) (append_assoc w header (c ++ rest)) in (
         top,
-        open_in-Stands path (frame_of k end) frames before.0 (length b) f notes (length ((b ++ x) ++ w)) k ms before.1,
+        open_in-IsTopIn path (frame_of k end) frames before.0 (length b) f annotations (length ((b ++ x) ++ w)) k ms before.1,
         omega (arith, before.2),
-        rw (parts, open_in-items path frames before.0 (length b) f x notes (length ((b ++ x) ++ w)) k ms before.1 field)
-            (Reads-then limits (start (b ++ (x ++ (w ++ (front ++ (c ++ rest)))))) s u (path_items path) (begin ∷ member_items top ms) before.3
+        rw (parts, open_in-items path frames before.0 (length b) f x annotations (length ((b ++ x) ++ w)) k ms before.1 field)
+            (Reads-then limits (start (b ++ (x ++ (w ++ (header ++ (c ++ rest)))))) s u (path_items path) (begin ∷ member_items top ms) before.3
             (Reads-then limits s t u (begin ∷ []) (member_items top ms) begins members)),
       )
 
@@ -311,24 +311,24 @@ wide-Allows : (bytes : List ℕ) → Allows (wide bytes) bytes
 unfolding wide
 wide-Allows bytes = (omega arith, omega arith)
 
--- of two fronts of one list one begins the other
+-- of two prefixes of one list one is a prefix of the other
 IsBegun-more : (item : PlacedItem) (xs ys : List PlacedItem) → IsBegun xs ys → IsBegun (item ∷ xs) (item ∷ ys)
 IsBegun-more item xs ys begun = (begun.0, ap (λ l. item ∷ l) begun.1)
 
-fronts : (xs ys us vs : List PlacedItem) → xs ++ us ≡ ys ++ vs → IsBegun xs ys ⊎ IsBegun ys xs
-fronts [] ys us vs e = inl (ys, refl)
-fronts (x ∷ xs) [] us vs e = inr (x ∷ xs, refl)
-fronts (x ∷ xs) (y ∷ ys) us vs e =
+prefixes : (xs ys us vs : List PlacedItem) → xs ++ us ≡ ys ++ vs → IsBegun xs ys ⊎ IsBegun ys xs
+prefixes [] ys us vs e = inl (ys, refl)
+prefixes (x ∷ xs) [] us vs e = inr (x ∷ xs, refl)
+prefixes (x ∷ xs) (y ∷ ys) us vs e =
     let first : x ≡ y = cc e in
     let rest : xs ++ us ≡ ys ++ vs = cc e in
-    rw first (elim (fronts xs ys us vs rest) [ inl begun ↦ inl (IsBegun-more y xs ys begun) | inr begun ↦ inr (IsBegun-more y ys xs begun) ])
+    rw first (elim (prefixes xs ys us vs rest) [ inl begun ↦ inl (IsBegun-more y xs ys begun) | inr begun ↦ inr (IsBegun-more y ys xs begun) ])
 
 -- of two paths of the same bytes the items of one begin the other's
 pub one_path : Bodies → Shrinking → OnePath
 one_path bodies shrinks bytes q r a b is_a is_b =
     let first = complete bodies shrinks (wide bytes) bytes q a (wide-Allows bytes) is_a in
     let second = complete bodies shrinks (wide bytes) bytes r b (wide-Allows bytes) is_b in
-    fronts (path_items a) (path_items b) (items_of first.0) (items_of second.0)
+    prefixes (path_items a) (path_items b) (items_of first.0) (items_of second.0)
     (sym (items_of-behind (path_items a) first.0) ∙ ap items_of (sym first.1 ∙ second.1) ∙ items_of-behind (path_items b) second.0)
 
 -- the same bytes are one list of markers and values

@@ -10,10 +10,10 @@ use Rattle.ion_value.specs.Answers.{Answers}
 
 pub moves-then : {I : Type 0} (device : InputOf I) (s t u : Incoming I) → Moves device s t → Moves device t u → Moves device s u
 moves-then device s t u a b = record {
-  still_tells = (λ h. a.still_tells.0 (b.still_tells.0 h), λ h. b.still_tells.1 (a.still_tells.1 h));
+  still_observable = (λ h. a.still_observable.0 (b.still_observable.0 h), λ h. b.still_observable.1 (a.still_observable.1 h));
   limit = b.limit ∙ a.limit;
   further = omega (arith, a.further, b.further);
-  total = λ h. b.total (a.still_tells.1 h) ∙ a.total h;
+  total = λ h. b.total (a.still_observable.1 h) ∙ a.total h;
 }
 
 -- the reason of one call as that of another
@@ -26,5 +26,5 @@ answers-refused view shown WriteFault behind after place one all h k = tt
 answers-refused view shown InputLimit behind after place one all h k = tt
 
 -- more was read, and the source stands where it stood
-pub cursor-extends : {I : Type 0} (device : InputOf I) (s t : Incoming I) → Extends device.rest device.tells s t → device.tells s.device → cursor device t ≡ cursor device s
+pub cursor-extends : {I : Type 0} (device : InputOf I) (s t : Incoming I) → Extends device.rest device.observable s t → device.observable s.device → cursor device t ≡ cursor device s
 cursor-extends device s t x h = ap (λ n. record { place = n; rest = left device.rest t }) x.place ∙ ap (λ (l : List ℕ). record { place = s.place; rest = l }) (x.same_left h)

@@ -1,4 +1,4 @@
--- A spelled path goes on by a pad, a whole value, a marker, a container's front or a container's end, and so do its items.
+-- A spelled path goes on by a NOP pad, a whole value, a version marker, a container's header or a container's end, and so do its items.
 use Rattle.std.proofs.Common.{◌≡◌, ℕ, ◌+◌, ◌≤◌, List, [], ◌∷◌, ◌++◌, length, Option, None, refl, sym, ap, subst, ◌∙◌, append_assoc, append-nil, arith}
 use Rattle.std.proofs.lemmas.List.{length-append}
 use Rattle.ion_value.specs.declared.ion_type.Kind.{Kind}
@@ -6,15 +6,15 @@ use Rattle.ion_value.specs.Value as value
 use Rattle.ion_value.specs.Value.{SymbolAt, Value, container, Members, Top, version, tree, Item, bare_item, value_items, member_items, one_top, top_items}
 use Rattle.ion_value.specs.Path.{Nest, outermost, inner, Path, closed, opened, begin_item, nest_items, path_items, with_member, with_end}
 use Rattle.ion_binary.specs.Positions.{Frame}
-use Rattle.ion_binary.specs.Grammar.{Field, Front, Annotated, IsPad, Bin, Inside, Tops}
+use Rattle.ion_binary.specs.Grammar.{Field, Header, Annotated, IsNopPad, Bin, Inside, Tops}
 use Rattle.ion_binary.specs.Paths.{FieldIn, Within, frame_of, open_in, Spells}
 
 -- ---- paths with one thing more
 
 -- a whole value whose field or wrapper begins at a place, and that has another place itself
 abbrev pub put_in : Path SymbolAt ℕ → ℕ → Option SymbolAt → List SymbolAt → ℕ → Value SymbolAt ℕ → Path SymbolAt ℕ
-put_in (closed ts) q f notes h v = closed (ts ++ tree q notes h v ∷ [])
-put_in (opened ts first nest) q f notes h v = opened ts first (with_member nest f notes h v)
+put_in (closed ts) q f annotations h v = closed (ts ++ tree q annotations h v ∷ [])
+put_in (opened ts first nest) q f annotations h v = opened ts first (with_member nest f annotations h v)
 
 -- a marker at a place
 abbrev pub mark_in : Path SymbolAt ℕ → ℕ → Path SymbolAt ℕ
@@ -30,15 +30,15 @@ abbrev pub tail_of : List Frame → List Frame
 tail_of [] = []
 tail_of (f ∷ frames) = frames
 
-put_in-open_in : (path : Path SymbolAt ℕ) (q : ℕ) (f : Option SymbolAt) (notes : List SymbolAt) (h : ℕ) (k : Kind) (ms : Members SymbolAt ℕ) (r : ℕ) (g : Option SymbolAt)
-    (own : List SymbolAt) (i : ℕ) (v : Value SymbolAt ℕ) → put_in (open_in path q f notes h k ms) r g own i v ≡ open_in path q f notes h k (value.member ms g own i v)
-put_in-open_in (closed ts) q f notes h k ms r g own i v = refl
-put_in-open_in (opened ts first nest) q f notes h k ms r g own i v = refl
+put_in-open_in : (path : Path SymbolAt ℕ) (q : ℕ) (f : Option SymbolAt) (annotations : List SymbolAt) (h : ℕ) (k : Kind) (ms : Members SymbolAt ℕ) (r : ℕ) (g : Option SymbolAt)
+    (own : List SymbolAt) (i : ℕ) (v : Value SymbolAt ℕ) → put_in (open_in path q f annotations h k ms) r g own i v ≡ open_in path q f annotations h k (value.member ms g own i v)
+put_in-open_in (closed ts) q f annotations h k ms r g own i v = refl
+put_in-open_in (opened ts first nest) q f annotations h k ms r g own i v = refl
 
-end_in-open_in : (path : Path SymbolAt ℕ) (q : ℕ) (f : Option SymbolAt) (notes : List SymbolAt) (h : ℕ) (k : Kind) (ms : Members SymbolAt ℕ) (last : ℕ)
-    → end_in (open_in path q f notes h k ms) last ≡ put_in path q f notes h (container k ms last)
-end_in-open_in (closed ts) q f notes h k ms last = refl
-end_in-open_in (opened ts first nest) q f notes h k ms last = refl
+end_in-open_in : (path : Path SymbolAt ℕ) (q : ℕ) (f : Option SymbolAt) (annotations : List SymbolAt) (h : ℕ) (k : Kind) (ms : Members SymbolAt ℕ) (last : ℕ)
+    → end_in (open_in path q f annotations h k ms) last ≡ put_in path q f annotations h (container k ms last)
+end_in-open_in (closed ts) q f annotations h k ms last = refl
+end_in-open_in (opened ts first nest) q f annotations h k ms last = refl
 
 -- ---- their items
 
@@ -51,28 +51,28 @@ top_items-append : (ts us : List (Top SymbolAt ℕ)) → top_items (ts ++ us) �
 top_items-append [] us = refl
 top_items-append (t ∷ ts) us = ap (λ items. one_top t ++ items) (top_items-append ts us) ∙ sym (append_assoc (one_top t) (top_items ts) (top_items us))
 
-nest_items-with_member : (first : ℕ) (nest : Nest SymbolAt ℕ) (f : Option SymbolAt) (notes : List SymbolAt) (h : ℕ) (v : Value SymbolAt ℕ)
-    → nest_items first (with_member nest f notes h v) ≡ nest_items first nest ++ value_items first f notes h v
-nest_items-with_member first (outermost ns at k ms) f notes h v = refl
-nest_items-with_member first (inner around g ns at k ms) f notes h v =
-    sym (append_assoc (nest_items first around) (begin_item first g ns at k ∷ member_items first ms) (value_items first f notes h v))
+nest_items-with_member : (first : ℕ) (nest : Nest SymbolAt ℕ) (f : Option SymbolAt) (annotations : List SymbolAt) (h : ℕ) (v : Value SymbolAt ℕ)
+    → nest_items first (with_member nest f annotations h v) ≡ nest_items first nest ++ value_items first f annotations h v
+nest_items-with_member first (outermost ns at k ms) f annotations h v = refl
+nest_items-with_member first (inner around g ns at k ms) f annotations h v =
+    sym (append_assoc (nest_items first around) (begin_item first g ns at k ∷ member_items first ms) (value_items first f annotations h v))
 
-pub path_items-put_in : (path : Path SymbolAt ℕ) (q top : ℕ) (f : Option SymbolAt) (notes : List SymbolAt) (h : ℕ) (v : Value SymbolAt ℕ)
-    → Fits path q top f → path_items (put_in path q f notes h v) ≡ path_items path ++ value_items top f notes h v
-path_items-put_in (closed ts) q top f notes h v fits =
-    rw (← fits.0, fits.1) (top_items-append ts (tree q notes h v ∷ []) ∙ ap (λ items. top_items ts ++ items) (append-nil (value_items q None notes h v)))
-path_items-put_in (opened ts first nest) q top f notes h v fits =
-    rw (← fits) (ap (λ items. top_items ts ++ items) (nest_items-with_member first nest f notes h v)
-    ∙ sym (append_assoc (top_items ts) (nest_items first nest) (value_items first f notes h v)))
+pub path_items-put_in : (path : Path SymbolAt ℕ) (q top : ℕ) (f : Option SymbolAt) (annotations : List SymbolAt) (h : ℕ) (v : Value SymbolAt ℕ)
+    → Fits path q top f → path_items (put_in path q f annotations h v) ≡ path_items path ++ value_items top f annotations h v
+path_items-put_in (closed ts) q top f annotations h v fits =
+    rw (← fits.0, fits.1) (top_items-append ts (tree q annotations h v ∷ []) ∙ ap (λ items. top_items ts ++ items) (append-nil (value_items q None annotations h v)))
+path_items-put_in (opened ts first nest) q top f annotations h v fits =
+    rw (← fits) (ap (λ items. top_items ts ++ items) (nest_items-with_member first nest f annotations h v)
+    ∙ sym (append_assoc (top_items ts) (nest_items first nest) (value_items first f annotations h v)))
 
 pub path_items-mark_in : (ts : List (Top SymbolAt ℕ)) (q : ℕ) → path_items (mark_in (closed ts) q) ≡ top_items ts ++ bare_item value.marker q q ∷ []
 path_items-mark_in ts q = top_items-append ts (version q ∷ [])
 
-pub path_items-open_in : (path : Path SymbolAt ℕ) (q top : ℕ) (f : Option SymbolAt) (notes : List SymbolAt) (h : ℕ) (k : Kind)
-    → Fits path q top f → path_items (open_in path q f notes h k value.nothing) ≡ path_items path ++ begin_item top f notes h k ∷ []
-path_items-open_in (closed ts) q top f notes h k fits = rw (← fits.0, fits.1) refl
-path_items-open_in (opened ts first nest) q top f notes h k fits =
-    rw (← fits) (sym (append_assoc (top_items ts) (nest_items first nest) (begin_item first f notes h k ∷ [])))
+pub path_items-open_in : (path : Path SymbolAt ℕ) (q top : ℕ) (f : Option SymbolAt) (annotations : List SymbolAt) (h : ℕ) (k : Kind)
+    → Fits path q top f → path_items (open_in path q f annotations h k value.nothing) ≡ path_items path ++ begin_item top f annotations h k ∷ []
+path_items-open_in (closed ts) q top f annotations h k fits = rw (← fits.0, fits.1) refl
+path_items-open_in (opened ts first nest) q top f annotations h k fits =
+    rw (← fits) (sym (append_assoc (top_items ts) (nest_items first nest) (begin_item first f annotations h k ∷ [])))
 
 -- the items of a container's beginning, its members and its end
 container_items : (items before members last : List (Item SymbolAt ℕ)) → items ++ (before ++ (members ++ last)) ≡ (items ++ (before ++ members)) ++ last
@@ -80,22 +80,22 @@ container_items items before members last = simp append_assoc
 
 pub path_items-end_in : (ts : List (Top SymbolAt ℕ)) (first : ℕ) (nest : Nest SymbolAt ℕ) (last : ℕ)
     → path_items (end_in (opened ts first nest) last) ≡ path_items (opened ts first nest) ++ bare_item value.end last first ∷ []
-path_items-end_in ts first (outermost notes h k ms) last =
-    top_items-append ts (tree first notes h (container k ms last) ∷ [])
-    ∙ ap (λ items. top_items ts ++ items) (append-nil (value_items first None notes h (container k ms last)))
-    ∙ container_items (top_items ts) (begin_item first None notes h k ∷ []) (member_items first ms) (bare_item value.end last first ∷ [])
-path_items-end_in ts first (inner around f notes h k ms) last =
-    ap (λ items. top_items ts ++ items) (nest_items-with_member first around f notes h (container k ms last)
-    ∙ container_items (nest_items first around) (begin_item first f notes h k ∷ []) (member_items first ms) (bare_item value.end last first ∷ []))
-    ∙ sym (append_assoc (top_items ts) (nest_items first around ++ begin_item first f notes h k ∷ member_items first ms) (bare_item value.end last first ∷ []))
+path_items-end_in ts first (outermost annotations h k ms) last =
+    top_items-append ts (tree first annotations h (container k ms last) ∷ [])
+    ∙ ap (λ items. top_items ts ++ items) (append-nil (value_items first None annotations h (container k ms last)))
+    ∙ container_items (top_items ts) (begin_item first None annotations h k ∷ []) (member_items first ms) (bare_item value.end last first ∷ [])
+path_items-end_in ts first (inner around f annotations h k ms) last =
+    ap (λ items. top_items ts ++ items) (nest_items-with_member first around f annotations h (container k ms last)
+    ∙ container_items (nest_items first around) (begin_item first f annotations h k ∷ []) (member_items first ms) (bare_item value.end last first ∷ []))
+    ∙ sym (append_assoc (top_items ts) (nest_items first around ++ begin_item first f annotations h k ∷ member_items first ms) (bare_item value.end last first ∷ []))
 
 -- ---- spelled paths
 
 -- the bytes so far do not pass the end of the innermost open container
 pub Spells-within : (path : Path SymbolAt ℕ) (frames : List Frame) (b : List ℕ) → Spells path frames b → Within frames (length b)
 Spells-within _ _ _ (Spells.top ts b t) = tt
-Spells-within _ _ _ (Spells.inside path frames f notes k ms n b x w front c s field an fr ins le within) =
-    omega (arith, length-append ((b ++ x) ++ (w ++ front)) c)
+Spells-within _ _ _ (Spells.inside path frames f annotations k ms n b x w header c s field an fr ins le within) =
+    omega (arith, length-append ((b ++ x) ++ (w ++ header)) c)
 
 -- a path is open where there are frames
 abbrev pub Open : Path SymbolAt ℕ → List Frame → Type 0
@@ -104,36 +104,36 @@ Open (closed ts) (f ∷ frames) = ⊥
 Open (opened ts first nest) [] = ⊥
 Open (opened ts first nest) (f ∷ frames) = Unit {0}
 
-open_in-Open : (path : Path SymbolAt ℕ) (q : ℕ) (f : Option SymbolAt) (notes : List SymbolAt) (h : ℕ) (k : Kind) (ms : Members SymbolAt ℕ) (frame : Frame) (frames : List Frame)
-    → Open (open_in path q f notes h k ms) (frame ∷ frames)
-open_in-Open (closed ts) q f notes h k ms frame frames = tt
-open_in-Open (opened ts first nest) q f notes h k ms frame frames = tt
+open_in-Open : (path : Path SymbolAt ℕ) (q : ℕ) (f : Option SymbolAt) (annotations : List SymbolAt) (h : ℕ) (k : Kind) (ms : Members SymbolAt ℕ) (frame : Frame) (frames : List Frame)
+    → Open (open_in path q f annotations h k ms) (frame ∷ frames)
+open_in-Open (closed ts) q f annotations h k ms frame frames = tt
+open_in-Open (opened ts first nest) q f annotations h k ms frame frames = tt
 
 pub Spells-Open : (path : Path SymbolAt ℕ) (frames : List Frame) (b : List ℕ) → Spells path frames b → Open path frames
 Spells-Open _ _ _ (Spells.top ts b t) = tt
-Spells-Open _ _ _ (Spells.inside path frames f notes k ms n b x w front c s field an fr ins le within) =
-    open_in-Open path (length b) f notes (length ((b ++ x) ++ w)) k ms (frame_of k (length ((b ++ x) ++ (w ++ front)) + n)) frames
+Spells-Open _ _ _ (Spells.inside path frames f annotations k ms n b x w header c s field an fr ins le within) =
+    open_in-Open path (length b) f annotations (length ((b ++ x) ++ w)) k ms (frame_of k (length ((b ++ x) ++ (w ++ header)) + n)) frames
 
 -- what stands behind the members so far, and how far it goes
 behind_members : (h c x : List ℕ) (n : ℕ) → length ((h ++ c) ++ x) ≤ length h + n → length (c ++ x) ≤ n
 behind_members h c x n le = omega (arith, length-append (h ++ c) x, length-append h c, length-append c x)
 
-top_value : (ts : List (Top SymbolAt ℕ)) (b : List ℕ) (notes : List SymbolAt) (h : ℕ) (v : Value SymbolAt ℕ) (y z : List ℕ) → Tops ts b → y ≡ []
-    → Bin (length (b ++ y)) notes h v z → Tops (ts ++ tree (length b) notes h v ∷ []) (b ++ (y ++ z))
-top_value ts b notes h v y z t none =
-    let P : List ℕ → Type 0 = λ y. Bin (length (b ++ y)) notes h v z → Tops (ts ++ tree (length b) notes h v ∷ []) (b ++ (y ++ z)) in
-    subst P (sym none) (λ bin. Tops.with_value ts h notes v b z t (subst (λ (b : List ℕ). Bin (length b) notes h v z) (append-nil b) bin))
+top_value : (ts : List (Top SymbolAt ℕ)) (b : List ℕ) (annotations : List SymbolAt) (h : ℕ) (v : Value SymbolAt ℕ) (y z : List ℕ) → Tops ts b → y ≡ []
+    → Bin (length (b ++ y)) annotations h v z → Tops (ts ++ tree (length b) annotations h v ∷ []) (b ++ (y ++ z))
+top_value ts b annotations h v y z t none =
+    let P : List ℕ → Type 0 = λ y. Bin (length (b ++ y)) annotations h v z → Tops (ts ++ tree (length b) annotations h v ∷ []) (b ++ (y ++ z)) in
+    subst P (sym none) (λ bin. Tops.with_value ts h annotations v b z t (subst (λ (b : List ℕ). Bin (length b) annotations h v z) (append-nil b) bin))
 
-top_pad : (ts : List (Top SymbolAt ℕ)) (b y p : List ℕ) → Tops ts b → y ≡ [] → IsPad p → Tops ts (b ++ (y ++ p))
-top_pad ts b y p t none is = subst (λ (y : List ℕ). Tops ts (b ++ (y ++ p))) (sym none) (Tops.pad ts b p t is)
+top_nop_pad : (ts : List (Top SymbolAt ℕ)) (b y p : List ℕ) → Tops ts b → y ≡ [] → IsNopPad p → Tops ts (b ++ (y ++ p))
+top_nop_pad ts b y p t none is = subst (λ (y : List ℕ). Tops ts (b ++ (y ++ p))) (sym none) (Tops.nop_pad ts b p t is)
 
-pub Spells-value : (path : Path SymbolAt ℕ) (frames : List Frame) (b : List ℕ) (f : Option SymbolAt) (notes : List SymbolAt) (h : ℕ) (v : Value SymbolAt ℕ) (y z : List ℕ)
-    → Spells path frames b → FieldIn frames (length b) f y → Bin (length (b ++ y)) notes h v z → Within frames (length (b ++ (y ++ z)))
-    → Spells (put_in path (length b) f notes h v) frames (b ++ (y ++ z))
-Spells-value _ _ _ f notes h v y z (Spells.top ts b t) field bin within =
-    Spells.top (ts ++ tree (length b) notes h v ∷ []) (b ++ (y ++ z)) (top_value ts b notes h v y z t field.1 bin)
-Spells-value _ _ _ g own i v y z (Spells.inside path frames f notes k ms n b x w front c s field an fr ins le within) fg bin in_end =
-    let head : List ℕ = (b ++ x) ++ (w ++ front) in
+pub Spells-value : (path : Path SymbolAt ℕ) (frames : List Frame) (b : List ℕ) (f : Option SymbolAt) (annotations : List SymbolAt) (h : ℕ) (v : Value SymbolAt ℕ) (y z : List ℕ)
+    → Spells path frames b → FieldIn frames (length b) f y → Bin (length (b ++ y)) annotations h v z → Within frames (length (b ++ (y ++ z)))
+    → Spells (put_in path (length b) f annotations h v) frames (b ++ (y ++ z))
+Spells-value _ _ _ f annotations h v y z (Spells.top ts b t) field bin within =
+    Spells.top (ts ++ tree (length b) annotations h v ∷ []) (b ++ (y ++ z)) (top_value ts b annotations h v y z t field.1 bin)
+Spells-value _ _ _ g own i v y z (Spells.inside path frames f annotations k ms n b x w header c s field an fr ins le within) fg bin in_end =
+    let head : List ℕ = (b ++ x) ++ (w ++ header) in
     let e : (head ++ c) ++ (y ++ z) ≡ head ++ (c ++ (y ++ z)) = append_assoc head c (y ++ z) in
     let p : length (head ++ c) ≡ length head + length c = length-append head c in
     let r : length ((head ++ c) ++ y) ≡ length head + length (c ++ y) = omega (arith, length-append (head ++ c) y, length-append c y, p) in
@@ -141,38 +141,38 @@ Spells-value _ _ _ g own i v y z (Spells.inside path frames f notes k ms n b x w
     let bin' : Bin (length head + length (c ++ y)) own i v z = subst (λ (q : ℕ). Bin q own i v z) r bin in
     let short : length (c ++ (y ++ z)) ≤ n = behind_members head c (y ++ z) n in_end in
     let end : Frame = frame_of k (length head + n) in
-    let more = Spells.inside path frames f notes k (value.member ms g own i v) n b x w front (c ++ (y ++ z)) s field an fr
+    let more = Spells.inside path frames f annotations k (value.member ms g own i v) n b x w header (c ++ (y ++ z)) s field an fr
     (Inside.with_value k (length head) i g own v ms c y z ins fg' bin') short within in
-    let more' : Spells (open_in path (length b) f notes (length ((b ++ x) ++ w)) k (value.member ms g own i v)) (end ∷ frames) ((head ++ c) ++ (y ++ z)) =
-    subst (λ (bytes : List ℕ). Spells (open_in path (length b) f notes (length ((b ++ x) ++ w)) k (value.member ms g own i v)) (end ∷ frames) bytes) (sym e) more in
+    let more' : Spells (open_in path (length b) f annotations (length ((b ++ x) ++ w)) k (value.member ms g own i v)) (end ∷ frames) ((head ++ c) ++ (y ++ z)) =
+    subst (λ (bytes : List ℕ). Spells (open_in path (length b) f annotations (length ((b ++ x) ++ w)) k (value.member ms g own i v)) (end ∷ frames) bytes) (sym e) more in
     subst (λ (path : Path SymbolAt ℕ). Spells path (end ∷ frames) ((head ++ c) ++ (y ++ z)))
-    (sym (put_in-open_in path (length b) f notes (length ((b ++ x) ++ w)) k ms (length (head ++ c)) g own i v)) more'
+    (sym (put_in-open_in path (length b) f annotations (length ((b ++ x) ++ w)) k ms (length (head ++ c)) g own i v)) more'
 
-pub Spells-pad : (path : Path SymbolAt ℕ) (frames : List Frame) (b : List ℕ) (f : Option SymbolAt) (y p : List ℕ)
-    → Spells path frames b → FieldIn frames (length b) f y → IsPad p → Within frames (length (b ++ (y ++ p))) → Spells path frames (b ++ (y ++ p))
-Spells-pad _ _ _ f y p (Spells.top ts b t) field is within = Spells.top ts (b ++ (y ++ p)) (top_pad ts b y p t field.1 is)
-Spells-pad _ _ _ g y p (Spells.inside path frames f notes k ms n b x w front c s field an fr ins le within) fg is in_end =
-    let head : List ℕ = (b ++ x) ++ (w ++ front) in
+pub Spells-nop_pad : (path : Path SymbolAt ℕ) (frames : List Frame) (b : List ℕ) (f : Option SymbolAt) (y p : List ℕ)
+    → Spells path frames b → FieldIn frames (length b) f y → IsNopPad p → Within frames (length (b ++ (y ++ p))) → Spells path frames (b ++ (y ++ p))
+Spells-nop_pad _ _ _ f y p (Spells.top ts b t) field is within = Spells.top ts (b ++ (y ++ p)) (top_nop_pad ts b y p t field.1 is)
+Spells-nop_pad _ _ _ g y p (Spells.inside path frames f annotations k ms n b x w header c s field an fr ins le within) fg is in_end =
+    let head : List ℕ = (b ++ x) ++ (w ++ header) in
     let e : (head ++ c) ++ (y ++ p) ≡ head ++ (c ++ (y ++ p)) = append_assoc head c (y ++ p) in
     let fg' : Field k (length head + length c) g y = subst (λ (q : ℕ). Field k q g y) (length-append head c) fg in
     let short : length (c ++ (y ++ p)) ≤ n = behind_members head c (y ++ p) n in_end in
-    subst (λ (bytes : List ℕ). Spells (open_in path (length b) f notes (length ((b ++ x) ++ w)) k ms) (frame_of k (length head + n) ∷ frames) bytes) (sym e)
-    (Spells.inside path frames f notes k ms n b x w front (c ++ (y ++ p)) s field an fr (Inside.pad k (length head) g ms c y p ins fg' is) short within)
+    subst (λ (bytes : List ℕ). Spells (open_in path (length b) f annotations (length ((b ++ x) ++ w)) k ms) (frame_of k (length head + n) ∷ frames) bytes) (sym e)
+    (Spells.inside path frames f annotations k ms n b x w header (c ++ (y ++ p)) s field an fr (Inside.nop_pad k (length head) g ms c y p ins fg' is) short within)
 
 pub Spells-marker : (path : Path SymbolAt ℕ) (frames : List Frame) (b : List ℕ) → frames ≡ [] → Spells path frames b
     → Spells (mark_in path (length b)) frames (b ++ 224 ∷ 1 ∷ 0 ∷ 234 ∷ [])
 Spells-marker _ _ _ e (Spells.top ts b t) = Spells.top (ts ++ version (length b) ∷ []) (b ++ 224 ∷ 1 ∷ 0 ∷ 234 ∷ []) (Tops.marker ts b t)
-Spells-marker _ _ _ e (Spells.inside path frames f notes k ms n b x w front c s field an fr ins le within) = absurd (cc e)
+Spells-marker _ _ _ e (Spells.inside path frames f annotations k ms n b x w header c s field an fr ins le within) = absurd (cc e)
 
 -- a container that has no members yet
-pub Spells-begin : (path : Path SymbolAt ℕ) (frames : List Frame) (b : List ℕ) (f : Option SymbolAt) (notes : List SymbolAt) (k : Kind) (n : ℕ) (x w front : List ℕ)
-    → Spells path frames b → FieldIn frames (length b) f x → Annotated (length (b ++ x)) notes (length front + n) w → Front k n front
-    → Within frames (length ((b ++ x) ++ (w ++ front)) + n)
-    → Spells (open_in path (length b) f notes (length ((b ++ x) ++ w)) k value.nothing) (frame_of k (length ((b ++ x) ++ (w ++ front)) + n) ∷ frames) ((b ++ x) ++ (w ++ front))
-Spells-begin path frames b f notes k n x w front s field an fr within =
-    let head : List ℕ = (b ++ x) ++ (w ++ front) in
-    subst (λ (bytes : List ℕ). Spells (open_in path (length b) f notes (length ((b ++ x) ++ w)) k value.nothing) (frame_of k (length head + n) ∷ frames) bytes) (append-nil head)
-    (Spells.inside path frames f notes k value.nothing n b x w front [] s field an fr (Inside.nothing k (length head)) (omega arith) within)
+pub Spells-begin : (path : Path SymbolAt ℕ) (frames : List Frame) (b : List ℕ) (f : Option SymbolAt) (annotations : List SymbolAt) (k : Kind) (n : ℕ) (x w header : List ℕ)
+    → Spells path frames b → FieldIn frames (length b) f x → Annotated (length (b ++ x)) annotations (length header + n) w → Header k n header
+    → Within frames (length ((b ++ x) ++ (w ++ header)) + n)
+    → Spells (open_in path (length b) f annotations (length ((b ++ x) ++ w)) k value.nothing) (frame_of k (length ((b ++ x) ++ (w ++ header)) + n) ∷ frames) ((b ++ x) ++ (w ++ header))
+Spells-begin path frames b f annotations k n x w header s field an fr within =
+    let head : List ℕ = (b ++ x) ++ (w ++ header) in
+    subst (λ (bytes : List ℕ). Spells (open_in path (length b) f annotations (length ((b ++ x) ++ w)) k value.nothing) (frame_of k (length head + n) ∷ frames) bytes) (append-nil head)
+    (Spells.inside path frames f annotations k value.nothing n b x w header [] s field an fr (Inside.nothing k (length head)) (omega arith) within)
 
 -- ---- the end of a container
 
@@ -181,29 +181,29 @@ IsFull [] q = Unit {0}
 IsFull (f ∷ frames) q = f.end ≤ q
 
 -- a whole container, by the places of itself and of its end
-Bin-container : (q h last : ℕ) (notes : List SymbolAt) (k : Kind) (ms : Members SymbolAt ℕ) (w front c : List ℕ) → h ≡ q + length w → last ≡ q + length ((w ++ front) ++ c)
-    → Annotated q notes (length front + length c) w → Front k (length c) front → Inside k (q + length (w ++ front)) ms c → Bin q notes h (container k ms last) ((w ++ front) ++ c)
-Bin-container q h last notes k ms w front c is_h is_last an fr ins =
-    subst (λ (h : ℕ). Bin q notes h (container k ms last) ((w ++ front) ++ c)) (sym is_h)
-    (subst (λ (last : ℕ). Bin q notes (q + length w) (container k ms last) ((w ++ front) ++ c)) (sym is_last) (Bin.container q notes k ms w front c an fr ins))
+Bin-container : (q h last : ℕ) (annotations : List SymbolAt) (k : Kind) (ms : Members SymbolAt ℕ) (w header c : List ℕ) → h ≡ q + length w → last ≡ q + length ((w ++ header) ++ c)
+    → Annotated q annotations (length header + length c) w → Header k (length c) header → Inside k (q + length (w ++ header)) ms c → Bin q annotations h (container k ms last) ((w ++ header) ++ c)
+Bin-container q h last annotations k ms w header c is_h is_last an fr ins =
+    subst (λ (h : ℕ). Bin q annotations h (container k ms last) ((w ++ header) ++ c)) (sym is_h)
+    (subst (λ (last : ℕ). Bin q annotations (q + length w) (container k ms last) ((w ++ header) ++ c)) (sym is_last) (Bin.container q annotations k ms w header c an fr ins))
 
 pub Spells-end : (path : Path SymbolAt ℕ) (frames : List Frame) (b : List ℕ) → Spells path frames b → IsFull frames (length b) → Spells (end_in path (length b)) (tail_of frames) b
 Spells-end _ _ _ (Spells.top ts b t) full = Spells.top ts b t
-Spells-end _ _ _ (Spells.inside path frames f notes k ms n b x w front c s field an fr ins le within) full =
-    let head : List ℕ = (b ++ x) ++ (w ++ front) in
+Spells-end _ _ _ (Spells.inside path frames f annotations k ms n b x w header c s field an fr ins le within) full =
+    let head : List ℕ = (b ++ x) ++ (w ++ header) in
     let last : ℕ = length (head ++ c) in
     let h : ℕ = length ((b ++ x) ++ w) in
     let n_is : n ≡ length c = omega (arith, full, length-append head c) in
-    let an' : Annotated (length (b ++ x)) notes (length front + length c) w = subst (λ (n : ℕ). Annotated (length (b ++ x)) notes (length front + n) w) n_is an in
-    let fr' : Front k (length c) front = subst (λ (n : ℕ). Front k n front) n_is fr in
-    let ins' : Inside k (length (b ++ x) + length (w ++ front)) ms c = subst (λ (q : ℕ). Inside k q ms c) (length-append (b ++ x) (w ++ front)) ins in
-    let same : b ++ (x ++ ((w ++ front) ++ c)) ≡ head ++ c = simp append_assoc in
-    let last_is : last ≡ length (b ++ x) + length ((w ++ front) ++ c) = ap length (append_assoc (b ++ x) (w ++ front) c) ∙ length-append (b ++ x) ((w ++ front) ++ c) in
-    let bin : Bin (length (b ++ x)) notes h (container k ms last) ((w ++ front) ++ c) =
-    Bin-container (length (b ++ x)) h last notes k ms w front c (length-append (b ++ x) w) last_is an' fr' ins' in
-    let far : length head + n ≡ length (b ++ (x ++ ((w ++ front) ++ c))) = omega (arith, length-append head c, ap length same) in
-    let within' : Within frames (length (b ++ (x ++ ((w ++ front) ++ c)))) = subst (λ (q : ℕ). Within frames q) far within in
-    let whole = Spells-value path frames b f notes h (container k ms last) x ((w ++ front) ++ c) s field bin within' in
-    let whole' : Spells (put_in path (length b) f notes h (container k ms last)) frames (head ++ c) =
-    subst (λ (bytes : List ℕ). Spells (put_in path (length b) f notes h (container k ms last)) frames bytes) same whole in
-    subst (λ (path : Path SymbolAt ℕ). Spells path frames (head ++ c)) (sym (end_in-open_in path (length b) f notes h k ms last)) whole'
+    let an' : Annotated (length (b ++ x)) annotations (length header + length c) w = subst (λ (n : ℕ). Annotated (length (b ++ x)) annotations (length header + n) w) n_is an in
+    let fr' : Header k (length c) header = subst (λ (n : ℕ). Header k n header) n_is fr in
+    let ins' : Inside k (length (b ++ x) + length (w ++ header)) ms c = subst (λ (q : ℕ). Inside k q ms c) (length-append (b ++ x) (w ++ header)) ins in
+    let same : b ++ (x ++ ((w ++ header) ++ c)) ≡ head ++ c = simp append_assoc in
+    let last_is : last ≡ length (b ++ x) + length ((w ++ header) ++ c) = ap length (append_assoc (b ++ x) (w ++ header) c) ∙ length-append (b ++ x) ((w ++ header) ++ c) in
+    let bin : Bin (length (b ++ x)) annotations h (container k ms last) ((w ++ header) ++ c) =
+    Bin-container (length (b ++ x)) h last annotations k ms w header c (length-append (b ++ x) w) last_is an' fr' ins' in
+    let far : length head + n ≡ length (b ++ (x ++ ((w ++ header) ++ c))) = omega (arith, length-append head c, ap length same) in
+    let within' : Within frames (length (b ++ (x ++ ((w ++ header) ++ c)))) = subst (λ (q : ℕ). Within frames q) far within in
+    let whole = Spells-value path frames b f annotations h (container k ms last) x ((w ++ header) ++ c) s field bin within' in
+    let whole' : Spells (put_in path (length b) f annotations h (container k ms last)) frames (head ++ c) =
+    subst (λ (bytes : List ℕ). Spells (put_in path (length b) f annotations h (container k ms last)) frames bytes) same whole in
+    subst (λ (path : Path SymbolAt ℕ). Spells path frames (head ++ c)) (sym (end_in-open_in path (length b) f annotations h k ms last)) whole'

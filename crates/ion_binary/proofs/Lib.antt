@@ -1,5 +1,5 @@
 mod Rows
-mod Fewer
+mod Termination
 mod VarLoop
 mod Cursors
 mod TimestampsSpelled
@@ -7,10 +7,10 @@ mod TimestampsRead
 mod Bodies
 mod Narrow
 mod Taken
-mod Finding
-mod Wrapping
+mod TypedValueSound
+mod WrapperSound
 mod Growing
-mod Kept
+mod StepPreservesPath
 pub mod Sound
 mod Spelled
 mod SpelledParts
@@ -18,8 +18,8 @@ mod SpelledMembers
 mod Complete
 mod BodyParts
 mod Passing
-mod Founds
-mod Wraps
-mod Notes
+mod TypedValueCode
+mod WrapperCode
+mod Annotations
 mod ValueParts
 mod ReaderParts

@@ -11,8 +11,8 @@ use Rattle.ion_value.specs.Reading.{Reading, Step, Ends, Stops, Gives, GoesOn, n
 use Rattle.ion_binary.specs.Positions.{Frame, State}
 use Rattle.ion_meter.specs.Sources.{Cursor}
 use Rattle.ion_value.specs.Parts.{◌>>=◌, ◌>>◌, refuse, Placed, part}
-use Rattle.ion_binary.specs.Descriptor.{var_uint_at, Shape, null, bool, pad, wrapper, body, container, sorted, marker, float, illegal, shape_of}
-use Rattle.ion_binary.specs.Reading.{Around, body_at, scalar_at, begin_at, container_at, sorted_at, by_shape, found_at, ids_at, plain_at, inner_at, annotated_at, wrapper_length, by_wrapper, value_at, top_of, member_at, step_of, top_step, step_in, step, size, start, reading}
+use Rattle.ion_binary.specs.Descriptor.{var_uint_at, Shape, null, bool, nop_pad, wrapper, body, container, sorted, marker, float, illegal, shape_of}
+use Rattle.ion_binary.specs.Reading.{Around, body_at, scalar_at, begin_at, container_at, sorted_at, read_by_descriptor, typed_value_at, ids_at, plain_at, inner_at, annotated_at, wrapper_length, by_wrapper, value_at, top_of, member_at, step_of, top_step, step_in, step, size, start, reading}
 use Rattle.ion_binary.specs.Laws.{IsLimit, AreWithin, IsCut, here, later, Narrow}
 
 -- ---- one result, or a limit's fault in its place
@@ -63,7 +63,7 @@ if-step : (b : Bool) (x y z : Step State) → StepCut y z → StepCut (if b then
 if-step true x y z h = same_step x
 if-step false x y z h = h
 
--- one reading, or its front up to a limit's fault
+-- one reading, or its prefix up to a limit's fault
 abbrev IsNarrow : Reading → Reading → Type 0
 IsNarrow r s = (r ≡ s) ⊎ IsCut r s
 
@@ -91,22 +91,22 @@ module _ (limits wide : Limits) (within : AreWithin limits wide) where
   depth-reached n h = let narrow = within.depth in let more = leb-true wide.depth n h in le-leb limits.depth n (omega arith)
 
   -- a scalar: its size alone is held against a limit
-  body_at-Cut : (a : Around) (code n : ℕ) (c : Cursor) → Cut IsLimit (body_at limits a code n c) (body_at wide a code n c)
+  body_at-Cut : (a : Around) (type_code n : ℕ) (c : Cursor) → Cut IsLimit (body_at limits a type_code n c) (body_at wide a type_code n c)
   unfolding body_at
-  body_at-Cut a code n c = then-Cut IsLimit _ _ _ _ (same _) (then-Cut IsLimit _ _ _ _ (refuse-Cut _ _ ScalarLimit (scalar-passed n) (inr (inl refl))) (same _))
+  body_at-Cut a type_code n c = then-Cut IsLimit _ _ _ _ (same _) (then-Cut IsLimit _ _ _ _ (refuse-Cut _ _ ScalarLimit (scalar-passed n) (inr (inl refl))) (same _))
 
-  scalar_at-Cut : (a : Around) (code low : ℕ) (c : Cursor) → Cut IsLimit (scalar_at limits a code low c) (scalar_at wide a code low c)
+  scalar_at-Cut : (a : Around) (type_code length_code : ℕ) (c : Cursor) → Cut IsLimit (scalar_at limits a type_code length_code c) (scalar_at wide a type_code length_code c)
   unfolding scalar_at
-  scalar_at-Cut a code low c = bind-Cut IsLimit _ _ _ _ (same _) (λ n. body_at-Cut a code n.0 n.1)
+  scalar_at-Cut a type_code length_code c = bind-Cut IsLimit _ _ _ _ (same _) (λ n. body_at-Cut a type_code n.0 n.1)
 
   -- a container: its depth alone is
   begin_at-Cut : (a : Around) (k : Kind) (n : ℕ) (c : Cursor) → Cut IsLimit (begin_at limits a k n c) (begin_at wide a k n c)
   unfolding begin_at
   begin_at-Cut a k n c = then-Cut IsLimit _ _ _ _ (same _) (then-Cut IsLimit _ _ _ _ (refuse-Cut _ _ DepthLimit (depth-reached a.depth) (inl refl)) (same _))
 
-  container_at-Cut : (a : Around) (k : Kind) (low : ℕ) (c : Cursor) → Cut IsLimit (container_at limits a k low c) (container_at wide a k low c)
+  container_at-Cut : (a : Around) (k : Kind) (length_code : ℕ) (c : Cursor) → Cut IsLimit (container_at limits a k length_code c) (container_at wide a k length_code c)
   unfolding container_at
-  container_at-Cut a k low c = bind-Cut IsLimit _ _ _ _ (same _) (λ n. begin_at-Cut a k n.0 n.1)
+  container_at-Cut a k length_code c = bind-Cut IsLimit _ _ _ _ (same _) (λ n. begin_at-Cut a k n.0 n.1)
 
   sorted_at-Cut : (a : Around) (c : Cursor) → Cut IsLimit (sorted_at limits a c) (sorted_at wide a c)
   unfolding sorted_at
@@ -114,22 +114,22 @@ module _ (limits wide : Limits) (within : AreWithin limits wide) where
       bind-Cut IsLimit (var_uint_at a.region c) _ _ _ (same _) (λ n. then-Cut IsLimit (refuse (nat_eq n.0 0) BadDescriptor) _ _ _ (same _) (begin_at-Cut a kind.Struct n.0 n.1))
 
   -- whatever is found behind a descriptor
-  by_shape-Cut : (a : Around) (s : Shape) (c : Cursor) → Cut IsLimit (by_shape limits a s c) (by_shape wide a s c)
-  unfolding by_shape
-  by_shape-Cut a (null t) c = same _
-  by_shape-Cut a (bool truth) c = same _
-  by_shape-Cut a (pad low) c = same _
-  by_shape-Cut a (body code low) c = scalar_at-Cut a code low c
-  by_shape-Cut a sorted c = sorted_at-Cut a c
-  by_shape-Cut a (container k low) c = container_at-Cut a k low c
-  by_shape-Cut a marker c = same _
-  by_shape-Cut a float c = same _
-  by_shape-Cut a (wrapper low) c = same _
-  by_shape-Cut a illegal c = same _
+  read_by_descriptor-Cut : (a : Around) (s : Shape) (c : Cursor) → Cut IsLimit (read_by_descriptor limits a s c) (read_by_descriptor wide a s c)
+  unfolding read_by_descriptor
+  read_by_descriptor-Cut a (null t) c = same _
+  read_by_descriptor-Cut a (bool truth) c = same _
+  read_by_descriptor-Cut a (nop_pad length_code) c = same _
+  read_by_descriptor-Cut a (body type_code length_code) c = scalar_at-Cut a type_code length_code c
+  read_by_descriptor-Cut a sorted c = sorted_at-Cut a c
+  read_by_descriptor-Cut a (container k length_code) c = container_at-Cut a k length_code c
+  read_by_descriptor-Cut a marker c = same _
+  read_by_descriptor-Cut a float c = same _
+  read_by_descriptor-Cut a (wrapper length_code) c = same _
+  read_by_descriptor-Cut a illegal c = same _
 
-  found_at-Cut : (a : Around) (b : ℕ) (c : Cursor) → Cut IsLimit (found_at limits a b c) (found_at wide a b c)
-  unfolding found_at
-  found_at-Cut a b c = then-Cut IsLimit _ _ _ _ (same _) (by_shape-Cut a (shape_of b) c)
+  typed_value_at-Cut : (a : Around) (b : ℕ) (c : Cursor) → Cut IsLimit (typed_value_at limits a b c) (typed_value_at wide a b c)
+  unfolding typed_value_at
+  typed_value_at-Cut a b c = then-Cut IsLimit _ _ _ _ (same _) (read_by_descriptor-Cut a (shape_of b) c)
 
   -- ---- an item
 
@@ -149,29 +149,29 @@ module _ (limits wide : Limits) (within : AreWithin limits wide) where
 
   plain_at-Cut : (frames : List Frame) (top : ℕ) (f : Option SymbolAt) (place b : ℕ) (c : Cursor) → Cut IsPlacedLimit (plain_at limits frames top f place b c) (plain_at wide frames top f place b c)
   unfolding plain_at
-  plain_at-Cut frames top f place b c = bind-Cut IsPlacedLimit _ _ _ _ (part-Cut place _ _ (found_at-Cut _ b c)) (λ v. same _)
+  plain_at-Cut frames top f place b c = bind-Cut IsPlacedLimit _ _ _ _ (part-Cut place _ _ (typed_value_at-Cut _ b c)) (λ v. same _)
 
-  inner_at-Cut : (frames : List Frame) (top : ℕ) (f : Option SymbolAt) (notes : List SymbolAt) (end : ℕ) (c : Cursor) → Cut IsPlacedLimit (inner_at limits frames top f notes end c) (inner_at wide frames top f notes end c)
+  inner_at-Cut : (frames : List Frame) (top : ℕ) (f : Option SymbolAt) (annotations : List SymbolAt) (end : ℕ) (c : Cursor) → Cut IsPlacedLimit (inner_at limits frames top f annotations end c) (inner_at wide frames top f annotations end c)
   unfolding inner_at
-  inner_at-Cut frames top f notes end c =
-      bind-Cut IsPlacedLimit _ _ _ _ (same _) (λ b. bind-Cut IsPlacedLimit _ _ _ _ (part-Cut c.place _ _ (found_at-Cut _ b.0 b.1)) (λ v. same _))
+  inner_at-Cut frames top f annotations end c =
+      bind-Cut IsPlacedLimit _ _ _ _ (same _) (λ b. bind-Cut IsPlacedLimit _ _ _ _ (part-Cut c.place _ _ (typed_value_at-Cut _ b.0 b.1)) (λ v. same _))
 
-  annotated_at-Cut : (frames : List Frame) (top : ℕ) (f : Option SymbolAt) (place low : ℕ) (c : Cursor) → Cut IsPlacedLimit (annotated_at limits frames top f place low c) (annotated_at wide frames top f place low c)
+  annotated_at-Cut : (frames : List Frame) (top : ℕ) (f : Option SymbolAt) (place length_code : ℕ) (c : Cursor) → Cut IsPlacedLimit (annotated_at limits frames top f place length_code c) (annotated_at wide frames top f place length_code c)
   unfolding annotated_at
-  annotated_at-Cut frames top f place low c =
-      bind-Cut IsPlacedLimit _ _ _ _ (same _) (λ w. bind-Cut IsPlacedLimit _ _ _ _ (ids_at-Cut w.0.ids w.0.ids 0 w.1) (λ notes. inner_at-Cut frames top f notes.0 w.0.end notes.1))
+  annotated_at-Cut frames top f place length_code c =
+      bind-Cut IsPlacedLimit _ _ _ _ (same _) (λ w. bind-Cut IsPlacedLimit _ _ _ _ (ids_at-Cut w.0.ids w.0.ids 0 w.1) (λ annotations. inner_at-Cut frames top f annotations.0 w.0.end annotations.1))
 
   -- with a wrapper or without
-  by_wrapper-Cut : {A : Type 0} (o : Option ℕ) (f g : ℕ → Placed A) (x y : Placed A) → ((low : ℕ) → Cut IsPlacedLimit (f low) (g low)) → Cut IsPlacedLimit x y
+  by_wrapper-Cut : {A : Type 0} (o : Option ℕ) (f g : ℕ → Placed A) (x y : Placed A) → ((length_code : ℕ) → Cut IsPlacedLimit (f length_code) (g length_code)) → Cut IsPlacedLimit x y
       → Cut IsPlacedLimit (by_wrapper o f x) (by_wrapper o g y)
   by_wrapper-Cut None f g x y h p = p
-  by_wrapper-Cut (Some low) f g x y h p = h low
+  by_wrapper-Cut (Some length_code) f g x y h p = h length_code
 
   value_at-Cut : (frames : List Frame) (top : ℕ) (f : Option SymbolAt) (c : Cursor) → Cut IsPlacedLimit (value_at limits frames top f c) (value_at wide frames top f c)
   unfolding value_at
   value_at-Cut frames top f c =
       bind-Cut IsPlacedLimit _ _ _ _ (same _) (λ b.
-      by_wrapper-Cut (wrapper_length (shape_of b.0)) _ _ _ _ (λ low. annotated_at-Cut frames top f c.place low b.1) (plain_at-Cut frames top f c.place b.0 b.1))
+      by_wrapper-Cut (wrapper_length (shape_of b.0)) _ _ _ _ (λ length_code. annotated_at-Cut frames top f c.place length_code b.1) (plain_at-Cut frames top f c.place b.0 b.1))
 
   member_at-Cut : (frames : List Frame) (top : ℕ) (c : Cursor) → Cut IsPlacedLimit (member_at limits frames top c) (member_at wide frames top c)
   unfolding member_at

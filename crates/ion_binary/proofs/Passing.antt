@@ -19,30 +19,30 @@ IsPassed-cursor device s t n h p =
     let w = lent-CanPass s n h in
     ap (λ k. record { place = k; rest = left device.rest t }) p.place ∙ ap (λ (l : List ℕ). record { place = s.place + n; rest = l }) (IsPassed-left device.rest s t n w.0 p)
 
--- so many octets were passed over
+-- n octets were passed over
 pub record Passed {I : Type 0} (device : InputOf I) (old new : Incoming I) (n : ℕ) : Type 0 where
   pub stands : Stands new
   pub moves : Moves device old new
   pub place : new.place ≡ old.place + n
-  pub behind : device.tells old.device → left device.rest new ≡ drop n (left device.rest old)
+  pub behind : device.observable old.device → left device.rest new ≡ drop n (left device.rest old)
 
 pub Passed-then : {I : Type 0} (device : InputOf I) (s t u : Incoming I) (m n : ℕ) → Passed device s t m → Passed device t u n → Passed device s u (m + n)
 Passed-then device s t u m n a b = record {
   stands = b.stands;
   moves = moves-then device s t u a.moves b.moves;
   place = omega (arith, a.place, b.place);
-  behind = λ h. b.behind (a.moves.still_tells.1 h) ∙ (ap (λ (l : List ℕ). drop n l) (a.behind h) ∙ drop-drop n m (left device.rest s));
+  behind = λ h. b.behind (a.moves.still_observable.1 h) ∙ (ap (λ (l : List ℕ). drop n l) (a.behind h) ∙ drop-drop n m (left device.rest s));
 }
 
 -- octets that the window lends were passed over, more of the device having been read
-pub Passed-lent : {I : Type 0} (device : InputOf I) (s p t : Incoming I) (n : ℕ) → Stands s → Extends device.rest device.tells s p → p.fault ≡ None → n ≤ length (lent p) → IsPassed p t n
+pub Passed-lent : {I : Type 0} (device : InputOf I) (s p t : Incoming I) (n : ℕ) → Stands s → Extends device.rest device.observable s p → p.fault ≡ None → n ≤ length (lent p) → IsPassed p t n
     → Passed device s t n
 Passed-lent device s p t n h kept well fits passed =
     let w = lent-CanPass p n fits in
     record {
       stands = record { well = passed.fault ∙ well; within = omega (arith, w.1, passed.place, passed.limit, kept.place, kept.limit, h.within); small = omega (arith, passed.limit, kept.limit, h.small) };
       moves = record {
-        still_tells = subst (λ d. device.tells d ↔ device.tells s.device) (sym passed.device) kept.still_tells;
+        still_observable = subst (λ d. device.observable d ↔ device.observable s.device) (sym passed.device) kept.still_observable;
         limit = passed.limit ∙ kept.limit;
         further = omega (arith, passed.place, kept.place);
         total = λ t'. IsPassed-total device.rest p t n w.0 passed ∙ omega (arith, kept.place, ap (λ (l : List ℕ). length l) (kept.same_left t'));
@@ -51,9 +51,9 @@ Passed-lent device s p t n h kept well fits passed =
       behind = λ t'. IsPassed-left device.rest p t n w.0 passed ∙ ap (λ (l : List ℕ). drop n l) (kept.same_left t');
     }
 
--- a front of octets, and the next of them behind it
+-- a prefix of octets, and the next of them behind it
 pub take_on : (all text behind next : List ℕ) (n : ℕ) → text ≡ take (length text) all → behind ≡ drop (length text) all → next ≡ take n behind
     → text ++ next ≡ take (length text + n) all
-take_on all text behind next n front rest piece =
+take_on all text behind next n prefix rest piece =
     ap (λ (l : List ℕ). text ++ l) (piece ∙ ap (λ (l : List ℕ). take n l) rest)
-    ∙ (ap (λ (l : List ℕ). l ++ take n (drop (length text) all)) front ∙ sym (take-add (length text) n all))
+    ∙ (ap (λ (l : List ℕ). l ++ take n (drop (length text) all)) prefix ∙ sym (take-add (length text) n all))

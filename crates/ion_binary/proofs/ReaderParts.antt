@@ -16,21 +16,21 @@ use Rattle.ion_value.specs.Reading.{Step, Ends, Stops, Gives, GoesOn}
 use Rattle.ion_value.specs.Shares.{Charges}
 use Rattle.ion_value.specs.Standing.{Fits, InRange, in_struct}
 use Rattle.ion_binary.specs.declared.body.Body.{Body}
-use Rattle.ion_binary.specs.declared.found.Found as found
-use Rattle.ion_binary.specs.declared.found.Found.TheVariants as finds
+use Rattle.ion_binary.specs.declared.typed_value.TypedValue as typed
+use Rattle.ion_binary.specs.declared.typed_value.TypedValue.TheVariants as finds
 use Rattle.ion_binary.specs.declared.wrapper.Field as field
 use Rattle.ion_binary.specs.declared.wrapper.Frame as frame
-use Rattle.ion_binary.specs.declared.reader.What.{What}
-use Rattle.ion_binary.specs.declared.reader.Taken.{Taken}
-use Rattle.ion_binary.specs.declared.reader.Taken.TheVariants as taken
+use Rattle.ion_binary.specs.declared.reader.ItemKind.{ItemKind}
+use Rattle.ion_binary.specs.declared.reader.StepResult.{StepResult}
+use Rattle.ion_binary.specs.declared.reader.StepResult.TheVariants as taken
 use Rattle.ion_binary.specs.Positions.{Frame, State, placed_scalar}
 use Rattle.ion_meter.specs.Sources.{Cursor}
 use Rattle.ion_value.specs.Parts.{◌>>=◌, Placed, part}
-use Rattle.ion_binary.specs.Reading.{region_of, field_at, value_at, item_of, member_at, top_of, top_step, step_of, step}
+use Rattle.ion_binary.specs.Reading.{region_of, field_at, value_at, placed_item, member_at, top_of, top_step, step_of, step}
 use Rattle.ion_binary.specs.Bodies.{as_scalar}
 use Rattle.ion_value.specs.Answers.{Answers}
 use Rattle.ion_binary.specs.Values.{GivesStep}
-use Rattle.ion_binary.specs.Wrappers.{as_notes, as_field, as_frame, as_frames, innermost}
+use Rattle.ion_binary.specs.Wrappers.{as_annotations, as_field, as_frame, as_frames, innermost}
 use Rattle.ion_binary.specs.Reader.{item_seen, kinds_of, TakenGives, TakesAs, IsInnermost, at_top, inside}
 
 -- ---- open containers
@@ -72,7 +72,7 @@ innermost-top _ _ (inside f outer) e = absurd (cc e)
 
 -- ---- a member as the parts of one
 
-pub taken-same : (item : PlacedItem) (after : State) (r : Result Taken Fault) (s t : Step State) → s ≡ t → TakenGives item after r t → TakenGives item after r s
+pub taken-same : (item : PlacedItem) (after : State) (r : Result StepResult Fault) (s t : Step State) → s ≡ t → TakenGives item after r t → TakenGives item after r s
 taken-same item after r s t e h = subst (λ u. TakenGives item after r u) (sym e) h
 
 pub member_at-refused : (item : PlacedItem) (after : State) (limits : Limits) (frames : List Frame) (top : ℕ) (c behind : Cursor) (fault : Fault)
@@ -90,13 +90,13 @@ pub member_at-field : (limits : Limits) (frames : List Frame) (top : ℕ) (c d :
 unfolding member_at
 member_at-field limits frames top c d f e = ap (λ r. part c.place r >>= λ f. value_at limits frames (top_of frames top c.place) f.0 f.1) e
 
-pub value-refused : (item : PlacedItem) (after : State) (frames : List Frame) (top : ℕ) (f : Option SymbolAt) (notes : List SymbolAt) (text : List ℕ) (scalar : Body) (fault : Fault) (behind : Cursor)
-    (s : Placed (Step State)) → GivesStep frames top f notes text scalar (Err fault) behind s → TakenGives item after (Err fault) (step_of s)
-value-refused item after frames top f notes text scalar (Refused reason at) behind s h = ap step_of h
-value-refused item after frames top f notes text scalar Memory behind s h = tt
-value-refused item after frames top f notes text scalar ReadFault behind s h = tt
-value-refused item after frames top f notes text scalar WriteFault behind s h = tt
-value-refused item after frames top f notes text scalar InputLimit behind s h = tt
+pub value-refused : (item : PlacedItem) (after : State) (frames : List Frame) (top : ℕ) (f : Option SymbolAt) (annotations : List SymbolAt) (text : List ℕ) (scalar : Body) (fault : Fault) (behind : Cursor)
+    (s : Placed (Step State)) → GivesStep frames top f annotations text scalar (Err fault) behind s → TakenGives item after (Err fault) (step_of s)
+value-refused item after frames top f annotations text scalar (Refused reason at) behind s h = ap step_of h
+value-refused item after frames top f annotations text scalar Memory behind s h = tt
+value-refused item after frames top f annotations text scalar ReadFault behind s h = tt
+value-refused item after frames top f annotations text scalar WriteFault behind s h = tt
+value-refused item after frames top f annotations text scalar InputLimit behind s h = tt
 
 -- ---- items stand where they may
 
@@ -115,23 +115,23 @@ field-some : (f : Option field.Field) → is_some (as_field f) ≡ is_some f
 field-some None = refl
 field-some (Some f) = refl
 
-pub taken-fits : (limits : Limits) (x : found.Found) (old new : List frame.Frame) (w : What) (r : Result Taken Fault) (text : List ℕ) (scalar : Body) (notes : List Annotation) (f : Option field.Field) (place top : ℕ)
+pub taken-fits : (limits : Limits) (x : typed.TypedValue) (old new : List frame.Frame) (w : ItemKind) (r : Result StepResult Fault) (text : List ℕ) (scalar : Body) (annotations : List Annotation) (f : Option field.Field) (place top : ℕ)
     (outer : Option frame.Frame)
     → IsInnermost (as_frames old) outer → is_some f ≡ in_struct (map (λ x. x.kind) (innermost outer)) → TakesAs x old new w r
     → (x ≡ finds.Scalar → InRange (as_scalar text scalar)) → ((k : Kind) (end : ℕ) → x ≡ finds.Container k end → length old < limits.depth)
-    → (x ≡ finds.Marker → (region_of (as_frames old) ≡ None) × (notes ≡ []))
-    → r ≡ Ok taken.Item → Fits limits.depth (kinds_of old) (item_seen w text scalar notes f place top)
-taken-fits limits finds.Pad old new w r text scalar notes f place top outer inner field takes range deep marker item = absurd (cc (item, takes.0))
-taken-fits limits finds.Marker old new w r text scalar notes f place top outer inner field takes range deep marker item =
+    → (x ≡ finds.Marker → (region_of (as_frames old) ≡ None) × (annotations ≡ []))
+    → r ≡ Ok taken.Item → Fits limits.depth (kinds_of old) (item_seen w text scalar annotations f place top)
+taken-fits limits finds.NopPad old new w r text scalar annotations f place top outer inner field takes range deep marker item = absurd (cc (item, takes.0))
+taken-fits limits finds.Marker old new w r text scalar annotations f place top outer inner field takes range deep marker item =
     let m = marker refl in
     let none : as_frames old ≡ [] = innermost-top (as_frames old) outer inner m.0 in
     let kinds : kinds_of old ≡ [] = kinds-frames old ∙ ap (λ (l : List Frame). map (λ x. x.kind) l) none in
-    rw takes.2 (record { place = kinds; field = field-some f ∙ (field ∙ (sym (innermost-struct (as_frames old) outer inner) ∙ ap (λ (l : List Frame). in_struct (map (λ x. x.kind) l)) none)); notes = ap as_notes m.1 })
-taken-fits limits finds.Scalar old new w r text scalar notes f place top outer inner field takes range deep marker item =
-    rw takes.2 (record { place = InRange-placed place (as_scalar text scalar) (range refl); field = field-some f ∙ (field ∙ (sym (innermost-struct (as_frames old) outer inner) ∙ ap in_struct (sym (kinds-frames old)))); notes = tt })
-taken-fits limits (finds.Container k end) old new w (Ok t) text scalar notes f place top outer inner field takes range deep marker item =
-    rw takes.2 (record { place = omega (arith, kinds_of-length old, deep k end refl); field = field-some f ∙ (field ∙ (sym (innermost-struct (as_frames old) outer inner) ∙ ap in_struct (sym (kinds-frames old)))); notes = tt })
-taken-fits limits (finds.Container k end) old new w (Err fault) text scalar notes f place top outer inner field takes range deep marker item = absurd (cc item)
+    rw takes.2 (record { place = kinds; field = field-some f ∙ (field ∙ (sym (innermost-struct (as_frames old) outer inner) ∙ ap (λ (l : List Frame). in_struct (map (λ x. x.kind) l)) none)); annotations = ap as_annotations m.1 })
+taken-fits limits finds.Scalar old new w r text scalar annotations f place top outer inner field takes range deep marker item =
+    rw takes.2 (record { place = InRange-placed place (as_scalar text scalar) (range refl); field = field-some f ∙ (field ∙ (sym (innermost-struct (as_frames old) outer inner) ∙ ap in_struct (sym (kinds-frames old)))); annotations = tt })
+taken-fits limits (finds.Container k end) old new w (Ok t) text scalar annotations f place top outer inner field takes range deep marker item =
+    rw takes.2 (record { place = omega (arith, kinds_of-length old, deep k end refl); field = field-some f ∙ (field ∙ (sym (innermost-struct (as_frames old) outer inner) ∙ ap in_struct (sym (kinds-frames old)))); annotations = tt })
+taken-fits limits (finds.Container k end) old new w (Err fault) text scalar annotations f place top outer inner field takes range deep marker item = absurd (cc item)
 
 -- ---- at top level
 
@@ -157,7 +157,7 @@ top-member limits (f ∷ frames) top c b e some = absurd (cc e)
 -- ---- in a container
 
 pub inside-ends : (limits : Limits) (frames : List Frame) (f : frame.Frame) (top : ℕ) (c : Cursor) → IsInnermost frames (Some f) → f.end ≤ c.place
-    → step limits (record { frames = frames; top = top; cursor = c }) ≡ Gives (item_of top None [] c.place value.end) (record { frames = drop 1 frames; top = top; cursor = c })
+    → step limits (record { frames = frames; top = top; cursor = c }) ≡ Gives (placed_item top None [] c.place value.end) (record { frames = drop 1 frames; top = top; cursor = c })
 unfolding step
 inside-ends limits _ _ top c (inside f outer) h = let e : leb f.end c.place ≡ true = le-leb f.end c.place h in rw e refl
 
@@ -187,15 +187,15 @@ last-innermost frames f e =
 
 -- ---- steps one after the other
 
-pub took-item : (item : PlacedItem) (after : State) (x : Taken) (s : Step State) → x ≡ taken.Item → TakenGives item after (Ok x) s → s ≡ Gives item after
+pub took-item : (item : PlacedItem) (after : State) (x : StepResult) (s : Step State) → x ≡ taken.Item → TakenGives item after (Ok x) s → s ≡ Gives item after
 took-item item after taken.Item s e h = h
 took-item item after taken.Passed s e h = absurd (cc e)
 took-item item after taken.Ended s e h = absurd (cc e)
 
-pub took-pad : (item : PlacedItem) (after : State) (x : Taken) (s : Step State) → x ≡ taken.Passed → TakenGives item after (Ok x) s → s ≡ GoesOn after
-took-pad item after taken.Passed s e h = h
-took-pad item after taken.Item s e h = absurd (cc e)
-took-pad item after taken.Ended s e h = absurd (cc e)
+pub took-nop_pad : (item : PlacedItem) (after : State) (x : StepResult) (s : Step State) → x ≡ taken.Passed → TakenGives item after (Ok x) s → s ≡ GoesOn after
+took-nop_pad item after taken.Passed s e h = h
+took-nop_pad item after taken.Item s e h = absurd (cc e)
+took-nop_pad item after taken.Ended s e h = absurd (cc e)
 
 pub charges-then : (a b c : Counts) (first between last most : ℕ) → first ≤ a.held → Charges a b first between most → Charges b c between last most → Charges a c first last most
 charges-then a b c first between last most small x y = record {

@@ -16,7 +16,7 @@ use Rattle.ion_value.specs.Value.{SymbolAt, Head, PlacedItem, whole, begin, end,
 use Rattle.ion_value.specs.Reading.{Reading, Finished, Stopped, behind}
 use Rattle.ion_binary.specs.Descriptor.{octet_at, var_at, var_uint_at, length_at, shape_of}
 use Rattle.ion_binary.specs.Positions.{symbol_id}
-use Rattle.ion_binary.specs.Reading.{marker_at, bare_at, pad_at, body_at, scalar_at, begin_at, container_at, sorted_at, by_shape, found_at, wrapper_at, ids_at, item_of, plain_at, inner_at, annotated_at, value_at, member_at, step, reading}
+use Rattle.ion_binary.specs.Reading.{marker_at, bare_at, nop_pad_at, body_at, scalar_at, begin_at, container_at, sorted_at, read_by_descriptor, typed_value_at, wrapper_at, ids_at, placed_item, plain_at, inner_at, annotated_at, value_at, member_at, step, reading}
 
 abbrev usual : Limits
 usual = record { depth = 64; scalar = 1048576; symbols = 1048576; value = 16777216; input = 281474976710656 }
@@ -26,16 +26,16 @@ abbrev shallow : Limits
 shallow = record { depth = 1; scalar = 2; symbols = 1048576; value = 16777216; input = 281474976710656 }
 
 unfoldable read : Limits → List ℕ → Reading
-unfolding octet_at var_at var_uint_at length_at shape_of marker_at bare_at pad_at body_at scalar_at begin_at container_at sorted_at by_shape found_at wrapper_at ids_at plain_at inner_at annotated_at value_at member_at step reading scalar_of_body decimal_of_bytes var_cut fields_cut timestamp_of_bytes local_of is_utf8 chars encode
+unfolding octet_at var_at var_uint_at length_at shape_of marker_at bare_at nop_pad_at body_at scalar_at begin_at container_at sorted_at read_by_descriptor typed_value_at wrapper_at ids_at plain_at inner_at annotated_at value_at member_at step reading scalar_of_body decimal_of_bytes var_cut fields_cut timestamp_of_bytes local_of is_utf8 chars encode
 read limits bytes = reading limits bytes
 
--- bytes behind a marker
+-- bytes behind a version marker
 abbrev read_behind : Limits → List ℕ → Reading
 read_behind limits bytes = read limits (0xE0 ∷ 1 ∷ 0 ∷ 0xEA ∷ bytes)
 
 -- an item, in the top-level value at a place
 abbrev at : ℕ → ℕ → Option SymbolAt → List SymbolAt → Head SymbolAt → PlacedItem
-at place top f notes head = item_of top f notes place head
+at place top f annotations head = placed_item top f annotations place head
 
 abbrev first : PlacedItem
 first = at 0 0 None [] marker
@@ -144,13 +144,13 @@ no_offset : read_behind usual (0x60 ∷ []) ≡ behind (first ∷ []) (Stopped R
 unfolding read
 no_offset = refl
 
-pad_in_struct : read_behind usual (0xD5 ∷ 0x80 ∷ 0x01 ∷ 0xFF ∷ 0x84 ∷ 0x11 ∷ []) ≡ behind (first ∷ at 4 4 None [] (begin kind.Struct) ∷ at 9 4 (Some (symbol_id 4 8)) [] (whole (value.bool true)) ∷ at 10 4 None [] (end) ∷ []) (Finished)
+nop_pad_in_struct : read_behind usual (0xD5 ∷ 0x80 ∷ 0x01 ∷ 0xFF ∷ 0x84 ∷ 0x11 ∷ []) ≡ behind (first ∷ at 4 4 None [] (begin kind.Struct) ∷ at 9 4 (Some (symbol_id 4 8)) [] (whole (value.bool true)) ∷ at 10 4 None [] (end) ∷ []) (Finished)
 unfolding read
-pad_in_struct = refl
+nop_pad_in_struct = refl
 
-unknown_field_before_pad : read_behind usual (0xD5 ∷ 0xFE ∷ 0x01 ∷ 0xFF ∷ 0x84 ∷ 0x11 ∷ []) ≡ behind (first ∷ at 4 4 None [] (begin kind.Struct) ∷ at 9 4 (Some (symbol_id 4 8)) [] (whole (value.bool true)) ∷ at 10 4 None [] (end) ∷ []) (Finished)
+unknown_field_before_nop_pad : read_behind usual (0xD5 ∷ 0xFE ∷ 0x01 ∷ 0xFF ∷ 0x84 ∷ 0x11 ∷ []) ≡ behind (first ∷ at 4 4 None [] (begin kind.Struct) ∷ at 9 4 (Some (symbol_id 4 8)) [] (whole (value.bool true)) ∷ at 10 4 None [] (end) ∷ []) (Finished)
 unfolding read
-unknown_field_before_pad = refl
+unknown_field_before_nop_pad = refl
 
 struct_of_list : read_behind usual (0xD6 ∷ 0x84 ∷ 0xB4 ∷ 0x21 ∷ 0x01 ∷ 0x21 ∷ 0x02 ∷ []) ≡ behind (first ∷ at 4 4 None [] (begin kind.Struct) ∷ at 6 4 (Some (symbol_id 4 5)) [] (begin kind.List) ∷ at 7 4 None [] (whole (value.int (record { negative = false; magnitude = 1 }))) ∷ at 9 4 None [] (whole (value.int (record { negative = false; magnitude = 2 }))) ∷ at 11 4 None [] (end) ∷ at 11 4 None [] (end) ∷ []) (Finished)
 unfolding read
@@ -180,9 +180,9 @@ wrapper_in_wrapper : read_behind usual (0xE6 ∷ 0x81 ∷ 0x84 ∷ 0xE3 ∷ 0x81
 unfolding read
 wrapper_in_wrapper = refl
 
-wrapped_pad : read_behind usual (0xE4 ∷ 0x81 ∷ 0x84 ∷ 0x01 ∷ 0x00 ∷ []) ≡ behind (first ∷ []) (Stopped Reason.BadAnnotation 7)
+wrapped_nop_pad : read_behind usual (0xE4 ∷ 0x81 ∷ 0x84 ∷ 0x01 ∷ 0x00 ∷ []) ≡ behind (first ∷ []) (Stopped Reason.BadAnnotation 7)
 unfolding read
-wrapped_pad = refl
+wrapped_nop_pad = refl
 
 wrapped_marker_octet : read_behind usual (0xE3 ∷ 0x81 ∷ 0x84 ∷ 0xE0 ∷ []) ≡ behind (first ∷ []) (Stopped Reason.BadAnnotation 7)
 unfolding read
@@ -280,9 +280,9 @@ just_short_enough : read_behind shallow (0x82 ∷ 0x61 ∷ 0x62 ∷ []) ≡ behi
 unfolding read
 just_short_enough = refl
 
-too_many_notes : read_behind shallow (0xE3 ∷ 0x81 ∷ 0x84 ∷ 0x11 ∷ []) ≡ behind (first ∷ []) (Stopped Reason.AnnotationLimit 6)
+too_many_annotations : read_behind shallow (0xE3 ∷ 0x81 ∷ 0x84 ∷ 0x11 ∷ []) ≡ behind (first ∷ []) (Stopped Reason.AnnotationLimit 6)
 unfolding read
-too_many_notes = refl
+too_many_annotations = refl
 
 open_list_cut : read_behind usual (0xB2 ∷ 0x11 ∷ []) ≡ behind (first ∷ at 4 4 None [] (begin kind.List) ∷ at 5 4 None [] (whole (value.bool true)) ∷ []) (Stopped Reason.Truncated 6)
 unfolding read

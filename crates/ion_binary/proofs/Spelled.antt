@@ -66,14 +66,14 @@ VarUInt-pos n (x ∷ b) spells = omega arith
 
 -- ---- descriptors
 
--- a descriptor is an octet whose low half is short of 15, and the octets of a length; behind the octet its length is read
+-- a descriptor is an octet whose length code is short of 15, and the octets of a length; behind the octet its length is read
 pub record Headed (t n : ℕ) (head : List ℕ) : Type 0 where
-  pub low : ℕ
+  pub length_code : ℕ
   pub more : List ℕ
-  pub is : head ≡ (16 * t + low) ∷ more
-  pub small : low < 15
-  pub kept : ((low ≡ n) × (more ≡ [])) ⊎ (low ≡ 14)
-  pub reads : (r : Region) (q : ℕ) (rest : List ℕ) → Holds r (q + length head) → length_at low r (cursor_at (q + 1) (more ++ rest)) ≡ Ok (n, cursor_at (q + length head) rest)
+  pub is : head ≡ (16 * t + length_code) ∷ more
+  pub small : length_code < 15
+  pub kept : ((length_code ≡ n) × (more ≡ [])) ⊎ (length_code ≡ 14)
+  pub reads : (r : Region) (q : ℕ) (rest : List ℕ) → Holds r (q + length head) → length_at length_code r (cursor_at (q + 1) (more ++ rest)) ≡ Ok (n, cursor_at (q + length head) rest)
 
 length_at-short : (n : ℕ) (r : Region) (c : Cursor) → n < 14 → length_at n r c ≡ Ok (n, c)
 unfolding length_at
@@ -85,7 +85,7 @@ length_at-long r c = refl
 
 pub Descriptor-headed : (t n : ℕ) (head : List ℕ) → Descriptor t n head → Headed t n head
 Descriptor-headed t n _ (Descriptor.short small) = record {
-  low = n;
+  length_code = n;
   more = [];
   is = refl;
   small = omega arith;
@@ -93,7 +93,7 @@ Descriptor-headed t n _ (Descriptor.short small) = record {
   reads = λ r q rest h. length_at-short n r (cursor_at (q + 1) rest) small;
 }
 Descriptor-headed t n _ (Descriptor.long len spells) = record {
-  low = 14;
+  length_code = 14;
   more = len;
   is = refl;
   small = omega arith;
@@ -106,21 +106,21 @@ Descriptor-headed t n _ (Descriptor.long len spells) = record {
 -- ---- annotation ids
 
 -- the ids of a wrapper are read, where the limit allows 16 for each octet of them
-pub ids_at-spelled : (limits : Limits) (most end count q : ℕ) (notes : List SymbolAt) (ids rest : List ℕ) → Ids q notes ids → end ≡ q + length ids → length ids ≤ most
-    → 16 * (count + length ids) ≤ limits.scalar → ids_at most limits end count (cursor_at q (ids ++ rest)) ≡ Ok (notes, cursor_at end rest)
+pub ids_at-spelled : (limits : Limits) (most end count q : ℕ) (annotations : List SymbolAt) (ids rest : List ℕ) → Ids q annotations ids → end ≡ q + length ids → length ids ≤ most
+    → 16 * (count + length ids) ≤ limits.scalar → ids_at most limits end count (cursor_at q (ids ++ rest)) ≡ Ok (annotations, cursor_at end rest)
 unfolding ids_at
 ids_at-spelled limits zero end count _ _ _ rest (Ids.nothing q) e enough limit = let same : end ≡ q = omega arith in rw same refl
 ids_at-spelled limits (suc most) end count _ _ _ rest (Ids.nothing q) e enough limit =
     let same : end ≡ q = omega arith in rw (same, le-leb q q (omega arith)) refl
-ids_at-spelled limits zero end count _ _ _ rest (Ids.then q n b c notes spells more) e enough limit =
+ids_at-spelled limits zero end count _ _ _ rest (Ids.then q n b c annotations spells more) e enough limit =
     absurd (omega (arith, VarUInt-pos n b spells, length-append b c))
-ids_at-spelled limits (suc most) end count _ _ _ rest (Ids.then q n b c notes spells more) e enough limit =
+ids_at-spelled limits (suc most) end count _ _ _ rest (Ids.then q n b c annotations spells more) e enough limit =
     let some : 0 < length b = VarUInt-pos n b spells in
     let long : length (b ++ c) ≡ length b + length c = length-append b c in
     let first : var_uint_at (Some end) (cursor_at q (b ++ (c ++ rest))) ≡ Ok (n, cursor_at (q + length b) (c ++ rest)) =
     var_uint_at-spelled (Some end) q n b (c ++ rest) spells (omega arith) in
     let allowed : ltb limits.scalar (16 * (count + 1)) ≡ false = le-ltb limits.scalar (16 * (count + 1)) (omega arith) in
-    let others = ids_at-spelled limits most end (count + 1) (q + length b) notes c rest more (omega arith) (omega arith) (omega arith) in
+    let others = ids_at-spelled limits most end (count + 1) (q + length b) annotations c rest more (omega arith) (omega arith) (omega arith) in
     rw (append_assoc b c rest, lt-leb end q (omega arith), first, allowed, others) refl
 
 -- ---- fields

@@ -136,21 +136,21 @@ var_uint_at-taken r c p h =
     subst (λ (q : ℕ × Cursor). TookNumber r c q) e (record { octets = o.0.0; took = v.took; spells = record { short = v.short; ends = v.ends; value = refl } })
 
 -- octets that end a descriptor
-pub record TookLength (t low : ℕ) (r : Region) (c : Cursor) (p : ℕ × Cursor) : Type 0 where
+pub record TookLength (t length_code : ℕ) (r : Region) (c : Cursor) (p : ℕ × Cursor) : Type 0 where
   pub octets : List ℕ
   pub took : Took r c octets p.1
-  pub spells : Descriptor t p.0 ((16 * t + low) ∷ octets)
+  pub spells : Descriptor t p.0 ((16 * t + length_code) ∷ octets)
 
-pub length_at-taken : (t low : ℕ) (r : Region) (c : Cursor) (p : ℕ × Cursor) → low < 15 → length_at low r c ≡ Ok p → TookLength t low r c p
+pub length_at-taken : (t length_code : ℕ) (r : Region) (c : Cursor) (p : ℕ × Cursor) → length_code < 15 → length_at length_code r c ≡ Ok p → TookLength t length_code r c p
 unfolding length_at
-length_at-taken t low r c p lt h =
-    elim (chosen (eqb low 14) _ _ _ h) [
+length_at-taken t length_code r c p lt h =
+    elim (chosen (eqb length_code 14) _ _ _ h) [
       | inl k ↦ (let v = var_uint_at-taken r c p k.1 in
-          let e : low ≡ 14 = eqb-true _ _ k.0 in
+          let e : length_code ≡ 14 = eqb-true _ _ k.0 in
           record { octets = v.octets; took = v.took; spells = rw e (long v.octets v.spells) })
       | inr k ↦ (
-          let e : (low, c) ≡ p = ok_is {E = Reason} _ _ k.1 in
-          subst (λ (q : ℕ × Cursor). TookLength t low r c q) e (record { octets = []; took = Took-none r c; spells = short (omega (arith, eqb-false _ _ k.0)) }))
+          let e : (length_code, c) ≡ p = ok_is {E = Reason} _ _ k.1 in
+          subst (λ (q : ℕ × Cursor). TookLength t length_code r c q) e (record { octets = []; took = Took-none r c; spells = short (omega (arith, eqb-false _ _ k.0)) }))
     ]
 
 -- n octets that are there

@@ -193,7 +193,7 @@ in_local_time-body o c others utc t field are says moment e =
 -- a timestamp in UTC that was not refused
 record InUtc (o : List ℕ) (fits : Bool) (told : Option Timestamp) (t : Timestamp) : Type 0 where
   pub utc : Timestamp
-  pub tells : told ≡ Some utc
+  pub observable : told ≡ Some utc
   pub moment : IsMoment utc
   pub fit : fits ≡ true
   pub local : in_local_time o utc ≡ Ok t
@@ -204,7 +204,7 @@ timestamp_in_utc-InUtc o fits None t e = absurd (cc e)
 timestamp_in_utc-InUtc o fits (Some utc) t e =
     let found = let_through (is_moment utc && fits) BadTimestamp (in_local_time o utc) t e in
     let tests = and_parts (is_moment utc) fits found.0 in
-    record { utc = utc; tells = refl; moment = is_moment-is utc tests.0; fit = tests.1; local = found.1 }
+    record { utc = utc; observable = refl; moment = is_moment-is utc tests.0; fit = tests.1; local = found.1 }
 
 -- fields that are read
 timestamp_of_fields-body : (f : List (List ℕ)) (c : List ℕ) (t : Timestamp) → AllByRecursion IsField f → (length f < 8 → c ≡ []) → digits_behind (exponent_in f) ≤ 38
@@ -212,7 +212,7 @@ timestamp_of_fields-body : (f : List (List ℕ)) (c : List ℕ) (t : Timestamp) 
 timestamp_of_fields-body [] c t are ended few e = absurd (cc e)
 timestamp_of_fields-body (o ∷ others) c t are ended few e =
     let read = timestamp_in_utc-InUtc o (is_fraction (exponent_in (o ∷ others)) c) (utc_fields others (int_magnitude c)) t e in
-    let says = fields-says o others c read.utc few read.fit (λ less. ended (omega arith)) read.tells in
+    let says = fields-says o others c read.utc few read.fit (λ less. ended (omega arith)) read.observable in
     in_local_time-body o c others read.utc t are.0 are.1 says read.moment read.local
 
 -- and a body that is cut into them

@@ -49,7 +49,7 @@ record Told (o : List ℕ) (others : List (List ℕ)) (c : List ℕ) (utc : Time
   pub small : nat_le (2 ^ 128) (int_magnitude c) ≡ false
   pub digits : nat_lt 38 (digits_behind (exponent_in (o ∷ others))) ≡ false
   pub fits : is_fraction (exponent_in (o ∷ others)) c ≡ true
-  pub tells : utc_fields others (int_magnitude c) ≡ Some utc
+  pub observable : utc_fields others (int_magnitude c) ≡ Some utc
 
 -- an exponent that is not below zero has no digits behind the point
 no-digits : (e : List ℕ) → (var_int_negative e ≡ false) ⊎ (var_int_magnitude e ≡ 0) → digits_behind e ≡ 0
@@ -71,11 +71,11 @@ a-fraction e c n is below (inr none) = no-fraction e c none
 
 -- each way of saying is one of telling
 Says-Told : (o : List ℕ) (others : List (List ℕ)) (c : List ℕ) (utc : Timestamp) → Says others c utc → Told o others c utc
-Says-Told o _ _ _ (year y) = record { few = omega arith; ended = inr refl; small = refl; digits = refl; fits = refl; tells = refl }
-Says-Told o _ _ _ (month y m) = record { few = omega arith; ended = inr refl; small = refl; digits = refl; fits = refl; tells = refl }
-Says-Told o _ _ _ (day y m d) = record { few = omega arith; ended = inr refl; small = refl; digits = refl; fits = refl; tells = refl }
-Says-Told o _ _ _ (minute y m d h i) = record { few = omega arith; ended = inr refl; small = refl; digits = refl; fits = refl; tells = refl }
-Says-Told o _ _ _ (second y m d h i s) = record { few = omega arith; ended = inr refl; small = refl; digits = refl; fits = refl; tells = refl }
+Says-Told o _ _ _ (year y) = record { few = omega arith; ended = inr refl; small = refl; digits = refl; fits = refl; observable = refl }
+Says-Told o _ _ _ (month y m) = record { few = omega arith; ended = inr refl; small = refl; digits = refl; fits = refl; observable = refl }
+Says-Told o _ _ _ (day y m d) = record { few = omega arith; ended = inr refl; small = refl; digits = refl; fits = refl; observable = refl }
+Says-Told o _ _ _ (minute y m d h i) = record { few = omega arith; ended = inr refl; small = refl; digits = refl; fits = refl; observable = refl }
+Says-Told o _ _ _ (second y m d h i s) = record { few = omega arith; ended = inr refl; small = refl; digits = refl; fits = refl; observable = refl }
 Says-Told o _ _ _ (no_fraction y m d h i s e c not_below none) =
     let zero_digits = no-digits e not_below in
     record {
@@ -84,7 +84,7 @@ Says-Told o _ _ _ (no_fraction y m d h i s e c not_below none) =
       small = rw none refl;
       digits = rw zero_digits refl;
       fits = no-fraction e c none;
-      tells = rw (zero_digits, none) refl;
+      observable = rw (zero_digits, none) refl;
     }
 Says-Told o _ _ _ (fraction y m d h i s e c zero minus is some few below plus) = absurd (omega arith)
 Says-Told o _ _ _ (fraction y m d h i s e c (suc n) minus is some few below plus) =
@@ -96,7 +96,7 @@ Says-Told o _ _ _ (fraction y m d h i s e c (suc n) minus is some few below plus
       small = lt-leb _ _ (omega arith);
       digits = rw digits_are (le-ltb _ _ few);
       fits = a-fraction e c (suc n) digits_are below plus;
-      tells = rw digits_are refl;
+      observable = rw digits_are refl;
     }
 
 -- the body tells the moment in UTC, and its local time is still to be found
@@ -105,7 +105,7 @@ told-read : (o : List ℕ) (others : List (List ℕ)) (c : List ℕ) (utc : Time
 unfolding timestamp_of_bytes
 told-read o others c utc offset are told moment =
     ap timestamp_of_cut (run-cut 8 (o ∷ others) c (offset, are) (omega (arith, told.few)) (fewer (length others) c told.ended))
-    ∙ rw (told.small, told.digits, told.fits, told.tells, is_moment-true utc moment) refl
+    ∙ rw (told.small, told.digits, told.fits, told.observable, is_moment-true utc moment) refl
 
 -- ---- local time
 

@@ -7,19 +7,19 @@ use Rattle.ion_meter.specs.declared.limits.Limits.{Limits}
 use Rattle.ion_value.specs.Value.{SymbolAt}
 use Rattle.ion_value.specs.Reading.{Step}
 use Rattle.ion_binary.specs.declared.body.Body.{Body}
-use Rattle.ion_binary.specs.declared.found.Found as found
+use Rattle.ion_binary.specs.declared.typed_value.TypedValue as typed
 use Rattle.ion_binary.specs.Positions.{Frame, State}
 use Rattle.ion_meter.specs.Sources.{Cursor}
 use Rattle.ion_value.specs.Parts.{◌>>=◌, Placed, part}
 use Rattle.ion_binary.specs.Descriptor.{Region, octet_at, shape_of}
-use Rattle.ion_binary.specs.Reading.{Wrapped, region_of, given, found_at, wrapper_at, ids_at, plain_at, inner_at, annotated_at, value_at, wrapper_length}
+use Rattle.ion_binary.specs.Reading.{Wrapped, region_of, step_for, typed_value_at, wrapper_at, ids_at, plain_at, inner_at, annotated_at, value_at, wrapper_length}
 use Rattle.ion_value.specs.Answers.{Answers, AnswersAt}
 use Rattle.ion_binary.specs.Values.{GivesStep}
 
-module _ (frames : List Frame) (top : ℕ) (f : Option SymbolAt) (notes : List SymbolAt) (text : List ℕ) (scalar : Body) where
+module _ (frames : List Frame) (top : ℕ) (f : Option SymbolAt) (annotations : List SymbolAt) (text : List ℕ) (scalar : Body) where
   -- a part that is refused, by itself or with the place of its fault
   pub step-refused : {T A : Type 0} (view : T → A) (fault : Fault) (behind after : Cursor) (place : ℕ) (one : Result (A × Cursor) Reason) (k : A × Cursor → Placed (Step State))
-      → Answers view (Err fault) behind place one → GivesStep frames top f notes text scalar (Err fault) after (part place one >>= k)
+      → Answers view (Err fault) behind place one → GivesStep frames top f annotations text scalar (Err fault) after (part place one >>= k)
   step-refused view (Refused reason at) behind after place one k h = ap (λ r. part place r >>= k) h.0 ∙ ap (λ p. Err (reason, p)) (sym h.1)
   step-refused view Memory behind after place one k h = tt
   step-refused view ReadFault behind after place one k h = tt
@@ -27,7 +27,7 @@ module _ (frames : List Frame) (top : ℕ) (f : Option SymbolAt) (notes : List S
   step-refused view InputLimit behind after place one k h = tt
 
   pub step-refused_at : {T A : Type 0} (view : T → A) (fault : Fault) (behind after : Cursor) (one : Placed (A × Cursor)) (k : A × Cursor → Placed (Step State))
-      → AnswersAt view (Err fault) behind one → GivesStep frames top f notes text scalar (Err fault) after (one >>= k)
+      → AnswersAt view (Err fault) behind one → GivesStep frames top f annotations text scalar (Err fault) after (one >>= k)
   step-refused_at view (Refused reason at) behind after one k h = ap (λ r. r >>= k) h
   step-refused_at view Memory behind after one k h = tt
   step-refused_at view ReadFault behind after one k h = tt
@@ -35,31 +35,31 @@ module _ (frames : List Frame) (top : ℕ) (f : Option SymbolAt) (notes : List S
   step-refused_at view InputLimit behind after one k h = tt
 
   -- equal steps
-  pub step-same : (r : Result (found.Found × ℕ) Fault) (behind : Cursor) (s t : Placed (Step State)) → s ≡ t → GivesStep frames top f notes text scalar r behind t → GivesStep frames top f notes text scalar r behind s
-  step-same r behind s t e h = subst (λ u. GivesStep frames top f notes text scalar r behind u) (sym e) h
+  pub step-same : (r : Result (typed.TypedValue × ℕ) Fault) (behind : Cursor) (s t : Placed (Step State)) → s ≡ t → GivesStep frames top f annotations text scalar r behind t → GivesStep frames top f annotations text scalar r behind s
+  step-same r behind s t e h = subst (λ u. GivesStep frames top f annotations text scalar r behind u) (sym e) h
 
 -- behind the octet of a descriptor in a wrapper
-pub inner_at-octet : (limits : Limits) (frames : List Frame) (top : ℕ) (f : Option SymbolAt) (notes : List SymbolAt) (end : ℕ) (c d : Cursor) (depth b : ℕ)
+pub inner_at-octet : (limits : Limits) (frames : List Frame) (top : ℕ) (f : Option SymbolAt) (annotations : List SymbolAt) (end : ℕ) (c d : Cursor) (depth b : ℕ)
     → length frames ≡ depth → octet_at (Some end) c ≡ Ok (b, d)
-    → inner_at limits frames top f notes end c ≡ (part c.place (found_at limits (record { wrapped = true; region = Some end; depth = depth }) b d) >>= λ v. Ok (given frames top f notes c.place v.0 v.1))
+    → inner_at limits frames top f annotations end c ≡ (part c.place (typed_value_at limits (record { wrapped = true; region = Some end; depth = depth }) b d) >>= λ v. Ok (step_for frames top f annotations c.place v.0 v.1))
 unfolding inner_at
-inner_at-octet limits frames top f notes end c d depth b e o = rw (o, e) refl
+inner_at-octet limits frames top f annotations end c d depth b e o = rw (o, e) refl
 
 -- behind a wrapper's lengths
-pub annotated_at-wrapper : (limits : Limits) (frames : List Frame) (top : ℕ) (f : Option SymbolAt) (place low : ℕ) (c d : Cursor) (r : Region) (w : Wrapped)
-    → region_of frames ≡ r → wrapper_at r low c ≡ Ok (w, d)
-    → annotated_at limits frames top f place low c ≡ (ids_at w.ids limits w.ids 0 d >>= λ notes. inner_at limits frames top f notes.0 w.end notes.1)
+pub annotated_at-wrapper : (limits : Limits) (frames : List Frame) (top : ℕ) (f : Option SymbolAt) (place length_code : ℕ) (c d : Cursor) (r : Region) (w : Wrapped)
+    → region_of frames ≡ r → wrapper_at r length_code c ≡ Ok (w, d)
+    → annotated_at limits frames top f place length_code c ≡ (ids_at w.ids limits w.ids 0 d >>= λ annotations. inner_at limits frames top f annotations.0 w.end annotations.1)
 unfolding annotated_at
-annotated_at-wrapper limits frames top f place low c d r w e h = rw (e, h) refl
+annotated_at-wrapper limits frames top f place length_code c d r w e h = rw (e, h) refl
 
 -- behind a descriptor's octet
 pub value_at-plain : (limits : Limits) (frames : List Frame) (top : ℕ) (f : Option SymbolAt) (c d : Cursor) (r : Region) (depth b : ℕ)
     → region_of frames ≡ r → length frames ≡ depth → octet_at r c ≡ Ok (b, d) → wrapper_length (shape_of b) ≡ None
-    → value_at limits frames top f c ≡ (part c.place (found_at limits (record { wrapped = false; region = r; depth = depth }) b d) >>= λ v. Ok (given frames top f [] c.place v.0 v.1))
+    → value_at limits frames top f c ≡ (part c.place (typed_value_at limits (record { wrapped = false; region = r; depth = depth }) b d) >>= λ v. Ok (step_for frames top f [] c.place v.0 v.1))
 unfolding value_at plain_at
 value_at-plain limits frames top f c d r depth b e l o n = rw (e, o, n, l) refl
 
-pub value_at-wrapper : (limits : Limits) (frames : List Frame) (top : ℕ) (f : Option SymbolAt) (c d : Cursor) (r : Region) (b low : ℕ)
-    → region_of frames ≡ r → octet_at r c ≡ Ok (b, d) → wrapper_length (shape_of b) ≡ Some low → value_at limits frames top f c ≡ annotated_at limits frames top f c.place low d
+pub value_at-wrapper : (limits : Limits) (frames : List Frame) (top : ℕ) (f : Option SymbolAt) (c d : Cursor) (r : Region) (b length_code : ℕ)
+    → region_of frames ≡ r → octet_at r c ≡ Ok (b, d) → wrapper_length (shape_of b) ≡ Some length_code → value_at limits frames top f c ≡ annotated_at limits frames top f c.place length_code d
 unfolding value_at
-value_at-wrapper limits frames top f c d r b low e o n = rw (e, o, n) refl
+value_at-wrapper limits frames top f c d r b length_code e o n = rw (e, o, n) refl

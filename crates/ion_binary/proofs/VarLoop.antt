@@ -13,8 +13,8 @@ use Rattle.ion_binary.specs.Descriptor.{Region, octet_at, var_at, var_uint_at}
 use Rattle.ion_binary.specs.Parts.{var_from}
 
 -- the number of octets behind others that spell a number already
-abbrev with_front : ℕ → List ℕ × Cursor → Result (ℕ × Cursor) Reason
-with_front value b = Ok (value * 128 ^ length b.0 + var_uint b.0, b.1)
+abbrev with_prefix : ℕ → List ℕ × Cursor → Result (ℕ × Cursor) Reason
+with_prefix value b = Ok (value * 128 ^ length b.0 + var_uint b.0, b.1)
 
 bind-bind : {A B C E : Type 0} (r : Result A E) (f : A → Result B E) (h : B → Result C E) → ((r >>= f) >>= h) ≡ (r >>= λ x. (f x >>= h))
 bind-bind (Ok x) f h = refl
@@ -28,24 +28,24 @@ bind-same (Err e) f h k = refl
 pushed : (value b : ℕ) (bs : List ℕ) → b < 128 → value * 128 ^ length (b ∷ bs) + var_uint (b ∷ bs) ≡ (value * 128 + b) * 128 ^ length bs + var_uint bs
 pushed value b bs h = rw (seven-low b h, length-map bs (λ x. x % 128), pow-suc 128 (length bs)) (omega arith)
 
-var_at-front : (n value : ℕ) (r : Region) (c : Cursor) → (var_at n r c >>= with_front value) ≡ var_from n value r c
+var_at-prefix : (n value : ℕ) (r : Region) (c : Cursor) → (var_at n r c >>= with_prefix value) ≡ var_from n value r c
 unfolding var_at var_from
-var_at-front zero value r c = refl
-var_at-front (suc n) value r c =
-    bind-bind (octet_at r c) _ (with_front value) ∙ bind-same (octet_at r c) _ _ (λ b. last (var_at-front n) (nat_lt b.0 128) b refl)
+var_at-prefix zero value r c = refl
+var_at-prefix (suc n) value r c =
+    bind-bind (octet_at r c) _ (with_prefix value) ∙ bind-same (octet_at r c) _ _ (λ b. last (var_at-prefix n) (nat_lt b.0 128) b refl)
   where
-    last : ((value : ℕ) (r : Region) (c : Cursor) → (var_at n r c >>= with_front value) ≡ var_from n value r c) → (t : Bool) (b : ℕ × Cursor) → nat_lt b.0 128 ≡ t
-        → ((if t then (var_at n r b.1 >>= λ more. Ok (b.0 ∷ more.0, more.1)) else Ok (b.0 ∷ [], b.1)) >>= with_front value)
+    last : ((value : ℕ) (r : Region) (c : Cursor) → (var_at n r c >>= with_prefix value) ≡ var_from n value r c) → (t : Bool) (b : ℕ × Cursor) → nat_lt b.0 128 ≡ t
+        → ((if t then (var_at n r b.1 >>= λ more. Ok (b.0 ∷ more.0, more.1)) else Ok (b.0 ∷ [], b.1)) >>= with_prefix value)
         ≡ (if t then var_from n (value * 128 + b.0) r b.1 else Ok (value * 128 + b.0 % 128, b.1))
-    last front true b e =
-        bind-bind (var_at n r b.1) _ (with_front value)
-        ∙ (bind-same (var_at n r b.1) _ (with_front (value * 128 + b.0)) (λ more. ap (λ m. Ok (m, more.1)) (pushed value b.0 more.0 (ltb-true b.0 128 e)))
-        ∙ front (value * 128 + b.0) r b.1)
-    last front false b e = ap (λ m. Ok (m, b.1)) (omega arith)
+    last prefix true b e =
+        bind-bind (var_at n r b.1) _ (with_prefix value)
+        ∙ (bind-same (var_at n r b.1) _ (with_prefix (value * 128 + b.0)) (λ more. ap (λ m. Ok (m, more.1)) (pushed value b.0 more.0 (ltb-true b.0 128 e)))
+        ∙ prefix (value * 128 + b.0) r b.1)
+    last prefix false b e = ap (λ m. Ok (m, b.1)) (omega arith)
 
-pub var_uint_at-front : (r : Region) (c : Cursor) → var_uint_at r c ≡ var_from 9 0 r c
+pub var_uint_at-prefix : (r : Region) (c : Cursor) → var_uint_at r c ≡ var_from 9 0 r c
 unfolding var_uint_at
-var_uint_at-front r c = bind-same (var_at 9 r c) _ (with_front 0) (λ b. ap (λ m. Ok (m, b.1)) (omega arith)) ∙ var_at-front 9 0 r c
+var_uint_at-prefix r c = bind-same (var_at 9 r c) _ (with_prefix 0) (λ b. ap (λ m. Ok (m, b.1)) (omega arith)) ∙ var_at-prefix 9 0 r c
 
 -- ---- one octet more
 

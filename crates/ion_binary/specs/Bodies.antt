@@ -19,7 +19,8 @@ as_scalar text code.Blob = value.blob text
 
 -- the type codes of numbers, timestamps and symbols, and of all scalars with bodies
 abbrev pub IsNumberCode : ℕ → Type 0
-IsNumberCode code = (code ≡ 2) ⊎ ((code ≡ 3) ⊎ ((code ≡ 5) ⊎ ((code ≡ 6) ⊎ (code ≡ 7))))
+IsNumberCode type_code =
+    (type_code ≡ 2) ⊎ ((type_code ≡ 3) ⊎ ((type_code ≡ 5) ⊎ ((type_code ≡ 6) ⊎ (type_code ≡ 7))))
 
-abbrev pub IsBodyCode : ℕ → Type 0
-IsBodyCode code = (code ≡ 2) ⊎ ((code ≡ 3) ⊎ ((code ≡ 5) ⊎ ((code ≡ 6) ⊎ ((code ≡ 7) ⊎ ((8 ≤ code) × (code ≤ 10))))))
+abbrev pub IsBodyTypeCode : ℕ → Type 0
+IsBodyTypeCode type_code = (type_code ≡ 2) ⊎ ((type_code ≡ 3) ⊎ ((type_code ≡ 5) ⊎ ((type_code ≡ 6) ⊎ ((type_code ≡ 7) ⊎ ((8 ≤ type_code) × (type_code ≤ 10))))))

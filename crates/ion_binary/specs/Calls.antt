@@ -22,7 +22,7 @@ pub record CanRead {I : Type 0} (limits : Limits) (most : ℕ) (source : Incomin
 -- a call answers what reading gives from where its source stood, in a part at a place
 abbrev pub AnswersBy : {I T A : Type 0} → InputOf I → (T → A) → Incoming I → Incoming I → ℕ → Result T Fault → (Cursor → Result (A × Cursor) Reason) → Type 0
 AnswersBy device view old new place result reading =
-    device.tells old.device → Answers view result (cursor device new) place (reading (cursor device old))
+    device.observable old.device → Answers view result (cursor device new) place (reading (cursor device old))
 
 -- what a call keeps and moves whatever it answers, where it takes no memory
 pub record Reads {I T : Type 0} (device : InputOf I) (old new : Incoming I) (result : Result T Fault) : Type 0 where
@@ -38,10 +38,10 @@ pub record ReadsInto {I T : Type 0} (device : InputOf I) (old new : Incoming I) 
   pub charges : Charges earlier later before after most
 
 -- and of a value with its annotations
-pub record ReadsValue {I N T : Type 0} (device : InputOf I) (limits : Limits) (old new : Incoming I) (earlier later : Counts) (before text : List ℕ) (notes : List N) (result : Result T Fault) : Type 0 where
+pub record ReadsValue {I N T : Type 0} (device : InputOf I) (limits : Limits) (old new : Incoming I) (earlier later : Counts) (before text : List ℕ) (annotations : List N) (result : Result T Fault) : Type 0 where
   pub further : OnOk result (old.place < new.place)
   pub stands : OnOk result (Stands new)
   pub moves : Moves device old new
   pub causes : ReadCauses (fault_of result) earlier later (device.failure_count old.device) (device.failure_count new.device) (Exceeds device old)
-  pub charges : Charges earlier later (length before) (16 * length notes + length text) (2 * limits.scalar)
-  pub share : (16 * length notes ≤ limits.scalar) × (length text ≤ limits.scalar)
+  pub charges : Charges earlier later (length before) (16 * length annotations + length text) (2 * limits.scalar)
+  pub share : (16 * length annotations ≤ limits.scalar) × (length text ≤ limits.scalar)

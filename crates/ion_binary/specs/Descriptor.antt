@@ -20,7 +20,7 @@ abbrev pub is_at_end : Region → ℕ → Bool
 is_at_end None place = false
 is_at_end (Some end) place = nat_le end place
 
--- so many octets from a place on pass the region's end, or end before it
+-- n octets from a place on pass the region's end, or end before it
 abbrev pub passes : Region → ℕ → ℕ → Bool
 passes None place n = false
 passes (Some end) place n = nat_lt end (place + n)
@@ -53,24 +53,24 @@ var_uint_at r c = do
 
 -- a length of 14 in a descriptor says that a VarUInt follows
 unfoldable pub length_at : ℕ → Region → Cursor → Result (ℕ × Cursor) Reason
-length_at low r c = if nat_eq low 14 then var_uint_at r c else Ok (low, c)
+length_at length_code r c = if nat_eq length_code 14 then var_uint_at r c else Ok (length_code, c)
 
 -- ---- shapes
 
--- what a descriptor says: a type code, and the low half where a length goes by it
+-- what a descriptor says: a type code, T, and a length code, L, where a length goes by it
 pub data Shape : Type 0 where
   null : (type : IonType) → Shape
   bool : (truth : Bool) → Shape
-  pad : (low : ℕ) → Shape
-  wrapper : (low : ℕ) → Shape
-  body : (code low : ℕ) → Shape
-  container : (kind : Kind) → (low : ℕ) → Shape
+  nop_pad : (length_code : ℕ) → Shape
+  wrapper : (length_code : ℕ) → Shape
+  body : (type_code length_code : ℕ) → Shape
+  container : (kind : Kind) → (length_code : ℕ) → Shape
   sorted : Shape
   marker : Shape
   float : Shape
   illegal : Shape
 
--- by type code, where the low half is 15: an int of either sign has the same null, and a wrapper has none
+-- by type code, where the length code is 15: an int of either sign has the same null, and a wrapper has none
 abbrev pub null_shapes : List Shape
 null_shapes =
     null type.Null ∷ null type.Bool ∷ null type.Int ∷ null type.Int ∷ null type.Float ∷ null type.Decimal ∷ null type.Timestamp ∷ null type.Symbol
@@ -79,29 +79,34 @@ null_shapes =
 abbrev pub bool_shape : ℕ → Shape
 bool_shape zero = bool false
 bool_shape (suc zero) = bool true
-bool_shape (suc (suc low)) = illegal
+bool_shape (suc (suc length_code)) = illegal
 
--- the fewest octets of a wrapper are an annotation's length, an annotation and a value, and `E0` begins a marker
+-- the fewest octets of a wrapper are an annotation's length, an annotation and a value, and `E0` begins a version marker
 abbrev pub wrapper_shape : ℕ → Shape
-wrapper_shape low = if nat_eq low 0 then marker else (if nat_lt low 3 then illegal else wrapper low)
+wrapper_shape length_code =
+    if nat_eq length_code 0 then marker
+    else (if nat_lt length_code 3 then illegal else wrapper length_code)
 
--- a struct whose low half is 1 has its fields in order, and a length behind the descriptor
+-- a struct whose length code is 1 has its fields in order, and a length behind the descriptor
 abbrev pub struct_shape : ℕ → Shape
-struct_shape low = if nat_eq low 1 then sorted else container kind.Struct low
+struct_shape length_code =
+    if nat_eq length_code 1 then sorted else container kind.Struct length_code
 
--- by type code, where the low half is not 15
+-- by type code, where the length code is not 15
 abbrev pub sized_shapes : ℕ → List Shape
-sized_shapes low =
-    pad low ∷ bool_shape low ∷ body 2 low ∷ body 3 low ∷ float ∷ body 5 low ∷ body 6 low ∷ body 7 low ∷ body 8 low ∷ body 9 low ∷ body 10 low
-    ∷ container kind.List low ∷ container kind.Sexp low ∷ struct_shape low ∷ wrapper_shape low ∷ []
+sized_shapes length_code =
+    nop_pad length_code ∷ bool_shape length_code ∷ body 2 length_code ∷ body 3 length_code ∷ float
+    ∷ body 5 length_code ∷ body 6 length_code ∷ body 7 length_code ∷ body 8 length_code ∷ body 9 length_code ∷ body 10 length_code
+    ∷ container kind.List length_code ∷ container kind.Sexp length_code
+        ∷ struct_shape length_code ∷ wrapper_shape length_code ∷ []
 
 abbrev pub shape_by : ℕ → ℕ → Shape
-shape_by code low = slice_index_or (if nat_eq low 15 then null_shapes else sized_shapes low) code illegal
+shape_by type_code length_code = slice_index_or (if nat_eq length_code 15 then null_shapes else sized_shapes length_code) type_code illegal
 
 -- the type code is in the high four bits of the descriptor
 unfoldable pub shape_of : ℕ → Shape
 shape_of b = shape_by (b / 16) (b % 16)
 
--- what no wrapper may hold: another wrapper, and whatever else begins with its type code, and a pad
+-- what no wrapper may hold: another wrapper, and whatever else begins with its type code, and a NOP pad
 abbrev pub is_unwrappable : ℕ → Bool
 is_unwrappable b = if nat_eq (b / 16) 14 then true else nat_lt b 15

@@ -4,30 +4,30 @@ use Rattle.ion_meter.specs.declared.fault.Reason.{Reason}
 use Rattle.ion_meter.specs.declared.fault.Reason.TheVariants.{DepthLimit}
 use Rattle.ion_meter.specs.declared.limits.Limits.{Limits}
 use Rattle.ion_binary.specs.declared.body.Body.{Body}
-use Rattle.ion_binary.specs.declared.found.Around as code
-use Rattle.ion_binary.specs.declared.found.Found as found
-use Rattle.ion_binary.specs.declared.found.Found.TheVariants as kinds
-use Rattle.ion_binary.specs.Bodies.{as_scalar, IsBodyCode}
+use Rattle.ion_binary.specs.declared.typed_value.Around as code
+use Rattle.ion_binary.specs.declared.typed_value.TypedValue as typed
+use Rattle.ion_binary.specs.declared.typed_value.TypedValue.TheVariants as kinds
+use Rattle.ion_binary.specs.Bodies.{as_scalar, IsBodyTypeCode}
 use Rattle.ion_value.specs.Parts.{◌>>◌, refuse}
-use Rattle.ion_binary.specs.Descriptor.{Shape, null, bool, pad, wrapper, body, container, sorted, marker, float, illegal}
-use Rattle.ion_binary.specs.Reading.{Around, Found, a_pad, a_marker, a_scalar, a_container, fits}
+use Rattle.ion_binary.specs.Descriptor.{Shape, null, bool, nop_pad, wrapper, body, container, sorted, marker, float, illegal}
+use Rattle.ion_binary.specs.Reading.{Around, TypedValue, a_nop_pad, a_marker, a_scalar, a_container, fits}
 
 abbrev pub as_around : code.Around → Around
 as_around a = record { wrapped = a.wrapped; region = a.region; depth = a.depth }
 
 -- a scalar stands in a body, and the bytes of a string or lob beside it
-abbrev pub as_found : List ℕ → Body → found.Found → Found
-as_found text scalar kinds.Pad = a_pad
-as_found text scalar kinds.Marker = a_marker
-as_found text scalar kinds.Scalar = a_scalar (as_scalar text scalar)
-as_found text scalar (kinds.Container kind end) = a_container kind end
+abbrev pub as_typed_value : List ℕ → Body → typed.TypedValue → TypedValue
+as_typed_value text scalar kinds.NopPad = a_nop_pad
+as_typed_value text scalar kinds.Marker = a_marker
+as_typed_value text scalar kinds.Scalar = a_scalar (as_scalar text scalar)
+as_typed_value text scalar (kinds.Container kind end) = a_container kind end
 
--- a shape that descriptors have: its low half is below 15, and a scalar's type code is one that has bodies
+-- a shape that descriptors have: its length code is below 15, and a scalar's type code is one that has bodies
 abbrev pub IsOfDescriptor : Shape → Type 0
-IsOfDescriptor (pad low) = low < 15
-IsOfDescriptor (wrapper low) = low < 15
-IsOfDescriptor (body code low) = IsBodyCode code × (low < 15)
-IsOfDescriptor (container kind low) = low < 15
+IsOfDescriptor (nop_pad length_code) = length_code < 15
+IsOfDescriptor (wrapper length_code) = length_code < 15
+IsOfDescriptor (body type_code length_code) = IsBodyTypeCode type_code × (length_code < 15)
+IsOfDescriptor (container kind length_code) = length_code < 15
 IsOfDescriptor (null type) = Unit {0}
 IsOfDescriptor (bool truth) = Unit {0}
 IsOfDescriptor sorted = Unit {0}
@@ -35,7 +35,7 @@ IsOfDescriptor marker = Unit {0}
 IsOfDescriptor float = Unit {0}
 IsOfDescriptor illegal = Unit {0}
 
--- where a container ends whose members have so many octets from a place on
+-- where a container ends whose members have n octets from a place on
 abbrev pub end_by : Limits → Around → ℕ → ℕ → Result ℕ Reason
 end_by limits a place n = do
   fits a place n

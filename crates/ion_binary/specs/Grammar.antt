@@ -94,16 +94,17 @@ pub data Plain : Scalar Symbol → List ℕ → Type 0 where
   yes : Plain (value.bool true) (17 ∷ [])
   body : (t : ℕ) (v : Scalar Symbol) (head b : List ℕ) → Descriptor t (length b) head → Body t v b → Plain v (head ++ b)
 
--- octets that mean nothing, whatever they are
-pub data IsPad : List ℕ → Type 0 where
-  pad : (head skipped : List ℕ) → Descriptor 0 (length skipped) head → IsPad (head ++ skipped)
+-- a NOP pad: octets that are ignored, whatever they are
+pub data IsNopPad : List ℕ → Type 0 where
+  nop_pad : (head skipped : List ℕ) → Descriptor 0 (length skipped) head
+      → IsNopPad (head ++ skipped)
 
 -- ---- what stands before a value
 
 -- symbol ids from a place on
 pub data Ids : ℕ → List SymbolAt → List ℕ → Type 0 where
   nothing : (q : ℕ) → Ids q [] []
-  then : (q n : ℕ) (b c : List ℕ) (notes : List SymbolAt) → VarUInt n b → Ids (q + length b) notes c → Ids q (symbol_id n q ∷ notes) (b ++ c)
+  then : (q n : ℕ) (b c : List ℕ) (annotations : List SymbolAt) → VarUInt n b → Ids (q + length b) annotations c → Ids q (symbol_id n q ∷ annotations) (b ++ c)
 
 -- a member's field id in a struct, and nothing in lists and sexps
 pub data Field : Kind → ℕ → Option SymbolAt → List ℕ → Type 0 where
@@ -111,55 +112,56 @@ pub data Field : Kind → ℕ → Option SymbolAt → List ℕ → Type 0 where
   in_list : (q : ℕ) → Field kind.List q None []
   in_sexp : (q : ℕ) → Field kind.Sexp q None []
 
-abbrev pub code : Kind → ℕ
-code kind.List = 11
-code kind.Sexp = 12
-code kind.Struct = 13
+abbrev pub type_code : Kind → ℕ
+type_code kind.List = 11
+type_code kind.Sexp = 12
+type_code kind.Struct = 13
 
--- the front of a container whose members have n octets; in a struct's descriptor the length 1 says that its length follows and its fields
+-- the header of a container whose members have n octets; in a struct's descriptor the length 1 says that its length follows and its fields
 -- are in order, and such a struct is not empty
-pub data Front : Kind → ℕ → List ℕ → Type 0 where
-  plain : (k : Kind) (n : ℕ) (head : List ℕ) → Descriptor (code k) n head → head ≢ 209 ∷ [] → Front k n head
-  sorted : (n : ℕ) (len : List ℕ) → VarUInt n len → 0 < n → Front kind.Struct n (209 ∷ len)
+pub data Header : Kind → ℕ → List ℕ → Type 0 where
+  plain : (k : Kind) (n : ℕ) (head : List ℕ) → Descriptor (type_code k) n head → head ≢ 209 ∷ [] → Header k n head
+  sorted : (n : ℕ) (len : List ℕ) → VarUInt n len → 0 < n → Header kind.Struct n (209 ∷ len)
 
--- the front of an annotation wrapper at a place, which n octets of a value follow
+-- the header of an annotation wrapper at a place, which n octets of a value follow
 pub data Wrapper : ℕ → List SymbolAt → ℕ → List ℕ → Type 0 where
-  wrapper : (q : ℕ) (notes : List SymbolAt) (n : ℕ) (head len ids : List ℕ) → Descriptor 14 (length len + length ids + n) head
-      → 3 ≤ length len + length ids + n → 0 < length ids → 0 < n → VarUInt (length ids) len → Ids (q + length (head ++ len)) notes ids
-      → Wrapper q notes n ((head ++ len) ++ ids)
+  wrapper : (q : ℕ) (annotations : List SymbolAt) (n : ℕ) (head len ids : List ℕ) → Descriptor 14 (length len + length ids + n) head
+      → 3 ≤ length len + length ids + n → 0 < length ids → 0 < n → VarUInt (length ids) len → Ids (q + length (head ++ len)) annotations ids
+      → Wrapper q annotations n ((head ++ len) ++ ids)
 
--- what stands before a value of n octets: nothing, or a wrapper's front
+-- what stands before a value of n octets: nothing, or a wrapper's header
 pub data Annotated : ℕ → List SymbolAt → ℕ → List ℕ → Type 0 where
   bare : (q n : ℕ) → Annotated q [] n []
-  wrapped : (q : ℕ) (notes : List SymbolAt) (n : ℕ) (w : List ℕ) → Wrapper q notes n w → Annotated q notes n w
+  wrapped : (q : ℕ) (annotations : List SymbolAt) (n : ℕ) (w : List ℕ) → Wrapper q annotations n w → Annotated q annotations n w
 
 -- ---- values, the members of containers, and the stream
 
 mutual
   -- from a place on the bytes spell annotations and a value; the second place is that of the value
   pub data Bin : ℕ → List SymbolAt → ℕ → Value SymbolAt ℕ → List ℕ → Type 0 where
-    scalar : (q : ℕ) (notes : List SymbolAt) (v : Scalar Symbol) (w x : List ℕ) → Annotated q notes (length x) w → Plain v x
-        → Bin q notes (q + length w) (value.scalar (placed_scalar (q + length w) v)) (w ++ x)
-    container : (q : ℕ) (notes : List SymbolAt) (k : Kind) (ms : Members SymbolAt ℕ) (w front x : List ℕ)
-        → Annotated q notes (length front + length x) w → Front k (length x) front → Inside k (q + length (w ++ front)) ms x
-        → Bin q notes (q + length w) (value.container k ms (q + length ((w ++ front) ++ x))) ((w ++ front) ++ x)
+    scalar : (q : ℕ) (annotations : List SymbolAt) (v : Scalar Symbol) (w x : List ℕ) → Annotated q annotations (length x) w → Plain v x
+        → Bin q annotations (q + length w) (value.scalar (placed_scalar (q + length w) v)) (w ++ x)
+    container : (q : ℕ) (annotations : List SymbolAt) (k : Kind) (ms : Members SymbolAt ℕ) (w header x : List ℕ)
+        → Annotated q annotations (length header + length x) w → Header k (length x) header → Inside k (q + length (w ++ header)) ms x
+        → Bin q annotations (q + length w) (value.container k ms (q + length ((w ++ header) ++ x))) ((w ++ header) ++ x)
 
-  -- from a place on the bytes spell members of a container, and pads between them
+  -- from a place on the bytes spell members of a container, and NOP pads between them
   pub data Inside : Kind → ℕ → Members SymbolAt ℕ → List ℕ → Type 0 where
     nothing : (k : Kind) (q : ℕ) → Inside k q value.nothing []
-    pad : (k : Kind) (q : ℕ) (f : Option SymbolAt) (ms : Members SymbolAt ℕ) (c b p : List ℕ) → Inside k q ms c → Field k (q + length c) f b
-        → IsPad p → Inside k q ms (c ++ (b ++ p))
-    with_value : (k : Kind) (q h : ℕ) (f : Option SymbolAt) (notes : List SymbolAt) (v : Value SymbolAt ℕ) (ms : Members SymbolAt ℕ) (c b x : List ℕ)
-        → Inside k q ms c → Field k (q + length c) f b → Bin (q + length (c ++ b)) notes h v x
-        → Inside k q (value.member ms f notes h v) (c ++ (b ++ x))
+    nop_pad : (k : Kind) (q : ℕ) (f : Option SymbolAt) (ms : Members SymbolAt ℕ) (c b p : List ℕ) → Inside k q ms c → Field k (q + length c) f b
+        → IsNopPad p → Inside k q ms (c ++ (b ++ p))
+    with_value : (k : Kind) (q h : ℕ) (f : Option SymbolAt) (annotations : List SymbolAt) (v : Value SymbolAt ℕ) (ms : Members SymbolAt ℕ) (c b x : List ℕ)
+        → Inside k q ms c → Field k (q + length c) f b → Bin (q + length (c ++ b)) annotations h v x
+        → Inside k q (value.member ms f annotations h v) (c ++ (b ++ x))
 
--- these bytes spell markers, values and pads at top level
+-- these bytes spell version markers, values and NOP pads at top level
 pub data Tops : List (Top SymbolAt ℕ) → List ℕ → Type 0 where
   nothing : Tops [] []
   marker : (ts : List (Top SymbolAt ℕ)) (b : List ℕ) → Tops ts b → Tops (ts ++ value.version (length b) ∷ []) (b ++ 224 ∷ 1 ∷ 0 ∷ 234 ∷ [])
-  pad : (ts : List (Top SymbolAt ℕ)) (b p : List ℕ) → Tops ts b → IsPad p → Tops ts (b ++ p)
-  with_value : (ts : List (Top SymbolAt ℕ)) (h : ℕ) (notes : List SymbolAt) (v : Value SymbolAt ℕ) (b x : List ℕ) → Tops ts b
-      → Bin (length b) notes h v x → Tops (ts ++ value.tree (length b) notes h v ∷ []) (b ++ x)
+  nop_pad : (ts : List (Top SymbolAt ℕ)) (b p : List ℕ) → Tops ts b → IsNopPad p → Tops ts (b ++ p)
+  with_value : (ts : List (Top SymbolAt ℕ)) (h : ℕ) (annotations : List SymbolAt) (v : Value SymbolAt ℕ) (b x : List ℕ) → Tops ts b
+      → Bin (length b) annotations h v x
+          → Tops (ts ++ value.tree (length b) annotations h v ∷ []) (b ++ x)
 
 -- a binary stream begins with the octet that text never begins with, and so with a marker
 pub record Stream (bytes : List ℕ) (ts : List (Top SymbolAt ℕ)) : Type 0 where

@@ -42,7 +42,7 @@ EachStepFollows = (limits : Limits) (bytes : List ℕ) (path : Path SymbolAt ℕ
 abbrev pub EachStepFalls : Type 0
 EachStepFalls = (limits : Limits) → Shrinks (step limits) size
 
--- limits that nothing that stands in so many bytes passes
+-- limits that nothing that stands in n bytes passes
 abbrev pub Allows : Limits → List ℕ → Type 0
 Allows limits bytes = (length bytes ≤ limits.depth) × (16 * length bytes ≤ limits.scalar)
 
@@ -66,7 +66,7 @@ pub record AreWithin (limits wide : Limits) : Type 0 where
   pub depth : limits.depth ≤ wide.depth
   pub scalar : limits.scalar ≤ wide.scalar
 
--- a reading is the front of another, up to a limit's fault
+-- a reading is a prefix of another, up to a limit's fault
 pub data IsCut : Reading → Reading → Type 0 where
   here : (reason : Reason) (place : ℕ) (r : Reading) → IsLimit reason → IsCut (Stopped reason place) r
   later : (item : PlacedItem) (r s : Reading) → IsCut r s → IsCut (Reading.More item r) (Reading.More item s)
@@ -85,6 +85,6 @@ OnePath =
     (bytes : List ℕ) (q r : ℕ) (a b : Path SymbolAt ℕ) → IsPath bytes q a → IsPath bytes r b
     → IsBegun (path_items a) (path_items b) ⊎ IsBegun (path_items b) (path_items a)
 
--- the same bytes are one list of markers and values
+-- the same bytes are one list of version markers and values
 abbrev pub OneStream : Type 0
 OneStream = (bytes : List ℕ) (a b : List (Top SymbolAt ℕ)) → Stream bytes a → Stream bytes b → a ≡ b

@@ -18,10 +18,10 @@ var_from (suc most) value r c = do
   b ← octet_at r c
   if nat_lt b.0 128 then var_from most (value * 128 + b.0) r b.1 else Ok (value * 128 + b.0 % 128, b.1)
 
--- a scalar whose body has so many octets, which fit the region
+-- a scalar whose body has n octets, which fit the region
 unfoldable pub body_here : Limits → ℕ → ℕ → Cursor → Result (Scalar Symbol × Cursor) Reason
-body_here limits code n c = do
+body_here limits type_code n c = do
   refuse (nat_lt limits.scalar n) ScalarLimit
   refuse (nat_lt (length c.rest) n) Truncated
-  v ← scalar_of_body code (take n c.rest)
+  v ← scalar_of_body type_code (take n c.rest)
   Ok (v, skip n c)

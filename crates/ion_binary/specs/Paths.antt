@@ -6,7 +6,7 @@ use Rattle.ion_value.specs.Path.{outermost, inner, Path, closed, opened, path_it
 use Rattle.ion_value.specs.Reading.{Step, Ends, Stops, Gives, GoesOn}
 use Rattle.ion_binary.specs.Positions.{Frame, State}
 use Rattle.ion_meter.specs.Sources.{Cursor}
-use Rattle.ion_binary.specs.Grammar.{Field, Front, Annotated, Inside, Tops}
+use Rattle.ion_binary.specs.Grammar.{Field, Header, Annotated, Inside, Tops}
 
 -- what stands before a value where containers are open: a field where the innermost of them is a struct
 abbrev pub FieldIn : List Frame → ℕ → Option SymbolAt → List ℕ → Type 0
@@ -24,18 +24,19 @@ frame_of k end = record { kind = k; end = end }
 
 -- the path behind a container's beginning and some of its members
 abbrev pub open_in : Path SymbolAt ℕ → ℕ → Option SymbolAt → List SymbolAt → ℕ → Kind → Members SymbolAt ℕ → Path SymbolAt ℕ
-open_in (closed ts) q f notes h k ms = opened ts q (outermost notes h k ms)
-open_in (opened ts first nest) q f notes h k ms = opened ts first (inner nest f notes h k ms)
+open_in (closed ts) q f annotations h k ms = opened ts q (outermost annotations h k ms)
+open_in (opened ts first nest) q f annotations h k ms =
+    opened ts first (inner nest f annotations h k ms)
 
 -- the bytes spell the path, whose open containers end at these places, which the input may not reach; each lies within those around it
 pub data Spells : Path SymbolAt ℕ → List Frame → List ℕ → Type 0 where
   top : (ts : List (Top SymbolAt ℕ)) (b : List ℕ) → Tops ts b → Spells (closed ts) [] b
-  inside : (path : Path SymbolAt ℕ) (frames : List Frame) (f : Option SymbolAt) (notes : List SymbolAt) (k : Kind) (ms : Members SymbolAt ℕ) (n : ℕ)
-      (b x w front c : List ℕ)
-      → Spells path frames b → FieldIn frames (length b) f x → Annotated (length (b ++ x)) notes (length front + n) w → Front k n front
-      → Inside k (length ((b ++ x) ++ (w ++ front))) ms c → length c ≤ n → Within frames (length ((b ++ x) ++ (w ++ front)) + n)
-      → Spells (open_in path (length b) f notes (length ((b ++ x) ++ w)) k ms) (frame_of k (length ((b ++ x) ++ (w ++ front)) + n) ∷ frames)
-      (((b ++ x) ++ (w ++ front)) ++ c)
+  inside : (path : Path SymbolAt ℕ) (frames : List Frame) (f : Option SymbolAt) (annotations : List SymbolAt) (k : Kind) (ms : Members SymbolAt ℕ) (n : ℕ)
+      (b x w header c : List ℕ)
+      → Spells path frames b → FieldIn frames (length b) f x → Annotated (length (b ++ x)) annotations (length header + n) w → Header k n header
+      → Inside k (length ((b ++ x) ++ (w ++ header))) ms c → length c ≤ n → Within frames (length ((b ++ x) ++ (w ++ header)) + n)
+      → Spells (open_in path (length b) f annotations (length ((b ++ x) ++ w)) k ms) (frame_of k (length ((b ++ x) ++ (w ++ header)) + n) ∷ frames)
+      (((b ++ x) ++ (w ++ header)) ++ c)
 
 -- the bytes before a place spell the path
 pub record IsPath (bytes : List ℕ) (q : ℕ) (path : Path SymbolAt ℕ) : Type 0 where
@@ -49,7 +50,7 @@ pub record IsPath (bytes : List ℕ) (q : ℕ) (path : Path SymbolAt ℕ) : Type
 -- ---- what a reading stands at
 
 -- the bytes before a cursor spell the path, of which the frames are the open containers
-pub record Stands (bytes : List ℕ) (path : Path SymbolAt ℕ) (frames : List Frame) (c : Cursor) : Type 0 where
+pub record IsSpelledTo (bytes : List ℕ) (path : Path SymbolAt ℕ) (frames : List Frame) (c : Cursor) : Type 0 where
   pub before : List ℕ
   pub split : bytes ≡ before ++ c.rest
   pub place : c.place ≡ length before
@@ -61,7 +62,7 @@ IsTop (closed ts) place = Unit {0}
 IsTop (opened ts first nest) place = first ≡ place
 
 abbrev pub At : List ℕ → Path SymbolAt ℕ → State → Type 0
-At bytes path s = Stands bytes path s.frames s.cursor × IsTop path s.top
+At bytes path s = IsSpelledTo bytes path s.frames s.cursor × IsTop path s.top
 
 -- a step gives an item, and a path that has it behind the items so far, or it keeps the path; it ends where nothing is open and nothing is left
 abbrev pub Follows : List ℕ → Path SymbolAt ℕ → List Frame → Cursor → Step State → Type 0

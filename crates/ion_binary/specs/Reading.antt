@@ -13,7 +13,7 @@ use Rattle.ion_value.specs.Parts.{Placed, part, ◌>>=◌, ◌>>◌, refuse}
 use Rattle.ion_binary.specs.Positions.{symbol_id, placed_scalar}
 use Rattle.ion_meter.specs.Sources.{Cursor, skip}
 pub use Rattle.ion_binary.specs.Positions.{Frame, State}
-use Rattle.ion_binary.specs.Descriptor.{Region, passes, falls_short, octet_at, var_uint_at, length_at, Shape, null, bool, pad, wrapper, body, container, sorted, marker, float, illegal, shape_of, is_unwrappable}
+use Rattle.ion_binary.specs.Descriptor.{Region, passes, falls_short, octet_at, var_uint_at, length_at, Shape, null, bool, nop_pad, wrapper, body, container, sorted, marker, float, illegal, shape_of, is_unwrappable}
 
 -- ---- the part that is a descriptor, a length and, for a scalar, a body
 
@@ -23,12 +23,12 @@ pub record Around : Type 0 where
   pub region : Region
   pub depth : ℕ
 
--- what it is: a pad, a version marker, a scalar, or a container's beginning with the place of its end
-pub data Found : Type 0 where
-  a_pad : Found
-  a_marker : Found
-  a_scalar : (body : Scalar Symbol) → Found
-  a_container : (kind : Kind) → (end : ℕ) → Found
+-- what it is: a NOP pad, a version marker, a scalar, or a container's beginning with the place of its end
+pub data TypedValue : Type 0 where
+  a_nop_pad : TypedValue
+  a_marker : TypedValue
+  a_scalar : (body : Scalar Symbol) → TypedValue
+  a_container : (kind : Kind) → (end : ℕ) → TypedValue
 
 -- a marker behind its first octet
 abbrev pub marker_rest : List ℕ → Result (Unit {0}) Reason
@@ -41,80 +41,83 @@ abbrev pub is_top : Region → Bool
 is_top None = true
 is_top (Some end) = false
 
-unfoldable pub marker_at : Region → Cursor → Result (Found × Cursor) Reason
+unfoldable pub marker_at : Region → Cursor → Result (TypedValue × Cursor) Reason
 marker_at r c = do
   refuse (not (is_top r)) BadDescriptor
   marker_rest c.rest
   Ok (a_marker, skip 3 c)
 
--- so many octets fit the region, and fill it where it is a wrapper
+-- n octets fit the region, and fill it where it is a wrapper
 abbrev pub fits : Around → ℕ → ℕ → Result (Unit {0}) Reason
 fits a place n = do
   refuse (passes a.region place n) Overrun
   refuse (a.wrapped && falls_short a.region place n) BadAnnotation
 
 -- a scalar whose value is in its descriptor
-unfoldable pub bare_at : Around → Scalar Symbol → Cursor → Result (Found × Cursor) Reason
+unfoldable pub bare_at : Around → Scalar Symbol → Cursor → Result (TypedValue × Cursor) Reason
 bare_at a v c = do
   refuse (a.wrapped && falls_short a.region c.place 0) BadAnnotation
   Ok (a_scalar v, c)
 
-unfoldable pub pad_at : Around → ℕ → Cursor → Result (Found × Cursor) Reason
-pad_at a low c = do
-  n ← length_at low a.region c
+unfoldable pub nop_pad_at : Around → ℕ → Cursor → Result (TypedValue × Cursor) Reason
+nop_pad_at a length_code c = do
+  n ← length_at length_code a.region c
   refuse (passes a.region n.1.place n.0) Overrun
   refuse (nat_lt (length n.1.rest) n.0) Truncated
-  Ok (a_pad, skip n.0 n.1)
+  Ok (a_nop_pad, skip n.0 n.1)
 
--- a scalar whose body has so many octets
-unfoldable pub body_at : Limits → Around → ℕ → ℕ → Cursor → Result (Found × Cursor) Reason
-body_at limits a code n c = do
+-- a scalar whose body has n octets
+unfoldable pub body_at : Limits → Around → ℕ → ℕ → Cursor → Result (TypedValue × Cursor) Reason
+body_at limits a type_code n c = do
   fits a c.place n
   refuse (nat_lt limits.scalar n) ScalarLimit
   refuse (nat_lt (length c.rest) n) Truncated
-  v ← scalar_of_body code (take n c.rest)
+  v ← scalar_of_body type_code (take n c.rest)
   Ok (a_scalar v, skip n c)
 
-unfoldable pub scalar_at : Limits → Around → ℕ → ℕ → Cursor → Result (Found × Cursor) Reason
-scalar_at limits a code low c = do
-  n ← length_at low a.region c
-  body_at limits a code n.0 n.1
+unfoldable pub scalar_at : Limits → Around → ℕ → ℕ → Cursor → Result (TypedValue × Cursor) Reason
+scalar_at limits a type_code length_code c = do
+  n ← length_at length_code a.region c
+  body_at limits a type_code n.0 n.1
 
--- a container whose members have so many octets
-unfoldable pub begin_at : Limits → Around → Kind → ℕ → Cursor → Result (Found × Cursor) Reason
+-- a container whose members have n octets
+unfoldable pub begin_at : Limits → Around → Kind → ℕ → Cursor → Result (TypedValue × Cursor) Reason
 begin_at limits a k n c = do
   fits a c.place n
   refuse (nat_le limits.depth a.depth) DepthLimit
   Ok (a_container k (c.place + n), c)
 
-unfoldable pub container_at : Limits → Around → Kind → ℕ → Cursor → Result (Found × Cursor) Reason
-container_at limits a k low c = do
-  n ← length_at low a.region c
+unfoldable pub container_at : Limits → Around → Kind → ℕ → Cursor
+    → Result (TypedValue × Cursor) Reason
+container_at limits a k length_code c = do
+  n ← length_at length_code a.region c
   begin_at limits a k n.0 n.1
 
-unfoldable pub sorted_at : Limits → Around → Cursor → Result (Found × Cursor) Reason
+unfoldable pub sorted_at : Limits → Around → Cursor → Result (TypedValue × Cursor) Reason
 sorted_at limits a c = do
   n ← var_uint_at a.region c
   refuse (nat_eq n.0 0) BadDescriptor
   begin_at limits a kind.Struct n.0 n.1
 
-unfoldable pub by_shape : Limits → Around → Shape → Cursor → Result (Found × Cursor) Reason
-by_shape limits a (null t) c = bare_at a (value.null t) c
-by_shape limits a (bool truth) c = bare_at a (value.bool truth) c
-by_shape limits a (pad low) c = pad_at a low c
-by_shape limits a (body code low) c = scalar_at limits a code low c
-by_shape limits a sorted c = sorted_at limits a c
-by_shape limits a (container k low) c = container_at limits a k low c
-by_shape limits a marker c = marker_at a.region c
-by_shape limits a float c = Err Float
-by_shape limits a (wrapper low) c = Err BadAnnotation
-by_shape limits a illegal c = Err BadDescriptor
+unfoldable pub read_by_descriptor : Limits → Around → Shape → Cursor
+    → Result (TypedValue × Cursor) Reason
+read_by_descriptor limits a (null t) c = bare_at a (value.null t) c
+read_by_descriptor limits a (bool truth) c = bare_at a (value.bool truth) c
+read_by_descriptor limits a (nop_pad length_code) c = nop_pad_at a length_code c
+read_by_descriptor limits a (body type_code length_code) c =
+    scalar_at limits a type_code length_code c
+read_by_descriptor limits a sorted c = sorted_at limits a c
+read_by_descriptor limits a (container k length_code) c = container_at limits a k length_code c
+read_by_descriptor limits a marker c = marker_at a.region c
+read_by_descriptor limits a float c = Err Float
+read_by_descriptor limits a (wrapper length_code) c = Err BadAnnotation
+read_by_descriptor limits a illegal c = Err BadDescriptor
 
 -- behind its descriptor octet
-unfoldable pub found_at : Limits → Around → ℕ → Cursor → Result (Found × Cursor) Reason
-found_at limits a b c = do
+unfoldable pub typed_value_at : Limits → Around → ℕ → Cursor → Result (TypedValue × Cursor) Reason
+typed_value_at limits a b c = do
   refuse (a.wrapped && is_unwrappable b) BadAnnotation
-  by_shape limits a (shape_of b) c
+  read_by_descriptor limits a (shape_of b) c
 
 -- ---- an annotation wrapper
 
@@ -125,8 +128,8 @@ pub record Wrapped : Type 0 where
 
 -- behind its descriptor octet: all octets of its lengths first, those of the ids' length within what the wrapper's own length says
 unfoldable pub wrapper_at : Region → ℕ → Cursor → Result (Wrapped × Cursor) Reason
-wrapper_at r low c = do
-  n ← length_at low r c
+wrapper_at r length_code c = do
+  n ← length_at length_code r c
   ids ← var_uint_at (Some (n.1.place + n.0)) n.1
   refuse (passes r n.1.place n.0) Overrun
   refuse (nat_lt n.0 3 || nat_eq ids.0 0 || nat_le (n.1.place + n.0) (ids.1.place + ids.0)) BadAnnotation
@@ -161,47 +164,48 @@ abbrev pub field_at : List Frame → Cursor → Result (Option SymbolAt × Curso
 field_at [] c = Ok (None, c)
 field_at (f ∷ frames) c = field_in f.kind (Some f.end) c
 
-abbrev pub item_of : ℕ → Option SymbolAt → List SymbolAt → ℕ → Head SymbolAt → PlacedItem
-item_of top f notes place head = record { field = f; annotations = notes; head = head; place = place; top = top }
+abbrev pub placed_item : ℕ → Option SymbolAt → List SymbolAt → ℕ → Head SymbolAt → PlacedItem
+placed_item top f annotations place head = record { field = f; annotations = annotations; head = head; place = place; top = top }
 
--- what is found as a step: a pad gives nothing, and a container's beginning opens it
-abbrev pub given : List Frame → ℕ → Option SymbolAt → List SymbolAt → ℕ → Found → Cursor → Step State
-given frames top f notes place a_pad c = GoesOn (record { frames = frames; top = top; cursor = c })
-given frames top f notes place a_marker c =
-    Gives (item_of top f notes place value.marker) (record { frames = frames; top = top; cursor = c })
-given frames top f notes place (a_scalar v) c =
-    Gives (item_of top f notes place (value.whole (placed_scalar place v))) (record { frames = frames; top = top; cursor = c })
-given frames top f notes place (a_container k end) c =
-    Gives (item_of top f notes place (value.begin k)) (record { frames = record { kind = k; end = end } ∷ frames; top = top; cursor = c })
+-- what is found as a step: a NOP pad gives nothing, and a container's beginning opens it
+abbrev pub step_for : List Frame → ℕ → Option SymbolAt → List SymbolAt → ℕ → TypedValue → Cursor → Step State
+step_for frames top f annotations place a_nop_pad c =
+    GoesOn (record { frames = frames; top = top; cursor = c })
+step_for frames top f annotations place a_marker c =
+    Gives (placed_item top f annotations place value.marker) (record { frames = frames; top = top; cursor = c })
+step_for frames top f annotations place (a_scalar v) c =
+    Gives (placed_item top f annotations place (value.whole (placed_scalar place v))) (record { frames = frames; top = top; cursor = c })
+step_for frames top f annotations place (a_container k end) c =
+    Gives (placed_item top f annotations place (value.begin k)) (record { frames = record { kind = k; end = end } ∷ frames; top = top; cursor = c })
 
 -- a value behind its field, and behind its descriptor octet
 unfoldable pub plain_at : Limits → List Frame → ℕ → Option SymbolAt → ℕ → ℕ → Cursor → Placed (Step State)
 plain_at limits frames top f place b c = do
-  v ← part place (found_at limits (record { wrapped = false; region = region_of frames; depth = length frames }) b c)
-  Ok (given frames top f [] place v.0 v.1)
+  v ← part place (typed_value_at limits (record { wrapped = false; region = region_of frames; depth = length frames }) b c)
+  Ok (step_for frames top f [] place v.0 v.1)
 
 -- the value in a wrapper that ends at a place
 unfoldable pub inner_at : Limits → List Frame → ℕ → Option SymbolAt → List SymbolAt → ℕ → Cursor → Placed (Step State)
-inner_at limits frames top f notes end c = do
+inner_at limits frames top f annotations end c = do
   b ← part c.place (octet_at (Some end) c)
-  v ← part c.place (found_at limits (record { wrapped = true; region = Some end; depth = length frames }) b.0 b.1)
-  Ok (given frames top f notes c.place v.0 v.1)
+  v ← part c.place (typed_value_at limits (record { wrapped = true; region = Some end; depth = length frames }) b.0 b.1)
+  Ok (step_for frames top f annotations c.place v.0 v.1)
 
 -- a wrapper and its value, behind its descriptor octet
 unfoldable pub annotated_at : Limits → List Frame → ℕ → Option SymbolAt → ℕ → ℕ → Cursor → Placed (Step State)
-annotated_at limits frames top f place low c = do
-  w ← part place (wrapper_at (region_of frames) low c)
-  notes ← ids_at w.0.ids limits w.0.ids 0 w.1
-  inner_at limits frames top f notes.0 w.0.end notes.1
+annotated_at limits frames top f place length_code c = do
+  w ← part place (wrapper_at (region_of frames) length_code c)
+  annotations ← ids_at w.0.ids limits w.0.ids 0 w.1
+  inner_at limits frames top f annotations.0 w.0.end annotations.1
 
 -- the length of a wrapper, and none of a value without one
 abbrev pub wrapper_length : Shape → Option ℕ
-wrapper_length (wrapper low) = Some low
+wrapper_length (wrapper length_code) = Some length_code
 wrapper_length (null t) = None
 wrapper_length (bool truth) = None
-wrapper_length (pad low) = None
-wrapper_length (body code low) = None
-wrapper_length (container k low) = None
+wrapper_length (nop_pad length_code) = None
+wrapper_length (body type_code length_code) = None
+wrapper_length (container k length_code) = None
 wrapper_length sorted = None
 wrapper_length marker = None
 wrapper_length float = None
@@ -209,12 +213,12 @@ wrapper_length illegal = None
 
 abbrev pub by_wrapper : {A : Type 0} → Option ℕ → (ℕ → A) → A → A
 by_wrapper None annotated plain = plain
-by_wrapper (Some low) annotated plain = annotated low
+by_wrapper (Some length_code) annotated plain = annotated length_code
 
 unfoldable pub value_at : Limits → List Frame → ℕ → Option SymbolAt → Cursor → Placed (Step State)
 value_at limits frames top f c = do
   b ← part c.place (octet_at (region_of frames) c)
-  by_wrapper (wrapper_length (shape_of b.0)) (λ low. annotated_at limits frames top f c.place low b.1) (plain_at limits frames top f c.place b.0 b.1)
+  by_wrapper (wrapper_length (shape_of b.0)) (λ length_code. annotated_at limits frames top f c.place length_code b.1) (plain_at limits frames top f c.place b.0 b.1)
 
 -- at top level a value begins a top-level value
 abbrev pub top_of : List Frame → ℕ → ℕ → ℕ
@@ -241,7 +245,7 @@ top_step limits top c (b ∷ bytes) = step_of (member_at limits [] top c)
 abbrev pub step_in : Limits → List Frame → ℕ → Cursor → Step State
 step_in limits [] top c = top_step limits top c c.rest
 step_in limits (f ∷ frames) top c =
-    if nat_le f.end c.place then Gives (item_of top None [] c.place value.end) (record { frames = frames; top = top; cursor = c })
+    if nat_le f.end c.place then Gives (placed_item top None [] c.place value.end) (record { frames = frames; top = top; cursor = c })
     else step_of (member_at limits (f ∷ frames) top c)
 
 unfoldable pub step : Limits → State → Step State

@@ -4,15 +4,15 @@ use Rattle.ion_meter.specs.declared.fault.Fault.{Fault}
 use Rattle.ion_value.specs.Value.{SymbolAt}
 use Rattle.ion_value.specs.Reading.{Step}
 use Rattle.ion_binary.specs.declared.body.Body.{Body}
-use Rattle.ion_binary.specs.declared.found.Found as found
+use Rattle.ion_binary.specs.declared.typed_value.TypedValue as typed
 use Rattle.ion_binary.specs.Positions.{Frame, State}
 use Rattle.ion_meter.specs.Sources.{Cursor}
 use Rattle.ion_value.specs.Parts.{Placed}
-use Rattle.ion_binary.specs.Reading.{given}
-use Rattle.ion_binary.specs.Finds.{as_found}
+use Rattle.ion_binary.specs.Reading.{step_for}
+use Rattle.ion_binary.specs.Finds.{as_typed_value}
 use Rattle.ion_value.specs.Answers.{AnswersPlaced}
 
 -- what a call answers that reads a value: what it is and the place of its first octet, as the step that reading gives of it
-abbrev pub GivesStep : List Frame → ℕ → Option SymbolAt → List SymbolAt → List ℕ → Body → Result (found.Found × ℕ) Fault → Cursor → Placed (Step State) → Type 0
-GivesStep frames top f notes text scalar result behind s =
-    AnswersPlaced (λ r. given frames top f notes r.1 (as_found text scalar r.0) behind) result s
+abbrev pub GivesStep : List Frame → ℕ → Option SymbolAt → List SymbolAt → List ℕ → Body → Result (typed.TypedValue × ℕ) Fault → Cursor → Placed (Step State) → Type 0
+GivesStep frames top f annotations text scalar result behind s =
+    AnswersPlaced (λ r. step_for frames top f annotations r.1 (as_typed_value text scalar r.0) behind) result s

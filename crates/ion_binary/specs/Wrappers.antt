@@ -13,8 +13,8 @@ abbrev pub as_wrapped : code.Wrapper → Wrapped
 as_wrapped w = record { ids = w.ids; end = w.end }
 
 -- annotations that are ids
-abbrev pub as_notes : List Annotation → List SymbolAt
-as_notes notes = map (raw_annotation []) notes
+abbrev pub as_annotations : List Annotation → List SymbolAt
+as_annotations annotations = map (raw_annotation []) annotations
 
 abbrev pub as_field : Option field.Field → Option SymbolAt
 as_field None = None

@@ -6,7 +6,7 @@ ghost use Rattle.ion_value.specs.Name.{raw_id};
 ghost use Rattle.ion_value.specs.Scalar.{scalar_of_body};
 ghost use Rattle.ion_value.specs.Standing.{InRange};
 ghost use Rattle.ion_meter.specs.Sources.{skip, cursor, Stands};
-ghost use Rattle.ion_binary.specs.Bodies.{as_scalar, IsNumberCode, IsBodyCode};
+ghost use Rattle.ion_binary.specs.Bodies.{as_scalar, IsNumberCode, IsBodyTypeCode};
 ghost use Rattle.ion_value.specs.Answers.{Answers};
 ghost use Rattle.ion_binary.specs.Parts.{body_here};
 ghost use Rattle.ion_binary.specs.Calls.{AnswersBy, CanRead, Reads, ReadsInto};
@@ -73,14 +73,14 @@ fn uint_id(octets: &[u8]) -> u32
 // A number, a timestamp or a symbol of these octets.
 #[tactic(auto, unfolding(ion_value::specs::Scalar::scalar_of_body))]
 #[inline(always)]
-fn number(code: u8, octets: &[u8], body: &mut Body) -> Result<(), Reason>
-    requires code { IsNumberCode code }
+fn number(type_code: u8, octets: &[u8], body: &mut Body) -> Result<(), Reason>
+    requires type_code { IsNumberCode type_code }
     ensures gives { MatchResult result
-        (λ _. (text : List ℕ) → scalar_of_body code octets.now ≡ Ok (as_scalar text body.new))
-        (λ r. scalar_of_body code octets.now ≡ Err r) }
+        (λ _. (text : List ℕ) → scalar_of_body type_code octets.now ≡ Ok (as_scalar text body.new))
+        (λ r. scalar_of_body type_code octets.now ≡ Err r) }
     ensures range { OnOk result ((text : List ℕ) → InRange (as_scalar text body.new)) }
 {
-    *body = match code {
+    *body = match type_code {
         2 => Body::Int(int_from_bytes(false, octets)?),
         3 => Body::Int(int_from_bytes(true, octets)?),
         5 => Body::Decimal(decimal_from_bytes(octets)?),
@@ -101,17 +101,17 @@ fn is_text(octets: &[u8]) -> bool
 // A string or a lob of these octets.
 #[tactic(auto, unfolding(ion_value::specs::Scalar::scalar_of_body))]
 #[inline]
-fn text_or_lob(code: u8, octets: &[u8], body: &mut Body) -> Result<(), Reason>
-    requires code { (8 ≤ code) × (code ≤ 10) }
+fn text_or_lob(type_code: u8, octets: &[u8], body: &mut Body) -> Result<(), Reason>
+    requires type_code { (8 ≤ type_code) × (type_code ≤ 10) }
     ensures gives { MatchResult result
-        (λ _. scalar_of_body code octets.now ≡ Ok (as_scalar octets.now body.new))
-        (λ r. scalar_of_body code octets.now ≡ Err r) }
+        (λ _. scalar_of_body type_code octets.now ≡ Ok (as_scalar octets.now body.new))
+        (λ r. scalar_of_body type_code octets.now ≡ Err r) }
     ensures range { OnOk result (InRange (as_scalar octets.now body.new)) }
 {
-    if code == STRING && !is_text(octets) {
+    if type_code == STRING && !is_text(octets) {
         return Err(Reason::BadText);
     }
-    *body = match code {
+    *body = match type_code {
         STRING => Body::String,
         CLOB => Body::Clob,
         _ => Body::Blob,
@@ -121,29 +121,29 @@ fn text_or_lob(code: u8, octets: &[u8], body: &mut Body) -> Result<(), Reason>
 
 // A scalar of these octets.
 #[inline(never)]
-fn scalar(code: u8, octets: &[u8], body: &mut Body) -> Result<(), Reason>
-    requires code { IsBodyCode code }
+fn scalar(type_code: u8, octets: &[u8], body: &mut Body) -> Result<(), Reason>
+    requires type_code { IsBodyTypeCode type_code }
     ensures gives { MatchResult result
-        (λ _. scalar_of_body code octets.now ≡ Ok (as_scalar octets.now body.new))
-        (λ r. scalar_of_body code octets.now ≡ Err r) }
+        (λ _. scalar_of_body type_code octets.now ≡ Ok (as_scalar octets.now body.new))
+        (λ r. scalar_of_body type_code octets.now ≡ Err r) }
     ensures range { OnOk result (InRange (as_scalar octets.now body.new)) }
 {
-    if code < STRING {
-        return number(code, octets, body);
+    if type_code < STRING {
+        return number(type_code, octets, body);
     }
-    text_or_lob(code, octets, body)
+    text_or_lob(type_code, octets, body)
 }
 
-/// Passes over so many octets; false where the input ends before.
+/// Passes over n octets; false where the input ends before.
 pub(crate) fn pass_over<I: Input, A: Allocator + Copy>(
     source: &mut Source<I, A>,
     count: u64,
 ) -> Result<bool, Fault>
     requires stands { Stands source.old }
-    ensures all { I.tells source.old.device → result ≡ Ok true
+    ensures all { I.observable source.old.device → result ≡ Ok true
         → (count ≤ length (left I.rest source.old))
         × (cursor I.Input source.new ≡ skip count (cursor I.Input source.old)) }
-    ensures cut { I.tells source.old.device → result ≡ Ok false
+    ensures cut { I.observable source.old.device → result ≡ Ok false
         → length (left I.rest source.old) < count }
     ensures plain { (r : Reason) (p : ℕ) → result ≢ Err (Fault.Refused r p) }
     ensures reads { Reads I.Input source.old source.new result }
@@ -172,11 +172,11 @@ fn gather<I: Input, A: Allocator + Copy>(
 ) -> Result<bool, Fault>
     requires can_read { CanRead limits limits.scalar source.old text.old meter.old }
     requires small { count ≤ limits.scalar }
-    ensures all { I.tells source.old.device → result ≡ Ok true
+    ensures all { I.observable source.old.device → result ≡ Ok true
         → (count ≤ length (left I.rest source.old))
         × (text.new ≡ take count (left I.rest source.old))
         × (cursor I.Input source.new ≡ skip count (cursor I.Input source.old)) }
-    ensures cut { I.tells source.old.device → result ≡ Ok false
+    ensures cut { I.observable source.old.device → result ≡ Ok false
         → length (left I.rest source.old) < count }
     ensures plain { (r : Reason) (p : ℕ) → result ≢ Err (Fault.Refused r p) }
     ensures reads { ReadsInto I.Input source.old source.new meter.old meter.new
@@ -204,29 +204,29 @@ fn gather<I: Input, A: Allocator + Copy>(
 fn number_in_window<I: Input, A: Allocator + Copy>(
     source: &mut Source<I, A>,
     body: &mut Body,
-    code: u8,
+    type_code: u8,
     count: usize,
     limits: Limits,
     place: u64,
 ) -> Result<(), Fault>
     requires stands { Stands source.old }
-    requires code { IsNumberCode code }
+    requires type_code { IsNumberCode type_code }
     requires there { count ≤ length (lent source.old) }
     requires small { count ≤ limits.scalar }
     ensures gives { (text : List ℕ) → Answers (λ _. as_scalar text body.new) result
         (cursor I.Input source.new) place
-        (body_here limits code count (cursor I.Input source.old)) }
+        (body_here limits type_code count (cursor I.Input source.old)) }
     ensures range { OnOk result ((text : List ℕ) → InRange (as_scalar text body.new)) }
     ensures reads { Reads I.Input source.old source.new result }
 {
-    if let Err(reason) = number(code, &source.buffer()[..count], body) {
+    if let Err(reason) = number(type_code, &source.buffer()[..count], body) {
         return Err(Fault::Refused(reason, place));
     }
     source.consume(count);
     Ok(())
 }
 
-/// The scalar of a type code whose body has so many octets, in a part that begins at a place.
+/// The scalar of a type code whose body has n octets, in a part that begins at a place.
 ///
 /// The octets of a string or lob are copied to `text`, once, and those of a number that does not lie
 /// whole in the window too. Answers `ScalarLimit`, then `Truncated` where the input ends before the
@@ -237,16 +237,16 @@ pub(crate) fn next_body<I: Input, A: Allocator + Copy>(
     source: &mut Source<I, A>,
     text: &mut Buf<A>,
     body: &mut Body,
-    code: u8,
+    type_code: u8,
     count: u64,
     limits: Limits,
     place: u64,
     meter: &mut Meter<A>,
 ) -> Result<(), Fault>
     requires can_read { CanRead limits limits.scalar source.old text.old meter.old }
-    requires code { IsBodyCode code }
+    requires type_code { IsBodyTypeCode type_code }
     ensures gives { AnswersBy I.Input (λ _. as_scalar text.new body.new)
-        source.old source.new place result (body_here limits code count) }
+        source.old source.new place result (body_here limits type_code count) }
     ensures range { OnOk result (InRange (as_scalar text.new body.new)) }
     ensures reads { ReadsInto I.Input source.old source.new meter.old meter.new
         (length text.old) (length text.new) limits.scalar result }
@@ -255,15 +255,15 @@ pub(crate) fn next_body<I: Input, A: Allocator + Copy>(
         return Err(Fault::Refused(Reason::ScalarLimit, place));
     }
     let count = count as usize;
-    if code < STRING && count <= source.buffer().len() {
-        return number_in_window(source, body, code, count, limits, place);
+    if type_code < STRING && count <= source.buffer().len() {
+        return number_in_window(source, body, type_code, count, limits, place);
     }
     match gather(source, text, count, limits, meter) {
         Err(fault) => return Err(fault),
         Ok(false) => return Err(Fault::Refused(Reason::Truncated, place)),
         Ok(true) => {}
     }
-    if let Err(reason) = scalar(code, text.as_slice(), body) {
+    if let Err(reason) = scalar(type_code, text.as_slice(), body) {
         return Err(Fault::Refused(reason, place));
     }
     Ok(())

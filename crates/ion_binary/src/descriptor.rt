@@ -5,27 +5,27 @@ ghost use Rattle.ion_binary.specs.Shapes.{as_shape};
 
 use ion_value::ion_type::{IonType, Kind};
 
-/// What a descriptor octet says: `low` is its low four bits, by which a length goes.
+/// What a descriptor octet says: `length_code` is its low four bits, L, by which a length goes.
 #[derive(Clone, Copy, Debug, PartialEq, Eq)]
 pub(crate) enum Shape {
     /// The null of a type.
     Null(IonType),
     /// A bool.
     Bool(bool),
-    /// Octets that mean nothing.
-    Pad(u8),
-    /// The front of an annotation wrapper.
+    /// A NOP pad: octets that are ignored.
+    NopPad(u8),
+    /// The header of an annotation wrapper.
     Wrapper(u8),
     /// A scalar with a body.
     Body {
-        /// Its type code.
-        code: u8,
-        /// The low four bits.
-        low: u8,
+        /// Its type code, T.
+        type_code: u8,
+        /// Its length code, L: the low four bits.
+        length_code: u8,
     },
-    /// The front of a container.
+    /// The header of a container.
     Container(Kind, u8),
-    /// The front of a struct whose fields are in order.
+    /// The header of a struct whose fields are in order.
     Sorted,
     /// The first octet of a version marker.
     Marker,
@@ -42,19 +42,19 @@ impl Shape {
     pub(crate) fn of(octet: u8) -> Shape
         ensures { as_shape result ≡ shape_of octet }
     {
-        let code = octet / 16;
+        let type_code = octet / 16;
         match octet % 16 {
-            15 => Shape::null(code),
-            low => Shape::sized(code, low),
+            15 => Shape::null(type_code),
+            length_code => Shape::sized(type_code, length_code),
         }
     }
 
     // Where the low four bits are 15.
     #[inline]
-    fn null(code: u8) -> Shape
-        ensures { as_shape result ≡ slice_index_or null_shapes code illegal }
+    fn null(type_code: u8) -> Shape
+        ensures { as_shape result ≡ slice_index_or null_shapes type_code illegal }
     {
-        match code {
+        match type_code {
             0 => Shape::Null(IonType::Null),
             1 => Shape::Null(IonType::Bool),
             2 => Shape::Null(IonType::Int),
@@ -75,34 +75,34 @@ impl Shape {
 
     // Where they are not.
     #[inline]
-    fn sized(code: u8, low: u8) -> Shape
-        ensures { as_shape result ≡ slice_index_or (sized_shapes low) code illegal }
+    fn sized(type_code: u8, length_code: u8) -> Shape
+        ensures { as_shape result ≡ slice_index_or (sized_shapes length_code) type_code illegal }
     {
-        match code {
-            0 => Shape::Pad(low),
-            1 => Shape::bool(low),
-            2 => Shape::Body { code: 2, low },
-            3 => Shape::Body { code: 3, low },
+        match type_code {
+            0 => Shape::NopPad(length_code),
+            1 => Shape::bool(length_code),
+            2 => Shape::Body { type_code: 2, length_code },
+            3 => Shape::Body { type_code: 3, length_code },
             4 => Shape::Float,
-            5 => Shape::Body { code: 5, low },
-            6 => Shape::Body { code: 6, low },
-            7 => Shape::Body { code: 7, low },
-            8 => Shape::Body { code: 8, low },
-            9 => Shape::Body { code: 9, low },
-            10 => Shape::Body { code: 10, low },
-            11 => Shape::Container(Kind::List, low),
-            12 => Shape::Container(Kind::Sexp, low),
-            13 => Shape::structure(low),
-            14 => Shape::wrapper(low),
+            5 => Shape::Body { type_code: 5, length_code },
+            6 => Shape::Body { type_code: 6, length_code },
+            7 => Shape::Body { type_code: 7, length_code },
+            8 => Shape::Body { type_code: 8, length_code },
+            9 => Shape::Body { type_code: 9, length_code },
+            10 => Shape::Body { type_code: 10, length_code },
+            11 => Shape::Container(Kind::List, length_code),
+            12 => Shape::Container(Kind::Sexp, length_code),
+            13 => Shape::structure(length_code),
+            14 => Shape::wrapper(length_code),
             _ => Shape::Illegal,
         }
     }
 
     #[inline]
-    fn bool(low: u8) -> Shape
-        ensures { as_shape result ≡ bool_shape low }
+    fn bool(length_code: u8) -> Shape
+        ensures { as_shape result ≡ bool_shape length_code }
     {
-        match low {
+        match length_code {
             0 => Shape::Bool(false),
             1 => Shape::Bool(true),
             _ => Shape::Illegal,
@@ -110,23 +110,23 @@ impl Shape {
     }
 
     #[inline]
-    fn structure(low: u8) -> Shape
-        ensures { as_shape result ≡ struct_shape low }
+    fn structure(length_code: u8) -> Shape
+        ensures { as_shape result ≡ struct_shape length_code }
     {
-        match low {
+        match length_code {
             1 => Shape::Sorted,
-            low => Shape::Container(Kind::Struct, low),
+            length_code => Shape::Container(Kind::Struct, length_code),
         }
     }
 
     #[inline]
-    fn wrapper(low: u8) -> Shape
-        ensures { as_shape result ≡ wrapper_shape low }
+    fn wrapper(length_code: u8) -> Shape
+        ensures { as_shape result ≡ wrapper_shape length_code }
     {
-        match low {
+        match length_code {
             0 => Shape::Marker,
             1 | 2 => Shape::Illegal,
-            low => Shape::Wrapper(low),
+            length_code => Shape::Wrapper(length_code),
         }
     }
 }

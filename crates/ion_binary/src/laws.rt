@@ -28,14 +28,14 @@ pub fn each_step_falls()
     ensures { EachStepFalls }
 {}
 
-/// Whatever path of the grammar the front of an input spells, its items are read first, under
+/// Whatever path of the grammar a prefix of an input spells, its items are read first, under
 /// limits that allow them.
 pub fn what_is_spelled_is_read()
     ensures { Complete }
 {}
 
-/// A list of markers and values that an input spells is read to its end, under limits that allow
-/// it.
+/// A list of version markers and values that an input spells is read to its end, under limits that
+/// allow it.
 pub fn streams_are_read()
     ensures { StreamsAreRead }
 {}

@@ -6,7 +6,7 @@
 
 mod body;
 mod descriptor;
-mod found;
+mod typed_value;
 pub mod laws;
 mod octets;
 pub mod reader;

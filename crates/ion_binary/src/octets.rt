@@ -78,19 +78,19 @@ pub(crate) fn next_var_uint<I: Input, A: Allocator + Copy>(
 #[inline]
 pub(crate) fn next_length<I: Input, A: Allocator + Copy>(
     source: &mut Source<I, A>,
-    low: u8,
+    length_code: u8,
     region: Option<u64>,
     place: u64,
 ) -> Result<u64, Fault>
     requires stands { Stands source.old }
-    requires low { low < 15 }
+    requires length_code { length_code < 15 }
     ensures gives { AnswersBy I.Input itself source.old source.new place result
-        (length_at low region) }
+        (length_at length_code region) }
     ensures fits { IfOk result (λ n. n < 2 ^ 63) }
     ensures reads { Reads I.Input source.old source.new result }
 {
-    if low == 14 {
+    if length_code == 14 {
         return next_var_uint(source, region, place);
     }
-    Ok(u64::from(low))
+    Ok(u64::from(length_code))
 }

@@ -9,14 +9,14 @@ ghost use Rattle.ion_binary.specs.Reading.{region_of, wrapper_length, inner_at, 
 ghost use Rattle.ion_binary.specs.Bodies.{as_scalar};
 ghost use Rattle.ion_meter.specs.Sources.{cursor};
 ghost use Rattle.ion_binary.specs.Calls.{CanRead, ReadsInto, ReadsValue};
-ghost use Rattle.ion_binary.specs.Wrappers.{as_notes};
+ghost use Rattle.ion_binary.specs.Wrappers.{as_annotations};
 ghost use Rattle.ion_binary.specs.Values.{GivesStep};
 
 use crate::body::Body;
 use crate::descriptor::Shape;
-use crate::found::{Around, Found, next_found};
+use crate::typed_value::{Around, TypedValue, next_typed_value};
 use crate::octets::next_octet;
-use crate::wrapper::{next_notes, next_wrapper};
+use crate::wrapper::{next_annotations, next_wrapper};
 use ion_meter::buf::Buf;
 use ion_meter::device::Input;
 use ion_meter::fault::Fault;
@@ -29,12 +29,12 @@ use std::alloc::Allocator;
 
 // The length of the wrapper that a descriptor octet begins, in its low four bits.
 #[inline]
-fn wrapper_low(octet: u8) -> Option<u8>
+fn wrapper_length_code(octet: u8) -> Option<u8>
     ensures is { result ≡ wrapper_length (shape_of octet) }
-    ensures low { IfSome result (λ low. low < 15) }
+    ensures length_code { IfSome result (λ length_code. length_code < 15) }
 {
     match Shape::of(octet) {
-        Shape::Wrapper(low) => Some(low),
+        Shape::Wrapper(length_code) => Some(length_code),
         _ => None,
     }
 }
@@ -48,17 +48,17 @@ fn next_inner<I: Input, A: Allocator + Copy>(
     depth: u32,
     limits: Limits,
     meter: &mut Meter<A>,
-) -> Result<(Found, u64), Fault>
+) -> Result<(TypedValue, u64), Fault>
     requires can_read { CanRead limits limits.scalar source.old text.old meter.old }
-    ensures gives { I.tells source.old.device → (frames : List Frame) (top : ℕ)
-        (f : Option SymbolAt) (notes : List SymbolAt) → length frames ≡ depth
-        → GivesStep frames top f notes text.new body.new result (cursor I.Input source.new)
-        (inner_at limits frames top f notes end (cursor I.Input source.old)) }
-    ensures range { (place : ℕ) → result ≡ Ok (Found.Scalar, place)
+    ensures gives { I.observable source.old.device → (frames : List Frame) (top : ℕ)
+        (f : Option SymbolAt) (annotations : List SymbolAt) → length frames ≡ depth
+        → GivesStep frames top f annotations text.new body.new result (cursor I.Input source.new)
+        (inner_at limits frames top f annotations end (cursor I.Input source.old)) }
+    ensures range { (place : ℕ) → result ≡ Ok (TypedValue.Scalar, place)
         → InRange (as_scalar text.new body.new) }
     ensures deep { (kind : kinds.Kind) (last place : ℕ)
-        → result ≡ Ok (Found.Container kind last, place) → depth < limits.depth }
-    ensures no_marker { (place : ℕ) → result ≢ Ok (Found.Marker, place) }
+        → result ≡ Ok (TypedValue.Container kind last, place) → depth < limits.depth }
+    ensures no_marker { (place : ℕ) → result ≢ Ok (TypedValue.Marker, place) }
     ensures further { OnOk result (source.old.place < source.new.place) }
     ensures reads { ReadsInto I.Input source.old source.new meter.old meter.new
         (length text.old) (length text.new) limits.scalar result }
@@ -73,7 +73,7 @@ fn next_inner<I: Input, A: Allocator + Copy>(
         region: Some(end),
         depth,
     };
-    match next_found(source, text, body, octet, around, limits, place, meter) {
+    match next_typed_value(source, text, body, octet, around, limits, place, meter) {
         Err(fault) => Err(fault),
         Ok(found) => Ok((found, place)),
     }
@@ -82,37 +82,37 @@ fn next_inner<I: Input, A: Allocator + Copy>(
 // An annotation wrapper and its value, behind its descriptor octet.
 fn next_annotated<I: Input, A: Allocator + Copy>(
     source: &mut Source<I, A>,
-    notes: &mut Stack<Annotation, A>,
+    annotations: &mut Stack<Annotation, A>,
     text: &mut Buf<A>,
     body: &mut Body,
-    low: u8,
+    length_code: u8,
     region: Option<u64>,
     depth: u32,
     limits: Limits,
     place: u64,
     meter: &mut Meter<A>,
-) -> Result<(Found, u64), Fault>
+) -> Result<(TypedValue, u64), Fault>
     requires can_read { CanRead limits (2 * limits.scalar) source.old text.old meter.old }
-    requires low { low < 15 }
-    requires none { notes.old ≡ [] }
-    ensures gives { I.tells source.old.device → (frames : List Frame) (top : ℕ)
+    requires length_code { length_code < 15 }
+    requires none { annotations.old ≡ [] }
+    ensures gives { I.observable source.old.device → (frames : List Frame) (top : ℕ)
         (f : Option SymbolAt) → region_of frames ≡ region → length frames ≡ depth
-        → GivesStep frames top f (as_notes notes.new) text.new body.new result
+        → GivesStep frames top f (as_annotations annotations.new) text.new body.new result
         (cursor I.Input source.new)
-        (annotated_at limits frames top f place low (cursor I.Input source.old)) }
-    ensures range { (place : ℕ) → result ≡ Ok (Found.Scalar, place)
+        (annotated_at limits frames top f place length_code (cursor I.Input source.old)) }
+    ensures range { (place : ℕ) → result ≡ Ok (TypedValue.Scalar, place)
         → InRange (as_scalar text.new body.new) }
     ensures deep { (kind : kinds.Kind) (last place : ℕ)
-        → result ≡ Ok (Found.Container kind last, place) → depth < limits.depth }
-    ensures no_marker { (place : ℕ) → result ≢ Ok (Found.Marker, place) }
+        → result ≡ Ok (TypedValue.Container kind last, place) → depth < limits.depth }
+    ensures no_marker { (place : ℕ) → result ≢ Ok (TypedValue.Marker, place) }
     ensures reads { ReadsValue I.Input limits source.old source.new meter.old meter.new
-        text.old text.new notes.new result }
+        text.old text.new annotations.new result }
 {
-    let wrapper = match next_wrapper(source, low, region, place) {
+    let wrapper = match next_wrapper(source, length_code, region, place) {
         Err(fault) => return Err(fault),
         Ok(wrapper) => wrapper,
     };
-    if let Err(fault) = next_notes(source, notes, wrapper.ids, limits, meter) {
+    if let Err(fault) = next_annotations(source, annotations, wrapper.ids, limits, meter) {
         return Err(fault);
     }
     next_inner(source, text, body, wrapper.end, depth, limits, meter)
@@ -120,43 +120,43 @@ fn next_annotated<I: Input, A: Allocator + Copy>(
 
 /// A value behind its field: what it is, and the place of its first octet behind its annotations.
 ///
-/// Its annotations are put into `notes`, a scalar into `body`, and the bytes of a string or lob into
-/// `text`.
+/// Its annotations are put into `annotations`, a scalar into `body`, and the bytes of a string or
+/// lob into `text`.
 #[inline(always)]
 pub(crate) fn next_value<I: Input, A: Allocator + Copy>(
     source: &mut Source<I, A>,
-    notes: &mut Stack<Annotation, A>,
+    annotations: &mut Stack<Annotation, A>,
     text: &mut Buf<A>,
     body: &mut Body,
     region: Option<u64>,
     depth: u32,
     limits: Limits,
     meter: &mut Meter<A>,
-) -> Result<(Found, u64), Fault>
+) -> Result<(TypedValue, u64), Fault>
     requires can_read { CanRead limits (2 * limits.scalar) source.old text.old meter.old }
-    requires none { notes.old ≡ [] }
-    ensures gives { I.tells source.old.device → (frames : List Frame) (top : ℕ)
+    requires none { annotations.old ≡ [] }
+    ensures gives { I.observable source.old.device → (frames : List Frame) (top : ℕ)
         (f : Option SymbolAt) → region_of frames ≡ region → length frames ≡ depth
-        → GivesStep frames top f (as_notes notes.new) text.new body.new result
+        → GivesStep frames top f (as_annotations annotations.new) text.new body.new result
         (cursor I.Input source.new)
         (value_at limits frames top f (cursor I.Input source.old)) }
-    ensures range { (place : ℕ) → result ≡ Ok (Found.Scalar, place)
+    ensures range { (place : ℕ) → result ≡ Ok (TypedValue.Scalar, place)
         → InRange (as_scalar text.new body.new) }
     ensures deep { (kind : kinds.Kind) (last place : ℕ)
-        → result ≡ Ok (Found.Container kind last, place) → depth < limits.depth }
-    ensures marker { (place : ℕ) → result ≡ Ok (Found.Marker, place)
-        → (region ≡ None) × (notes.new ≡ []) }
+        → result ≡ Ok (TypedValue.Container kind last, place) → depth < limits.depth }
+    ensures marker { (place : ℕ) → result ≡ Ok (TypedValue.Marker, place)
+        → (region ≡ None) × (annotations.new ≡ []) }
     ensures reads { ReadsValue I.Input limits source.old source.new meter.old meter.new
-        text.old text.new notes.new result }
+        text.old text.new annotations.new result }
 {
     let place = source.place();
     let octet = match next_octet(source, region, place) {
         Err(fault) => return Err(fault),
         Ok(octet) => octet,
     };
-    if let Some(low) = wrapper_low(octet) {
+    if let Some(length_code) = wrapper_length_code(octet) {
         return next_annotated(
-            source, notes, text, body, low, region, depth, limits, place, meter,
+            source, annotations, text, body, length_code, region, depth, limits, place, meter,
         );
     }
     let around = Around {
@@ -164,7 +164,7 @@ pub(crate) fn next_value<I: Input, A: Allocator + Copy>(
         region,
         depth,
     };
-    match next_found(source, text, body, octet, around, limits, place, meter) {
+    match next_typed_value(source, text, body, octet, around, limits, place, meter) {
         Err(fault) => Err(fault),
         Ok(found) => Ok((found, place)),
     }

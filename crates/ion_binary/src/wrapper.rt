@@ -7,7 +7,7 @@ ghost use Rattle.ion_binary.specs.Reading.{wrapper_at, ids_at, field_at};
 ghost use Rattle.ion_meter.specs.Sources.{cursor, Stands};
 ghost use Rattle.ion_value.specs.Answers.{AnswersAt};
 ghost use Rattle.ion_binary.specs.Calls.{AnswersBy, CanRead, Reads, ReadsInto};
-ghost use Rattle.ion_binary.specs.Wrappers.{as_wrapped, as_notes, as_field, innermost};
+ghost use Rattle.ion_binary.specs.Wrappers.{as_wrapped, as_annotations, as_field, innermost};
 
 use crate::body::id_of;
 use crate::octets::{next_length, next_var_uint};
@@ -78,7 +78,7 @@ pub(crate) fn next_field<I: Input, A: Allocator + Copy>(
     }
 }
 
-// Whether so many octets from a place on pass the region's end.
+// Whether n octets from a place on pass the region's end.
 #[inline]
 fn passes_end(region: Option<u64>, here: u64, count: u64) -> bool
     requires { here + count < 2 ^ 64 }
@@ -104,17 +104,17 @@ fn is_no_wrapper(count: u64, ids: u64, behind: u64, end: u64) -> bool
 /// than three octets, no annotation, or no octet for a value.
 pub(crate) fn next_wrapper<I: Input, A: Allocator + Copy>(
     source: &mut Source<I, A>,
-    low: u8,
+    length_code: u8,
     region: Option<u64>,
     place: u64,
 ) -> Result<Wrapper, Fault>
     requires stands { Stands source.old }
-    requires low { low < 15 }
+    requires length_code { length_code < 15 }
     ensures gives { AnswersBy I.Input as_wrapped source.old source.new place result
-        (wrapper_at region low) }
+        (wrapper_at region length_code) }
     ensures reads { Reads I.Input source.old source.new result }
 {
-    let count = match next_length(source, low, region, place) {
+    let count = match next_length(source, length_code, region, place) {
         Err(fault) => return Err(fault),
         Ok(count) => count,
     };
@@ -141,19 +141,20 @@ pub(crate) fn next_wrapper<I: Input, A: Allocator + Copy>(
 ///
 /// Each annotation is a part by itself. It answers `AnnotationLimit` at the one that passes the
 /// limit, each counting 16, and so never holds more than `limits.scalar`.
-pub(crate) fn next_notes<I: Input, A: Allocator + Copy>(
+pub(crate) fn next_annotations<I: Input, A: Allocator + Copy>(
     source: &mut Source<I, A>,
-    notes: &mut Stack<Annotation, A>,
+    annotations: &mut Stack<Annotation, A>,
     end: u64,
     limits: Limits,
     meter: &mut Meter<A>,
 ) -> Result<(), Fault>
     requires can_read { CanRead limits limits.scalar source.old [] meter.old }
-    requires none { notes.old ≡ [] }
-    ensures gives { I.tells source.old.device → AnswersAt (λ _. as_notes notes.new) result
+    requires none { annotations.old ≡ [] }
+    ensures gives { I.observable source.old.device
+        → AnswersAt (λ _. as_annotations annotations.new) result
         (cursor I.Input source.new) (ids_at end limits end 0 (cursor I.Input source.old)) }
     ensures reads { ReadsInto I.Input source.old source.new meter.old meter.new
-        0 (16 * length notes.new) limits.scalar result }
+        0 (16 * length annotations.new) limits.scalar result }
 {
     while source.place() < end {
         let place = source.place();
@@ -161,10 +162,10 @@ pub(crate) fn next_notes<I: Input, A: Allocator + Copy>(
             Err(fault) => return Err(fault),
             Ok(id) => id_of(id),
         };
-        if limits.scalar < 16 * (notes.as_slice().len() as u64 + 1) {
+        if limits.scalar < 16 * (annotations.as_slice().len() as u64 + 1) {
             return Err(Fault::Refused(Reason::AnnotationLimit, place));
         }
-        if let Err((_, fault)) = notes.push(meter, Annotation::Id { id, place }) {
+        if let Err((_, fault)) = annotations.push(meter, Annotation::Id { id, place }) {
             return Err(fault);
         }
     }

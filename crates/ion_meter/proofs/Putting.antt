@@ -2,27 +2,27 @@
 use Rattle.std.proofs.Common.{subst, ◌≡◌, ℕ, ◌+◌, ◌-◌, ◌↔◌, List, [], ◌++◌, length, take, drop, sym, ap, ◌∙◌, append_assoc, append-nil, None, Result, Ok, Err, arith}
 use Rattle.ion_meter.specs.declared.fault.Fault.{Fault}
 use Rattle.std.proofs.lemmas.List.{take-append-drop}
-use Rattle.ion_meter.specs.Windows.{Outgoing, so_far, BeginsWith, Puts}
+use Rattle.ion_meter.specs.Windows.{Outgoing, so_far, HasPrefix, Puts}
 use Rattle.ion_meter.specs.Sinks.{HasPut}
 use Rattle.ion_meter.proofs.Written.{written_part}
 
 -- nothing was put
-pub Puts-nothing : {O : Type 0} (written : O → List ℕ) (tells : O → Type 0) (s : Outgoing O) → Puts written tells s s []
-Puts-nothing written tells s = record {
-  still_tells = (λ t. t, λ t. t);
+pub Puts-nothing : {O : Type 0} (written : O → List ℕ) (observable : O → Type 0) (s : Outgoing O) → Puts written observable s s []
+Puts-nothing written observable s = record {
+  still_observable = (λ t. t, λ t. t);
   grown = λ _. ([], sym (append-nil (written s.device)));
-  front = λ _. (s.pending, append-nil (so_far written s));
+  prefix = λ _. (s.pending, append-nil (so_far written s));
 }
 
--- a window that took a front of the bytes, and then failed
-pub Puts-after : {O : Type 0} (written : O → List ℕ) (tells : O → Type 0) (s m u : Outgoing O) (bytes : List ℕ) (at : ℕ)
-    → (tells m.device ↔ tells s.device) → (tells s.device → BeginsWith (written m.device) (written s.device))
-    → (tells s.device → so_far written m ≡ so_far written s ++ take at bytes) → Puts written tells m u [] → Puts written tells s u bytes
-Puts-after written tells s m u bytes at same grown taken p = record {
-  still_tells = (λ t. same.0 (p.still_tells.0 t), λ t. p.still_tells.1 (same.1 t));
+-- a window that took a prefix of the bytes, and then failed
+pub Puts-after : {O : Type 0} (written : O → List ℕ) (observable : O → Type 0) (s m u : Outgoing O) (bytes : List ℕ) (at : ℕ)
+    → (observable m.device ↔ observable s.device) → (observable s.device → HasPrefix (written m.device) (written s.device))
+    → (observable s.device → so_far written m ≡ so_far written s ++ take at bytes) → Puts written observable m u [] → Puts written observable s u bytes
+Puts-after written observable s m u bytes at same grown taken p = record {
+  still_observable = (λ t. same.0 (p.still_observable.0 t), λ t. p.still_observable.1 (same.1 t));
   grown = λ t. let a = grown t in let b = p.grown (same.1 t) in (a.0 ++ b.0, b.1 ∙ (ap (λ (l : List ℕ). l ++ b.0) a.1 ∙ append_assoc (written s.device) a.0 b.0));
-  front = λ t.
-      let f = p.front (same.1 t) in (
+  prefix = λ t.
+      let f = p.prefix (same.1 t) in (
         f.0 ++ drop at bytes,
         ap (λ (l : List ℕ). so_far written s ++ l) (sym (take-append-drop at bytes))
             ∙ (sym (append_assoc (so_far written s) (take at bytes) (drop at bytes))
@@ -41,81 +41,81 @@ taken_part written s l m u bytes at n p q d e =
     (ap (λ (x : List ℕ). written u.device ++ x) e ∙ (ap (λ x. written x ++ (m.pending ++ next)) d ∙ sym (append_assoc (written m.device) m.pending next)))
 
 -- the window took all of the bytes
-pub Puts-taken : {O : Type 0} (written : O → List ℕ) (tells : O → Type 0) (s u : Outgoing O) (bytes : List ℕ)
-    → u.device ≡ s.device → u.pending ≡ s.pending ++ bytes → Puts written tells s u bytes
-Puts-taken written tells s u bytes d e = record {
-  still_tells = (λ t. subst tells d t, λ t. subst tells (sym d) t);
+pub Puts-taken : {O : Type 0} (written : O → List ℕ) (observable : O → Type 0) (s u : Outgoing O) (bytes : List ℕ)
+    → u.device ≡ s.device → u.pending ≡ s.pending ++ bytes → Puts written observable s u bytes
+Puts-taken written observable s u bytes d e = record {
+  still_observable = (λ t. subst observable d t, λ t. subst observable (sym d) t);
   grown = λ _. ([], ap written d ∙ sym (append-nil (written s.device)));
-  front = λ _. (s.pending ++ bytes, append_assoc (written s.device) s.pending bytes ∙ ap (λ x. written x ++ (s.pending ++ bytes)) (sym d));
+  prefix = λ _. (s.pending ++ bytes, append_assoc (written s.device) s.pending bytes ∙ ap (λ x. written x ++ (s.pending ++ bytes)) (sym d));
 }
 
 -- more bytes might have been put
-pub Puts-longer : {O : Type 0} (written : O → List ℕ) (tells : O → Type 0) (s u : Outgoing O) (xs ys : List ℕ) → Puts written tells s u xs → Puts written tells s u (xs ++ ys)
-Puts-longer written tells s u xs ys p = record {
-  still_tells = p.still_tells;
+pub Puts-longer : {O : Type 0} (written : O → List ℕ) (observable : O → Type 0) (s u : Outgoing O) (xs ys : List ℕ) → Puts written observable s u xs → Puts written observable s u (xs ++ ys)
+Puts-longer written observable s u xs ys p = record {
+  still_observable = p.still_observable;
   grown = p.grown;
-  front = λ t.
-      let f = p.front t in
+  prefix = λ t.
+      let f = p.prefix t in
       (f.0 ++ ys, sym (append_assoc (so_far written s) xs ys) ∙ (ap (λ (l : List ℕ). l ++ ys) f.1 ∙ append_assoc (written u.device) f.0 ys));
 }
 
 -- ---- calls that put bytes
 
 -- some bytes were put, and then others
-pub Puts-then : {O : Type 0} (written : O → List ℕ) (tells : O → Type 0) (s m u : Outgoing O) (xs ys : List ℕ)
-    → Puts written tells s m xs → (tells s.device → so_far written m ≡ so_far written s ++ xs) → Puts written tells m u ys → Puts written tells s u (xs ++ ys)
-Puts-then written tells s m u xs ys p whole q = record {
-  still_tells = (λ t. p.still_tells.0 (q.still_tells.0 t), λ t. q.still_tells.1 (p.still_tells.1 t));
+pub Puts-then : {O : Type 0} (written : O → List ℕ) (observable : O → Type 0) (s m u : Outgoing O) (xs ys : List ℕ)
+    → Puts written observable s m xs → (observable s.device → so_far written m ≡ so_far written s ++ xs) → Puts written observable m u ys → Puts written observable s u (xs ++ ys)
+Puts-then written observable s m u xs ys p whole q = record {
+  still_observable = (λ t. p.still_observable.0 (q.still_observable.0 t), λ t. q.still_observable.1 (p.still_observable.1 t));
   grown = λ t.
-      let a = p.grown t in let b = q.grown (p.still_tells.1 t) in
+      let a = p.grown t in let b = q.grown (p.still_observable.1 t) in
       (a.0 ++ b.0, b.1 ∙ (ap (λ (l : List ℕ). l ++ b.0) a.1 ∙ append_assoc (written s.device) a.0 b.0));
-  front = λ t.
-      let f = q.front (p.still_tells.1 t) in
+  prefix = λ t.
+      let f = q.prefix (p.still_observable.1 t) in
       (f.0, sym (append_assoc (so_far written s) xs ys) ∙ (ap (λ (l : List ℕ). l ++ ys) (sym (whole t)) ∙ f.1));
 }
 
 -- nothing is put
-pub put_nothing : {O T : Type 0} (written : O → List ℕ) (tells : O → Type 0) (failures : O → ℕ) {s : Outgoing O} (x : T) → s.fault ≡ None → HasPut {T = T} written tells failures s s (Ok x) []
-put_nothing written tells failures {s} x e = record {
+pub put_nothing : {O T : Type 0} (written : O → List ℕ) (observable : O → Type 0) (failures : O → ℕ) {s : Outgoing O} (x : T) → s.fault ≡ None → HasPut {T = T} written observable failures s s (Ok x) []
+put_nothing written observable failures {s} x e = record {
   whole = λ _. sym (append-nil (so_far written s));
   well = e;
-  part = Puts-nothing written tells s;
+  part = Puts-nothing written observable s;
   cause = _;
   count = omega arith;
 }
 
 -- the first part fails
-cut : {O T : Type 0} (written : O → List ℕ) (tells : O → Type 0) (failures : O → ℕ) (s u : Outgoing O) (f : Fault) (first : Result T Fault) (xs ys : List ℕ)
-    → first ≡ Err f → HasPut {T = T} written tells failures s u first xs → HasPut {T = T} written tells failures s u (Err f) (xs ++ ys)
-cut written tells failures s u f (Ok x) xs ys e p = absurd (cc e)
-cut {T} written tells failures s u f (Err g) xs ys e p =
-    rw (sym e) record { whole = _; well = _; part = Puts-longer written tells s u xs ys p.part; cause = p.cause; count = p.count }
+cut : {O T : Type 0} (written : O → List ℕ) (observable : O → Type 0) (failures : O → ℕ) (s u : Outgoing O) (f : Fault) (first : Result T Fault) (xs ys : List ℕ)
+    → first ≡ Err f → HasPut {T = T} written observable failures s u first xs → HasPut {T = T} written observable failures s u (Err f) (xs ++ ys)
+cut written observable failures s u f (Ok x) xs ys e p = absurd (cc e)
+cut {T} written observable failures s u f (Err g) xs ys e p =
+    rw (sym e) record { whole = _; well = _; part = Puts-longer written observable s u xs ys p.part; cause = p.cause; count = p.count }
 
-pub put_cut : {O T : Type 0} {written : O → List ℕ} {tells : O → Type 0} {failures : O → ℕ} {s u : Outgoing O} {f : Fault} {first : Result T Fault} {xs : List ℕ} (ys : List ℕ)
-    → first ≡ Err f → HasPut {T = T} written tells failures s u first xs → HasPut {T = T} written tells failures s u (Err f) (xs ++ ys)
+pub put_cut : {O T : Type 0} {written : O → List ℕ} {observable : O → Type 0} {failures : O → ℕ} {s u : Outgoing O} {f : Fault} {first : Result T Fault} {xs : List ℕ} (ys : List ℕ)
+    → first ≡ Err f → HasPut {T = T} written observable failures s u first xs → HasPut {T = T} written observable failures s u (Err f) (xs ++ ys)
 put_cut ys e p = cut _ _ _ _ _ _ _ _ ys e p
 
--- the first part is put, and then the other, or a front of it
-then : {O T : Type 0} (written : O → List ℕ) (tells : O → Type 0) (failures : O → ℕ) (s m u : Outgoing O) (x : T) (first result : Result T Fault) (xs ys : List ℕ)
-    → first ≡ Ok x → HasPut {T = T} written tells failures s m first xs → HasPut {T = T} written tells failures m u result ys
-    → HasPut {T = T} written tells failures s u result (xs ++ ys)
-then written tells failures s m u x (Err f) result xs ys e p q = absurd (cc e)
-then written tells failures s m u x (Ok z) (Ok y) xs ys e p q = record {
-  whole = λ t. q.whole (p.part.still_tells.1 t) ∙ (ap (λ (l : List ℕ). l ++ ys) (p.whole t) ∙ append_assoc (so_far written s) xs ys);
+-- the first part is put, and then the other, or a prefix of it
+then : {O T : Type 0} (written : O → List ℕ) (observable : O → Type 0) (failures : O → ℕ) (s m u : Outgoing O) (x : T) (first result : Result T Fault) (xs ys : List ℕ)
+    → first ≡ Ok x → HasPut {T = T} written observable failures s m first xs → HasPut {T = T} written observable failures m u result ys
+    → HasPut {T = T} written observable failures s u result (xs ++ ys)
+then written observable failures s m u x (Err f) result xs ys e p q = absurd (cc e)
+then written observable failures s m u x (Ok z) (Ok y) xs ys e p q = record {
+  whole = λ t. q.whole (p.part.still_observable.1 t) ∙ (ap (λ (l : List ℕ). l ++ ys) (p.whole t) ∙ append_assoc (so_far written s) xs ys);
   well = q.well;
-  part = Puts-then written tells s m u xs ys p.part p.whole q.part;
+  part = Puts-then written observable s m u xs ys p.part p.whole q.part;
   cause = _;
   count = omega (arith, p.count, q.count);
 }
-then written tells failures s m u x (Ok z) (Err f) xs ys e p q = record {
+then written observable failures s m u x (Ok z) (Err f) xs ys e p q = record {
   whole = _;
   well = _;
-  part = Puts-then written tells s m u xs ys p.part p.whole q.part;
+  part = Puts-then written observable s m u xs ys p.part p.whole q.part;
   cause = q.cause;
   count = omega (arith, p.count, q.count);
 }
 
-pub put_then : {O T : Type 0} {written : O → List ℕ} {tells : O → Type 0} {failures : O → ℕ} {s m u : Outgoing O} {x : T} {first result : Result T Fault} {xs ys : List ℕ}
-    → first ≡ Ok x → HasPut {T = T} written tells failures s m first xs → HasPut {T = T} written tells failures m u result ys
-    → HasPut {T = T} written tells failures s u result (xs ++ ys)
+pub put_then : {O T : Type 0} {written : O → List ℕ} {observable : O → Type 0} {failures : O → ℕ} {s m u : Outgoing O} {x : T} {first result : Result T Fault} {xs ys : List ℕ}
+    → first ≡ Ok x → HasPut {T = T} written observable failures s m first xs → HasPut {T = T} written observable failures m u result ys
+    → HasPut {T = T} written observable failures s u result (xs ++ ys)
 put_then e p q = then _ _ _ _ _ _ _ _ _ _ _ e p q

@@ -19,7 +19,7 @@ cursor device s = record { place = s.place; rest = left device.rest s }
 
 -- the input is longer than it may be
 abbrev pub Exceeds : {I : Type 0} → InputOf I → Incoming I → Type 0
-Exceeds device s = device.tells s.device → s.limit < s.place + length (left device.rest s)
+Exceeds device s = device.observable s.device → s.limit < s.place + length (left device.rest s)
 
 -- a source that has not failed, and has not gone past its limit
 pub record Stands {I : Type 0} (s : Incoming I) : Type 0 where
@@ -29,10 +29,10 @@ pub record Stands {I : Type 0} (s : Incoming I) : Type 0 where
 
 -- octets were passed over, or more of the device was read
 pub record Moves {I : Type 0} (device : InputOf I) (old new : Incoming I) : Type 0 where
-  pub still_tells : device.tells new.device ↔ device.tells old.device
+  pub still_observable : device.observable new.device ↔ device.observable old.device
   pub limit : new.limit ≡ old.limit
   pub further : old.place ≤ new.place
-  pub total : device.tells old.device → new.place + length (left device.rest new) ≡ old.place + length (left device.rest old)
+  pub total : device.observable old.device → new.place + length (left device.rest new) ≡ old.place + length (left device.rest old)
 
 -- why a call that takes no memory answers a fault
 pub record Causes (fault : Option Fault) (failures_old failures_new : ℕ) (exceeds : Type 0) : Type 0 where
@@ -44,7 +44,7 @@ pub record Causes (fault : Option Fault) (failures_old failures_new : ℕ) (exce
 
 -- what a call that reads does whatever it answers: nothing is passed over, and a fault is answered again
 pub record Reads {I T : Type 0} (device : InputOf I) (old new : Incoming I) (result : Result T Fault) : Type 0 where
-  pub kept : Extends device.rest device.tells old new
+  pub kept : Extends device.rest device.observable old new
   pub well : OnOk result ((old.fault ≡ None) × (new.fault ≡ None))
   pub fault : IfErr result (λ f. new.fault ≡ Some f)
   pub again : IfSome old.fault (λ f. (result ≡ Err f) × (new ≡ old))

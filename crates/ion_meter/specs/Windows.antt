@@ -29,19 +29,19 @@ lent s = lent_by s.fault (s.limit - s.place) s.buffered
 abbrev pub IsGiven : {I : Type 0} → Incoming I → ℕ → Type 0
 IsGiven s ahead = (ahead < length s.buffered) × (s.place + ahead < s.limit)
 
--- so many bytes are in the window, and within the limit
+-- n bytes are in the window, and within the limit
 abbrev pub CanPass : {I : Type 0} → Incoming I → ℕ → Type 0
 CanPass s count = (count ≤ length s.buffered) × (count ≤ s.limit - s.place)
 
--- more was read: what was in the window stays at its front, and where the device tells its bytes, the bytes from the present place on stay
-pub record Extends {I : Type 0} (rest : I → List ℕ) (tells : I → Type 0) (old new : Incoming I) : Type 0 where
-  pub front : (more : List ℕ) × (new.buffered ≡ old.buffered ++ more)
+-- more was read: what was in the window stays at its front, and where the device's bytes are observable, the bytes from the present place on stay
+pub record Extends {I : Type 0} (rest : I → List ℕ) (observable : I → Type 0) (old new : Incoming I) : Type 0 where
+  pub prefix : (more : List ℕ) × (new.buffered ≡ old.buffered ++ more)
   pub place : new.place ≡ old.place
   pub limit : new.limit ≡ old.limit
-  pub still_tells : tells new.device ↔ tells old.device
-  pub same_left : tells old.device → left rest new ≡ left rest old
+  pub still_observable : observable new.device ↔ observable old.device
+  pub same_left : observable old.device → left rest new ≡ left rest old
 
--- so many bytes were passed over, and nothing else changed
+-- n bytes were passed over, and nothing else changed
 pub record IsPassed {I : Type 0} (old new : Incoming I) (count : ℕ) : Type 0 where
   pub buffered : new.buffered ≡ drop count old.buffered
   pub device : new.device ≡ old.device
@@ -66,15 +66,15 @@ pub record Outgoing (O : Type 0) : Type 0 where
 abbrev pub so_far : {O : Type 0} → (O → List ℕ) → Outgoing O → List ℕ
 so_far written s = written s.device ++ s.pending
 
--- whole begins with front
-abbrev pub BeginsWith : List ℕ → List ℕ → Type 0
-BeginsWith whole front = (more : List ℕ) × (whole ≡ front ++ more)
+-- whole begins with prefix
+abbrev pub HasPrefix : List ℕ → List ℕ → Type 0
+HasPrefix whole prefix = (more : List ℕ) × (whole ≡ prefix ++ more)
 
--- what is written only grows, and is a front of all that was put, these bytes too
-pub record Puts {O : Type 0} (written : O → List ℕ) (tells : O → Type 0) (old new : Outgoing O) (bytes : List ℕ) : Type 0 where
-  pub still_tells : tells new.device ↔ tells old.device
-  pub grown : tells old.device → BeginsWith (written new.device) (written old.device)
-  pub front : tells old.device → BeginsWith (so_far written old ++ bytes) (written new.device)
+-- what is written only grows, and is a prefix of all that was put, these bytes too
+pub record Puts {O : Type 0} (written : O → List ℕ) (observable : O → Type 0) (old new : Outgoing O) (bytes : List ℕ) : Type 0 where
+  pub still_observable : observable new.device ↔ observable old.device
+  pub grown : observable old.device → HasPrefix (written new.device) (written old.device)
+  pub prefix : observable old.device → HasPrefix (so_far written old ++ bytes) (written new.device)
 
 -- one where a window that had not failed answers that its device did
 abbrev pub write_failures_in : {T : Type 0} → Option Fault → Result T Fault → ℕ

@@ -11,14 +11,15 @@ pub struct Broken;
 /// A device that bytes come from.
 ///
 /// Contracts know three things of it: `rest`, the bytes that are left of it; `failure_count`; and
-/// `tells`, whether it tells its bytes, which no call changes. What is said of `rest` holds where
-/// it tells them; that a read gives no more than the slice holds, and the count, hold always.
+/// `observable`, whether its bytes are observable, which no call changes. What is said of `rest`
+/// holds where they are; that a read gives no more than the slice holds, and the count, hold
+/// always.
 pub trait Input {
     ghost rest: { Self → List ℕ };
 
     ghost failure_count: { Self → ℕ };
 
-    ghost tells: { Self → Type 0 };
+    ghost observable: { Self → Type 0 };
 
     /// Reads bytes into the front of the slice and answers how many; none, into a slice that is not
     /// empty, only at the end. After `Err` the rest is as it was and the count is one more.
@@ -28,11 +29,11 @@ pub trait Input {
         ensures count { MatchResult result
             (λ _. failure_count self.new ≡ failure_count self.old)
             (λ _. failure_count self.new ≡ failure_count self.old + 1) }
-        ensures tells { tells self.new ↔ tells self.old }
-        ensures bytes { tells self.old → MatchResult result
+        ensures observable { observable self.new ↔ observable self.old }
+        ensures bytes { observable self.old → MatchResult result
             (λ n. rest self.old ≡ take n into.new ++ rest self.new)
             (λ _. rest self.new ≡ rest self.old) }
-        ensures end { tells self.old → IfOk result
+        ensures end { observable self.old → IfOk result
             (λ n. n ≡ 0 → 0 < length into.new → rest self.old ≡ []) };
 
     /// How often the device has failed.
@@ -43,17 +44,17 @@ pub trait Input {
 /// A device that bytes go to.
 ///
 /// Contracts know three things of it: `written`, the bytes that it has taken; `failure_count`; and
-/// `tells`, whether it tells its bytes, which no call changes. What is said of `written` holds
-/// where it tells them; that a write takes no more than it is given, and the count, hold always.
+/// `observable`, whether its bytes are observable, which no call changes. What is said of `written`
+/// holds where they are; that a write takes no more than it is given, and the count, hold always.
 pub trait Output {
     ghost written: { Self → List ℕ };
 
     ghost failure_count: { Self → ℕ };
 
-    ghost tells: { Self → Type 0 };
+    ghost observable: { Self → Type 0 };
 
-    /// Takes a front of the bytes and answers how many. `Err`, and none of bytes that are not empty,
-    /// leave what was written and add one to the count.
+    /// Takes a prefix of the bytes and answers how many. `Err`, and none of bytes that are not
+    /// empty, leave what was written and add one to the count.
     fn write(&mut self, bytes: &[u8]) -> Result<usize, Broken>
         requires { failure_count self.old < 2 ^ 64 - 1 }
         ensures within { IfOk result (λ n. n ≤ length bytes.now) }
@@ -62,8 +63,8 @@ pub trait Output {
         ensures stuck { IfOk result (λ n. n ≡ 0 → 0 < length bytes.now
             → failure_count self.new ≡ failure_count self.old + 1) }
         ensures failed { OnErr result (failure_count self.new ≡ failure_count self.old + 1) }
-        ensures tells { tells self.new ↔ tells self.old }
-        ensures bytes { tells self.old → MatchResult result
+        ensures observable { observable self.new ↔ observable self.old }
+        ensures bytes { observable self.old → MatchResult result
             (λ n. written self.new ≡ written self.old ++ take n bytes.now)
             (λ _. written self.new ≡ written self.old) };
 
@@ -75,13 +76,13 @@ pub trait Output {
 /// Writes all of the bytes. A write that takes nothing is a failure.
 pub(crate) fn write_out<O: Output>(device: &mut O, bytes: &[u8]) -> Result<(), Broken>
     requires { O.failure_count device.old < 2 ^ 64 - 1 }
-    ensures tells { O.tells device.new ↔ O.tells device.old }
+    ensures observable { O.observable device.new ↔ O.observable device.old }
     ensures count { MatchResult result
         (λ _. O.failure_count device.new ≡ O.failure_count device.old)
         (λ _. O.failure_count device.new ≡ O.failure_count device.old + 1) }
-    ensures all { O.tells device.old → OnOk result
+    ensures all { O.observable device.old → OnOk result
         (O.written device.new ≡ O.written device.old ++ bytes.now) }
-    ensures front { O.tells device.old → (n : ℕ)
+    ensures prefix { O.observable device.old → (n : ℕ)
         × (O.written device.new ≡ O.written device.old ++ take n bytes.now) }
 {
     let mut at = 0;

@@ -62,7 +62,7 @@ impl<O: Output, A: Allocator + Copy> Sink<O, A> {
         })
     }
 
-    /// Takes the front of these bytes, as much as there is room for.
+    /// Takes a prefix of these bytes, as much as there is room for.
     #[inline]
     fn take(&mut self, bytes: &[u8]) -> usize
         ensures count { result ≡ min (WINDOW - length self.old.pending) (length bytes.now) }
@@ -79,9 +79,9 @@ impl<O: Output, A: Allocator + Copy> Sink<O, A> {
     /// Writes what was put where the window is full.
     fn make_room(&mut self) -> Result<(), Fault>
         requires { self.old.fault ≡ None }
-        ensures puts { Puts O.written O.tells self.old self.new [] }
+        ensures puts { Puts O.written O.observable self.old self.new [] }
         ensures room { OnOk result (length self.new.pending < WINDOW) }
-        ensures ok { OnOk result (O.tells self.old.device
+        ensures ok { OnOk result (O.observable self.old.device
             → so_far O.written self.new ≡ so_far O.written self.old) }
         ensures well { OnOk result (self.new.fault ≡ None) }
         ensures err { IfErr result (λ f. (f ≡ Fault.WriteFault) × (self.new.fault ≡ Some f)) }
@@ -99,8 +99,9 @@ impl<O: Output, A: Allocator + Copy> Sink<O, A> {
     #[cold]
     #[inline(never)]
     fn put_slowly(&mut self, bytes: &[u8]) -> Result<(), Fault>
-        ensures puts { self.old.fault ≡ None → Puts O.written O.tells self.old self.new bytes.now }
-        ensures ok { OnOk result (O.tells self.old.device
+        ensures puts { self.old.fault ≡ None
+            → Puts O.written O.observable self.old self.new bytes.now }
+        ensures ok { OnOk result (O.observable self.old.device
             → so_far O.written self.new ≡ so_far O.written self.old ++ bytes.now) }
         ensures well { OnOk result ((self.old.fault ≡ None) × (self.new.fault ≡ None)) }
         ensures fault { IfErr result (λ f. self.new.fault ≡ Some f) }
@@ -126,8 +127,9 @@ impl<O: Output, A: Allocator + Copy> Sink<O, A> {
     /// `WriteFault` where the device fails, or takes nothing of bytes that it was given.
     #[inline]
     pub fn put(&mut self, bytes: &[u8]) -> Result<(), Fault>
-        ensures puts { self.old.fault ≡ None → Puts O.written O.tells self.old self.new bytes.now }
-        ensures ok { OnOk result (O.tells self.old.device
+        ensures puts { self.old.fault ≡ None
+            → Puts O.written O.observable self.old self.new bytes.now }
+        ensures ok { OnOk result (O.observable self.old.device
             → so_far O.written self.new ≡ so_far O.written self.old ++ bytes.now) }
         ensures well { OnOk result ((self.old.fault ≡ None) × (self.new.fault ≡ None)) }
         ensures fault { IfErr result (λ f. self.new.fault ≡ Some f) }
@@ -145,11 +147,12 @@ impl<O: Output, A: Allocator + Copy> Sink<O, A> {
 
     /// Writes all that was put.
     ///
-    /// Answers `WriteFault` where the device fails: what was written is then a front of what was put.
+    /// Answers `WriteFault` where the device fails: what was written is then a prefix of what was
+    /// put.
     pub fn flush(&mut self) -> Result<(), Fault>
-        ensures puts { self.old.fault ≡ None → Puts O.written O.tells self.old self.new [] }
+        ensures puts { self.old.fault ≡ None → Puts O.written O.observable self.old self.new [] }
         ensures ok { OnOk result (self.new.pending ≡ []) }
-        ensures all { OnOk result (O.tells self.old.device
+        ensures all { OnOk result (O.observable self.old.device
             → O.written self.new.device ≡ so_far O.written self.old) }
         ensures well { OnOk result ((self.old.fault ≡ None) × (self.new.fault ≡ None)) }
         ensures fault { IfErr result (λ f. self.new.fault ≡ Some f) }

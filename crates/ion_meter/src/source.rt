@@ -55,7 +55,7 @@ impl<I: Input, A: Allocator + Copy> Model for Source<I, A> {
         × (s.fault ≡ None → s.stop ≡ min s.end (s.limit + s.end - s.read))
         × IfSome s.fault (λ _. s.stop ≡ 0)
         × (s.fault ≡ None → I.failure_count s.device < 2 ^ 64 - 1)
-        × (s.ended ≡ true → I.tells s.device → I.rest s.device ≡ []) };
+        × (s.ended ≡ true → I.observable s.device → I.rest s.device ≡ []) };
 }
 
 impl<I: Input, A: Allocator + Copy> Source<I, A> {
@@ -100,7 +100,7 @@ impl<I: Input, A: Allocator + Copy> Source<I, A> {
         requires well { self.old.fault ≡ None }
         requires open { self.old.ended ≡ false }
         requires short { length self.old.buffered < 16 }
-        ensures kept { Extends I.rest I.tells self.old self.new }
+        ensures kept { Extends I.rest I.observable self.old self.new }
         ensures ok { OnOk result (self.new.fault ≡ None) }
         ensures err { IfErr result (λ f. (f ≡ Fault.ReadFault) × (self.new.fault ≡ Some f)) }
         ensures count { MatchResult result
@@ -130,7 +130,7 @@ impl<I: Input, A: Allocator + Copy> Source<I, A> {
     fn reach(&mut self, ahead: usize) -> Result<(), Fault>
         requires well { self.old.fault ≡ None }
         requires near { ahead < 16 }
-        ensures kept { Extends I.rest I.tells self.old self.new }
+        ensures kept { Extends I.rest I.observable self.old self.new }
         ensures ok { OnOk result (self.new.fault ≡ None) }
         ensures stays { self.old.ended ≡ true → self.new ≡ self.old }
         ensures reached { OnOk result ((ahead < length self.new.buffered)
@@ -153,7 +153,7 @@ impl<I: Input, A: Allocator + Copy> Source<I, A> {
         requires { ahead < 16 }
         ensures byte { IfOk result (λ found. IfSome found
             (λ byte. IsGiven self.new ahead × (slice_get self.new.buffered ahead ≡ Some byte))) }
-        ensures gives { I.tells self.old.device
+        ensures gives { I.observable self.old.device
             → IfOk result (λ found. found ≡ slice_get (left I.rest self.old) ahead) }
         ensures ended { IfOk result (λ found. IfNone found (self.new.ended ≡ true)) }
         ensures stays { self.old.ended ≡ true
@@ -162,7 +162,7 @@ impl<I: Input, A: Allocator + Copy> Source<I, A> {
         ensures reads { Reads I.Input self.old self.new result }
         ensures limit { self.old.fault ≡ None → result ≡ Err Fault.InputLimit
             → (self.old.limit ≤ self.old.place + ahead)
-            × (I.tells self.old.device
+            × (I.observable self.old.device
             → self.old.limit < self.old.place + length (left I.rest self.old)) }
     {
         if let Some(fault) = self.fault {
@@ -193,14 +193,14 @@ impl<I: Input, A: Allocator + Copy> Source<I, A> {
             (λ byte. IsGiven self.new ahead × (slice_get self.new.buffered ahead ≡ Some byte))) }
         ensures there { self.old.fault ≡ None → IsGiven self.old ahead
             → (result ≡ Ok (slice_get self.old.buffered ahead)) × (self.new ≡ self.old) }
-        ensures gives { I.tells self.old.device
+        ensures gives { I.observable self.old.device
             → IfOk result (λ found. found ≡ slice_get (left I.rest self.old) ahead) }
         ensures limits { (self.new.place ≤ self.new.limit) × (self.new.limit ≤ 2 ^ 48) }
         ensures ended { IfOk result (λ found. IfNone found (self.new.ended ≡ true)) }
         ensures stays { self.old.ended ≡ true
             → (self.new.buffered ≡ self.old.buffered) × (self.new.device ≡ self.old.device)
             × (self.new.ended ≡ true) }
-        ensures kept { Extends I.rest I.tells self.old self.new }
+        ensures kept { Extends I.rest I.observable self.old self.new }
         ensures well { OnOk result ((self.old.fault ≡ None) × (self.new.fault ≡ None)) }
         ensures fault { IfErr result (λ f. self.new.fault ≡ Some f) }
         ensures again { IfSome self.old.fault (λ f. (result ≡ Err f) × (self.new ≡ self.old)) }
@@ -210,7 +210,7 @@ impl<I: Input, A: Allocator + Copy> Source<I, A> {
             ≡ I.failure_count self.old.device + failures_in self.old.fault result }
         ensures limit { self.old.fault ≡ None → result ≡ Err Fault.InputLimit
             → (self.old.limit ≤ self.old.place + ahead)
-            × (I.tells self.old.device
+            × (I.observable self.old.device
             → self.old.limit < self.old.place + length (left I.rest self.old)) }
     {
         let at = self.start + ahead;
@@ -234,7 +234,7 @@ impl<I: Input, A: Allocator + Copy> Source<I, A> {
         &self.window[self.start..self.stop]
     }
 
-    /// Passes over so many bytes of those that are in the window.
+    /// Passes over n bytes of those that are in the window.
     #[inline]
     pub fn consume(&mut self, count: usize)
         requires { CanPass self.old count }

@@ -6,7 +6,7 @@ use crate::device::{Broken, Input, Output};
 use std::io::{Read, Write};
 use std::marker::Model;
 
-/// A reader as an input. It tells its bytes exactly where the reader's type does: where every
+/// A reader as an input. Its bytes are observable exactly where the reader's are: where every
 /// value of it says what is left to read.
 #[derive(Drop)]
 pub struct FromRead<R: Read> {
@@ -50,7 +50,7 @@ impl<R: Read> Input for FromRead<R> {
 
     ghost failure_count = { λ d. d.failures };
 
-    ghost tells = { λ _. (r : R) → IsSome (R.remaining r) };
+    ghost observable = { λ _. (r : R) → IsSome (R.remaining r) };
 
     fn read(&mut self, into: &mut [u8]) -> Result<usize, Broken> {
         match self.reader.read(into) {
@@ -67,7 +67,7 @@ impl<R: Read> Input for FromRead<R> {
     }
 }
 
-/// A writer as an output. It tells its bytes exactly where the writer's type does: where every
+/// A writer as an output. Its bytes are observable exactly where the writer's are: where every
 /// value of it says what was written.
 #[derive(Drop)]
 pub struct ToWrite<W: Write> {
@@ -111,7 +111,7 @@ impl<W: Write> Output for ToWrite<W> {
 
     ghost failure_count = { λ d. d.failures };
 
-    ghost tells = { λ _. (w : W) → IsSome (W.contents w) };
+    ghost observable = { λ _. (w : W) → IsSome (W.contents w) };
 
     fn write(&mut self, bytes: &[u8]) -> Result<usize, Broken> {
         match self.writer.write(bytes) {

@@ -2,18 +2,18 @@
 use Rattle.std.proofs.Common.{◌≡◌, ℕ, zero, suc, ◌+◌, ◌-◌, ◌<◌, ◌≤◌, true, false, nat_lt, List, [], ◌∷◌, length, slice_get, slice_index_or, Option, None, MatchOption, refl, ap, sym, subst, ◌∙◌, arith, lt-ltb, le-ltb}
 use Rattle.ion_symbols.specs.Table.{Slots, Shared, Table, slot_in, slot_of, import_slot, local_slot, system_slots, import_count, count_of}
 use Rattle.ion_symbols.specs.Present.{Starts, imports_in, slots_at}
-use Rattle.ion_symbols.specs.declared.symbols.Found.{Found}
+use Rattle.ion_symbols.specs.declared.symbols.FoundImport.{FoundImport}
 use Rattle.ion_symbols.proofs.Listed.{got_at}
 
 -- what stands past the last import
-abbrev pub no_import : Found
+abbrev pub no_import : FoundImport
 no_import = record { table = None; start = 0; count = 0 }
 
-abbrev pub start_at : List Found → ℕ → ℕ
+abbrev pub start_at : List FoundImport → ℕ → ℕ
 start_at fs i = (slice_index_or fs i no_import).start
 
 -- the last import that begins at a place or before ends behind it
-pub ends_behind : (from : ℕ) (fs : List Found) (end i place : ℕ) → Starts from fs end → i < length fs → place < end →
+pub ends_behind : (from : ℕ) (fs : List FoundImport) (end i place : ℕ) → Starts from fs end → i < length fs → place < end →
     (suc i < length fs → place < start_at fs (suc i)) → place < start_at fs i + (slice_index_or fs i no_import).count
 ends_behind from [] end i place h k b n = absurd (omega (arith, k))
 ends_behind from (f ∷ []) end zero place h k b n = omega (arith, h.0, h.1, b)
@@ -21,11 +21,11 @@ ends_behind from (f ∷ (g ∷ fs)) end zero place h k b n = let m : place < g.s
 ends_behind from (f ∷ fs) end (suc i) place h k b n = ends_behind (from + f.count) fs end i place h.1 (omega (arith, k)) b (λ u. n (omega (arith, u)))
 
 -- a place is within the import, if there is one
-abbrev pub Within : ℕ → Option Found → Type 0
+abbrev pub Within : ℕ → Option FoundImport → Type 0
 Within place o = MatchOption o ⊥ (λ f. (f.start ≤ place) × (place < f.start + f.count))
 
 -- where the halving ends
-pub halved : (fs : List Found) (low high place end : ℕ) → Starts 0 fs end → place < end → low < high → high ≤ length fs → high - low ≤ 1 →
+pub halved : (fs : List FoundImport) (low high place end : ℕ) → Starts 0 fs end → place < end → low < high → high ≤ length fs → high - low ≤ 1 →
     start_at fs low ≤ place → (high < length fs → place < start_at fs high) → Within place (slice_get fs low)
 halved fs low high place end h b o w s begins above =
     let k : low < length fs = omega (arith, o, w) in
@@ -36,22 +36,22 @@ halved fs low high place end h b o w s begins above =
 -- ---- the slot in it
 
 -- an import begins behind those before it
-later : (from : ℕ) (fs : List Found) (end i : ℕ) → Starts from fs end → i < length fs → from ≤ start_at fs i
+later : (from : ℕ) (fs : List FoundImport) (end i : ℕ) → Starts from fs end → i < length fs → from ≤ start_at fs i
 later from [] end i h k = absurd (omega (arith, k))
 later from (f ∷ fs) end zero h k = omega (arith, h.0)
 later from (f ∷ fs) end (suc i) h k = let r : from + f.count ≤ start_at fs i = later (from + f.count) fs end i h.1 (omega (arith, k)) in omega (arith, r)
 
 -- a place within the first import, and one behind it
-in_first : (catalog : List Shared) (f : Found) (fs : List Found) (locals : Slots) (n : ℕ) → n < f.count →
+in_first : (catalog : List Shared) (f : FoundImport) (fs : List FoundImport) (locals : Slots) (n : ℕ) → n < f.count →
     slot_in (imports_in catalog (f ∷ fs)) locals n ≡ import_slot (slice_get (slots_at catalog f.table) n)
 in_first catalog f fs locals n h = let e : nat_lt n f.count ≡ true = lt-ltb n f.count h in rw e refl
 
-past_first : (catalog : List Shared) (f : Found) (fs : List Found) (locals : Slots) (n : ℕ) → f.count ≤ n →
+past_first : (catalog : List Shared) (f : FoundImport) (fs : List FoundImport) (locals : Slots) (n : ℕ) → f.count ≤ n →
     slot_in (imports_in catalog (f ∷ fs)) locals n ≡ slot_in (imports_in catalog fs) locals (n - f.count)
 past_first catalog f fs locals n h = let e : nat_lt n f.count ≡ false = le-ltb n f.count h in rw e refl
 
 -- the slot at a place is the one of the import that contains it
-pub slot_within : (catalog : List Shared) (locals : Slots) (from : ℕ) (fs : List Found) (end i place : ℕ) → Starts from fs end → i < length fs →
+pub slot_within : (catalog : List Shared) (locals : Slots) (from : ℕ) (fs : List FoundImport) (end i place : ℕ) → Starts from fs end → i < length fs →
     start_at fs i ≤ place → place < start_at fs i + (slice_index_or fs i no_import).count →
     slot_in (imports_in catalog fs) locals (place - from) ≡ import_slot (slice_get (slots_at catalog (slice_index_or fs i no_import).table) (place - start_at fs i))
 slot_within catalog locals from [] end i place h k a b = absurd (omega (arith, k))
@@ -66,18 +66,18 @@ slot_within catalog locals from (f ∷ fs) end (suc i) place h k a b =
     ∙ slot_within catalog locals (from + f.count) fs end i place h.1 (omega (arith, k)) a b)
 
 -- what an answer that a slot is within an import says
-pub is_import : (fs : List Found) (i place : ℕ) → Within place (slice_get fs i) → i < length fs
+pub is_import : (fs : List FoundImport) (i place : ℕ) → Within place (slice_get fs i) → i < length fs
 is_import [] i place w = absurd w
 is_import (f ∷ fs) zero place w = omega arith
 is_import (f ∷ fs) (suc i) place w = let r : i < length fs = is_import fs i place w in omega (arith, r)
 
 -- where a place is within an import, it is at its start or behind, and before its end
-pub within_it : (fs : List Found) (i place : ℕ) → Within place (slice_get fs i) →
+pub within_it : (fs : List FoundImport) (i place : ℕ) → Within place (slice_get fs i) →
     (start_at fs i ≤ place) × (place < start_at fs i + (slice_index_or fs i no_import).count)
 within_it fs i place w = subst (Within place) (got_at no_import fs i (is_import fs i place w)) w
 
 -- the slot at a place of the imports
-pub imported_slot : (catalog : List Shared) (fs : List Found) (end i place : ℕ) (locals : Slots) → Starts 0 fs end → Within place (slice_get fs i) →
+pub imported_slot : (catalog : List Shared) (fs : List FoundImport) (end i place : ℕ) (locals : Slots) → Starts 0 fs end → Within place (slice_get fs i) →
     slot_in (imports_in catalog fs) locals place ≡ import_slot (slice_get (slots_at catalog (slice_index_or fs i no_import).table) (place - start_at fs i))
 imported_slot catalog fs end i place locals h w =
     let e : place ≡ place - 0 = omega arith in
@@ -87,12 +87,12 @@ imported_slot catalog fs end i place locals h w =
 -- ---- behind the imports
 
 -- imports end behind where they begin
-ends_after : (from : ℕ) (fs : List Found) (end : ℕ) → Starts from fs end → from ≤ end
+ends_after : (from : ℕ) (fs : List FoundImport) (end : ℕ) → Starts from fs end → from ≤ end
 ends_after from [] end h = omega (arith, h)
 ends_after from (f ∷ fs) end h = let r : from + f.count ≤ end = ends_after (from + f.count) fs end h.1 in omega (arith, r)
 
 -- a slot behind imports that begin at some place is a local one
-past_all : (catalog : List Shared) (locals : Slots) (from : ℕ) (fs : List Found) (end place : ℕ) → Starts from fs end → end ≤ place →
+past_all : (catalog : List Shared) (locals : Slots) (from : ℕ) (fs : List FoundImport) (end place : ℕ) → Starts from fs end → end ≤ place →
     slot_in (imports_in catalog fs) locals (place - from) ≡ local_slot (slice_get locals (place - end))
 past_all catalog locals from [] end place h b = ap (λ n. local_slot (slice_get locals (place - n))) h
 past_all catalog locals from (f ∷ fs) end place h b =
@@ -102,13 +102,13 @@ past_all catalog locals from (f ∷ fs) end place h b =
     ∙ (ap (slot_in (imports_in catalog fs) locals) e ∙ past_all catalog locals (from + f.count) fs end place h.1 b)
 
 -- how many slots the imports have
-pub counted_imports : (catalog : List Shared) (from : ℕ) (fs : List Found) (end : ℕ) → Starts from fs end → from + import_count (imports_in catalog fs) ≡ end
+pub counted_imports : (catalog : List Shared) (from : ℕ) (fs : List FoundImport) (end : ℕ) → Starts from fs end → from + import_count (imports_in catalog fs) ≡ end
 counted_imports catalog from [] end h = omega (arith, h)
 counted_imports catalog from (f ∷ fs) end h =
     let r : (from + f.count) + import_count (imports_in catalog fs) ≡ end = counted_imports catalog (from + f.count) fs end h.1 in omega (arith, r)
 
 -- a slot behind the imports
-pub past_imports : (catalog : List Shared) (locals : Slots) (fs : List Found) (end place : ℕ) → Starts 0 fs end → end ≤ place →
+pub past_imports : (catalog : List Shared) (locals : Slots) (fs : List FoundImport) (end place : ℕ) → Starts 0 fs end → end ≤ place →
     slot_in (imports_in catalog fs) locals place ≡ local_slot (slice_get locals (place - end))
 past_imports catalog locals fs end place h b =
     let e : place ≡ place - 0 = omega arith in
@@ -124,12 +124,12 @@ user_id t id h = let e : nat_lt id 10 ≡ false = le-ltb id 10 h in rw e refl
 -- ---- a kept table
 
 -- how many slots it has
-pub kept_total : (catalog : List Shared) (fs : List Found) (n : ℕ) (locals : Slots) → Starts 0 fs n →
+pub kept_total : (catalog : List Shared) (fs : List FoundImport) (n : ℕ) (locals : Slots) → Starts 0 fs n →
     n + length locals ≡ count_of (record { imports = imports_in catalog fs; locals = locals })
 kept_total catalog fs n locals h = let k : 0 + import_count (imports_in catalog fs) ≡ n = counted_imports catalog 0 fs n h in omega (arith, k)
 
 -- an id behind its imports
-pub kept_past : (catalog : List Shared) (fs : List Found) (n : ℕ) (locals : Slots) (id : ℕ) → Starts 0 fs n → 10 ≤ id → n ≤ id - 10 →
+pub kept_past : (catalog : List Shared) (fs : List FoundImport) (n : ℕ) (locals : Slots) (id : ℕ) → Starts 0 fs n → 10 ≤ id → n ≤ id - 10 →
     slot_of (record { imports = imports_in catalog fs; locals = locals }) id ≡ local_slot (slice_get locals ((id - 10) - n))
 kept_past catalog fs n locals id h a b =
     user_id (record { imports = imports_in catalog fs; locals = locals }) id a ∙ past_imports catalog locals fs n (id - 10) h b

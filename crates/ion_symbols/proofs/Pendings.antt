@@ -5,13 +5,13 @@ use Rattle.ion_meter.specs.Entries.{Entries}
 use Rattle.ion_symbols.specs.Table.{Table, most_slots, text_length}
 use Rattle.ion_symbols.specs.Present.{Starts}
 use Rattle.ion_symbols.specs.Buffer.{IsPending, is_importing}
-use Rattle.ion_symbols.specs.declared.word.Area.TheVariants as area
-use Rattle.ion_symbols.specs.declared.symbols.Found.{Found}
+use Rattle.ion_symbols.specs.declared.known_text.Area.TheVariants as area
+use Rattle.ion_symbols.specs.declared.symbols.FoundImport.{FoundImport}
 use Rattle.ion_symbols.specs.declared.buffer.SymbolBuffer.{SymbolBuffer}
 use Rattle.ion_symbols.proofs.Keeping.{cost_push}
 
 -- an import that begins where the last one ends
-starts_push : (from : ℕ) (fs : List Found) (end : ℕ) (f : Found) → Starts from fs end → f.start ≡ end → Starts from (fs ++ f ∷ []) (end + f.count)
+starts_push : (from : ℕ) (fs : List FoundImport) (end : ℕ) (f : FoundImport) → Starts from fs end → f.start ≡ end → Starts from (fs ++ f ∷ []) (end + f.count)
 starts_push from [] end f h e = (e ∙ sym h, omega (arith, h))
 starts_push from (g ∷ fs) end f h e = (h.0, starts_push (from + g.count) fs end f h.1 e)
 
@@ -51,7 +51,7 @@ slot_pushed {limit = limit} {old = old} b m n x cost slots p at em es en ec chea
     (slot_pending x (b.cost + cost) n.inside p at (ap (λ k. b.cost + k) ec) cheap few)))
 
 -- an import more, whose name was given back
-pub import_pushed : {A : Type 0} {limit : ℕ} {old : Table} (b : SymbolBuffer A) (imports : Entries Found) (f : Found) (length_was : ℕ) (name : List ℕ)
+pub import_pushed : {A : Type 0} {limit : ℕ} {old : Table} (b : SymbolBuffer A) (imports : Entries FoundImport) (f : FoundImport) (length_was : ℕ) (name : List ℕ)
     → IsPending limit old b → b.area ≡ area.Import → imports.items ≡ b.imports.items ++ f ∷ [] → imports.cost ≡ b.imports.cost → f.start ≡ b.import_slots
     → length_was ≡ length b.name → name ≡ [] → (b.cost - length_was) + 32 ≤ limit → b.count + f.count ≤ most_slots
     → IsPending limit old (record b {

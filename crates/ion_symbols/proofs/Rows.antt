@@ -10,7 +10,7 @@ use Rattle.ion_symbols.specs.Table.{Shared}
 use Rattle.ion_symbols.specs.Users.{users, at_start}
 
 abbrev it : ℕ → Option SymbolAt → List SymbolAt → ℕ → Head SymbolAt → PlacedItem
-it top field notes place head = record { field = field; annotations = notes; head = head; place = place; top = top }
+it top field annotations place head = record { field = field; annotations = annotations; head = head; place = place; top = top }
 
 abbrev text : List ℕ → Symbol
 text t = v.Text t
@@ -51,8 +51,8 @@ appended_past_limit = refl
 appended_within_limit : users [] 34 at_start (More (it 0 None [] 0 (marker)) (More (it 4 None (sym (id 3) 6 ∷ []) 7 (begin kind.Struct)) (More (it 4 (Some (sym (id 7) 8)) [] 9 (begin kind.List)) (More (it 4 None [] 10 (str_head (codes "a"))) (More (it 4 None [] 12 (v.end)) (More (it 4 (Some (sym (id 6) 12)) [] 13 (sym_head (sym (id 3) 13))) (More (it 4 None [] 15 (v.end)) (More (it 15 None (sym (id 3) 17 ∷ []) 18 (begin kind.Struct)) (More (it 15 (Some (sym (id 7) 19)) [] 20 (begin kind.List)) (More (it 15 None [] 21 (str_head (codes "b"))) (More (it 15 None [] 23 (v.end)) (More (it 15 (Some (sym (id 6) 23)) [] 24 (sym_head (sym (id 3) 24))) (More (it 15 None [] 26 (v.end)) (More (it 26 None [] 26 (sym_head (sym (id 10) 26))) (More (it 28 None [] 28 (sym_head (sym (id 11) 28))) (Finished)))))))))))))))) ≡ (More (it 26 None [] 26 (sym_head (sym (text (codes "a")) 26))) (More (it 28 None [] 28 (sym_head (sym (text (codes "b")) 28))) (Finished)))
 appended_within_limit = refl
 
-field_before_pad : users [] 1048576 at_start (More (it 0 None [] 0 (marker)) (More (it 4 None [] 4 (begin kind.Struct)) (More (it 4 (Some (sym (id 4) 8)) [] 9 (other_head)) (More (it 4 None [] 10 (v.end)) (Finished))))) ≡ (More (it 4 None [] 4 (begin kind.Struct)) (More (it 4 (Some (sym (text (codes "name")) 8)) [] 9 (other_head)) (More (it 4 None [] 10 (v.end)) (Finished))))
-field_before_pad = refl
+field_before_nop_pad : users [] 1048576 at_start (More (it 0 None [] 0 (marker)) (More (it 4 None [] 4 (begin kind.Struct)) (More (it 4 (Some (sym (id 4) 8)) [] 9 (other_head)) (More (it 4 None [] 10 (v.end)) (Finished))))) ≡ (More (it 4 None [] 4 (begin kind.Struct)) (More (it 4 (Some (sym (text (codes "name")) 8)) [] 9 (other_head)) (More (it 4 None [] 10 (v.end)) (Finished))))
+field_before_nop_pad = refl
 
 field_above : users [] 1048576 at_start (More (it 0 None [] 0 (begin kind.Struct)) (More (it 0 (Some (sym (id 99) 1)) [] 5 (int_head false 1)) (More (it 0 None [] 6 (v.end)) (Finished)))) ≡ (More (it 0 None [] 0 (begin kind.Struct)) (Stopped reasons.BadSymbol 1))
 field_above = refl
@@ -108,8 +108,8 @@ element_container = refl
 element_content : users [] 1048576 at_start (More (it 0 None (sym (text (codes "$ion_symbol_table")) 0 ∷ []) 19 (begin kind.Struct)) (More (it 0 (Some (sym (text (codes "symbols")) 20)) [] 28 (begin kind.List)) (More (it 0 None [] 29 (begin kind.List)) (More (it 0 None [] 30 (sym_head (sym (id 11) 30))) (More (it 0 None [] 33 (v.end)) (More (it 0 None [] 34 (v.end)) (More (it 0 None [] 35 (v.end)) (More (it 37 None [] 37 (sym_head (sym (id 10) 37))) (Finished))))))))) ≡ (Stopped reasons.BadSymbol 30)
 element_content = refl
 
-meaningless_list : users [] 1024 at_start (More (it 0 None (sym (text (codes "$ion_symbol_table")) 0 ∷ []) 19 (begin kind.Struct)) (More (it 0 (Some (sym (text (codes "name")) 20)) [] 25 (begin kind.List)) (More (it 0 None [] 26 (int_head false 5)) (More (it 0 None [] 28 (int_head false 5)) (More (it 0 None [] 30 (int_head false 5)) (More (it 0 None [] 32 (begin kind.List)) (More (it 0 None [] 33 (int_head false 5)) (More (it 0 None [] 34 (v.end)) (More (it 0 None [] 35 (v.end)) (More (it 0 (Some (sym (text (codes "symbols")) 37)) [] 45 (begin kind.List)) (More (it 0 None [] 46 (str_head (codes "a"))) (More (it 0 None [] 49 (v.end)) (More (it 0 None [] 50 (v.end)) (More (it 52 None [] 52 (sym_head (sym (id 10) 52))) (Finished))))))))))))))) ≡ (More (it 52 None [] 52 (sym_head (sym (text (codes "a")) 52))) (Finished))
-meaningless_list = refl
+ignored_list : users [] 1024 at_start (More (it 0 None (sym (text (codes "$ion_symbol_table")) 0 ∷ []) 19 (begin kind.Struct)) (More (it 0 (Some (sym (text (codes "name")) 20)) [] 25 (begin kind.List)) (More (it 0 None [] 26 (int_head false 5)) (More (it 0 None [] 28 (int_head false 5)) (More (it 0 None [] 30 (int_head false 5)) (More (it 0 None [] 32 (begin kind.List)) (More (it 0 None [] 33 (int_head false 5)) (More (it 0 None [] 34 (v.end)) (More (it 0 None [] 35 (v.end)) (More (it 0 (Some (sym (text (codes "symbols")) 37)) [] 45 (begin kind.List)) (More (it 0 None [] 46 (str_head (codes "a"))) (More (it 0 None [] 49 (v.end)) (More (it 0 None [] 50 (v.end)) (More (it 52 None [] 52 (sym_head (sym (id 10) 52))) (Finished))))))))))))))) ≡ (More (it 52 None [] 52 (sym_head (sym (text (codes "a")) 52))) (Finished))
+ignored_list = refl
 
 own_annotations : users [] 1048576 at_start (More (it 0 None (sym (text (codes "$ion_symbol_table")) 0 ∷ []) 19 (begin kind.Struct)) (More (it 0 (Some (sym (text (codes "imports")) 20)) [] 28 (begin kind.List)) (More (it 0 None [] 29 (begin kind.Struct)) (More (it 0 (Some (sym (text (codes "name")) 30)) [] 35 (str_head (codes "x"))) (More (it 0 (Some (sym (text (codes "max_id")) 39)) [] 46 (int_head false 4)) (More (it 0 None [] 47 (v.end)) (More (it 0 None [] 48 (v.end)) (More (it 0 None [] 49 (v.end)) (More (it 51 None (sym (text (codes "$ion_symbol_table")) 51 ∷ sym (id 13) 70 ∷ []) 75 (begin kind.Struct)) (More (it 51 (Some (sym (text (codes "symbols")) 76)) [] 84 (begin kind.List)) (More (it 51 None [] 85 (str_head (codes "e"))) (More (it 51 None [] 88 (v.end)) (More (it 51 None [] 89 (v.end)) (More (it 91 None [] 91 (sym_head (sym (id 10) 91))) (Finished))))))))))))))) ≡ (More (it 91 None [] 91 (sym_head (sym (text (codes "e")) 91))) (Finished))
 own_annotations = refl

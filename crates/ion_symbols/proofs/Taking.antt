@@ -9,7 +9,7 @@ use Rattle.ion_symbols.specs.Table.{Slots, Shared, Import, Table, slots_cost, ta
 use Rattle.ion_symbols.specs.Present.{Present, with_locals, imports_in}
 use Rattle.ion_symbols.specs.Buffer.{IsPending, own_of, if_kept}
 use Rattle.ion_symbols.specs.Kept.{IsUndone}
-use Rattle.ion_symbols.specs.declared.symbols.Found.{Found}
+use Rattle.ion_symbols.specs.declared.symbols.FoundImport.{FoundImport}
 use Rattle.ion_symbols.specs.declared.buffer.SymbolBuffer.{SymbolBuffer}
 use Rattle.ion_symbols.proofs.Keeping.{cost_append}
 

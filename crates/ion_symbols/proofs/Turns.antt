@@ -11,20 +11,20 @@ use Rattle.ion_value.specs.Value as value
 use Rattle.ion_value.specs.Value.{SymbolAt, Scalar, Head, PlacedItem}
 use Rattle.ion_value.specs.Reading.{Reading, Stopped, More}
 use Rattle.ion_value.specs.Standing.{open_after}
-use Rattle.ion_symbols.specs.declared.word.Word.{Word}
-use Rattle.ion_symbols.specs.declared.word.Word.TheVariants as word
-use Rattle.ion_symbols.specs.declared.word.Area.{Area}
-use Rattle.ion_symbols.specs.declared.word.Area.TheVariants as area
+use Rattle.ion_symbols.specs.declared.known_text.Word.{Word}
+use Rattle.ion_symbols.specs.declared.known_text.Word.TheVariants as word
+use Rattle.ion_symbols.specs.declared.known_text.Area.{Area}
+use Rattle.ion_symbols.specs.declared.known_text.Area.TheVariants as area
 use Rattle.ion_symbols.specs.Table.{Shared, Table, text_at}
-use Rattle.ion_symbols.specs.Declaration.{What, begins, ends, other, string, int, names, Told, Pending, Declaring, Ground, Turn, on, made, stop, Held, held, at, passed, is_end, head_told, scalar_told, told, turn, turn_at, area_turn, field_turn, field_value, field_met, element_turn, with_slot, imports_turn, part_turn, part_value, part_met, import_ended, next, keeping, text_told, versioned, version_told, cut_to, max_told, named}
+use Rattle.ion_symbols.specs.Declaration.{FieldValue, begins, ends, other, string, int, names, ItemView, Pending, Declaring, Ground, Turn, on, made, stop, Held, then_turn, at, skip_ignored, is_end, head_view, scalar_view, item_view, turn, turn_at, area_turn, field_turn, field_value, field_met, element_turn, with_slot, imports_turn, part_turn, part_value, part_met, import_ended, next, keeping, string_in, versioned, version_in, cut_to, max_id_in, with_import_name}
 use Rattle.ion_symbols.specs.Users.{Checked, fine, bad, plain, declaring, checked, users}
 use Rattle.ion_symbols.specs.User.{CheckedAs}
 use Rattle.ion_symbols.specs.Buffer.{TurnAs, area_depth, depth_of}
 
 -- ---- depths
 
--- how many containers are open behind what was told
-abbrev pub depth_after : ℕ → What → ℕ
+-- how many containers are open behind an item
+abbrev pub depth_after : ℕ → FieldValue → ℕ
 depth_after n (begins kind) = n + 1
 depth_after n ends = n - 1
 depth_after n other = n
@@ -33,13 +33,13 @@ depth_after n (int negative magnitude) = n
 depth_after n (names w) = n
 
 -- what a turn says of the depth: it goes on at the depth behind the item, or ends at an end at depth 1
-abbrev pub DepthAs : ℕ → What → Turn → Type 0
+abbrev pub DepthAs : ℕ → FieldValue → Turn → Type 0
 DepthAs n what (on e) = depth_of e ≡ depth_after n what
 DepthAs n what (made u) = (n ≡ 1) × (what ≡ ends)
 DepthAs n what (stop reason place) = Unit {0}
 
--- what is told as an end is an end
-is_end-true : (what : What) → is_end what ≡ true → what ≡ ends
+-- what is seen as an end is an end
+is_end-true : (what : FieldValue) → is_end what ≡ true → what ≡ ends
 is_end-true (begins kind) e = cc
 is_end-true ends e = refl
 is_end-true other e = cc
@@ -47,17 +47,17 @@ is_end-true (string t) e = cc
 is_end-true (int negative magnitude) e = cc
 is_end-true (names w) e = cc
 
--- what means nothing is passed over: the depth moves by it, but for an end where nothing is open
-passed-depth : (what : What) (d : Declaring) → is_end what ≡ false → DepthAs (depth_of d) what (on (passed what d))
-passed-depth (begins kind) d e = omega arith
-passed-depth ends d e = cc
-passed-depth other d e = refl
-passed-depth (string t) d e = refl
-passed-depth (int negative magnitude) d e = refl
-passed-depth (names w) d e = refl
+-- what is ignored is passed over: the depth moves by it, but for an end where nothing is open
+skip_ignored-depth : (what : FieldValue) (d : Declaring) → is_end what ≡ false → DepthAs (depth_of d) what (on (skip_ignored what d))
+skip_ignored-depth (begins kind) d e = omega arith
+skip_ignored-depth ends d e = cc
+skip_ignored-depth other d e = refl
+skip_ignored-depth (string t) d e = refl
+skip_ignored-depth (int negative magnitude) d e = refl
+skip_ignored-depth (names w) d e = refl
 
--- and inside of what means nothing also by an end
-inside-depth : (what : What) (d : Declaring) (n : ℕ) → d.inside ≡ suc n → DepthAs (depth_of d) what (on (passed what d))
+-- and inside of what is ignored also by an end
+inside-depth : (what : FieldValue) (d : Declaring) (n : ℕ) → d.inside ≡ suc n → DepthAs (depth_of d) what (on (skip_ignored what d))
 inside-depth (begins kind) d n e = omega arith
 inside-depth ends d n e = omega arith
 inside-depth other d n e = refl
@@ -66,12 +66,12 @@ inside-depth (int negative magnitude) d n e = refl
 inside-depth (names w) d n e = refl
 
 -- what is held says no more of the depth than what follows
-held-depth : (n : ℕ) (what : What) (h : Held) (later : Pending → Turn) → ((p : Pending) → DepthAs n what (later p)) → DepthAs n what (held h later)
-held-depth n what (Ok p) later says = says p
-held-depth n what (Err why) later says = tt
+then_turn-depth : (n : ℕ) (what : FieldValue) (h : Held) (later : Pending → Turn) → ((p : Pending) → DepthAs n what (later p)) → DepthAs n what (then_turn h later)
+then_turn-depth n what (Ok p) later says = says p
+then_turn-depth n what (Err why) later says = tt
 
 -- a field's value
-imports_value-depth : (g : Ground) (place : ℕ) (what : What) (p : Pending) → is_end what ≡ false → DepthAs 1 what (field_value g place word.Imports what p)
+imports_value-depth : (g : Ground) (place : ℕ) (what : FieldValue) (p : Pending) → is_end what ≡ false → DepthAs 1 what (field_value g place word.Imports what p)
 imports_value-depth g place (begins kind.List) p e = refl
 imports_value-depth g place (begins kind.Sexp) p e = refl
 imports_value-depth g place (begins kind.Struct) p e = refl
@@ -79,7 +79,7 @@ imports_value-depth g place ends p e = cc
 imports_value-depth g place other p e = refl
 imports_value-depth g place (string t) p e = refl
 imports_value-depth g place (int negative magnitude) p e = refl
-imports_value-depth g place (names word.Declaration) p e = held-depth 1 (names word.Declaration) (keeping g place p) (λ q. on (at area.Fields q)) (λ q. refl)
+imports_value-depth g place (names word.Declaration) p e = then_turn-depth 1 (names word.Declaration) (keeping g place p) (λ q. on (at area.Fields q)) (λ q. refl)
 imports_value-depth g place (names word.Name) p e = refl
 imports_value-depth g place (names word.Version) p e = refl
 imports_value-depth g place (names word.MaxId) p e = refl
@@ -87,7 +87,7 @@ imports_value-depth g place (names word.Imports) p e = refl
 imports_value-depth g place (names word.Symbols) p e = refl
 imports_value-depth g place (names word.Other) p e = refl
 
-symbols_value-depth : (g : Ground) (place : ℕ) (what : What) (p : Pending) → is_end what ≡ false → DepthAs 1 what (field_value g place word.Symbols what p)
+symbols_value-depth : (g : Ground) (place : ℕ) (what : FieldValue) (p : Pending) → is_end what ≡ false → DepthAs 1 what (field_value g place word.Symbols what p)
 symbols_value-depth g place (begins kind.List) p e = refl
 symbols_value-depth g place (begins kind.Sexp) p e = refl
 symbols_value-depth g place (begins kind.Struct) p e = refl
@@ -97,35 +97,35 @@ symbols_value-depth g place (string t) p e = refl
 symbols_value-depth g place (int negative magnitude) p e = refl
 symbols_value-depth g place (names w) p e = refl
 
-field_value-depth : (g : Ground) (place : ℕ) (w : Word) (what : What) (p : Pending) → is_end what ≡ false → DepthAs 1 what (field_value g place w what p)
+field_value-depth : (g : Ground) (place : ℕ) (w : Word) (what : FieldValue) (p : Pending) → is_end what ≡ false → DepthAs 1 what (field_value g place w what p)
 field_value-depth g place word.Imports what p e = imports_value-depth g place what p e
 field_value-depth g place word.Symbols what p e = symbols_value-depth g place what p e
-field_value-depth g place word.Name what p e = passed-depth what (at area.Fields p) e
-field_value-depth g place word.Version what p e = passed-depth what (at area.Fields p) e
-field_value-depth g place word.MaxId what p e = passed-depth what (at area.Fields p) e
-field_value-depth g place word.Declaration what p e = passed-depth what (at area.Fields p) e
-field_value-depth g place word.Other what p e = passed-depth what (at area.Fields p) e
+field_value-depth g place word.Name what p e = skip_ignored-depth what (at area.Fields p) e
+field_value-depth g place word.Version what p e = skip_ignored-depth what (at area.Fields p) e
+field_value-depth g place word.MaxId what p e = skip_ignored-depth what (at area.Fields p) e
+field_value-depth g place word.Declaration what p e = skip_ignored-depth what (at area.Fields p) e
+field_value-depth g place word.Other what p e = skip_ignored-depth what (at area.Fields p) e
 
 -- a part of an import
-name_value-depth : (g : Ground) (place : ℕ) (what : What) (p : Pending) → is_end what ≡ false → DepthAs 3 what (part_value g place word.Name what p)
+name_value-depth : (g : Ground) (place : ℕ) (what : FieldValue) (p : Pending) → is_end what ≡ false → DepthAs 3 what (part_value g place word.Name what p)
 name_value-depth g place (begins kind) p e = refl
 name_value-depth g place ends p e = cc
 name_value-depth g place other p e = refl
-name_value-depth g place (string t) p e = held-depth 3 (string t) (named g place t p) (λ q. on (at area.Import q)) (λ q. refl)
+name_value-depth g place (string t) p e = then_turn-depth 3 (string t) (with_import_name g place t p) (λ q. on (at area.Import q)) (λ q. refl)
 name_value-depth g place (int negative magnitude) p e = refl
 name_value-depth g place (names w) p e = refl
 
-part_value-depth : (g : Ground) (place : ℕ) (w : Word) (what : What) (p : Pending) → is_end what ≡ false → DepthAs 3 what (part_value g place w what p)
+part_value-depth : (g : Ground) (place : ℕ) (w : Word) (what : FieldValue) (p : Pending) → is_end what ≡ false → DepthAs 3 what (part_value g place w what p)
 part_value-depth g place word.Name what p e = name_value-depth g place what p e
-part_value-depth g place word.Version what p e = passed-depth what (at area.Import (versioned (version_told what) p)) e
-part_value-depth g place word.MaxId what p e = passed-depth what (at area.Import (cut_to (max_told what) p)) e
-part_value-depth g place word.Imports what p e = passed-depth what (at area.Import p) e
-part_value-depth g place word.Symbols what p e = passed-depth what (at area.Import p) e
-part_value-depth g place word.Declaration what p e = passed-depth what (at area.Import p) e
-part_value-depth g place word.Other what p e = passed-depth what (at area.Import p) e
+part_value-depth g place word.Version what p e = skip_ignored-depth what (at area.Import (versioned (version_in what) p)) e
+part_value-depth g place word.MaxId what p e = skip_ignored-depth what (at area.Import (cut_to (max_id_in what) p)) e
+part_value-depth g place word.Imports what p e = skip_ignored-depth what (at area.Import p) e
+part_value-depth g place word.Symbols what p e = skip_ignored-depth what (at area.Import p) e
+part_value-depth g place word.Declaration what p e = skip_ignored-depth what (at area.Import p) e
+part_value-depth g place word.Other what p e = skip_ignored-depth what (at area.Import p) e
 
 -- an element of `imports`, or the end of the list
-imports-depth : (t : Told) (p : Pending) (what : What) → DepthAs 2 what (imports_turn t p what)
+imports-depth : (t : ItemView) (p : Pending) (what : FieldValue) → DepthAs 2 what (imports_turn t p what)
 imports-depth t p (begins kind.List) = refl
 imports-depth t p (begins kind.Sexp) = refl
 imports-depth t p (begins kind.Struct) = refl
@@ -136,42 +136,42 @@ imports-depth t p (int negative magnitude) = refl
 imports-depth t p (names w) = refl
 
 -- each area, by whether the item is an end
-fields-depth : (g : Ground) (t : Told) (p : Pending) (b : Bool) → is_end t.what ≡ b → DepthAs 1 t.what (if b then made (next g.old p) else field_turn g t p)
+fields-depth : (g : Ground) (t : ItemView) (p : Pending) (b : Bool) → is_end t.what ≡ b → DepthAs 1 t.what (if b then made (next g.old p) else field_turn g t p)
 fields-depth g t p true e = (refl, is_end-true t.what e)
 fields-depth g t p false e =
-    held-depth 1 t.what (field_met t.field_place t.field p) (λ q. field_value g t.place t.field t.what q) (λ q. field_value-depth g t.place t.field t.what q e)
+    then_turn-depth 1 t.what (field_met t.field_place t.field p) (λ q. field_value g t.place t.field t.what q) (λ q. field_value-depth g t.place t.field t.what q e)
 
-symbols-depth : (g : Ground) (t : Told) (p : Pending) (b : Bool) → is_end t.what ≡ b
+symbols-depth : (g : Ground) (t : ItemView) (p : Pending) (b : Bool) → is_end t.what ≡ b
     → DepthAs 2 t.what (if b then on (at area.Fields p) else element_turn g t p)
 symbols-depth g t p true e = rw (is_end-true t.what e) refl
 symbols-depth g t p false e =
-    held-depth 2 t.what (with_slot g t.place (text_told t.what) p) (λ q. on (passed t.what (at area.Symbols q))) (λ q. passed-depth t.what (at area.Symbols q) e)
+    then_turn-depth 2 t.what (with_slot g t.place (string_in t.what) p) (λ q. on (skip_ignored t.what (at area.Symbols q))) (λ q. skip_ignored-depth t.what (at area.Symbols q) e)
 
-import-depth : (g : Ground) (t : Told) (p : Pending) (b : Bool) → is_end t.what ≡ b
-    → DepthAs 3 t.what (if b then held (import_ended g p) (λ q. on (at area.Imports q)) else part_turn g t p)
-import-depth g t p true e = held-depth 3 t.what (import_ended g p) (λ q. on (at area.Imports q)) (λ q. rw (is_end-true t.what e) refl)
+import-depth : (g : Ground) (t : ItemView) (p : Pending) (b : Bool) → is_end t.what ≡ b
+    → DepthAs 3 t.what (if b then then_turn (import_ended g p) (λ q. on (at area.Imports q)) else part_turn g t p)
+import-depth g t p true e = then_turn-depth 3 t.what (import_ended g p) (λ q. on (at area.Imports q)) (λ q. rw (is_end-true t.what e) refl)
 import-depth g t p false e =
-    held-depth 3 t.what (part_met t.field_place t.field p) (λ q. part_value g t.place t.field t.what q) (λ q. part_value-depth g t.place t.field t.what q e)
+    then_turn-depth 3 t.what (part_met t.field_place t.field p) (λ q. part_value g t.place t.field t.what q) (λ q. part_value-depth g t.place t.field t.what q e)
 
-area-depth : (g : Ground) (t : Told) (p : Pending) (a : Area) → DepthAs (area_depth a) t.what (area_turn g t p a)
+area-depth : (g : Ground) (t : ItemView) (p : Pending) (a : Area) → DepthAs (area_depth a) t.what (area_turn g t p a)
 area-depth g t p area.Fields = fields-depth g t p (is_end t.what) refl
 area-depth g t p area.Symbols = symbols-depth g t p (is_end t.what) refl
 area-depth g t p area.Imports = imports-depth t p t.what
 area-depth g t p area.Import = import-depth g t p (is_end t.what) refl
 
-turn_at-depth : (g : Ground) (d : Declaring) (t : Told) (n : ℕ) → d.inside ≡ n → DepthAs (depth_of d) t.what (turn_at g d t n)
+turn_at-depth : (g : Ground) (d : Declaring) (t : ItemView) (n : ℕ) → d.inside ≡ n → DepthAs (depth_of d) t.what (turn_at g d t n)
 turn_at-depth g d t zero e =
     let same : area_depth d.area ≡ depth_of d = omega arith in
     subst (λ (m : ℕ). DepthAs m t.what (area_turn g t d.pending d.area)) same (area-depth g t d.pending d.area)
 turn_at-depth g d t (suc n) e = inside-depth t.what d n e
 
 -- a turn goes on at the depth behind the item, or ends at an end at depth 1
-pub turn-depth : (g : Ground) (d : Declaring) (t : Told) → DepthAs (depth_of d) t.what (turn g d t)
+pub turn-depth : (g : Ground) (d : Declaring) (t : ItemView) → DepthAs (depth_of d) t.what (turn g d t)
 turn-depth g d t = turn_at-depth g d t d.inside refl
 
 -- ---- the open containers of a reader
 
-scalar-depth : (texts : ℕ → Option (List ℕ)) (n : ℕ) (x : Scalar SymbolAt) → n ≡ depth_after n (scalar_told texts x)
+scalar-depth : (texts : ℕ → Option (List ℕ)) (n : ℕ) (x : Scalar SymbolAt) → n ≡ depth_after n (scalar_view texts x)
 scalar-depth texts n (value.null type) = refl
 scalar-depth texts n (value.bool truth) = refl
 scalar-depth texts n (value.int number) = refl
@@ -182,9 +182,9 @@ scalar-depth texts n (value.string t) = refl
 scalar-depth texts n (value.clob bytes) = refl
 scalar-depth texts n (value.blob bytes) = refl
 
--- a head opens and closes as many containers as it is told to
+-- a head opens and closes as many containers as it says
 open-depth : (texts : ℕ → Option (List ℕ)) (kinds : List Kind) (h : Head SymbolAt)
-    → length (open_after kinds h) ≡ depth_after (length kinds) (head_told texts h)
+    → length (open_after kinds h) ≡ depth_after (length kinds) (head_view texts h)
 open-depth texts kinds (value.whole body) = scalar-depth texts (length kinds) body
 open-depth texts kinds (value.begin kind) = omega arith
 open-depth texts kinds value.end = length-drop 1 kinds
@@ -197,19 +197,19 @@ none (x ∷ xs) e = absurd (omega arith)
 
 -- where a declaration goes on, its depth stays the reader's
 pub level-on : (texts : ℕ → Option (List ℕ)) (g : Ground) (d e : Declaring) (i j : PlacedItem) (old new : List Kind)
-    → length old ≡ depth_of d → new ≡ open_after old i.head → j ≡ i → turn g d (told texts j) ≡ on e → length new ≡ depth_of e
+    → length old ≡ depth_of d → new ≡ open_after old i.head → j ≡ i → turn g d (item_view texts j) ≡ on e → length new ≡ depth_of e
 level-on texts g d e i j old new level opens same is =
-    let says : depth_of e ≡ depth_after (depth_of d) (head_told texts j.head) = rw is at (turn-depth g d (told texts j)) in
+    let says : depth_of e ≡ depth_after (depth_of d) (head_view texts j.head) = rw is at (turn-depth g d (item_view texts j)) in
     let opened : new ≡ open_after old j.head = rw same opens in
-    ap length opened ∙ open-depth texts old j.head ∙ ap (λ (n : ℕ). depth_after n (head_told texts j.head)) level ∙ sym says
+    ap length opened ∙ open-depth texts old j.head ∙ ap (λ (n : ℕ). depth_after n (head_view texts j.head)) level ∙ sym says
 
 -- and where it ends, none is open
 pub level-made : (texts : ℕ → Option (List ℕ)) (g : Ground) (d : Declaring) (u : Table) (i j : PlacedItem) (old new : List Kind)
-    → length old ≡ depth_of d → new ≡ open_after old i.head → j ≡ i → turn g d (told texts j) ≡ made u → new ≡ []
+    → length old ≡ depth_of d → new ≡ open_after old i.head → j ≡ i → turn g d (item_view texts j) ≡ made u → new ≡ []
 level-made texts g d u i j old new level opens same is =
-    let says : (depth_of d ≡ 1) × (head_told texts j.head ≡ ends) = rw is at (turn-depth g d (told texts j)) in
+    let says : (depth_of d ≡ 1) × (head_view texts j.head ≡ ends) = rw is at (turn-depth g d (item_view texts j)) in
     let opened : new ≡ open_after old j.head = rw same opens in
-    let one : depth_after (length old) (head_told texts j.head) ≡ 0 = rw (level, says.0, says.1) refl in
+    let one : depth_after (length old) (head_view texts j.head) ≡ 0 = rw (level, says.0, says.1) refl in
     none new (ap length opened ∙ open-depth texts old j.head ∙ one)
 
 -- ---- the user items to come
@@ -223,7 +223,7 @@ is_fine (bad reason place) x says e = cc
 pub goes_on : (catalog : List Shared) (limit : ℕ) (t : Table) (d e : Declaring) (i j : PlacedItem) (first old new : Reading) (x : Result Unit Fault)
     → first ≡ users catalog limit (record { table = t; mode = declaring d }) old → old ≡ More i new → j ≡ i
     → CheckedAs (checked t false j) x → x ≡ Ok tt
-    → turn (record { catalog = catalog; limit = limit; old = t }) d (told (text_at t) j) ≡ on e
+    → turn (record { catalog = catalog; limit = limit; old = t }) d (item_view (text_at t) j) ≡ on e
     → first ≡ users catalog limit (record { table = t; mode = declaring e }) new
 goes_on catalog limit t d e i j first old new x came more same says ok turns =
     came ∙ (rw (more, sym same, is_fine (checked t false j) x says ok, turns) refl)
@@ -232,7 +232,7 @@ goes_on catalog limit t d e i j first old new x came more same says ok turns =
 pub goes_out : (catalog : List Shared) (limit : ℕ) (t : Table) (d : Declaring) (u : Table) (i j : PlacedItem) (first old new : Reading) (x : Result Unit Fault)
     → first ≡ users catalog limit (record { table = t; mode = declaring d }) old → old ≡ More i new → j ≡ i
     → CheckedAs (checked t false j) x → x ≡ Ok tt
-    → turn (record { catalog = catalog; limit = limit; old = t }) d (told (text_at t) j) ≡ made u
+    → turn (record { catalog = catalog; limit = limit; old = t }) d (item_view (text_at t) j) ≡ made u
     → first ≡ users catalog limit (record { table = u; mode = plain 0 }) new
 goes_out catalog limit t d u i j first old new x came more same says ok turns =
     came ∙ (rw (more, sym same, is_fine (checked t false j) x says ok, turns) refl)
@@ -242,7 +242,7 @@ pub turn_refused : (catalog : List Shared) (limit : ℕ) (t : Table) (d : Declar
     (x : Result Unit Fault) (reason : Reason) (place : ℕ)
     → first ≡ users catalog limit (record { table = t; mode = declaring d }) old → old ≡ More i new → j ≡ i
     → CheckedAs (checked t false j) x → x ≡ Ok tt
-    → turn (record { catalog = catalog; limit = limit; old = t }) d (told (text_at t) j) ≡ stop reason place
+    → turn (record { catalog = catalog; limit = limit; old = t }) d (item_view (text_at t) j) ≡ stop reason place
     → first ≡ Stopped reason place
 turn_refused catalog limit t d i j first old new x reason place came more same says ok turns =
     came ∙ (rw (more, sym same, is_fine (checked t false j) x says ok, turns) refl)

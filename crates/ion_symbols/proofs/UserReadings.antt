@@ -69,22 +69,22 @@ resolve-seen_all t (i ∷ is) = rw (resolve-seen t i, resolve-seen_all t is) ref
 
 -- the items of a value with other symbols
 mutual
-  value_items-map : {S T : Type 0} (f : S → T) (top : ℕ) (field : Option S) (notes : List S) (place : ℕ) (x : Value S ℕ)
-      → map (map_item f (λ (p : ℕ). p)) (value_items top field notes place x)
-      ≡ value_items top (option_map f field) (map f notes) place (map_value f (λ (p : ℕ). p) x)
-  value_items-map f top field notes place (scalar body) = refl
-  value_items-map f top field notes place (container k members last) =
-      ap (λ is. record { field = option_map f field; annotations = map f notes; head = value.begin k; place = place; top = top } ∷ is)
+  value_items-map : {S T : Type 0} (f : S → T) (top : ℕ) (field : Option S) (annotations : List S) (place : ℕ) (x : Value S ℕ)
+      → map (map_item f (λ (p : ℕ). p)) (value_items top field annotations place x)
+      ≡ value_items top (option_map f field) (map f annotations) place (map_value f (λ (p : ℕ). p) x)
+  value_items-map f top field annotations place (scalar body) = refl
+  value_items-map f top field annotations place (container k members last) =
+      ap (λ is. record { field = option_map f field; annotations = map f annotations; head = value.begin k; place = place; top = top } ∷ is)
       (map-append (map_item f (λ (p : ℕ). p)) (member_items top members) (bare_item value.end last top ∷ [])
       ∙ ap (λ is. is ++ bare_item value.end last top ∷ []) (member_items-map f top members))
 
   member_items-map : {S T : Type 0} (f : S → T) (top : ℕ) (members : Members S ℕ) → map (map_item f (λ (p : ℕ). p)) (member_items top members)
       ≡ member_items top (map_members f (λ (p : ℕ). p) members)
   member_items-map f top nothing = refl
-  member_items-map f top (member before field notes place x) =
-      map-append (map_item f (λ (p : ℕ). p)) (member_items top before) (value_items top field notes place x)
-      ∙ (ap (λ is. is ++ map (map_item f (λ (p : ℕ). p)) (value_items top field notes place x)) (member_items-map f top before)
-      ∙ ap (λ is. member_items top (map_members f (λ (p : ℕ). p) before) ++ is) (value_items-map f top field notes place x))
+  member_items-map f top (member before field annotations place x) =
+      map-append (map_item f (λ (p : ℕ). p)) (member_items top before) (value_items top field annotations place x)
+      ∙ (ap (λ is. is ++ map (map_item f (λ (p : ℕ). p)) (value_items top field annotations place x)) (member_items-map f top before)
+      ∙ ap (λ is. member_items top (map_members f (λ (p : ℕ). p) before) ++ is) (value_items-map f top field annotations place x))
 
 -- ---- an accepted user value
 
@@ -93,10 +93,10 @@ abbrev sees : List Shared → ℕ → Table → ℕ → Reading → Reading
 sees catalog limit t n rest = users catalog limit (record { table = t; mode = plain n }) rest
 
 -- these items stand resolved in front, and behind them the reading goes on
-record Passes (catalog : List Shared) (limit : ℕ) (t : Table) (n : ℕ) (front : List PlacedItem) (rest : Reading) (items : List PlacedItem) : Type 0 where
+record Passes (catalog : List Shared) (limit : ℕ) (t : Table) (n : ℕ) (prefix : List PlacedItem) (rest : Reading) (items : List PlacedItem) : Type 0 where
   later : List PlacedItem
   goes_on : sees catalog limit t n rest ≡ behind later Finished
-  items_are : items ≡ map (resolve t) front ++ later
+  items_are : items ≡ map (resolve t) prefix ++ later
 
 -- a fault is not the end of accepted items
 not_stopped : (reason : Reason) (place : ℕ) (items : List PlacedItem) → Stopped reason place ≡ behind items Finished → ⊥
@@ -116,7 +116,7 @@ given_checked : (catalog : List Shared) (limit : ℕ) (t : Table) (n : ℕ) (c :
 given_checked catalog limit t n fine i rest items e = given catalog limit t n i rest items e
 given_checked catalog limit t n (bad reason place) i rest items e = absurd (not_stopped reason place items e)
 
--- an accepted item that is no marker and begins no declaration is given, resolved
+-- an accepted item that is no version marker and begins no declaration is given, resolved
 one_item : (catalog : List Shared) (limit : ℕ) (t : Table) (n : ℕ) (i : PlacedItem) (rest : Reading) (items : List PlacedItem)
     → is_marker i.head ≡ false → begins_declaration t n i ≡ false → sees catalog limit t n (More i rest) ≡ behind items Finished
     → Passes catalog limit t (level_after n i.head) (i ∷ []) rest items
@@ -126,7 +126,7 @@ one_item catalog limit t n i rest items m b e = given_checked catalog limit t (l
 not_at_top : (n : ℕ) (b : Bool) → (suc n == 0) && b ≡ false
 not_at_top n b = ap (λ e. e && b) (eqb-suc-zero n)
 
--- one front, and then another
+-- one prefix, and then another
 both_pass : (catalog : List Shared) (limit : ℕ) (t : Table) (m n : ℕ) (is js : List PlacedItem) (rest : Reading) (items : List PlacedItem)
     → (p : Passes catalog limit t m is (behind js rest) items) → Passes catalog limit t n js rest p.later → Passes catalog limit t n (is ++ js) rest items
 both_pass catalog limit t m n is js rest items p q = record {
@@ -157,22 +157,22 @@ content_passes catalog limit t n top k members last rest items p =
     (one_item catalog limit t (suc n) (bare_item value.end last top) rest p.later refl (not_at_top n false) p.goes_on)
 
 -- a container that opens the next level
-container_passes : (catalog : List Shared) (limit : ℕ) (t : Table) (n : ℕ) (top : ℕ) (field : Option SymbolAt) (notes : List SymbolAt) (place : ℕ)
+container_passes : (catalog : List Shared) (limit : ℕ) (t : Table) (n : ℕ) (top : ℕ) (field : Option SymbolAt) (annotations : List SymbolAt) (place : ℕ)
     (k : Kind) (members : Members SymbolAt ℕ) (last : ℕ) (rest : Reading) (items : List PlacedItem)
-    → begins_declaration t n (first_of top field notes place (container k members last)) ≡ false
+    → begins_declaration t n (first_of top field annotations place (container k members last)) ≡ false
     → ((js : List PlacedItem) → sees catalog limit t (suc n) (behind (member_items top members) (More (bare_item value.end last top) rest)) ≡ behind js Finished
     → Passes catalog limit t (suc n) (member_items top members) (More (bare_item value.end last top) rest) js)
-    → sees catalog limit t n (behind (value_items top field notes place (container k members last)) rest) ≡ behind items Finished
-    → Passes catalog limit t n (value_items top field notes place (container k members last)) rest items
-container_passes catalog limit t n top field notes place k members last rest items b inside e =
-    let p : Passes catalog limit t (suc n) (first_of top field notes place (container k members last) ∷ [])
+    → sees catalog limit t n (behind (value_items top field annotations place (container k members last)) rest) ≡ behind items Finished
+    → Passes catalog limit t n (value_items top field annotations place (container k members last)) rest items
+container_passes catalog limit t n top field annotations place k members last rest items b inside e =
+    let p : Passes catalog limit t (suc n) (first_of top field annotations place (container k members last) ∷ [])
     (behind (content_of top (container k members last)) rest) items
-    = at_level catalog limit t (n + 1) (suc n) (first_of top field notes place (container k members last) ∷ [])
+    = at_level catalog limit t (n + 1) (suc n) (first_of top field annotations place (container k members last) ∷ [])
     (behind (content_of top (container k members last)) rest) items (add-one n)
-    (one_item catalog limit t n (first_of top field notes place (container k members last))
+    (one_item catalog limit t n (first_of top field annotations place (container k members last))
     (behind (content_of top (container k members last)) rest) items refl b e) in
     let level : suc n - 1 ≡ n = omega arith in
-    both_pass catalog limit t (suc n) n (first_of top field notes place (container k members last) ∷ [])
+    both_pass catalog limit t (suc n) n (first_of top field annotations place (container k members last) ∷ [])
     (content_of top (container k members last)) rest items p
     (at_level catalog limit t (suc n - 1) n (content_of top (container k members last)) rest p.later level
     (content_passes catalog limit t n top k members last rest p.later
@@ -180,37 +180,37 @@ container_passes catalog limit t n top field notes place k members last rest ite
 
 -- a value in a container
 mutual
-  value_passes : (catalog : List Shared) (limit : ℕ) (t : Table) (n : ℕ) (top : ℕ) (field : Option SymbolAt) (notes : List SymbolAt) (place : ℕ)
+  value_passes : (catalog : List Shared) (limit : ℕ) (t : Table) (n : ℕ) (top : ℕ) (field : Option SymbolAt) (annotations : List SymbolAt) (place : ℕ)
       (x : Value SymbolAt ℕ) (rest : Reading) (items : List PlacedItem)
-      → sees catalog limit t (suc n) (behind (value_items top field notes place x) rest) ≡ behind items Finished
-      → Passes catalog limit t (suc n) (value_items top field notes place x) rest items
-  value_passes catalog limit t n top field notes place (scalar body) rest items e =
-      one_item catalog limit t (suc n) (first_of top field notes place (scalar body)) rest items refl (not_at_top n false) e
-  value_passes catalog limit t n top field notes place (container k members last) rest items e =
-      container_passes catalog limit t (suc n) top field notes place k members last rest items (not_at_top n (is_struct (value.begin k) && declares t notes))
+      → sees catalog limit t (suc n) (behind (value_items top field annotations place x) rest) ≡ behind items Finished
+      → Passes catalog limit t (suc n) (value_items top field annotations place x) rest items
+  value_passes catalog limit t n top field annotations place (scalar body) rest items e =
+      one_item catalog limit t (suc n) (first_of top field annotations place (scalar body)) rest items refl (not_at_top n false) e
+  value_passes catalog limit t n top field annotations place (container k members last) rest items e =
+      container_passes catalog limit t (suc n) top field annotations place k members last rest items (not_at_top n (is_struct (value.begin k) && declares t annotations))
       (λ js h. members_pass catalog limit t (suc n) top members (More (bare_item value.end last top) rest) js h) e
 
   members_pass : (catalog : List Shared) (limit : ℕ) (t : Table) (n : ℕ) (top : ℕ) (members : Members SymbolAt ℕ) (rest : Reading) (items : List PlacedItem)
       → sees catalog limit t (suc n) (behind (member_items top members) rest) ≡ behind items Finished
       → Passes catalog limit t (suc n) (member_items top members) rest items
   members_pass catalog limit t n top nothing rest items e = no_items catalog limit t (suc n) rest items e
-  members_pass catalog limit t n top (member before field notes place x) rest items e =
-      let p : Passes catalog limit t (suc n) (member_items top before) (behind (value_items top field notes place x) rest) items
-      = members_pass catalog limit t n top before (behind (value_items top field notes place x) rest) items
-      (ap (sees catalog limit t (suc n)) (sym (behind_append (member_items top before) (value_items top field notes place x) rest)) ∙ e) in
-      both_pass catalog limit t (suc n) (suc n) (member_items top before) (value_items top field notes place x) rest items p
-      (value_passes catalog limit t n top field notes place x rest p.later p.goes_on)
+  members_pass catalog limit t n top (member before field annotations place x) rest items e =
+      let p : Passes catalog limit t (suc n) (member_items top before) (behind (value_items top field annotations place x) rest) items
+      = members_pass catalog limit t n top before (behind (value_items top field annotations place x) rest) items
+      (ap (sees catalog limit t (suc n)) (sym (behind_append (member_items top before) (value_items top field annotations place x) rest)) ∙ e) in
+      both_pass catalog limit t (suc n) (suc n) (member_items top before) (value_items top field annotations place x) rest items p
+      (value_passes catalog limit t n top field annotations place x rest p.later p.goes_on)
 
 -- a value at top level that is no declaration
-top_passes : (catalog : List Shared) (limit : ℕ) (t : Table) (first : ℕ) (notes : List SymbolAt) (place : ℕ) (x : Value SymbolAt ℕ) (rest : Reading)
+top_passes : (catalog : List Shared) (limit : ℕ) (t : Table) (first : ℕ) (annotations : List SymbolAt) (place : ℕ) (x : Value SymbolAt ℕ) (rest : Reading)
     (items : List PlacedItem)
-    → begins_declaration t 0 (first_of first None notes place x) ≡ false
-    → sees catalog limit t 0 (behind (value_items first None notes place x) rest) ≡ behind items Finished
-    → Passes catalog limit t 0 (value_items first None notes place x) rest items
-top_passes catalog limit t first notes place (scalar body) rest items b e = one_item catalog limit t 0
-    (first_of first None notes place (scalar body)) rest items refl b e
-top_passes catalog limit t first notes place (container k members last) rest items b e =
-    container_passes catalog limit t 0 first None notes place k members last rest items b
+    → begins_declaration t 0 (first_of first None annotations place x) ≡ false
+    → sees catalog limit t 0 (behind (value_items first None annotations place x) rest) ≡ behind items Finished
+    → Passes catalog limit t 0 (value_items first None annotations place x) rest items
+top_passes catalog limit t first annotations place (scalar body) rest items b e = one_item catalog limit t 0
+    (first_of first None annotations place (scalar body)) rest items refl b e
+top_passes catalog limit t first annotations place (container k members last) rest items b e =
+    container_passes catalog limit t 0 first None annotations place k members last rest items b
     (λ js h. members_pass catalog limit t 0 first members (More (bare_item value.end last first) rest) js h) e
 
 -- ---- a stream of markers and values
@@ -226,58 +226,58 @@ TopsAreRead catalog limit tops = (t : Table) (items : List PlacedItem) → sees 
 
 -- a value as a user knows it
 abbrev user_tree : Table → ℕ → List SymbolAt → ℕ → Value SymbolAt ℕ → Top UserSymbol ℕ
-user_tree t first notes place x = tree first (map (user_at t) notes) place (map_value (user_at t) (λ p. p) x)
+user_tree t first annotations place x = tree first (map (user_at t) annotations) place (map_value (user_at t) (λ p. p) x)
 
 -- a value that is no declaration stands in front of the others
-plain_tops : (catalog : List Shared) (t : Table) (first : ℕ) (notes : List SymbolAt) (place : ℕ) (x : Value SymbolAt ℕ) (tops : List (Top SymbolAt ℕ))
+plain_tops : (catalog : List Shared) (t : Table) (first : ℕ) (annotations : List SymbolAt) (place : ℕ) (x : Value SymbolAt ℕ) (tops : List (Top SymbolAt ℕ))
     (us : List (Top UserSymbol ℕ))
-    → declares_table t notes x ≡ None → user_tops catalog t tops ≡ Some us → user_tops catalog t (tree first notes place x ∷ tops)
-    ≡ Some (user_tree t first notes place x ∷ us)
-plain_tops catalog t first notes place x tops us none e = rw (none, e, user_tops) refl
+    → declares_table t annotations x ≡ None → user_tops catalog t tops ≡ Some us → user_tops catalog t (tree first annotations place x ∷ tops)
+    ≡ Some (user_tree t first annotations place x ∷ us)
+plain_tops catalog t first annotations place x tops us none e = rw (none, e, user_tops) refl
 
 -- a value that is no declaration, and what is behind it
-plain_read : (catalog : List Shared) (limit : ℕ) (t : Table) (first : ℕ) (notes : List SymbolAt) (place : ℕ) (x : Value SymbolAt ℕ)
+plain_read : (catalog : List Shared) (limit : ℕ) (t : Table) (first : ℕ) (annotations : List SymbolAt) (place : ℕ) (x : Value SymbolAt ℕ)
     (tops : List (Top SymbolAt ℕ)) (items : List PlacedItem)
-    → begins_declaration t 0 (first_of first None notes place x) ≡ false → declares_table t notes x ≡ None → TopsAreRead catalog limit tops
-    → sees catalog limit t 0 (behind (top_items (tree first notes place x ∷ tops)) Finished) ≡ behind items Finished
-    → AreRead catalog t (tree first notes place x ∷ tops) items
-plain_read catalog limit t first notes place x tops items b none more e =
-    let p : Passes catalog limit t 0 (value_items first None notes place x) (behind (top_items tops) Finished) items
-    = top_passes catalog limit t first notes place x (behind (top_items tops) Finished) items b
-    (ap (sees catalog limit t 0) (sym (behind_append (value_items first None notes place x) (top_items tops) Finished)) ∙ e) in
+    → begins_declaration t 0 (first_of first None annotations place x) ≡ false → declares_table t annotations x ≡ None → TopsAreRead catalog limit tops
+    → sees catalog limit t 0 (behind (top_items (tree first annotations place x ∷ tops)) Finished) ≡ behind items Finished
+    → AreRead catalog t (tree first annotations place x ∷ tops) items
+plain_read catalog limit t first annotations place x tops items b none more e =
+    let p : Passes catalog limit t 0 (value_items first None annotations place x) (behind (top_items tops) Finished) items
+    = top_passes catalog limit t first annotations place x (behind (top_items tops) Finished) items b
+    (ap (sees catalog limit t 0) (sym (behind_append (value_items first None annotations place x) (top_items tops) Finished)) ∙ e) in
     let r : AreRead catalog t tops p.later = more t p.later p.goes_on in (
-      user_tree t first notes place x ∷ r.0,
-      plain_tops catalog t first notes place x tops r.0 none r.1,
+      user_tree t first annotations place x ∷ r.0,
+      plain_tops catalog t first annotations place x tops r.0 none r.1,
       ap (map user_item) p.items_are
-          ∙ (map-append user_item (map (resolve t) (value_items first None notes place x)) p.later
+          ∙ (map-append user_item (map (resolve t) (value_items first None annotations place x)) p.later
           ∙ (ap (λ is. is ++ map user_item p.later)
-          (resolve-seen_all t (value_items first None notes place x) ∙ value_items-map (user_at t) first None notes place x)
-          ∙ ap (λ is. value_items first None (map (user_at t) notes) place (map_value (user_at t) (λ (q : ℕ). q) x) ++ is) r.2)),
+          (resolve-seen_all t (value_items first None annotations place x) ∙ value_items-map (user_at t) first None annotations place x)
+          ∙ ap (λ is. value_items first None (map (user_at t) annotations) place (map_value (user_at t) (λ (q : ℕ). q) x) ++ is) r.2)),
     )
 
 -- a declaration leaves its table to those behind it
-declared_tops : (catalog : List Shared) (t u : Table) (first : ℕ) (notes : List SymbolAt) (place : ℕ) (x : Value SymbolAt ℕ) (members : Members SymbolAt ℕ)
+declared_tops : (catalog : List Shared) (t u : Table) (first : ℕ) (annotations : List SymbolAt) (place : ℕ) (x : Value SymbolAt ℕ) (members : Members SymbolAt ℕ)
     (tops : List (Top SymbolAt ℕ))
-    → declares_table t notes x ≡ Some members → next_table catalog (text_at t) t members ≡ Some u → user_tops catalog t (tree first notes place x ∷ tops)
+    → declares_table t annotations x ≡ Some members → next_table catalog (text_at t) t members ≡ Some u → user_tops catalog t (tree first annotations place x ∷ tops)
     ≡ user_tops catalog u tops
-declared_tops catalog t u first notes place x members tops declares e = rw (declares, e, user_tops) refl
+declared_tops catalog t u first annotations place x members tops declares e = rw (declares, e, user_tops) refl
 
 -- a declaration, and what is behind it
 by_declared_read : WhatIsDeclared
-    → (catalog : List Shared) (limit : ℕ) (t : Table) (first : ℕ) (notes : List SymbolAt) (place : ℕ) (x : Value SymbolAt ℕ) (members : Members SymbolAt ℕ)
+    → (catalog : List Shared) (limit : ℕ) (t : Table) (first : ℕ) (annotations : List SymbolAt) (place : ℕ) (x : Value SymbolAt ℕ) (members : Members SymbolAt ℕ)
     (tops : List (Top SymbolAt ℕ)) (items : List PlacedItem) (d : Result Table (Reason × ℕ))
     → declared (record { catalog = catalog; limit = limit; old = t }) first members ≡ d
-    → declares_table t notes x ≡ Some members → TopsAreRead catalog limit tops
+    → declares_table t annotations x ≡ Some members → TopsAreRead catalog limit tops
     → by_declared d (λ u. sees catalog limit u 0 (behind (top_items tops) Finished)) ≡ behind items Finished
-    → AreRead catalog t (tree first notes place x ∷ tops) items
-by_declared_read what catalog limit t first notes place x members tops items (Ok u) is declares more e =
+    → AreRead catalog t (tree first annotations place x ∷ tops) items
+by_declared_read what catalog limit t first annotations place x members tops items (Ok u) is declares more e =
     let r : AreRead catalog u tops items = more u items e in (
       r.0,
-      declared_tops catalog t u first notes place x members tops declares (what (record { catalog = catalog; limit = limit; old = t }) first members u is)
+      declared_tops catalog t u first annotations place x members tops declares (what (record { catalog = catalog; limit = limit; old = t }) first members u is)
           ∙ r.1,
       r.2,
     )
-by_declared_read what catalog limit t first notes place x members tops items (Err why) is declares more e = absurd (not_stopped why.0 why.1 items e)
+by_declared_read what catalog limit t first annotations place x members tops items (Err why) is declares more e = absurd (not_stopped why.0 why.1 items e)
 
 -- a declaration's first item is checked
 begun : (catalog : List Shared) (limit : ℕ) (t : Table) (c : Checked) (rest : Reading) (items : List PlacedItem)
@@ -287,31 +287,31 @@ begun catalog limit t fine rest items e = e
 begun catalog limit t (bad reason place) rest items e = absurd (not_stopped reason place items e)
 
 -- a struct with annotations
-struct_read : WhatIsDeclared → (catalog : List Shared) (limit : ℕ) (t : Table) (first : ℕ) (s : SymbolAt) (notes : List SymbolAt) (place : ℕ)
+struct_read : WhatIsDeclared → (catalog : List Shared) (limit : ℕ) (t : Table) (first : ℕ) (s : SymbolAt) (annotations : List SymbolAt) (place : ℕ)
     (members : Members SymbolAt ℕ) (last : ℕ) (tops : List (Top SymbolAt ℕ)) (items : List PlacedItem) (b : Bool)
     → is_declaration (word_in (text_at t) s.symbol) ≡ b → TopsAreRead catalog limit tops
-    → sees catalog limit t 0 (behind (top_items (tree first (s ∷ notes) place (container kind.Struct members last) ∷ tops)) Finished) ≡ behind items Finished
-    → AreRead catalog t (tree first (s ∷ notes) place (container kind.Struct members last) ∷ tops) items
-struct_read what catalog limit t first s notes place members last tops items false is more e =
-    plain_read catalog limit t first (s ∷ notes) place (container kind.Struct members last) tops items is (rw is refl) more e
-struct_read what catalog limit t first s notes place members last tops items true is more e =
+    → sees catalog limit t 0 (behind (top_items (tree first (s ∷ annotations) place (container kind.Struct members last) ∷ tops)) Finished) ≡ behind items Finished
+    → AreRead catalog t (tree first (s ∷ annotations) place (container kind.Struct members last) ∷ tops) items
+struct_read what catalog limit t first s annotations place members last tops items false is more e =
+    plain_read catalog limit t first (s ∷ annotations) place (container kind.Struct members last) tops items is (rw is refl) more e
+struct_read what catalog limit t first s annotations place members last tops items true is more e =
     let rest : Reading = behind (top_items tops) Finished in
-    let f : PlacedItem = first_of first None (s ∷ notes) place (container kind.Struct members last) in
+    let f : PlacedItem = first_of first None (s ∷ annotations) place (container kind.Struct members last) in
     let begins : users catalog limit (record { table = t; mode = declaring start })
     (behind (content_of first (container kind.Struct members last) ++ top_items tops) Finished) ≡ behind items Finished
     = begun catalog limit t (checked t false f) (behind (content_of first (container kind.Struct members last) ++ top_items tops) Finished) items
     (rw is at e) in
-    by_declared_read what catalog limit t first (s ∷ notes) place (container kind.Struct members last) members tops items
+    by_declared_read what catalog limit t first (s ∷ annotations) place (container kind.Struct members last) members tops items
     (declared (record { catalog = catalog; limit = limit; old = t }) first members) refl (rw is refl) more
     (sym (declarations_are_read catalog limit t first last members rest)
     ∙ (ap (users catalog limit (record { table = t; mode = declaring start }))
     (sym (behind_append (content_of first (container kind.Struct members last)) (top_items tops) Finished)) ∙ begins))
 
 -- a value, and what is behind it
-tree_read : WhatIsDeclared → (catalog : List Shared) (limit : ℕ) (t : Table) (first : ℕ) (notes : List SymbolAt) (place : ℕ) (x : Value SymbolAt ℕ)
+tree_read : WhatIsDeclared → (catalog : List Shared) (limit : ℕ) (t : Table) (first : ℕ) (annotations : List SymbolAt) (place : ℕ) (x : Value SymbolAt ℕ)
     (tops : List (Top SymbolAt ℕ)) (items : List PlacedItem)
-    → TopsAreRead catalog limit tops → sees catalog limit t 0 (behind (top_items (tree first notes place x ∷ tops)) Finished) ≡ behind items Finished
-    → AreRead catalog t (tree first notes place x ∷ tops) items
+    → TopsAreRead catalog limit tops → sees catalog limit t 0 (behind (top_items (tree first annotations place x ∷ tops)) Finished) ≡ behind items Finished
+    → AreRead catalog t (tree first annotations place x ∷ tops) items
 tree_read what catalog limit t first [] place (scalar body) tops items more e = plain_read catalog limit t first [] place
     (scalar body) tops items refl refl more e
 tree_read what catalog limit t first [] place (container kind.List members last) tops items more e =
@@ -320,14 +320,14 @@ tree_read what catalog limit t first [] place (container kind.Sexp members last)
     plain_read catalog limit t first [] place (container kind.Sexp members last) tops items refl refl more e
 tree_read what catalog limit t first [] place (container kind.Struct members last) tops items more e =
     plain_read catalog limit t first [] place (container kind.Struct members last) tops items refl refl more e
-tree_read what catalog limit t first (s ∷ notes) place (scalar body) tops items more e = plain_read catalog limit t first (s ∷ notes) place
+tree_read what catalog limit t first (s ∷ annotations) place (scalar body) tops items more e = plain_read catalog limit t first (s ∷ annotations) place
     (scalar body) tops items refl refl more e
-tree_read what catalog limit t first (s ∷ notes) place (container kind.List members last) tops items more e =
-    plain_read catalog limit t first (s ∷ notes) place (container kind.List members last) tops items refl refl more e
-tree_read what catalog limit t first (s ∷ notes) place (container kind.Sexp members last) tops items more e =
-    plain_read catalog limit t first (s ∷ notes) place (container kind.Sexp members last) tops items refl refl more e
-tree_read what catalog limit t first (s ∷ notes) place (container kind.Struct members last) tops items more e =
-    struct_read what catalog limit t first s notes place members last tops items (is_declaration (word_in (text_at t) s.symbol)) refl more e
+tree_read what catalog limit t first (s ∷ annotations) place (container kind.List members last) tops items more e =
+    plain_read catalog limit t first (s ∷ annotations) place (container kind.List members last) tops items refl refl more e
+tree_read what catalog limit t first (s ∷ annotations) place (container kind.Sexp members last) tops items more e =
+    plain_read catalog limit t first (s ∷ annotations) place (container kind.Sexp members last) tops items refl refl more e
+tree_read what catalog limit t first (s ∷ annotations) place (container kind.Struct members last) tops items more e =
+    struct_read what catalog limit t first s annotations place members last tops items (is_declaration (word_in (text_at t) s.symbol)) refl more e
 
 -- an empty stream has no user values
 none_read : (catalog : List Shared) (t : Table) (items : List PlacedItem) → Finished ≡ behind items Finished → AreRead catalog t [] items
@@ -338,8 +338,8 @@ none_read catalog t (i ∷ is) e = absurd (cc)
 tops_are_read : WhatIsDeclared → (catalog : List Shared) (limit : ℕ) (tops : List (Top SymbolAt ℕ)) → TopsAreRead catalog limit tops
 tops_are_read what catalog limit [] t items e = none_read catalog t items e
 tops_are_read what catalog limit (value.version place ∷ tops) t items e = tops_are_read what catalog limit tops system items e
-tops_are_read what catalog limit (tree first notes place x ∷ tops) t items e =
-    tree_read what catalog limit t first notes place x tops items (tops_are_read what catalog limit tops) e
+tops_are_read what catalog limit (tree first annotations place x ∷ tops) t items e =
+    tree_read what catalog limit t first annotations place x tops items (tops_are_read what catalog limit tops) e
 
 -- where a whole stream is accepted, the items are those of its user values, since the table that a declaration leaves is the one that it says
 pub users_are_read_by : WhatIsDeclared → UsersAreRead

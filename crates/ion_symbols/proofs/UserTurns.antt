@@ -1,4 +1,4 @@
--- What one raw item comes to in the reader of user values.
+-- What one raw item gives in the reader of user values.
 use Rattle.std.proofs.Common.{◌≡◌, ℕ, true, false, List, Some, Result, Ok, Err, refl, ap, ◌∙◌}
 use Rattle.ion_meter.specs.Counts.{Counts}
 use Rattle.ion_meter.specs.declared.fault.Fault.{Fault}

@@ -7,24 +7,24 @@ use Rattle.ion_symbols.specs.Table.{Shared, Table, most_slots, slots_cost, table
 use Rattle.ion_value.specs.Shares.{Charges, fault_of}
 use Rattle.ion_symbols.specs.Present.{Present, Starts, imports_in}
 use Rattle.ion_symbols.specs.Declaration as d
-use Rattle.ion_symbols.specs.Declaration.{Ground, Pending, Declaring, Told, Turn, next, on, made, stop, held, at, import_ended}
-use Rattle.ion_symbols.specs.declared.word.Area.{Area}
-use Rattle.ion_symbols.specs.declared.word.Area.TheVariants as area
-use Rattle.ion_symbols.specs.declared.told.What.{What}
-use Rattle.ion_symbols.specs.declared.told.What.TheVariants as what
-use Rattle.ion_symbols.specs.declared.told.Told as code
+use Rattle.ion_symbols.specs.Declaration.{Ground, Pending, Declaring, ItemView, Turn, next, on, made, stop, then_turn, at, import_ended}
+use Rattle.ion_symbols.specs.declared.known_text.Area.{Area}
+use Rattle.ion_symbols.specs.declared.known_text.Area.TheVariants as area
+use Rattle.ion_symbols.specs.declared.item_view.FieldValue.{FieldValue}
+use Rattle.ion_symbols.specs.declared.item_view.FieldValue.TheVariants as what
+use Rattle.ion_symbols.specs.declared.item_view.ItemView as code
 use Rattle.ion_symbols.specs.declared.buffer.SymbolBuffer.{SymbolBuffer}
 
-abbrev pub what_of : What → d.What
-what_of (what.Begins kind) = d.begins kind
-what_of what.Ends = d.ends
-what_of what.Other = d.other
-what_of (what.Text t) = d.string t.now
-what_of (what.Int negative magnitude) = d.int negative magnitude
-what_of (what.Names word) = d.names word
+abbrev pub field_value_of : FieldValue → d.FieldValue
+field_value_of (what.Begins kind) = d.begins kind
+field_value_of what.Ends = d.ends
+field_value_of what.Other = d.other
+field_value_of (what.Text t) = d.string t.now
+field_value_of (what.Int negative magnitude) = d.int negative magnitude
+field_value_of (what.Names word) = d.names word
 
-abbrev pub told_of : code.Told → Told
-told_of t = record { field = t.field; field_place = t.field_place; what = what_of t.what; place = t.place }
+abbrev pub item_view_of : code.ItemView → ItemView
+item_view_of t = record { field = t.field; field_place = t.field_place; what = field_value_of t.what; place = t.place }
 
 abbrev pub pending_of : {A : Type 0} → List Shared → SymbolBuffer A → Pending
 pending_of catalog b =
@@ -105,7 +105,7 @@ depth_of d = area_depth d.area + d.inside
 
 -- the end of an import's struct
 abbrev pub import_end_turn : d.Ground → Pending → Turn
-import_end_turn g p = held (import_ended g p) (λ q. on (at area.Imports q))
+import_end_turn g p = then_turn (import_ended g p) (λ q. on (at area.Imports q))
 
 -- ---- what is seen of a declaration by the table before it
 
@@ -132,7 +132,7 @@ TurnGives now t result new = TurnAs t result (declaring_in now new) (table_left 
 -- a call that may hold more can be made
 pub record CanTake {A : Type 0} (most : ℕ) (now : Present) (b : SymbolBuffer A) (meter : Counts) : Type 0 where
   pub room : meter.held ≤ 2 ^ 62
-  pub held : own_of b ≤ meter.held
+  pub then_turn : own_of b ≤ meter.held
   pub countable : meter.refused < 2 ^ 64 - 1
   pub small : most ≤ 2 ^ 30
   pub pending : IsPending most now.table b

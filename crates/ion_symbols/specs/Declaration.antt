@@ -7,25 +7,25 @@ use Rattle.ion_value.specs.declared.ion_type.Kind.{Kind}
 use Rattle.ion_value.specs.declared.ion_type.Kind.TheVariants as kind
 use Rattle.ion_value.specs.Value as value
 use Rattle.ion_value.specs.Value.{Symbol, SymbolAt, Scalar, Head, PlacedItem}
-use Rattle.ion_symbols.specs.declared.word.Word.{Word}
-use Rattle.ion_symbols.specs.declared.word.Word.TheVariants as word
-use Rattle.ion_symbols.specs.declared.word.Area.{Area}
-use Rattle.ion_symbols.specs.declared.word.Area.TheVariants as area
+use Rattle.ion_symbols.specs.declared.known_text.Word.{Word}
+use Rattle.ion_symbols.specs.declared.known_text.Word.TheVariants as word
+use Rattle.ion_symbols.specs.declared.known_text.Area.{Area}
+use Rattle.ion_symbols.specs.declared.known_text.Area.TheVariants as area
 use Rattle.ion_symbols.specs.Table.{word_of, Slots, Shared, Import, Table, most_slots, table_cost, count_of, text_length, find, greatest}
 
 -- ---- what a declaration looks at in an item
 
-pub data What : Type 0 where
-  begins : (kind : Kind) → What
-  ends other : What
-  string : (bytes : List ℕ) → What
-  int : (negative : Bool) → (magnitude : ℕ) → What
-  names : (word : Word) → What
+pub data FieldValue : Type 0 where
+  begins : (kind : Kind) → FieldValue
+  ends other : FieldValue
+  string : (bytes : List ℕ) → FieldValue
+  int : (negative : Bool) → (magnitude : ℕ) → FieldValue
+  names : (word : Word) → FieldValue
 
-pub record Told : Type 0 where
+pub record ItemView : Type 0 where
   pub field : Word
   pub field_place : ℕ
-  pub what : What
+  pub what : FieldValue
   pub place : ℕ
 
 abbrev pub word_by_id : Option (List ℕ) → Word
@@ -45,25 +45,25 @@ abbrev pub place_in : Option SymbolAt → ℕ
 place_in None = 0
 place_in (Some s) = s.place
 
-abbrev pub scalar_told : (ℕ → Option (List ℕ)) → Scalar SymbolAt → What
-scalar_told texts (value.null type) = other
-scalar_told texts (value.bool truth) = other
-scalar_told texts (value.int number) = int number.negative number.magnitude
-scalar_told texts (value.decimal number) = other
-scalar_told texts (value.timestamp moment) = other
-scalar_told texts (value.symbol s) = names (word_in texts s.symbol)
-scalar_told texts (value.string t) = string t
-scalar_told texts (value.clob bytes) = other
-scalar_told texts (value.blob bytes) = other
+abbrev pub scalar_view : (ℕ → Option (List ℕ)) → Scalar SymbolAt → FieldValue
+scalar_view texts (value.null type) = other
+scalar_view texts (value.bool truth) = other
+scalar_view texts (value.int number) = int number.negative number.magnitude
+scalar_view texts (value.decimal number) = other
+scalar_view texts (value.timestamp moment) = other
+scalar_view texts (value.symbol s) = names (word_in texts s.symbol)
+scalar_view texts (value.string t) = string t
+scalar_view texts (value.clob bytes) = other
+scalar_view texts (value.blob bytes) = other
 
-abbrev pub head_told : (ℕ → Option (List ℕ)) → Head SymbolAt → What
-head_told texts (value.whole body) = scalar_told texts body
-head_told texts (value.begin kind) = begins kind
-head_told texts value.end = ends
-head_told texts value.marker = other
+abbrev pub head_view : (ℕ → Option (List ℕ)) → Head SymbolAt → FieldValue
+head_view texts (value.whole body) = scalar_view texts body
+head_view texts (value.begin kind) = begins kind
+head_view texts value.end = ends
+head_view texts value.marker = other
 
-abbrev pub told : (ℕ → Option (List ℕ)) → PlacedItem → Told
-told texts i = record { field = field_word texts i.field; field_place = place_in i.field; what = head_told texts i.head; place = i.place }
+abbrev pub item_view : (ℕ → Option (List ℕ)) → PlacedItem → ItemView
+item_view texts i = record { field = field_word texts i.field; field_place = place_in i.field; what = head_view texts i.head; place = i.place }
 
 -- ---- the pending table
 
@@ -106,8 +106,8 @@ abbrev pub Held : Type 0
 Held = Result Pending (Reason × ℕ)
 
 -- so much is counted at a place
-abbrev pub counted : ℕ → ℕ → ℕ → ℕ → Pending → Held
-counted limit place cost count p =
+abbrev pub add_cost : ℕ → ℕ → ℕ → ℕ → Pending → Held
+add_cost limit place cost count p =
     if nat_le (p.cost + cost) limit && nat_le (p.count + count) most_slots
     then Ok (record p { cost = p.cost + cost; count = p.count + count })
     else Err (SymbolLimit, place)
@@ -126,11 +126,11 @@ field_met place _ p = Ok p
 
 -- the present table is kept
 abbrev pub keeping : Ground → ℕ → Pending → Held
-keeping g place p = counted g.limit place (table_cost g.old) (count_of g.old) (record p { keeps = true })
+keeping g place p = add_cost g.limit place (table_cost g.old) (count_of g.old) (record p { keeps = true })
 
 -- a slot more
 abbrev pub with_slot : Ground → ℕ → Option (List ℕ) → Pending → Held
-with_slot g place text p = counted g.limit place (16 + text_length text) 1 (record p { locals = p.locals ++ text ∷ [] })
+with_slot g place text p = add_cost g.limit place (16 + text_length text) 1 (record p { locals = p.locals ++ text ∷ [] })
 
 -- a field of an import: `name`, `version` and `max_id` stand once
 abbrev pub part_met : ℕ → Word → Pending → Held
@@ -140,8 +140,8 @@ part_met place word.MaxId p = if p.entry.has_max then Err (BadTable, place) else
 part_met place _ p = Ok p
 
 -- the name of an import is counted while the import is read
-abbrev pub named : Ground → ℕ → List ℕ → Pending → Held
-named g place t p = counted g.limit place (length t) 0 (record p { entry = record p.entry { name = t } })
+abbrev pub with_import_name : Ground → ℕ → List ℕ → Pending → Held
+with_import_name g place t p = add_cost g.limit place (length t) 0 (record p { entry = record p.entry { name = t } })
 
 abbrev pub versioned : ℕ → Pending → Pending
 versioned n p = record p { entry = record p.entry { version = n } }
@@ -149,7 +149,7 @@ versioned n p = record p { entry = record p.entry { version = n } }
 abbrev pub cut_to : Option ℕ → Pending → Pending
 cut_to most p = record p { entry = record p.entry { max_id = most } }
 
--- an import without a name, or of the system table, means nothing
+-- an import without a name, or of the system table, is ignored
 abbrev pub is_ignored : List ℕ → Bool
 is_ignored [] = true
 is_ignored (b ∷ bs) = bytes_eq (b ∷ bs) (codes "$ion")
@@ -179,7 +179,7 @@ nameless p = record p { entry = record p.entry { name = [] } }
 
 abbrev pub with_import : Ground → Pending → Option Import → Held
 with_import g p None = Err (BadTable, p.entry.place)
-with_import g p (Some i) = counted g.limit p.entry.place 32 i.count (nameless (record p { imports = p.imports ++ i ∷ [] }))
+with_import g p (Some i) = add_cost g.limit p.entry.place 32 i.count (nameless (record p { imports = p.imports ++ i ∷ [] }))
 
 -- an import's struct ends: its name is given back first
 abbrev pub given_back : Pending → Pending
@@ -190,9 +190,9 @@ import_ended g p =
     if is_ignored p.entry.name then Ok (nameless (given_back p))
     else with_import g (given_back p) (import_of g.catalog p.entry.name p.entry.version p.entry.max_id)
 
--- ---- item by item
+-- ---- the streaming definition, item by item
 
--- what of the declaration is being read, and how many containers are open in it that mean nothing
+-- what of the declaration is being read, and how many containers are open in it that are ignored
 pub record Declaring : Type 0 where
   pub area : Area
   pub inside : ℕ
@@ -210,71 +210,73 @@ pub data Turn : Type 0 where
   made : Table → Turn
   stop : Reason → ℕ → Turn
 
-abbrev pub held : Held → (Pending → Turn) → Turn
-held (Ok p) later = later p
-held (Err why) later = stop why.0 why.1
+abbrev pub then_turn : Held → (Pending → Turn) → Turn
+then_turn (Ok p) later = later p
+then_turn (Err why) later = stop why.0 why.1
 
--- what means nothing is passed over
-abbrev pub passed : What → Declaring → Declaring
-passed (begins k) d = record d { inside = d.inside + 1 }
-passed ends d = record d { inside = d.inside - 1 }
-passed other d = d
-passed (string t) d = d
-passed (int negative n) d = d
-passed (names w) d = d
+-- what is ignored is passed over
+abbrev pub skip_ignored : FieldValue → Declaring → Declaring
+skip_ignored (begins k) d = record d { inside = d.inside + 1 }
+skip_ignored ends d = record d { inside = d.inside - 1 }
+skip_ignored other d = d
+skip_ignored (string t) d = d
+skip_ignored (int negative n) d = d
+skip_ignored (names w) d = d
 
-abbrev pub field_value : Ground → ℕ → Word → What → Pending → Turn
+abbrev pub field_value : Ground → ℕ → Word → FieldValue → Pending → Turn
 field_value g place word.Imports (begins kind.List) p = on (at area.Imports p)
-field_value g place word.Imports (names word.Declaration) p = held (keeping g place p) (λ q. on (at area.Fields q))
+field_value g place word.Imports (names word.Declaration) p = then_turn (keeping g place p) (λ q. on (at area.Fields q))
 field_value g place word.Symbols (begins kind.List) p = on (at area.Symbols p)
-field_value g place _ what p = on (passed what (at area.Fields p))
+field_value g place _ what p = on (skip_ignored what (at area.Fields p))
 
-abbrev pub field_turn : Ground → Told → Pending → Turn
-field_turn g t p = held (field_met t.field_place t.field p) (λ q. field_value g t.place t.field t.what q)
+abbrev pub field_turn : Ground → ItemView → Pending → Turn
+field_turn g t p = then_turn (field_met t.field_place t.field p) (λ q. field_value g t.place t.field t.what q)
 
 -- an element of `symbols`: a string is a text, and anything else a slot of unknown text
-abbrev pub text_told : What → Option (List ℕ)
-text_told (string t) = Some t
-text_told _ = None
+abbrev pub string_in : FieldValue → Option (List ℕ)
+string_in (string t) = Some t
+string_in _ = None
 
-abbrev pub element_turn : Ground → Told → Pending → Turn
-element_turn g t p = held (with_slot g t.place (text_told t.what) p) (λ q. on (passed t.what (at area.Symbols q)))
+abbrev pub element_turn : Ground → ItemView → Pending → Turn
+element_turn g t p = then_turn (with_slot g t.place (string_in t.what) p) (λ q. on (skip_ignored t.what (at area.Symbols q)))
 
-abbrev pub imports_turn : Told → Pending → What → Turn
+abbrev pub imports_turn : ItemView → Pending → FieldValue → Turn
 imports_turn t p ends = on (at area.Fields p)
 imports_turn t p (begins kind.Struct) = on (at area.Import (record p { entry = new_entry t.place }))
-imports_turn t p what = on (passed what (at area.Imports p))
+imports_turn t p what = on (skip_ignored what (at area.Imports p))
 
-abbrev pub version_told : What → ℕ
-version_told (int false n) = max n 1
-version_told _ = 1
+abbrev pub version_in : FieldValue → ℕ
+version_in (int false n) = max n 1
+version_in _ = 1
 
-abbrev pub max_told : What → Option ℕ
-max_told (int false n) = Some n
-max_told _ = None
+abbrev pub max_id_in : FieldValue → Option ℕ
+max_id_in (int false n) = Some n
+max_id_in _ = None
 
-abbrev pub part_value : Ground → ℕ → Word → What → Pending → Turn
-part_value g place word.Name (string t) p = held (named g place t p) (λ q. on (at area.Import q))
-part_value g place word.Version what p = on (passed what (at area.Import (versioned (version_told what) p)))
-part_value g place word.MaxId what p = on (passed what (at area.Import (cut_to (max_told what) p)))
-part_value g place _ what p = on (passed what (at area.Import p))
+abbrev pub part_value : Ground → ℕ → Word → FieldValue → Pending → Turn
+part_value g place word.Name (string t) p =
+    then_turn (with_import_name g place t p) (λ q. on (at area.Import q))
+part_value g place word.Version what p = on (skip_ignored what (at area.Import (versioned (version_in what) p)))
+part_value g place word.MaxId what p =
+    on (skip_ignored what (at area.Import (cut_to (max_id_in what) p)))
+part_value g place _ what p = on (skip_ignored what (at area.Import p))
 
-abbrev pub part_turn : Ground → Told → Pending → Turn
-part_turn g t p = held (part_met t.field_place t.field p) (λ q. part_value g t.place t.field t.what q)
+abbrev pub part_turn : Ground → ItemView → Pending → Turn
+part_turn g t p = then_turn (part_met t.field_place t.field p) (λ q. part_value g t.place t.field t.what q)
 
-abbrev pub is_end : What → Bool
+abbrev pub is_end : FieldValue → Bool
 is_end ends = true
 is_end _ = false
 
-abbrev pub area_turn : Ground → Told → Pending → Area → Turn
+abbrev pub area_turn : Ground → ItemView → Pending → Area → Turn
 area_turn g t p area.Fields = if is_end t.what then made (next g.old p) else field_turn g t p
 area_turn g t p area.Symbols = if is_end t.what then on (at area.Fields p) else element_turn g t p
 area_turn g t p area.Imports = imports_turn t p t.what
-area_turn g t p area.Import = if is_end t.what then held (import_ended g p) (λ q. on (at area.Imports q)) else part_turn g t p
+area_turn g t p area.Import = if is_end t.what then then_turn (import_ended g p) (λ q. on (at area.Imports q)) else part_turn g t p
 
-abbrev pub turn_at : Ground → Declaring → Told → ℕ → Turn
+abbrev pub turn_at : Ground → Declaring → ItemView → ℕ → Turn
 turn_at g d t zero = area_turn g t d.pending d.area
-turn_at g d t (suc n) = on (passed t.what d)
+turn_at g d t (suc n) = on (skip_ignored t.what d)
 
-abbrev pub turn : Ground → Declaring → Told → Turn
+abbrev pub turn : Ground → Declaring → ItemView → Turn
 turn g d t = turn_at g d t d.inside

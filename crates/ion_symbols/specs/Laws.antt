@@ -6,8 +6,8 @@ use Rattle.ion_value.specs.declared.ion_type.Kind.TheVariants as kind
 use Rattle.ion_value.specs.Value as value
 use Rattle.ion_value.specs.Value.{SymbolAt, UserSymbol, user_symbol, Value, Members, container, nothing, member, Top, PlacedItem, Item, bare_item, map_item, member_items, top_items}
 use Rattle.ion_value.specs.Reading.{Reading, Finished, Stopped, behind}
-use Rattle.ion_symbols.specs.declared.word.Word.{Word}
-use Rattle.ion_symbols.specs.declared.word.Word.TheVariants as word
+use Rattle.ion_symbols.specs.declared.known_text.Word.{Word}
+use Rattle.ion_symbols.specs.declared.known_text.Word.TheVariants as word
 use Rattle.ion_symbols.specs.Table.{Shared, Table, system, text_at}
 use Rattle.ion_symbols.specs.Declaration.{Ground, start, field_word}
 use Rattle.ion_symbols.specs.Users.{users, plain, declaring, at_start}
@@ -18,7 +18,7 @@ abbrev pub by_declared : Result Table (Reason × ℕ) → (Table → Reading) �
 by_declared (Ok t) later = later t
 by_declared (Err why) later = Stopped why.0 why.1
 
--- the items of a declaration, one after the other, come to the table that its tree gives, or to its tree's first fault
+-- the streaming and the tree definitions of a declaration agree: its items give the table that its tree gives, or its tree's first fault
 abbrev pub DeclarationsAreRead : Type 0
 DeclarationsAreRead =
     (catalog : List Shared) (limit : ℕ) (old : Table) (top last : ℕ) (members : Members SymbolAt ℕ) (rest : Reading)
@@ -36,7 +36,7 @@ one_if false = 0
 
 abbrev pub fields_named : (ℕ → Option (List ℕ)) → Word → Members SymbolAt ℕ → ℕ
 fields_named texts w nothing = 0
-fields_named texts w (member before field notes place x) = fields_named texts w before + one_if (same_word (field_word texts field) w)
+fields_named texts w (member before field annotations place x) = fields_named texts w before + one_if (same_word (field_word texts field) w)
 
 abbrev pub IsTwice : (ℕ → Option (List ℕ)) → Members SymbolAt ℕ → Word → Type 0
 IsTwice texts members w = 1 < fields_named texts w members
@@ -48,7 +48,7 @@ ImportIsDoubled texts _ = ⊥
 
 abbrev pub SomeImport : (ℕ → Option (List ℕ)) → Members SymbolAt ℕ → Type 0
 SomeImport texts nothing = ⊥
-SomeImport texts (member before field notes place x) = SomeImport texts before ⊎ ImportIsDoubled texts x
+SomeImport texts (member before field annotations place x) = SomeImport texts before ⊎ ImportIsDoubled texts x
 
 abbrev pub ListIsDoubled : (ℕ → Option (List ℕ)) → Option (Value SymbolAt ℕ) → Type 0
 ListIsDoubled texts (Some (container kind.List members last)) = SomeImport texts members
@@ -69,7 +69,7 @@ WhyRefused =
 abbrev pub user_item : PlacedItem → Item UserSymbol ℕ
 user_item item = map_item (λ s. user_symbol s.symbol) (λ place. place) item
 
--- where a whole stream of markers and values is accepted, the items are those of its user values
+-- where a whole stream of version markers and values is accepted, the items are those of its user values
 abbrev pub UsersAreRead : Type 0
 UsersAreRead =
     (catalog : List Shared) (limit : ℕ) (tops : List (Top SymbolAt ℕ)) (items : List PlacedItem)

@@ -2,8 +2,8 @@
 use Rattle.std.specs.Prelude.{◌≡◌, ℕ, ◌+◌, ◌≤◌, List, [], ◌∷◌, ◌++◌, length, map, slice_get, Option, Some, None}
 use Rattle.ion_symbols.specs.Table as slot
 use Rattle.ion_symbols.specs.Table.{Slot, Slots, Shared, Import, Table, count_of, most_slots}
-use Rattle.ion_symbols.specs.declared.symbols.Found.{Found}
-use Rattle.ion_symbols.specs.declared.symbols.Slot as told
+use Rattle.ion_symbols.specs.declared.symbols.FoundImport.{FoundImport}
+use Rattle.ion_symbols.specs.declared.symbols.Slot as code
 use Rattle.ion_symbols.specs.declared.symbols.Slot.TheVariants as variants
 
 -- the present table, and the catalogue that it is read by
@@ -20,14 +20,14 @@ abbrev pub slots_at : List Shared → Option ℕ → Slots
 slots_at catalog None = []
 slots_at catalog (Some place) = slots_of (slice_get catalog place)
 
-abbrev pub import_in : List Shared → Found → Import
+abbrev pub import_in : List Shared → FoundImport → Import
 import_in catalog f = record { slots = slots_at catalog f.table; count = f.count }
 
-abbrev pub imports_in : List Shared → List Found → List Import
+abbrev pub imports_in : List Shared → List FoundImport → List Import
 imports_in catalog founds = map (import_in catalog) founds
 
 -- the table of kept imports and slots
-abbrev pub kept_table : List Shared → List Found → Slots → Table
+abbrev pub kept_table : List Shared → List FoundImport → Slots → Table
 kept_table catalog founds slots = record { imports = imports_in catalog founds; locals = slots }
 
 -- local slots behind those that are there
@@ -35,18 +35,18 @@ abbrev pub with_locals : Present → Slots → Present
 with_locals p more = record p { table = record p.table { locals = p.table.locals ++ more } }
 
 -- each import begins where the one before it ends
-abbrev pub Starts : ℕ → List Found → ℕ → Type 0
+abbrev pub Starts : ℕ → List FoundImport → ℕ → Type 0
 Starts from [] end = from ≡ end
 Starts from (f ∷ fs) end = (f.start ≡ from) × Starts (from + f.count) fs end
 
 -- a table as it is kept: no more slots than ids
-pub record IsKept (imports : List Found) (cost import_slots : ℕ) (locals : Slots) : Type 0 where
+pub record IsKept (imports : List FoundImport) (cost import_slots : ℕ) (locals : Slots) : Type 0 where
   pub starts : Starts 0 imports import_slots
   pub each : cost ≡ 32
   pub few : import_slots + length locals ≤ most_slots
 
-abbrev pub slot_told : told.Slot → Slot
-slot_told (variants.Known t) = slot.known t.now
-slot_told variants.Unknown = slot.unknown
-slot_told variants.Gap = slot.gap
-slot_told variants.Above = slot.above
+abbrev pub as_slot : code.Slot → Slot
+as_slot (variants.Known t) = slot.known t.now
+as_slot variants.Unknown = slot.unknown
+as_slot variants.Gap = slot.gap
+as_slot variants.Above = slot.above

@@ -41,7 +41,7 @@ pub record Gathered {A : Type 0} (most : ℕ) (now : Present) (b : SymbolBuffer 
 -- how the raw reader is left: what stays, and where it stands
 pub record LeavesReader {R A : Type 0} (r : RawReaderOf R A) (old new : R) (result : Result Bool Fault) : Type 0 where
   pub sound : r.sound new
-  pub tells : r.tells new ↔ r.tells old
+  pub observable : r.observable new ↔ r.observable old
   pub exceeds : r.exceeds new ↔ r.exceeds old
   pub depth : r.depth new ≡ r.depth old
   pub most : r.most new ≡ r.most old

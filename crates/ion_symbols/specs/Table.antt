@@ -1,8 +1,8 @@
 -- Symbol tables, shared tables and the catalogue (Ion specification, "Symbols").
 use Rattle.std.specs.Prelude.{ℕ, ◌+◌, ◌-◌, ◌*◌, Bool, false, not, ◌&&◌, ◌==◌, nat_lt, nat_le, if◌then◌else◌, List, [], ◌∷◌, length, slice_get, Option, Some, None, is_none, codes}
 use Rattle.std.specs.Str.{bytes_eq}
-use Rattle.ion_symbols.specs.declared.word.Word.{Word}
-use Rattle.ion_symbols.specs.declared.word.Word.TheVariants.{Name, Version, MaxId, Imports, Symbols, Declaration, Other}
+use Rattle.ion_symbols.specs.declared.known_text.Word.{Word}
+use Rattle.ion_symbols.specs.declared.known_text.Word.TheVariants.{Name, Version, MaxId, Imports, Symbols, Declaration, Other}
 
 -- a text that means something in a declaration
 abbrev pub word_of : List ℕ → Word

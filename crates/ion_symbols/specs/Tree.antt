@@ -5,11 +5,11 @@ use Rattle.ion_value.specs.declared.ion_type.Kind.TheVariants as kind
 use Rattle.ion_value.specs.Value as value
 use Rattle.ion_value.specs.Value.{SymbolAt, UserSymbol, user_symbol, Scalar, Value, Members, scalar, container, nothing, member, Top, tree, Head, PlacedItem, bare_item, member_items, map_value}
 use Rattle.ion_value.specs.Items as items
-use Rattle.ion_symbols.specs.declared.word.Word.{Word}
-use Rattle.ion_symbols.specs.declared.word.Word.TheVariants as word
+use Rattle.ion_symbols.specs.declared.known_text.Word.{Word}
+use Rattle.ion_symbols.specs.declared.known_text.Word.TheVariants as word
 use Rattle.ion_symbols.specs.Table.{Slots, Shared, Import, Table, system, text_at}
-use Rattle.ion_symbols.specs.Declaration as told
-use Rattle.ion_symbols.specs.Declaration.{Ground, Held, Pending, nothing_yet, next, field_met, keeping, with_slot, part_met, named, versioned, cut_to, import_ended, new_entry, word_in, field_word, place_in, version_told, max_told, is_ignored, import_of}
+use Rattle.ion_symbols.specs.Declaration as declaration
+use Rattle.ion_symbols.specs.Declaration.{Ground, Held, Pending, nothing_yet, next, field_met, keeping, with_slot, part_met, with_import_name, versioned, cut_to, import_ended, new_entry, word_in, field_word, place_in, version_in, max_id_in, is_ignored, import_of}
 use Rattle.ion_symbols.specs.Users.{Checked, fine, bad, or_else, checked, is_declaration}
 
 -- ---- what a declaration says, whatever it costs
@@ -29,7 +29,7 @@ or_later (Some x) later = Some x
 -- the value of the first field of a name
 abbrev pub value_of : (ℕ → Option (List ℕ)) → Word → Members SymbolAt ℕ → Option (Value SymbolAt ℕ)
 value_of texts w nothing = None
-value_of texts w (member before field notes place x) =
+value_of texts w (member before field annotations place x) =
     or_later (value_of texts w before) (if same_word (field_word texts field) w then Some x else None)
 
 -- an element of `symbols`: a string is a text, and anything else a slot of unknown text
@@ -39,7 +39,7 @@ element _ = None
 
 abbrev pub elements : Members SymbolAt ℕ → Slots
 elements nothing = []
-elements (member before field notes place x) = elements before ++ element x ∷ []
+elements (member before field annotations place x) = elements before ++ element x ∷ []
 
 abbrev pub locals_of : Option (Value SymbolAt ℕ) → Slots
 locals_of (Some (container kind.List members last)) = elements members
@@ -50,11 +50,12 @@ name_of (Some (scalar (value.string t))) = t
 name_of _ = []
 
 abbrev pub version_of : Option (Value SymbolAt ℕ) → ℕ
-version_of (Some (scalar (value.int number))) = version_told (told.int number.negative number.magnitude)
+version_of (Some (scalar (value.int number))) = version_in (declaration.int number.negative number.magnitude)
 version_of _ = 1
 
 abbrev pub max_of : Option (Value SymbolAt ℕ) → Option ℕ
-max_of (Some (scalar (value.int number))) = max_told (told.int number.negative number.magnitude)
+max_of (Some (scalar (value.int number))) =
+    max_id_in (declaration.int number.negative number.magnitude)
 max_of _ = None
 
 -- the imports that a struct of `imports` stands for, one or none; None where the table that it asks for isn't there
@@ -77,7 +78,7 @@ both None other = None
 
 abbrev pub imports_in : List Shared → (ℕ → Option (List ℕ)) → Members SymbolAt ℕ → Option (List Import)
 imports_in catalog texts nothing = Some []
-imports_in catalog texts (member before field notes place x) = both (imports_in catalog texts before) (value_import catalog texts x)
+imports_in catalog texts (member before field annotations place x) = both (imports_in catalog texts before) (value_import catalog texts x)
 
 abbrev pub with_imports : Slots → Option (List Import) → Option Table
 with_imports locals None = None
@@ -121,48 +122,49 @@ head_of (scalar body) = value.whole body
 head_of (container kind members last) = value.begin kind
 
 abbrev pub first_of : ℕ → Option SymbolAt → List SymbolAt → ℕ → Value SymbolAt ℕ → PlacedItem
-first_of top field notes place x = record { field = field; annotations = notes; head = head_of x; place = place; top = top }
+first_of top field annotations place x = record { field = field; annotations = annotations; head = head_of x; place = place; top = top }
 
 abbrev pub content_of : ℕ → Value SymbolAt ℕ → List PlacedItem
 content_of top (scalar body) = []
 content_of top (container kind members last) = member_items top members ++ bare_item value.end last top ∷ []
 
--- of what means nothing the symbols are checked all the same
-abbrev pub passed : Table → ℕ → Value SymbolAt ℕ → Pending → Held
-passed t top x p = if_fine (items_checked t (content_of top x)) (Ok p)
+-- of what is ignored the symbols are checked all the same
+abbrev pub check_ignored : Table → ℕ → Value SymbolAt ℕ → Pending → Held
+check_ignored t top x p = if_fine (items_checked t (content_of top x)) (Ok p)
 
 -- an element of `symbols`
 abbrev pub element_held : Ground → ℕ → ℕ → Value SymbolAt ℕ → Pending → Held
-element_held g top place x p = and_then (with_slot g place (element x) p) (λ q. passed g.old top x q)
+element_held g top place x p = and_then (with_slot g place (element x) p) (λ q. check_ignored g.old top x q)
 
 abbrev pub elements_held : Ground → ℕ → Members SymbolAt ℕ → Pending → Held
 elements_held g top nothing p = Ok p
-elements_held g top (member before field notes place x) p =
-    and_then (elements_held g top before p) (λ q. if_fine (checked g.old false (first_of top field notes place x)) (element_held g top place x q))
+elements_held g top (member before field annotations place x) p =
+    and_then (elements_held g top before p) (λ q. if_fine (checked g.old false (first_of top field annotations place x)) (element_held g top place x q))
 
 -- a field of an import
 abbrev pub part_held : Ground → ℕ → ℕ → Word → Value SymbolAt ℕ → Pending → Held
-part_held g top place word.Name (scalar (value.string t)) p = named g place t p
-part_held g top place word.Version x p = passed g.old top x (versioned (version_of (Some x)) p)
-part_held g top place word.MaxId x p = passed g.old top x (cut_to (max_of (Some x)) p)
-part_held g top place _ x p = passed g.old top x p
+part_held g top place word.Name (scalar (value.string t)) p = with_import_name g place t p
+part_held g top place word.Version x p =
+    check_ignored g.old top x (versioned (version_of (Some x)) p)
+part_held g top place word.MaxId x p = check_ignored g.old top x (cut_to (max_of (Some x)) p)
+part_held g top place _ x p = check_ignored g.old top x p
 
 abbrev pub parts_held : Ground → ℕ → Members SymbolAt ℕ → Pending → Held
 parts_held g top nothing p = Ok p
-parts_held g top (member before field notes place x) p =
-    and_then (parts_held g top before p) (λ q. if_fine (checked g.old false (first_of top field notes place x))
+parts_held g top (member before field annotations place x) p =
+    and_then (parts_held g top before p) (λ q. if_fine (checked g.old false (first_of top field annotations place x))
     (and_then (part_met (place_in field) (field_word (text_at g.old) field) q) (λ r. part_held g top place (field_word (text_at g.old) field) x r)))
 
 -- an element of `imports`
 abbrev pub import_held : Ground → ℕ → ℕ → Value SymbolAt ℕ → Pending → Held
 import_held g top place (container kind.Struct members last) p =
     and_then (parts_held g top members (record p { entry = new_entry place })) (λ q. import_ended g q)
-import_held g top place x p = passed g.old top x p
+import_held g top place x p = check_ignored g.old top x p
 
 abbrev pub imports_held : Ground → ℕ → Members SymbolAt ℕ → Pending → Held
 imports_held g top nothing p = Ok p
-imports_held g top (member before field notes place x) p =
-    and_then (imports_held g top before p) (λ q. if_fine (checked g.old false (first_of top field notes place x)) (import_held g top place x q))
+imports_held g top (member before field annotations place x) p =
+    and_then (imports_held g top before p) (λ q. if_fine (checked g.old false (first_of top field annotations place x)) (import_held g top place x q))
 
 -- a field of the declaration
 abbrev pub keeping_by : Ground → ℕ → Word → Pending → Held
@@ -173,12 +175,12 @@ abbrev pub field_held : Ground → ℕ → ℕ → Word → Value SymbolAt ℕ �
 field_held g top place word.Imports (container kind.List members last) p = imports_held g top members p
 field_held g top place word.Imports (scalar (value.symbol s)) p = keeping_by g place (word_in (text_at g.old) s.symbol) p
 field_held g top place word.Symbols (container kind.List members last) p = elements_held g top members p
-field_held g top place _ x p = passed g.old top x p
+field_held g top place _ x p = check_ignored g.old top x p
 
 abbrev pub fields_held : Ground → ℕ → Members SymbolAt ℕ → Pending → Held
 fields_held g top nothing p = Ok p
-fields_held g top (member before field notes place x) p =
-    and_then (fields_held g top before p) (λ q. if_fine (checked g.old false (first_of top field notes place x))
+fields_held g top (member before field annotations place x) p =
+    and_then (fields_held g top before p) (λ q. if_fine (checked g.old false (first_of top field annotations place x))
     (and_then (field_met (place_in field) (field_word (text_at g.old) field) q) (λ r. field_held g top place (field_word (text_at g.old) field) x r)))
 
 abbrev pub table_left : Ground → Held → Result Table (Reason × ℕ)
@@ -199,13 +201,13 @@ abbrev pub declares_table : Table → List SymbolAt → Value SymbolAt ℕ → O
 declares_table t (s ∷ ss) (container kind.Struct members last) = if is_declaration (word_in (text_at t) s.symbol) then Some members else None
 declares_table t _ _ = None
 
--- a marker sets the table back to the system table, a declaration leaves its next table, and each other value is a user value with its symbols
--- as they are in the table at its place; None where a declaration has no next table
+-- a version marker sets the table back to the system table, a declaration leaves its next table, and each other value is a user value with its
+-- symbols as they are in the table at its place; None where a declaration has no next table
 abbrev pub user_tops : List Shared → Table → List (Top SymbolAt ℕ) → Option (List (Top UserSymbol ℕ))
 user_tops catalog t [] = Some []
 user_tops catalog t (value.version place ∷ tops) = user_tops catalog system tops
-user_tops catalog t (tree first notes place x ∷ tops) =
-    elim (declares_table t notes x) [
+user_tops catalog t (tree first annotations place x ∷ tops) =
+    elim (declares_table t annotations x) [
       | Some members ↦ elim (next_table catalog (text_at t) t members) [ None ↦ None | Some u ↦ user_tops catalog u tops ]
-      | None ↦ option_map (λ us. tree first (map (user_at t) notes) place (map_value (user_at t) (λ p. p) x) ∷ us) (user_tops catalog t tops)
+      | None ↦ option_map (λ us. tree first (map (user_at t) annotations) place (map_value (user_at t) (λ p. p) x) ∷ us) (user_tops catalog t tops)
     ]

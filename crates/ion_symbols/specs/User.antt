@@ -93,7 +93,7 @@ pub record UserSteps {R A T : Type 0} (r : RawReaderOf R A) (item over : T) (old
   pub comes : result ≡ Ok item → MayCome (r.depth old.raw) (r.opened old.raw) (r.opened new.raw) (lent_by r.current new)
   pub ended : result ≡ Ok over → r.ended new.raw
   -- what stays
-  pub tells : r.tells new.raw ↔ r.tells old.raw
+  pub observable : r.observable new.raw ↔ r.observable old.raw
   pub exceeds : r.exceeds new.raw ↔ r.exceeds old.raw
   pub depth : r.depth new.raw ≡ r.depth old.raw
   pub most : r.most new.raw ≡ r.most old.raw

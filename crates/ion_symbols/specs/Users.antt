@@ -1,4 +1,4 @@
--- The items of user values: symbols resolved, markers and declarations taken in.
+-- The items of user values: symbols resolved, version markers and declarations taken in.
 use Rattle.std.specs.Prelude.{ℕ, ◌+◌, ◌-◌, Bool, true, false, ◌&&◌, ◌==◌, if◌then◌else◌, List, [], ◌∷◌, Option, Some, None}
 use Rattle.ion_meter.specs.declared.fault.Reason.{Reason}
 use Rattle.ion_meter.specs.declared.fault.Reason.TheVariants.{BadSymbol, UnknownSymbol}
@@ -8,12 +8,12 @@ use Rattle.ion_value.specs.Value.{Symbol, SymbolAt, Scalar, Head, PlacedItem}
 use Rattle.ion_value.specs.Items.{named_item}
 use Rattle.ion_value.specs.Reading.{Reading, Finished, Stopped, More, Step, Ends, Stops, Gives, GoesOn}
 use Rattle.ion_value.specs.Standing.{is_marker}
-use Rattle.ion_symbols.specs.declared.word.Word.{Word}
-use Rattle.ion_symbols.specs.declared.word.Word.TheVariants as word
+use Rattle.ion_symbols.specs.declared.known_text.Word.{Word}
+use Rattle.ion_symbols.specs.declared.known_text.Word.TheVariants as word
 use Rattle.ion_symbols.specs.Table as slot
 use Rattle.ion_symbols.specs.Table.{Slot, Shared, Table, system, slot_of, text_at}
 use Rattle.ion_symbols.specs.Declaration as declaration
-use Rattle.ion_symbols.specs.Declaration.{Ground, Declaring, Turn, start, turn, told, word_in}
+use Rattle.ion_symbols.specs.Declaration.{Ground, Declaring, Turn, start, turn, item_view, word_in}
 
 -- an item whose ids have the texts of a table
 abbrev pub resolve : Table → PlacedItem → PlacedItem
@@ -48,9 +48,9 @@ abbrev pub field_checked : Table → Bool → Option SymbolAt → Checked
 field_checked t user None = fine
 field_checked t user (Some s) = at_checked t user s
 
-abbrev pub notes_checked : Table → Bool → List SymbolAt → Checked
-notes_checked t user [] = fine
-notes_checked t user (s ∷ ss) = or_else (at_checked t user s) (notes_checked t user ss)
+abbrev pub annotations_checked : Table → Bool → List SymbolAt → Checked
+annotations_checked t user [] = fine
+annotations_checked t user (s ∷ ss) = or_else (at_checked t user s) (annotations_checked t user ss)
 
 abbrev pub scalar_checked : Table → Bool → Scalar SymbolAt → Checked
 scalar_checked t user (value.null type) = fine
@@ -70,7 +70,7 @@ head_checked t user value.end = fine
 head_checked t user value.marker = fine
 
 abbrev pub checked : Table → Bool → PlacedItem → Checked
-checked t user i = or_else (field_checked t user i.field) (or_else (notes_checked t user i.annotations) (head_checked t user i.head))
+checked t user i = or_else (field_checked t user i.field) (or_else (annotations_checked t user i.annotations) (head_checked t user i.head))
 
 -- ---- the fold over the items of a stream
 
@@ -126,13 +126,13 @@ plain_step t n i =
     else after_check (checked t true i) (Gives (resolve t i) (record { table = t; mode = plain (level_after n i.head) }))
 
 abbrev pub declaring_step : Ground → Declaring → PlacedItem → Step State
-declaring_step g d i = after_check (checked g.old false i) (turned g.old (turn g d (told (text_at g.old) i)))
+declaring_step g d i = after_check (checked g.old false i) (turned g.old (turn g d (item_view (text_at g.old) i)))
 
 abbrev pub mode_step : List Shared → ℕ → Table → PlacedItem → Mode → Step State
 mode_step catalog limit t i (plain n) = plain_step t n i
 mode_step catalog limit t i (declaring d) = declaring_step (record { catalog = catalog; limit = limit; old = t }) d i
 
--- what a raw item comes to
+-- what a raw item gives
 abbrev pub user_step : List Shared → ℕ → State → PlacedItem → Step State
 user_step catalog limit s i = mode_step catalog limit s.table i s.mode
 

@@ -9,16 +9,16 @@ ghost use Rattle.ion_value.specs.Reading.{Finished, Stopped};
 ghost use Rattle.ion_value.specs.Shares.{Charges, ReadCauses, fault_of};
 ghost use Rattle.ion_symbols.specs.Table as tables;
 ghost use Rattle.ion_symbols.specs.Table.{Shared, most_slots, table_cost, text_at};
-ghost use Rattle.ion_symbols.specs.Declaration.{area_turn, at, element_turn, head_told, held, imports_turn, keeping, named, next, on, part_turn, passed, start, told, turn};
-ghost use Rattle.ion_symbols.specs.Buffer.{CanTake, HoldsSame, IsPending, Takes, TurnGives, declaring_in, declaring_of, ground_in, import_end_turn, own_of, pending_in, pending_of, table_left, told_of, what_of};
+ghost use Rattle.ion_symbols.specs.Declaration.{area_turn, at, element_turn, head_view, then_turn, imports_turn, keeping, with_import_name, next, on, part_turn, skip_ignored, start, item_view, turn};
+ghost use Rattle.ion_symbols.specs.Buffer.{CanTake, HoldsSame, IsPending, Takes, TurnGives, declaring_in, declaring_of, ground_in, import_end_turn, own_of, pending_in, pending_of, table_left, item_view_of, field_value_of};
 ghost use Rattle.ion_symbols.specs.Steps.{CanGather, CanRead, Gathered, LeavesReader, LeavesTable, coming_behind, coming_inside};
 
 use crate::catalog::Import;
 use crate::checks::check_item;
 use crate::slots::{MOST_SLOTS, Slots};
-use crate::symbols::{Found, IMPORT_COST, Symbols};
-use crate::told::{Told, What, tell};
-use crate::word::{Area, Word};
+use crate::symbols::{FoundImport, IMPORT_COST, Symbols};
+use crate::item_view::{ItemView, FieldValue, view};
+use crate::known_text::{Area, Word};
 use ion_meter::buf::Buf;
 use ion_meter::fault::{Fault, Reason};
 use ion_meter::limits::Limits;
@@ -51,14 +51,14 @@ pub(crate) struct Entry {
 /// It holds 16 a slot and the length of its text, 32 an import, and the length of that name.
 #[derive(Drop)]
 pub struct SymbolBuffer<A: Allocator + Copy> {
-    // What is being read, and how many containers are open in it that mean nothing.
+    // What is being read, and how many containers are open in it that are ignored.
     pub(crate) area: Area,
     pub(crate) inside: u32,
     pub(crate) has_imports: bool,
     pub(crate) has_symbols: bool,
     // The present table is kept.
     pub(crate) keeps: bool,
-    pub(crate) imports: Table<Found, A>,
+    pub(crate) imports: Table<FoundImport, A>,
     pub(crate) import_slots: u64,
     pub(crate) slots: Slots<A>,
     // What is counted, and how many slots there are, both with those of the kept table.
@@ -108,13 +108,13 @@ impl<A: Allocator + Copy> SymbolBuffer<A> {
     ) -> Result<bool, Fault>
         requires can_read { CanRead R.RawReader limits symbols.old raw.old meter.old }
         requires level { R.opened raw.old ≡ kinds.Struct ∷ [] }
-        ensures gives { R.tells raw.old → result ≡ Ok true
+        ensures gives { R.observable raw.old → result ≡ Ok true
             → coming_inside symbols.old limits.symbols start (R.reading raw.old)
             ≡ coming_behind symbols.old limits.symbols symbols.new.table (R.reading raw.new) }
-        ensures ends { R.tells raw.old → result ≡ Ok false
+        ensures ends { R.observable raw.old → result ≡ Ok false
             → (coming_inside symbols.old limits.symbols start (R.reading raw.old) ≡ Finished)
             × (R.reading raw.new ≡ Finished) }
-        ensures refuses { R.tells raw.old → R.failed raw.old ≡ None
+        ensures refuses { R.observable raw.old → R.failed raw.old ≡ None
             → (r : Reason) (p : ℕ) → result ≡ Err (Refused r p)
             → coming_inside symbols.old limits.symbols start (R.reading raw.old) ≡ Stopped r p }
         ensures level { result ≡ Ok true → R.opened raw.new ≡ [] }
@@ -166,16 +166,16 @@ impl<A: Allocator + Copy> SymbolBuffer<A> {
         self.cost.saturating_add(cost) <= limit && self.count.saturating_add(count) <= MOST_SLOTS
     }
 
-    // What means nothing is passed over.
-    fn pass(&mut self, what: What<'_>)
+    // What is ignored is passed over.
+    fn pass(&mut self, what: FieldValue<'_>)
         requires { self.old.inside < 2 ^ 31 }
         ensures gives { (catalog : List Shared) → declaring_of catalog self.new
-            ≡ passed (what_of what.entry) (declaring_of catalog self.old) }
+            ≡ skip_ignored (field_value_of what.entry) (declaring_of catalog self.old) }
         ensures kept { self.new ≡ record self.old { inside = self.new.inside } }
     {
         match what {
-            What::Begins(_) => self.inside += 1,
-            What::Ends => self.inside = self.inside.saturating_sub(1),
+            FieldValue::Begins(_) => self.inside += 1,
+            FieldValue::Ends => self.inside = self.inside.saturating_sub(1),
             _ => {}
         }
     }
@@ -187,29 +187,29 @@ impl<A: Allocator + Copy> SymbolBuffer<A> {
         meter: &mut Meter<A>,
         limit: u64,
         symbols: &Symbols<'_, A>,
-        told: &Told<'_>,
+        item_view: &ItemView<'_>,
     ) -> Result<bool, Fault>
         requires can_take { CanTake limit symbols.now self.old meter.old }
         requires within { (self.old.area ≡ Area.Symbols) × (self.old.inside ≡ 0) }
         ensures pending { OnOk result (IsPending limit symbols.now.table self.new) }
         ensures turn { TurnGives symbols.now (element_turn (ground_in symbols.now limit)
-            (told_of told.now) (pending_in symbols.now self.old)) result self.new }
+            (item_view_of item_view.now) (pending_in symbols.now self.old)) result self.new }
         ensures takes { Takes limit self.old self.new meter.old meter.new result }
     {
-        let length = match told.what {
-            What::Text(text) => text.len() as u64,
+        let length = match item_view.what {
+            FieldValue::Text(text) => text.len() as u64,
             _ => 0,
         };
         if length > limit || !self.fits(limit, SLOT_COST + length, 1) {
-            return Err(Fault::Refused(Reason::SymbolLimit, told.place));
+            return Err(Fault::Refused(Reason::SymbolLimit, item_view.place));
         }
-        match told.what {
-            What::Text(text) => self.slots.push_text(meter, text)?,
+        match item_view.what {
+            FieldValue::Text(text) => self.slots.push_text(meter, text)?,
             _ => self.slots.push_none(meter)?,
         }
         self.cost += SLOT_COST + length;
         self.count += 1;
-        self.pass(told.what);
+        self.pass(item_view.what);
         Ok(false)
     }
 
@@ -221,7 +221,7 @@ impl<A: Allocator + Copy> SymbolBuffer<A> {
         requires alone { (self.old.imports.items ≡ []) × (self.old.keeps ≡ false) }
         requires pending { IsPending limit symbols.now.table self.old }
         ensures pending { OnOk result (IsPending limit symbols.now.table self.new) }
-        ensures turn { TurnGives symbols.now (held
+        ensures turn { TurnGives symbols.now (then_turn
             (keeping (ground_in symbols.now limit) place (pending_in symbols.now self.old))
             (λ p. on (at Area.Fields p))) result self.new }
         ensures same { HoldsSame self.old self.new result }
@@ -242,52 +242,53 @@ impl<A: Allocator + Copy> SymbolBuffer<A> {
         &mut self,
         limit: u64,
         symbols: &Symbols<'_, A>,
-        told: &Told<'_>,
+        item_view: &ItemView<'_>,
     ) -> Result<bool, Fault>
         requires limit { (limit ≤ 2 ^ 30) × (table_cost symbols.now.table ≤ limit) }
         requires within { (self.old.area ≡ Area.Fields) × (self.old.inside ≡ 0) }
         requires pending { IsPending limit symbols.now.table self.old }
         ensures pending { OnOk result (IsPending limit symbols.now.table self.new) }
         ensures turn { TurnGives symbols.now (area_turn (ground_in symbols.now limit)
-            (told_of told.now) (pending_in symbols.now self.old) Area.Fields) result self.new }
+            (item_view_of item_view.now) (pending_in symbols.now self.old) Area.Fields) result self.new }
         ensures same { HoldsSame self.old self.new result }
     {
-        if let What::Ends = told.what {
+        if let FieldValue::Ends = item_view.what {
             return Ok(true);
         }
-        match told.field {
+        match item_view.field {
             Word::Imports => {
                 if self.has_imports {
-                    return Err(Fault::Refused(Reason::BadTable, told.field_place));
+                    return Err(Fault::Refused(Reason::BadTable, item_view.field_place));
                 }
                 self.has_imports = true;
-                match told.what {
-                    What::Begins(Kind::List) => self.area = Area::Imports,
-                    What::Names(Word::Declaration) => return self.keep(limit, symbols, told.place),
-                    _ => self.pass(told.what),
+                match item_view.what {
+                    FieldValue::Begins(Kind::List) => self.area = Area::Imports,
+                    FieldValue::Names(Word::Declaration) => return self.keep(limit, symbols, item_view.place),
+                    _ => self.pass(item_view.what),
                 }
             }
             Word::Symbols => {
                 if self.has_symbols {
-                    return Err(Fault::Refused(Reason::BadTable, told.field_place));
+                    return Err(Fault::Refused(Reason::BadTable, item_view.field_place));
                 }
                 self.has_symbols = true;
-                match told.what {
-                    What::Begins(Kind::List) => self.area = Area::Symbols,
-                    _ => self.pass(told.what),
+                match item_view.what {
+                    FieldValue::Begins(Kind::List) => self.area = Area::Symbols,
+                    _ => self.pass(item_view.what),
                 }
             }
-            _ => self.pass(told.what),
+            _ => self.pass(item_view.what),
         }
         Ok(false)
     }
 
     // An element of `imports`, or the end of the list.
-    fn import(&mut self, told: &Told<'_>)
+    fn import(&mut self, item_view: &ItemView<'_>)
         requires within { (self.old.area ≡ Area.Imports) × (self.old.inside ≡ 0) }
         requires nameless { self.old.name ≡ [] }
         ensures turn { (catalog : List Shared)
-            → imports_turn (told_of told.now) (pending_of catalog self.old) (what_of told.now.what)
+            → imports_turn (item_view_of item_view.now) (pending_of catalog
+                self.old) (field_value_of item_view.now.what)
             ≡ on (declaring_of catalog self.new) }
         ensures kept { self.new
             ≡ record self.old {
@@ -298,13 +299,13 @@ impl<A: Allocator + Copy> SymbolBuffer<A> {
         ensures pending { (limit : ℕ) (old : tables.Table)
             → IsPending limit old self.old → IsPending limit old self.new }
     {
-        match told.what {
-            What::Ends => self.area = Area::Fields,
-            What::Begins(Kind::Struct) => {
+        match item_view.what {
+            FieldValue::Ends => self.area = Area::Fields,
+            FieldValue::Begins(Kind::Struct) => {
                 self.area = Area::Import;
-                self.entry = Entry::new(told.place);
+                self.entry = Entry::new(item_view.place);
             }
-            _ => self.pass(told.what),
+            _ => self.pass(item_view.what),
         }
     }
 
@@ -322,8 +323,8 @@ impl<A: Allocator + Copy> SymbolBuffer<A> {
             × ((self.old.inside ≡ 0) × (self.old.entry.has_name ≡ true)) }
         requires nameless { self.old.name ≡ [] }
         ensures pending { OnOk result (IsPending limit symbols.now.table self.new) }
-        ensures turn { TurnGives symbols.now (held
-            (named (ground_in symbols.now limit) place text.now (pending_in symbols.now self.old))
+        ensures turn { TurnGives symbols.now (then_turn
+            (with_import_name (ground_in symbols.now limit) place text.now (pending_in symbols.now self.old))
             (λ p. on (at Area.Import p))) result self.new }
         ensures takes { Takes limit self.old self.new meter.old meter.new result }
     {
@@ -342,51 +343,51 @@ impl<A: Allocator + Copy> SymbolBuffer<A> {
         meter: &mut Meter<A>,
         limit: u64,
         symbols: &Symbols<'_, A>,
-        told: &Told<'_>,
+        item_view: &ItemView<'_>,
     ) -> Result<bool, Fault>
         requires can_take { CanTake limit symbols.now self.old meter.old }
         requires within { (self.old.area ≡ Area.Import) × (self.old.inside ≡ 0) }
         ensures pending { OnOk result (IsPending limit symbols.now.table self.new) }
         ensures turn { TurnGives symbols.now (part_turn (ground_in symbols.now limit)
-            (told_of told.now) (pending_in symbols.now self.old)) result self.new }
+            (item_view_of item_view.now) (pending_in symbols.now self.old)) result self.new }
         ensures takes { Takes limit self.old self.new meter.old meter.new result }
     {
-        match told.field {
+        match item_view.field {
             Word::Name => {
                 if self.entry.has_name {
-                    return Err(Fault::Refused(Reason::BadTable, told.field_place));
+                    return Err(Fault::Refused(Reason::BadTable, item_view.field_place));
                 }
                 self.entry.has_name = true;
-                match told.what {
-                    What::Text(text) => return self.take_name(
-                        meter, limit, symbols, text, told.place,
+                match item_view.what {
+                    FieldValue::Text(text) => return self.take_name(
+                        meter, limit, symbols, text, item_view.place,
                     ),
-                    _ => self.pass(told.what),
+                    _ => self.pass(item_view.what),
                 }
             }
             Word::Version => {
                 if self.entry.has_version {
-                    return Err(Fault::Refused(Reason::BadTable, told.field_place));
+                    return Err(Fault::Refused(Reason::BadTable, item_view.field_place));
                 }
                 self.entry.has_version = true;
-                self.entry.version = match told.what {
-                    What::Int(false, number) => number.max(1),
+                self.entry.version = match item_view.what {
+                    FieldValue::Int(false, number) => number.max(1),
                     _ => 1,
                 };
-                self.pass(told.what);
+                self.pass(item_view.what);
             }
             Word::MaxId => {
                 if self.entry.has_max {
-                    return Err(Fault::Refused(Reason::BadTable, told.field_place));
+                    return Err(Fault::Refused(Reason::BadTable, item_view.field_place));
                 }
                 self.entry.has_max = true;
-                self.entry.max_id = match told.what {
-                    What::Int(false, number) => Some(number),
+                self.entry.max_id = match item_view.what {
+                    FieldValue::Int(false, number) => Some(number),
                     _ => None,
                 };
-                self.pass(told.what);
+                self.pass(item_view.what);
             }
-            _ => self.pass(told.what),
+            _ => self.pass(item_view.what),
         }
         Ok(false)
     }
@@ -425,7 +426,7 @@ impl<A: Allocator + Copy> SymbolBuffer<A> {
         let start = self.import_slots;
         if let Err(failed) = self.imports.push(
             meter,
-            Found {
+            FoundImport {
                 table,
                 start,
                 count,
@@ -454,38 +455,38 @@ impl<A: Allocator + Copy> SymbolBuffer<A> {
         ensures nameless { result ≡ Ok true → self.new.name ≡ [] }
         ensures turn { TurnGives symbols.now
             (turn (ground_in symbols.now limit) (declaring_in symbols.now self.old)
-            (told (text_at symbols.now.table) (raw_item item.now))) result self.new }
+            (item_view (text_at symbols.now.table) (raw_item item.now))) result self.new }
         ensures takes { Takes limit self.old self.new meter.old meter.new result }
     {
         if self.inside > 0 {
             self.pass_item(item);
             return Ok(false);
         }
-        let told = tell(symbols, item);
-        let ends = told.ends();
+        let item_view = view(symbols, item);
+        let ends = item_view.ends();
         match self.area {
-            Area::Fields => self.field(limit, symbols, &told),
+            Area::Fields => self.field(limit, symbols, &item_view),
             Area::Imports => {
-                self.import(&told);
+                self.import(&item_view);
                 Ok(false)
             }
             Area::Symbols if ends => {
                 self.area = Area::Fields;
                 Ok(false)
             }
-            Area::Symbols => self.element(meter, limit, symbols, &told),
+            Area::Symbols => self.element(meter, limit, symbols, &item_view),
             Area::Import if ends => self.end_import(meter, limit, symbols),
-            Area::Import => self.part(meter, limit, symbols, &told),
+            Area::Import => self.part(meter, limit, symbols, &item_view),
         }
     }
 
-    // An item inside of what means nothing.
+    // An item inside of what is ignored.
     #[inline]
     fn pass_item(&mut self, item: &Item<'_, NoNames>)
         requires { self.old.inside < 2 ^ 31 }
         ensures gives { (catalog : List Shared) (texts : ℕ → Option (List ℕ))
             → declaring_of catalog self.new
-            ≡ passed (head_told texts (raw_item item.now).head) (declaring_of catalog self.old) }
+            ≡ skip_ignored (head_view texts (raw_item item.now).head) (declaring_of catalog self.old) }
         ensures kept { self.new ≡ record self.old { inside = self.new.inside } }
     {
         match item.head() {
@@ -578,13 +579,13 @@ fn gather<R: RawReader<A>, A: Allocator + Copy>(
     buffer: &mut SymbolBuffer<A>,
 ) -> Result<bool, Fault>
     requires can_gather { CanGather R.RawReader limit symbols.now raw.old buffer.old meter.old }
-    ensures gives { R.tells raw.old → result ≡ Ok true
+    ensures gives { R.observable raw.old → result ≡ Ok true
         → coming_inside symbols.now limit (declaring_in symbols.now buffer.old) (R.reading raw.old)
         ≡ coming_behind symbols.now limit (table_left symbols.now buffer.new) (R.reading raw.new) }
-    ensures ends { R.tells raw.old → result ≡ Ok false
+    ensures ends { R.observable raw.old → result ≡ Ok false
         → (coming_inside symbols.now limit (declaring_in symbols.now buffer.old) (R.reading raw.old)
         ≡ Finished) × (R.reading raw.new ≡ Finished) }
-    ensures refuses { R.tells raw.old → R.failed raw.old ≡ None
+    ensures refuses { R.observable raw.old → R.failed raw.old ≡ None
         → (r : Reason) (p : ℕ) → result ≡ Err (Refused r p)
         → coming_inside symbols.now limit (declaring_in symbols.now buffer.old) (R.reading raw.old)
         ≡ Stopped r p }

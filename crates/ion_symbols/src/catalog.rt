@@ -28,7 +28,7 @@ const MAX_VERSION: u32 = 2_147_483_647;
 // What an import found.
 #[derive(Clone, Copy, Debug, PartialEq, Eq)]
 pub(crate) enum Import {
-    // It means nothing.
+    // It is ignored.
     Ignored,
     // It asks for a table that is not there.
     Missing,

@@ -1,7 +1,7 @@
 //! The symbols of an item, one after the other.
 ghost use Rattle.std.specs.Prelude.{◌≡◌};
 ghost use Rattle.ion_value.specs.Items.{raw_annotations, raw_field, raw_head, raw_item, symbol_at};
-ghost use Rattle.ion_symbols.specs.Users.{at_checked, checked, field_checked, head_checked, notes_checked};
+ghost use Rattle.ion_symbols.specs.Users.{at_checked, checked, field_checked, head_checked, annotations_checked};
 ghost use Rattle.ion_symbols.specs.User.{CheckedAs};
 
 use crate::symbols::{Slot, Symbols};
@@ -52,7 +52,7 @@ fn check_annotations<A: Allocator + Copy>(
     annotations: Annotations<'_, NoNames>,
 ) -> Result<(), Fault>
     ensures { CheckedAs
-        (notes_checked symbols.now.table user (raw_annotations annotations.entry)) result }
+        (annotations_checked symbols.now.table user (raw_annotations annotations.entry)) result }
 {
     let mut i = 0;
     while let Some(at) = annotations.get(i) {

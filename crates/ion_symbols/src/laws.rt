@@ -1,8 +1,8 @@
 //! Laws of the definitions of symbol tables, each the contract of a function that does nothing.
 ghost use Rattle.ion_symbols.specs.Laws.{DeclarationsAreRead, UsersAreRead, WhatIsDeclared, WhyRefused};
 
-/// A declaration that is read item by item comes to the table that its tree gives, or to its tree's
-/// first fault: at each item first its symbols, then what it means.
+/// The streaming and the tree definitions of a declaration agree: its items give the table that its
+/// tree gives, or its tree's first fault, at each item first its symbols, then what it means.
 pub fn declarations_are_read()
     ensures { DeclarationsAreRead }
 {}

@@ -18,6 +18,6 @@ mod slots;
 pub mod symbols;
 #[cfg(test)]
 mod tests;
-mod told;
+mod item_view;
 pub mod user;
-mod word;
+mod known_text;

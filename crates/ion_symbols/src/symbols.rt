@@ -1,10 +1,10 @@
-//! The symbol table of a stream at a place.
+//! The local symbol table of a stream at a place.
 ghost use Rattle.std.specs.Prelude.{◌≡◌, ℕ, ◌+◌, ◌-◌, ◌*◌, ◌^◌, ◌<◌, ◌≤◌, [], Some, None, length, slice_get, MatchOption, IfErr, OnOk, OnErr, true};
 ghost use Rattle.ion_meter.specs.declared.fault.Fault.TheVariants.{Memory};
 ghost use Rattle.ion_meter.specs.Counts.{Grows, Shrinks};
 ghost use Rattle.ion_symbols.specs.Table as tables;
 ghost use Rattle.ion_symbols.specs.Table.{count_of, import_slot, local_slot, most_slots, slot_in, slot_of, slots_cost, system, system_slots, table_cost};
-ghost use Rattle.ion_symbols.specs.Present.{IsKept, Starts, imports_in, kept_table, slot_told, slots_at, with_locals};
+ghost use Rattle.ion_symbols.specs.Present.{IsKept, Starts, imports_in, kept_table, as_slot, slots_at, with_locals};
 ghost use Rattle.ion_symbols.specs.Kept.{IsUndone};
 
 use crate::catalog::Catalog;
@@ -23,7 +23,7 @@ pub(crate) const IMPORT_COST: u64 = 32;
 /// An import: the place in the catalogue of the shared table that it found, its first slot behind
 /// the system ones, and its number of slots.
 #[derive(Clone, Copy, Debug, PartialEq, Eq)]
-pub(crate) struct Found {
+pub(crate) struct FoundImport {
     /// Where the table stands, if one was found.
     pub(crate) table: Option<usize>,
     /// Its first slot, counted from 0 behind the system ones.
@@ -45,14 +45,14 @@ pub enum Slot<'a> {
     Above,
 }
 
-/// The symbol table of a stream at a place: the system table, then imports, then local slots.
+/// The local symbol table of a stream at a place: the system table, then imports, then local slots.
 ///
 /// It holds 32 an import, whose texts stay in the catalogue, and 16 a local slot and the length of
 /// its text. A clause sees the table and the catalogue.
 #[derive(Drop)]
 pub struct Symbols<'c, A: Allocator + Copy> {
     catalog: &'c Catalog<A>,
-    imports: Table<Found, A>,
+    imports: Table<FoundImport, A>,
     // How many slots the imports have.
     import_slots: u64,
     slots: Slots<A>,
@@ -75,7 +75,7 @@ impl<'c, A: Allocator + Copy> Model for Symbols<'c, A> {
 #[inline]
 fn system_slot(id: u32) -> Slot<'static>
     requires { id < 10 }
-    ensures { slot_told result ≡ local_slot (slice_get system_slots id) }
+    ensures { as_slot result ≡ local_slot (slice_get system_slots id) }
 {
     match id {
         0 => Slot::Unknown,
@@ -94,7 +94,7 @@ fn system_slot(id: u32) -> Slot<'static>
 // The local slot at a place.
 #[inline(always)]
 fn local<A: Allocator + Copy>(slots: &Slots<A>, place: u64) -> Slot<'_>
-    ensures { slot_told result ≡ local_slot (slice_get slots.now place) }
+    ensures { as_slot result ≡ local_slot (slice_get slots.now place) }
 {
     if place >= slots.len() as u64 {
         return Slot::Above;
@@ -107,7 +107,7 @@ fn local<A: Allocator + Copy>(slots: &Slots<A>, place: u64) -> Slot<'_>
 
 // The slot at a place of a shared table that was found.
 fn shared<A: Allocator + Copy>(catalog: &Catalog<A>, table: Option<usize>, place: u64) -> Slot<'_>
-    ensures { slot_told result ≡ import_slot (slice_get (slots_at catalog.now table) place) }
+    ensures { as_slot result ≡ import_slot (slice_get (slots_at catalog.now table) place) }
 {
     let Some(table) = table else {
         return Slot::Gap;
@@ -125,7 +125,7 @@ fn shared<A: Allocator + Copy>(catalog: &Catalog<A>, table: Option<usize>, place
 }
 
 // The import that a slot stands in: the last that begins at it or before.
-fn import_at(imports: &[Found], place: u64) -> usize
+fn import_at(imports: &[FoundImport], place: u64) -> usize
     requires { (end : ℕ) × (Starts 0 imports.now end × (place < end)) }
     ensures { MatchOption (slice_get imports.now result) ⊥
         (λ f. (f.start ≤ place) × (place < f.start + f.count)) }
@@ -147,12 +147,12 @@ fn import_at(imports: &[Found], place: u64) -> usize
 #[inline(never)]
 fn imported<'a, A: Allocator + Copy>(
     catalog: &'a Catalog<A>,
-    imports: &[Found],
+    imports: &[FoundImport],
     place: u64,
 ) -> Slot<'a>
     requires { (end : ℕ) × (Starts 0 imports.now end × (place < end)) }
     ensures { (locals : tables.Slots)
-        → slot_told result ≡ slot_in (imports_in catalog.now imports.now) locals place }
+        → as_slot result ≡ slot_in (imports_in catalog.now imports.now) locals place }
 {
     let found = imports[import_at(imports, place)];
     shared(catalog, found.table, place - found.start)
@@ -175,7 +175,7 @@ impl<'c, A: Allocator + Copy> Symbols<'c, A> {
     /// What an id stands for.
     #[inline(always)]
     pub fn text(&self, id: u32) -> Slot<'_>
-        ensures { slot_told result ≡ slot_of self.now.table id }
+        ensures { as_slot result ≡ slot_of self.now.table id }
     {
         if id < 10 {
             return system_slot(id);
@@ -241,7 +241,7 @@ impl<'c, A: Allocator + Copy> Symbols<'c, A> {
     pub(crate) fn replace(
         &mut self,
         meter: &mut Meter<A>,
-        imports: Table<Found, A>,
+        imports: Table<FoundImport, A>,
         import_slots: u64,
         slots: Slots<A>,
     )

@@ -17,8 +17,8 @@ use crate::buffer::SymbolBuffer;
 use crate::catalog::Catalog;
 use crate::checks::check_item;
 use crate::symbols::Symbols;
-use crate::told::word_in;
-use crate::word::Word;
+use crate::item_view::word_in;
+use crate::known_text::Word;
 use ion_meter::fault::Fault;
 use ion_meter::limits::Limits;
 use ion_meter::meter::Meter;
@@ -44,9 +44,9 @@ pub struct UserReader<'c, R: RawReader<A>, A: Allocator + Copy> {
     failed: Option<Fault>,
 }
 
-// What a raw item came to.
+// What a raw item gave.
 #[derive(Clone, Copy, Debug, PartialEq, Eq)]
-enum Taken {
+enum StepResult {
     // The stream has ended.
     Ended,
     // A marker or a declaration was taken in.
@@ -142,41 +142,41 @@ impl<'c, R: RawReader<A>, A: Allocator + Copy> UserReader<'c, R, A> {
 
     // Takes one raw item in.
     #[inline(always)]
-    fn turn(&mut self, meter: &mut Meter<A>) -> Result<Taken, Fault>
+    fn turn(&mut self, meter: &mut Meter<A>) -> Result<StepResult, Fault>
         requires can_turn { CanTurn R.RawReader (2 ^ 61 + (2 ^ 59 + 2 ^ 32)) self.old meter.old }
         ensures ready { OnOk result (IsReady R.sound R.opened R.failed R.ended self.new) }
-        ensures gives { R.tells (raw_of self.old) → result ≡ Ok Taken.Item
+        ensures gives { R.observable (raw_of self.old) → result ≡ Ok StepResult.Item
             → coming_to R.reading self.old
             ≡ More (lent_by R.current self.new) (coming_to R.reading self.new) }
-        ensures passes { R.tells (raw_of self.old) → result ≡ Ok Taken.Passed
+        ensures passes { R.observable (raw_of self.old) → result ≡ Ok StepResult.Passed
             → coming_to R.reading self.old ≡ coming_to R.reading self.new }
-        ensures ends { R.tells (raw_of self.old) → result ≡ Ok Taken.Ended
+        ensures ends { R.observable (raw_of self.old) → result ≡ Ok StepResult.Ended
             → (coming_to R.reading self.old ≡ Finished)
             × (coming_to R.reading self.new ≡ Finished) }
-        ensures refuses { R.tells (raw_of self.old) → (r : Reason) (p : ℕ)
+        ensures refuses { R.observable (raw_of self.old) → (r : Reason) (p : ℕ)
             → result ≡ Err (Refused r p) → coming_to R.reading self.old ≡ Stopped r p }
-        ensures stays_open { result ≡ Ok Taken.Passed
+        ensures stays_open { result ≡ Ok StepResult.Passed
             → R.opened (raw_of self.new) ≡ R.opened (raw_of self.old) }
-        ensures stays { R.ended (raw_of self.old) → (result ≡ Ok Taken.Ended)
+        ensures stays { R.ended (raw_of self.old) → (result ≡ Ok StepResult.Ended)
             × (self.new ≡ self.old) × (meter.new ≡ meter.old) }
-        ensures falls { IfOk result (λ taken. taken ≢ Taken.Ended
+        ensures falls { IfOk result (λ taken. taken ≢ StepResult.Ended
             → R.left (raw_of self.new) < R.left (raw_of self.old)) }
         ensures causes { ReadCauses (fault_of result) meter.old meter.new
             (R.failures (raw_of self.old)) (R.failures (raw_of self.new))
             (R.exceeds (raw_of self.old)) }
-        ensures steps { UserSteps R.RawReader Taken.Item Taken.Ended
+        ensures steps { UserSteps R.RawReader StepResult.Item StepResult.Ended
             self.old self.new meter.old meter.new result }
     {
         match self.raw.next(meter) {
             Err(fault) => return Err(fault),
-            Ok(false) => return Ok(Taken::Ended),
+            Ok(false) => return Ok(StepResult::Ended),
             Ok(true) => {}
         }
         let item = self.raw.item();
         let head = head_of(&item);
         if is_marker(head) {
             self.symbols.reset(meter);
-            return Ok(Taken::Passed);
+            return Ok(StepResult::Passed);
         }
         if is_declaration(&self.symbols, self.count, &item) {
             if let Err(fault) = check_item(&self.symbols, false, &item) {
@@ -184,15 +184,15 @@ impl<'c, R: RawReader<A>, A: Allocator + Copy> UserReader<'c, R, A> {
             }
             return match SymbolBuffer::read(meter, self.limits, &mut self.raw, &mut self.symbols) {
                 Err(fault) => Err(fault),
-                Ok(false) => Ok(Taken::Ended),
-                Ok(true) => Ok(Taken::Passed),
+                Ok(false) => Ok(StepResult::Ended),
+                Ok(true) => Ok(StepResult::Passed),
             };
         }
         if let Err(fault) = check_item(&self.symbols, true, &item) {
             return Err(fault);
         }
         self.count = level_after(self.count, head);
-        Ok(Taken::Item)
+        Ok(StepResult::Item)
     }
 
     // Takes the next item of a user value; false at the end of the stream.
@@ -200,13 +200,13 @@ impl<'c, R: RawReader<A>, A: Allocator + Copy> UserReader<'c, R, A> {
     fn advance(&mut self, meter: &mut Meter<A>) -> Result<bool, Fault>
         requires can_turn { CanTurn R.RawReader (2 ^ 61) self.old meter.old }
         ensures ready { OnOk result (IsReady R.sound R.opened R.failed R.ended self.new) }
-        ensures gives { R.tells (raw_of self.old) → result ≡ Ok true
+        ensures gives { R.observable (raw_of self.old) → result ≡ Ok true
             → coming_to R.reading self.old
             ≡ More (lent_by R.current self.new) (coming_to R.reading self.new) }
-        ensures ends { R.tells (raw_of self.old) → result ≡ Ok false
+        ensures ends { R.observable (raw_of self.old) → result ≡ Ok false
             → (coming_to R.reading self.old ≡ Finished)
             × (coming_to R.reading self.new ≡ Finished) }
-        ensures refuses { R.tells (raw_of self.old) → (r : Reason) (p : ℕ)
+        ensures refuses { R.observable (raw_of self.old) → (r : Reason) (p : ℕ)
             → result ≡ Err (Refused r p) → coming_to R.reading self.old ≡ Stopped r p }
         ensures stays { R.ended (raw_of self.old) → (result ≡ Ok false)
             × (self.new ≡ self.old) × (meter.new ≡ meter.old) }
@@ -220,9 +220,9 @@ impl<'c, R: RawReader<A>, A: Allocator + Copy> UserReader<'c, R, A> {
         loop {
             match self.turn(meter) {
                 Err(fault) => return Err(fault),
-                Ok(Taken::Ended) => return Ok(false),
-                Ok(Taken::Item) => return Ok(true),
-                Ok(Taken::Passed) => {}
+                Ok(StepResult::Ended) => return Ok(false),
+                Ok(StepResult::Item) => return Ok(true),
+                Ok(StepResult::Passed) => {}
             }
         }
     }
@@ -241,21 +241,21 @@ impl<'c, R: RawReader<A>, A: Allocator + Copy> UserReader<'c, R, A> {
         requires countable { meter.old.refused < 2 ^ 64 - 1 }
         requires ready { IsReady R.sound R.opened R.failed R.ended self.old }
         ensures ready { IsReady R.sound R.opened R.failed R.ended self.new }
-        ensures tells { R.tells (raw_of self.new) ↔ R.tells (raw_of self.old) }
+        ensures observable { R.observable (raw_of self.new) ↔ R.observable (raw_of self.old) }
 
         // The items, and how they end.
-        ensures gives { R.tells (raw_of self.old) → result ≡ Ok true
+        ensures gives { R.observable (raw_of self.old) → result ≡ Ok true
             → coming_to R.reading self.old
             ≡ More (lent_by R.current self.new) (coming_to R.reading self.new) }
-        ensures ends { R.tells (raw_of self.old) → result ≡ Ok false
+        ensures ends { R.observable (raw_of self.old) → result ≡ Ok false
             → (coming_to R.reading self.old ≡ Finished)
             × (coming_to R.reading self.new ≡ Finished) }
-        ensures refuses { R.tells (raw_of self.old) → answered_by self.old ≡ None
+        ensures refuses { R.observable (raw_of self.old) → answered_by self.old ≡ None
             → (r : Reason) (p : ℕ) → result ≡ Err (Refused r p)
             → coming_to R.reading self.old ≡ Stopped r p }
         ensures lends { result ≡ Ok true → R.lends (raw_of self.new) }
 
-        // Each step, whatever the device tells.
+        // Each step, whether the device's bytes are observable or not.
         ensures comes { result ≡ Ok true → MayCome (R.depth (raw_of self.old))
             (R.opened (raw_of self.old)) (R.opened (raw_of self.new)) (lent_by R.current self.new) }
         ensures falls { result ≡ Ok true → R.left (raw_of self.new) < R.left (raw_of self.old) }

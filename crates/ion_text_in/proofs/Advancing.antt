@@ -25,16 +25,16 @@ past-first sexp b d t (x ∷ rest) is e = subst (λ o. Past b o) e (token-past N
 pub tok-advances : (sexp : Bool) (c d : Cursor) (t : Token) (p : ℕ) → Tok sexp c t p d → length d.rest < length c.rest
 tok-advances sexp c d t p tok =
     let s = tok-stands sexp c d t p tok in
-    let front = (blanks-within c s.front s.blank).0 in
-    let less = past-first sexp s.front d t s.front.rest refl s.token in
-    omega (arith, front, less)
+    let prefix = (blanks-within c s.prefix s.blank).0 in
+    let less = past-first sexp s.prefix d t s.prefix.rest refl s.token in
+    omega (arith, prefix, less)
 
 name-taken : (sexp : Bool) (c d : Cursor) (quoted : Bool) (symbol : Symbol) (p : ℕ) → Tok sexp c (name quoted symbol) p d → name_length symbol + length d.rest ≤ length c.rest
 name-taken sexp c d quoted symbol p tok =
     let s = tok-stands sexp c d (name quoted symbol) p tok in
-    let front = (blanks-within c s.front s.blank).0 in
-    let taken : name_length symbol + length d.rest ≤ length s.front.rest = subst (λ o. NameFits s.front o) s.token (name-fits (first_at sexp s.front.rest) s.front) in
-    omega (arith, front, taken)
+    let prefix = (blanks-within c s.prefix s.blank).0 in
+    let taken : name_length symbol + length d.rest ≤ length s.prefix.rest = subst (λ o. NameFits s.prefix o) s.token (name-fits (first_at sexp s.prefix.rest) s.prefix) in
+    omega (arith, prefix, taken)
 
 -- ---- annotations and fields
 
@@ -42,17 +42,17 @@ cost-is : (symbol : Symbol) (p : ℕ) → cost (at symbol p) ≡ 16 + name_lengt
 cost-is (value.Text bytes) p = refl
 cost-is (value.Id id) p = refl
 
-pub notes-cost : {sexp : Bool} {c d : Cursor} {notes : List SymbolAt} → Annotations sexp c notes d → sum_by cost notes + 16 * length d.rest ≤ 16 * length c.rest
-notes-cost Annotations.nothing = omega arith
-notes-cost (Annotations.then {notes = notes} {p = p} {symbol = symbol} before tok after) =
-    let front = notes-cost before in
+pub annotations-cost : {sexp : Bool} {c d : Cursor} {annotations : List SymbolAt} → Annotations sexp c annotations d → sum_by cost annotations + 16 * length d.rest ≤ 16 * length c.rest
+annotations-cost Annotations.nothing = omega arith
+annotations-cost (Annotations.then {annotations = annotations} {p = p} {symbol = symbol} before tok after) =
+    let prefix = annotations-cost before in
     let less = tok-advances _ _ _ _ _ tok in
     let taken = name-taken _ _ _ _ _ _ tok in
     let colons = tok-advances _ _ _ _ _ after in
-    omega (arith, front, less, taken, colons, cost-is symbol p, sum_by-append cost notes (at symbol p ∷ []))
+    omega (arith, prefix, less, taken, colons, cost-is symbol p, sum_by-append cost annotations (at symbol p ∷ []))
 
-pub notes-advance : {sexp : Bool} {c d : Cursor} {notes : List SymbolAt} → Annotations sexp c notes d → length d.rest ≤ length c.rest
-notes-advance ns = let all = notes-cost ns in omega (arith, all)
+pub annotations-advance : {sexp : Bool} {c d : Cursor} {annotations : List SymbolAt} → Annotations sexp c annotations d → length d.rest ≤ length c.rest
+annotations-advance ns = let all = annotations-cost ns in omega (arith, all)
 
 pub field-advances : {k : Option Kind} {c d : Cursor} {field : Option SymbolAt} → Field k c field d → length d.rest ≤ length c.rest
 field-advances Field.at_top = omega arith
@@ -63,17 +63,17 @@ field-advances (Field.in_quotes tok after) = let one = tok-advances _ _ _ _ _ to
 
 -- ---- values, members and paths
 
-noted-advances : {sexp : Bool} {c d e : Cursor} {notes : List SymbolAt} {t : Token} {p : ℕ} → Annotations sexp c notes d → Tok sexp d t p e → length e.rest ≤ length c.rest
-noted-advances ns tok = let one = notes-advance ns in let two = tok-advances _ _ _ _ _ tok in omega (arith, one, two)
+annotated-advances : {sexp : Bool} {c d e : Cursor} {annotations : List SymbolAt} {t : Token} {p : ℕ} → Annotations sexp c annotations d → Tok sexp d t p e → length e.rest ≤ length c.rest
+annotated-advances ns tok = let one = annotations-advance ns in let two = tok-advances _ _ _ _ _ tok in omega (arith, one, two)
 
 mutual
-  pub txt-advances : {k : Option Kind} {c d : Cursor} {notes : List SymbolAt} {p : ℕ} {v : Value SymbolAt ℕ} → Txt k c notes p v d → length d.rest ≤ length c.rest
-  txt-advances (Txt.of_plain ns tok) = noted-advances ns tok
-  txt-advances (Txt.of_text ns tok) = noted-advances ns tok
-  txt-advances (Txt.of_operator ns tok) = noted-advances ns tok
-  txt-advances (Txt.of_symbol ns tok alone is) = noted-advances ns tok
+  pub txt-advances : {k : Option Kind} {c d : Cursor} {annotations : List SymbolAt} {p : ℕ} {v : Value SymbolAt ℕ} → Txt k c annotations p v d → length d.rest ≤ length c.rest
+  txt-advances (Txt.of_plain ns tok) = annotated-advances ns tok
+  txt-advances (Txt.of_text ns tok) = annotated-advances ns tok
+  txt-advances (Txt.of_operator ns tok) = annotated-advances ns tok
+  txt-advances (Txt.of_symbol ns tok alone is) = annotated-advances ns tok
   txt-advances (Txt.of_members ns tok ins last) =
-      let one = noted-advances ns tok in
+      let one = annotated-advances ns tok in
       let two = inside-advances ins in
       let three = tok-advances _ _ _ _ _ last in
       omega (arith, one, two, three)
@@ -95,10 +95,10 @@ tops-advance (Tops.with_value t txt) = let one = tops-advance t in let two = txt
 -- each open container took a byte
 pub spells-advance : {b c : Cursor} {path : Path SymbolAt ℕ} {kinds : List Kind} {full : Bool} → Spells b path kinds full c → length kinds + length c.rest ≤ length b.rest
 spells-advance (Spells.top t) = let all = tops-advance t in omega (arith, all)
-spells-advance (Spells.inside path field notes p k members s f ns tok ins) =
+spells-advance (Spells.inside path field annotations p k members s f ns tok ins) =
     let one = spells-advance s in
     let two = field-advances f in
-    let three = notes-advance ns in
+    let three = annotations-advance ns in
     let four = tok-advances _ _ _ _ _ tok in
     let five = inside-advances ins in
     omega (arith, one, two, three, four, five)

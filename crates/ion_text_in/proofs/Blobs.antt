@@ -23,7 +23,7 @@ use Rattle.ion_text_in.specs.Places.{run_of, behind_run}
 use Rattle.ion_text_in.specs.Quoted.{short_quote, long_quote, text_at}
 use Rattle.ion_text_in.specs.Token.{Token, plain, first_at, token_of}
 use Rattle.ion_text_in.specs.Meaning.{Limit, Allows, IsBase64, at, solid, BlobText, BlobsAreBase64, Base64IsRead}
-use Rattle.ion_text_in.proofs.Meaning.{all-append, allowed, allows-fewer, skip-front, run-more, run-none}
+use Rattle.ion_text_in.proofs.Meaning.{all-append, allowed, allows-fewer, skip-prefix, run-more, run-none}
 use Rattle.ion_value.specs.Digits.{first_is, all_are}
 use Rattle.ion_value.specs.Name.{begins_with}
 use Rattle.ion_value.specs.Value.{SymbolAt, Scalar, blob, clob}
@@ -70,29 +70,29 @@ solid-char b bytes e = simp e refl
 
 -- what a group is cut from: its characters and white space
 record Grouped (n : ℕ) (bytes : List ℕ) (g : List ℕ × List ℕ) : Type 0 where
-  front : List ℕ
-  is : bytes ≡ front ++ g.1
-  chars : solid front ≡ g.0
+  prefix : List ℕ
+  is : bytes ≡ prefix ++ g.1
+  chars : solid prefix ≡ g.0
   few : length g.0 ≤ n
 
 grouped : (n : ℕ) (bytes : List ℕ) → Grouped n bytes (group_of n bytes)
 unfolding group_of
-grouped zero bytes = record { front = []; is = refl; chars = refl; few = omega arith }
-grouped (suc n) [] = record { front = []; is = refl; chars = refl; few = omega arith }
+grouped zero bytes = record { prefix = []; is = refl; chars = refl; few = omega arith }
+grouped (suc n) [] = record { prefix = []; is = refl; chars = refl; few = omega arith }
 grouped (suc n) (b ∷ bytes) = elim (cases_Bool (is_white b)) [
   | inl white ↦
       let g = grouped (suc n) bytes in
       subst (Grouped (suc n) (b ∷ bytes)) (sym (group-white n b bytes white))
-      (record { front = b ∷ g.front; is = ap (λ (xs : List ℕ). b ∷ xs) g.is; chars = solid-white b g.front white ∙ g.chars; few = g.few })
+      (record { prefix = b ∷ g.prefix; is = ap (λ (xs : List ℕ). b ∷ xs) g.is; chars = solid-white b g.prefix white ∙ g.chars; few = g.few })
   | inr dark ↦ elim (cases_Bool (b == 125)) [
-    | inl brace ↦ subst (Grouped (suc n) (b ∷ bytes)) (sym (group-brace n b bytes dark brace)) (record { front = []; is = refl; chars = refl; few = omega arith })
+    | inl brace ↦ subst (Grouped (suc n) (b ∷ bytes)) (sym (group-brace n b bytes dark brace)) (record { prefix = []; is = refl; chars = refl; few = omega arith })
     | inr char ↦
         let g = grouped n bytes in
         subst (Grouped (suc n) (b ∷ bytes)) (sym (group-char n b bytes dark char))
         (record {
-          front = b ∷ g.front;
+          prefix = b ∷ g.prefix;
           is = ap (λ (xs : List ℕ). b ∷ xs) g.is;
-          chars = solid-char b g.front dark ∙ ap (λ (xs : List ℕ). b ∷ xs) g.chars;
+          chars = solid-char b g.prefix dark ∙ ap (λ (xs : List ℕ). b ∷ xs) g.chars;
           few = let few = g.few in omega arith;
         })
   ]
@@ -149,10 +149,10 @@ group-is padded group bytes octets e = go padded (decoded_of standard group) ref
 
 -- ---- a blob is its base64
 
-octets-front : (xs ys : List ℕ) → Octets (xs ++ ys) → Octets xs
-octets-front [] ys all = All-nil (λ octet. octet < 256)
-octets-front (x ∷ xs) ys all =
-    All-cons (λ octet. octet < 256) x xs (All-head (λ octet. octet < 256) x (xs ++ ys) all) (octets-front xs ys (All-tail (λ octet. octet < 256) x (xs ++ ys) all))
+octets-prefix : (xs ys : List ℕ) → Octets (xs ++ ys) → Octets xs
+octets-prefix [] ys all = All-nil (λ octet. octet < 256)
+octets-prefix (x ∷ xs) ys all =
+    All-cons (λ octet. octet < 256) x xs (All-head (λ octet. octet < 256) x (xs ++ ys) all) (octets-prefix xs ys (All-tail (λ octet. octet < 256) x (xs ++ ys) all))
 
 octets-behind : (xs ys : List ℕ) → Octets (xs ++ ys) → Octets ys
 octets-behind [] ys all = all
@@ -212,21 +212,21 @@ record IsRead (padded : Bool) (bytes : List ℕ) (c d : Cursor) : Type 0 where
   none : padded ≡ true → bytes ≡ []
 
 -- a place behind so many bytes
-behind-place : (p : ℕ) (all front rest : List ℕ) → all ≡ front ++ rest → p + (length all - length rest) ≡ p + length front
-behind-place p all front rest is = omega (arith, length-append front rest, ap (λ (xs : List ℕ). length xs) is)
+behind-place : (p : ℕ) (all prefix rest : List ℕ) → all ≡ prefix ++ rest → p + (length all - length rest) ≡ p + length prefix
+behind-place p all prefix rest is = omega (arith, length-append prefix rest, ap (λ (xs : List ℕ). length xs) is)
 
 encode-nil : encode_of standard [] ≡ []
 encode-nil = encode_of-nil standard
 
-end-read : (padded : Bool) (p : ℕ) (all front rest bytes : List ℕ) (d : Cursor) → all ≡ front ++ rest → solid front ≡ [] → bytes ≡ []
+end-read : (padded : Bool) (p : ℕ) (all prefix rest bytes : List ℕ) (d : Cursor) → all ≡ prefix ++ rest → solid prefix ≡ [] → bytes ≡ []
     → Closed (behind_to (at p all) rest) d → IsRead padded bytes (at p all) d
-end-read padded p all front rest bytes d is chars none closed =
-    let behind = behind-place p all front rest is in
+end-read padded p all prefix rest bytes d is chars none closed =
+    let behind = behind-place p all prefix rest is in
     let place = closed.place in
     record {
       text = record {
-        chars = front;
-        text = is ∙ ap (λ (xs : List ℕ). front ++ xs) closed.text;
+        chars = prefix;
+        text = is ∙ ap (λ (xs : List ℕ). prefix ++ xs) closed.text;
         place = omega (arith, behind, place);
         base64 = rw (none, chars, encode-nil) refl;
       };
@@ -234,20 +234,20 @@ end-read padded p all front rest bytes d is chars none closed =
     }
 
 -- a group and what follows it
-more-read : (padded : Bool) (p : ℕ) (all front rest group bytes others : List ℕ) (d : Cursor) → all ≡ front ++ rest → solid front ≡ group → length group ≡ 4
+more-read : (padded : Bool) (p : ℕ) (all prefix rest group bytes others : List ℕ) (d : Cursor) → all ≡ prefix ++ rest → solid prefix ≡ group → length group ≡ 4
     → IsGroup padded group bytes → IsRead (nat_lt (length bytes) 3) others (behind_to (at p all) rest) d → IsRead padded (bytes ++ others) (at p all) d
-more-read padded p all front rest group bytes others d is chars four group_is read =
+more-read padded p all prefix rest group bytes others d is chars four group_is read =
     let t = read.text in
-    let behind = behind-place p all front rest is in
+    let behind = behind-place p all prefix rest is in
     let place = t.place in
-    let text_is : all ≡ (front ++ t.chars) ++ (125 ∷ 125 ∷ d.rest) =
-    is ∙ ap (λ (xs : List ℕ). front ++ xs) t.text ∙ sym (append_assoc front t.chars (125 ∷ 125 ∷ d.rest)) in
+    let text_is : all ≡ (prefix ++ t.chars) ++ (125 ∷ 125 ∷ d.rest) =
+    is ∙ ap (λ (xs : List ℕ). prefix ++ xs) t.text ∙ sym (append_assoc prefix t.chars (125 ∷ 125 ∷ d.rest)) in
     record {
       text = record {
-        chars = front ++ t.chars;
+        chars = prefix ++ t.chars;
         text = text_is;
-        place = omega (arith, behind, place, length-append front t.chars);
-        base64 = filter-append (λ b. not (is_white b)) front t.chars ∙ rw (chars, t.base64, group_is.base64) (sym joined);
+        place = omega (arith, behind, place, length-append prefix t.chars);
+        base64 = filter-append (λ b. not (is_white b)) prefix t.chars ∙ rw (chars, t.base64, group_is.base64) (sym joined);
       };
       none = λ late. absurd (false≢true (sym group_is.first ∙ late));
     }
@@ -283,22 +283,22 @@ groups-read (suc most) limit count padded p all bytes d octets e =
     go later true few e =
         let g = grouped 4 all in
         let last = last-is (group_of 4 all).0 (p + (length all - length (group_of 4 all).1)) (group_of 4 all).1 bytes d e in
-        end-read padded p all g.front (group_of 4 all).1 bytes d g.is (g.chars ∙ last.0) last.1 last.2
+        end-read padded p all g.prefix (group_of 4 all).1 bytes d g.is (g.chars ∙ last.0) last.1 last.2
     go later false few e =
         let g = grouped 4 all in
         let most_four = g.few in
         let four_at_least : 4 ≤ length (group_of 4 all).0 = ltb-false (length (group_of 4 all).0) 4 few in
-        let text : Octets (g.front ++ (group_of 4 all).1) = subst Octets g.is octets in
-        let chars : Octets (group_of 4 all).0 = subst Octets g.chars (All-filter (λ b. not (is_white b)) (λ octet. octet < 256) g.front (octets-front g.front (group_of 4 all).1 text)) in
+        let text : Octets (g.prefix ++ (group_of 4 all).1) = subst Octets g.is octets in
+        let chars : Octets (group_of 4 all).0 = subst Octets g.chars (All-filter (λ b. not (is_white b)) (λ octet. octet < 256) g.prefix (octets-prefix g.prefix (group_of 4 all).1 text)) in
         let w = went (group_bytes padded (group_of 4 all).0) _ (bytes, d) e in
         let ok = passed (passes limit (count + length w.value)) ScalarLimit _ (bytes, d) w.second in
         let v = went (groups_for most limit (count + length w.value) (nat_lt (length w.value) 3) (behind_to (at p all) (group_of 4 all).1)) _ (bytes, d) ok.1 in
         let both : ◌≡◌ {A = List ℕ × Cursor} (w.value ++ v.value.0, v.value.1) (bytes, d) = cc v.second in
         let rest_is : groups_for most limit (count + length w.value) (nat_lt (length w.value) 3) (behind_to (at p all) (group_of 4 all).1) ≡ got v.value.0 v.value.1 = v.first in
         let rest = later (count + length w.value) (nat_lt (length w.value) 3) (p + (length all - length (group_of 4 all).1)) (group_of 4 all).1
-        v.value.0 v.value.1 (octets-behind g.front (group_of 4 all).1 text) rest_is in
+        v.value.0 v.value.1 (octets-behind g.prefix (group_of 4 all).1 text) rest_is in
         let read : IsRead padded (w.value ++ v.value.0) (at p all) v.value.1 =
-        more-read padded p all g.front (group_of 4 all).1 (group_of 4 all).0 w.value v.value.0 v.value.1 g.is g.chars (omega arith)
+        more-read padded p all g.prefix (group_of 4 all).1 (group_of 4 all).0 w.value v.value.0 v.value.1 g.is g.chars (omega arith)
         (group-is padded (group_of 4 all).0 w.value chars w.first) rest in
         subst (λ (z : List ℕ × Cursor). IsRead padded z.0 (at p all) z.1) both read
 
@@ -345,33 +345,33 @@ record Front (bytes : List ℕ) (r : List ℕ × List ℕ) : Type 0 where
   is : bytes ≡ r.0 ++ r.1
   white : solid r.0 ≡ []
 
-white-front : (bytes : List ℕ) → Front bytes (run_of (first_is is_white) bytes)
-white-front [] = subst (Front []) (sym (run-none (first_is is_white) [] refl)) (record { is = refl; white = refl })
-white-front (b ∷ bytes) = elim (cases_Bool (is_white b)) [
+white-prefix : (bytes : List ℕ) → Front bytes (run_of (first_is is_white) bytes)
+white-prefix [] = subst (Front []) (sym (run-none (first_is is_white) [] refl)) (record { is = refl; white = refl })
+white-prefix (b ∷ bytes) = elim (cases_Bool (is_white b)) [
   | inl white ↦
-      let f = white-front bytes in
+      let f = white-prefix bytes in
       subst (Front (b ∷ bytes)) (sym (run-more (first_is is_white) b bytes white))
       (record { is = ap (λ (xs : List ℕ). b ∷ xs) f.is; white = solid-white b (run_of (first_is is_white) bytes).0 white ∙ f.white })
   | inr dark ↦ subst (Front (b ∷ bytes)) (sym (run-none (first_is is_white) (b ∷ bytes) dark)) (record { is = refl; white = refl })
 ]
 
-front-text : (p : ℕ) (all front rest bytes : List ℕ) (d : Cursor) → all ≡ front ++ rest → solid front ≡ [] → BlobText bytes (at (p + length front) rest) d → BlobText bytes (at p all) d
-front-text p all front rest bytes d is white t =
+prefix-text : (p : ℕ) (all prefix rest bytes : List ℕ) (d : Cursor) → all ≡ prefix ++ rest → solid prefix ≡ [] → BlobText bytes (at (p + length prefix) rest) d → BlobText bytes (at p all) d
+prefix-text p all prefix rest bytes d is white t =
     let place = t.place in
     record {
-      chars = front ++ t.chars;
-      text = is ∙ ap (λ (xs : List ℕ). front ++ xs) t.text ∙ sym (append_assoc front t.chars (125 ∷ 125 ∷ d.rest));
-      place = omega (arith, place, length-append front t.chars);
-      base64 = filter-append (λ b. not (is_white b)) front t.chars ∙ ap (λ (xs : List ℕ). xs ++ solid t.chars) white ∙ t.base64;
+      chars = prefix ++ t.chars;
+      text = is ∙ ap (λ (xs : List ℕ). prefix ++ xs) t.text ∙ sym (append_assoc prefix t.chars (125 ∷ 125 ∷ d.rest));
+      place = omega (arith, place, length-append prefix t.chars);
+      base64 = filter-append (λ b. not (is_white b)) prefix t.chars ∙ ap (λ (xs : List ℕ). xs ++ solid t.chars) white ∙ t.base64;
     }
 
 lob-read : (limit : Limit) (p : ℕ) (all bytes : List ℕ) (d : Cursor) → Octets all → lob.lob_at limit (at p all) ≡ body (blob bytes) d → BlobText bytes (at p all) d
 unfolding lob_at
 lob-read limit p all bytes d octets e =
     let r : List ℕ × List ℕ = run_of (first_is is_white) all in
-    let f = white-front all in
-    let behind : behind_run (first_is is_white) (at p all) ≡ at (p + length r.0) r.1 = ap (λ (xs : List ℕ). at (p + length r.0) (drop (length r.0) xs)) f.is ∙ skip-front p r.0 r.1 in
-    front-text p all r.0 r.1 bytes d f.is f.white
+    let f = white-prefix all in
+    let behind : behind_run (first_is is_white) (at p all) ≡ at (p + length r.0) r.1 = ap (λ (xs : List ℕ). at (p + length r.0) (drop (length r.0) xs)) f.is ∙ skip-prefix p r.0 r.1 in
+    prefix-text p all r.0 r.1 bytes d f.is f.white
     (lob-in limit (p + length r.0) r.1 bytes d (octets-behind r.0 r.1 (subst Octets f.is octets)) (subst (λ (c : Cursor). lob.lob_in limit c ≡ body (blob bytes) d) behind e))
 
 pub blobs_are_base64 : BlobsAreBase64
@@ -469,17 +469,17 @@ closed-braces p q behind e = ap (λ (q : ℕ). Ok (at q behind)) e
 
 -- the bytes of a group are those in front of the others, and it has four characters
 record Split (bytes : List ℕ) : Type 0 where
-  front : List ℕ
+  prefix : List ℕ
   others : List ℕ
-  is : bytes ≡ front ++ others
-  some : 1 ≤ length front
-  base64 : encode_of standard bytes ≡ encode_of standard front ++ encode_of standard others
-  four : length (encode_of standard front) ≡ 4
-  last : nat_lt (length front) 3 ≡ true → others ≡ []
+  is : bytes ≡ prefix ++ others
+  some : 1 ≤ length prefix
+  base64 : encode_of standard bytes ≡ encode_of standard prefix ++ encode_of standard others
+  four : length (encode_of standard prefix) ≡ 4
+  last : nat_lt (length prefix) 3 ≡ true → others ≡ []
 
 whole-split : (bytes : List ℕ) → 1 ≤ length bytes → length bytes ≤ 3 → Split bytes
 whole-split bytes some few = record {
-  front = bytes;
+  prefix = bytes;
   others = [];
   is = sym (append-nil bytes);
   some = some;
@@ -492,7 +492,7 @@ split : (b : ℕ) (bytes : List ℕ) → Split (b ∷ bytes)
 split b [] = whole-split (b ∷ []) (omega arith) (omega arith)
 split b (c ∷ []) = whole-split (b ∷ c ∷ []) (omega arith) (omega arith)
 split b (c ∷ d ∷ bytes) = record {
-  front = b ∷ c ∷ d ∷ [];
+  prefix = b ∷ c ∷ d ∷ [];
   others = bytes;
   is = refl;
   some = omega arith;
@@ -535,18 +535,18 @@ groups-given (suc most) limit count padded p q [] chars behind octets base64 las
 groups-given (suc most) limit count true p q (b ∷ bytes) chars behind octets base64 last allows enough place = absurd (cc (last refl))
 groups-given (suc most) limit count false p q (b ∷ bytes) chars behind octets base64 last allows enough place =
     let s = split b bytes in
-    let t = taken 4 chars (encode_of standard s.front) (encode_of standard s.others) (125 ∷ 125 ∷ behind) (base64 ∙ s.base64) s.four (base64-chars s.front) in
-    let all : Octets (s.front ++ s.others) = subst Octets s.is octets in
-    let many : length (b ∷ bytes) ≡ length s.front + length s.others = ap (λ (xs : List ℕ). length xs) s.is ∙ length-append s.front s.others in
+    let t = taken 4 chars (encode_of standard s.prefix) (encode_of standard s.others) (125 ∷ 125 ∷ behind) (base64 ∙ s.base64) s.four (base64-chars s.prefix) in
+    let all : Octets (s.prefix ++ s.others) = subst Octets s.is octets in
+    let many : length (b ∷ bytes) ≡ length s.prefix + length s.others = ap (λ (xs : List ℕ). length xs) s.is ∙ length-append s.prefix s.others in
     let some = s.some in
     let fewer = t.fewer in
-    let later = groups-given most limit (count + length s.front) (nat_lt (length s.front) 3)
+    let later = groups-given most limit (count + length s.prefix) (nat_lt (length s.prefix) 3)
     (p + (length (chars ++ 125 ∷ 125 ∷ behind) - length (t.more ++ 125 ∷ 125 ∷ behind))) q s.others t.more behind
-    (octets-behind s.front s.others all) t.rest s.last
-    (subst (Allows limit) (total count (length s.front) (length s.others) (length (b ∷ bytes)) many) allows) (omega (arith, enough, fewer)) (omega (arith, place, fewer, length-append chars (125 ∷ 125 ∷ behind), length-append t.more (125 ∷ 125 ∷ behind))) in
-    one-group most limit count p (chars ++ 125 ∷ 125 ∷ behind) (encode_of standard s.front) (t.more ++ 125 ∷ 125 ∷ behind) s.front s.others (at q behind) t.cut s.four
-    (group-decoded s.front (octets-front s.front s.others all))
-    (allows-fewer limit (count + length (b ∷ bytes)) (count + length s.front) (omega (arith, many)) allows) later
+    (octets-behind s.prefix s.others all) t.rest s.last
+    (subst (Allows limit) (total count (length s.prefix) (length s.others) (length (b ∷ bytes)) many) allows) (omega (arith, enough, fewer)) (omega (arith, place, fewer, length-append chars (125 ∷ 125 ∷ behind), length-append t.more (125 ∷ 125 ∷ behind))) in
+    one-group most limit count p (chars ++ 125 ∷ 125 ∷ behind) (encode_of standard s.prefix) (t.more ++ 125 ∷ 125 ∷ behind) s.prefix s.others (at q behind) t.cut s.four
+    (group-decoded s.prefix (octets-prefix s.prefix s.others all))
+    (allows-fewer limit (count + length (b ∷ bytes)) (count + length s.prefix) (omega (arith, many)) allows) later
     ∙ ap (λ (xs : List ℕ). got xs (at q behind)) (sym s.is)
   where
     total : (count a b n : ℕ) → n ≡ a + b → count + n ≡ count + a + b
@@ -625,7 +625,7 @@ lob_at-given limit p q bytes chars behind octets base64 allows place =
     let start : behind_run (first_is is_white) (at p (chars ++ 125 ∷ 125 ∷ behind)) ≡ at (p + length l.white) (l.more ++ 125 ∷ 125 ∷ behind) =
     ap (λ (z : List ℕ × List ℕ). skip (length z.0) (at p (chars ++ 125 ∷ 125 ∷ behind))) l.run
     ∙ ap (λ (xs : List ℕ). skip (length l.white) (at p xs)) parts
-    ∙ skip-front p l.white (l.more ++ 125 ∷ 125 ∷ behind) in
+    ∙ skip-prefix p l.white (l.more ++ 125 ∷ 125 ∷ behind) in
     ap (λ (c : Cursor). lob.lob_in limit c) start
     ∙ lob-given limit (p + length l.white) q bytes l.more behind octets (l.same ∙ base64) allows l.first
     (omega (arith, place, length-append l.white l.more, ap (λ (xs : List ℕ). length xs) l.is))

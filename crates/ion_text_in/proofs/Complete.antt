@@ -25,7 +25,7 @@ use Rattle.ion_text_in.specs.Paths.{open_in, Spells, IsTop}
 use Rattle.ion_text_in.specs.Laws.{Allows, Complete, StreamsAreRead}
 use Rattle.ion_text_in.proofs.Growing.{Fits}
 use Rattle.ion_text_in.proofs.Steps.{colons-none, version-none, fits}
-use Rattle.ion_text_in.proofs.Advancing.{notes-cost, notes-advance, field-advances, tok-advances, inside-advances, tops-advance, spells-advance}
+use Rattle.ion_text_in.proofs.Advancing.{annotations-cost, annotations-advance, field-advances, tok-advances, inside-advances, tops-advance, spells-advance}
 use Rattle.ion_text_in.proofs.Falling.{each_step_falls}
 use Rattle.ion_text_in.proofs.Tokens.{state, Suits, value-suits, mark-suits, end-suits, naming-suits, step-token, colons-stand, colon-stands}
 
@@ -82,19 +82,19 @@ room-depth limits depth c d lt room = lt-leb limits.depth depth (let deep = room
 
 -- ---- annotations and fields
 
-notes-read : (limits : Limits) (kinds : List Kind) (top : ℕ) (field : Option SymbolAt) (c d : Cursor) (notes : List SymbolAt) → Annotations (in_sexp (innermost kinds)) c notes d
-    → Room limits (length kinds) c → Reads limits (state kinds top (a_value field []) c) [] (state kinds top (a_value field notes) d)
+annotations-read : (limits : Limits) (kinds : List Kind) (top : ℕ) (field : Option SymbolAt) (c d : Cursor) (annotations : List SymbolAt) → Annotations (in_sexp (innermost kinds)) c annotations d
+    → Room limits (length kinds) c → Reads limits (state kinds top (a_value field []) c) [] (state kinds top (a_value field annotations) d)
 unfolding take
-notes-read limits kinds top field c _ _ Annotations.nothing room = refl
-notes-read limits kinds top field c f _ (Annotations.then {notes = notes} {d = d} {e = e} {p = p} {q = q} {quoted = quoted} {symbol = symbol} before tok after) room =
-    let front = notes-read limits kinds top field c d notes before room in
-    let cost_is = notes-cost (Annotations.then before tok after) in let wide = room.1 in
-    let next : State = state kinds top (a_value field (notes ++ at symbol p ∷ [])) f in
-    let one = step-token limits kinds top (a_value field notes) d (name quoted symbol) p e (value-suits field notes (name quoted symbol))
-    (room-token limits (length kinds) d (room-later limits (length kinds) c d (notes-advance before) room)) tok
-    ∙ ap (λ o. step_of (part p (reading.symbol_given limits kinds top field notes quoted (at symbol p) e o))) (colons-stand (in_sexp (innermost kinds)) e f q after)
-    ∙ not-refused p (nat_lt limits.scalar (sum_by cost (notes ++ at symbol p ∷ []))) AnnotationLimit (Ok (GoesOn next)) (le-ltb limits.scalar (sum_by cost (notes ++ at symbol p ∷ [])) (omega (arith, cost_is, wide))) in
-    front ∙ reads-goes_on limits (state kinds top (a_value field notes) d) next one
+annotations-read limits kinds top field c _ _ Annotations.nothing room = refl
+annotations-read limits kinds top field c f _ (Annotations.then {annotations = annotations} {d = d} {e = e} {p = p} {q = q} {quoted = quoted} {symbol = symbol} before tok after) room =
+    let prefix = annotations-read limits kinds top field c d annotations before room in
+    let cost_is = annotations-cost (Annotations.then before tok after) in let wide = room.1 in
+    let next : State = state kinds top (a_value field (annotations ++ at symbol p ∷ [])) f in
+    let one = step-token limits kinds top (a_value field annotations) d (name quoted symbol) p e (value-suits field annotations (name quoted symbol))
+    (room-token limits (length kinds) d (room-later limits (length kinds) c d (annotations-advance before) room)) tok
+    ∙ ap (λ o. step_of (part p (reading.symbol_given limits kinds top field annotations quoted (at symbol p) e o))) (colons-stand (in_sexp (innermost kinds)) e f q after)
+    ∙ not-refused p (nat_lt limits.scalar (sum_by cost (annotations ++ at symbol p ∷ []))) AnnotationLimit (Ok (GoesOn next)) (le-ltb limits.scalar (sum_by cost (annotations ++ at symbol p ∷ [])) (omega (arith, cost_is, wide))) in
+    prefix ∙ reads-goes_on limits (state kinds top (a_value field annotations) d) next one
 
 field-read : (limits : Limits) (kinds : List Kind) (top : ℕ) (k : Option Kind) (field : Option SymbolAt) (c d : Cursor) → innermost kinds ≡ k → Field k c field d → Room limits (length kinds) c
     → Reads limits (state kinds top (at_member k) c) [] (state kinds top (a_value field []) d)
@@ -127,15 +127,15 @@ same-kind kind.List = refl
 same-kind kind.Sexp = refl
 same-kind kind.Struct = refl
 
-scalar-read : (limits : Limits) (kinds : List Kind) (top : ℕ) (field : Option SymbolAt) (notes : List SymbolAt) (c d e : Cursor) (p : ℕ) (t : Token) (body : Scalar SymbolAt)
-    → Annotations (in_sexp (innermost kinds)) c notes d → Room limits (length kinds) c → Tok (in_sexp (innermost kinds)) d t p e
-    → step_of (take limits kinds top (a_value field notes) p t e) ≡ reading.scalar_given kinds top field notes p body e
-    → Reads limits (state kinds top (a_value field []) c) (value_items (top_of kinds top notes p) field notes p (value.scalar body)) (state kinds (top_of kinds top notes p) (behind_member (innermost kinds)) e)
-scalar-read limits kinds top field notes c d e p t body ns room tok taken =
-    notes-read limits kinds top field c d notes ns room
-    ∙ reads-gives limits (state kinds top (a_value field notes) d) (state kinds (top_of kinds top notes p) (behind_member (innermost kinds)) e)
-    (item_of (top_of kinds top notes p) field notes p (value.whole body))
-    (step-token limits kinds top (a_value field notes) d t p e (value-suits field notes t) (room-token limits (length kinds) d (room-later limits (length kinds) c d (notes-advance ns) room)) tok ∙ taken)
+scalar-read : (limits : Limits) (kinds : List Kind) (top : ℕ) (field : Option SymbolAt) (annotations : List SymbolAt) (c d e : Cursor) (p : ℕ) (t : Token) (body : Scalar SymbolAt)
+    → Annotations (in_sexp (innermost kinds)) c annotations d → Room limits (length kinds) c → Tok (in_sexp (innermost kinds)) d t p e
+    → step_of (take limits kinds top (a_value field annotations) p t e) ≡ reading.scalar_given kinds top field annotations p body e
+    → Reads limits (state kinds top (a_value field []) c) (value_items (top_of kinds top annotations p) field annotations p (value.scalar body)) (state kinds (top_of kinds top annotations p) (behind_member (innermost kinds)) e)
+scalar-read limits kinds top field annotations c d e p t body ns room tok taken =
+    annotations-read limits kinds top field c d annotations ns room
+    ∙ reads-gives limits (state kinds top (a_value field annotations) d) (state kinds (top_of kinds top annotations p) (behind_member (innermost kinds)) e)
+    (item_of (top_of kinds top annotations p) field annotations p (value.whole body))
+    (step-token limits kinds top (a_value field annotations) d t p e (value-suits field annotations t) (room-token limits (length kinds) d (room-later limits (length kinds) c d (annotations-advance ns) room)) tok ∙ taken)
 
 -- the end of a container behind its members
 end-suits-behind : (k : Kind) (full : Bool) → Suits (wants_behind (Some k) full) (end k)
@@ -162,37 +162,37 @@ module _ (limits : Limits) where
   mutual
     unfolding take
 
-    value-read : (kinds : List Kind) (top : ℕ) (field : Option SymbolAt) (k : Option Kind) (c e : Cursor) (notes : List SymbolAt) (p : ℕ) (v : Value SymbolAt ℕ) → innermost kinds ≡ k
-        → Txt k c notes p v e → Room limits (length kinds) c
-        → Reads limits (state kinds top (a_value field []) c) (value_items (top_of kinds top notes p) field notes p v) (state kinds (top_of kinds top notes p) (behind_member (innermost kinds)) e)
-    value-read kinds top field _ c e _ p _ is (Txt.of_plain {d = d} {notes = notes} {v = v} ns tok) room =
-        scalar-read limits kinds top field notes c d e p (plain v) v (subst (λ k. Annotations (in_sexp k) c notes d) (sym is) ns) room
+    value-read : (kinds : List Kind) (top : ℕ) (field : Option SymbolAt) (k : Option Kind) (c e : Cursor) (annotations : List SymbolAt) (p : ℕ) (v : Value SymbolAt ℕ) → innermost kinds ≡ k
+        → Txt k c annotations p v e → Room limits (length kinds) c
+        → Reads limits (state kinds top (a_value field []) c) (value_items (top_of kinds top annotations p) field annotations p v) (state kinds (top_of kinds top annotations p) (behind_member (innermost kinds)) e)
+    value-read kinds top field _ c e _ p _ is (Txt.of_plain {d = d} {annotations = annotations} {v = v} ns tok) room =
+        scalar-read limits kinds top field annotations c d e p (plain v) v (subst (λ k. Annotations (in_sexp k) c annotations d) (sym is) ns) room
         (subst (λ k. Tok (in_sexp k) d (plain v) p e) (sym is) tok) refl
-    value-read kinds top field _ c e _ p _ is (Txt.of_text {d = d} {notes = notes} {bytes = bytes} ns tok) room =
-        scalar-read limits kinds top field notes c d e p (text bytes) (value.string bytes) (subst (λ k. Annotations (in_sexp k) c notes d) (sym is) ns) room
+    value-read kinds top field _ c e _ p _ is (Txt.of_text {d = d} {annotations = annotations} {bytes = bytes} ns tok) room =
+        scalar-read limits kinds top field annotations c d e p (text bytes) (value.string bytes) (subst (λ k. Annotations (in_sexp k) c annotations d) (sym is) ns) room
         (subst (λ k. Tok (in_sexp k) d (text bytes) p e) (sym is) tok) refl
-    value-read kinds top field _ c e _ p _ is (Txt.of_operator {d = d} {notes = notes} {bytes = bytes} ns tok) room =
-        scalar-read limits kinds top field notes c d e p (operator bytes) (value.symbol (at (value.Text bytes) p)) (subst (λ k. Annotations (in_sexp k) c notes d) (sym is) ns) room
+    value-read kinds top field _ c e _ p _ is (Txt.of_operator {d = d} {annotations = annotations} {bytes = bytes} ns tok) room =
+        scalar-read limits kinds top field annotations c d e p (operator bytes) (value.symbol (at (value.Text bytes) p)) (subst (λ k. Annotations (in_sexp k) c annotations d) (sym is) ns) room
         (subst (λ k. Tok (in_sexp k) d (operator bytes) p e) (sym is) tok) refl
-    value-read kinds top field _ c e _ p _ is (Txt.of_symbol {k = k} {d = d} {notes = notes} {quoted = quoted} {symbol = symbol} ns tok alone no_version) room =
-        scalar-read limits kinds top field notes c d e p (name quoted symbol) (value.symbol (at symbol p)) (subst (λ k. Annotations (in_sexp k) c notes d) (sym is) ns) room
+    value-read kinds top field _ c e _ p _ is (Txt.of_symbol {k = k} {d = d} {annotations = annotations} {quoted = quoted} {symbol = symbol} ns tok alone no_version) room =
+        scalar-read limits kinds top field annotations c d e p (name quoted symbol) (value.symbol (at symbol p)) (subst (λ k. Annotations (in_sexp k) c annotations d) (sym is) ns) room
         (subst (λ k. Tok (in_sexp k) d (name quoted symbol) p e) (sym is) tok)
-        (ap (λ o. step_of (part p (reading.symbol_given limits kinds top field notes quoted (at symbol p) e o))) (ap (λ k. behind_colons (in_sexp k) e) is ∙ colons-none (in_sexp k) e alone)
-        ∙ ap (λ told. step_of (part p (reading.value_or_version kinds top field notes (at symbol p) e told))) (ap (λ k. tells_version k notes quoted symbol) is ∙ version-none k notes quoted symbol no_version))
-    value-read kinds top field _ c g _ p _ is (Txt.of_members {d = d} {e = e} {f = f} {notes = notes} {q = q} {j = j} {members = members} {full = full} ns tok ins tok') room =
-        let top' : ℕ = top_of kinds top notes p in
-        let room_d = room-later limits (length kinds) c d (notes-advance ns) room in
+        (ap (λ o. step_of (part p (reading.symbol_given limits kinds top field annotations quoted (at symbol p) e o))) (ap (λ k. behind_colons (in_sexp k) e) is ∙ colons-none (in_sexp k) e alone)
+        ∙ ap (λ told. step_of (part p (reading.value_or_version kinds top field annotations (at symbol p) e told))) (ap (λ k. tells_version k annotations quoted symbol) is ∙ version-none k annotations quoted symbol no_version))
+    value-read kinds top field _ c g _ p _ is (Txt.of_members {d = d} {e = e} {f = f} {annotations = annotations} {q = q} {j = j} {members = members} {full = full} ns tok ins tok') room =
+        let top' : ℕ = top_of kinds top annotations p in
+        let room_d = room-later limits (length kinds) c d (annotations-advance ns) room in
         let room_e = room-inside limits (length kinds) d e (tok-advances _ _ _ _ _ tok) room_d in
         let room_f = room-later limits (suc (length kinds)) e f (inside-advances ins) room_e in
-        let ns' = subst (λ k. Annotations (in_sexp k) c notes d) (sym is) ns in
-        let begun = step-token limits kinds top (a_value field notes) d (begin j) p e (value-suits field notes (begin j)) (room-token limits (length kinds) d room_d) (subst (λ k. Tok (in_sexp k) d (begin j) p e) (sym is) tok)
-        ∙ not-refused p (nat_le limits.depth (length kinds)) DepthLimit (Ok (Gives (item_of top' field notes p (value.begin j)) (state (j ∷ kinds) top' (member_of j) e))) (room-depth limits (length kinds) d e (tok-advances _ _ _ _ _ tok) room_d) in
-        let first = notes-read limits kinds top field c d notes ns' room
-        ∙ reads-gives limits (state kinds top (a_value field notes) d) (state (j ∷ kinds) top' (member_of j) e) (item_of top' field notes p (value.begin j)) begun in
+        let ns' = subst (λ k. Annotations (in_sexp k) c annotations d) (sym is) ns in
+        let begun = step-token limits kinds top (a_value field annotations) d (begin j) p e (value-suits field annotations (begin j)) (room-token limits (length kinds) d room_d) (subst (λ k. Tok (in_sexp k) d (begin j) p e) (sym is) tok)
+        ∙ not-refused p (nat_le limits.depth (length kinds)) DepthLimit (Ok (Gives (item_of top' field annotations p (value.begin j)) (state (j ∷ kinds) top' (member_of j) e))) (room-depth limits (length kinds) d e (tok-advances _ _ _ _ _ tok) room_d) in
+        let first = annotations-read limits kinds top field c d annotations ns' room
+        ∙ reads-gives limits (state kinds top (a_value field annotations) d) (state (j ∷ kinds) top' (member_of j) e) (item_of top' field annotations p (value.begin j)) begun in
         let inner = members-read kinds top' j e f members full ins room_e in
         let last = reads-gives limits (state (j ∷ kinds) top' (wants_behind (Some j) full) f) (state kinds top' (behind_member (innermost kinds)) g) (item_of top' None [] q value.end)
         (step-token limits (j ∷ kinds) top' (wants_behind (Some j) full) f (end j) q g (end-suits-behind j full) (room-token limits (suc (length kinds)) f room_f) tok' ∙ end-taken limits kinds top' j full q g) in
-        first ∙ ap (More (item_of top' field notes p (value.begin j)))
+        first ∙ ap (More (item_of top' field annotations p (value.begin j)))
         (reads-then limits (state (j ∷ kinds) top' (member_of j) e) (state (j ∷ kinds) top' (wants_behind (Some j) full) f) (state kinds top' (behind_member (innermost kinds)) g)
         (member_items top' members) (item_of top' None [] q value.end ∷ []) inner last)
 
@@ -200,15 +200,15 @@ module _ (limits : Limits) where
         → Room limits (suc (length kinds)) c
         → Reads limits (state (j ∷ kinds) top (member_of j) c) (member_items top members) (state (j ∷ kinds) top (wants_behind (Some j) full) d)
     members-read kinds top j c _ _ _ Inside.nothing room = refl
-    members-read kinds top j c f _ _ (Inside.with_value {d = d} {e = e} {members = members} {field = field} {notes = notes} {p = p} {v = v} ins field_is txt) room =
+    members-read kinds top j c f _ _ (Inside.with_value {d = d} {e = e} {members = members} {field = field} {annotations = annotations} {p = p} {v = v} ins field_is txt) room =
         let before = members-read kinds top j c d members false ins room in
         let room_d = room-later limits (suc (length kinds)) c d (inside-advances ins) room in
         let room_e = room-later limits (suc (length kinds)) d e (field-advances field_is) room_d in
         let name = field-read limits (j ∷ kinds) top (Some j) field d e refl field_is room_d in
-        let one = value-read (j ∷ kinds) top field (Some j) e f notes p v refl txt room_e in
+        let one = value-read (j ∷ kinds) top field (Some j) e f annotations p v refl txt room_e in
         let all = reads-then limits (state (j ∷ kinds) top (member_of j) c) (state (j ∷ kinds) top (at_member (Some j)) d) (state (j ∷ kinds) top (behind_member (Some j)) f)
-        (member_items top members) (value_items top field notes p v) before (name ∙ one) in
-        subst (λ wants. Reads limits (state (j ∷ kinds) top (member_of j) c) (member_items top members ++ value_items top field notes p v) (state (j ∷ kinds) top wants f)) (same-wants j) all
+        (member_items top members) (value_items top field annotations p v) before (name ∙ one) in
+        subst (λ wants. Reads limits (state (j ∷ kinds) top (member_of j) c) (member_items top members ++ value_items top field annotations p v) (state (j ∷ kinds) top wants f)) (same-wants j) all
     members-read kinds top j c e _ _ (Inside.with_comma {d = d} {members = members} {p = p} ins tok) room =
         let before = members-read kinds top j c d members true ins room in
         let comma_read = reads-goes_on limits (state (j ∷ kinds) top a_separator d) (state (j ∷ kinds) top (at_member (Some j)) e)
@@ -239,32 +239,32 @@ module _ (limits : Limits) (bytes : List ℕ) (allows : Allows limits bytes) whe
   unfolding take
   tops-read _ _ Tops.nothing = (0, refl)
   tops-read e _ (Tops.marker {tops = tops} {d = d} {p = p} before tok alone) =
-      let front = tops-read d tops before in
+      let prefix = tops-read d tops before in
       let room = all-room limits bytes 0 d allows (let le = tops-advance before in omega (arith, le)) in
-      let one = step-token limits [] front.0 (a_value None []) d (name false (value.Text version_word)) p e (value-suits None [] (name false (value.Text version_word))) (room-token limits 0 d room) tok
-      ∙ ap (λ o. step_of (part p (reading.symbol_given limits [] front.0 None [] false (at (value.Text version_word) p) e o))) (colons-none false e alone)
-      ∙ marker-taken front.0 p e in
-      let all = reads-then limits (start bytes) (state [] front.0 (a_value None []) d) (state [] p (a_value None []) e) (top_items tops) (item_of p None [] p value.marker ∷ [])
-      front.1 (reads-gives limits (state [] front.0 (a_value None []) d) (state [] p (a_value None []) e) (item_of p None [] p value.marker) one) in
+      let one = step-token limits [] prefix.0 (a_value None []) d (name false (value.Text version_word)) p e (value-suits None [] (name false (value.Text version_word))) (room-token limits 0 d room) tok
+      ∙ ap (λ o. step_of (part p (reading.symbol_given limits [] prefix.0 None [] false (at (value.Text version_word) p) e o))) (colons-none false e alone)
+      ∙ marker-taken prefix.0 p e in
+      let all = reads-then limits (start bytes) (state [] prefix.0 (a_value None []) d) (state [] p (a_value None []) e) (top_items tops) (item_of p None [] p value.marker ∷ [])
+      prefix.1 (reads-gives limits (state [] prefix.0 (a_value None []) d) (state [] p (a_value None []) e) (item_of p None [] p value.marker) one) in
       (p, subst (λ items. Reads limits (start bytes) items (state [] p (a_value None []) e)) (sym (top_items-snoc tops (value.version p))) all)
-  tops-read e _ (Tops.with_value {tops = tops} {d = d} {notes = notes} {p = p} {v = v} before txt) =
-      let front = tops-read d tops before in
+  tops-read e _ (Tops.with_value {tops = tops} {d = d} {annotations = annotations} {p = p} {v = v} before txt) =
+      let prefix = tops-read d tops before in
       let room = all-room limits bytes 0 d allows (let le = tops-advance before in omega (arith, le)) in
-      let all = reads-then limits (start bytes) (state [] front.0 (a_value None []) d) (state [] (first_place notes p) (a_value None []) e) (top_items tops)
-      (value_items (first_place notes p) None notes p v) front.1 (value-read limits [] front.0 None None d e notes p v refl txt room) in
-      (first_place notes p, subst (λ items. Reads limits (start bytes) items (state [] (first_place notes p) (a_value None []) e)) (sym (top_items-snoc tops (value.tree (first_place notes p) notes p v))) all)
+      let all = reads-then limits (start bytes) (state [] prefix.0 (a_value None []) d) (state [] (first_place annotations p) (a_value None []) e) (top_items tops)
+      (value_items (first_place annotations p) None annotations p v) prefix.1 (value-read limits [] prefix.0 None None d e annotations p v refl txt room) in
+      (first_place annotations p, subst (λ items. Reads limits (start bytes) items (state [] (first_place annotations p) (a_value None []) e)) (sym (top_items-snoc tops (value.tree (first_place annotations p) annotations p v))) all)
 
-open-top : {b c : Cursor} (path : Path SymbolAt ℕ) (kinds : List Kind) (full : Bool) (top : ℕ) (field : Option SymbolAt) (notes : List SymbolAt) (p : ℕ) (k : Kind) (members : Members SymbolAt ℕ)
-    → Spells b path kinds full c → IsTop path top → IsTop (open_in path (first_place notes p) field notes p k members) (top_of kinds top notes p)
-open-top _ _ _ top field notes p j members (Spells.top t) is = refl
-open-top _ _ _ top field notes p j members (Spells.inside (closed tops) g own q k ms s around ns tok ins) is = is
-open-top _ _ _ top field notes p j members (Spells.inside (opened tops first nest) g own q k ms s around ns tok ins) is = is
+open-top : {b c : Cursor} (path : Path SymbolAt ℕ) (kinds : List Kind) (full : Bool) (top : ℕ) (field : Option SymbolAt) (annotations : List SymbolAt) (p : ℕ) (k : Kind) (members : Members SymbolAt ℕ)
+    → Spells b path kinds full c → IsTop path top → IsTop (open_in path (first_place annotations p) field annotations p k members) (top_of kinds top annotations p)
+open-top _ _ _ top field annotations p j members (Spells.top t) is = refl
+open-top _ _ _ top field annotations p j members (Spells.inside (closed tops) g own q k ms s around ns tok ins) is = is
+open-top _ _ _ top field annotations p j members (Spells.inside (opened tops first nest) g own q k ms s around ns tok ins) is = is
 
-open-items : (path : Path SymbolAt ℕ) (q top : ℕ) (field : Option SymbolAt) (notes : List SymbolAt) (p : ℕ) (k : Kind) (members : Members SymbolAt ℕ) → Fits path q top field
-    → path_items (open_in path q field notes p k members) ≡ path_items path ++ (begin_item top field notes p k ∷ member_items top members)
-open-items (closed tops) q top field notes p k members fits = rw (← fits.0, fits.1) refl
-open-items (opened tops first nest) q top field notes p k members fits =
-    rw (← fits) (sym (append_assoc (top_items tops) (nest_items first nest) (begin_item first field notes p k ∷ member_items first members)))
+open-items : (path : Path SymbolAt ℕ) (q top : ℕ) (field : Option SymbolAt) (annotations : List SymbolAt) (p : ℕ) (k : Kind) (members : Members SymbolAt ℕ) → Fits path q top field
+    → path_items (open_in path q field annotations p k members) ≡ path_items path ++ (begin_item top field annotations p k ∷ member_items top members)
+open-items (closed tops) q top field annotations p k members fits = rw (← fits.0, fits.1) refl
+open-items (opened tops first nest) q top field annotations p k members fits =
+    rw (← fits) (sym (append_assoc (top_items tops) (nest_items first nest) (begin_item first field annotations p k ∷ member_items first members)))
 
 -- where the open top-level value began, or the last
 record PathRead (limits : Limits) (bytes : List ℕ) (path : Path SymbolAt ℕ) (kinds : List Kind) (full : Bool) (c : Cursor) : Type 0 where
@@ -277,25 +277,25 @@ module _ (limits : Limits) (bytes : List ℕ) (allows : Allows limits bytes) whe
       → PathRead limits bytes path kinds full c
   unfolding take
   path-read c _ _ _ (Spells.top {tops = tops} t) = let all = tops-read limits bytes allows c tops t in record { top = all.0; is_top = tt; read = all.1 }
-  path-read g _ _ _ (Spells.inside path field notes p k members {kinds = kinds} {c = c} {d = d} {e = e} {f = f} {full = full} s f_is ns tok ins) =
+  path-read g _ _ _ (Spells.inside path field annotations p k members {kinds = kinds} {c = c} {d = d} {e = e} {f = f} {full = full} s f_is ns tok ins) =
       let room_c = all-room limits bytes (length kinds) c allows (spells-advance s) in
       let room_d = room-later limits (length kinds) c d (field-advances f_is) room_c in
-      let room_e = room-later limits (length kinds) d e (notes-advance ns) room_d in
+      let room_e = room-later limits (length kinds) d e (annotations-advance ns) room_d in
       let room_f = room-inside limits (length kinds) e f (tok-advances _ _ _ _ _ tok) room_e in
       let before = path-read c path kinds false s in
-      let top' : ℕ = top_of kinds before.top notes p in
-      let begun = step-token limits kinds before.top (a_value field notes) e (begin k) p f (value-suits field notes (begin k)) (room-token limits (length kinds) e room_e) tok
-      ∙ not-refused p (nat_le limits.depth (length kinds)) DepthLimit (Ok (Gives (item_of top' field notes p (value.begin k)) (state (k ∷ kinds) top' (member_of k) f))) (room-depth limits (length kinds) e f (tok-advances _ _ _ _ _ tok) room_e) in
-      let first = field-read limits kinds before.top (innermost kinds) field c d refl f_is room_c ∙ notes-read limits kinds before.top field d e notes ns room_d
-      ∙ reads-gives limits (state kinds before.top (a_value field notes) e) (state (k ∷ kinds) top' (member_of k) f) (item_of top' field notes p (value.begin k)) begun in
+      let top' : ℕ = top_of kinds before.top annotations p in
+      let begun = step-token limits kinds before.top (a_value field annotations) e (begin k) p f (value-suits field annotations (begin k)) (room-token limits (length kinds) e room_e) tok
+      ∙ not-refused p (nat_le limits.depth (length kinds)) DepthLimit (Ok (Gives (item_of top' field annotations p (value.begin k)) (state (k ∷ kinds) top' (member_of k) f))) (room-depth limits (length kinds) e f (tok-advances _ _ _ _ _ tok) room_e) in
+      let first = field-read limits kinds before.top (innermost kinds) field c d refl f_is room_c ∙ annotations-read limits kinds before.top field d e annotations ns room_d
+      ∙ reads-gives limits (state kinds before.top (a_value field annotations) e) (state (k ∷ kinds) top' (member_of k) f) (item_of top' field annotations p (value.begin k)) begun in
       let inner = members-read limits kinds top' k f g members full ins room_f in
       let all = reads-then limits (start bytes) (state kinds before.top (at_member (innermost kinds)) c) (state (k ∷ kinds) top' (wants_behind (Some k) full) g) (path_items path)
-      (item_of top' field notes p (value.begin k) ∷ member_items top' members) before.read (first ∙ ap (More (item_of top' field notes p (value.begin k))) inner) in
+      (item_of top' field annotations p (value.begin k) ∷ member_items top' members) before.read (first ∙ ap (More (item_of top' field annotations p (value.begin k))) inner) in
       record {
         top = top';
-        is_top = open-top path kinds false before.top field notes p k members s before.is_top;
+        is_top = open-top path kinds false before.top field annotations p k members s before.is_top;
         read = subst (λ items. Reads limits (start bytes) items (state (k ∷ kinds) top' (wants_behind (Some k) full) g))
-            (sym (open-items path (first_place notes p) top' field notes p k members (fits path kinds false before.top field notes p s before.is_top f_is))) all;
+            (sym (open-items path (first_place annotations p) top' field annotations p k members (fits path kinds false before.top field annotations p s before.is_top f_is))) all;
       }
 
 reading-read_from : (limits : Limits) (bytes : List ℕ) → reading.reading limits bytes ≡ read_from limits (start bytes)

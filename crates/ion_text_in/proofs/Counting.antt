@@ -379,7 +379,7 @@ word_of-counts (b ∷ bytes) =
     typed-counts (suc (length bytes)) word behind (bytes_eq (codes "null") word && first_is (λ b. b == 46) behind)
     (λ is. first-some (λ b. b == 46) behind ((and_parts (bytes_eq (codes "null") word) (first_is (λ b. b == 46) behind) is).1)) (omega (arith, all))
 
-begins-long : (front bytes : List ℕ) → begins_with front bytes ≡ true → length front ≤ length bytes
+begins-long : (prefix bytes : List ℕ) → begins_with prefix bytes ≡ true → length prefix ≤ length bytes
 begins-long [] bytes is = omega arith
 begins-long (c ∷ cs) [] is = absurd (false≢true is)
 begins-long (c ∷ cs) (b ∷ bytes) is = let more = begins-long cs bytes ((and_parts (c == b) (begins_with cs bytes) is).1) in omega (arith, more)

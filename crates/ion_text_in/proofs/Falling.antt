@@ -40,11 +40,11 @@ closed-most : (kinds : List Kind) (top : ℕ) (k : Kind) (p : ℕ) (c : Cursor) 
 closed-most [] top k p c = tt
 closed-most (j ∷ kinds) top k p c = most-refuse (length c.rest) p (not (reading.is_same j k)) BadToken _ (stays c)
 
-bare-most : (field : Option SymbolAt) (notes : List SymbolAt) (kinds : List Kind) (top : ℕ) (k : Kind) (p : ℕ) (c : Cursor)
-    → Most (length c.rest) (part p (reading.closed_bare field notes kinds top k p c))
+bare-most : (field : Option SymbolAt) (annotations : List SymbolAt) (kinds : List Kind) (top : ℕ) (k : Kind) (p : ℕ) (c : Cursor)
+    → Most (length c.rest) (part p (reading.closed_bare field annotations kinds top k p c))
 bare-most None [] kinds top k p c = closed-most kinds top k p c
-bare-most None (a ∷ notes) kinds top k p c = tt
-bare-most (Some a) notes kinds top k p c = tt
+bare-most None (a ∷ annotations) kinds top k p c = tt
+bare-most (Some a) annotations kinds top k p c = tt
 
 colons-at : (c d : Cursor) (first : First) → reading.colons_at first c ≡ Some d → NoLonger c d
 colons-at c d two_colons e = let same : skip 2 c ≡ d = cc e in subst (λ d. NoLonger c d) same (skip-within 2 c)
@@ -69,16 +69,16 @@ colons-blank sexp c d (Ok b) blank e =
     omega (arith, first.0, then)
 colons-blank sexp c d (Err fault) blank e = absurd (cc e)
 
-told-most : (kinds : List Kind) (top : ℕ) (field : Option SymbolAt) (notes : List SymbolAt) (a : SymbolAt) (p : ℕ) (c : Cursor) (told : Bool)
-    → Most (length c.rest) (part p (reading.value_or_version kinds top field notes a c told))
-told-most kinds top field notes a p c true = most-refuse (length c.rest) p (not (reading.is_marker a.symbol)) BadVersion _ (stays c)
-told-most kinds top field notes a p c false = stays c
+told-most : (kinds : List Kind) (top : ℕ) (field : Option SymbolAt) (annotations : List SymbolAt) (a : SymbolAt) (p : ℕ) (c : Cursor) (told : Bool)
+    → Most (length c.rest) (part p (reading.value_or_version kinds top field annotations a c told))
+told-most kinds top field annotations a p c true = most-refuse (length c.rest) p (not (reading.is_marker a.symbol)) BadVersion _ (stays c)
+told-most kinds top field annotations a p c false = stays c
 
-symbol-most : (limits : Limits) (kinds : List Kind) (top : ℕ) (field : Option SymbolAt) (notes : List SymbolAt) (quoted : Bool) (a : SymbolAt) (p : ℕ) (c : Cursor) (o : Option Cursor)
-    → behind_colons (in_sexp (innermost kinds)) c ≡ o → Most (length c.rest) (part p (reading.symbol_given limits kinds top field notes quoted a c o))
-symbol-most limits kinds top field notes quoted a p c None e = told-most kinds top field notes a p c (reading.tells_version (innermost kinds) notes quoted a.symbol)
-symbol-most limits kinds top field notes quoted a p c (Some d) e =
-    most-refuse (length c.rest) p (nat_lt limits.scalar (sum_by reading.cost (notes ++ a ∷ []))) AnnotationLimit _ (colons-blank (in_sexp (innermost kinds)) c d (blanks c) refl e)
+symbol-most : (limits : Limits) (kinds : List Kind) (top : ℕ) (field : Option SymbolAt) (annotations : List SymbolAt) (quoted : Bool) (a : SymbolAt) (p : ℕ) (c : Cursor) (o : Option Cursor)
+    → behind_colons (in_sexp (innermost kinds)) c ≡ o → Most (length c.rest) (part p (reading.symbol_given limits kinds top field annotations quoted a c o))
+symbol-most limits kinds top field annotations quoted a p c None e = told-most kinds top field annotations a p c (reading.tells_version (innermost kinds) annotations quoted a.symbol)
+symbol-most limits kinds top field annotations quoted a p c (Some d) e =
+    most-refuse (length c.rest) p (nat_lt limits.scalar (sum_by reading.cost (annotations ++ a ∷ []))) AnnotationLimit _ (colons-blank (in_sexp (innermost kinds)) c d (blanks c) refl e)
 
 colon-most : (kinds : List Kind) (top : ℕ) (a : SymbolAt) (c : Cursor) (first : First) → Most (length c.rest) (reading.colon_of kinds top a c first)
 colon-most kinds top a c a_colon = skip-within 1 c
@@ -126,17 +126,17 @@ take-most limits kinds top a_field p (begin k) c = tt
 take-most limits kinds top a_field p comma c = tt
 take-most limits kinds top a_field p colon c = tt
 take-most limits kinds top a_field p colons c = tt
-take-most limits kinds top (a_value field notes) p (end k) c = bare-most field notes kinds top k p c
-take-most limits kinds top (a_value field notes) p (plain v) c = stays c
-take-most limits kinds top (a_value field notes) p (text t) c = stays c
-take-most limits kinds top (a_value field notes) p (operator t) c = stays c
-take-most limits kinds top (a_value field notes) p (name quoted symbol) c =
-    symbol-most limits kinds top field notes quoted (at symbol p) p c (behind_colons (in_sexp (innermost kinds)) c) refl
-take-most limits kinds top (a_value field notes) p (begin k) c = most-refuse (length c.rest) p (nat_le limits.depth (length kinds)) DepthLimit _ (stays c)
-take-most limits kinds top (a_value field notes) p no_number c = tt
-take-most limits kinds top (a_value field notes) p comma c = tt
-take-most limits kinds top (a_value field notes) p colon c = tt
-take-most limits kinds top (a_value field notes) p colons c = tt
+take-most limits kinds top (a_value field annotations) p (end k) c = bare-most field annotations kinds top k p c
+take-most limits kinds top (a_value field annotations) p (plain v) c = stays c
+take-most limits kinds top (a_value field annotations) p (text t) c = stays c
+take-most limits kinds top (a_value field annotations) p (operator t) c = stays c
+take-most limits kinds top (a_value field annotations) p (name quoted symbol) c =
+    symbol-most limits kinds top field annotations quoted (at symbol p) p c (behind_colons (in_sexp (innermost kinds)) c) refl
+take-most limits kinds top (a_value field annotations) p (begin k) c = most-refuse (length c.rest) p (nat_le limits.depth (length kinds)) DepthLimit _ (stays c)
+take-most limits kinds top (a_value field annotations) p no_number c = tt
+take-most limits kinds top (a_value field annotations) p comma c = tt
+take-most limits kinds top (a_value field annotations) p colon c = tt
+take-most limits kinds top (a_value field annotations) p colons c = tt
 
 -- ---- a step
 
@@ -166,8 +166,8 @@ coming-less limits s b first true some = cut-less limits s b first some (token_o
 
 ended-less : (n : ℕ) (kinds : List Kind) (wants : Wants) (p : ℕ) → Leaves_less n (step_of (reading.ended kinds wants p))
 ended-less n [] (a_value None []) p = tt
-ended-less n [] (a_value None (a ∷ notes)) p = tt
-ended-less n [] (a_value (Some a) notes) p = tt
+ended-less n [] (a_value None (a ∷ annotations)) p = tt
+ended-less n [] (a_value (Some a) annotations) p = tt
 ended-less n [] a_field p = tt
 ended-less n [] a_separator p = tt
 ended-less n (k ∷ kinds) wants p = tt

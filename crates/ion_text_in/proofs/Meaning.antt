@@ -47,8 +47,8 @@ pub allows-fewer : (limit : Limit) (count fewer : ℕ) → fewer ≤ count → A
 allows-fewer None count fewer less allows = tt
 allows-fewer (Some limit) count fewer less allows = omega (arith, less, allows)
 
-pub skip-front : (place : ℕ) (text rest : List ℕ) → skip (length text) (at place (text ++ rest)) ≡ at (place + length text) rest
-skip-front place text rest = ap (λ (xs : List ℕ). at (place + length text) xs) (drop_at text rest (length text) refl)
+pub skip-prefix : (place : ℕ) (text rest : List ℕ) → skip (length text) (at place (text ++ rest)) ≡ at (place + length text) rest
+skip-prefix place text rest = ap (λ (xs : List ℕ). at (place + length text) xs) (drop_at text rest (length text) refl)
 
 -- ---- bytes of runs
 
@@ -118,7 +118,7 @@ token_behind t c = Ok (t, c)
 counted-run : (limit : Limit) (place : ℕ) (text bytes rest : List ℕ) (v : Scalar SymbolAt) → bytes ≡ text → passes limit (length text) ≡ false → scalar_of_run text ≡ Ok v
     → (counted limit bytes (at place (text ++ rest)) >>= (λ r. run_token r.0 >>= (λ t. token_behind t r.1))) ≡ Ok (plain v, at (place + length text) rest)
 counted-run limit place text bytes rest v is fits means =
-    rw (is, fits, means, skip-front place text rest) refl
+    rw (is, fits, means, skip-prefix place text rest) refl
 
 pub run-means : (text : List ℕ) (v : Scalar SymbolAt) → IsRun text → scalar_of_run text ≡ Ok v → Means (length text) in_run text (plain v)
 unfolding token_of
@@ -292,7 +292,7 @@ word-means goes_on text t word first means limit sexp place rest allows ends =
   where
     counted-word : (limit : Limit) (place : ℕ) (text bytes rest : List ℕ) (t : Token) → bytes ≡ text → passes limit (length text) ≡ false → word_token text ≡ Ok t
         → (counted limit bytes (at place (text ++ rest)) >>= (λ w. word_token w.0 >>= (λ t. token_behind t w.1))) ≡ Ok (t, at (place + length text) rest)
-    counted-word limit place text bytes rest t is fits means = rw (is, fits, means, skip-front place text rest) refl
+    counted-word limit place text bytes rest t is fits means = rw (is, fits, means, skip-prefix place text rest) refl
 
 word-all : (text rest : List ℕ) → all_are is_identifier_byte text ≡ true → in_word rest ≡ false → run_of in_word (text ++ rest) ≡ (text, rest)
 word-all [] rest all ends = run-none in_word rest ends

@@ -68,21 +68,21 @@ module _ (limits wide : Limits) (within : AreWithin limits wide) where
     sexp = in_sexp (innermost s.kinds)
 
     -- an annotation
-    symbol-Cut : (field : Option SymbolAt) (notes : List SymbolAt) (quoted : Bool) (symbol : Symbol) (p : ℕ) (d : Cursor) → s.wants ≡ a_value field notes
+    symbol-Cut : (field : Option SymbolAt) (annotations : List SymbolAt) (quoted : Bool) (symbol : Symbol) (p : ℕ) (d : Cursor) → s.wants ≡ a_value field annotations
         → Tok sexp s.cursor (name quoted symbol) p d → (o : Option Cursor) → behind_colons sexp d ≡ o
-        → Cut (PassesAt limits s) (part p (reading.symbol_given limits s.kinds s.top field notes quoted (at symbol p) d o))
-        (part p (reading.symbol_given wide s.kinds s.top field notes quoted (at symbol p) d o))
-    symbol-Cut field notes quoted symbol p d are tok None found = same _
-    symbol-Cut field notes quoted symbol p d are tok (Some e) found =
-        let cost_is : ℕ = sum_by cost (notes ++ at symbol p ∷ []) in
+        → Cut (PassesAt limits s) (part p (reading.symbol_given limits s.kinds s.top field annotations quoted (at symbol p) d o))
+        (part p (reading.symbol_given wide s.kinds s.top field annotations quoted (at symbol p) d o))
+    symbol-Cut field annotations quoted symbol p d are tok None found = same _
+    symbol-Cut field annotations quoted symbol p d are tok (Some e) found =
+        let cost_is : ℕ = sum_by cost (annotations ++ at symbol p ∷ []) in
         let after = colons-behind sexp d e found in
         refused-Cut (PassesAt limits s) p (nat_lt limits.scalar cost_is) (nat_lt wide.scalar cost_is) AnnotationLimit _ (scalar-passed cost_is)
-        (λ more. Passes.annotations field notes quoted symbol after.0 d e are tok after.1 (ltb-true limits.scalar cost_is more))
+        (λ more. Passes.annotations field annotations quoted symbol after.0 d e are tok after.1 (ltb-true limits.scalar cost_is more))
 
     -- a container: its depth alone is held against a limit
-    begun-Cut : (field : Option SymbolAt) (notes : List SymbolAt) (k : Kind) (p : ℕ) (d : Cursor) → Tok sexp s.cursor (begin k) p d
-        → Cut (PassesAt limits s) (part p (reading.begun limits s.kinds s.top field notes k p d)) (part p (reading.begun wide s.kinds s.top field notes k p d))
-    begun-Cut field notes k p d tok =
+    begun-Cut : (field : Option SymbolAt) (annotations : List SymbolAt) (k : Kind) (p : ℕ) (d : Cursor) → Tok sexp s.cursor (begin k) p d
+        → Cut (PassesAt limits s) (part p (reading.begun limits s.kinds s.top field annotations k p d)) (part p (reading.begun wide s.kinds s.top field annotations k p d))
+    begun-Cut field annotations k p d tok =
         refused-Cut (PassesAt limits s) p (nat_le limits.depth (length s.kinds)) (nat_le wide.depth (length s.kinds)) DepthLimit _ (depth-reached (length s.kinds))
         (λ full. Passes.container k d tok (leb-true limits.depth (length s.kinds) full))
 
@@ -109,16 +109,16 @@ module _ (limits wide : Limits) (within : AreWithin limits wide) where
     take-Cut a_field p comma d are tok = same _
     take-Cut a_field p colon d are tok = same _
     take-Cut a_field p colons d are tok = same _
-    take-Cut (a_value field notes) p (end k) d are tok = same _
-    take-Cut (a_value field notes) p (plain v) d are tok = same _
-    take-Cut (a_value field notes) p (name quoted symbol) d are tok = symbol-Cut field notes quoted symbol p d are tok (behind_colons (in_sexp (innermost s.kinds)) d) refl
-    take-Cut (a_value field notes) p (text t) d are tok = same _
-    take-Cut (a_value field notes) p (operator t) d are tok = same _
-    take-Cut (a_value field notes) p no_number d are tok = same _
-    take-Cut (a_value field notes) p (begin k) d are tok = begun-Cut field notes k p d tok
-    take-Cut (a_value field notes) p comma d are tok = same _
-    take-Cut (a_value field notes) p colon d are tok = same _
-    take-Cut (a_value field notes) p colons d are tok = same _
+    take-Cut (a_value field annotations) p (end k) d are tok = same _
+    take-Cut (a_value field annotations) p (plain v) d are tok = same _
+    take-Cut (a_value field annotations) p (name quoted symbol) d are tok = symbol-Cut field annotations quoted symbol p d are tok (behind_colons (in_sexp (innermost s.kinds)) d) refl
+    take-Cut (a_value field annotations) p (text t) d are tok = same _
+    take-Cut (a_value field annotations) p (operator t) d are tok = same _
+    take-Cut (a_value field annotations) p no_number d are tok = same _
+    take-Cut (a_value field annotations) p (begin k) d are tok = begun-Cut field annotations k p d tok
+    take-Cut (a_value field annotations) p comma d are tok = same _
+    take-Cut (a_value field annotations) p colon d are tok = same _
+    take-Cut (a_value field annotations) p colons d are tok = same _
 
     -- the token itself
     token-Cut : (c : Cursor) (r w : Result (Token × Cursor) Reason) → blanks s.cursor ≡ Ok c → token_of (Some limits.scalar) (first_at sexp c.rest) c ≡ r

@@ -19,19 +19,19 @@ allowed bytes = (omega arith, omega arith)
 is-begun-more : (item : PlacedItem) (xs ys : List PlacedItem) → IsBegun xs ys → IsBegun (item ∷ xs) (item ∷ ys)
 is-begun-more item xs ys begun = (begun.0, ap (λ l. item ∷ l) begun.1)
 
-fronts : (xs ys us vs : List PlacedItem) → xs ++ us ≡ ys ++ vs → IsBegun xs ys ⊎ IsBegun ys xs
-fronts [] ys us vs e = inl (ys, refl)
-fronts (x ∷ xs) [] us vs e = inr (x ∷ xs, refl)
-fronts (x ∷ xs) (y ∷ ys) us vs e =
+prefixes : (xs ys us vs : List PlacedItem) → xs ++ us ≡ ys ++ vs → IsBegun xs ys ⊎ IsBegun ys xs
+prefixes [] ys us vs e = inl (ys, refl)
+prefixes (x ∷ xs) [] us vs e = inr (x ∷ xs, refl)
+prefixes (x ∷ xs) (y ∷ ys) us vs e =
     let first : x ≡ y = cc e in
     let rest : xs ++ us ≡ ys ++ vs = cc e in
-    rw first (elim (fronts xs ys us vs rest) [ inl begun ↦ inl (is-begun-more y xs ys begun) | inr begun ↦ inr (is-begun-more y ys xs begun) ])
+    rw first (elim (prefixes xs ys us vs rest) [ inl begun ↦ inl (is-begun-more y xs ys begun) | inr begun ↦ inr (is-begun-more y ys xs begun) ])
 
 pub one_path : OnePath
 one_path bytes q r a b is_a is_b =
     let first = complete (roomy bytes) bytes q a (allowed bytes) is_a in
     let second = complete (roomy bytes) bytes r b (allowed bytes) is_b in
-    fronts (path_items a) (path_items b) (items_of first.0) (items_of second.0)
+    prefixes (path_items a) (path_items b) (items_of first.0) (items_of second.0)
     (sym (items_of-behind (path_items a) first.0) ∙ ap items_of (sym first.1 ∙ second.1) ∙ items_of-behind (path_items b) second.0)
 
 pub one_stream : OneStream

@@ -14,7 +14,7 @@ use Rattle.ion_text_in.proofs.Complete.{streams_are_read}
 passes-limit : (limits : Limits) (s : State) (place : ℕ) (reason : Reason) → Passes limits s place reason → IsLimit reason
 passes-limit limits s place _ (Passes.token is) = inr (inl refl)
 passes-limit limits s place _ (Passes.container k d tok full) = inl refl
-passes-limit limits s place _ (Passes.annotations field notes quoted symbol q d e are tok after more) = inr (inr refl)
+passes-limit limits s place _ (Passes.annotations field annotations quoted symbol q d e are tok after more) = inr (inr refl)
 
 ending_of-behind : (items : List PlacedItem) (r : Reading) → ending_of (behind items r) ≡ ending_of r
 ending_of-behind [] r = refl

@@ -305,9 +305,9 @@ bytes_of-some : (test : List ℕ → Bool) (bytes : List ℕ) → 0 < length byt
 bytes_of-some test [] some = absurd (omega (arith, some))
 bytes_of-some test (b ∷ bytes) some = omega arith
 
-with_type-some : (b : ℕ) (front behind : List ℕ) (c : Bool) → 0 < length (if c then (b ∷ front) ++ 46 ∷ (run_of in_word (drop 1 behind)).0 else b ∷ front)
-with_type-some b front behind true = omega arith
-with_type-some b front behind false = omega arith
+with_type-some : (b : ℕ) (prefix behind : List ℕ) (c : Bool) → 0 < length (if c then (b ∷ prefix) ++ 46 ∷ (run_of in_word (drop 1 behind)).0 else b ∷ prefix)
+with_type-some b prefix behind true = omega arith
+with_type-some b prefix behind false = omega arith
 
 word_of-some : (bytes : List ℕ) → 0 < length bytes → 0 < length (word_of bytes)
 word_of-some [] some = absurd (omega (arith, some))

@@ -12,7 +12,7 @@ use Rattle.ion_text_in.specs.Reading.{step, size, start, reading}
 use Rattle.ion_text_in.specs.Grammar.{Field, Annotations, Tops, Stream, start_of}
 use Rattle.ion_text_in.specs.Paths.{Spells, IsPath, Begun, at_separator, at_field, in_item, At, Follows}
 use Rattle.ion_text_in.specs.Laws.{ending_of, Sound}
-use Rattle.ion_text_in.proofs.Steps.{notes-none, field-none, step-follows}
+use Rattle.ion_text_in.proofs.Steps.{annotations-none, field-none, step-follows}
 use Rattle.ion_text_in.proofs.Falling.{each_step_falls}
 
 abbrev IsWhole : List ℕ → Path SymbolAt ℕ → Type 0
@@ -22,15 +22,15 @@ IsWhole bytes path = (tops : List (Top SymbolAt ℕ)) × (path ≡ closed tops) 
 begun-nothing : {c d : Cursor} (kinds : List Kind) (full : Bool) (wants : Wants) → Begun c kinds full wants d → wants ≡ a_value None [] → d ≡ c
 begun-nothing _ _ _ at_separator e = absurd (cc e)
 begun-nothing _ _ _ at_field e = absurd (cc e)
-begun-nothing _ _ _ (in_item {field = field} {notes = notes} f ns) e =
+begun-nothing _ _ _ (in_item {field = field} {annotations = annotations} f ns) e =
     let no_field : field ≡ None = cc e in
-    let no_notes : notes ≡ [] = cc e in
-    notes-none ns no_notes ∙ field-none f no_field
+    let no_notes : annotations ≡ [] = cc e in
+    annotations-none ns no_notes ∙ field-none f no_field
 
 spells-tops : {b c : Cursor} (path : Path SymbolAt ℕ) (kinds : List Kind) (full : Bool) → Spells b path kinds full c → kinds ≡ []
     → (tops : List (Top SymbolAt ℕ)) × (path ≡ closed tops) × Tops b tops c
 spells-tops _ _ _ (Spells.top {tops} t) e = (tops, refl, t)
-spells-tops _ _ _ (Spells.inside path field notes p k members s f ns tok ins) e = absurd (cc e)
+spells-tops _ _ _ (Spells.inside path field annotations p k members s f ns tok ins) e = absurd (cc e)
 
 at-whole : (bytes : List ℕ) (path : Path SymbolAt ℕ) (s : State) → At bytes path s → Follows bytes path s Ends → IsWhole bytes path
 at-whole bytes path s stands ends =
@@ -48,7 +48,7 @@ at-whole bytes path s stands ends =
     )
 
 -- the path that a reading leads to from a path
-record Comes (bytes : List ℕ) (path : Path SymbolAt ℕ) (r : Reading) : Type 0 where
+record HasVerdict (bytes : List ℕ) (path : Path SymbolAt ℕ) (r : Reading) : Type 0 where
   next : Path SymbolAt ℕ
   place : ℕ
   is_path : IsPath bytes place next
@@ -61,23 +61,23 @@ at-path bytes path s stands = record { kinds = s.kinds; full = stands.full; behi
 not_finished : (reason : Reason) (place : ℕ) → Stopped reason place ≡ Finished → ⊥
 not_finished reason place e = cc e
 
-next-comes : (bytes : List ℕ) (path : Path SymbolAt ℕ) (s : State) (later : State → Reading) (o : Step State) → At bytes path s → Follows bytes path s o
-    → ((after : State) (next : Path SymbolAt ℕ) → Leaves o after → At bytes next after → Comes bytes next (later after)) → Comes bytes path (next_reading later o)
-next-comes bytes path s later Ends stands follows more = record {
+next-has_verdict : (bytes : List ℕ) (path : Path SymbolAt ℕ) (s : State) (later : State → Reading) (o : Step State) → At bytes path s → Follows bytes path s o
+    → ((after : State) (next : Path SymbolAt ℕ) → Leaves o after → At bytes next after → HasVerdict bytes next (later after)) → HasVerdict bytes path (next_reading later o)
+next-has_verdict bytes path s later Ends stands follows more = record {
   next = path;
   place = stands.behind.place;
   is_path = at-path bytes path s stands;
   items = sym (append-nil (path_items path));
   whole = λ _. at-whole bytes path s stands follows;
 }
-next-comes bytes path s later (Stops reason place) stands follows more = record {
+next-has_verdict bytes path s later (Stops reason place) stands follows more = record {
   next = path;
   place = stands.behind.place;
   is_path = at-path bytes path s stands;
   items = sym (append-nil (path_items path));
   whole = λ e. absurd (not_finished reason place e);
 }
-next-comes bytes path s later (Gives item after) stands follows more =
+next-has_verdict bytes path s later (Gives item after) stands follows more =
     let c = more after follows.0 (behind_item item after) follows.1 in
     record {
       next = c.next;
@@ -86,18 +86,18 @@ next-comes bytes path s later (Gives item after) stands follows more =
       items = c.items ∙ ap (λ items. items ++ items_of (later after)) follows.2 ∙ append_assoc (path_items path) (item ∷ []) (items_of (later after));
       whole = c.whole;
     }
-next-comes bytes path s later (GoesOn after) stands follows more = more after path (behind_nothing after) follows
+next-has_verdict bytes path s later (GoesOn after) stands follows more = more after path (behind_nothing after) follows
 
-reading_for-comes : (n : ℕ) (limits : Limits) (bytes : List ℕ) (path : Path SymbolAt ℕ) (s : State) → At bytes path s → size s < n
-    → Comes bytes path (reading_for (step limits) n s)
-reading_for-comes zero limits bytes path s stands fuel = absurd (omega (arith, fuel))
-reading_for-comes (suc n) limits bytes path s stands fuel =
-    next-comes bytes path s (λ t. reading_for (step limits) n t) (step limits s) stands (step-follows limits bytes path s stands)
-    (λ after next leaves at. let smaller : size after < size s = each_step_falls limits s after leaves in reading_for-comes n limits bytes next after at (omega (arith, smaller, fuel)))
+reading_for-has_verdict : (n : ℕ) (limits : Limits) (bytes : List ℕ) (path : Path SymbolAt ℕ) (s : State) → At bytes path s → size s < n
+    → HasVerdict bytes path (reading_for (step limits) n s)
+reading_for-has_verdict zero limits bytes path s stands fuel = absurd (omega (arith, fuel))
+reading_for-has_verdict (suc n) limits bytes path s stands fuel =
+    next-has_verdict bytes path s (λ t. reading_for (step limits) n t) (step limits s) stands (step-follows limits bytes path s stands)
+    (λ after next leaves at. let smaller : size after < size s = each_step_falls limits s after leaves in reading_for-has_verdict n limits bytes next after at (omega (arith, smaller, fuel)))
 
 pub sound : Sound
 unfolding reading
 sound limits bytes =
-    let c = reading_for-comes (suc (size (start bytes))) limits bytes (closed []) (start bytes)
+    let c = reading_for-has_verdict (suc (size (start bytes))) limits bytes (closed []) (start bytes)
     (record { full = false; behind = start_of bytes; spells = Spells.top Tops.nothing; begun = in_item Field.at_top Annotations.nothing; top = tt }) (omega arith) in
     record { path = c.next; place = c.place; is_path = c.is_path; items = sym c.items; whole = c.whole }

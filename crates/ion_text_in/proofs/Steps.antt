@@ -80,16 +80,16 @@ colons-none sexp c none = from (behind_colons sexp c) refl
     from None is = refl
     from (Some d) is = let found = colons-behind sexp c d is in absurd (none found.0 d found.1)
 
-no-version : (k : Option Kind) (notes : List SymbolAt) (quoted : Bool) (symbol : Symbol) → tells_version k notes quoted symbol ≡ false
-    → IsVersionWord k notes quoted symbol → ⊥
+no-version : (k : Option Kind) (annotations : List SymbolAt) (quoted : Bool) (symbol : Symbol) → tells_version k annotations quoted symbol ≡ false
+    → IsVersionWord k annotations quoted symbol → ⊥
 unfolding tells_version
 no-version _ _ _ _ none (bare is) = false≢true (sym none ∙ is)
 
-pub version-none : (k : Option Kind) (notes : List SymbolAt) (quoted : Bool) (symbol : Symbol) → (IsVersionWord k notes quoted symbol → ⊥)
-    → tells_version k notes quoted symbol ≡ false
+pub version-none : (k : Option Kind) (annotations : List SymbolAt) (quoted : Bool) (symbol : Symbol) → (IsVersionWord k annotations quoted symbol → ⊥)
+    → tells_version k annotations quoted symbol ≡ false
 unfolding tells_version
-version-none (Some k) notes quoted symbol none = refl
-version-none None (a ∷ notes) quoted symbol none = refl
+version-none (Some k) annotations quoted symbol none = refl
+version-none None (a ∷ annotations) quoted symbol none = refl
 version-none None [] true symbol none = refl
 version-none None [] false (value.Id id) none = refl
 version-none None [] false (value.Text word) none = from (is_version word) refl
@@ -114,27 +114,27 @@ begun-behind c (kind.Struct ∷ kinds) = at_separator
 
 -- ---- the places of top-level values
 
-pub fits : {b c d : Cursor} (path : Path SymbolAt ℕ) (kinds : List Kind) (full : Bool) (top : ℕ) (field : Option SymbolAt) (notes : List SymbolAt) (p : ℕ)
-    → Spells b path kinds full c → IsTop path top → Field (innermost kinds) c field d → Fits path (first_place notes p) (top_of kinds top notes p) field
-fits _ _ _ top field notes p (Spells.top t) is Field.at_top = (refl, refl)
-fits _ _ _ top field notes p (Spells.inside (closed tops) g own q k members s around ns tok ins) is f = is
-fits _ _ _ top field notes p (Spells.inside (opened tops first nest) g own q k members s around ns tok ins) is f = is
+pub fits : {b c d : Cursor} (path : Path SymbolAt ℕ) (kinds : List Kind) (full : Bool) (top : ℕ) (field : Option SymbolAt) (annotations : List SymbolAt) (p : ℕ)
+    → Spells b path kinds full c → IsTop path top → Field (innermost kinds) c field d → Fits path (first_place annotations p) (top_of kinds top annotations p) field
+fits _ _ _ top field annotations p (Spells.top t) is Field.at_top = (refl, refl)
+fits _ _ _ top field annotations p (Spells.inside (closed tops) g own q k members s around ns tok ins) is f = is
+fits _ _ _ top field annotations p (Spells.inside (opened tops first nest) g own q k members s around ns tok ins) is f = is
 
-put_in-top : {b c : Cursor} (path : Path SymbolAt ℕ) (kinds : List Kind) (full : Bool) (top : ℕ) (field : Option SymbolAt) (notes : List SymbolAt) (p : ℕ) (v : Value SymbolAt ℕ)
-    → Spells b path kinds full c → IsTop path top → IsTop (put_in path (first_place notes p) field notes p v) (top_of kinds top notes p)
-put_in-top _ _ _ top field notes p v (Spells.top t) is = tt
-put_in-top _ _ _ top field notes p v (Spells.inside (closed tops) g own q k members s around ns tok ins) is = is
-put_in-top _ _ _ top field notes p v (Spells.inside (opened tops first nest) g own q k members s around ns tok ins) is = is
+put_in-top : {b c : Cursor} (path : Path SymbolAt ℕ) (kinds : List Kind) (full : Bool) (top : ℕ) (field : Option SymbolAt) (annotations : List SymbolAt) (p : ℕ) (v : Value SymbolAt ℕ)
+    → Spells b path kinds full c → IsTop path top → IsTop (put_in path (first_place annotations p) field annotations p v) (top_of kinds top annotations p)
+put_in-top _ _ _ top field annotations p v (Spells.top t) is = tt
+put_in-top _ _ _ top field annotations p v (Spells.inside (closed tops) g own q k members s around ns tok ins) is = is
+put_in-top _ _ _ top field annotations p v (Spells.inside (opened tops first nest) g own q k members s around ns tok ins) is = is
 
-open_in-top : {b c : Cursor} (path : Path SymbolAt ℕ) (kinds : List Kind) (full : Bool) (top : ℕ) (field : Option SymbolAt) (notes : List SymbolAt) (p : ℕ) (k : Kind)
-    → Spells b path kinds full c → IsTop path top → IsTop (open_in path (first_place notes p) field notes p k value.nothing) (top_of kinds top notes p)
-open_in-top _ _ _ top field notes p j (Spells.top t) is = refl
-open_in-top _ _ _ top field notes p j (Spells.inside (closed tops) g own q k members s around ns tok ins) is = is
-open_in-top _ _ _ top field notes p j (Spells.inside (opened tops first nest) g own q k members s around ns tok ins) is = is
+open_in-top : {b c : Cursor} (path : Path SymbolAt ℕ) (kinds : List Kind) (full : Bool) (top : ℕ) (field : Option SymbolAt) (annotations : List SymbolAt) (p : ℕ) (k : Kind)
+    → Spells b path kinds full c → IsTop path top → IsTop (open_in path (first_place annotations p) field annotations p k value.nothing) (top_of kinds top annotations p)
+open_in-top _ _ _ top field annotations p j (Spells.top t) is = refl
+open_in-top _ _ _ top field annotations p j (Spells.inside (closed tops) g own q k members s around ns tok ins) is = is
+open_in-top _ _ _ top field annotations p j (Spells.inside (opened tops first nest) g own q k members s around ns tok ins) is = is
 
 nest_end-top : (tops : List (value.Top SymbolAt ℕ)) (first : ℕ) (nest : Nest SymbolAt ℕ) (q top : ℕ) → first ≡ top → IsTop (end_in (opened tops first nest) q) top
-nest_end-top tops first (outermost notes p k members) q top is = tt
-nest_end-top tops first (inner around field notes p k members) q top is = is
+nest_end-top tops first (outermost annotations p k members) q top is = tt
+nest_end-top tops first (inner around field annotations p k members) q top is = is
 
 -- the path behind a container's end, and its items
 pub record EndsIn (path : Path SymbolAt ℕ) (top q : ℕ) : Type 0 where
@@ -150,13 +150,13 @@ ends-in _ _ _ j js top q are (Spells.top t) is = absurd (cc are)
 ends-in _ _ _ j js top q are (Spells.inside (closed tops) g own p k members s around ns tok ins) is = ends-nest tops (first_place own p) (outermost own p k members) top q is
 ends-in _ _ _ j js top q are (Spells.inside (opened tops first nest) g own p k members s around ns tok ins) is = ends-nest tops first (inner nest g own p k members) top q is
 
-not_snoc : (notes : List SymbolAt) (a : SymbolAt) → notes ++ a ∷ [] ≡ [] → ⊥
+not_snoc : (annotations : List SymbolAt) (a : SymbolAt) → annotations ++ a ∷ [] ≡ [] → ⊥
 not_snoc [] a e = cc e
-not_snoc (b ∷ notes) a e = cc e
+not_snoc (b ∷ annotations) a e = cc e
 
-pub notes-none : {sexp : Bool} {c d : Cursor} {notes : List SymbolAt} → Annotations sexp c notes d → notes ≡ [] → d ≡ c
-notes-none Annotations.nothing e = refl
-notes-none (Annotations.then {notes = ns} {p = p} {symbol = x} before tok after) e = absurd (not_snoc ns (at x p) e)
+pub annotations-none : {sexp : Bool} {c d : Cursor} {annotations : List SymbolAt} → Annotations sexp c annotations d → annotations ≡ [] → d ≡ c
+annotations-none Annotations.nothing e = refl
+annotations-none (Annotations.then {annotations = ns} {p = p} {symbol = x} before tok after) e = absurd (not_snoc ns (at x p) e)
 
 pub field-none : {k : Option Kind} {c d : Cursor} {field : Option SymbolAt} → Field k c field d → field ≡ None → d ≡ c
 field-none Field.at_top e = refl
@@ -202,50 +202,50 @@ module _ (limits : Limits) (bytes : List ℕ) (path : Path SymbolAt ℕ) (top : 
   closed-goes (kind.Struct ∷ js) kind.Struct wants full behind spells tok s = end-goes kind.Struct js wants full behind spells tok s
 
   -- no bracket closes behind a field or an annotation
-  bare-goes : (kinds : List Kind) (k : Kind) (field : Option SymbolAt) (notes : List SymbolAt) (behind b c : Cursor) → Spells (start_of bytes) path kinds false behind
-      → Field (innermost kinds) behind field b → Annotations (in_sexp (innermost kinds)) b notes c
-      → Tok (in_sexp (innermost kinds)) c (end k) p d → (s : State) → Goes bytes path s (part p (reading.closed_bare field notes kinds top k p d))
-  bare-goes kinds k (Some a) notes behind b c spells f ns tok s = tt
-  bare-goes kinds k None (a ∷ notes) behind b c spells f ns tok s = tt
+  bare-goes : (kinds : List Kind) (k : Kind) (field : Option SymbolAt) (annotations : List SymbolAt) (behind b c : Cursor) → Spells (start_of bytes) path kinds false behind
+      → Field (innermost kinds) behind field b → Annotations (in_sexp (innermost kinds)) b annotations c
+      → Tok (in_sexp (innermost kinds)) c (end k) p d → (s : State) → Goes bytes path s (part p (reading.closed_bare field annotations kinds top k p d))
+  bare-goes kinds k (Some a) annotations behind b c spells f ns tok s = tt
+  bare-goes kinds k None (a ∷ annotations) behind b c spells f ns tok s = tt
   bare-goes kinds k None [] behind b c spells f ns tok s =
-      let same : c ≡ behind = notes-none ns refl ∙ field-none f refl in
+      let same : c ≡ behind = annotations-none ns refl ∙ field-none f refl in
       let tok' : Tok (in_sexp (innermost kinds)) behind (end k) p d = subst (λ c. Tok (in_sexp (innermost kinds)) c (end k) p d) same tok in
       closed-goes kinds k (a_value None []) false behind spells tok' s
 
   -- a whole value
-  value-goes : (kinds : List Kind) (field : Option SymbolAt) (notes : List SymbolAt) (v : Scalar SymbolAt) (behind b : Cursor) → Spells (start_of bytes) path kinds false behind
-      → Field (innermost kinds) behind field b → Txt (innermost kinds) b notes p (value.scalar v) d → (s : State)
-      → Follows bytes path s (reading.scalar_given kinds top field notes p v d)
-  value-goes kinds field notes v behind b spells f txt s = (
-    put_in path (first_place notes p) field notes p (value.scalar v),
+  value-goes : (kinds : List Kind) (field : Option SymbolAt) (annotations : List SymbolAt) (v : Scalar SymbolAt) (behind b : Cursor) → Spells (start_of bytes) path kinds false behind
+      → Field (innermost kinds) behind field b → Txt (innermost kinds) b annotations p (value.scalar v) d → (s : State)
+      → Follows bytes path s (reading.scalar_given kinds top field annotations p v d)
+  value-goes kinds field annotations v behind b spells f txt s = (
+    put_in path (first_place annotations p) field annotations p (value.scalar v),
     record {
       full = has_commas (innermost kinds);
       behind = d;
-      spells = Spells-value path kinds false field notes p (value.scalar v) refl spells f txt;
+      spells = Spells-value path kinds false field annotations p (value.scalar v) refl spells f txt;
       begun = begun-behind d kinds;
-      top = put_in-top path kinds false top field notes p (value.scalar v) spells is_top;
+      top = put_in-top path kinds false top field annotations p (value.scalar v) spells is_top;
     },
-    path_items-put_in path (first_place notes p) (top_of kinds top notes p) field notes p (value.scalar v) (fits path kinds false top field notes p spells is_top f),
+    path_items-put_in path (first_place annotations p) (top_of kinds top annotations p) field annotations p (value.scalar v) (fits path kinds false top field annotations p spells is_top f),
   )
 
   -- a bracket that opens
-  begin-goes : (kinds : List Kind) (k : Kind) (field : Option SymbolAt) (notes : List SymbolAt) (behind b c : Cursor) → Spells (start_of bytes) path kinds false behind
-      → Field (innermost kinds) behind field b → Annotations (in_sexp (innermost kinds)) b notes c
+  begin-goes : (kinds : List Kind) (k : Kind) (field : Option SymbolAt) (annotations : List SymbolAt) (behind b c : Cursor) → Spells (start_of bytes) path kinds false behind
+      → Field (innermost kinds) behind field b → Annotations (in_sexp (innermost kinds)) b annotations c
       → Tok (in_sexp (innermost kinds)) c (begin k) p d → (s : State)
-      → Goes bytes path s (part p (reading.begun limits kinds top field notes k p d))
-  begin-goes kinds k field notes behind b c spells f ns tok s =
-      let after : State = state (k ∷ kinds) (top_of kinds top notes p) (reading.member_of k) d in
-      let item : PlacedItem = item_of (top_of kinds top notes p) field notes p (value.begin k) in
+      → Goes bytes path s (part p (reading.begun limits kinds top field annotations k p d))
+  begin-goes kinds k field annotations behind b c spells f ns tok s =
+      let after : State = state (k ∷ kinds) (top_of kinds top annotations p) (reading.member_of k) d in
+      let item : PlacedItem = item_of (top_of kinds top annotations p) field annotations p (value.begin k) in
       let goes : Follows bytes path s (Gives item after) = (
-        open_in path (first_place notes p) field notes p k value.nothing,
+        open_in path (first_place annotations p) field annotations p k value.nothing,
         record {
           full = false;
           behind = d;
-          spells = Spells-begin path kinds false field notes p k refl spells f ns tok;
+          spells = Spells-begin path kinds false field annotations p k refl spells f ns tok;
           begun = begun-member d (k ∷ kinds);
-          top = open_in-top path kinds false top field notes p k spells is_top;
+          top = open_in-top path kinds false top field annotations p k spells is_top;
         },
-        path_items-open_in path (first_place notes p) (top_of kinds top notes p) field notes p k (fits path kinds false top field notes p spells is_top f),
+        path_items-open_in path (first_place annotations p) (top_of kinds top annotations p) field annotations p k (fits path kinds false top field annotations p spells is_top f),
       ) in
       refused-goes bytes path s p (nat_le limits.depth (length kinds)) DepthLimit (Ok (Gives item after)) goes
 
@@ -261,18 +261,18 @@ same-bytes (x ∷ xs) (y ∷ ys) e =
     rw (first, same-bytes xs ys both.1) refl
 
 -- the word of a version stands alone at top level
-record IsVersion (k : Option Kind) (notes : List SymbolAt) (quoted : Bool) (symbol : Symbol) : Type 0 where
+record IsVersion (k : Option Kind) (annotations : List SymbolAt) (quoted : Bool) (symbol : Symbol) : Type 0 where
   at_top : k ≡ None
-  bare : notes ≡ []
+  bare : annotations ≡ []
   unquoted : quoted ≡ false
 
-told-version : (k : Option Kind) (notes : List SymbolAt) (quoted : Bool) (symbol : Symbol) → tells_version k notes quoted symbol ≡ true → IsVersion k notes quoted symbol
+told-version : (k : Option Kind) (annotations : List SymbolAt) (quoted : Bool) (symbol : Symbol) → tells_version k annotations quoted symbol ≡ true → IsVersion k annotations quoted symbol
 unfolding tells_version
 told-version None [] false (value.Text word) e = record { at_top = refl; bare = refl; unquoted = refl }
 told-version None [] false (value.Id id) e = absurd (false≢true e)
 told-version None [] true symbol e = absurd (false≢true e)
-told-version None (a ∷ notes) quoted symbol e = absurd (false≢true e)
-told-version (Some k) notes quoted symbol e = absurd (false≢true e)
+told-version None (a ∷ annotations) quoted symbol e = absurd (false≢true e)
+told-version (Some k) annotations quoted symbol e = absurd (false≢true e)
 
 marker-word : (symbol : Symbol) → is_marker symbol ≡ true → symbol ≡ value.Text version_word
 marker-word (value.Text word) e = ap value.Text (same-bytes version_word word e)
@@ -301,41 +301,41 @@ module _ (limits : Limits) (bytes : List ℕ) (path : Path SymbolAt ℕ) (top : 
         path_items-mark_in tops p,
       )
 
-  version-goes : (kinds : List Kind) (field : Option SymbolAt) (notes : List SymbolAt) (quoted : Bool) (symbol : Symbol) (behind b c : Cursor)
-      → Spells (start_of bytes) path kinds false behind → Field (innermost kinds) behind field b → Annotations (in_sexp (innermost kinds)) b notes c
-      → Tok (in_sexp (innermost kinds)) c (name quoted symbol) p d → behind_colons (in_sexp (innermost kinds)) d ≡ None → IsVersion (innermost kinds) notes quoted symbol
-      → (s : State) → Goes bytes path s (part p (reading.version_given kinds top field notes (at symbol p) d))
-  version-goes (k ∷ kinds) field notes quoted symbol behind b c spells f ns tok alone told s = absurd (cc told.at_top)
-  version-goes [] field (a ∷ notes) quoted symbol behind b c spells f ns tok alone told s = absurd (cc told.bare)
+  version-goes : (kinds : List Kind) (field : Option SymbolAt) (annotations : List SymbolAt) (quoted : Bool) (symbol : Symbol) (behind b c : Cursor)
+      → Spells (start_of bytes) path kinds false behind → Field (innermost kinds) behind field b → Annotations (in_sexp (innermost kinds)) b annotations c
+      → Tok (in_sexp (innermost kinds)) c (name quoted symbol) p d → behind_colons (in_sexp (innermost kinds)) d ≡ None → IsVersion (innermost kinds) annotations quoted symbol
+      → (s : State) → Goes bytes path s (part p (reading.version_given kinds top field annotations (at symbol p) d))
+  version-goes (k ∷ kinds) field annotations quoted symbol behind b c spells f ns tok alone told s = absurd (cc told.at_top)
+  version-goes [] field (a ∷ annotations) quoted symbol behind b c spells f ns tok alone told s = absurd (cc told.bare)
   version-goes [] field [] true symbol behind b c spells f ns tok alone told s = absurd (cc told.unquoted)
   version-goes [] _ [] false symbol behind _ c spells Field.at_top ns tok alone told s =
-      let same : c ≡ behind = notes-none ns refl in
+      let same : c ≡ behind = annotations-none ns refl in
       marker-goes symbol behind spells (subst (λ c. Tok false c (name false symbol) p d) same tok) alone (is_marker symbol) refl s
 
   -- ---- symbols
 
-  told-goes : (kinds : List Kind) (field : Option SymbolAt) (notes : List SymbolAt) (quoted : Bool) (symbol : Symbol) (behind b c : Cursor)
-      → Spells (start_of bytes) path kinds false behind → Field (innermost kinds) behind field b → Annotations (in_sexp (innermost kinds)) b notes c
+  told-goes : (kinds : List Kind) (field : Option SymbolAt) (annotations : List SymbolAt) (quoted : Bool) (symbol : Symbol) (behind b c : Cursor)
+      → Spells (start_of bytes) path kinds false behind → Field (innermost kinds) behind field b → Annotations (in_sexp (innermost kinds)) b annotations c
       → Tok (in_sexp (innermost kinds)) c (name quoted symbol) p d → behind_colons (in_sexp (innermost kinds)) d ≡ None
-      → (told : Bool) → tells_version (innermost kinds) notes quoted symbol ≡ told
-      → (s : State) → Goes bytes path s (part p (reading.value_or_version kinds top field notes (at symbol p) d told))
-  told-goes kinds field notes quoted symbol behind b c spells f ns tok alone true is s =
-      version-goes kinds field notes quoted symbol behind b c spells f ns tok alone (told-version (innermost kinds) notes quoted symbol is) s
-  told-goes kinds field notes quoted symbol behind b c spells f ns tok alone false is s =
-      value-goes limits bytes path top is_top p d kinds field notes (value.symbol (at symbol p)) behind b spells f (Txt.of_symbol ns tok (no-colons (in_sexp (innermost kinds)) d alone) (no-version (innermost kinds) notes quoted symbol is)) s
+      → (told : Bool) → tells_version (innermost kinds) annotations quoted symbol ≡ told
+      → (s : State) → Goes bytes path s (part p (reading.value_or_version kinds top field annotations (at symbol p) d told))
+  told-goes kinds field annotations quoted symbol behind b c spells f ns tok alone true is s =
+      version-goes kinds field annotations quoted symbol behind b c spells f ns tok alone (told-version (innermost kinds) annotations quoted symbol is) s
+  told-goes kinds field annotations quoted symbol behind b c spells f ns tok alone false is s =
+      value-goes limits bytes path top is_top p d kinds field annotations (value.symbol (at symbol p)) behind b spells f (Txt.of_symbol ns tok (no-colons (in_sexp (innermost kinds)) d alone) (no-version (innermost kinds) annotations quoted symbol is)) s
 
-  symbol-goes : (kinds : List Kind) (field : Option SymbolAt) (notes : List SymbolAt) (quoted : Bool) (symbol : Symbol) (behind b c : Cursor)
-      → Spells (start_of bytes) path kinds false behind → Field (innermost kinds) behind field b → Annotations (in_sexp (innermost kinds)) b notes c
+  symbol-goes : (kinds : List Kind) (field : Option SymbolAt) (annotations : List SymbolAt) (quoted : Bool) (symbol : Symbol) (behind b c : Cursor)
+      → Spells (start_of bytes) path kinds false behind → Field (innermost kinds) behind field b → Annotations (in_sexp (innermost kinds)) b annotations c
       → Tok (in_sexp (innermost kinds)) c (name quoted symbol) p d
       → (colons : Option Cursor) → behind_colons (in_sexp (innermost kinds)) d ≡ colons
-      → (s : State) → Goes bytes path s (part p (reading.symbol_given limits kinds top field notes quoted (at symbol p) d colons))
-  symbol-goes kinds field notes quoted symbol behind b c spells f ns tok None alone s =
-      told-goes kinds field notes quoted symbol behind b c spells f ns tok alone (tells_version (innermost kinds) notes quoted symbol) refl s
-  symbol-goes kinds field notes quoted symbol behind b c spells f ns tok (Some e) found s =
+      → (s : State) → Goes bytes path s (part p (reading.symbol_given limits kinds top field annotations quoted (at symbol p) d colons))
+  symbol-goes kinds field annotations quoted symbol behind b c spells f ns tok None alone s =
+      told-goes kinds field annotations quoted symbol behind b c spells f ns tok alone (tells_version (innermost kinds) annotations quoted symbol) refl s
+  symbol-goes kinds field annotations quoted symbol behind b c spells f ns tok (Some e) found s =
       let more = colons-behind (in_sexp (innermost kinds)) d e found in
-      let after : State = state kinds top (a_value field (notes ++ at symbol p ∷ [])) e in
+      let after : State = state kinds top (a_value field (annotations ++ at symbol p ∷ [])) e in
       let goes : Follows bytes path s (GoesOn after) = record { full = false; behind = behind; spells = spells; begun = in_item f (Annotations.then ns tok more.1); top = is_top } in
-      refused-goes bytes path s p (nat_lt limits.scalar (sum_by reading.cost (notes ++ at symbol p ∷ []))) AnnotationLimit (Ok (GoesOn after)) goes
+      refused-goes bytes path s p (nat_lt limits.scalar (sum_by reading.cost (annotations ++ at symbol p ∷ []))) AnnotationLimit (Ok (GoesOn after)) goes
 
   -- ---- fields
 
@@ -412,14 +412,14 @@ module _ (limits : Limits) (bytes : List ℕ) (path : Path SymbolAt ℕ) (top : 
   take-goes _ _ behind _ _ comma spells at_field tok s = tt
   take-goes _ _ behind _ _ colon spells at_field tok s = tt
   take-goes _ _ behind _ _ colons spells at_field tok s = tt
-  take-goes kinds _ behind c _ (end k) spells (in_item {d = b} {field = field} {notes = notes} f ns) tok s = bare-goes limits bytes path top is_top p d kinds k field notes behind b c spells f ns tok s
-  take-goes kinds _ behind c _ (plain v) spells (in_item {d = b} {field = field} {notes = notes} f ns) tok s = value-goes limits bytes path top is_top p d kinds field notes v behind b spells f (Txt.of_plain ns tok) s
-  take-goes kinds _ behind c _ (text t) spells (in_item {d = b} {field = field} {notes = notes} f ns) tok s = value-goes limits bytes path top is_top p d kinds field notes (value.string t) behind b spells f (Txt.of_text ns tok) s
-  take-goes kinds _ behind c _ (operator t) spells (in_item {d = b} {field = field} {notes = notes} f ns) tok s =
-      value-goes limits bytes path top is_top p d kinds field notes (value.symbol (at (value.Text t) p)) behind b spells f (Txt.of_operator ns tok) s
-  take-goes kinds _ behind c _ (name quoted symbol) spells (in_item {d = b} {field = field} {notes = notes} f ns) tok s =
-      symbol-goes kinds field notes quoted symbol behind b c spells f ns tok (behind_colons (in_sexp (innermost kinds)) d) refl s
-  take-goes kinds _ behind c _ (begin k) spells (in_item {d = b} {field = field} {notes = notes} f ns) tok s = begin-goes limits bytes path top is_top p d kinds k field notes behind b c spells f ns tok s
+  take-goes kinds _ behind c _ (end k) spells (in_item {d = b} {field = field} {annotations = annotations} f ns) tok s = bare-goes limits bytes path top is_top p d kinds k field annotations behind b c spells f ns tok s
+  take-goes kinds _ behind c _ (plain v) spells (in_item {d = b} {field = field} {annotations = annotations} f ns) tok s = value-goes limits bytes path top is_top p d kinds field annotations v behind b spells f (Txt.of_plain ns tok) s
+  take-goes kinds _ behind c _ (text t) spells (in_item {d = b} {field = field} {annotations = annotations} f ns) tok s = value-goes limits bytes path top is_top p d kinds field annotations (value.string t) behind b spells f (Txt.of_text ns tok) s
+  take-goes kinds _ behind c _ (operator t) spells (in_item {d = b} {field = field} {annotations = annotations} f ns) tok s =
+      value-goes limits bytes path top is_top p d kinds field annotations (value.symbol (at (value.Text t) p)) behind b spells f (Txt.of_operator ns tok) s
+  take-goes kinds _ behind c _ (name quoted symbol) spells (in_item {d = b} {field = field} {annotations = annotations} f ns) tok s =
+      symbol-goes kinds field annotations quoted symbol behind b c spells f ns tok (behind_colons (in_sexp (innermost kinds)) d) refl s
+  take-goes kinds _ behind c _ (begin k) spells (in_item {d = b} {field = field} {annotations = annotations} f ns) tok s = begin-goes limits bytes path top is_top p d kinds k field annotations behind b c spells f ns tok s
   take-goes kinds _ behind c _ no_number spells (in_item f ns) tok s = tt
   take-goes kinds _ behind c _ comma spells (in_item f ns) tok s = tt
   take-goes kinds _ behind c _ colon spells (in_item f ns) tok s = tt
@@ -445,8 +445,8 @@ coming-goes limits bytes path s b stands blank first is true =
 ended-goes : (limits : Limits) (bytes : List ℕ) (path : Path SymbolAt ℕ) (s : State) (b : Cursor) → blanks s.cursor ≡ Ok b → b.rest ≡ []
     → (kinds : List Kind) (wants : Wants) → s.kinds ≡ kinds → s.wants ≡ wants → Goes bytes path s (reading.ended kinds wants b.place)
 ended-goes limits bytes path s b blank none [] (a_value None []) kinds_are wants_are = (kinds_are, wants_are, b, blank, none)
-ended-goes limits bytes path s b blank none [] (a_value None (a ∷ notes)) kinds_are wants_are = tt
-ended-goes limits bytes path s b blank none [] (a_value (Some a) notes) kinds_are wants_are = tt
+ended-goes limits bytes path s b blank none [] (a_value None (a ∷ annotations)) kinds_are wants_are = tt
+ended-goes limits bytes path s b blank none [] (a_value (Some a) annotations) kinds_are wants_are = tt
 ended-goes limits bytes path s b blank none [] a_field kinds_are wants_are = tt
 ended-goes limits bytes path s b blank none [] a_separator kinds_are wants_are = tt
 ended-goes limits bytes path s b blank none (k ∷ kinds) wants kinds_are wants_are = tt

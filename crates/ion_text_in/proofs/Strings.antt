@@ -23,7 +23,7 @@ use Rattle.ion_text_in.specs.Blanks.{is_white}
 use Rattle.ion_text_in.specs.Lob as lob
 use Rattle.ion_text_in.specs.Lob.{lob_at}
 use Rattle.ion_value.specs.Value.{SymbolAt, Scalar, clob}
-use Rattle.ion_text_in.proofs.Meaning.{run-none, run-more, allowed, allows-fewer, skip-front}
+use Rattle.ion_text_in.proofs.Meaning.{run-none, run-more, allowed, allows-fewer, skip-prefix}
 
 -- short quotes
 abbrev by_quote : ℕ → Bool → Quote
@@ -117,7 +117,7 @@ pieces-char most quote in_clob limit count p b text more bytes d other char allo
     ap (λ (piece : Piece). with_piece (λ n d. pieces_for most (by_quote quote in_clob) limit n d) (by_quote quote in_clob) limit count (at p (text ++ more)) piece) (piece-read quote in_clob b text more other char)
     ∙ ap (λ (over : Bool). refuse over ScalarLimit
     >> (pieces_for most (by_quote quote in_clob) limit (count + 1) (skip (length text) (at p (text ++ more))) >>= (λ others. got (b ∷ others.0) others.1))) (allowed limit (count + 1) allows)
-    ∙ ap (λ (c : Cursor). pieces_for most (by_quote quote in_clob) limit (count + 1) c >>= (λ others. got (b ∷ others.0) others.1)) (skip-front p text more)
+    ∙ ap (λ (c : Cursor). pieces_for most (by_quote quote in_clob) limit (count + 1) c >>= (λ others. got (b ∷ others.0) others.1)) (skip-prefix p text more)
     ∙ ap (λ (o : Got). o >>= (λ others. got (b ∷ others.0) others.1)) later
 
 char-some : (quote : ℕ) (in_clob : Bool) (b : ℕ) (text : List ℕ) → Char quote in_clob text b → 1 ≤ length text
@@ -222,28 +222,28 @@ white-run (x ∷ white) b rest all dark =
 behind-white : (p : ℕ) (white : List ℕ) (b : ℕ) (rest : List ℕ) → all_are is_white white ≡ true → is_white b ≡ false
     → behind_run (first_is is_white) (at p (white ++ b ∷ rest)) ≡ at (p + length white) (b ∷ rest)
 behind-white p white b rest all dark =
-    ap (λ (z : List ℕ × List ℕ). skip (length z.0) (at p (white ++ b ∷ rest))) (white-run white b rest all dark) ∙ skip-front p white (b ∷ rest)
+    ap (λ (z : List ℕ × List ℕ). skip (length z.0) (at p (white ++ b ∷ rest))) (white-run white b rest all dark) ∙ skip-prefix p white (b ∷ rest)
 
 abbrev body : Scalar SymbolAt → Cursor → Result (Scalar SymbolAt × Cursor) Reason
 body v d = Ok (v, d)
 
-clob-given : (limit : Limit) (p q : ℕ) (front chars back bytes rest : List ℕ) → all_are is_white front ≡ true → Chars 34 true chars bytes → all_are is_white back ≡ true → Allows limit (length bytes)
-    → p + length front + 1 + (length chars + 1) + length back + 2 ≡ q
-    → lob.lob_at limit (at p (front ++ 34 ∷ (chars ++ 34 ∷ (back ++ 125 ∷ 125 ∷ rest)))) ≡ body (clob bytes) (at q rest)
+clob-given : (limit : Limit) (p q : ℕ) (prefix chars back bytes rest : List ℕ) → all_are is_white prefix ≡ true → Chars 34 true chars bytes → all_are is_white back ≡ true → Allows limit (length bytes)
+    → p + length prefix + 1 + (length chars + 1) + length back + 2 ≡ q
+    → lob.lob_at limit (at p (prefix ++ 34 ∷ (chars ++ 34 ∷ (back ++ 125 ∷ 125 ∷ rest)))) ≡ body (clob bytes) (at q rest)
 unfolding lob_at
-clob-given limit p q front chars back bytes rest white are behind allows place =
-    let r : ℕ = p + length front + 1 + (length chars + 1) in
-    ap (λ (c : Cursor). lob.lob_in limit c) (behind-white p front 34 (chars ++ 34 ∷ (back ++ 125 ∷ 125 ∷ rest)) white refl)
+clob-given limit p q prefix chars back bytes rest white are behind allows place =
+    let r : ℕ = p + length prefix + 1 + (length chars + 1) in
+    ap (λ (c : Cursor). lob.lob_in limit c) (behind-white p prefix 34 (chars ++ 34 ∷ (back ++ 125 ∷ 125 ∷ rest)) white refl)
     ∙ ap (λ (o : Got). o >>= (λ t. lob.clob_closed_at false (behind_run (first_is is_white) t.1) >>= (λ d. body (clob t.0) d)))
-    (text-given 34 true limit (p + length front + 1) r chars bytes (back ++ 125 ∷ 125 ∷ rest) refl are (λ no. absurd (false≢true (sym no))) allows refl)
+    (text-given 34 true limit (p + length prefix + 1) r chars bytes (back ++ 125 ∷ 125 ∷ rest) refl are (λ no. absurd (false≢true (sym no))) allows refl)
     ∙ ap (λ (c : Cursor). lob.clob_closed_at false c >>= (λ d. body (clob bytes) d)) (behind-white r back 125 (125 ∷ rest) behind refl)
     ∙ ap (λ (q : ℕ). body (clob bytes) (at q rest)) place
 
 pub clob-means : ClobTextIsRead
 unfolding first_at token_of
-clob-means front chars back bytes white are behind limit sexp place rest allows ends =
-    let text : (front ++ (quoted 34 chars ++ (back ++ 125 ∷ 125 ∷ []))) ++ rest ≡ front ++ 34 ∷ (chars ++ 34 ∷ (back ++ 125 ∷ 125 ∷ rest)) = simp append_assoc refl in
+clob-means prefix chars back bytes white are behind limit sexp place rest allows ends =
+    let text : (prefix ++ (quoted 34 chars ++ (back ++ 125 ∷ 125 ∷ []))) ++ rest ≡ prefix ++ 34 ∷ (chars ++ 34 ∷ (back ++ 125 ∷ 125 ∷ rest)) = simp append_assoc refl in
     ap (λ (xs : List ℕ). lob.lob_at limit (at (place + 2) xs) >>= (λ l. made (tokens.plain l.0) l.1)) text
     ∙ ap (λ (o : Result (Scalar SymbolAt × Cursor) Reason). o >>= (λ l. made (tokens.plain l.0) l.1))
-    (clob-given limit (place + 2) (place + length (codes "{{" ++ (front ++ (quoted 34 chars ++ (back ++ codes "}}"))))) front chars back bytes rest white are behind allows
-    (omega (arith, length-append front (quoted 34 chars ++ (back ++ 125 ∷ 125 ∷ [])), length-append chars (34 ∷ []), length-append (chars ++ 34 ∷ []) (back ++ 125 ∷ 125 ∷ []), length-append back (125 ∷ 125 ∷ []))))
+    (clob-given limit (place + 2) (place + length (codes "{{" ++ (prefix ++ (quoted 34 chars ++ (back ++ codes "}}"))))) prefix chars back bytes rest white are behind allows
+    (omega (arith, length-append prefix (quoted 34 chars ++ (back ++ 125 ∷ 125 ∷ [])), length-append chars (34 ∷ []), length-append (chars ++ 34 ∷ []) (back ++ 125 ∷ 125 ∷ []), length-append back (125 ∷ 125 ∷ []))))

@@ -117,10 +117,10 @@ token-told limit no_token b d t e = absurd (cc e)
 
 -- the blanks before it, and itself
 pub record Stands (sexp : Bool) (c : Cursor) (t : Token) (p : ℕ) (d : Cursor) : Type 0 where
-  pub front : Cursor
-  pub blank : blanks c ≡ Ok front
-  pub token : token_of None (first_at sexp front.rest) front ≡ got t d
-  pub place : front.place ≡ p
+  pub prefix : Cursor
+  pub blank : blanks c ≡ Ok prefix
+  pub token : token_of None (first_at sexp prefix.rest) prefix ≡ got t d
+  pub place : prefix.place ≡ p
 
 tok-cut : (sexp : Bool) (c b d : Cursor) (t : Token) (p : ℕ) → blanks c ≡ Ok b → (o : Result (Token × Cursor) Reason) → token_of None (first_at sexp b.rest) b ≡ o
     → (part b.place o >>= (λ t. Ok (tokens.cut t.0 b.place t.1))) ≡ Ok (tokens.cut t p d) → Stands sexp c t p d
@@ -128,7 +128,7 @@ tok-cut sexp c b d t p blank (Ok u) token e =
     let same : tokens.cut u.0 b.place u.1 ≡ tokens.cut t p d = cc e in
     let is : u.0 ≡ t = ap (λ (z : tokens.Cut). z.token) same in
     let behind : u.1 ≡ d = ap (λ (z : tokens.Cut). z.behind) same in
-    record { front = b; blank = blank; token = token ∙ ap Ok (pair u t d is behind); place = ap (λ (z : tokens.Cut). z.first) same }
+    record { prefix = b; blank = blank; token = token ∙ ap Ok (pair u t d is behind); place = ap (λ (z : tokens.Cut). z.first) same }
   where
     pair : (u : Token × Cursor) (t : Token) (d : Cursor) → u.0 ≡ t → u.1 ≡ d → u ≡ (t, d)
     pair u t d is behind = rw (← is, ← behind) refl
@@ -152,9 +152,9 @@ state kinds top wants c = record { kinds = kinds; top = top; wants = wants; curs
 abbrev pub Suits : Wants → Token → Type 0
 Suits wants t = (first : First) → Told first t → may_come wants first ≡ true
 
-pub value-suits : (field : Option SymbolAt) (notes : List SymbolAt) (t : Token) → Suits (a_value field notes) t
+pub value-suits : (field : Option SymbolAt) (annotations : List SymbolAt) (t : Token) → Suits (a_value field annotations) t
 unfolding may_come
-value-suits field notes t first told = refl
+value-suits field annotations t first told = refl
 
 pub mark-suits : (t : Token) → is_mark t ≡ true → Suits a_separator t
 unfolding may_come
@@ -188,7 +188,7 @@ pub step-token : (limits : Limits) (kinds : List Kind) (top : ℕ) (wants : Want
 unfolding step part_at
 step-token limits kinds top wants c t p d suits room tok =
     let stands = tok-stands (in_sexp (innermost kinds)) c d t p tok in
-    let b : Cursor = stands.front in
+    let b : Cursor = stands.prefix in
     let same = token-same limits.scalar (in_sexp (innermost kinds)) b (let within = (blanks-within c b stands.blank).0 in omega (arith, room, within)) in
     ap step_of (ap (λ o. o >>= (λ b. reading.part_behind limits (state kinds top wants c) b b.rest)) stands.blank
     ∙ rest-token limits kinds top wants c t d suits b b.rest refl (same ∙ stands.token)
@@ -238,9 +238,9 @@ both-colons limit an_infinity b d e is = absurd (false≢true is)
 pub colons-stand : (sexp : Bool) (c d : Cursor) (p : ℕ) → Tok sexp c colons p d → reading.behind_colons sexp c ≡ Some d
 colons-stand sexp c d p tok =
     let s = tok-stands sexp c d colons p tok in
-    let told = token-told None (first_at sexp s.front.rest) s.front d colons s.token in
-    let are = both-colons None (first_at sexp s.front.rest) s.front d s.token (sym told.mark) in
-    ap (λ o. reading.colons_behind sexp o) s.blank ∙ ap (λ first. reading.colons_at first s.front) are.0 ∙ ap Some (sym are.1)
+    let told = token-told None (first_at sexp s.prefix.rest) s.prefix d colons s.token in
+    let are = both-colons None (first_at sexp s.prefix.rest) s.prefix d s.token (sym told.mark) in
+    ap (λ o. reading.colons_behind sexp o) s.blank ∙ ap (λ first. reading.colons_at first s.prefix) are.0 ∙ ap Some (sym are.1)
 
 colon-from : (kinds : List Kind) (top : ℕ) (a : SymbolAt) (b : Cursor) (rest : List ℕ) → first_at false rest ≡ a_colon
     → reading.colon_from kinds top a b rest ≡ Ok (reading.going_on kinds top (a_value (Some a) []) (skip 1 b))
@@ -253,8 +253,8 @@ pub colon-stands : (c d : Cursor) (p : ℕ) (kinds : List Kind) (top : ℕ) (a :
     → reading.named kinds top a c ≡ Ok (reading.going_on kinds top (a_value (Some a) []) d)
 colon-stands c d p kinds top a tok =
     let s = tok-stands false c d colon p tok in
-    let told = token-told None (first_at false s.front.rest) s.front d colon s.token in
-    let is = one-colon None (first_at false s.front.rest) s.front d s.token (sym told.mark) in
+    let told = token-told None (first_at false s.prefix.rest) s.prefix d colon s.token in
+    let is = one-colon None (first_at false s.prefix.rest) s.prefix d s.token (sym told.mark) in
     ap (λ o. o >>= (λ b. reading.colon_from kinds top a b b.rest)) s.blank
-    ∙ colon-from kinds top a s.front s.front.rest is.0
+    ∙ colon-from kinds top a s.prefix s.prefix.rest is.0
     ∙ ap (λ d. Ok (reading.going_on kinds top (a_value (Some a) []) d)) (sym is.1)

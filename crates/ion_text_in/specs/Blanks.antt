@@ -1,4 +1,4 @@
--- What stands between tokens and means nothing: white space and comments (Ion specification, "Text Encoding").
+-- What stands between tokens and is ignored: white space and comments (Ion specification, "Text Encoding").
 use Rattle.std.specs.Prelude.{ℕ, suc, Bool, true, false, ◌&&◌, ◌||◌, ◌==◌, if◌then◌else◌, List, [], ◌∷◌, Ok, Err}
 use Rattle.ion_meter.specs.declared.fault.Reason.TheVariants.{Truncated}
 use Rattle.ion_value.specs.Digits.{is_between, first_is}

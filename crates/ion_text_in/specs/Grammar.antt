@@ -21,9 +21,10 @@ NoColons sexp c = (p : ℕ) (d : Cursor) → Tok sexp c colons p d → ⊥
 -- annotations, each a symbol and two colons
 pub data Annotations (sexp : Bool) (c : Cursor) : List SymbolAt → Cursor → Type 0 where
   nothing : Annotations sexp c [] c
-  then : {notes : List SymbolAt} {d e f : Cursor} {p q : ℕ} {quoted : Bool} {symbol : Symbol}
-      → Annotations sexp c notes d → Tok sexp d (name quoted symbol) p e → Tok sexp e colons q f
-      → Annotations sexp c (notes ++ at symbol p ∷ []) f
+  then : {annotations : List SymbolAt} {d e f : Cursor} {p q : ℕ} {quoted : Bool} {symbol : Symbol}
+      → Annotations sexp c annotations d → Tok sexp d (name quoted symbol) p e
+          → Tok sexp e colons q f
+      → Annotations sexp c (annotations ++ at symbol p ∷ []) f
 
 -- a member's field in a struct, a symbol or a string before a colon, and nothing elsewhere
 pub data Field : Option Kind → Cursor → Option SymbolAt → Cursor → Type 0 where
@@ -45,31 +46,33 @@ mutual
   -- annotations and a value, which stands at a place; a symbol is a value where no two colons follow it, and it is no
   -- version's word
   pub data Txt : Option Kind → Cursor → List SymbolAt → ℕ → Value SymbolAt ℕ → Cursor → Type 0 where
-    of_plain : {k : Option Kind} {c d e : Cursor} {notes : List SymbolAt} {p : ℕ} {v : Scalar SymbolAt}
-        → Annotations (in_sexp k) c notes d → Tok (in_sexp k) d (plain v) p e
-        → Txt k c notes p (value.scalar v) e
-    of_text : {k : Option Kind} {c d e : Cursor} {notes : List SymbolAt} {p : ℕ} {bytes : List ℕ}
-        → Annotations (in_sexp k) c notes d → Tok (in_sexp k) d (text bytes) p e
-        → Txt k c notes p (value.scalar (value.string bytes)) e
-    of_operator : {k : Option Kind} {c d e : Cursor} {notes : List SymbolAt} {p : ℕ} {bytes : List ℕ}
-        → Annotations (in_sexp k) c notes d → Tok (in_sexp k) d (operator bytes) p e
-        → Txt k c notes p (value.scalar (value.symbol (at (value.Text bytes) p))) e
-    of_symbol : {k : Option Kind} {c d e : Cursor} {notes : List SymbolAt} {p : ℕ} {quoted : Bool} {symbol : Symbol}
-        → Annotations (in_sexp k) c notes d → Tok (in_sexp k) d (name quoted symbol) p e
-        → NoColons (in_sexp k) e → (IsVersionWord k notes quoted symbol → ⊥)
-        → Txt k c notes p (value.scalar (value.symbol (at symbol p))) e
-    of_members : {k : Option Kind} {c d e f g : Cursor} {notes : List SymbolAt} {p q : ℕ} {j : Kind}
+    of_plain : {k : Option Kind} {c d e : Cursor} {annotations : List SymbolAt} {p : ℕ} {v : Scalar SymbolAt}
+        → Annotations (in_sexp k) c annotations d → Tok (in_sexp k) d (plain v) p e
+        → Txt k c annotations p (value.scalar v) e
+    of_text : {k : Option Kind} {c d e : Cursor} {annotations : List SymbolAt} {p : ℕ}
+        {bytes : List ℕ}
+        → Annotations (in_sexp k) c annotations d → Tok (in_sexp k) d (text bytes) p e
+        → Txt k c annotations p (value.scalar (value.string bytes)) e
+    of_operator : {k : Option Kind} {c d e : Cursor} {annotations : List SymbolAt} {p : ℕ} {bytes : List ℕ}
+        → Annotations (in_sexp k) c annotations d → Tok (in_sexp k) d (operator bytes) p e
+        → Txt k c annotations p (value.scalar (value.symbol (at (value.Text bytes) p))) e
+    of_symbol : {k : Option Kind} {c d e : Cursor} {annotations : List SymbolAt} {p : ℕ} {quoted : Bool} {symbol : Symbol}
+        → Annotations (in_sexp k) c annotations d → Tok (in_sexp k) d (name quoted symbol) p e
+        → NoColons (in_sexp k) e → (IsVersionWord k annotations quoted symbol → ⊥)
+        → Txt k c annotations p (value.scalar (value.symbol (at symbol p))) e
+    of_members : {k : Option Kind} {c d e f g : Cursor} {annotations : List SymbolAt} {p q : ℕ}
+        {j : Kind}
         {members : Members SymbolAt ℕ} {full : Bool}
-        → Annotations (in_sexp k) c notes d → Tok (in_sexp k) d (begin j) p e → Inside j e members full f
-        → Tok (is_sexp j) f (end j) q g → Txt k c notes p (value.container j members q) g
+        → Annotations (in_sexp k) c annotations d → Tok (in_sexp k) d (begin j) p e → Inside j e members full f
+        → Tok (is_sexp j) f (end j) q g → Txt k c annotations p (value.container j members q) g
 
   -- members of a container; where it is full, no other may follow before a comma
   pub data Inside : Kind → Cursor → Members SymbolAt ℕ → Bool → Cursor → Type 0 where
     nothing : {k : Kind} {c : Cursor} → Inside k c value.nothing false c
     with_value : {k : Kind} {c d e f : Cursor} {members : Members SymbolAt ℕ} {field : Option SymbolAt}
-        {notes : List SymbolAt} {p : ℕ} {v : Value SymbolAt ℕ}
-        → Inside k c members false d → Field (Some k) d field e → Txt (Some k) e notes p v f
-        → Inside k c (value.member members field notes p v) (has_commas (Some k)) f
+        {annotations : List SymbolAt} {p : ℕ} {v : Value SymbolAt ℕ}
+        → Inside k c members false d → Field (Some k) d field e → Txt (Some k) e annotations p v f
+        → Inside k c (value.member members field annotations p v) (has_commas (Some k)) f
     with_comma : {k : Kind} {c d e : Cursor} {members : Members SymbolAt ℕ} {p : ℕ}
         → Inside k c members true d → Tok (is_sexp k) d comma p e
         → Inside k c members false e
@@ -80,9 +83,9 @@ pub data Tops (c : Cursor) : List (Top SymbolAt ℕ) → Cursor → Type 0 where
   marker : {tops : List (Top SymbolAt ℕ)} {d e : Cursor} {p : ℕ}
       → Tops c tops d → Tok false d (name false (value.Text version_word)) p e → NoColons false e
       → Tops c (tops ++ value.version p ∷ []) e
-  with_value : {tops : List (Top SymbolAt ℕ)} {d e : Cursor} {notes : List SymbolAt} {p : ℕ} {v : Value SymbolAt ℕ}
-      → Tops c tops d → Txt None d notes p v e
-      → Tops c (tops ++ value.tree (first_place notes p) notes p v ∷ []) e
+  with_value : {tops : List (Top SymbolAt ℕ)} {d e : Cursor} {annotations : List SymbolAt} {p : ℕ} {v : Value SymbolAt ℕ}
+      → Tops c tops d → Txt None d annotations p v e
+      → Tops c (tops ++ value.tree (first_place annotations p) annotations p v ∷ []) e
 
 abbrev pub start_of : List ℕ → Cursor
 start_of bytes = record { place = 0; rest = bytes }

@@ -72,9 +72,9 @@ pub data Passes (limits : Limits) (s : State) (place : ℕ) : Reason → Type 0 
       → Passes limits s place ScalarLimit
   container : (k : Kind) (d : Cursor) → Tok (in_sexp (innermost s.kinds)) s.cursor (begin k) place d
       → limits.depth ≤ length s.kinds → Passes limits s place DepthLimit
-  annotations : (field : Option SymbolAt) (notes : List SymbolAt) (quoted : Bool) (symbol : Symbol) (q : ℕ) (d e : Cursor)
-      → s.wants ≡ a_value field notes → Tok (in_sexp (innermost s.kinds)) s.cursor (name quoted symbol) place d
-      → Tok (in_sexp (innermost s.kinds)) d colons q e → limits.scalar < sum_by cost (notes ++ at symbol place ∷ [])
+  annotations : (field : Option SymbolAt) (annotations : List SymbolAt) (quoted : Bool) (symbol : Symbol) (q : ℕ) (d e : Cursor)
+      → s.wants ≡ a_value field annotations → Tok (in_sexp (innermost s.kinds)) s.cursor (name quoted symbol) place d
+      → Tok (in_sexp (innermost s.kinds)) d colons q e → limits.scalar < sum_by cost (annotations ++ at symbol place ∷ [])
       → Passes limits s place AnnotationLimit
 
 -- two readings come to one state with the same items; there one stops, since its limits are passed, and the other goes
@@ -111,6 +111,6 @@ OnePath =
     (bytes : List ℕ) (q r : ℕ) (a b : Path SymbolAt ℕ) → IsPath bytes q a → IsPath bytes r b
     → IsBegun (path_items a) (path_items b) ⊎ IsBegun (path_items b) (path_items a)
 
--- the same bytes are one list of markers and values
+-- the same bytes are one list of version markers and values
 abbrev pub OneStream : Type 0
 OneStream = (bytes : List ℕ) (a b : List (Top SymbolAt ℕ)) → Stream bytes a → Stream bytes b → a ≡ b

@@ -153,7 +153,7 @@ QuotedSymbolIsRead =
 -- a clob has white space around its quotes, and no comments
 abbrev pub ClobTextIsRead : Type 0
 ClobTextIsRead =
-    (front chars back bytes : List ℕ)
-    → all_are is_white front ≡ true → Chars 34 true chars bytes → all_are is_white back ≡ true
-    → Means (length bytes) (λ rest. false) (codes "{{" ++ (front ++ (quoted 34 chars ++ (back ++ codes "}}"))))
+    (prefix chars back bytes : List ℕ)
+    → all_are is_white prefix ≡ true → Chars 34 true chars bytes → all_are is_white back ≡ true
+    → Means (length bytes) (λ rest. false) (codes "{{" ++ (prefix ++ (quoted 34 chars ++ (back ++ codes "}}"))))
     (plain (clob bytes))

@@ -14,18 +14,20 @@ use Rattle.ion_text_in.specs.Grammar.{Tok, Annotations, Field, Inside, Tops, sta
 -- the path behind a container's beginning and some of its members
 abbrev pub open_in : Path SymbolAt ℕ → ℕ → Option SymbolAt → List SymbolAt → ℕ → Kind → Members SymbolAt ℕ
     → Path SymbolAt ℕ
-open_in (closed tops) q field notes p k members = opened tops q (outermost notes p k members)
-open_in (opened tops first nest) q field notes p k members = opened tops first (inner nest field notes p k members)
+open_in (closed tops) q field annotations p k members =
+    opened tops q (outermost annotations p k members)
+open_in (opened tops first nest) q field annotations p k members = opened tops first (inner nest field annotations p k members)
 
 -- between the cursors b and c stand the items of the path, of which these containers are open; where the innermost is
 -- full, a comma or its end comes next
 pub data Spells (b : Cursor) : Path SymbolAt ℕ → List Kind → Bool → Cursor → Type 0 where
   top : {tops : List (Top SymbolAt ℕ)} {c : Cursor} → Tops b tops c → Spells b (closed tops) [] false c
-  inside : (path : Path SymbolAt ℕ) (field : Option SymbolAt) (notes : List SymbolAt) (p : ℕ) (k : Kind)
+  inside : (path : Path SymbolAt ℕ) (field : Option SymbolAt) (annotations : List SymbolAt) (p : ℕ) (k : Kind)
       (members : Members SymbolAt ℕ) {kinds : List Kind} {c d e f g : Cursor} {full : Bool}
-      → Spells b path kinds false c → Field (innermost kinds) c field d → Annotations (in_sexp (innermost kinds)) d notes e
+      → Spells b path kinds false c → Field (innermost kinds) c field d → Annotations (in_sexp (innermost kinds)) d annotations e
       → Tok (in_sexp (innermost kinds)) e (begin k) p f → Inside k f members full g
-      → Spells b (open_in path (first_place notes p) field notes p k members) (k ∷ kinds) full g
+      → Spells b (open_in path (first_place annotations p) field annotations p k members) (k
+          ∷ kinds) full g
 
 -- the bytes before a place spell the path
 pub record IsPath (bytes : List ℕ) (q : ℕ) (path : Path SymbolAt ℕ) : Type 0 where
@@ -41,9 +43,10 @@ pub record IsPath (bytes : List ℕ) (q : ℕ) (path : Path SymbolAt ℕ) : Type
 pub data Begun (c : Cursor) : List Kind → Bool → Wants → Cursor → Type 0 where
   at_separator : {kinds : List Kind} → Begun c kinds true a_separator c
   at_field : {kinds : List Kind} → Begun c (kind.Struct ∷ kinds) false a_field c
-  in_item : {kinds : List Kind} {d e : Cursor} {field : Option SymbolAt} {notes : List SymbolAt}
-      → Field (innermost kinds) c field d → Annotations (in_sexp (innermost kinds)) d notes e
-      → Begun c kinds false (a_value field notes) e
+  in_item : {kinds : List Kind} {d e : Cursor} {field : Option SymbolAt}
+      {annotations : List SymbolAt}
+      → Field (innermost kinds) c field d → Annotations (in_sexp (innermost kinds)) d annotations e
+      → Begun c kinds false (a_value field annotations) e
 
 -- the place of the open top-level value, where one is
 abbrev pub IsTop : Path SymbolAt ℕ → ℕ → Type 0

@@ -36,7 +36,7 @@ at symbol place = record { symbol = symbol; place = place }
 -- a top-level value begins at its first annotation, or at its head
 abbrev pub first_place : List SymbolAt → ℕ → ℕ
 first_place [] place = place
-first_place (a ∷ notes) place = a.place
+first_place (a ∷ annotations) place = a.place
 
 -- ---- where a reading stands
 

@@ -68,28 +68,29 @@ names_field no_token = false
 
 -- a token that so begins is read, and may have faults of its own, before it is found not to belong here
 unfoldable pub may_come : Wants → First → Bool
-may_come (a_value field notes) first = true
+may_come (a_value field annotations) first = true
 may_come a_field first = is_punctuation first || names_field first
 may_come a_separator first = is_punctuation first
 
 -- ---- items
 
 abbrev pub top_of : List Kind → ℕ → List SymbolAt → ℕ → ℕ
-top_of [] top notes place = first_place notes place
-top_of (k ∷ kinds) top notes place = top
+top_of [] top annotations place = first_place annotations place
+top_of (k ∷ kinds) top annotations place = top
 
 abbrev pub item_of : ℕ → Option SymbolAt → List SymbolAt → ℕ → Head SymbolAt → PlacedItem
-item_of top field notes place head = record { field = field; annotations = notes; head = head; place = place; top = top }
+item_of top field annotations place head = record { field = field; annotations = annotations; head = head; place = place; top = top }
 
 -- an item whose head begins at a place, and what must come behind it
 abbrev pub given : List Kind → ℕ → Option SymbolAt → List SymbolAt → ℕ → Head SymbolAt → List Kind → Wants → Cursor → Step State
-given kinds top field notes place head after wants c =
-    Gives (item_of (top_of kinds top notes place) field notes place head)
-    (record { kinds = after; top = top_of kinds top notes place; wants = wants; cursor = c })
+given kinds top field annotations place head after wants c =
+    Gives (item_of (top_of kinds top annotations place) field annotations place head)
+    (record { kinds = after; top = top_of kinds top annotations place; wants = wants; cursor = c })
 
 abbrev pub scalar_given : List Kind → ℕ → Option SymbolAt → List SymbolAt → ℕ → Scalar SymbolAt → Cursor → Step State
-scalar_given kinds top field notes place body c =
-    given kinds top field notes place (value.whole body) kinds (behind_member (innermost kinds)) c
+scalar_given kinds top field annotations place body c =
+    given kinds top field annotations place (value.whole body) kinds
+        (behind_member (innermost kinds)) c
 
 abbrev pub going_on : List Kind → ℕ → Wants → Cursor → Step State
 going_on kinds top wants c = GoesOn (record { kinds = kinds; top = top; wants = wants; cursor = c })
@@ -103,10 +104,10 @@ cost a = cost_of a.symbol where
   cost_of (value.Text bytes) = 16 + length bytes
   cost_of (value.Id id) = 16
 
-abbrev pub noted : Limits → List Kind → ℕ → Option SymbolAt → List SymbolAt → SymbolAt → Cursor → Result (Step State) Reason
-noted limits kinds top field notes a c = do
-  refuse (nat_lt limits.scalar (sum_by cost (notes ++ a ∷ []))) AnnotationLimit
-  Ok (going_on kinds top (a_value field (notes ++ a ∷ [])) c)
+abbrev pub annotated : Limits → List Kind → ℕ → Option SymbolAt → List SymbolAt → SymbolAt → Cursor → Result (Step State) Reason
+annotated limits kinds top field annotations a c = do
+  refuse (nat_lt limits.scalar (sum_by cost (annotations ++ a ∷ []))) AnnotationLimit
+  Ok (going_on kinds top (a_value field (annotations ++ a ∷ [])) c)
 
 -- a version's word without quotes and annotations at top level
 unfoldable pub tells_version : Option Kind → List SymbolAt → Bool → Symbol → Bool
@@ -118,13 +119,14 @@ is_marker (value.Text word) = bytes_eq version_word word
 is_marker (value.Id id) = false
 
 abbrev pub version_given : List Kind → ℕ → Option SymbolAt → List SymbolAt → SymbolAt → Cursor → Result (Step State) Reason
-version_given kinds top field notes a c = do
+version_given kinds top field annotations a c = do
   refuse (not (is_marker a.symbol)) BadVersion
-  Ok (given kinds top field notes a.place value.marker kinds (behind_member (innermost kinds)) c)
+  Ok (given kinds top field annotations a.place value.marker kinds (behind_member (innermost kinds)) c)
 
 abbrev pub value_or_version : List Kind → ℕ → Option SymbolAt → List SymbolAt → SymbolAt → Cursor → Bool → Result (Step State) Reason
-value_or_version kinds top field notes a c true = version_given kinds top field notes a c
-value_or_version kinds top field notes a c false = Ok (scalar_given kinds top field notes a.place (value.symbol a) c)
+value_or_version kinds top field annotations a c true =
+    version_given kinds top field annotations a c
+value_or_version kinds top field annotations a c false = Ok (scalar_given kinds top field annotations a.place (value.symbol a) c)
 
 -- behind the two colons, where they are the next token
 abbrev pub colons_at : First → Cursor → Option Cursor
@@ -138,11 +140,11 @@ colons_behind sexp (Err fault) = None
 abbrev pub behind_colons : Bool → Cursor → Option Cursor
 behind_colons sexp c = colons_behind sexp (blanks c)
 
--- an annotation where two colons follow, else the value or a marker
+-- an annotation where two colons follow, else the value or a version marker
 abbrev pub symbol_given : Limits → List Kind → ℕ → Option SymbolAt → List SymbolAt → Bool → SymbolAt → Cursor → Option Cursor → Result (Step State) Reason
-symbol_given limits kinds top field notes quoted a c (Some behind) = noted limits kinds top field notes a behind
-symbol_given limits kinds top field notes quoted a c None =
-    value_or_version kinds top field notes a c (tells_version (innermost kinds) notes quoted a.symbol)
+symbol_given limits kinds top field annotations quoted a c (Some behind) = annotated limits kinds top field annotations a behind
+symbol_given limits kinds top field annotations quoted a c None =
+    value_or_version kinds top field annotations a c (tells_version (innermost kinds) annotations quoted a.symbol)
 
 -- ---- brackets, commas and fields
 
@@ -164,9 +166,9 @@ closed_bare None [] kinds top k place c = closed kinds top k place c
 closed_bare _ _ kinds top k place c = Err BadToken
 
 abbrev pub begun : Limits → List Kind → ℕ → Option SymbolAt → List SymbolAt → Kind → ℕ → Cursor → Result (Step State) Reason
-begun limits kinds top field notes k place c = do
+begun limits kinds top field annotations k place c = do
   refuse (nat_le limits.depth (length kinds)) DepthLimit
-  Ok (given kinds top field notes place (value.begin k) (k ∷ kinds) (member_of k) c)
+  Ok (given kinds top field annotations place (value.begin k) (k ∷ kinds) (member_of k) c)
 
 -- behind a field's name
 abbrev pub colon_of : List Kind → ℕ → SymbolAt → Cursor → First → Placed (Step State)
@@ -191,15 +193,15 @@ take limits kinds top a_separator place comma c = Ok (going_on kinds top (at_mem
 take limits kinds top a_field place (end k) c = part place (closed kinds top k place c)
 take limits kinds top a_field place (name quoted symbol) c = named kinds top (at symbol place) c
 take limits kinds top a_field place (text bytes) c = named kinds top (at (value.Text bytes) place) c
-take limits kinds top (a_value field notes) place (end k) c = part place (closed_bare field notes kinds top k place c)
-take limits kinds top (a_value field notes) place (plain body) c = Ok (scalar_given kinds top field notes place body c)
-take limits kinds top (a_value field notes) place (text bytes) c = Ok (scalar_given kinds top field notes place (value.string bytes) c)
-take limits kinds top (a_value field notes) place (operator bytes) c =
-    Ok (scalar_given kinds top field notes place (value.symbol (at (value.Text bytes) place)) c)
-take limits kinds top (a_value field notes) place (name quoted symbol) c =
-    part place (symbol_given limits kinds top field notes quoted (at symbol place) c (behind_colons (in_sexp (innermost kinds)) c))
-take limits kinds top (a_value field notes) place (begin k) c = part place (begun limits kinds top field notes k place c)
-take limits kinds top (a_value field notes) place no_number c = Err (Float, place)
+take limits kinds top (a_value field annotations) place (end k) c = part place (closed_bare field annotations kinds top k place c)
+take limits kinds top (a_value field annotations) place (plain body) c = Ok (scalar_given kinds top field annotations place body c)
+take limits kinds top (a_value field annotations) place (text bytes) c = Ok (scalar_given kinds top field annotations place (value.string bytes) c)
+take limits kinds top (a_value field annotations) place (operator bytes) c =
+    Ok (scalar_given kinds top field annotations place (value.symbol (at (value.Text bytes) place)) c)
+take limits kinds top (a_value field annotations) place (name quoted symbol) c =
+    part place (symbol_given limits kinds top field annotations quoted (at symbol place) c (behind_colons (in_sexp (innermost kinds)) c))
+take limits kinds top (a_value field annotations) place (begin k) c = part place (begun limits kinds top field annotations k place c)
+take limits kinds top (a_value field annotations) place no_number c = Err (Float, place)
 take limits kinds top _ place _ c = Err (BadToken, place)
 
 -- the stream ends where nothing is open and a value may begin

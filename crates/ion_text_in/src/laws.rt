@@ -47,7 +47,7 @@ pub fn one_path()
     ensures { OnePath }
 {}
 
-/// An input is one stream of markers and values at most.
+/// An input is one stream of version markers and values at most.
 pub fn one_stream()
     ensures { OneStream }
 {}

@@ -6,45 +6,45 @@ use Rattle.ion_value.specs.Value as v
 use Rattle.ion_value.specs.Value.{PlacedItem, SymbolAt, map_head}
 use Rattle.ion_text_out.specs.Text.{Open, before_item, behind_value, head_text, item_text, opener}
 use Rattle.ion_meter.specs.Sinks.{HasPut}
-use Rattle.ion_text_out.specs.Writing.{body_text, first_text, is_value, last_text, middle_text, name_text, notes_text, user_at, user_item, where_value}
+use Rattle.ion_text_out.specs.Writing.{body_text, first_text, is_value, last_text, middle_text, name_text, annotations_text, user_symbol_at, user_item, where_value}
 use Rattle.ion_meter.proofs.Putting.{put_cut, put_then}
 
-head_parts : (cs : Open) (name notes : List ℕ) (h : v.Head SymbolAt)
-    → first_text cs h ++ (where_value (is_value h) (name ++ (notes ++ body_text (map_head user_at h))) ++ last_text cs h) ≡ head_text cs (name ++ notes) (map_head user_at h)
-head_parts cs name notes (v.whole body) =
+head_parts : (cs : Open) (name annotations : List ℕ) (h : v.Head SymbolAt)
+    → first_text cs h ++ (where_value (is_value h) (name ++ (annotations ++ body_text (map_head user_symbol_at h))) ++ last_text cs h) ≡ head_text cs (name ++ annotations) (map_head user_symbol_at h)
+head_parts cs name annotations (v.whole body) =
     ap (λ (l : List ℕ). before_item cs ++ l)
-    (append_assoc name (notes ++ body_text (map_head user_at (v.whole body))) (behind_value cs)
-    ∙ (ap (λ (l : List ℕ). name ++ l) (append_assoc notes (body_text (map_head user_at (v.whole body))) (behind_value cs))
-    ∙ sym (append_assoc name notes (body_text (map_head user_at (v.whole body)) ++ behind_value cs))))
-head_parts cs name notes (v.begin kind) =
-    ap (λ (l : List ℕ). before_item cs ++ l) (append-nil (name ++ (notes ++ opener kind)) ∙ sym (append_assoc name notes (opener kind)))
-head_parts [] name notes v.end = refl
-head_parts (c ∷ cs) name notes v.end = refl
-head_parts cs name notes v.marker = refl
+    (append_assoc name (annotations ++ body_text (map_head user_symbol_at (v.whole body))) (behind_value cs)
+    ∙ (ap (λ (l : List ℕ). name ++ l) (append_assoc annotations (body_text (map_head user_symbol_at (v.whole body))) (behind_value cs))
+    ∙ sym (append_assoc name annotations (body_text (map_head user_symbol_at (v.whole body)) ++ behind_value cs))))
+head_parts cs name annotations (v.begin kind) =
+    ap (λ (l : List ℕ). before_item cs ++ l) (append-nil (name ++ (annotations ++ opener kind)) ∙ sym (append_assoc name annotations (opener kind)))
+head_parts [] name annotations v.end = refl
+head_parts (c ∷ cs) name annotations v.end = refl
+head_parts cs name annotations v.marker = refl
 
 pub item_parts : (cs : Open) (i : PlacedItem) → first_text cs i.head ++ (middle_text i ++ last_text cs i.head) ≡ item_text cs (user_item i)
-item_parts cs i = head_parts cs (name_text i.field) (notes_text i.annotations) i.head
+item_parts cs i = head_parts cs (name_text i.field) (annotations_text i.annotations) i.head
 
 -- an item's text where each of the parts was put, or failed
 parts_for : (cs : Open) (i : PlacedItem) (h : v.Head SymbolAt) → h ≡ i.head → first_text cs h ++ (middle_text i ++ last_text cs h) ≡ item_text cs (user_item i)
 parts_for cs i h e = ap (λ x. first_text cs x ++ (middle_text i ++ last_text cs x)) e ∙ item_parts cs i
 
-pub item_first : {O T : Type 0} {written : O → List ℕ} {tells : O → Type 0} {failures : O → ℕ} {s u : Outgoing O} {f : Fault} {first : Result T Fault} (cs : Open) (i : PlacedItem) (h : v.Head SymbolAt)
-    → h ≡ i.head → first ≡ Err f → HasPut {T = T} written tells failures s u first (first_text cs h)
-    → HasPut {T = T} written tells failures s u (Err f) (item_text cs (user_item i))
-item_first {O} {T} {written} {tells} {failures} {s} {u} {f} {first} cs i h e err p =
-    subst (λ (l : List ℕ). HasPut {T = T} written tells failures s u (Err f) l) (parts_for cs i h e) (put_cut (middle_text i ++ last_text cs h) err p)
+pub item_first : {O T : Type 0} {written : O → List ℕ} {observable : O → Type 0} {failures : O → ℕ} {s u : Outgoing O} {f : Fault} {first : Result T Fault} (cs : Open) (i : PlacedItem) (h : v.Head SymbolAt)
+    → h ≡ i.head → first ≡ Err f → HasPut {T = T} written observable failures s u first (first_text cs h)
+    → HasPut {T = T} written observable failures s u (Err f) (item_text cs (user_item i))
+item_first {O} {T} {written} {observable} {failures} {s} {u} {f} {first} cs i h e err p =
+    subst (λ (l : List ℕ). HasPut {T = T} written observable failures s u (Err f) l) (parts_for cs i h e) (put_cut (middle_text i ++ last_text cs h) err p)
 
-pub item_middle : {O T : Type 0} {written : O → List ℕ} {tells : O → Type 0} {failures : O → ℕ} {s m u : Outgoing O} {x : T} {f : Fault} {first middle : Result T Fault} (cs : Open) (i : PlacedItem) (h : v.Head SymbolAt)
-    → h ≡ i.head → first ≡ Ok x → HasPut {T = T} written tells failures s m first (first_text cs h)
-    → middle ≡ Err f → HasPut {T = T} written tells failures m u middle (middle_text i)
-    → HasPut {T = T} written tells failures s u (Err f) (item_text cs (user_item i))
-item_middle {O} {T} {written} {tells} {failures} {s} {m} {u} {x} {f} {first} {middle} cs i h e ok p err q =
-    subst (λ (l : List ℕ). HasPut {T = T} written tells failures s u (Err f) l) (parts_for cs i h e) (put_then ok p (put_cut (last_text cs h) err q))
+pub item_middle : {O T : Type 0} {written : O → List ℕ} {observable : O → Type 0} {failures : O → ℕ} {s m u : Outgoing O} {x : T} {f : Fault} {first middle : Result T Fault} (cs : Open) (i : PlacedItem) (h : v.Head SymbolAt)
+    → h ≡ i.head → first ≡ Ok x → HasPut {T = T} written observable failures s m first (first_text cs h)
+    → middle ≡ Err f → HasPut {T = T} written observable failures m u middle (middle_text i)
+    → HasPut {T = T} written observable failures s u (Err f) (item_text cs (user_item i))
+item_middle {O} {T} {written} {observable} {failures} {s} {m} {u} {x} {f} {first} {middle} cs i h e ok p err q =
+    subst (λ (l : List ℕ). HasPut {T = T} written observable failures s u (Err f) l) (parts_for cs i h e) (put_then ok p (put_cut (last_text cs h) err q))
 
-pub item_last : {O T : Type 0} {written : O → List ℕ} {tells : O → Type 0} {failures : O → ℕ} {s m n u : Outgoing O} {x y : T} {first middle last : Result T Fault} (cs : Open) (i : PlacedItem) (h : v.Head SymbolAt)
-    → h ≡ i.head → first ≡ Ok x → HasPut {T = T} written tells failures s m first (first_text cs h)
-    → middle ≡ Ok y → HasPut {T = T} written tells failures m n middle (middle_text i) → HasPut {T = T} written tells failures n u last (last_text cs h)
-    → HasPut {T = T} written tells failures s u last (item_text cs (user_item i))
-item_last {O} {T} {written} {tells} {failures} {s} {m} {n} {u} {x} {y} {first} {middle} {last} cs i h e ok p fine q r =
-    subst (λ (l : List ℕ). HasPut {T = T} written tells failures s u last l) (parts_for cs i h e) (put_then ok p (put_then fine q r))
+pub item_last : {O T : Type 0} {written : O → List ℕ} {observable : O → Type 0} {failures : O → ℕ} {s m n u : Outgoing O} {x y : T} {first middle last : Result T Fault} (cs : Open) (i : PlacedItem) (h : v.Head SymbolAt)
+    → h ≡ i.head → first ≡ Ok x → HasPut {T = T} written observable failures s m first (first_text cs h)
+    → middle ≡ Ok y → HasPut {T = T} written observable failures m n middle (middle_text i) → HasPut {T = T} written observable failures n u last (last_text cs h)
+    → HasPut {T = T} written observable failures s u last (item_text cs (user_item i))
+item_last {O} {T} {written} {observable} {failures} {s} {m} {n} {u} {x} {y} {first} {middle} {last} cs i h e ok p fine q r =
+    subst (λ (l : List ℕ). HasPut {T = T} written observable failures s u last l) (parts_for cs i h e) (put_then ok p (put_then fine q r))

@@ -1,6 +1,6 @@
 mod Blobs
 mod ItemParts
-mod Notes
+mod Annotations
 mod Paths
 mod Quoted
 mod Rows

@@ -18,18 +18,18 @@ same_behind (c ∷ cs) = refl
 
 -- a value leaves what was open before it, which then has a member
 mutual
-  value_behind : (x : Value UserSymbol ℕ) (top p : ℕ) (f : Option UserSymbol) (notes : List UserSymbol) (cs : Open) → open_behind cs (value_items top f notes p x) ≡ with_member cs
-  value_behind (scalar body) top p f notes cs = refl
-  value_behind (container kind members last) top p f notes cs =
+  value_behind : (x : Value UserSymbol ℕ) (top p : ℕ) (f : Option UserSymbol) (annotations : List UserSymbol) (cs : Open) → open_behind cs (value_items top f annotations p x) ≡ with_member cs
+  value_behind (scalar body) top p f annotations cs = refl
+  value_behind (container kind members last) top p f annotations cs =
       behind_append ((kind, true) ∷ with_member cs) (member_items top members) (bare_item v.end last top ∷ [])
       ∙ ap (λ c. open_behind c (bare_item v.end last top ∷ [])) (members_behind members kind top (with_member cs))
 
   members_behind : (ms : Members UserSymbol ℕ) (kind : Kind) (top : ℕ) (cs : Open) → open_behind ((kind, true) ∷ cs) (member_items top ms) ≡ (kind, is_empty ms) ∷ cs
   members_behind nothing kind top cs = refl
-  members_behind (member before f notes p x) kind top cs =
-      behind_append ((kind, true) ∷ cs) (member_items top before) (value_items top f notes p x)
-      ∙ (ap (λ c. open_behind c (value_items top f notes p x)) (members_behind before kind top cs)
-      ∙ value_behind x top p f notes ((kind, is_empty before) ∷ cs))
+  members_behind (member before f annotations p x) kind top cs =
+      behind_append ((kind, true) ∷ cs) (member_items top before) (value_items top f annotations p x)
+      ∙ (ap (λ c. open_behind c (value_items top f annotations p x)) (members_behind before kind top cs)
+      ∙ value_behind x top p f annotations ((kind, is_empty before) ∷ cs))
 
 -- the text of a container's items, put together
 container_text : (a b c d e g : List ℕ) → (a ++ (b ++ c)) ++ (d ++ (e ++ g)) ≡ a ++ (b ++ ((c ++ (d ++ e)) ++ g))
@@ -41,35 +41,35 @@ member_text a b c d e = simp (append_assoc, append-nil)
 
 mutual
   -- the text of a value's items
-  value_text_of : (x : Value UserSymbol ℕ) (top p : ℕ) (f : Option UserSymbol) (notes : List UserSymbol) (cs : Open)
-      → items_text cs (value_items top f notes p x) ≡ before_item cs ++ ((field_text f ++ flat_map annotation_text notes) ++ (value_text x ++ behind_value cs))
-  value_text_of (scalar body) top p f notes cs = append-nil (before_item cs ++ ((field_text f ++ flat_map annotation_text notes) ++ (scalar_text body ++ behind_value cs)))
-  value_text_of (container kind members last) top p f notes cs =
-      let front = field_text f ++ flat_map annotation_text notes in
-      ap (λ t. (before_item cs ++ (front ++ opener kind)) ++ t)
+  value_text_of : (x : Value UserSymbol ℕ) (top p : ℕ) (f : Option UserSymbol) (annotations : List UserSymbol) (cs : Open)
+      → items_text cs (value_items top f annotations p x) ≡ before_item cs ++ ((field_text f ++ flat_map annotation_text annotations) ++ (value_text x ++ behind_value cs))
+  value_text_of (scalar body) top p f annotations cs = append-nil (before_item cs ++ ((field_text f ++ flat_map annotation_text annotations) ++ (scalar_text body ++ behind_value cs)))
+  value_text_of (container kind members last) top p f annotations cs =
+      let prefix = field_text f ++ flat_map annotation_text annotations in
+      ap (λ t. (before_item cs ++ (prefix ++ opener kind)) ++ t)
       (items_append ((kind, true) ∷ with_member cs) (member_items top members) (bare_item v.end last top ∷ [])
       ∙ (ap (λ t. t ++ items_text (open_behind ((kind, true) ∷ with_member cs) (member_items top members)) (bare_item v.end last top ∷ [])) (members_text_of members kind top (with_member cs))
       ∙ (ap (λ c. members_text kind members ++ items_text c (bare_item v.end last top ∷ [])) (members_behind members kind top (with_member cs))
       ∙ ap (λ t. members_text kind members ++ t) (append-nil (closer kind ++ behind_value (with_member cs)) ∙ ap (λ t. closer kind ++ t) (same_behind cs)))))
-      ∙ container_text (before_item cs) front (opener kind) (members_text kind members) (closer kind) (behind_value cs)
+      ∙ container_text (before_item cs) prefix (opener kind) (members_text kind members) (closer kind) (behind_value cs)
 
   -- the text of members' items
   members_text_of : (ms : Members UserSymbol ℕ) (kind : Kind) (top : ℕ) (cs : Open) → items_text ((kind, true) ∷ cs) (member_items top ms) ≡ members_text kind ms
   members_text_of nothing kind top cs = refl
-  members_text_of (member before f notes p x) kind top cs =
-      items_append ((kind, true) ∷ cs) (member_items top before) (value_items top f notes p x)
-      ∙ (ap (λ t. t ++ items_text (open_behind ((kind, true) ∷ cs) (member_items top before)) (value_items top f notes p x)) (members_text_of before kind top cs)
-      ∙ (ap (λ c. members_text kind before ++ items_text c (value_items top f notes p x)) (members_behind before kind top cs)
-      ∙ (ap (λ t. members_text kind before ++ t) (value_text_of x top p f notes ((kind, is_empty before) ∷ cs))
-      ∙ member_text (members_text kind before) (before_next kind (is_empty before)) (field_text f) (flat_map annotation_text notes) (value_text x))))
+  members_text_of (member before f annotations p x) kind top cs =
+      items_append ((kind, true) ∷ cs) (member_items top before) (value_items top f annotations p x)
+      ∙ (ap (λ t. t ++ items_text (open_behind ((kind, true) ∷ cs) (member_items top before)) (value_items top f annotations p x)) (members_text_of before kind top cs)
+      ∙ (ap (λ c. members_text kind before ++ items_text c (value_items top f annotations p x)) (members_behind before kind top cs)
+      ∙ (ap (λ t. members_text kind before ++ t) (value_text_of x top p f annotations ((kind, is_empty before) ∷ cs))
+      ∙ member_text (members_text kind before) (before_next kind (is_empty before)) (field_text f) (flat_map annotation_text annotations) (value_text x))))
 
 one_text : (t : Top UserSymbol ℕ) → items_text [] (one_top t) ≡ top_text t
 one_text (v.version place) = refl
-one_text (tree first notes place x) = value_text_of x first place None notes []
+one_text (tree first annotations place x) = value_text_of x first place None annotations []
 
 one_behind : (t : Top UserSymbol ℕ) → open_behind [] (one_top t) ≡ []
 one_behind (v.version place) = refl
-one_behind (tree first notes place x) = value_behind x first place None notes []
+one_behind (tree first annotations place x) = value_behind x first place None annotations []
 
 -- the text of whole values is that of their items
 pub text_of_items : (ts : List (Top UserSymbol ℕ)) → items_text [] (top_items ts) ≡ text ts

@@ -33,10 +33,10 @@ shown_text quote top (b ∷ bytes) all =
 -- a run, and what stands behind it
 pub run_then : (quote top : ℕ) (bytes : List ℕ) (n : ℕ) {run others : List ℕ} → all_are (is_shown quote top) (take n bytes) ≡ true → run ≡ take n bytes → others ≡ drop n bytes
     → flat_map (byte_text quote top) bytes ≡ run ++ flat_map (byte_text quote top) others
-run_then quote top bytes n shown front back =
+run_then quote top bytes n shown prefix back =
     let f = byte_text quote top in
     let text = shown_text quote top (take n bytes) shown in
-    rw (front, back)
+    rw (prefix, back)
     (ap (flat_map f) (sym (take-append-drop n bytes)) ∙ (flat_map-append f (take n bytes) (drop n bytes) ∙ ap (λ xs. xs ++ flat_map f (drop n bytes)) text))
 
 -- nothing stands behind the last run

@@ -19,7 +19,7 @@ abbrev symbol : List ℕ → Value UserSymbol ℕ
 symbol t = scalar (v.symbol (Known t))
 
 abbrev top : List UserSymbol → Value UserSymbol ℕ → Top UserSymbol ℕ
-top notes value = v.tree 0 notes 0 value
+top annotations value = v.tree 0 annotations 0 value
 
 abbrev two : Option UserSymbol → Value UserSymbol ℕ → Option UserSymbol → Value UserSymbol ℕ → Members UserSymbol ℕ
 two f x g y = member (member nothing f [] 0 x) g [] 0 y

@@ -9,7 +9,7 @@ use Rattle.ion_value.specs.Value.{PlacedItem, SymbolAt, UserSymbol, map_head}
 use Rattle.ion_value.specs.Standing as standing
 use Rattle.ion_value.specs.Standing.{Continues, HasPlace}
 use Rattle.ion_text_out.specs.Text.{Open, open_after, open_behind, with_member}
-use Rattle.ion_text_out.specs.Writing.{shown_in, user_at, user_items, HasRoom, Stands}
+use Rattle.ion_text_out.specs.Writing.{shown_in, user_symbol_at, user_items, HasRoom, Shows}
 
 behind-append : (cs : Open) (path : List (v.Item UserSymbol ℕ)) (item : v.Item UserSymbol ℕ) → open_behind cs (path ++ item ∷ []) ≡ open_after (open_behind cs path) item.head
 behind-append cs [] item = refl
@@ -23,7 +23,7 @@ kinds-member : (cs : Open) → kinds_in (with_member cs) ≡ kinds_in cs
 kinds-member [] = refl
 kinds-member (c ∷ cs) = refl
 
-kinds-after : (cs : Open) (h : v.Head SymbolAt) → kinds_in (open_after cs (map_head user_at h)) ≡ standing.open_after (kinds_in cs) h
+kinds-after : (cs : Open) (h : v.Head SymbolAt) → kinds_in (open_after cs (map_head user_symbol_at h)) ≡ standing.open_after (kinds_in cs) h
 kinds-after cs (v.whole body) = kinds-member cs
 kinds-after cs (v.begin kind) = ap (λ (l : List Kind). kind ∷ l) (kinds-member cs)
 kinds-after [] v.end = refl
@@ -33,13 +33,13 @@ kinds-after cs v.marker = refl
 kinds-behind : (cs : Open) (path : List PlacedItem) → kinds_in (open_behind cs (user_items path)) ≡ standing.open_behind (kinds_in cs) path
 kinds-behind cs [] = refl
 kinds-behind cs (i ∷ path) =
-    kinds-behind (open_after cs (map_head user_at i.head)) path ∙ ap (λ (l : List Kind). standing.open_behind l path) (kinds-after cs i.head)
+    kinds-behind (open_after cs (map_head user_symbol_at i.head)) path ∙ ap (λ (l : List Kind). standing.open_behind l path) (kinds-after cs i.head)
 
 shown_in-length : (kinds : List Kind) (empty : Bool) → length (shown_in kinds empty) ≡ length kinds
 shown_in-length [] empty = refl
 shown_in-length (kind ∷ kinds) empty = ap (λ n. suc n) (length-map kinds (λ k. (k, false)))
 
-level : (kinds : List Kind) (empty : Bool) (path : List PlacedItem) → Stands kinds empty path → length (standing.open_behind [] path) ≡ length kinds
+level : (kinds : List Kind) (empty : Bool) (path : List PlacedItem) → Shows kinds empty path → length (standing.open_behind [] path) ≡ length kinds
 level kinds empty path at =
     ap (λ (l : List Kind). length l) (sym (kinds-behind [] path))
     ∙ (length-map (open_behind [] (user_items path)) (λ c. c.0)
@@ -51,5 +51,5 @@ room depth n kinds (v.begin kind) e p = rw (sym e) p
 room depth n kinds v.end e p = tt
 room depth n kinds v.marker e p = tt
 
-pub has_room : (limits : Limits) (kinds : List Kind) (empty : Bool) (path : List PlacedItem) (item : PlacedItem) → Stands kinds empty path → Continues limits path item → HasRoom limits.depth (length kinds) item.head
+pub has_room : (limits : Limits) (kinds : List Kind) (empty : Bool) (path : List PlacedItem) (item : PlacedItem) → Shows kinds empty path → Continues limits path item → HasRoom limits.depth (length kinds) item.head
 has_room limits kinds empty path item at next = room limits.depth (length kinds) (standing.open_behind [] path) item.head (level kinds empty path at) next.fits.place

@@ -46,8 +46,8 @@ pub record Stepped {A : Type 0} (old new : TextWriter A) (before after : Counts)
   pub failed : new.failed ≡ old.failed
   pub charges : Charges before after (held_by old) (held_by new) (share_of old)
 
--- where it answers well, this text was put, and where it fails, a front of it
+-- where it answers well, this text was put, and where it fails, a prefix of it
 pub record PutsText {O T : Type 0} (device : OutputOf O) (old new : Outgoing O) (result : Result T Fault) (text : List ℕ) : Type 0 where
-  pub whole : OnOk result (device.tells old.device → so_far device.written new ≡ so_far device.written old ++ text)
+  pub whole : OnOk result (device.observable old.device → so_far device.written new ≡ so_far device.written old ++ text)
   pub well : OnOk result (old.fault ≡ None → new.fault ≡ None)
-  pub part : old.fault ≡ None → Puts device.written device.tells old new text
+  pub part : old.fault ≡ None → Puts device.written device.observable old new text

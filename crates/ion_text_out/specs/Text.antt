@@ -58,7 +58,7 @@ before_next kind false = separator kind
 
 abbrev pub is_empty : {S P : Type 0} → Members S P → Bool
 is_empty nothing = true
-is_empty (member before field notes place value) = false
+is_empty (member before field annotations place value) = false
 
 -- ---- whole values
 
@@ -69,18 +69,18 @@ abbrev mutual
 
   pub members_text : {P : Type 0} → Kind → Members UserSymbol P → List ℕ
   members_text kind nothing = []
-  members_text kind (member before field notes place value) =
-      members_text kind before ++ (before_next kind (is_empty before) ++ (field_text field ++ (flat_map annotation_text notes ++ value_text value)))
+  members_text kind (member before field annotations place value) =
+      members_text kind before ++ (before_next kind (is_empty before) ++ (field_text field ++ (flat_map annotation_text annotations ++ value_text value)))
 
--- each value at top level ends its line; markers have no text
+-- each value at top level ends its line; version markers have no text
 abbrev pub top_text : {P : Type 0} → Top UserSymbol P → List ℕ
 top_text (v.version place) = []
-top_text (tree first notes place value) = flat_map annotation_text notes ++ (value_text value ++ codes "\n")
+top_text (tree first annotations place value) = flat_map annotation_text annotations ++ (value_text value ++ codes "\n")
 
 abbrev pub text : {P : Type 0} → List (Top UserSymbol P) → List ℕ
 text tops = flat_map top_text tops
 
--- ---- item by item
+-- ---- the streaming definition, item by item
 
 -- the open containers, the innermost first, and whether each has no member yet
 abbrev pub Open : Type 0
@@ -103,10 +103,10 @@ end_text [] = []
 end_text (c ∷ cs) = closer c.0 ++ behind_value cs
 
 abbrev pub head_text : Open → List ℕ → Head UserSymbol → List ℕ
-head_text cs front (v.whole body) = before_item cs ++ (front ++ (scalar_text body ++ behind_value cs))
-head_text cs front (v.begin kind) = before_item cs ++ (front ++ opener kind)
-head_text cs front v.end = end_text cs
-head_text cs front v.marker = []
+head_text cs prefix (v.whole body) = before_item cs ++ (prefix ++ (scalar_text body ++ behind_value cs))
+head_text cs prefix (v.begin kind) = before_item cs ++ (prefix ++ opener kind)
+head_text cs prefix v.end = end_text cs
+head_text cs prefix v.marker = []
 
 -- what an item adds: a separator stands before it, and a line's end behind a value at top level
 abbrev pub item_text : {P : Type 0} → Open → Item UserSymbol P → List ℕ

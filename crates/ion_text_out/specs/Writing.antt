@@ -11,11 +11,11 @@ use Rattle.ion_value.specs.Standing.{InRange}
 use Rattle.ion_text_out.specs.Text.{Open, annotation_text, before_item, behind_value, closer, field_text, item_text, items_text, open_behind, opener, scalar_text}
 
 -- an item as its user knows it
-abbrev pub user_at : SymbolAt → UserSymbol
-user_at at = user_symbol at.symbol
+abbrev pub user_symbol_at : SymbolAt → UserSymbol
+user_symbol_at at = user_symbol at.symbol
 
 abbrev pub user_item : PlacedItem → Item UserSymbol ℕ
-user_item item = map_item user_at (λ place. place) item
+user_item item = map_item user_symbol_at (λ place. place) item
 
 abbrev pub user_items : List PlacedItem → List (Item UserSymbol ℕ)
 user_items items = map user_item items
@@ -73,15 +73,15 @@ body_text (v.begin kind) = opener kind
 body_text v.end = []
 body_text v.marker = []
 
-abbrev pub notes_text : List SymbolAt → List ℕ
-notes_text notes = flat_map annotation_text (map user_at notes)
+abbrev pub annotations_text : List SymbolAt → List ℕ
+annotations_text annotations = flat_map annotation_text (map user_symbol_at annotations)
 
-abbrev pub note_text : Option SymbolAt → List ℕ
-note_text None = []
-note_text (Some at) = annotation_text (user_at at)
+abbrev pub next_annotation_text : Option SymbolAt → List ℕ
+next_annotation_text None = []
+next_annotation_text (Some at) = annotation_text (user_symbol_at at)
 
 abbrev pub name_text : Option SymbolAt → List ℕ
-name_text field = field_text (option_map user_at field)
+name_text field = field_text (option_map user_symbol_at field)
 
 -- what stands between: nothing for an end
 abbrev pub is_value : {S : Type 0} → Head S → Bool
@@ -95,7 +95,7 @@ where_value true text = text
 where_value false text = []
 
 abbrev pub value_text : Option SymbolAt → List SymbolAt → Head SymbolAt → List ℕ
-value_text field notes head = name_text field ++ (notes_text notes ++ body_text (map_head user_at head))
+value_text field annotations head = name_text field ++ (annotations_text annotations ++ body_text (map_head user_symbol_at head))
 
 abbrev pub middle_text : PlacedItem → List ℕ
 middle_text item = where_value (is_value item.head) (value_text item.field item.annotations item.head)
@@ -122,5 +122,5 @@ HasRoom depth level v.end = ⊤
 HasRoom depth level v.marker = ⊤
 
 -- the containers that it has open are those of the path
-abbrev pub Stands : List Kind → Bool → List PlacedItem → Type 0
-Stands kinds empty path = open_behind [] (user_items path) ≡ shown kinds empty
+abbrev pub Shows : List Kind → Bool → List PlacedItem → Type 0
+Shows kinds empty path = open_behind [] (user_items path) ≡ shown kinds empty

@@ -4,7 +4,7 @@ ghost use Rattle.ion_value.specs.Value.{user_symbol};
 ghost use Rattle.ion_value.specs.Items.{raw_head, raw_field, symbol_of, item_of, annotations_of};
 ghost use Rattle.ion_text_out.specs.Text.{symbol_text, item_text};
 ghost use Rattle.ion_meter.specs.Sinks.{IsPut};
-ghost use Rattle.ion_text_out.specs.Writing.{first_text, is_value, last_text, middle_text, name_text, note_text, notes_text, shown, user_item, value_text, HeadInRange};
+ghost use Rattle.ion_text_out.specs.Writing.{first_text, is_value, last_text, middle_text, name_text, next_annotation_text, annotations_text, shown, user_item, value_text, HeadInRange};
 
 use crate::between::{before, behind, behind_end, closing};
 use crate::put::put;
@@ -50,7 +50,7 @@ fn put_field<O: Output, A: Allocator + Copy>(
 
 /// Puts one annotation and two colons.
 #[inline(always)]
-fn put_note<O: Output, A: Allocator + Copy>(
+fn put_annotation<O: Output, A: Allocator + Copy>(
     sink: &mut Sink<O, A>,
     at: SymAt<'_>,
 ) -> Result<(), Fault>
@@ -66,35 +66,35 @@ fn put_note<O: Output, A: Allocator + Copy>(
 
 /// Puts the annotation at an index, where there is one.
 #[inline(always)]
-fn put_note_at<O: Output, A: Allocator + Copy, N: Names>(
+fn put_annotation_at<O: Output, A: Allocator + Copy, N: Names>(
     sink: &mut Sink<O, A>,
-    notes: &Annotations<'_, N>,
+    annotations: &Annotations<'_, N>,
     index: usize,
 ) -> Result<(), Fault>
     requires well { sink.old.fault ≡ None }
     ensures { IsPut O.Output sink.old sink.new result
-        (note_text (slice_get (annotations_of N.text notes.now) index)) }
+        (next_annotation_text (slice_get (annotations_of N.text annotations.now) index)) }
 {
-    match notes.get(index) {
+    match annotations.get(index) {
         None => put(sink, b""),
-        Some(at) => put_note(sink, at),
+        Some(at) => put_annotation(sink, at),
     }
 }
 
 /// Puts annotations.
 #[inline(always)]
-fn put_notes<O: Output, A: Allocator + Copy, N: Names>(
+fn put_annotations<O: Output, A: Allocator + Copy, N: Names>(
     sink: &mut Sink<O, A>,
-    notes: &Annotations<'_, N>,
+    annotations: &Annotations<'_, N>,
 ) -> Result<(), Fault>
     requires well { sink.old.fault ≡ None }
     ensures { IsPut O.Output sink.old sink.new result
-        (notes_text (annotations_of N.text notes.now)) }
+        (annotations_text (annotations_of N.text annotations.now)) }
 {
-    let count = notes.len();
+    let count = annotations.len();
     let mut index = 0;
-    'notes: while index < count {
-        if let Err(fault) = put_note_at(sink, notes, index) {
+    'annotations: while index < count {
+        if let Err(fault) = put_annotation_at(sink, annotations, index) {
             return Err(fault);
         }
         index += 1;
@@ -174,18 +174,18 @@ fn put_middle<O: Output, A: Allocator + Copy, N: Names>(
 fn put_value<O: Output, A: Allocator + Copy, N: Names>(
     sink: &mut Sink<O, A>,
     field: Option<SymAt<'_>>,
-    notes: &Annotations<'_, N>,
+    annotations: &Annotations<'_, N>,
     head: &Head<'_>,
 ) -> Result<(), Fault>
     requires well { sink.old.fault ≡ None }
     requires range { HeadInRange (raw_head head.now) }
     ensures { IsPut O.Output sink.old sink.new result
-        (value_text (raw_field field.entry) (annotations_of N.text notes.now) (raw_head head.now)) }
+        (value_text (raw_field field.entry) (annotations_of N.text annotations.now) (raw_head head.now)) }
 {
     if let Err(fault) = put_field(sink, field) {
         return Err(fault);
     }
-    if let Err(fault) = put_notes(sink, notes) {
+    if let Err(fault) = put_annotations(sink, annotations) {
         return Err(fault);
     }
     put_body(sink, head)

@@ -11,7 +11,7 @@ ghost use Rattle.ion_value.specs.Items.{symbol_of, raw_head};
 ghost use Rattle.ion_text_out.specs.Escape.{between_quotes};
 ghost use Rattle.ion_text_out.specs.Text.{symbol_text};
 ghost use Rattle.ion_meter.specs.Sinks.{IsPut};
-ghost use Rattle.ion_text_out.specs.Writing.{user_at, body_text, HeadInRange};
+ghost use Rattle.ion_text_out.specs.Writing.{user_symbol_at, body_text, HeadInRange};
 
 use crate::between::opener;
 use crate::blob::put_base64;
@@ -149,7 +149,7 @@ pub fn put_body<O: Output, A: Allocator + Copy>(
     requires well { sink.old.fault ≡ None }
     requires range { HeadInRange (raw_head head.now) }
     ensures { IsPut O.Output sink.old sink.new result
-        (body_text (map_head user_at (raw_head head.now))) }
+        (body_text (map_head user_symbol_at (raw_head head.now))) }
 {
     match *head {
         Head::Null(of) => put(sink, null(of)),

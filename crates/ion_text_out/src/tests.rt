@@ -184,7 +184,7 @@ fn put_all<W: ValueWriter<O, Global>, O: Output>(
         return Err(fault);
     }
     let mut kinds = Vec::new(alloc);
-    'steps: for (field, notes, part) in steps {
+    'steps: for (field, annotations, part) in steps {
         let Some(head) = head_of(*part) else {
             panic!(rt; "no value")
         };
@@ -192,8 +192,8 @@ fn put_all<W: ValueWriter<O, Global>, O: Output>(
             Some(text) => Some(symbol(text)),
             None => None,
         };
-        let notes = Annotations::new(notes, TEXTS, &NoNames);
-        let item = Item::new(field, notes, head, 0, 0);
+        let annotations = Annotations::new(annotations, TEXTS, &NoNames);
+        let item = Item::new(field, annotations, head, 0, 0);
         if let Err(fault) = put_one(rt, meter, sink, writer, &mut kinds, &item) {
             return Err(fault);
         }

@@ -8,7 +8,7 @@ ghost use Rattle.ion_value.specs.Value.{map_head};
 ghost use Rattle.ion_value.specs.Items.{raw_head, item_of};
 ghost use Rattle.ion_value.specs.Shares.{WriteCauses, fault_of};
 ghost use Rattle.ion_text_out.specs.Text.{open_after};
-ghost use Rattle.ion_text_out.specs.Writing.{text_puts, text_adds, text_refusal, user_at, HeadInRange, IsReady, Stands};
+ghost use Rattle.ion_text_out.specs.Writing.{text_puts, text_adds, text_refusal, user_symbol_at, HeadInRange, IsReady, Shows};
 ghost use Rattle.ion_text_out.specs.Steps.{held_by, opened_in, share_of, text_of, CanStep, HasRoomFor, PutsText, Stepped};
 ghost use Rattle.ion_text_out.specs.Written.{text_grows, text-within};
 
@@ -27,7 +27,7 @@ use std::alloc::Allocator;
 
 /// Writes values as canonical text, each value at top level on a line of its own.
 ///
-/// What is written of a value is whole by item: a container that is open has its opening bracket and
+/// A value is written one item at a time: a container that is open has its opening bracket and
 /// the members so far. It holds 16 counted bytes for each open container and refuses nothing.
 #[derive(Drop)]
 pub struct TextWriter<A: Allocator + Copy> {
@@ -79,7 +79,7 @@ impl<A: Allocator + Copy> TextWriter<A> {
         requires range { HeadInRange (item_of N.text item.now).head }
         requires fits { HasRoomFor self.old (item_of N.text item.now).head }
         ensures opens { OnOk result (opened_in self.new
-            ≡ open_after (opened_in self.old) (map_head user_at (item_of N.text item.now).head)) }
+            ≡ open_after (opened_in self.old) (map_head user_symbol_at (item_of N.text item.now).head)) }
         ensures puts { PutsText O.Output sink.old sink.new result
             (text_of self.old (item_of N.text item.now)) }
         ensures refuses { sink.old.fault ≡ None
@@ -101,7 +101,7 @@ impl<A: Allocator + Copy> TextWriter<A> {
         requires can_step { CanStep self.old meter.old }
         requires fits { HasRoomFor self.old (raw_head head.now) }
         ensures opens { OnOk result (opened_in self.new
-            ≡ open_after (opened_in self.old) (map_head user_at (raw_head head.now))) }
+            ≡ open_after (opened_in self.old) (map_head user_symbol_at (raw_head head.now))) }
         ensures memory { IfErr result (λ f. f ≡ Fault.Memory) }
         ensures refused { OnErr result (meter.old.refused < meter.new.refused) }
         ensures counted { OnOk result (meter.new.refused ≡ meter.old.refused) }
@@ -136,7 +136,7 @@ impl<O: Output, A: Allocator + Copy> ValueWriter<O, A> for TextWriter<A> {
 
     ghost is_new = { λ w. (w.kinds ≡ []) × (w.failed ≡ None) };
 
-    ghost stands = { λ w path. (w.failed ≡ None) × Stands w.kinds w.empty path };
+    ghost stands = { λ w path. (w.failed ≡ None) × Shows w.kinds w.empty path };
 
     ghost failed = { λ w. w.failed };
 

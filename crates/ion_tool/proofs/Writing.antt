@@ -1,6 +1,6 @@
--- Bytes that were written to a device, all or a front of them.
+-- Bytes that were written to a device, all or a prefix of them.
 use Rattle.std.proofs.Common.{arith, ◌≡◌, ◌+◌, ◌≤◌, ◌++◌, ℕ, List, Result, Ok, Err, OnOk, MatchResult, take, drop, sym, ◌∙◌, append-nil}
-use Rattle.ion_meter.proofs.Written.{rest_of_front}
+use Rattle.ion_meter.proofs.Written.{rest_of_prefix}
 use Rattle.ion_tool.specs.Serving.{Gets}
 
 -- a call after which the count of failures is as it was has succeeded
@@ -15,13 +15,13 @@ one_at_most (Ok x) old new count = omega arith
 one_at_most (Err e) old new count = omega arith
 
 -- what a write of bytes says, as one fact
-pub gets : {D T F : Type 0} (written : D → List ℕ) (tells : D → Type 0) (failure_count : D → ℕ) (bytes : List ℕ) (old new : D) (r : Result T F)
+pub gets : {D T F : Type 0} (written : D → List ℕ) (observable : D → Type 0) (failure_count : D → ℕ) (bytes : List ℕ) (old new : D) (r : Result T F)
     → MatchResult r (λ _. failure_count new ≡ failure_count old) (λ _. failure_count new ≡ failure_count old + 1)
-    → (tells old → OnOk r (written new ≡ written old ++ bytes))
-    → (tells old → (n : ℕ) × (written new ≡ written old ++ take n bytes))
-    → Gets written tells failure_count bytes old new
-gets written tells failure_count bytes old new r count all front = record {
-  front = λ t. let n = (front t).0 in (drop n bytes, sym (append-nil _) ∙ rest_of_front _ _ bytes n (front t).1);
+    → (observable old → OnOk r (written new ≡ written old ++ bytes))
+    → (observable old → (n : ℕ) × (written new ≡ written old ++ take n bytes))
+    → Gets written observable failure_count bytes old new
+gets written observable failure_count bytes old new r count all prefix = record {
+  prefix = λ t. let n = (prefix t).0 in (drop n bytes, sym (append-nil _) ∙ rest_of_prefix _ _ bytes n (prefix t).1);
   whole = λ t same. where_unfailed r _ _ _ count (all t) same;
   once = one_at_most r _ _ count;
 }

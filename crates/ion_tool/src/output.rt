@@ -7,13 +7,13 @@ use ion_meter::device::{Broken, Output};
 /// failure.
 pub fn write_all<O: Output>(device: &mut O, bytes: &[u8]) -> Result<(), Broken>
     requires { O.failure_count device.old < 2 ^ 64 - 1 }
-    ensures tells { O.tells device.new ↔ O.tells device.old }
+    ensures observable { O.observable device.new ↔ O.observable device.old }
     ensures count { MatchResult result
         (λ _. O.failure_count device.new ≡ O.failure_count device.old)
         (λ _. O.failure_count device.new ≡ O.failure_count device.old + 1) }
-    ensures all { O.tells device.old
+    ensures all { O.observable device.old
         → OnOk result (O.written device.new ≡ O.written device.old ++ bytes.now) }
-    ensures front { O.tells device.old → (n : ℕ)
+    ensures prefix { O.observable device.old → (n : ℕ)
         × (O.written device.new ≡ O.written device.old ++ take n bytes.now) }
 {
     let mut at = 0;

@@ -34,7 +34,7 @@ const INPUT_LIMIT: u64 = 281_474_976_710_656;
 /// Writes bytes to standard error, whose failures change nothing else.
 fn say<E: Output>(err: &mut E, bytes: &[u8])
     requires { E.failure_count err.old < 2 ^ 64 - 1 }
-    ensures { Gets E.written E.tells E.failure_count bytes.now err.old err.new }
+    ensures { Gets E.written E.observable E.failure_count bytes.now err.old err.new }
 {
     let _ = write_all(err, bytes);
 }
@@ -94,7 +94,7 @@ fn status_after(answer: Result<Summary, Fault>) -> u8
 pub fn report<E: Output>(answer: Result<Summary, Fault>, err: &mut E) -> u8
     requires { E.failure_count err.old < 2 ^ 64 - 1 }
     ensures status { result ≡ status_of answer }
-    ensures said { Gets E.written E.tells E.failure_count (line_of answer) err.old err.new }
+    ensures said { Gets E.written E.observable E.failure_count (line_of answer) err.old err.new }
 {
     if let Err(fault) = answer {
         say(err, line_on(fault).as_str().as_bytes());
@@ -107,10 +107,10 @@ fn give_help<O: Output, E: Output>(text: &[u8], out: &mut O, err: &mut E) -> u8
     requires out_failures { O.failure_count out.old < 2 ^ 64 - 1 }
     requires err_failures { E.failure_count err.old < 2 ^ 64 - 1 }
     ensures status { (result ≡ 0) ⊎ (result ≡ 3) }
-    ensures given { Gets O.written O.tells O.failure_count text.now out.old out.new }
+    ensures given { Gets O.written O.observable O.failure_count text.now out.old out.new }
     ensures silent { result ≡ 0
         → (O.failure_count out.new ≡ O.failure_count out.old) × (err.new ≡ err.old) }
-    ensures fault { result ≡ 3 → Gets E.written E.tells E.failure_count
+    ensures fault { result ≡ 3 → Gets E.written E.observable E.failure_count
         (fault_line Fault.WriteFault) err.old err.new }
 {
     match write_all(out, text) {
@@ -123,7 +123,7 @@ fn give_help<O: Output, E: Output>(text: &[u8], out: &mut O, err: &mut E) -> u8
 pub fn give_usage<E: Output>(text: &[u8], err: &mut E) -> u8
     requires { E.failure_count err.old < 2 ^ 64 - 1 }
     ensures status { result ≡ 2 }
-    ensures said { Gets E.written E.tells E.failure_count text.now err.old err.new }
+    ensures said { Gets E.written E.observable E.failure_count text.now err.old err.new }
 {
     say(err, text);
     2
@@ -246,13 +246,13 @@ pub fn serve<F: FileSource, I: Input + Drop, O: Output + Drop, E: Output + Drop>
     ensures help { ¬ AsksRun (map string_bytes words.items) → result.0 ≡ 0
         → IsHelp (map string_bytes words.items)
         × (result.3 ≡ err) × (O.failure_count result.2 ≡ O.failure_count out)
-        × ((text : List ℕ) × Gets O.written O.tells O.failure_count text out result.2) }
+        × ((text : List ℕ) × Gets O.written O.observable O.failure_count text out result.2) }
     ensures usage { result.0 ≡ 2
         → (¬ AsksRun (map string_bytes words.items)) × (result.2 ≡ out)
-        × ((text : List ℕ) × Gets E.written E.tells E.failure_count text err result.3) }
+        × ((text : List ℕ) × Gets E.written E.observable E.failure_count text err result.3) }
     ensures failed { ¬ AsksRun (map string_bytes words.items) → result.0 ≡ 3
         → (fault : Fault) × ((fault ≡ Fault.Memory) ⊎ (fault ≡ Fault.WriteFault))
-        × Gets E.written E.tells E.failure_count (fault_line fault) err result.3 }
+        × Gets E.written E.observable E.failure_count (fault_line fault) err result.3 }
 {
     let status = match read_words(alloc, words.as_slice()) {
         Ok(Request::Run(job)) => return serve_job(alloc, job, files, input, out, err),

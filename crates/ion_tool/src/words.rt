@@ -253,7 +253,7 @@ fn job_of(alloc: Global, asked: Asked<'_>) -> Result<Job, AllocError>
     })
 }
 
-/// Reads the words after the program's name. Only want of memory makes this fail.
+/// Reads the words after the program's name. It fails only where it is out of memory.
 pub fn read_words(alloc: Global, words: &[String]) -> Result<Request, AllocError>
     ensures { IfOk result (Asks (map string_bytes words.now)) }
 {

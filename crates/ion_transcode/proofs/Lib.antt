@@ -1,6 +1,6 @@
 mod Agreeing
 mod BinarySound
-mod Comings
+mod VerdictUnique
 mod Counting
 mod Faultless
 mod NoEnd

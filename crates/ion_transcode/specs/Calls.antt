@@ -2,7 +2,7 @@
 use Rattle.std.specs.Prelude.{◌≡◌, ◌≢◌, ℕ, ◌+◌, ◌-◌, ◌^◌, ◌<◌, ◌≤◌, ◌↔◌, List, [], ◌++◌, max, Option, None, Result, Ok, Err, OnOk}
 use Rattle.ion_meter.specs.Counts.{Counts}
 use Rattle.ion_meter.specs.Limits.{AreChecked}
-use Rattle.ion_meter.specs.Windows.{Incoming, Outgoing, BeginsWith}
+use Rattle.ion_meter.specs.Windows.{Incoming, Outgoing, HasPrefix}
 use Rattle.ion_meter.specs.declared.device.Output.{Ghosts as OutputOf}
 use Rattle.ion_meter.specs.declared.fault.Fault.{Fault}
 use Rattle.ion_meter.specs.declared.fault.Fault.TheVariants.{Refused, Memory, ReadFault, WriteFault, InputLimit}
@@ -33,17 +33,17 @@ pub record SaysSummary (read : Form) (due : Verdict) (answer : Result Summary Fa
   pub form : (s : Summary) → answer ≡ Ok s → s.form ≡ read
   pub rejected : (r : Reason) (p : ℕ) → answer ≡ Err (Refused r p) → due ≡ Rejected r p
 
--- behind what was written before stands the output that is due: all of it where the stream was accepted or refused, a front of it in any case
+-- behind what was written before stands the output that is due: all of it where the stream was accepted or refused, a prefix of it in any case
 pub record WritesOutput {T : Type 0} (due : List ℕ) (answer : Result T Fault) (before after : List ℕ) : Type 0 where
   pub accepted : OnOk answer (after ≡ before ++ due)
   pub rejected : (r : Reason) (p : ℕ) → answer ≡ Err (Refused r p) → after ≡ before ++ due
-  pub front : BeginsWith (before ++ due) after
+  pub prefix : HasPrefix (before ++ due) after
 
 -- the same where some of what was put is not written yet
 pub record PutsOutput {T : Type 0} (due : List ℕ) (answer : Result T Fault) (before put written : List ℕ) : Type 0 where
   pub accepted : OnOk answer (put ≡ before ++ due)
   pub rejected : (r : Reason) (p : ℕ) → answer ≡ Err (Refused r p) → put ≡ before ++ due
-  pub front : BeginsWith (before ++ due) written
+  pub prefix : HasPrefix (before ++ due) written
 
 -- a sink that has not failed where the stream was accepted or refused
 pub record StaysWell {T : Type 0} (answer : Result T Fault) (fault : Option Fault) : Type 0 where
@@ -67,7 +67,7 @@ pub record Causes {T O : Type 0} (answer : Result T Fault) (old new : Counts) (r
   pub read : answer ≡ Err ReadFault → reads_old < reads_new
   pub write : answer ≡ Err WriteFault → output.failure_count before < output.failure_count after
   pub steady : answer ≢ Err WriteFault → output.failure_count after ≡ output.failure_count before
-  pub still_tells : output.tells after ↔ output.tells before
+  pub still_observable : output.observable after ↔ output.observable before
   pub limit : answer ≡ Err InputLimit → exceeds
 
 -- ---- what a call requires

@@ -1,4 +1,4 @@
-//! Laws of what streams come to, each the contract of a function that does nothing.
+//! Laws of the verdicts of streams, each the contract of a function that does nothing.
 ghost use Rattle.ion_transcode.specs.Laws.{BinaryIsSound, OneVerdict, StreamsAreRead};
 
 use ion_binary::laws::{each_step_falls, each_step_follows};
@@ -14,7 +14,7 @@ pub fn binary_is_sound()
     each_step_falls();
 }
 
-/// A stream comes to one verdict and one output at most.
+/// A stream has one verdict and one output at most.
 pub fn one_verdict()
     ensures { OneVerdict }
 {
@@ -22,7 +22,7 @@ pub fn one_verdict()
     text_is_that_of_items();
 }
 
-/// Each stream comes to what the reading of its items one by one says, and so to a verdict.
+/// Each stream has the verdict that the reading of its items one by one has.
 pub fn streams_are_read()
     ensures { StreamsAreRead }
 {

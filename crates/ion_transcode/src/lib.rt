@@ -6,8 +6,8 @@
 //! one verdict.
 #![tactic(auto)]
 
-mod drive;
-mod join;
+mod copy_stream;
+mod copy_items;
 pub mod laws;
 mod nothing;
 pub mod run;

@@ -22,7 +22,7 @@ const LIMITS: Limits = Limits {
     input: 281_474_976_710_656,
 };
 
-/// The octets of a stream, what it comes to, and what is written of it as text.
+/// The octets of a stream, its verdict, and what is written of it as text.
 type Row = (&'static str, Result<Summary, Fault>, &'static str);
 
 /// So many values of a binary stream.
@@ -49,7 +49,7 @@ fn refused(reason: Reason, place: u64) -> Result<Summary, Fault> {
 /// The version marker of binary.
 const MARKER: [u8; 4] = [0xE0, 0x01, 0x00, 0xEA];
 
-/// Asserts what a stream comes to, in one piece or a byte a read, and that this text is written of
+/// Asserts the verdict on a stream, in one piece or a byte a read, and that this text is written of
 /// it, at once or a byte a call.
 fn expect(
     rt: &impl Abort,
@@ -96,7 +96,7 @@ fn expect_bytes(
     );
 }
 
-/// Asserts what a stream comes to as text, checked alone, and as the form that it does not have.
+/// Asserts the verdict on a stream as text, checked alone, and as the form that it does not have.
 fn expect_read(
     rt: &impl Abort,
     alloc: Global,
@@ -110,7 +110,7 @@ fn expect_read(
     }
 }
 
-/// Asserts what streams behind a version marker come to.
+/// Asserts the verdicts on streams behind a version marker.
 fn expect_rows(rt: &impl Abort, alloc: Global, limits: Limits, rows: &[Row]) -> Result<(), Fail> {
     for (digits, want, text) in rows {
         let octets = behind_marker(rt, alloc, digits)?;
@@ -155,7 +155,7 @@ fn binary_streams(rt: HostRuntime) -> Result<(), Fail> {
             binary(1),
             "2000-01-01T00:00:00.0Z\n",
         ),
-        // A field id before a pad names nothing.
+        // A field id before a NOP pad names nothing.
         ("D5 80 01 FF 84 11", binary(1), "{name:true}\n"),
         ("D5 FE 01 FF 84 11", binary(1), "{name:true}\n"),
         // Declarations are no values.
@@ -249,7 +249,7 @@ fn first_bytes(rt: HostRuntime) -> Result<(), Fail> {
     Ok(())
 }
 
-// What was written then is a front of what the whole stream comes to.
+// What was written then is a prefix of the whole stream's output.
 #[test]
 fn faults(rt: HostRuntime) -> Result<(), Fail> {
     let alloc = rt.alloc();
@@ -304,9 +304,9 @@ fn bounds(rt: HostRuntime) -> Result<(), Fail> {
 /// Ints of one octet.
 const ZEROS: [u8; 4_096] = [0x20; 4_096];
 
-// A declaration with 4,194,304 ints in a field that means nothing.
+// A declaration with 4,194,304 ints in a field that is ignored.
 #[test]
-fn what_means_nothing_is_not_held(rt: HostRuntime) -> Result<(), Fail> {
+fn what_is_ignored_is_not_held(rt: HostRuntime) -> Result<(), Fail> {
     let alloc = rt.alloc();
     let first = behind_marker(
         &rt,

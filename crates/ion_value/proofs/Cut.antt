@@ -42,7 +42,7 @@ IfSome-Cut (suc most) (b ∷ body) =
       | inr high ↦ let e : ltb b 128 ≡ false = le-ltb b 128 high in rw e (record { ends = high; short = omega arith; whole = refl })
     ]
 
--- where no front of at most so many octets has the high bit on its last alone, the body is not cut
+-- where no prefix of at most n octets has the high bit on its last alone, the body is not cut
 none-by : (most : ℕ) (b : List ℕ) (o : Option (List ℕ × List ℕ)) → IfSome o (Cut most b) → ((k : ℕ) → IsVar (take k b) → length (take k b) ≤ most → ⊥) → o ≡ None
 none-by most b None h none = refl
 none-by most b (Some cut) h none =
@@ -52,7 +52,7 @@ none-by most b (Some cut) h none =
 pub var_cut-none : (most : ℕ) (b : List ℕ) → ((k : ℕ) → IsVar (take k b) → length (take k b) ≤ most → ⊥) → var_cut most b ≡ None
 var_cut-none most b none = none-by most b (var_cut most b) (IfSome-Cut most b) none
 
--- a body is cut where the VarUInt at its front ends, and is not cut where no front is one
+-- a body is cut where the VarUInt at its front ends, and is not cut where no prefix is one
 pub var_cut-VarUInt : (n k : ℕ) (b : List ℕ) → VarUInt n (take k b) → var_cut 9 b ≡ Some (take k b, drop k b)
 var_cut-VarUInt n k b h = ap (var_cut 9) (sym (take-append-drop k b)) ∙ var_cut-IsVar 9 (take k b) (drop k b) h.ends h.short
 

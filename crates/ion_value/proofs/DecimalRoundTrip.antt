@@ -10,17 +10,17 @@ use Rattle.ion_value.specs.Digits.{is_digit, digit_value, digits_value, all_are,
 use Rattle.ion_value.specs.Decimal.{IsExponent, IsDecimal, decimal_in_range, integer_text, pointed_text, power_text, magnitude_text, most_places, decimal_text, decimal_of_text, is_exponent_mark, is_fraction, parts_of, decimal_of_parts}
 use Rattle.ion_value.proofs.FixedDigits.{length-fixed_digits, pow-pos}
 use Rattle.ion_value.proofs.PointedText.{fixed_digits-rest}
-use Rattle.ion_value.proofs.TextDecimals.{apart-mark, cut-front, cut-nil, make_parts, parts-front, parts-point, value-both, spelled, all-front, all-filter, all-some, all-value, Spells, spells, sign-plus, sign-read, first-append, power-written, decimal-text, decimal-written, decimal-in_range}
+use Rattle.ion_value.proofs.TextDecimals.{apart-mark, cut-prefix, cut-nil, make_parts, parts-prefix, parts-point, value-both, spelled, all-prefix, all-filter, all-some, all-value, Spells, spells, sign-plus, sign-read, first-append, power-written, decimal-text, decimal-written, decimal-in_range}
 use Rattle.ion_value.proofs.TextRoundTrip.{fixed_digits-are, number-fixed_digits}
 
 -- digits, a point, and digits or none
 parts-pointed : (ds fs : List ℕ) → all_are is_digit ds ≡ true → all_are is_digit fs ≡ true → parts_of (ds ++ (46 ∷ fs)) ≡ make_parts ds (46 ∷ fs) []
 parts-pointed ds fs d f =
     let cut : cut_at is_exponent_mark fs ≡ (fs, []) =
-    ap (λ (xs : List ℕ). cut_at is_exponent_mark xs) (sym (append-nil fs) ∙ ap (λ (xs : List ℕ). xs ++ []) (sym (all-front fs f)))
-    ∙ cut-front is_exponent_mark fs [] apart-mark ∙ rw (all-front fs f, cut-nil, append-nil) refl in
+    ap (λ (xs : List ℕ). cut_at is_exponent_mark xs) (sym (append-nil fs) ∙ ap (λ (xs : List ℕ). xs ++ []) (sym (all-prefix fs f)))
+    ∙ cut-prefix is_exponent_mark fs [] apart-mark ∙ rw (all-prefix fs f, cut-nil, append-nil) refl in
     let parts : parts_of (ds ++ (46 ∷ fs)) ≡ make_parts (ds ++ (parts_of (46 ∷ fs)).whole) (parts_of (46 ∷ fs)).fraction (parts_of (46 ∷ fs)).power
-    = rw (all-front ds d) at (parts-front ds (46 ∷ fs)) in
+    = rw (all-prefix ds d) at (parts-prefix ds (46 ∷ fs)) in
     parts ∙ rw (parts-point fs, cut, append-nil) refl
 
 fraction-written : (fs : List ℕ) → all_are is_digit fs ≡ true → is_fraction (46 ∷ fs) ≡ true

@@ -222,8 +222,8 @@ pub record ShortestUInt (n : ℕ) (xs : List ℕ) : Type 0 where
   pub shortest : (b : List ℕ) → All (λ octet. octet < 256) b → uint b ≡ n → length xs ≤ length b
 
 -- a number of m bits in k octets has z zeros before those bits
-uint-front : (k n z m : ℕ) → z + m ≡ 8 * k → n < 2 ^ m → 2 ^ m ≤ 2 * n + 1 → ShortestUInt n (drop (z / 8) (bytes_high_first k n))
-uint-front k n z m whole small least =
+uint-prefix : (k n z m : ℕ) → z + m ≡ 8 * k → n < 2 ^ m → 2 ^ m ≤ 2 * n + 1 → ShortestUInt n (drop (z / 8) (bytes_high_first k n))
+uint-prefix k n z m whole small least =
     let all : List ℕ = bytes_high_first k n in
     let long : length all ≡ k = length-bytes_high_first k n in
     let len : ℕ = k - z / 8 in
@@ -260,4 +260,4 @@ uint-shortest n all xs small spelled cut =
     let long : length all ≡ 16 = ap length spelled ∙ length-bytes_high_first 16 n in
     let rest : length (drop zeros all) ≤ 16 - zeros = rw (length-drop, long) (omega arith) in
     let e : xs ≡ drop zeros all = cut ∙ take_all (16 - zeros) (drop zeros all) rest in
-    rw (e, spelled) (uint-front 16 n (leading_zeros w128 n) bits.0 bits.1 bits.2 bits.3)
+    rw (e, spelled) (uint-prefix 16 n (leading_zeros w128 n) bits.0 bits.1 bits.2 bits.3)

@@ -48,9 +48,9 @@ unfolding fixed_digits
 padded-one n small zero some fits = absurd (omega arith)
 padded-one n small (suc count) some fits =
     let zeros : suc count - 1 ≡ count = omega arith in
-    let front : n / 10 ≡ 0 = omega arith in
+    let prefix : n / 10 ≡ 0 = omega arith in
     let last : n % 10 ≡ n = omega arith in
-    rw (zeros, front, last, fixed_digits-zero count) refl
+    rw (zeros, prefix, last, fixed_digits-zero count) refl
 
 padded-more : (n : ℕ) (ds : List ℕ) → 10 ≤ n → IsPadded (n / 10) ds → IsPadded n (ds ++ (48 + n % 10) ∷ [])
 unfolding fixed_digits
@@ -97,13 +97,13 @@ fixed_digits-add a (suc b) n =
     let power : 10 ^ suc b ≡ 10 ^ b * 10 = pow-suc 10 b ∙ omega arith in
     let some : 0 < 10 ^ b = pow-pos b in
     let rest : n % 10 ^ suc b ≡ n / 10 % 10 ^ b * 10 + n % 10 = rw power (mod-mul n some (omega arith)) in
-    let front : n / 10 / 10 ^ b ≡ n / 10 ^ suc b = div-div-eq-div-mul n 10 (10 ^ b) ∙ ap (λ k. n / k) (omega arith) in
+    let prefix : n / 10 / 10 ^ b ≡ n / 10 ^ suc b = div-div-eq-div-mul n 10 (10 ^ b) ∙ ap (λ k. n / k) (omega arith) in
     let tens : n % 10 ^ suc b / 10 ≡ n / 10 % 10 ^ b = rw rest (div-mul-add (n / 10 % 10 ^ b) 10 (n % 10) (omega arith)) in
     let ones : n % 10 ^ suc b % 10 ≡ n % 10 = rw rest (mod-mul-add (n / 10 % 10 ^ b) 10 (n % 10) (omega arith)) in
     rw more (
     ap (λ xs. xs ++ (48 + n % 10) ∷ []) (fixed_digits-add a b (n / 10))
     ∙ append_assoc (fixed_digits a (n / 10 / 10 ^ b)) (fixed_digits b (n / 10 % 10 ^ b)) ((48 + n % 10) ∷ [])
-    ∙ rw (front, tens, ones) refl
+    ∙ rw (prefix, tens, ones) refl
     )
 
 -- ---- a fraction past 19 digits

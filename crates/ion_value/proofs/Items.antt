@@ -23,9 +23,9 @@ named_field-none : (field : Option SymbolAt) → option_map (named_at (λ _. Non
 named_field-none None = refl
 named_field-none (Some at) = ap Some (named_at-none at)
 
-named_list-none : (notes : List SymbolAt) → map (named_at (λ _. None)) notes ≡ notes
+named_list-none : (annotations : List SymbolAt) → map (named_at (λ _. None)) annotations ≡ annotations
 named_list-none [] = refl
-named_list-none (at ∷ notes) = rw (named_at-none at, named_list-none notes) refl
+named_list-none (at ∷ annotations) = rw (named_at-none at, named_list-none annotations) refl
 
 named_head-none : (head : Head SymbolAt) → map_head (named_at (λ _. None)) head ≡ head
 named_head-none (whole (null type)) = refl

@@ -11,7 +11,7 @@ pub mod TextDigits
 pub mod TextDecimals
 pub mod FixedDigits
 pub mod PointedText
-pub mod FrontDigits
+pub mod LeadingDigits
 pub mod TextParts
 pub mod TimestampText
 pub mod TextStages

@@ -90,9 +90,9 @@ pub var_uint-take_more : (b : List ℕ) (i : ℕ) → i < length b → var_uint 
 var_uint-take_more b i h =
     rw (take_more b i 0 h, map-append) (number-append_one 128 (sevens (take i b)) (get_or b i 0 % 128))
 
--- an octet of a front
-pub front-octet : (b : List ℕ) (m i : ℕ) → m ≤ length b → i < length (take m b) → (i < m) × (get_or (take m b) i 0 ≡ get_or b i 0)
-front-octet b m i h lt =
+-- an octet of a prefix
+pub prefix-octet : (b : List ℕ) (m i : ℕ) → m ≤ length b → i < length (take m b) → (i < m) × (get_or (take m b) i 0 ≡ get_or b i 0)
+prefix-octet b m i h lt =
     let within : i < m = omega (arith, length-take-le m b h) in
     (within, get_or-take m b i 0 within)
 
@@ -112,7 +112,7 @@ IsVar-last [] h = absurd h
 IsVar-last (x ∷ []) h = (0, refl, h)
 IsVar-last (x ∷ y ∷ b) h = let r = IsVar-last (y ∷ b) h.1 in (suc r.0, ap (λ n. suc n) r.1, r.2)
 
--- where none of the first nine octets has the high bit, no front is a VarUInt
+-- where none of the first nine octets has the high bit, no prefix is a VarUInt
 pub no-VarUInt : (b : List ℕ) → ((k : ℕ) → k < 9 → k < length b → get_or b k 0 < 128) → (n k : ℕ) → VarUInt n (take k b) → ⊥
 no-VarUInt b before n k v =
     let last = IsVar-last (take k b) v.ends in

@@ -1,7 +1,7 @@
--- Laws of what a reading comes to.
+-- Laws of the verdict and the output of a reading.
 use Rattle.std.proofs.Common.{◌≡◌, ℕ, ◌+◌, List, [], ◌∷◌, ◌++◌, Option, Some, None, refl, ap, sym, ◌∙◌, subst, append_assoc, arith}
 use Rattle.std.proofs.lemmas.List.{append-nil}
-use Rattle.ion_meter.specs.Windows.{BeginsWith}
+use Rattle.ion_meter.specs.Windows.{HasPrefix}
 use Rattle.ion_meter.specs.declared.fault.Reason.{Reason}
 use Rattle.ion_value.specs.declared.ion_type.Kind.{Kind}
 use Rattle.ion_value.specs.Value.{PlacedItem, whole}
@@ -9,16 +9,16 @@ use Rattle.ion_value.specs.Reading.{Reading, Finished, Stopped, More}
 use Rattle.ion_value.specs.Standing.{open_after, open_behind}
 use Rattle.ion_value.specs.Outcome.{Rejected, one_if_closed, values_in, verdict_with, verdict_behind, output_with, output_behind}
 
--- ---- fronts
+-- ---- prefixes
 
-pub begins-self : (xs : List ℕ) → BeginsWith xs xs
-begins-self xs = ([], sym (append-nil xs))
+pub prefix-self : (xs : List ℕ) → HasPrefix xs xs
+prefix-self xs = ([], sym (append-nil xs))
 
-pub begins-then : (xs ys zs : List ℕ) → BeginsWith zs ys → BeginsWith ys xs → BeginsWith zs xs
-begins-then xs ys zs f g = (g.0 ++ f.0, f.1 ∙ ap (λ l. l ++ f.0) g.1 ∙ append_assoc xs g.0 f.0)
+pub prefix-then : (xs ys zs : List ℕ) → HasPrefix zs ys → HasPrefix ys xs → HasPrefix zs xs
+prefix-then xs ys zs f g = (g.0 ++ f.0, f.1 ∙ ap (λ l. l ++ f.0) g.1 ∙ append_assoc xs g.0 f.0)
 
-pub begins-behind : (before xs ys : List ℕ) → BeginsWith ys xs → BeginsWith (before ++ ys) (before ++ xs)
-begins-behind before xs ys f = (f.0, ap (λ l. before ++ l) f.1 ∙ sym (append_assoc before xs f.0))
+pub prefix-behind : (before xs ys : List ℕ) → HasPrefix ys xs → HasPrefix (before ++ ys) (before ++ xs)
+prefix-behind before xs ys f = (f.0, ap (λ l. before ++ l) f.1 ∙ sym (append_assoc before xs f.0))
 
 -- ---- one item more
 
@@ -41,31 +41,31 @@ Grows puts adds refusal = (path : List PlacedItem) (item : PlacedItem) → refus
 abbrev pub Silent : (List PlacedItem → PlacedItem → List ℕ) → (List PlacedItem → PlacedItem → Option (Reason × ℕ)) → Type 0
 Silent adds refusal = (path : List PlacedItem) (item : PlacedItem) (why : Reason × ℕ) → refusal path item ≡ Some why → adds path item ≡ []
 
--- what was put is a front of all that is put
-with_refusal-begins : (puts : List PlacedItem → List ℕ) (adds : List PlacedItem → PlacedItem → List ℕ) (refusal : List PlacedItem → PlacedItem → Option (Reason × ℕ)) → Grows puts adds refusal
-    → (path : List PlacedItem) (item : PlacedItem) (rest : List ℕ) → BeginsWith rest (puts (path ++ item ∷ [])) → (o : Option (Reason × ℕ)) → refusal path item ≡ o → BeginsWith (output_with o (puts path) rest) (puts path)
-with_refusal-begins puts adds refusal grows path item rest f None e =
-    begins-then (puts path) (puts (path ++ item ∷ [])) rest f (adds path item, grows path item e)
-with_refusal-begins puts adds refusal grows path item rest f (Some why) e = begins-self (puts path)
+-- what was put is a prefix of all that is put
+with_refusal-prefix : (puts : List PlacedItem → List ℕ) (adds : List PlacedItem → PlacedItem → List ℕ) (refusal : List PlacedItem → PlacedItem → Option (Reason × ℕ)) → Grows puts adds refusal
+    → (path : List PlacedItem) (item : PlacedItem) (rest : List ℕ) → HasPrefix rest (puts (path ++ item ∷ [])) → (o : Option (Reason × ℕ)) → refusal path item ≡ o → HasPrefix (output_with o (puts path) rest) (puts path)
+with_refusal-prefix puts adds refusal grows path item rest f None e =
+    prefix-then (puts path) (puts (path ++ item ∷ [])) rest f (adds path item, grows path item e)
+with_refusal-prefix puts adds refusal grows path item rest f (Some why) e = prefix-self (puts path)
 
-pub output_behind-begins : (puts : List PlacedItem → List ℕ) (adds : List PlacedItem → PlacedItem → List ℕ) (refusal : List PlacedItem → PlacedItem → Option (Reason × ℕ)) → Grows puts adds refusal
-    → (path : List PlacedItem) (r : Reading) → BeginsWith (output_behind puts refusal path r) (puts path)
-output_behind-begins puts adds refusal grows path Finished = begins-self (puts path)
-output_behind-begins puts adds refusal grows path (Stopped reason place) = begins-self (puts path)
-output_behind-begins puts adds refusal grows path (More item rest) =
-    with_refusal-begins puts adds refusal grows path item _ (output_behind-begins puts adds refusal grows (path ++ item ∷ []) rest) (refusal path item) refl
+pub output_behind-prefix : (puts : List PlacedItem → List ℕ) (adds : List PlacedItem → PlacedItem → List ℕ) (refusal : List PlacedItem → PlacedItem → Option (Reason × ℕ)) → Grows puts adds refusal
+    → (path : List PlacedItem) (r : Reading) → HasPrefix (output_behind puts refusal path r) (puts path)
+output_behind-prefix puts adds refusal grows path Finished = prefix-self (puts path)
+output_behind-prefix puts adds refusal grows path (Stopped reason place) = prefix-self (puts path)
+output_behind-prefix puts adds refusal grows path (More item rest) =
+    with_refusal-prefix puts adds refusal grows path item _ (output_behind-prefix puts adds refusal grows (path ++ item ∷ []) rest) (refusal path item) refl
 
 -- and so is what an item puts before a fault
 with_refusal-adds : (puts : List PlacedItem → List ℕ) (adds : List PlacedItem → PlacedItem → List ℕ) (refusal : List PlacedItem → PlacedItem → Option (Reason × ℕ)) → Grows puts adds refusal → Silent adds refusal
-    → (path : List PlacedItem) (item : PlacedItem) (rest : List ℕ) → BeginsWith rest (puts (path ++ item ∷ [])) → (o : Option (Reason × ℕ)) → refusal path item ≡ o → BeginsWith (output_with o (puts path) rest) (puts path ++ adds path item)
-with_refusal-adds puts adds refusal grows silent path item rest f None e = subst (BeginsWith rest) (grows path item e) f
+    → (path : List PlacedItem) (item : PlacedItem) (rest : List ℕ) → HasPrefix rest (puts (path ++ item ∷ [])) → (o : Option (Reason × ℕ)) → refusal path item ≡ o → HasPrefix (output_with o (puts path) rest) (puts path ++ adds path item)
+with_refusal-adds puts adds refusal grows silent path item rest f None e = subst (HasPrefix rest) (grows path item e) f
 with_refusal-adds puts adds refusal grows silent path item rest f (Some why) e =
-    subst (BeginsWith (puts path)) (sym (ap (λ l. puts path ++ l) (silent path item why e) ∙ append-nil (puts path))) (begins-self (puts path))
+    subst (HasPrefix (puts path)) (sym (ap (λ l. puts path ++ l) (silent path item why e) ∙ append-nil (puts path))) (prefix-self (puts path))
 
 pub item-begins : (puts : List PlacedItem → List ℕ) (adds : List PlacedItem → PlacedItem → List ℕ) (refusal : List PlacedItem → PlacedItem → Option (Reason × ℕ)) → Grows puts adds refusal → Silent adds refusal
-    → (path : List PlacedItem) (item : PlacedItem) (rest : Reading) → BeginsWith (output_behind puts refusal path (More item rest)) (puts path ++ adds path item)
+    → (path : List PlacedItem) (item : PlacedItem) (rest : Reading) → HasPrefix (output_behind puts refusal path (More item rest)) (puts path ++ adds path item)
 item-begins puts adds refusal grows silent path item rest =
-    with_refusal-adds puts adds refusal grows silent path item _ (output_behind-begins puts adds refusal grows (path ++ item ∷ []) rest) (refusal path item) refl
+    with_refusal-adds puts adds refusal grows silent path item _ (output_behind-prefix puts adds refusal grows (path ++ item ∷ []) rest) (refusal path item) refl
 
 -- ---- a path that was put, and what is to come behind it
 
@@ -97,25 +97,25 @@ walk-more {puts = puts} {refusal = refusal} {kinds = kinds} {values = values} {b
       put = λ o. put o ∙ ap (λ l. l ++ adds w.path item) (w.put o) ∙ append_assoc before (puts w.path) (adds w.path item) ∙ ap (λ l. before ++ l) (sym (grows w.path item none));
     }
 
--- what is written when nothing more is put is a front of all that is put
-pub walk-begins : {stands : List PlacedItem → Type 0} {puts : List PlacedItem → List ℕ} {refusal : List PlacedItem → PlacedItem → Option (Reason × ℕ)} {reads writes : Type 0} {kinds : List Kind} {values : ℕ} {all rest : Reading} {before now : List ℕ}
+-- what is written when nothing more is put is a prefix of all that is put
+pub walk-prefix : {stands : List PlacedItem → Type 0} {puts : List PlacedItem → List ℕ} {refusal : List PlacedItem → PlacedItem → Option (Reason × ℕ)} {reads writes : Type 0} {kinds : List Kind} {values : ℕ} {all rest : Reading} {before now : List ℕ}
     (w : Walk stands puts refusal reads writes kinds values all rest before now) (adds : List PlacedItem → PlacedItem → List ℕ) → Grows puts adds refusal
-    → (written : List ℕ) → reads → writes → BeginsWith now written → BeginsWith (before ++ output_behind puts refusal [] all) written
-walk-begins {puts = puts} {refusal = refusal} {all = all} {rest = rest} {before = before} {now = now} w adds grows written r o f =
-    let whole : BeginsWith (output_behind puts refusal [] all) (puts w.path) = subst (λ l. BeginsWith l (puts w.path)) (sym (w.output r)) (output_behind-begins puts adds refusal grows w.path rest) in
-    begins-then written (before ++ puts w.path) (before ++ output_behind puts refusal [] all) (begins-behind before (puts w.path) (output_behind puts refusal [] all) whole) (subst (λ l. BeginsWith l written) (w.put o) f)
+    → (written : List ℕ) → reads → writes → HasPrefix now written → HasPrefix (before ++ output_behind puts refusal [] all) written
+walk-prefix {puts = puts} {refusal = refusal} {all = all} {rest = rest} {before = before} {now = now} w adds grows written r o f =
+    let whole : HasPrefix (output_behind puts refusal [] all) (puts w.path) = subst (λ l. HasPrefix l (puts w.path)) (sym (w.output r)) (output_behind-prefix puts adds refusal grows w.path rest) in
+    prefix-then written (before ++ puts w.path) (before ++ output_behind puts refusal [] all) (prefix-behind before (puts w.path) (output_behind puts refusal [] all) whole) (subst (λ l. HasPrefix l written) (w.put o) f)
 
 -- and so is what is written of an item before a fault
 pub walk-fault : {stands : List PlacedItem → Type 0} {puts : List PlacedItem → List ℕ} {refusal : List PlacedItem → PlacedItem → Option (Reason × ℕ)} {reads writes : Type 0} {kinds : List Kind} {values : ℕ} {all rest : Reading} {before now : List ℕ}
     (w : Walk stands puts refusal reads writes kinds values all rest before now) (adds : List PlacedItem → PlacedItem → List ℕ) → Grows puts adds refusal → Silent adds refusal
-    → (item : PlacedItem) (behind : Reading) (written : List ℕ) → reads → writes → rest ≡ More item behind → BeginsWith (now ++ adds w.path item) written → BeginsWith (before ++ output_behind puts refusal [] all) written
+    → (item : PlacedItem) (behind : Reading) (written : List ℕ) → reads → writes → rest ≡ More item behind → HasPrefix (now ++ adds w.path item) written → HasPrefix (before ++ output_behind puts refusal [] all) written
 walk-fault {puts = puts} {refusal = refusal} {all = all} {before = before} {now = now} w adds grows silent item behind written r o is f =
-    let whole : BeginsWith (output_behind puts refusal [] all) (puts w.path ++ adds w.path item) =
-    subst (λ l. BeginsWith l (puts w.path ++ adds w.path item)) (sym (w.output r ∙ ap (output_behind puts refusal w.path) is)) (item-begins puts adds refusal grows silent w.path item behind) in
+    let whole : HasPrefix (output_behind puts refusal [] all) (puts w.path ++ adds w.path item) =
+    subst (λ l. HasPrefix l (puts w.path ++ adds w.path item)) (sym (w.output r ∙ ap (output_behind puts refusal w.path) is)) (item-begins puts adds refusal grows silent w.path item behind) in
     let same : now ++ adds w.path item ≡ before ++ (puts w.path ++ adds w.path item) = ap (λ l. l ++ adds w.path item) (w.put o) ∙ append_assoc before (puts w.path) (adds w.path item) in
-    begins-then written (before ++ (puts w.path ++ adds w.path item)) (before ++ output_behind puts refusal [] all)
-    (begins-behind before (puts w.path ++ adds w.path item) (output_behind puts refusal [] all) whole)
-    (subst (λ l. BeginsWith l written) same f)
+    prefix-then written (before ++ (puts w.path ++ adds w.path item)) (before ++ output_behind puts refusal [] all)
+    (prefix-behind before (puts w.path ++ adds w.path item) (output_behind puts refusal [] all) whole)
+    (subst (λ l. HasPrefix l written) same f)
 
 -- a refusal of the item ends the walk with it
 pub walk-refused : {stands : List PlacedItem → Type 0} {puts : List PlacedItem → List ℕ} {refusal : List PlacedItem → PlacedItem → Option (Reason × ℕ)} {reads writes : Type 0} {kinds : List Kind} {values : ℕ} {all rest : Reading} {before now : List ℕ}

@@ -12,38 +12,38 @@ with_items-append path (x ∷ xs) ys = with_items-append (with_item path x) xs y
 
 -- the nest with these members in its innermost container
 abbrev with_members : {S P : Type 0} → Nest S P → Members S P → Nest S P
-with_members (outermost notes place kind old) members = outermost notes place kind members
-with_members (inner around f notes place kind old) members = inner around f notes place kind members
+with_members (outermost annotations place kind old) members = outermost annotations place kind members
+with_members (inner around f annotations place kind old) members = inner around f annotations place kind members
 
-with_members-member : {S P : Type 0} (nest : Nest S P) (before : Members S P) (f : Option S) (notes : List S) (place : P) (value : Value S P)
-    → with_member (with_members nest before) f notes place value ≡ with_members nest (member before f notes place value)
-with_members-member (outermost ns at kind old) before f notes place value = refl
-with_members-member (inner around g ns at kind old) before f notes place value = refl
+with_members-member : {S P : Type 0} (nest : Nest S P) (before : Members S P) (f : Option S) (annotations : List S) (place : P) (value : Value S P)
+    → with_member (with_members nest before) f annotations place value ≡ with_members nest (member before f annotations place value)
+with_members-member (outermost ns at kind old) before f annotations place value = refl
+with_members-member (inner around g ns at kind old) before f annotations place value = refl
 
 -- the items of members are put into the innermost container, and those of a value too
 mutual
   built_members : {S P : Type 0} (tops : List (Top S P)) (first : P) (nest : Nest S P) (members : Members S P)
       → fold with_item (opened tops first (with_members nest nothing)) (member_items first members) ≡ opened tops first (with_members nest members)
   built_members tops first nest nothing = refl
-  built_members tops first nest (member before f notes place value) =
-      with_items-append (opened tops first (with_members nest nothing)) (member_items first before) (value_items first f notes place value)
-      ∙ ap (λ path. fold with_item path (value_items first f notes place value)) (built_members tops first nest before)
-      ∙ built_value tops first (with_members nest before) f notes place value
-      ∙ ap (opened tops first) (with_members-member nest before f notes place value)
+  built_members tops first nest (member before f annotations place value) =
+      with_items-append (opened tops first (with_members nest nothing)) (member_items first before) (value_items first f annotations place value)
+      ∙ ap (λ path. fold with_item path (value_items first f annotations place value)) (built_members tops first nest before)
+      ∙ built_value tops first (with_members nest before) f annotations place value
+      ∙ ap (opened tops first) (with_members-member nest before f annotations place value)
 
-  built_value : {S P : Type 0} (tops : List (Top S P)) (first : P) (nest : Nest S P) (f : Option S) (notes : List S) (place : P) (value : Value S P)
-      → fold with_item (opened tops first nest) (value_items first f notes place value) ≡ opened tops first (with_member nest f notes place value)
-  built_value tops first nest f notes place (scalar body) = refl
-  built_value tops first nest f notes place (container kind members last) =
-      with_items-append (opened tops first (inner nest f notes place kind nothing)) (member_items first members) (bare_item end last first ∷ [])
-      ∙ ap (λ path. fold with_item path (bare_item end last first ∷ [])) (built_members tops first (inner nest f notes place kind nothing) members)
+  built_value : {S P : Type 0} (tops : List (Top S P)) (first : P) (nest : Nest S P) (f : Option S) (annotations : List S) (place : P) (value : Value S P)
+      → fold with_item (opened tops first nest) (value_items first f annotations place value) ≡ opened tops first (with_member nest f annotations place value)
+  built_value tops first nest f annotations place (scalar body) = refl
+  built_value tops first nest f annotations place (container kind members last) =
+      with_items-append (opened tops first (inner nest f annotations place kind nothing)) (member_items first members) (bare_item end last first ∷ [])
+      ∙ ap (λ path. fold with_item path (bare_item end last first ∷ [])) (built_members tops first (inner nest f annotations place kind nothing) members)
 
 built_top : {S P : Type 0} (tops : List (Top S P)) (t : Top S P) → fold with_item (closed tops) (one_top t) ≡ closed (tops ++ t ∷ [])
 built_top tops (version place) = refl
-built_top tops (tree first notes place (scalar body)) = refl
-built_top tops (tree first notes place (container kind members last)) =
-    with_items-append (opened tops first (outermost notes place kind nothing)) (member_items first members) (bare_item end last first ∷ [])
-    ∙ ap (λ path. fold with_item path (bare_item end last first ∷ [])) (built_members tops first (outermost notes place kind nothing) members)
+built_top tops (tree first annotations place (scalar body)) = refl
+built_top tops (tree first annotations place (container kind members last)) =
+    with_items-append (opened tops first (outermost annotations place kind nothing)) (member_items first members) (bare_item end last first ∷ [])
+    ∙ ap (λ path. fold with_item path (bare_item end last first ∷ [])) (built_members tops first (outermost annotations place kind nothing) members)
 
 built_tops : {S P : Type 0} (tops ts : List (Top S P)) → fold with_item (closed tops) (top_items ts) ≡ closed (tops ++ ts)
 built_tops tops [] = ap closed (sym (append-nil tops))
@@ -54,11 +54,11 @@ built_tops tops (t ∷ ts) =
     ∙ ap closed (append_assoc tops (t ∷ []) ts)
 
 built_nest : {S P : Type 0} (tops : List (Top S P)) (first : P) (nest : Nest S P) → fold with_item (closed tops) (nest_items first nest) ≡ opened tops first nest
-built_nest tops first (outermost notes place kind members) = built_members tops first (outermost notes place kind nothing) members
-built_nest tops first (inner around f notes place kind members) =
-    with_items-append (closed tops) (nest_items first around) (begin_item first f notes place kind ∷ member_items first members)
-    ∙ ap (λ path. fold with_item path (begin_item first f notes place kind ∷ member_items first members)) (built_nest tops first around)
-    ∙ built_members tops first (inner around f notes place kind nothing) members
+built_nest tops first (outermost annotations place kind members) = built_members tops first (outermost annotations place kind nothing) members
+built_nest tops first (inner around f annotations place kind members) =
+    with_items-append (closed tops) (nest_items first around) (begin_item first f annotations place kind ∷ member_items first members)
+    ∙ ap (λ path. fold with_item path (begin_item first f annotations place kind ∷ member_items first members)) (built_nest tops first around)
+    ∙ built_members tops first (inner around f annotations place kind nothing) members
 
 -- the items of a path lead to it
 pub path_of-items : {S P : Type 0} (path : Path S P) → path_of (path_items path) ≡ path

@@ -17,7 +17,7 @@ use Rattle.ion_value.specs.Digits.{is_digit, digit_value, digits_from, are_digit
 use Rattle.ion_value.specs.Decimal.{IsExponent, is_exponent, IsDecimal, decimal_in_range, integer_text, decimal_of_text, is_exponent_mark, is_decimal_mark, is_point, Parts, parts_of, is_fraction, fraction_digits, is_mantissa, has_sign, is_power, power_value, decimal_of_parts}
 use Rattle.ion_value.specs.DigitReading.{is_digit_of, Read, read_digits, read_int, read_whole, read_fraction, decimal_behind}
 use Rattle.ion_value.proofs.Numbers.{number-append, number-append_one}
-use Rattle.ion_value.proofs.TextDigits.{int_of_read, int-text, zero_first, whole-is, and-true, suc-eqb, front, behind_front, front-whole, ten, reading, read-is, read-whole-is}
+use Rattle.ion_value.proofs.TextDigits.{int_of_read, int-text, zero_first, whole-is, and-true, suc-eqb, prefix, behind_prefix, prefix-whole, ten, reading, read-is, read-whole-is}
 
 -- ---- the parts of a number
 
@@ -31,22 +31,22 @@ apart-point b e = grind (arith, nat_tests)
 mark-no_point : (b : ℕ) → is_exponent_mark b ≡ true → is_point b ≡ false
 mark-no_point b e = grind (arith, nat_tests)
 
-pub cut-front : (test : ℕ → Bool) (bytes ys : List ℕ) → ((b : ℕ) → (is_digit b || b == 95) ≡ true → test b ≡ false)
-    → cut_at test (front is_digit bytes ++ ys) ≡ (front is_digit bytes ++ (cut_at test ys).0, (cut_at test ys).1)
-unfolding cut_at front
-cut-front test [] ys apart = refl
-cut-front test (b ∷ bytes) ys apart = elim (cases_Bool (is_digit b || b == 95)) [
-  | inl e ↦ rw (e, apart b e, cut-front test bytes ys apart) refl
+pub cut-prefix : (test : ℕ → Bool) (bytes ys : List ℕ) → ((b : ℕ) → (is_digit b || b == 95) ≡ true → test b ≡ false)
+    → cut_at test (prefix is_digit bytes ++ ys) ≡ (prefix is_digit bytes ++ (cut_at test ys).0, (cut_at test ys).1)
+unfolding cut_at prefix
+cut-prefix test [] ys apart = refl
+cut-prefix test (b ∷ bytes) ys apart = elim (cases_Bool (is_digit b || b == 95)) [
+  | inl e ↦ rw (e, apart b e, cut-prefix test bytes ys apart) refl
   | inr e ↦ rw e refl
 ]
 
 abbrev pub make_parts : List ℕ → List ℕ → List ℕ → Parts
 make_parts whole fraction power = record { whole = whole; fraction = fraction; power = power }
 
-pub parts-front : (bytes ys : List ℕ) → parts_of (front is_digit bytes ++ ys) ≡ make_parts (front is_digit bytes ++ (parts_of ys).whole) (parts_of ys).fraction (parts_of ys).power
+pub parts-prefix : (bytes ys : List ℕ) → parts_of (prefix is_digit bytes ++ ys) ≡ make_parts (prefix is_digit bytes ++ (parts_of ys).whole) (parts_of ys).fraction (parts_of ys).power
 unfolding parts_of
-parts-front bytes ys =
-    rw (cut-front is_exponent_mark bytes ys apart-mark, cut-front is_point bytes (cut_at is_exponent_mark ys).0 apart-point) refl
+parts-prefix bytes ys =
+    rw (cut-prefix is_exponent_mark bytes ys apart-mark, cut-prefix is_point bytes (cut_at is_exponent_mark ys).0 apart-point) refl
 
 parts-mark : (c : ℕ) (ys : List ℕ) → is_exponent_mark c ≡ true → parts_of (c ∷ ys) ≡ make_parts [] [] (c ∷ ys)
 unfolding parts_of cut_at
@@ -115,11 +115,11 @@ value-both xs ys =
 abbrev pub goes_on : ℕ → Bool
 goes_on b = is_digit b || b == 95
 
-stops-front : (bytes : List ℕ) → first_is goes_on (behind_front is_digit bytes) ≡ false
-unfolding behind_front
-stops-front [] = refl
-stops-front (b ∷ bytes) = elim (cases_Bool (is_digit b || b == 95)) [
-  | inl e ↦ rw e (stops-front bytes)
+stops-prefix : (bytes : List ℕ) → first_is goes_on (behind_prefix is_digit bytes) ≡ false
+unfolding behind_prefix
+stops-prefix [] = refl
+stops-prefix (b ∷ bytes) = elim (cases_Bool (is_digit b || b == 95)) [
+  | inl e ↦ rw e (stops-prefix bytes)
   | inr e ↦ rw e e
 ]
 
@@ -189,24 +189,24 @@ bad-anyway make refuses true n k c ys e = sym (refuses n k c ys e)
 bad-anyway make refuses false n k c ys e = refl
 
 -- digits behind a point, and what ends them
-fraction-front : (make : Makes) → Refuses make → (xs tail rest : List ℕ) → 0 < length (front is_digit tail) → first_is goes_on rest ≡ false
-    → made_of_point make xs (cut_at is_exponent_mark (front is_digit tail ++ rest)) ≡ digits_made make xs (front is_digit tail) rest
-fraction-front make refuses xs tail [] some stops =
-    rw (cut-front is_exponent_mark tail [] apart-mark, cut-nil, append-nil) (fraction-digits make xs (front is_digit tail) [] some)
-fraction-front make refuses xs tail (c ∷ rest) some stops = elim (cases_Bool (is_exponent_mark c)) [
-  | inl e ↦ rw (cut-front is_exponent_mark tail (c ∷ rest) apart-mark, cut-mark c rest e, append-nil) (fraction-digits make xs (front is_digit tail) (c ∷ rest) some)
+fraction-prefix : (make : Makes) → Refuses make → (xs tail rest : List ℕ) → 0 < length (prefix is_digit tail) → first_is goes_on rest ≡ false
+    → made_of_point make xs (cut_at is_exponent_mark (prefix is_digit tail ++ rest)) ≡ digits_made make xs (prefix is_digit tail) rest
+fraction-prefix make refuses xs tail [] some stops =
+    rw (cut-prefix is_exponent_mark tail [] apart-mark, cut-nil, append-nil) (fraction-digits make xs (prefix is_digit tail) [] some)
+fraction-prefix make refuses xs tail (c ∷ rest) some stops = elim (cases_Bool (is_exponent_mark c)) [
+  | inl e ↦ rw (cut-prefix is_exponent_mark tail (c ∷ rest) apart-mark, cut-mark c rest e, append-nil) (fraction-digits make xs (prefix is_digit tail) (c ∷ rest) some)
   | inr e ↦
-      rw (cut-front is_exponent_mark tail (c ∷ rest) apart-mark, cut-other c rest e, fraction-bad (front is_digit tail) c (cut_at is_exponent_mark rest).0 stops) (
-      bad-anyway make refuses (are_digits is_digit (front is_digit tail)) _ _ c rest e
+      rw (cut-prefix is_exponent_mark tail (c ∷ rest) apart-mark, cut-other c rest e, fraction-bad (prefix is_digit tail) c (cut_at is_exponent_mark rest).0 stops) (
+      bad-anyway make refuses (are_digits is_digit (prefix is_digit tail)) _ _ c rest e
       )
 ]
 
-front-some : (d : ℕ) (ys : List ℕ) → is_digit d ≡ true → 0 < length (front is_digit (d ∷ ys))
-unfolding front
-front-some d ys e = rw e (omega arith)
+prefix-some : (d : ℕ) (ys : List ℕ) → is_digit d ≡ true → 0 < length (prefix is_digit (d ∷ ys))
+unfolding prefix
+prefix-some d ys e = rw e (omega arith)
 
 read-fraction-digit : (n d : ℕ) (tail : List ℕ) → is_digit d ≡ true → read_fraction n (d ∷ tail)
-    ≡ (if are_digits is_digit (front is_digit (d ∷ tail)) then Some (reading 10 n 0 is_digit (d ∷ tail)) else None)
+    ≡ (if are_digits is_digit (prefix is_digit (d ∷ tail)) then Some (reading 10 n 0 is_digit (d ∷ tail)) else None)
 read-fraction-digit n d tail e = rw e (read-is 10 n 0 false is_digit (d ∷ tail) ten)
 
 -- what stands behind a point, by what is read there
@@ -214,9 +214,9 @@ point-read : (make : Makes) → Refuses make → (xs tail : List ℕ) → made_o
 point-read make refuses xs [] = rw (cut-nil, value-whole xs) refl
 point-read make refuses xs (d ∷ tail) = elim (cases_Bool (is_digit d)) [
   | inl e ↦
-      let parts = fraction-front make refuses xs (d ∷ tail) (behind_front is_digit (d ∷ tail)) (front-some d tail e) (stops-front (d ∷ tail)) in
-      ap (λ (zs : List ℕ). made_of_point make xs (cut_at is_exponent_mark zs)) (front-whole is_digit (d ∷ tail)) ∙ parts
-      ∙ sym (made-if make (are_digits is_digit (front is_digit (d ∷ tail))) (reading 10 (whole_number xs) 0 is_digit (d ∷ tail)))
+      let parts = fraction-prefix make refuses xs (d ∷ tail) (behind_prefix is_digit (d ∷ tail)) (prefix-some d tail e) (stops-prefix (d ∷ tail)) in
+      ap (λ (zs : List ℕ). made_of_point make xs (cut_at is_exponent_mark zs)) (prefix-whole is_digit (d ∷ tail)) ∙ parts
+      ∙ sym (made-if make (are_digits is_digit (prefix is_digit (d ∷ tail))) (reading 10 (whole_number xs) 0 is_digit (d ∷ tail)))
       ∙ ap (made make) (sym (read-fraction-digit (whole_number xs) d tail e))
   | inr e ↦ elim (cases_Bool (is_exponent_mark d)) [
     | inl f ↦ rw (cut-mark d tail f, value-whole xs) (rw e refl)
@@ -260,15 +260,15 @@ point-made make refuses xs tail =
     rw (append-nil xs, pointed, when-and (is_whole xs) (is_fraction (46 ∷ (cut_at is_exponent_mark tail).0))) (ap (when (is_whole xs)) (point-read (make true) refuses xs tail))
 
 rest-read : (make : Bool → Makes) → Refuses (make true) → Refuses (make false) → (bytes ys : List ℕ) → first_is goes_on ys ≡ false
-    → parts_made make (parts_of (front is_digit bytes ++ ys)) ≡ when (is_whole (front is_digit bytes)) (rest_made make (whole_number (front is_digit bytes)) ys)
-rest-read make pointed plain bytes [] stops = rw (parts-front bytes [], parts-nil) (plain-made make (front is_digit bytes) [])
+    → parts_made make (parts_of (prefix is_digit bytes ++ ys)) ≡ when (is_whole (prefix is_digit bytes)) (rest_made make (whole_number (prefix is_digit bytes)) ys)
+rest-read make pointed plain bytes [] stops = rw (parts-prefix bytes [], parts-nil) (plain-made make (prefix is_digit bytes) [])
 rest-read make pointed plain bytes (c ∷ tail) stops = elim (cases_Bool (is_exponent_mark c)) [
-  | inl e ↦ rw (parts-front bytes (c ∷ tail), parts-mark c tail e, mark-no_point c e) (plain-made make (front is_digit bytes) (c ∷ tail))
+  | inl e ↦ rw (parts-prefix bytes (c ∷ tail), parts-mark c tail e, mark-no_point c e) (plain-made make (prefix is_digit bytes) (c ∷ tail))
   | inr e ↦ elim (cases_Bool (is_point c)) [
-    | inl f ↦ rw (eqb-true c 46 f, parts-front bytes (46 ∷ tail), parts-point tail) (point-made make pointed (front is_digit bytes) tail)
+    | inl f ↦ rw (eqb-true c 46 f, parts-prefix bytes (46 ∷ tail), parts-point tail) (point-made make pointed (prefix is_digit bytes) tail)
     | inr f ↦
-        rw (parts-front bytes (c ∷ tail), parts-other c tail e f, whole-bad (front is_digit bytes) c (cut_at is_point (cut_at is_exponent_mark tail).0).0 stops, f) (
-        bad-anyway (make false) plain (is_whole (front is_digit bytes)) (whole_number (front is_digit bytes)) 0 c tail e
+        rw (parts-prefix bytes (c ∷ tail), parts-other c tail e f, whole-bad (prefix is_digit bytes) c (cut_at is_point (cut_at is_exponent_mark tail).0).0 stops, f) (
+        bad-anyway (make false) plain (is_whole (prefix is_digit bytes)) (whole_number (prefix is_digit bytes)) 0 c tail e
         )
   ]
 ]
@@ -279,9 +279,9 @@ if-made make false r = refl
 
 mantissa-made : (make : Bool → Makes) → Refuses (make true) → Refuses (make false) → (bytes : List ℕ) → parts_made make (parts_of bytes) ≡ whole_made make (read_whole bytes)
 mantissa-made make pointed plain bytes =
-    ap (λ (zs : List ℕ). parts_made make (parts_of zs)) (front-whole is_digit bytes)
-    ∙ rest-read make pointed plain bytes (behind_front is_digit bytes) (stops-front bytes)
-    ∙ sym (if-made make (is_whole (front is_digit bytes)) (reading 10 0 0 is_digit bytes))
+    ap (λ (zs : List ℕ). parts_made make (parts_of zs)) (prefix-whole is_digit bytes)
+    ∙ rest-read make pointed plain bytes (behind_prefix is_digit bytes) (stops-prefix bytes)
+    ∙ sym (if-made make (is_whole (prefix is_digit bytes)) (reading 10 0 0 is_digit bytes))
     ∙ ap (whole_made make) (sym (read-whole-is bytes))
 
 -- the decimal of bytes, by the digits that are read at their front
@@ -338,12 +338,12 @@ filter-full (x ∷ xs) h = elim (cases_Bool (is_digit x)) [
   | inr e ↦ let less = simp e at h in absurd (omega (arith, filter-le xs))
 ]
 
-pub all-front : (xs : List ℕ) → all_are is_digit xs ≡ true → front is_digit xs ≡ xs
-unfolding front
-all-front [] e = refl
-all-front (x ∷ xs) e =
+pub all-prefix : (xs : List ℕ) → all_are is_digit xs ≡ true → prefix is_digit xs ≡ xs
+unfolding prefix
+all-prefix [] e = refl
+all-prefix (x ∷ xs) e =
     let parts = and_parts (is_digit x) (all_are is_digit xs) e in
-    simp parts.0 (ap (λ ys. x ∷ ys) (all-front xs parts.1))
+    simp parts.0 (ap (λ ys. x ∷ ys) (all-prefix xs parts.1))
 
 pub all-filter : (xs : List ℕ) → all_are is_digit xs ≡ true → filter is_digit xs ≡ xs
 all-filter [] e = refl
@@ -365,30 +365,30 @@ all-some x xs e =
 pub all-value : (xs : List ℕ) → all_are is_digit xs ≡ true → digits_value 10 xs ≡ spelled xs
 all-value xs e = ap (λ ys. number 10 (map digit_value (filter (λ b. not (b == 95)) ys))) (sym (all-filter xs e)) ∙ ap (λ ys. number 10 (map digit_value ys)) (filter-digits xs)
 
-front-length : (xs : List ℕ) → length xs ≡ length (front is_digit xs) + length (behind_front is_digit xs)
-front-length xs = ap (λ (ys : List ℕ). length ys) (front-whole is_digit xs) ∙ simp length-append refl
+prefix-length : (xs : List ℕ) → length xs ≡ length (prefix is_digit xs) + length (behind_prefix is_digit xs)
+prefix-length xs = ap (λ (ys : List ℕ). length ys) (prefix-whole is_digit xs) ∙ simp length-append refl
 
 -- digits alone are read to their end
 digits-read : (d : ℕ) (ds : List ℕ) → all_are is_digit (d ∷ ds) ≡ true
-    → read_digits 10 0 false 0 (d ∷ ds) ≡ Some (reading 10 0 0 is_digit (d ∷ ds)) × length (filter is_digit (front is_digit (d ∷ ds))) ≡ length (d ∷ ds)
+    → read_digits 10 0 false 0 (d ∷ ds) ≡ Some (reading 10 0 0 is_digit (d ∷ ds)) × length (filter is_digit (prefix is_digit (d ∷ ds))) ≡ length (d ∷ ds)
 digits-read d ds e =
     let xs : List ℕ = d ∷ ds in
-    let whole : are_digits is_digit (front is_digit (d ∷ ds)) ≡ true = rw (all-front (d ∷ ds) e) (all-some d ds e) in (
+    let whole : are_digits is_digit (prefix is_digit (d ∷ ds)) ≡ true = rw (all-prefix (d ∷ ds) e) (all-some d ds e) in (
       rw (read-is 10 0 0 false is_digit (d ∷ ds) ten, whole) refl,
-      rw (all-front (d ∷ ds) e, all-filter (d ∷ ds) e) refl,
+      rw (all-prefix (d ∷ ds) e, all-filter (d ∷ ds) e) refl,
     )
 
 -- what is read to its end with a digit in each place is digits alone
 read-all : (ds : List ℕ) (r : Read) → read_digits 10 0 false 0 ds ≡ Some r → r.count ≡ length ds → (all_are is_digit ds ≡ true) × (digits_value 10 ds ≡ r.number)
-read-all ds r e full = elim (cases_Bool (are_digits is_digit (front is_digit ds))) [
+read-all ds r e full = elim (cases_Bool (are_digits is_digit (prefix is_digit ds))) [
   | inl f ↦
       let is : Some (reading 10 0 0 is_digit ds) ≡ Some r = sym (rw f at (read-is 10 0 0 false is_digit ds ten)) ∙ e in
       let same : reading 10 0 0 is_digit ds ≡ r = cc in
-      let count : 0 + length (filter is_digit (front is_digit ds)) ≡ r.count = ap (λ (s : Read). s.count) same in
-      let none : length (behind_front is_digit ds) ≡ 0 = omega (arith, filter-le (front is_digit ds), front-length ds) in
-      let all : front is_digit ds ≡ ds = sym (front-whole is_digit ds ∙ rw (nil_from_length (behind_front is_digit ds) none, append-nil) refl) in
+      let count : 0 + length (filter is_digit (prefix is_digit ds)) ≡ r.count = ap (λ (s : Read). s.count) same in
+      let none : length (behind_prefix is_digit ds) ≡ 0 = omega (arith, filter-le (prefix is_digit ds), prefix-length ds) in
+      let all : prefix is_digit ds ≡ ds = sym (prefix-whole is_digit ds ∙ rw (nil_from_length (behind_prefix is_digit ds) none, append-nil) refl) in
       let digits : all_are is_digit ds ≡ true = filter-full ds (omega (arith, ap (λ (xs : List ℕ). length (filter is_digit xs)) all)) in
-      let number : 0 * 10 ^ length (filter is_digit (front is_digit ds)) + spelled (front is_digit ds) ≡ r.number = ap (λ (s : Read). s.number) same in (
+      let number : 0 * 10 ^ length (filter is_digit (prefix is_digit ds)) + spelled (prefix is_digit ds) ≡ r.number = ap (λ (s : Read). s.number) same in (
         digits,
         all-value ds digits ∙ sym (ap spelled all) ∙ omega arith,
       )
@@ -435,7 +435,7 @@ exponent-more bytes ds n k rest e read less =
     let is = digits-read d xs (rw f at all) in
     let both : Some (reading 10 0 0 is_digit (d ∷ xs)) ≡ Some (record { number = n; count = k; rest = rest }) = sym is.0 ∙ ap (λ (ys : List ℕ). read_digits 10 0 false 0 ys) (sym f) ∙ read in
     let same : reading 10 0 0 is_digit (d ∷ xs) ≡ record { number = n; count = k; rest = rest } = cc in
-    let count : 0 + length (filter is_digit (front is_digit (d ∷ xs))) ≡ k = ap (λ (s : Read). s.count) same in
+    let count : 0 + length (filter is_digit (prefix is_digit (d ∷ xs))) ≡ k = ap (λ (s : Read). s.count) same in
     less (omega (arith, is.1, ap (λ (ys : List ℕ). length ys) f)))
 
 -- what stands behind a mantissa: nothing, or an exponent
@@ -605,7 +605,7 @@ power-written (negsuc n) within =
     rw next (power-minus n (decimal (suc n)) (spells (suc n) (omega (arith, ints))))
 
 parts-written : (ds text : List ℕ) → all_are is_digit ds ≡ true → parts_of (ds ++ (100 ∷ text)) ≡ make_parts (ds ++ []) [] (100 ∷ text)
-parts-written ds text digits = rw (all-front ds digits, parts-mark 100 text refl) at (parts-front ds (100 ∷ text))
+parts-written ds text digits = rw (all-prefix ds digits, parts-mark 100 text refl) at (parts-prefix ds (100 ∷ text))
 
 behind-written : (negative : Bool) (n : ℕ) (e : ℤ) (text : List ℕ) → Power e text → decimal_behind negative n 0 false (100 ∷ text) ≡ decimal_in_range negative n e
 behind-written negative n e text w =

@@ -92,19 +92,19 @@ hex-value values b all byte place small =
 -- ---- what is read, in terms of the digits at the front
 
 -- the digits and underscores at the front of bytes, and the bytes behind them
-unfoldable pub front : (ℕ → Bool) → List ℕ → List ℕ
-front digit [] = []
-front digit (b ∷ bytes) = if digit b || b == 95 then b ∷ front digit bytes else []
+unfoldable pub prefix : (ℕ → Bool) → List ℕ → List ℕ
+prefix digit [] = []
+prefix digit (b ∷ bytes) = if digit b || b == 95 then b ∷ prefix digit bytes else []
 
-unfoldable pub behind_front : (ℕ → Bool) → List ℕ → List ℕ
-behind_front digit [] = []
-behind_front digit (b ∷ bytes) = if digit b || b == 95 then behind_front digit bytes else b ∷ bytes
+unfoldable pub behind_prefix : (ℕ → Bool) → List ℕ → List ℕ
+behind_prefix digit [] = []
+behind_prefix digit (b ∷ bytes) = if digit b || b == 95 then behind_prefix digit bytes else b ∷ bytes
 
-pub front-whole : (digit : ℕ → Bool) (bytes : List ℕ) → bytes ≡ front digit bytes ++ behind_front digit bytes
-unfolding front behind_front
-front-whole digit [] = refl
-front-whole digit (b ∷ bytes) = elim (cases_Bool (digit b || b == 95)) [
-  | inl e ↦ rw e (ap (λ xs. b ∷ xs) (front-whole digit bytes))
+pub prefix-whole : (digit : ℕ → Bool) (bytes : List ℕ) → bytes ≡ prefix digit bytes ++ behind_prefix digit bytes
+unfolding prefix behind_prefix
+prefix-whole digit [] = refl
+prefix-whole digit (b ∷ bytes) = elim (cases_Bool (digit b || b == 95)) [
+  | inl e ↦ rw e (ap (λ xs. b ∷ xs) (prefix-whole digit bytes))
   | inr e ↦ rw e refl
 ]
 
@@ -112,17 +112,17 @@ pub suc-eqb : (n : ℕ) → (suc n == 0) ≡ false
 suc-eqb n = ne_eqb (suc n) 0 (λ e. absurd (omega arith))
 
 -- digits of a sort with single underscores are those at the front, where nothing stands behind them
-pub digits-front : (digit : ℕ → Bool) (behind : Bool) (bytes : List ℕ)
-    → digits_from behind digit bytes ≡ (digits_from behind digit (front digit bytes) && length (behind_front digit bytes) == 0)
-unfolding front behind_front
-digits-front digit true [] = refl
-digits-front digit false [] = refl
-digits-front digit behind (b ∷ bytes) = elim (cases_Bool (digit b)) [
-  | inl e ↦ simp e (digits-front digit true bytes)
+pub digits-prefix : (digit : ℕ → Bool) (behind : Bool) (bytes : List ℕ)
+    → digits_from behind digit bytes ≡ (digits_from behind digit (prefix digit bytes) && length (behind_prefix digit bytes) == 0)
+unfolding prefix behind_prefix
+digits-prefix digit true [] = refl
+digits-prefix digit false [] = refl
+digits-prefix digit behind (b ∷ bytes) = elim (cases_Bool (digit b)) [
+  | inl e ↦ simp e (digits-prefix digit true bytes)
   | inr e ↦ elim (cases_Bool (b == 95)) [
     | inl f ↦ simp (e, f) (
-        elim behind as (λ v. (v && digits_from false digit bytes) ≡ ((v && digits_from false digit (front digit bytes)) && length (behind_front digit bytes) == 0)) [
-          | true ↦ digits-front digit false bytes
+        elim behind as (λ v. (v && digits_from false digit bytes) ≡ ((v && digits_from false digit (prefix digit bytes)) && length (behind_prefix digit bytes) == 0)) [
+          | true ↦ digits-prefix digit false bytes
           | false ↦ refl
         ]
         )
@@ -133,8 +133,8 @@ digits-front digit behind (b ∷ bytes) = elim (cases_Bool (digit b)) [
 -- what is read where the digits at the front have no other underscores
 abbrev pub reading : ℕ → ℕ → ℕ → (ℕ → Bool) → List ℕ → Read
 reading base n k digit bytes =
-    let ds = filter digit (front digit bytes) in
-    record { number = n * base ^ length ds + number base (map digit_value ds); count = k + length ds; rest = behind_front digit bytes }
+    let ds = filter digit (prefix digit bytes) in
+    record { number = n * base ^ length ds + number base (map digit_value ds); count = k + length ds; rest = behind_prefix digit bytes }
 
 abbrev make_read : ℕ → ℕ → List ℕ → Read
 make_read n k rest = record { number = n; count = k; rest = rest }
@@ -145,14 +145,14 @@ same_read n m j k rest e f = ap (λ (i : ℕ). make_read i j rest) e ∙ ap (λ 
 number-step : (base n v rest l m : ℕ) → m ≡ l → (n * base + v) * base ^ l + rest ≡ n * base ^ suc l + (v * base ^ m + rest)
 number-step base n v rest l m e = rw (e, pow-suc) (omega arith)
 
-reading-digit : (base n k : ℕ) (digit : ℕ → Bool) (b : ℕ) (bytes : List ℕ) → let ds : List ℕ = filter digit (front digit bytes) in
+reading-digit : (base n k : ℕ) (digit : ℕ → Bool) (b : ℕ) (bytes : List ℕ) → let ds : List ℕ = filter digit (prefix digit bytes) in
     reading base (n * base + digit_value b) (k + 1) digit bytes
-    ≡ make_read (n * base ^ suc (length ds) + (digit_value b * base ^ length (map digit_value ds) + number base (map digit_value ds))) (k + suc (length ds)) (behind_front digit bytes)
+    ≡ make_read (n * base ^ suc (length ds) + (digit_value b * base ^ length (map digit_value ds) + number base (map digit_value ds))) (k + suc (length ds)) (behind_prefix digit bytes)
 reading-digit base n k digit b bytes =
-    let ds : List ℕ = filter digit (front digit bytes) in
+    let ds : List ℕ = filter digit (prefix digit bytes) in
     let long : length (map digit_value ds) ≡ length ds = simp length-map in
     let value = number-step base n (digit_value b) (number base (map digit_value ds)) (length ds) (length (map digit_value ds)) long in
-    same_read _ _ _ _ (behind_front digit bytes) value (omega arith)
+    same_read _ _ _ _ (behind_prefix digit bytes) value (omega arith)
 
 reading-nothing : (base n k : ℕ) (bytes : List ℕ) → make_read n k bytes ≡ make_read (n * base ^ 0 + 0) (k + 0) bytes
 reading-nothing base n k bytes =
@@ -161,18 +161,18 @@ reading-nothing base n k bytes =
 
 -- what is read
 pub read-is : (base n k : ℕ) (behind : Bool) (digit : ℕ → Bool) (bytes : List ℕ) → ((b : ℕ) → is_digit_of base b ≡ digit b)
-    → read_digits base n behind k bytes ≡ (if digits_from behind digit (front digit bytes) then Some (reading base n k digit bytes) else None)
-unfolding read_digits front behind_front
+    → read_digits base n behind k bytes ≡ (if digits_from behind digit (prefix digit bytes) then Some (reading base n k digit bytes) else None)
+unfolding read_digits prefix behind_prefix
 read-is base n k behind digit [] same = ap (λ (r : Read). if behind then Some r else None) (reading-nothing base n k [])
 read-is base n k behind digit (b ∷ bytes) same = elim (cases_Bool (digit b)) [
   | inl e ↦ simp (same b, e) (
       read-is base (n * base + digit_value b) (k + 1) true digit bytes same
-      ∙ ap (λ (r : Read). if digits_from true digit (front digit bytes) then Some r else None) (reading-digit base n k digit b bytes)
+      ∙ ap (λ (r : Read). if digits_from true digit (prefix digit bytes) then Some r else None) (reading-digit base n k digit b bytes)
       )
   | inr e ↦ elim (cases_Bool (b == 95)) [
     | inl f ↦ simp (same b, e, f) (
         elim behind as (λ v. (if v then read_digits base n false k bytes else read_end n v k (b ∷ bytes))
-        ≡ (if v && digits_from false digit (front digit bytes) then Some (reading base n k digit bytes) else None)) [
+        ≡ (if v && digits_from false digit (prefix digit bytes) then Some (reading base n k digit bytes) else None)) [
           | true ↦ read-is base n k false digit bytes same
           | false ↦ refl
         ]
@@ -207,26 +207,26 @@ two-no_underscore b e = grind (arith, nat_tests)
 
 -- ---- what digits spell
 
-filter-front : (digit : ℕ → Bool) (bytes : List ℕ) → NoUnderscore digit → filter (λ b. not (b == 95)) (front digit bytes) ≡ filter digit (front digit bytes)
-unfolding front
-filter-front digit [] no_underscore = refl
-filter-front digit (b ∷ bytes) no_underscore = elim (cases_Bool (digit b)) [
-  | inl e ↦ simp (e, no_underscore b e) (ap (λ xs. b ∷ xs) (filter-front digit bytes no_underscore))
+filter-prefix : (digit : ℕ → Bool) (bytes : List ℕ) → NoUnderscore digit → filter (λ b. not (b == 95)) (prefix digit bytes) ≡ filter digit (prefix digit bytes)
+unfolding prefix
+filter-prefix digit [] no_underscore = refl
+filter-prefix digit (b ∷ bytes) no_underscore = elim (cases_Bool (digit b)) [
+  | inl e ↦ simp (e, no_underscore b e) (ap (λ xs. b ∷ xs) (filter-prefix digit bytes no_underscore))
   | inr e ↦ elim (cases_Bool (b == 95)) [
-    | inl f ↦ simp (e, f) (filter-front digit bytes no_underscore)
+    | inl f ↦ simp (e, f) (filter-prefix digit bytes no_underscore)
     | inr f ↦ simp (e, f) refl
   ]
 ]
 
-pub value-front : (base : ℕ) (digit : ℕ → Bool) (bytes : List ℕ) → NoUnderscore digit
-    → digits_value base (front digit bytes) ≡ number base (map digit_value (filter digit (front digit bytes)))
-value-front base digit bytes no_underscore = ap (λ xs. number base (map digit_value xs)) (filter-front digit bytes no_underscore)
+pub value-prefix : (base : ℕ) (digit : ℕ → Bool) (bytes : List ℕ) → NoUnderscore digit
+    → digits_value base (prefix digit bytes) ≡ number base (map digit_value (filter digit (prefix digit bytes)))
+value-prefix base digit bytes no_underscore = ap (λ xs. number base (map digit_value xs)) (filter-prefix digit bytes no_underscore)
 
--- nothing behind the front
-front-all : (digit : ℕ → Bool) (bytes : List ℕ) → (length (behind_front digit bytes) == 0) ≡ true → front digit bytes ≡ bytes
-front-all digit bytes e =
-    let none : behind_front digit bytes ≡ [] = nil_from_length (behind_front digit bytes) (eqb-true _ 0 e) in
-    sym (front-whole digit bytes ∙ rw (none, append-nil) refl)
+-- nothing behind the prefix
+prefix-all : (digit : ℕ → Bool) (bytes : List ℕ) → (length (behind_prefix digit bytes) == 0) ≡ true → prefix digit bytes ≡ bytes
+prefix-all digit bytes e =
+    let none : behind_prefix digit bytes ≡ [] = nil_from_length (behind_prefix digit bytes) (eqb-true _ 0 e) in
+    sym (prefix-whole digit bytes ∙ rw (none, append-nil) refl)
 
 -- ---- ints
 
@@ -239,15 +239,15 @@ int_of_read negative (Some r) = if length r.rest == 0 then int_in_range negative
 int-based : (base : ℕ) (digit : ℕ → Bool) (negative : Bool) (bytes : List ℕ) → ((b : ℕ) → is_digit_of base b ≡ digit b) → NoUnderscore digit
     → (if are_digits digit bytes then int_in_range negative (digits_value base bytes) else Err BadToken) ≡ int_of_read negative (read_digits base 0 false 0 bytes)
 int-based base digit negative bytes same no_underscore =
-    elim (cases_Bool (digits_from false digit (front digit bytes))) [
-      | inl e ↦ elim (cases_Bool (length (behind_front digit bytes) == 0)) [
+    elim (cases_Bool (digits_from false digit (prefix digit bytes))) [
+      | inl e ↦ elim (cases_Bool (length (behind_prefix digit bytes) == 0)) [
         | inl f ↦
-            let value : digits_value base bytes ≡ 0 * base ^ length (filter digit (front digit bytes)) + number base (map digit_value (filter digit (front digit bytes)))
-            = ap (λ xs. digits_value base xs) (sym (front-all digit bytes f)) ∙ value-front base digit bytes no_underscore ∙ omega arith in
-            rw (read-is base 0 0 false digit bytes same, digits-front digit false bytes, e, f) (ap (int_in_range negative) value)
-        | inr f ↦ rw (read-is base 0 0 false digit bytes same, digits-front digit false bytes, e, f) refl
+            let value : digits_value base bytes ≡ 0 * base ^ length (filter digit (prefix digit bytes)) + number base (map digit_value (filter digit (prefix digit bytes)))
+            = ap (λ xs. digits_value base xs) (sym (prefix-all digit bytes f)) ∙ value-prefix base digit bytes no_underscore ∙ omega arith in
+            rw (read-is base 0 0 false digit bytes same, digits-prefix digit false bytes, e, f) (ap (int_in_range negative) value)
+        | inr f ↦ rw (read-is base 0 0 false digit bytes same, digits-prefix digit false bytes, e, f) refl
       ]
-      | inr e ↦ rw (read-is base 0 0 false digit bytes same, digits-front digit false bytes, e) refl
+      | inr e ↦ rw (read-is base 0 0 false digit bytes same, digits-prefix digit false bytes, e) refl
     ]
 
 pub and-true : (x : Bool) → (x && true) ≡ x
@@ -363,27 +363,27 @@ whole-is (b ∷ c ∷ bytes) = elim (cases_Bool (b == 48)) [
   | inr e ↦ simp e refl
 ]
 
-first-front : (bytes : List ℕ) → first_is (λ b. is_digit b || b == 95) (front is_digit bytes) ≡ first_is (λ b. is_digit b || b == 95) bytes
-unfolding front
-first-front [] = refl
-first-front (b ∷ bytes) = elim (cases_Bool (is_digit b || b == 95)) [
+first-prefix : (bytes : List ℕ) → first_is (λ b. is_digit b || b == 95) (prefix is_digit bytes) ≡ first_is (λ b. is_digit b || b == 95) bytes
+unfolding prefix
+first-prefix [] = refl
+first-prefix (b ∷ bytes) = elim (cases_Bool (is_digit b || b == 95)) [
   | inl e ↦ rw e e
   | inr e ↦ rw e refl
 ]
 
-zero_first-front : (bytes : List ℕ) → zero_first (front is_digit bytes) ≡ zero_first bytes
-unfolding front
-zero_first-front [] = refl
-zero_first-front (b ∷ bytes) = elim (cases_Bool (b == 48)) [
-  | inl e ↦ rw (eqb-true b 48 e) (first-front bytes)
+zero_first-prefix : (bytes : List ℕ) → zero_first (prefix is_digit bytes) ≡ zero_first bytes
+unfolding prefix
+zero_first-prefix [] = refl
+zero_first-prefix (b ∷ bytes) = elim (cases_Bool (b == 48)) [
+  | inl e ↦ rw (eqb-true b 48 e) (first-prefix bytes)
   | inr e ↦ elim (cases_Bool (is_digit b || b == 95)) [
     | inl f ↦ rw f (and_left (b == 48) _ e ∙ sym (and_left (b == 48) _ e))
     | inr f ↦ rw f (sym (and_left (b == 48) _ e))
   ]
 ]
 
-pub read-whole-is : (bytes : List ℕ) → read_whole bytes ≡ (if is_whole (front is_digit bytes) then Some (reading 10 0 0 is_digit bytes) else None)
+pub read-whole-is : (bytes : List ℕ) → read_whole bytes ≡ (if is_whole (prefix is_digit bytes) then Some (reading 10 0 0 is_digit bytes) else None)
 read-whole-is bytes = elim (cases_Bool (zero_first bytes)) [
-  | inl e ↦ rw (whole-is (front is_digit bytes), zero_first-front bytes, e, and_right (are_digits is_digit (front is_digit bytes)) false refl) refl
-  | inr e ↦ rw (whole-is (front is_digit bytes), zero_first-front bytes, e, and-true (are_digits is_digit (front is_digit bytes))) (read-is 10 0 0 false is_digit bytes ten)
+  | inl e ↦ rw (whole-is (prefix is_digit bytes), zero_first-prefix bytes, e, and_right (are_digits is_digit (prefix is_digit bytes)) false refl) refl
+  | inr e ↦ rw (whole-is (prefix is_digit bytes), zero_first-prefix bytes, e, and-true (are_digits is_digit (prefix is_digit bytes))) (read-is 10 0 0 false is_digit bytes ten)
 ]

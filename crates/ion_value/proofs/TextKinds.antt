@@ -107,11 +107,11 @@ dated-parts _ (dated a b c d x rest p q r s e) =
     let m = digit-alone c r in
     let n = digit-alone d s in
     let o = mark-alone x e in
-    let front = (cut_at is_exponent_mark rest).0 in
+    let prefix = (cut_at is_exponent_mark rest).0 in
     let mark = cut-five is_exponent_mark a b c d x rest k.exponent l.exponent m.exponent n.exponent o.0 in
-    let point = cut-five is_point a b c d x front k.point l.point m.point n.point o.1 in
+    let point = cut-five is_point a b c d x prefix k.point l.point m.point n.point o.1 in
     let whole = ap (λ xs. (cut_at is_point xs).0) mark ∙ point in
-    ap (λ xs. is_whole xs) whole ∙ dated-whole (a ∷ b ∷ c ∷ d ∷ x ∷ (cut_at is_point front).0) (dated a b c d x (cut_at is_point front).0 p q r s e)
+    ap (λ xs. is_whole xs) whole ∙ dated-whole (a ∷ b ∷ c ∷ d ∷ x ∷ (cut_at is_point prefix).0) (dated a b c d x (cut_at is_point prefix).0 p q r s e)
 
 dated-decimal : (run : List ℕ) → BeginsDated run → decimal_of_text run ≡ Err BadToken
 unfolding decimal_of_text

@@ -10,8 +10,8 @@ use Rattle.ion_value.specs.declared.timestamp_text.Digits.{Digits}
 use Rattle.ion_value.specs.Number.{number}
 use Rattle.ion_value.specs.Digits.{is_digit, digit_value, first_is, all_are, cut_at}
 use Rattle.ion_value.specs.Timestamp.{is_offset_mark, has_offset_shape}
-use Rattle.ion_value.specs.TimestampRuns.{with_offset, with_fraction, with_point, behind_second, AreFront, is_no_digit}
-use Rattle.ion_value.proofs.FrontDigits.{cut-parts, all_are-append}
+use Rattle.ion_value.specs.TimestampRuns.{with_offset, with_fraction, with_point, behind_second, AreLeading, is_no_digit}
+use Rattle.ion_value.proofs.LeadingDigits.{cut-parts, all_are-append}
 
 -- ---- marks of an offset
 
@@ -104,16 +104,16 @@ point-cut t ds bytes n _ all value (other s o no_digits none) =
     let bad : all_are is_digit (ds ++ s) ≡ false = rw (all_are-append is_digit ds s, no_digits) (and-false (all_are is_digit ds)) in
     fraction-bad t (length ds) n bytes none ∙ sym (point-bad t (ds ++ s) o bad)
 
-pub second-fraction : (t : Timestamp) (bytes fraction : List ℕ) (d : Digits) → bytes ≡ 46 ∷ fraction → AreFront fraction d → with_fraction t d.count d.number d.rest.now ≡ behind_second t bytes
+pub second-fraction : (t : Timestamp) (bytes fraction : List ℕ) (d : Digits) → bytes ≡ 46 ∷ fraction → AreLeading fraction d → with_fraction t d.count d.number d.rest.now ≡ behind_second t bytes
 unfolding cut_at
-second-fraction t bytes fraction d is front =
+second-fraction t bytes fraction d is prefix =
     let parts = cut-parts fraction in
     let ds = (cut_at is_no_digit fraction).0 in
     let rest = (cut_at is_no_digit fraction).1 in
-    let value : nat_le (length ds) 38 ≡ true → d.number ≡ number 10 (map digit_value ds) = rw front.count at front.value in
+    let value : nat_le (length ds) 38 ≡ true → d.number ≡ number 10 (map digit_value ds) = rw prefix.count at prefix.value in
     let step = point-cut t ds rest d.number (cut_at is_offset_mark rest) parts.0 value (behind-digits rest parts.1) in
     let cut = sym (mark-cut ds rest parts.0) ∙ ap (λ xs. cut_at is_offset_mark xs) parts.2 in
-    rw (front.count, front.rest, is) (step ∙ ap (λ (c : List ℕ × List ℕ). with_point t (46 ∷ c.0) c.1) cut)
+    rw (prefix.count, prefix.rest, is) (step ∙ ap (λ (c : List ℕ × List ℕ). with_point t (46 ∷ c.0) c.1) cut)
 
 pub second-offset : (t : Timestamp) (bytes : List ℕ) → (length bytes < 1) ⊎ (get_or bytes 0 0 ≢ 46) → with_offset t bytes ≡ behind_second t bytes
 unfolding cut_at

@@ -16,7 +16,7 @@ use Rattle.ion_value.specs.TimestampRuns.{two_digits, four_digits, unread, with_
 use Rattle.ion_value.proofs.Numbers.{number-append_one}
 use Rattle.ion_value.proofs.TimestampOctets.{is_moment-true}
 use Rattle.ion_value.proofs.FixedDigits.{fixed_digits-two, fixed_digits-four, length-fixed_digits}
-use Rattle.ion_value.proofs.FrontDigits.{all_are-append}
+use Rattle.ion_value.proofs.LeadingDigits.{all_are-append}
 use Rattle.ion_value.proofs.TimestampText.{offset-some, two_digits-some}
 use Rattle.ion_value.proofs.TextParts.{fraction-mark, second-offset}
 use Rattle.ion_value.proofs.TextStages.{minute-plain, minute-offset, day-plain, month-plain, year_month-plain, year-plain, from_year-text}
@@ -50,13 +50,13 @@ pub number-fixed_digits : (count n : ℕ) → n < 10 ^ count → number 10 (map 
 unfolding fixed_digits
 number-fixed_digits zero n small = omega arith
 number-fixed_digits (suc count) n small =
-    let front : n / 10 < 10 ^ count = omega (arith, pow-suc 10 count) in
+    let prefix : n / 10 < 10 ^ count = omega (arith, pow-suc 10 count) in
     let last = digit-plus (n % 10) (omega arith) in
     rw (
       map-append digit_value (fixed_digits count (n / 10)) ((48 + n % 10) ∷ []),
       number-append_one 10 (map digit_value (fixed_digits count (n / 10))) (digit_value (48 + n % 10)),
       last.1,
-      number-fixed_digits count (n / 10) front,
+      number-fixed_digits count (n / 10) prefix,
     ) (omega arith)
 
 -- ---- one part after the other

@@ -1,4 +1,4 @@
--- What a reading comes to, where each item is put by a writer or refused by it.
+-- The verdict and the output of a reading, where each item is put by a writer or refused by it.
 use Rattle.std.specs.Prelude.{ℕ, ◌+◌, List, [], ◌∷◌, ◌++◌, Option, Some, None}
 use Rattle.ion_meter.specs.declared.fault.Reason.{Reason}
 use Rattle.ion_value.specs.declared.ion_type.Kind.{Kind}

@@ -14,12 +14,12 @@ pub data Path (S P : Type 0) : Type 0 where
   opened : (tops : List (Top S P)) → (first : P) → (nest : Nest S P) → Path S P
 
 abbrev pub begin_item : {S P : Type 0} → P → Option S → List S → P → Kind → Item S P
-begin_item top f notes place kind = record { field = f; annotations = notes; head = begin kind; place = place; top = top }
+begin_item top f annotations place kind = record { field = f; annotations = annotations; head = begin kind; place = place; top = top }
 
 abbrev pub nest_items : {S P : Type 0} → P → Nest S P → List (Item S P)
-nest_items top (outermost notes place kind members) = begin_item top None notes place kind ∷ member_items top members
-nest_items top (inner around f notes place kind members) =
-    nest_items top around ++ begin_item top f notes place kind ∷ member_items top members
+nest_items top (outermost annotations place kind members) = begin_item top None annotations place kind ∷ member_items top members
+nest_items top (inner around f annotations place kind members) =
+    nest_items top around ++ begin_item top f annotations place kind ∷ member_items top members
 
 -- the items of a path, which has none for the ends of its open containers
 abbrev pub path_items : {S P : Type 0} → Path S P → List (Item S P)
@@ -29,23 +29,23 @@ path_items (opened tops first nest) = top_items tops ++ nest_items first nest
 -- ---- one item more
 
 abbrev pub with_member : {S P : Type 0} → Nest S P → Option S → List S → P → Value S P → Nest S P
-with_member (outermost notes place kind members) f own at value = outermost notes place kind (member members f own at value)
-with_member (inner around g notes place kind members) f own at value = inner around g notes place kind (member members f own at value)
+with_member (outermost annotations place kind members) f own at value = outermost annotations place kind (member members f own at value)
+with_member (inner around g annotations place kind members) f own at value = inner around g annotations place kind (member members f own at value)
 
 abbrev pub with_end : {S P : Type 0} → List (Top S P) → P → Nest S P → P → Path S P
-with_end tops first (outermost notes place kind members) last = closed (tops ++ tree first notes place (container kind members last) ∷ [])
-with_end tops first (inner around f notes place kind members) last =
-    opened tops first (with_member around f notes place (container kind members last))
+with_end tops first (outermost annotations place kind members) last = closed (tops ++ tree first annotations place (container kind members last) ∷ [])
+with_end tops first (inner around f annotations place kind members) last =
+    opened tops first (with_member around f annotations place (container kind members last))
 
 abbrev pub with_head : {S P : Type 0} → Path S P → Option S → List S → P → P → Head S → Path S P
-with_head (closed tops) f notes place top (whole body) = closed (tops ++ tree top notes place (scalar body) ∷ [])
-with_head (closed tops) f notes place top (begin kind) = opened tops top (outermost notes place kind nothing)
-with_head (closed tops) f notes place top end = closed tops
-with_head (closed tops) f notes place top marker = closed (tops ++ version place ∷ [])
-with_head (opened tops first nest) f notes place top (whole body) = opened tops first (with_member nest f notes place (scalar body))
-with_head (opened tops first nest) f notes place top (begin kind) = opened tops first (inner nest f notes place kind nothing)
-with_head (opened tops first nest) f notes place top end = with_end tops first nest place
-with_head (opened tops first nest) f notes place top marker = opened tops first nest
+with_head (closed tops) f annotations place top (whole body) = closed (tops ++ tree top annotations place (scalar body) ∷ [])
+with_head (closed tops) f annotations place top (begin kind) = opened tops top (outermost annotations place kind nothing)
+with_head (closed tops) f annotations place top end = closed tops
+with_head (closed tops) f annotations place top marker = closed (tops ++ version place ∷ [])
+with_head (opened tops first nest) f annotations place top (whole body) = opened tops first (with_member nest f annotations place (scalar body))
+with_head (opened tops first nest) f annotations place top (begin kind) = opened tops first (inner nest f annotations place kind nothing)
+with_head (opened tops first nest) f annotations place top end = with_end tops first nest place
+with_head (opened tops first nest) f annotations place top marker = opened tops first nest
 
 abbrev pub with_item : {S P : Type 0} → Path S P → Item S P → Path S P
 with_item path item = with_head path item.field item.annotations item.place item.top item.head
@@ -58,9 +58,9 @@ path_of items = fold with_item (closed []) items
 
 -- the top-level values with the one that is open, each container closed behind what is added to its members
 abbrev pub close_all : {S P : Type 0} → List (Top S P) → P → P → (Members S P → Members S P) → Nest S P → List (Top S P)
-close_all tops first last add (outermost notes place kind members) = tops ++ tree first notes place (container kind (add members) last) ∷ []
-close_all tops first last add (inner around f notes place kind members) =
-    close_all tops first last (λ before. member before f notes place (container kind (add members) last)) around
+close_all tops first last add (outermost annotations place kind members) = tops ++ tree first annotations place (container kind (add members) last) ∷ []
+close_all tops first last add (inner around f annotations place kind members) =
+    close_all tops first last (λ before. member before f annotations place (container kind (add members) last)) around
 
 abbrev pub closing : {S P : Type 0} → P → Path S P → List (Top S P)
 closing last (closed tops) = tops

@@ -32,7 +32,7 @@ InRange (string bytes) = ⊤
 InRange (clob bytes) = ⊤
 InRange (blob bytes) = ⊤
 
--- so many containers may be open, and of these kinds there are some: none ends that did not begin, and a marker stands at top level
+-- so many containers may be open, and of these kinds there are some: none ends that did not begin, and a version marker stands at top level
 abbrev pub HasPlace : {S : Type 0} → ℕ → List Kind → Head S → Type 0
 HasPlace depth kinds (whole body) = InRange body
 HasPlace depth kinds (begin kind) = length kinds < depth
@@ -47,17 +47,17 @@ has_field kinds end = false
 has_field kinds marker = false
 
 -- and an end or a marker has no annotations
-abbrev pub HasNotes : {S : Type 0} → Head S → List S → Type 0
-HasNotes (whole body) notes = ⊤
-HasNotes (begin kind) notes = ⊤
-HasNotes end notes = notes ≡ []
-HasNotes marker notes = notes ≡ []
+abbrev pub HasAnnotations : {S : Type 0} → Head S → List S → Type 0
+HasAnnotations (whole body) annotations = ⊤
+HasAnnotations (begin kind) annotations = ⊤
+HasAnnotations end annotations = annotations ≡ []
+HasAnnotations marker annotations = annotations ≡ []
 
 -- an item may come where these containers are open
 pub record Fits {S P : Type 0} (depth : ℕ) (kinds : List Kind) (item : Item S P) : Type 0 where
   pub place : HasPlace depth kinds item.head
   pub field : is_some item.field ≡ has_field kinds item.head
-  pub notes : HasNotes item.head item.annotations
+  pub annotations : HasAnnotations item.head item.annotations
 
 abbrev pub is_marker : {S : Type 0} → Head S → Bool
 is_marker marker = true

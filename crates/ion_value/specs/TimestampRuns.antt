@@ -22,7 +22,7 @@ four_digits a b c d =
 abbrev pub unread : Timestamp
 unread = fields Year 0 1 1 0 0 0 0
 
--- what a step comes to that leaves a timestamp, or fails
+-- what a step gives that leaves a timestamp, or fails
 abbrev pub outcome : Result (Unit {0}) Reason → Timestamp → Result Timestamp Reason
 outcome (Ok _) t = Ok t
 outcome (Err e) t = Err e
@@ -113,7 +113,7 @@ abbrev pub is_no_digit : ℕ → Bool
 is_no_digit b = not (is_digit b)
 
 -- the digits at the front of bytes, with their number where there are at most 38
-pub record AreFront (bytes : List ℕ) (digits : Digits) : Type 0 where
+pub record AreLeading (bytes : List ℕ) (digits : Digits) : Type 0 where
   pub count : digits.count ≡ length (cut_at is_no_digit bytes).0
   pub rest : digits.rest.now ≡ (cut_at is_no_digit bytes).1
   pub value : nat_le digits.count 38 ≡ true → digits.number ≡ number 10 (map digit_value (cut_at is_no_digit bytes).0)

@@ -71,17 +71,17 @@ bare_item head place top = record { field = None; annotations = []; head = head;
 abbrev mutual
   -- the items of a value, in the top-level value that begins at a place
   pub value_items : {S P : Type 0} → P → Option S → List S → P → Value S P → List (Item S P)
-  value_items top f notes place (scalar body) = record { field = f; annotations = notes; head = whole body; place = place; top = top } ∷ []
-  value_items top f notes place (container kind members last) =
-      record { field = f; annotations = notes; head = begin kind; place = place; top = top } ∷ (member_items top members ++ bare_item end last top ∷ [])
+  value_items top f annotations place (scalar body) = record { field = f; annotations = annotations; head = whole body; place = place; top = top } ∷ []
+  value_items top f annotations place (container kind members last) =
+      record { field = f; annotations = annotations; head = begin kind; place = place; top = top } ∷ (member_items top members ++ bare_item end last top ∷ [])
 
   pub member_items : {S P : Type 0} → P → Members S P → List (Item S P)
   member_items top nothing = []
-  member_items top (member before f notes place value) = member_items top before ++ value_items top f notes place value
+  member_items top (member before f annotations place value) = member_items top before ++ value_items top f annotations place value
 
 abbrev pub one_top : {S P : Type 0} → Top S P → List (Item S P)
 one_top (version place) = bare_item marker place place ∷ []
-one_top (tree first notes place value) = value_items first None notes place value
+one_top (tree first annotations place value) = value_items first None annotations place value
 
 abbrev pub top_items : {S P : Type 0} → List (Top S P) → List (Item S P)
 top_items [] = []
@@ -121,8 +121,8 @@ abbrev mutual
 
   pub map_members : {S T P Q : Type 0} → (S → T) → (P → Q) → Members S P → Members T Q
   map_members f g nothing = nothing
-  map_members f g (member before field notes place value) =
-      member (map_members f g before) (option_map f field) (map f notes) (g place) (map_value f g value)
+  map_members f g (member before field annotations place value) =
+      member (map_members f g before) (option_map f field) (map f annotations) (g place) (map_value f g value)
 
 -- what a symbol is to a user who knows no other texts: an id is unknown
 abbrev pub user_symbol : Symbol → UserSymbol

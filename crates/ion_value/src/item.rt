@@ -50,7 +50,7 @@ pub enum Annotation {
 }
 
 /// What an item is: a value without members, the beginning or the end of a container, or a version
-/// marker.
+/// version marker.
 #[derive(Clone, Copy, Debug, PartialEq, Eq)]
 pub enum Head<'a> {
     /// The null of a type.
@@ -340,32 +340,32 @@ mod tests {
 
     #[test]
     fn gives_ids_as_they_are(rt: HostRuntime) {
-        let notes = Annotations::new(&ENTRIES, b"abcd", &NoNames);
-        let item = Item::new(Some(id(10, 5)), notes, Head::Symbol(id(10, 13)), 13, 5);
+        let annotations = Annotations::new(&ENTRIES, b"abcd", &NoNames);
+        let item = Item::new(Some(id(10, 5)), annotations, Head::Symbol(id(10, 13)), 13, 5);
         assert_eq!(rt; item.field(), Some(id(10, 5)));
         assert_eq!(rt; item.head(), Head::Symbol(id(10, 13)));
         assert_eq!(rt; item.place(), 13);
         assert_eq!(rt; item.top(), 5);
-        let notes = item.annotations();
-        assert_eq!(rt; notes.len(), 3);
-        assert!(rt; !notes.is_empty());
-        assert_eq!(rt; notes.get(0), Some(text(b"bc", 7)));
-        assert_eq!(rt; notes.get(1), Some(id(10, 11)));
-        assert_eq!(rt; notes.get(3), None);
+        let annotations = item.annotations();
+        assert_eq!(rt; annotations.len(), 3);
+        assert!(rt; !annotations.is_empty());
+        assert_eq!(rt; annotations.get(0), Some(text(b"bc", 7)));
+        assert_eq!(rt; annotations.get(1), Some(id(10, 11)));
+        assert_eq!(rt; annotations.get(3), None);
         assert!(rt; Annotations::new(&[], &[], &NoNames).is_empty());
         assert_eq!(rt; NoNames.text_of(10), None);
     }
 
     #[test]
     fn gives_ids_as_their_texts(rt: HostRuntime) {
-        let notes = Annotations::new(&ENTRIES, b"abcd", &NoNames);
-        let raw = Item::new(Some(id(10, 5)), notes, Head::Symbol(id(10, 13)), 13, 5);
+        let annotations = Annotations::new(&ENTRIES, b"abcd", &NoNames);
+        let raw = Item::new(Some(id(10, 5)), annotations, Head::Symbol(id(10, 13)), 13, 5);
         let item = raw.with_names(&OneName);
         assert_eq!(rt; item.field(), Some(text(b"name", 5)));
         assert_eq!(rt; item.head(), Head::Symbol(text(b"name", 13)));
-        let notes = item.annotations();
-        assert_eq!(rt; notes.get(0), Some(text(b"bc", 7)));
-        assert_eq!(rt; notes.get(1), Some(text(b"name", 11)));
-        assert_eq!(rt; notes.get(2), Some(id(11, 12)));
+        let annotations = item.annotations();
+        assert_eq!(rt; annotations.get(0), Some(text(b"bc", 7)));
+        assert_eq!(rt; annotations.get(1), Some(text(b"name", 11)));
+        assert_eq!(rt; annotations.get(2), Some(id(11, 12)));
     }
 }

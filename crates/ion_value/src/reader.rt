@@ -21,11 +21,11 @@ use std::alloc::Allocator;
 /// `next` takes the next item and `item` lends it. At the end `next` answers false, and from then
 /// on. After a fault each call of `next` answers it again and changes nothing.
 ///
-/// What the laws say of the items holds where the device tells its bytes. All else, that is which
-/// items may stand where, the causes of faults and the memory that is held, holds always.
+/// What the laws say of the items holds where the device's bytes are observable. All else, that is
+/// which items may stand where, the causes of faults and the memory that is held, holds always.
 pub trait RawReader<A: Allocator + Copy> {
-    /// Its device tells its bytes.
-    ghost tells: { Self → Type 0 };
+    /// Its device's bytes are observable.
+    ghost observable: { Self → Type 0 };
 
     /// The items to come, and how they end.
     ghost reading: { Self → Reading };
@@ -77,18 +77,18 @@ pub trait RawReader<A: Allocator + Copy> {
         requires countable { meter.old.refused < 2 ^ 64 - 1 }
         requires sound { sound self.old }
         ensures sound { sound self.new }
-        ensures tells { tells self.new ↔ tells self.old }
+        ensures observable { observable self.new ↔ observable self.old }
 
         // The items, and how they end.
-        ensures gives { tells self.old → result ≡ Ok true
+        ensures gives { observable self.old → result ≡ Ok true
             → reading self.old ≡ More (current self.new) (reading self.new) }
-        ensures ends { tells self.old → result ≡ Ok false
+        ensures ends { observable self.old → result ≡ Ok false
             → (reading self.old ≡ Finished) × (reading self.new ≡ Finished) }
-        ensures refuses { tells self.old → failed self.old ≡ None → (r : Reason) (p : ℕ)
+        ensures refuses { observable self.old → failed self.old ≡ None → (r : Reason) (p : ℕ)
             → result ≡ Err (Refused r p) → reading self.old ≡ Stopped r p }
         ensures lends { result ≡ Ok true → lends self.new }
 
-        // Each step, whatever the device tells.
+        // Each step, whether the device's bytes are observable or not.
         ensures fits { result ≡ Ok true
             → Fits (depth self.old) (opened self.old) (current self.new) }
         ensures opens { result ≡ Ok true

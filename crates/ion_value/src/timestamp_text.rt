@@ -4,7 +4,7 @@ ghost use Rattle.jiff_core.specs.Calendar.{IsCivilDate};
 ghost use Rattle.ion_value.specs.Number.{number};
 ghost use Rattle.ion_value.specs.Digits.{digit_value, first_is, all_are, is_digit, fixed_digits};
 ghost use Rattle.ion_value.specs.Timestamp.{IsTimestamp, IsMoment, IsOffset, date_in_range, has_offset_shape, time_in_range, timestamp_of_text, day_text, minute_text, second_text, minutes_text, offset_text, timestamp_text};
-ghost use Rattle.ion_value.specs.TimestampRuns.{outcome, with_offset, with_fraction, behind_second, behind_minute, behind_day, behind_month, behind_year, from_year, offset_in_range, offset_of, IsOffsetOf, AreDigits, AreFront, month_text};
+ghost use Rattle.ion_value.specs.TimestampRuns.{outcome, with_offset, with_fraction, behind_second, behind_minute, behind_day, behind_month, behind_year, from_year, offset_in_range, offset_of, IsOffsetOf, AreDigits, AreLeading, month_text};
 ghost use Rattle.ion_value.specs.TimestampRuns as spec;
 ghost use Rattle.arrayvec.specs.ArrayString.{array_string_len};
 
@@ -171,7 +171,7 @@ fn read_fraction(timestamp: &mut Timestamp, bytes: &[u8]) -> Result<(), Reason>
     ensures { outcome result timestamp.new ≡ behind_second timestamp.old bytes.now }
 {
     match bytes {
-        [b'.', fraction @ ..] => read_behind_digits(timestamp, front_digits(fraction)),
+        [b'.', fraction @ ..] => read_behind_digits(timestamp, leading_digits(fraction)),
         _ => read_offset(timestamp, bytes),
     }
 }
@@ -331,8 +331,8 @@ struct Digits<'a> {
 
 // The digits at the front of these bytes.
 #[inline]
-fn front_digits(bytes: &[u8]) -> Digits<'_>
-    ensures { AreFront bytes.now result }
+fn leading_digits(bytes: &[u8]) -> Digits<'_>
+    ensures { AreLeading bytes.now result }
 {
     let (number, count) = few_digits(bytes);
     if count < DIGITS_IN_64_BITS {
@@ -348,8 +348,8 @@ fn front_digits(bytes: &[u8]) -> Digits<'_>
 // The digits at the front, behind nineteen that spell this number.
 #[cold]
 fn more_digits(high: u64, bytes: &[u8]) -> Digits<'_>
-    ensures { (front : List ℕ) → length front ≡ DIGITS_IN_64_BITS → all_are is_digit front ≡ true
-        → number 10 (map digit_value front) ≡ high → AreFront (front ++ bytes.now) result }
+    ensures { (prefix : List ℕ) → length prefix ≡ DIGITS_IN_64_BITS → all_are is_digit prefix ≡ true
+        → number 10 (map digit_value prefix) ≡ high → AreLeading (prefix ++ bytes.now) result }
 {
     let (low, count) = few_digits(bytes);
     let number = high as u128 * 10u64.pow(count as u32) as u128 + low as u128;
@@ -368,16 +368,16 @@ fn few_digits(bytes: &[u8]) -> (u64, usize)
     ensures digits { AreDigits DIGITS_IN_64_BITS bytes.now result.1 }
     ensures value { result.0 ≡ number 10 (map digit_value (take result.1 bytes.now)) }
 {
-    let front = &bytes[..bytes.len().min(DIGITS_IN_64_BITS)];
+    let prefix = &bytes[..bytes.len().min(DIGITS_IN_64_BITS)];
     let mut number: u64 = 0;
-    for (i, byte) in front.iter().enumerate() {
+    for (i, byte) in prefix.iter().enumerate() {
         let digit = byte.wrapping_sub(b'0');
         if digit > 9 {
             return (number, i);
         }
         number = number * 10 + digit as u64;
     }
-    (number, front.len())
+    (number, prefix.len())
 }
 
 // How many digits there are at the front of these bytes.

@@ -29,9 +29,9 @@ pub fn var_uint_read(bytes: &[u8]) -> Result<(u64, usize), Reason>
     ensures refused { IfErr result (λ r. (r ≡ Reason.BadVar)
         × ((n k : ℕ) → VarUInt n (take k bytes.now) → ⊥)) }
 {
-    let front = &bytes[..bytes.len().min(LONGEST)];
+    let prefix = &bytes[..bytes.len().min(LONGEST)];
     let mut value: u64 = 0;
-    for (i, byte) in front.iter().enumerate() {
+    for (i, byte) in prefix.iter().enumerate() {
         if *byte >= 128 {
             return Ok((value * 128 + (*byte - 128) as u64, i + 1));
         }

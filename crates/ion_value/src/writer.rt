@@ -4,7 +4,7 @@ ghost use Rattle.ion_meter.specs.declared.fault.Reason.{Reason};
 ghost use Rattle.ion_meter.specs.declared.fault.Fault.{Fault};
 ghost use Rattle.ion_meter.specs.declared.fault.Fault.TheVariants.{Refused, WriteFault};
 ghost use Rattle.ion_meter.specs.declared.limits.Limits.{Limits};
-ghost use Rattle.ion_meter.specs.Windows.{so_far, Puts, BeginsWith};
+ghost use Rattle.ion_meter.specs.Windows.{so_far, Puts, HasPrefix};
 ghost use Rattle.ion_value.specs.Value.{PlacedItem};
 ghost use Rattle.ion_value.specs.Items.{item_of};
 ghost use Rattle.ion_value.specs.Shares.{Charges, WriteCauses, fault_of};
@@ -59,10 +59,10 @@ pub trait ValueWriter<O: Output, A: Allocator + Copy> {
         ensures sound { sound self.new }
         ensures stands { OnOk result (stands self.new [] × (sink.old.fault ≡ None)
             × (sink.new.fault ≡ None)) }
-        ensures puts { OnOk result (O.tells sink.old.device
+        ensures puts { OnOk result (O.observable sink.old.device
             → so_far O.written sink.new ≡ so_far O.written sink.old ++ puts (limits self.old) []) }
         ensures part { sink.old.fault ≡ None
-            → Puts O.written O.tells sink.old sink.new (puts (limits self.old) []) }
+            → Puts O.written O.observable sink.old sink.new (puts (limits self.old) []) }
         ensures device { sink.old.fault ≡ None
             → OnErr result ((result ≡ Err WriteFault)
             × (O.failure_count sink.old.device < O.failure_count sink.new.device)) }
@@ -73,8 +73,8 @@ pub trait ValueWriter<O: Output, A: Allocator + Copy> {
         ensures own { own self.new ≡ own self.old }
         ensures most { most self.new ≡ most self.old };
 
-    /// Takes an item that is no marker and may stand behind those taken before, and puts what is
-    /// whole by it.
+    /// Takes an item that is no version marker and may stand behind those taken before, and puts
+    /// what is whole by it.
     ///
     /// It refuses what its limits do not allow, before anything of the item is put, and answers
     /// `Memory` where a growth was refused and `WriteFault` where the device failed.
@@ -100,11 +100,11 @@ pub trait ValueWriter<O: Output, A: Allocator + Copy> {
             × (refusal (limits self.old) path (item_of N.text item.now) ≡ None)) }
         ensures puts { (path : List PlacedItem) → stands self.old path
             → Continues (limits self.old) path (item_of N.text item.now)
-            → OnOk result (O.tells sink.old.device → so_far O.written sink.new
+            → OnOk result (O.observable sink.old.device → so_far O.written sink.new
             ≡ so_far O.written sink.old ++ adds (limits self.old) path (item_of N.text item.now)) }
         ensures part { sink.old.fault ≡ None → (path : List PlacedItem) → stands self.old path
             → Continues (limits self.old) path (item_of N.text item.now)
-            → Puts O.written O.tells sink.old sink.new
+            → Puts O.written O.observable sink.old sink.new
             (adds (limits self.old) path (item_of N.text item.now)) }
         ensures refuses { failed self.old ≡ None → sink.old.fault ≡ None → (path : List PlacedItem)
             → stands self.old path → Continues (limits self.old) path (item_of N.text item.now)

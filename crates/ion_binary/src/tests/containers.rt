@@ -1,4 +1,4 @@
-//! Containers and pads, each row behind a version marker.
+//! Containers and NOP pads, each row behind a version marker.
 
 use super::LIMITS;
 use super::mangling::mangle_tables;
@@ -92,7 +92,7 @@ const STRUCTS: &[Row] = &[
     ),
 ];
 
-const PADS: &[Row] = &[
+const NOP_PADS: &[Row] = &[
     ("00 11 01 FF 10", "5/5 true; 8/8 false; end"),
     ("0E 80 11", "6/6 true; end"),
     ("0E 83 FF 00 E0 11", "9/9 true; end"),
@@ -118,7 +118,7 @@ const PADS: &[Row] = &[
     ("D1 82 84 00", "4/4 begin struct; 8/4 end; end"),
 ];
 
-pub const TABLES: [&[Row]; 3] = [LISTS, STRUCTS, PADS];
+pub const TABLES: [&[Row]; 3] = [LISTS, STRUCTS, NOP_PADS];
 
 #[test]
 fn reads_containers(rt: HostRuntime) -> Result<(), Fail> {

@@ -29,17 +29,17 @@ pub const DECLARED: &[Row] = &[
         "E8 81 83 D5 87 B3 8F 81 61 71 0A 71 0B",
         "13/13 symbol 10@13; 15/15 symbol 'a'@15; end",
     ),
-    // A container too, and what stands in it means nothing.
+    // A container too, and what stands in it is ignored.
     (
         "EE 90 81 83 DD 87 BB B8 21 01 81 63 D3 84 21 02 81 64 71 0A 71 0B 71 0C",
         "22/22 symbol 10@22; 24/24 symbol 'd'@24; BadSymbol at 26",
     ),
-    // Annotations of an element mean nothing.
+    // Annotations of an element are ignored.
     (
         "EA 81 83 D7 87 B5 E4 81 84 81 62 71 0A",
         "15/15 symbol 'b'@15; end",
     ),
-    // A list that means nothing, in a field that does not.
+    // A list that is ignored, in a field that does not.
     (
         "EE 8F 81 83 DC 84 B6 21 05 B3 B1 11 10 87 B2 81 61 71 0A",
         "21/21 symbol 'a'@21; end",
@@ -68,7 +68,7 @@ pub const PLAIN: &[Row] = &[
         "71 01 71 09",
         "4/4 symbol '$ion'@4; 6/6 symbol '$ion_shared_symbol_table'@6; end",
     ),
-    // A field id before a pad names nothing.
+    // A field id before a NOP pad names nothing.
     (
         "D5 80 01 FF 84 11",
         "4/4 begin struct; 9/4 'name'@8: true; 10/4 end; end",

@@ -78,7 +78,7 @@ pub const FOUND: &[Row] = &[
         "EC 81 83 D9 86 B7 D6 84 81 78 88 21 01 EA 81 83 D7 87 B2 81 62 86 71 03 71 0A 71 0B",
         "28/28 symbol 'p'@28; 30/30 symbol 'b'@30; end",
     ),
-    // The order of the fields means nothing.
+    // The order of the fields is ignored.
     (
         "EE 94 81 83 DE 90 87 B2 81 61 86 BA D9 88 21 02 85 21 01 84 81 78 71 0C 71 0A",
         "26/26 symbol 'a'@26; 28/28 symbol 'p'@28; end",

@@ -29,9 +29,9 @@ fn with_zeros(
     Ok(stream)
 }
 
-// A pad of 8,388,608 octets.
+// A NOP pad of 8,388,608 octets.
 #[test]
-fn a_pad_is_not_held(rt: HostRuntime) -> Result<(), Fail> {
+fn a_nop_pad_is_not_held(rt: HostRuntime) -> Result<(), Fail> {
     let alloc = rt.alloc();
     let stream = with_zeros(&rt, alloc, "0E 04 00 00 80", 8_388_608, "")?;
     let limits = Limits {
@@ -151,7 +151,7 @@ const DENSE: [&str; 7] = [
     "E0 01 00 EA D3 8A 82 C3",
 ];
 
-// A stream behind a version marker and a pad, so that it begins at a place in the first window.
+// A stream behind a version marker and a NOP pad, so that it begins at a place in the first window.
 fn beginning_at(
     rt: &impl Abort,
     alloc: Global,

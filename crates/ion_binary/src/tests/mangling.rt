@@ -10,18 +10,19 @@ use std::alloc::Global;
 use std::process::Abort;
 use std::test::Fail;
 
-// Asserts that a front of a stream gives a front of its items, and ends well only between values at
-// top level. Where such a value begins it ends well; else it is cut, or has the fault of the stream.
-fn expect_front(rt: &impl Abort, front: &Outcome, length: u64, whole: &Outcome) {
+// Asserts that a prefix of a stream gives a prefix of its items, and ends well only between values
+// at top level. Where such a value begins it ends well; else it is cut, or has the fault of the
+// stream.
+fn expect_prefix(rt: &impl Abort, prefix: &Outcome, length: u64, whole: &Outcome) {
     assert!(rt;
-        whole.items.as_str().starts_with(front.items.as_str()),
+        whole.items.as_str().starts_with(prefix.items.as_str()),
         "{length}"
     );
-    let next = whole.tops.as_slice().get(front.tops.len()).copied();
+    let next = whole.tops.as_slice().get(prefix.tops.len()).copied();
     let begins = whole.tops.as_slice().contains(&length);
-    match front.ending {
+    match prefix.ending {
         Ok(()) => {
-            assert_eq!(rt; front.open, 0);
+            assert_eq!(rt; prefix.open, 0);
             assert!(rt; next.is_none_or(|top| top >= length), "{length}");
         }
         Err(Fault::Refused(Reason::Truncated, place)) => {
@@ -33,14 +34,14 @@ fn expect_front(rt: &impl Abort, front: &Outcome, length: u64, whole: &Outcome) 
     }
 }
 
-// Reads each front of these octets, in whatever pieces it comes.
-fn read_fronts(rt: &impl Abort, alloc: Global, limits: Limits, octets: &[u8]) -> Result<(), Fail> {
+// Reads each prefix of these octets, in whatever pieces it comes.
+fn read_prefixes(rt: &impl Abort, alloc: Global, limits: Limits, octets: &[u8]) -> Result<(), Fail> {
     let whole = read(rt, alloc, limits, Pieces::whole(octets))?;
     for length in 0..octets.len() {
-        let front = &octets[..length];
-        let outcome = read(rt, alloc, limits, Pieces::whole(front))?;
-        expect_front(rt, &outcome, length as u64, &whole);
-        expect_same(rt, alloc, limits, front, &outcome)?;
+        let prefix = &octets[..length];
+        let outcome = read(rt, alloc, limits, Pieces::whole(prefix))?;
+        expect_prefix(rt, &outcome, length as u64, &whole);
+        expect_same(rt, alloc, limits, prefix, &outcome)?;
     }
     Ok(())
 }
@@ -71,7 +72,7 @@ pub fn mangle(
     limits: Limits,
     mut octets: Vec<u8>,
 ) -> Result<(), Fail> {
-    read_fronts(rt, alloc, limits, octets.as_slice())?;
+    read_prefixes(rt, alloc, limits, octets.as_slice())?;
     read_replaced(rt, alloc, limits, octets.as_mut_slice())
 }
 

@@ -38,7 +38,7 @@ impl Read for Repeating<'_> {
 
 // A field without a meaning that is a list of 100,000 numbers, and a symbol.
 #[test]
-fn what_means_nothing_is_not_held(rt: HostRuntime) -> Result<(), Fail> {
+fn what_is_ignored_is_not_held(rt: HostRuntime) -> Result<(), Fail> {
     let alloc = rt.alloc();
     let catalog = catalog_of(&rt, alloc, Versions::None)?;
     let first = behind_marker(&rt, alloc, "EE 0C 1A CF 81 83 DE 0C 1A C9 84 BE 0C 1A C0")?;

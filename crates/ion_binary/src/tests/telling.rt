@@ -154,10 +154,10 @@ pub fn tell_item<N: Names>(
         tell_symbol(words, field, from)?;
         words.push_str(": ")?;
     }
-    let notes = item.annotations();
-    for index in 0..notes.len() {
-        if let Some(note) = notes.get(index) {
-            tell_symbol(words, note, from)?;
+    let annotations = item.annotations();
+    for index in 0..annotations.len() {
+        if let Some(annotation) = annotations.get(index) {
+            tell_symbol(words, annotation, from)?;
             words.push_str(":: ")?;
         }
     }

@@ -22,21 +22,21 @@ const TABLES: [(&[Row], Versions); 5] = [
     (FOUND, Versions::First),
 ];
 
-// Asserts that a front of a stream gives a front of its items, and ends as the raw reader does unless
-// it has the fault of the whole.
-fn expect_front(rt: &impl Abort, front: &Outcome, raw: &Outcome, whole: &Outcome, length: usize) {
+// Asserts that a prefix of a stream gives a prefix of its items, and ends as the raw reader does
+// unless it has the fault of the whole.
+fn expect_prefix(rt: &impl Abort, prefix: &Outcome, raw: &Outcome, whole: &Outcome, length: usize) {
     assert!(rt;
-        whole.items.as_str().starts_with(front.items.as_str()),
+        whole.items.as_str().starts_with(prefix.items.as_str()),
         "{length}"
     );
-    if front.ending != raw.ending {
-        assert!(rt; front.ending == whole.ending, "{length}");
-        assert!(rt; front.items.as_str() == whole.items.as_str(), "{length}");
+    if prefix.ending != raw.ending {
+        assert!(rt; prefix.ending == whole.ending, "{length}");
+        assert!(rt; prefix.items.as_str() == whole.items.as_str(), "{length}");
     }
 }
 
 #[test]
-fn a_front_of_a_stream_gives_a_front_of_its_items(rt: HostRuntime) -> Result<(), Fail> {
+fn a_prefix_of_a_stream_gives_a_prefix_of_its_items(rt: HostRuntime) -> Result<(), Fail> {
     let alloc = rt.alloc();
     for (rows, versions) in TABLES {
         let catalog = catalog_of(&rt, alloc, versions)?;
@@ -50,9 +50,9 @@ fn a_front_of_a_stream_gives_a_front_of_its_items(rt: HostRuntime) -> Result<(),
             let whole = read(&rt, alloc, setting, Pieces::whole(octets))?;
             for length in 0..octets.len() {
                 let input = Pieces::whole(&octets[..length]);
-                let front = read(&rt, alloc, setting, input)?;
+                let prefix = read(&rt, alloc, setting, input)?;
                 let raw = reading::read(&rt, alloc, LIMITS, input)?;
-                expect_front(&rt, &front, &raw, &whole, length);
+                expect_prefix(&rt, &prefix, &raw, &whole, length);
             }
         }
     }
@@ -72,12 +72,12 @@ fn a_cut_stream_ends_as_the_raw_one_does(rt: HostRuntime) -> Result<(), Fail> {
     let octets = octets.as_slice();
     for length in 0..octets.len() {
         let input = Pieces::whole(&octets[..length]);
-        let front = read(&rt, alloc, setting, input)?;
+        let prefix = read(&rt, alloc, setting, input)?;
         let raw = reading::read(&rt, alloc, LIMITS, input)?;
-        assert_eq!(rt; front.ending, raw.ending, "{length}");
+        assert_eq!(rt; prefix.ending, raw.ending, "{length}");
         let between = [0, 4, 15, 26, 28].as_slice().contains(&length);
-        assert_eq!(rt; front.ending.is_ok(), between, "{length}");
-        expect_same(&rt, alloc, setting, &octets[..length], &front)?;
+        assert_eq!(rt; prefix.ending.is_ok(), between, "{length}");
+        expect_same(&rt, alloc, setting, &octets[..length], &prefix)?;
     }
     Ok(())
 }

@@ -43,7 +43,7 @@ impl Input for Drip {
 
     ghost failure_count = { λ d. d.failures };
 
-    ghost tells = { λ _. Unit {0} };
+    ghost observable = { λ _. Unit {0} };
 
     #[tactic(auto, using(crate::proofs::Written::one_given))]
     fn read(&mut self, into: &mut [u8]) -> Result<usize, Broken> {
@@ -102,7 +102,7 @@ impl Output for Narrow {
 
     ghost failure_count = { λ d. d.failures };
 
-    ghost tells = { λ _. Unit {0} };
+    ghost observable = { λ _. Unit {0} };
 
     fn write(&mut self, bytes: &[u8]) -> Result<usize, Broken> {
         if bytes.is_empty() {
@@ -294,7 +294,7 @@ fn an_input_past_its_limit_is_a_fault(rt: HostRuntime) -> Result<(), Fail> {
     Ok(())
 }
 
-/// Puts the text and flushes it, where the output fails behind so many bytes.
+/// Puts the text and flushes it, where the output fails behind n bytes.
 fn write_to_fault(
     rt: &impl Abort,
     alloc: Global,

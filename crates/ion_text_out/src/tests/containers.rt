@@ -5,7 +5,7 @@ use ion_value::ion_type::Kind;
 use ion_value::item::Annotation;
 
 /// Annotations of the texts `a` and `b c`.
-const NOTES: &[Annotation] = &[
+const ANNOTATIONS: &[Annotation] = &[
     Annotation::Text {
         from: 0,
         to: 1,
@@ -37,10 +37,10 @@ const A: Step<'static> = (None, &[], Part::Symbol(b"a"));
 type Row = (&'static [Step<'static>], &'static [u8]);
 
 const ANNOTATED: &[Row] = &[
-    (&[(None, NOTES, Part::Int(b"1"))], b"a::'b c'::1\n"),
+    (&[(None, ANNOTATIONS, Part::Int(b"1"))], b"a::'b c'::1\n"),
     (&[(None, UNKNOWN, Part::Unknown)], b"$0::$0\n"),
     (
-        &[(None, NOTES, Part::Begin(Kind::Sexp)), ONE, END],
+        &[(None, ANNOTATIONS, Part::Begin(Kind::Sexp)), ONE, END],
         b"a::'b c'::(1)\n",
     ),
 ];
@@ -61,7 +61,7 @@ const CONTAINERS: &[Row] = &[
     (
         &[
             STRUCT,
-            (Some(b"null"), NOTES, Part::Begin(Kind::List)),
+            (Some(b"null"), ANNOTATIONS, Part::Begin(Kind::List)),
             END,
             (Some(b"a"), UNKNOWN, Part::Text(b"")),
             END,

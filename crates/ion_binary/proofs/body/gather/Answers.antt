@@ -31,7 +31,7 @@ loop-source-preserved g c =
       steady = let e = rw inv.passed.stands.well at peek.count in ap g.I.Input.failure_count c.consume.ensures.device ∙ omega (arith, inv.steady, e);
       few = omega (arith, long, wanted, inv.few);
       octets = λ h.
-          let same = peek.kept.same_left (inv.passed.moves.still_tells.1 h) in
+          let same = peek.kept.same_left (inv.passed.moves.still_observable.1 h) in
           let piece = ap (λ (l : List ℕ). take here l) c.buffer-octets.ensures ∙ sym (lent-take g.I.Input.rest p here fits) in
           extended.ok ∙ (take_on all text (left g.I.Input.rest p) (take here octets) here (inv.octets h) (same ∙ inv.passed.behind h) piece ∙ ap (λ n. take n all) (sym long));
       held = let paid = length-take-le here octets there in omega (arith, inv.held, cost.held, paid, long);

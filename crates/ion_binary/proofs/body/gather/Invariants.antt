@@ -8,7 +8,7 @@ invariant-loop-source g l = record {
   passed : Passed g.I.Input l.fn.source l.source (length l.text);
   steady : g.I.Input.failure_count l.source.device ≡ g.I.Input.failure_count l.fn.source.device;
   few : length l.text ≤ l.count;
-  octets : g.I.Input.tells l.fn.source.device → l.text ≡ take (length l.text) (left g.I.Input.rest l.fn.source);
+  octets : g.I.Input.observable l.fn.source.device → l.text ≡ take (length l.text) (left g.I.Input.rest l.fn.source);
   held : l.meter.held + length l.fn.text ≡ l.fn.meter.held + length l.text;
   peak : l.meter.peak ≤ max l.fn.meter.peak (l.fn.meter.held - length l.fn.text + l.fn.limits.scalar);
   rises : l.fn.meter.peak ≤ l.meter.peak;

@@ -12,8 +12,8 @@ returns-in-Err-clause-gives g c = λ text.
     let s = c.args.source.now in
     let same = ap (λ (l : List ℕ). take c.args.count l) c.buffer.ensures ∙ sym (lent-take g.I.Input.rest s c.args.count c.requires.there) in
     let read = c.in-Err.ensures.gives in (
-      body_here-refused c.args.limits c.args.code c.args.count (cursor g.I.Input s) c.in-Err.reason c.requires.small (lent-there g.I.Input.rest s c.args.count c.requires.there)
-          (ap (scalar_of_body c.args.code) (sym same) ∙ read),
+      body_here-refused c.args.limits c.args.type_code c.args.count (cursor g.I.Input s) c.in-Err.reason c.requires.small (lent-there g.I.Input.rest s c.args.count c.requires.there)
+          (ap (scalar_of_body c.args.type_code) (sym same) ∙ read),
       refl,
     )
 
@@ -23,5 +23,5 @@ returns-clause-gives g c = λ text.
     let same = ap (λ (l : List ℕ). take c.args.count l) c.buffer.ensures ∙ sym (lent-take g.I.Input.rest s c.args.count c.requires.there) in
     let read = c.in_default.ensures.gives in
     let behind = IsPassed-cursor g.I.Input s c.consume.new.self c.args.count c.requires.there c.consume.ensures in
-    rw behind (body_here-read c.args.limits c.args.code c.args.count (cursor g.I.Input s) (as_scalar text c.number.new.body) c.requires.small (lent-there g.I.Input.rest s c.args.count c.requires.there)
-    (ap (scalar_of_body c.args.code) (sym same) ∙ read text))
+    rw behind (body_here-read c.args.limits c.args.type_code c.args.count (cursor g.I.Input s) (as_scalar text c.number.new.body) c.requires.small (lent-there g.I.Input.rest s c.args.count c.requires.there)
+    (ap (scalar_of_body c.args.type_code) (sym same) ∙ read text))

@@ -1,4 +1,4 @@
-use Rattle.ion_binary.proofs.Fewer.{step-shrinks}
+use Rattle.ion_binary.proofs.Termination.{step-shrinks}
 use Rattle.ion_binary.proofs.laws.each_step_falls.Goals as goal
 
 pub returns : goal.returns

@@ -1,5 +1,5 @@
 use Rattle.ion_binary.proofs.Bodies.{bodies}
-use Rattle.ion_binary.proofs.Kept.{step-follows}
+use Rattle.ion_binary.proofs.StepPreservesPath.{step-follows}
 use Rattle.ion_binary.proofs.laws.each_step_follows.Goals as goal
 
 pub returns : goal.returns

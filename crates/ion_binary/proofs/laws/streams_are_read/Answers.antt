@@ -1,6 +1,6 @@
 use Rattle.ion_binary.proofs.Bodies.{bodies}
 use Rattle.ion_binary.proofs.Complete as whole
-use Rattle.ion_binary.proofs.Fewer.{step-shrinks}
+use Rattle.ion_binary.proofs.Termination.{step-shrinks}
 use Rattle.ion_binary.proofs.laws.streams_are_read.Goals as goal
 
 pub returns : goal.returns

@@ -4,16 +4,16 @@ use Rattle.ion_binary.specs.Descriptor.{octet_at}
 use Rattle.ion_meter.specs.Sources.{cursor}
 use Rattle.ion_value.specs.Answers.{itself}
 use Rattle.ion_binary.specs.Parts.{var_from}
-use Rattle.ion_binary.proofs.VarLoop.{var_uint_at-front, var_from-none, var_from-refused, var_from-ends, var_from-goes_on}
+use Rattle.ion_binary.proofs.VarLoop.{var_uint_at-prefix, var_from-none, var_from-refused, var_from-ends, var_from-goes_on}
 use Rattle.ion_binary.proofs.Cursors.{moves-then, answers-refused}
 use Rattle.ion_binary.proofs.octets.next_var_uint.Goals as goal
 
 pub loop-init : goal.loop-init
 loop-init g c = record {
   stands = c.requires.stands;
-  moves = record { still_tells = (λ t. t, λ t. t); limit = refl; further = omega arith; total = λ t. refl };
+  moves = record { still_observable = (λ t. t, λ t. t); limit = refl; further = omega arith; total = λ t. refl };
   steady = refl;
-  same = λ t. var_uint_at-front c.args.region (cursor g.I.Input c.args.source.now);
+  same = λ t. var_uint_at-prefix c.args.region (cursor g.I.Input c.args.source.now);
   small = omega arith;
   taken = omega arith;
 }
@@ -21,7 +21,7 @@ loop-init g c = record {
 pub returns-in-Err-clause-gives : goal.returns-in-Err-clause-gives
 returns-in-Err-clause-gives g c t =
     answers-refused itself itself c.in-Err.fault (cursor g.I.Input c.next_octet.new.source) (cursor g.I.Input c.next_octet.new.source) c.args.place (octet_at c.args.region (cursor g.I.Input c.loop.source)) _
-    (c.in-Err.ensures.gives (c.loop.invariant.moves.still_tells.1 t))
+    (c.in-Err.ensures.gives (c.loop.invariant.moves.still_observable.1 t))
     (λ e o. c.loop.invariant.same t ∙ var_from-refused (9 - c.loop.counter) c.loop.value c.args.region (cursor g.I.Input c.loop.source) e (omega (arith, c.loop-test.true)) o)
 
 pub overflow_mul-value : goal.overflow_mul-value
@@ -34,7 +34,7 @@ pub returns-then-octet-ge128-clause-gives : goal.returns-then-octet-ge128-clause
 returns-then-octet-ge128-clause-gives g c t =
     c.loop.invariant.same t
     ∙ (var_from-ends (9 - c.loop.counter) c.loop.value c.in-Ok.octet c.args.region (cursor g.I.Input c.loop.source) (cursor g.I.Input c.next_octet.new.source)
-    (omega (arith, c.loop-test.true)) (c.in-Ok.ensures.gives (c.loop.invariant.moves.still_tells.1 t)) c.if-octet-ge128.true
+    (omega (arith, c.loop-test.true)) (c.in-Ok.ensures.gives (c.loop.invariant.moves.still_observable.1 t)) c.if-octet-ge128.true
     ∙ ap (λ n. Ok (c.loop.value * 128 + n, cursor g.I.Input c.next_octet.new.source)) (omega (arith, c.from.ensures)))
 
 pub returns-then-octet-ge128-clause-fits : goal.returns-then-octet-ge128-clause-fits
@@ -51,7 +51,7 @@ loop-preserved g c =
       same = λ t.
           inv.same t
           ∙ (var_from-goes_on (9 - c.loop.counter) (9 - (c.loop.counter + 1)) c.loop.value c.in-Ok.octet c.args.region (cursor g.I.Input c.loop.source) (cursor g.I.Input c.next_octet.new.source)
-          (omega (arith, c.loop-test.true)) (o.gives (inv.moves.still_tells.1 t)) c.if-octet-ge128.false
+          (omega (arith, c.loop-test.true)) (o.gives (inv.moves.still_observable.1 t)) c.if-octet-ge128.false
           ∙ ap (λ n. var_from (9 - (c.loop.counter + 1)) (c.loop.value * 128 + n) c.args.region (cursor g.I.Input c.next_octet.new.source)) (omega (arith, c.from.ensures)));
       small = append-lt 128 c.loop.value c.loop.counter c.from.result inv.small (omega (arith, c.from.ensures));
       taken = omega (arith, inv.taken, o.taken);

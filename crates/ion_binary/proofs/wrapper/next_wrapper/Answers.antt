@@ -5,15 +5,15 @@ use Rattle.ion_meter.specs.Sources.{cursor}
 use Rattle.ion_value.specs.Answers.{itself}
 use Rattle.ion_binary.specs.Wrappers.{as_wrapped}
 use Rattle.ion_binary.proofs.Cursors.{answers-refused}
-use Rattle.ion_binary.proofs.Wraps.{wrapper_at-no_length, wrapper_at-no_ids, wrapper_at-tested}
+use Rattle.ion_binary.proofs.WrapperCode.{wrapper_at-no_length, wrapper_at-no_ids, wrapper_at-tested}
 use Rattle.ion_binary.proofs.wrapper.next_wrapper.Goals as goal
 
 pub returns-in-Err-clause-gives : goal.returns-in-Err-clause-gives
 returns-in-Err-clause-gives g c t =
     let old = cursor g.I.Input c.args.source.now in
     let new = cursor g.I.Input c.next_length.new.source in
-    answers-refused itself as_wrapped c.in-Err.fault new new c.args.place (length_at c.args.low c.args.region old) (wrapper_at c.args.region c.args.low old)
-    (c.in-Err.ensures.gives t) (λ e h. wrapper_at-no_length c.args.region c.args.low old e h)
+    answers-refused itself as_wrapped c.in-Err.fault new new c.args.place (length_at c.args.length_code c.args.region old) (wrapper_at c.args.region c.args.length_code old)
+    (c.in-Err.ensures.gives t) (λ e h. wrapper_at-no_length c.args.region c.args.length_code old e h)
 
 pub returns-in-Err-next_var_uint-clause-gives : goal.returns-in-Err-next_var_uint-clause-gives
 returns-in-Err-next_var_uint-clause-gives g c t =
@@ -21,17 +21,17 @@ returns-in-Err-next_var_uint-clause-gives g c t =
     let sized = cursor g.I.Input c.next_length.new.source in
     let new = cursor g.I.Input c.next_var_uint.new.source in
     answers-refused itself as_wrapped c.in-Err-next_var_uint.fault new new c.args.place (var_uint_at (Some (c.place-here.result + c.in-Ok.count)) sized)
-    (wrapper_at c.args.region c.args.low old)
-    (c.in-Err-next_var_uint.ensures.gives (c.in-Ok.ensures.reads.moves.still_tells.1 t))
-    (λ e h. wrapper_at-no_ids c.args.region c.args.low c.in-Ok.count c.place-here.result old sized e (c.in-Ok.ensures.gives t) c.place-here.ensures h)
+    (wrapper_at c.args.region c.args.length_code old)
+    (c.in-Err-next_var_uint.ensures.gives (c.in-Ok.ensures.reads.moves.still_observable.1 t))
+    (λ e h. wrapper_at-no_ids c.args.region c.args.length_code c.in-Ok.count c.place-here.result old sized e (c.in-Ok.ensures.gives t) c.place-here.ensures h)
 
 pub returns-then-passes_end-clause-gives : goal.returns-then-passes_end-clause-gives
 returns-then-passes_end-clause-gives g c t =
     let old = cursor g.I.Input c.args.source.now in
     let sized = cursor g.I.Input c.next_length.new.source in
     let new = cursor g.I.Input c.next_var_uint.new.source in
-    let e = wrapper_at-tested c.args.region c.args.low c.in-Ok.count c.in-Ok-next_var_uint.ids c.place-here.result c.next_var_uint.new.source.place old sized new true _
-    (c.in-Ok.ensures.gives t) c.place-here.ensures (c.in-Ok-next_var_uint.ensures.gives (c.in-Ok.ensures.reads.moves.still_tells.1 t)) refl c.if-passes_end.ensures refl in
+    let e = wrapper_at-tested c.args.region c.args.length_code c.in-Ok.count c.in-Ok-next_var_uint.ids c.place-here.result c.next_var_uint.new.source.place old sized new true _
+    (c.in-Ok.ensures.gives t) c.place-here.ensures (c.in-Ok-next_var_uint.ensures.gives (c.in-Ok.ensures.reads.moves.still_observable.1 t)) refl c.if-passes_end.ensures refl in
     (e, refl)
 
 pub returns-then-is_no_wrapper-clause-gives : goal.returns-then-is_no_wrapper-clause-gives
@@ -39,8 +39,8 @@ returns-then-is_no_wrapper-clause-gives g c t =
     let old = cursor g.I.Input c.args.source.now in
     let sized = cursor g.I.Input c.next_length.new.source in
     let new = cursor g.I.Input c.next_var_uint.new.source in
-    let e = wrapper_at-tested c.args.region c.args.low c.in-Ok.count c.in-Ok-next_var_uint.ids c.place-here.result c.place-behind.result old sized new false true
-    (c.in-Ok.ensures.gives t) c.place-here.ensures (c.in-Ok-next_var_uint.ensures.gives (c.in-Ok.ensures.reads.moves.still_tells.1 t)) c.place-behind.ensures
+    let e = wrapper_at-tested c.args.region c.args.length_code c.in-Ok.count c.in-Ok-next_var_uint.ids c.place-here.result c.place-behind.result old sized new false true
+    (c.in-Ok.ensures.gives t) c.place-here.ensures (c.in-Ok-next_var_uint.ensures.gives (c.in-Ok.ensures.reads.moves.still_observable.1 t)) c.place-behind.ensures
     c.if-passes_end.ensures c.if-is_no_wrapper.ensures in
     (e, refl)
 
@@ -49,6 +49,6 @@ returns-clause-gives g c t =
     let old = cursor g.I.Input c.args.source.now in
     let sized = cursor g.I.Input c.next_length.new.source in
     let new = cursor g.I.Input c.next_var_uint.new.source in
-    wrapper_at-tested c.args.region c.args.low c.in-Ok.count c.in-Ok-next_var_uint.ids c.place-here.result c.place-behind.result old sized new false false
-    (c.in-Ok.ensures.gives t) c.place-here.ensures (c.in-Ok-next_var_uint.ensures.gives (c.in-Ok.ensures.reads.moves.still_tells.1 t)) c.place-behind.ensures
+    wrapper_at-tested c.args.region c.args.length_code c.in-Ok.count c.in-Ok-next_var_uint.ids c.place-here.result c.place-behind.result old sized new false false
+    (c.in-Ok.ensures.gives t) c.place-here.ensures (c.in-Ok-next_var_uint.ensures.gives (c.in-Ok.ensures.reads.moves.still_observable.1 t)) c.place-behind.ensures
     c.if-passes_end.ensures c.if-is_no_wrapper.ensures

@@ -4,7 +4,7 @@ use Rattle.ion_value.specs.Reading.{More}
 use Rattle.ion_value.specs.Shares.{ReadCauses, fault_of}
 use Rattle.ion_value.specs.Standing.{open_after}
 use Rattle.ion_symbols.specs.Table.{text_at}
-use Rattle.ion_symbols.specs.Declaration.{Ground, next, told, turn, on, made}
+use Rattle.ion_symbols.specs.Declaration.{Ground, next, item_view, turn, on, made}
 use Rattle.ion_symbols.specs.Users.{checked, declaring, users}
 use Rattle.ion_symbols.specs.Buffer.{declaring_of, pending_of}
 use Rattle.ion_symbols.proofs.Turns.{level-on, level-made, goes_on, goes_out, turn_refused, not_failed, stopped, check_causes}
@@ -19,7 +19,7 @@ returns-in-Ok-true-clause-gives g c = λ t o.
     let u = next s.table (pending_of s.catalog c.take.new.self) in
     let item = raw_item c.item-item.result in
     let more : r.reading c.items.raw ≡ More (r.current c.next.new.self) (r.reading c.next.new.self) = search rules in
-    let turns : turn (record { catalog = s.catalog; limit = c.args.limit; old = s.table }) d (told (text_at s.table) item) ≡ made u = search rules in
+    let turns : turn (record { catalog = s.catalog; limit = c.args.limit; old = s.table }) d (item_view (text_at s.table) item) ≡ made u = search rules in
     let first = users s.catalog c.args.limit (record { table = s.table; mode = declaring (declaring_of s.catalog c.args.buffer.now) }) (r.reading c.args.raw.now) in
     goes_out s.catalog c.args.limit s.table d u (r.current c.next.new.self) item first (r.reading c.items.raw) (r.reading c.next.new.self) c.check_item.result
     (c.items.invariant.coming t) more c.item-item.ensures c.check_item.ensures c.in_default.is turns
@@ -33,7 +33,7 @@ returns-in-Ok-true-clause-level g c = λ o.
     let u = next s.table (pending_of s.catalog c.take.new.self) in
     let item = raw_item c.item-item.result in
     let opens : r.opened c.next.new.self ≡ open_after (r.opened c.items.raw) (r.current c.next.new.self).head = search rules in
-    let turns : turn ground d (told (text_at s.table) item) ≡ made u = search rules in
+    let turns : turn ground d (item_view (text_at s.table) item) ≡ made u = search rules in
     level-made (text_at s.table) ground d u (r.current c.next.new.self) item (r.opened c.items.raw) (r.opened c.next.new.self)
     c.items.invariant.level opens c.item-item.ensures turns
 
@@ -76,7 +76,7 @@ items-preserved g c =
     let e = declaring_of s.catalog c.take.new.self in
     let item = raw_item c.item-item.result in
     let opens : r.opened c.next.new.self ≡ open_after (r.opened c.items.raw) (r.current c.next.new.self).head = search rules in
-    let turns : turn ground d (told (text_at s.table) item) ≡ on e = search rules in
+    let turns : turn ground d (item_view (text_at s.table) item) ≡ on e = search rules in
     let ok : c.next.result ≡ Ok true = search rules in
     let none : fault_of c.next.result ≡ None = rw ok refl in
     let well : r.failed c.items.raw ≡ None = not_failed (r.failed c.items.raw) c.next.result (λ f e. (c.next.ensures.again f e).0) true ok in
@@ -88,7 +88,7 @@ items-preserved g c =
       level = level-on (text_at s.table) ground d e (r.current c.next.new.self) item (r.opened c.items.raw) (r.opened c.next.new.self)
           c.items.invariant.level opens c.item-item.ensures turns;
       fresh = λ o. c.next.ensures.failed ∙ none;
-      tells = search rules;
+      observable = search rules;
       coming = λ t.
           let more : r.reading c.items.raw ≡ More (r.current c.next.new.self) (r.reading c.next.new.self) = search rules in
           goes_on s.catalog c.args.limit s.table d e (r.current c.next.new.self) item _ (r.reading c.items.raw) (r.reading c.next.new.self) c.check_item.result

@@ -12,8 +12,8 @@ invariant-items g l =
       pending : IsPending l.limit l.symbols.table l.buffer;
       level : length (r.opened l.raw) ≡ depth_of (declaring_of l.symbols.catalog l.buffer);
       fresh : r.failed l.fn.raw ≡ None → r.failed l.raw ≡ None;
-      tells : r.tells l.fn.raw ↔ r.tells l.raw;
-      coming : r.tells l.fn.raw
+      observable : r.observable l.fn.raw ↔ r.observable l.raw;
+      coming : r.observable l.fn.raw
           → users l.symbols.catalog l.limit (record { table = l.symbols.table; mode = declaring (declaring_of l.symbols.catalog l.fn.buffer) }) (r.reading l.fn.raw)
           ≡ users l.symbols.catalog l.limit (record { table = l.symbols.table; mode = declaring (declaring_of l.symbols.catalog l.buffer) }) (r.reading l.raw);
       left : r.left l.raw ≤ r.left l.fn.raw;

@@ -2,13 +2,13 @@ use Rattle.std.proofs.Common.{◌<◌, length, ap, subst, ◌∙◌, arith}
 use Rattle.ion_value.specs.Items.{raw_annotations, raw_field, symbol_at}
 use Rattle.ion_symbols.specs.Users.{at_checked}
 use Rattle.ion_symbols.specs.User.{CheckedAs}
-use Rattle.ion_symbols.proofs.Checking.{got_plain, notes_going, notes_bad, notes_end, got_within}
+use Rattle.ion_symbols.proofs.Checking.{got_plain, annotations_going, annotations_bad, annotations_end, got_within}
 use Rattle.ion_symbols.proofs.checks.check_annotations.Goals as goal
 
 pub returns-in-Err : goal.returns-in-Err
 returns-in-Err g c =
     let there = got_plain (raw_annotations c.args.annotations) c.loop-at.i (raw_field c.get.result) c.get.ensures ∙ ap raw_field c.in-Some.is in
-    notes_bad c.args.symbols.now.table c.args.user (raw_annotations c.args.annotations) c.loop-at.i (symbol_at c.in-Some.at) c.in-Err.fault c.loop-at.invariant.checked
+    annotations_bad c.args.symbols.now.table c.args.user (raw_annotations c.args.annotations) c.loop-at.i (symbol_at c.in-Some.at) c.in-Err.fault c.loop-at.invariant.checked
     there (subst (λ x. CheckedAs (at_checked c.args.symbols.now.table c.args.user (symbol_at c.in-Some.at)) x) c.in-Err.is c.check_symbol.ensures)
 
 pub loop-at-smaller : goal.loop-at-smaller
@@ -23,11 +23,11 @@ loop-at-preserved g c =
     let within : c.loop-at.i < length (raw_annotations c.args.annotations) = got_within (raw_annotations c.args.annotations) c.loop-at.i (symbol_at c.in-Some.at) there in
     record {
       within = omega (arith, within);
-      checked = notes_going c.args.symbols.now.table c.args.user (raw_annotations c.args.annotations) c.loop-at.i (symbol_at c.in-Some.at) c.loop-at.invariant.checked
+      checked = annotations_going c.args.symbols.now.table c.args.user (raw_annotations c.args.annotations) c.loop-at.i (symbol_at c.in-Some.at) c.loop-at.invariant.checked
           there (subst (λ x. CheckedAs (at_checked c.args.symbols.now.table c.args.user (symbol_at c.in-Some.at)) x) c.in_default-check_symbol.is c.check_symbol.ensures);
     }
 
 pub returns : goal.returns
 returns g c =
     let there = got_plain (raw_annotations c.args.annotations) c.loop-at.i (raw_field c.get.result) c.get.ensures ∙ ap raw_field c.in_default.is in
-    notes_end c.args.symbols.now.table c.args.user (raw_annotations c.args.annotations) c.loop-at.i c.loop-at.invariant.checked there
+    annotations_end c.args.symbols.now.table c.args.user (raw_annotations c.args.annotations) c.loop-at.i c.loop-at.invariant.checked there

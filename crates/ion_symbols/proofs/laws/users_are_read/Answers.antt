@@ -1,4 +1,4 @@
-use Rattle.ion_symbols.proofs.Said.{what_is_said}
+use Rattle.ion_symbols.proofs.DeclarationMeaning.{what_is_said}
 use Rattle.ion_symbols.proofs.UserReadings.{users_are_read_by}
 use Rattle.ion_symbols.proofs.laws.users_are_read.Goals as goal
 

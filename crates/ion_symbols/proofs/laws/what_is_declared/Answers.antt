@@ -1,4 +1,4 @@
-use Rattle.ion_symbols.proofs.Said.{what_is_said}
+use Rattle.ion_symbols.proofs.DeclarationMeaning.{what_is_said}
 use Rattle.ion_symbols.proofs.laws.what_is_declared.Goals as goal
 
 pub returns : goal.returns

@@ -6,7 +6,7 @@ abbrev pub invariant-loop-i : goal.invariant-loop-i
 invariant-loop-i g l = record {
   within : l.i ≤ length l.bytes;
   long : length l.buf ≡ length l.bytes;
-  front : take l.i l.buf ≡ take l.i l.bytes;
+  prefix : take l.i l.buf ≡ take l.i l.bytes;
 }
 
 abbrev pub decreases-loop-i : goal.decreases-loop-i

@@ -6,7 +6,7 @@ pub pieces-init : goal.pieces-init
 pieces-init g c = record {
   within = omega arith;
   threes = refl;
-  puts = no_part g.O.Output.written g.O.Output.tells g.O.Output.failure_count c.args.sink.now c.args.bytes.now c.requires.well;
+  puts = no_part g.O.Output.written g.O.Output.observable g.O.Output.failure_count c.args.sink.now c.args.bytes.now c.requires.well;
 }
 
 pub returns-in-Err : goal.returns-in-Err

@@ -8,7 +8,7 @@ abbrev pub invariant-pieces : goal.invariant-pieces
 invariant-pieces g l = record {
   within : l.at ≤ length l.bytes;
   threes : l.at % 3 ≡ 0;
-  puts : HasPut {T = Unit {0}} g.O.Output.written g.O.Output.tells g.O.Output.failure_count l.fn.sink l.sink (Ok _) (encode_of standard (take l.at l.bytes));
+  puts : HasPut {T = Unit {0}} g.O.Output.written g.O.Output.observable g.O.Output.failure_count l.fn.sink l.sink (Ok _) (encode_of standard (take l.at l.bytes));
 }
 
 abbrev pub decreases-pieces : goal.decreases-pieces

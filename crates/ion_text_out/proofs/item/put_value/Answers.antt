@@ -4,5 +4,5 @@ use Rattle.ion_text_out.proofs.item.put_value.Goals as goal
 pub returns-in-Err : goal.returns-in-Err
 returns-in-Err g c = put_cut _ c.in-Err.is c.put_field.ensures
 
-pub returns-in-Err-put_notes : goal.returns-in-Err-put_notes
-returns-in-Err-put_notes g c = put_then c.in_default.is c.put_field.ensures (put_cut _ c.in-Err-put_notes.is c.put_notes.ensures)
+pub returns-in-Err-put_annotations : goal.returns-in-Err-put_annotations
+returns-in-Err-put_annotations g c = put_then c.in_default.is c.put_field.ensures (put_cut _ c.in-Err-put_annotations.is c.put_annotations.ensures)

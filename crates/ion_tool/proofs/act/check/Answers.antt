@@ -8,19 +8,19 @@ use Rattle.ion_tool.proofs.act.check.Goals as goal
 
 pub returns-in-Ok-clause-answered : goal.returns-in-Ok-clause-answered
 returns-in-Ok-clause-answered g c i o =
-    let pass = c.pass-answer.ensures in
-    let found = (pass.transcoded i).accepted c.in-Ok.summary c.in-Ok.is in
+    let run_stream = c.run_stream-answer.ensures in
+    let found = (run_stream.transcoded i).accepted c.in-Ok.summary c.in-Ok.is in
     let is = found.1 in
-    let out = pass.still_tells.1 o in
+    let out = run_stream.still_observable.1 o in
     let say = c.say_count-said.ensures in
-    said c.one_verdict.ensures [] c.args.limits (g.I.Input.rest c.args.input) (g.O.Output.written c.args.out) (g.O.Output.written c.pass-answer.result.2) (g.O.Output.written c.say_count-said.new.out)
-    c.in-Ok.summary is.output is.comes found.0 (is.written o) c.say_count-said.result say.ok (λ f e. (say.fault f e).0) (say.whole out) (say.front out)
+    said c.one_verdict.ensures [] c.args.limits (g.I.Input.rest c.args.input) (g.O.Output.written c.args.out) (g.O.Output.written c.run_stream-answer.result.2) (g.O.Output.written c.say_count-said.new.out)
+    c.in-Ok.summary is.output is.has_verdict found.0 (is.written o) c.say_count-said.result say.ok (λ f e. (say.fault f e).0) (say.whole out) (say.prefix out)
 
 pub returns-in-Err-clause-answered : goal.returns-in-Err-clause-answered
 returns-in-Err-clause-answered g c i o =
     let bytes = g.I.Input.rest c.args.input in
     let before = g.O.Output.written c.args.out in
-    let after = g.O.Output.written c.pass-answer.result.2 in
-    let tells = g.O.Output.tells c.args.out in
-    checked_fault [] c.args.limits bytes before after tells o c.in-Err.fault
-    (subst (λ (r : Result Summary Fault). Transcoded [] c.args.limits to.Nothing bytes tells before after r) c.in-Err.is (c.pass-answer.ensures.transcoded i))
+    let after = g.O.Output.written c.run_stream-answer.result.2 in
+    let observable = g.O.Output.observable c.args.out in
+    checked_fault [] c.args.limits bytes before after observable o c.in-Err.fault
+    (subst (λ (r : Result Summary Fault). Transcoded [] c.args.limits to.Nothing bytes observable before after r) c.in-Err.is (c.run_stream-answer.ensures.transcoded i))

@@ -8,7 +8,7 @@ loop-at-preserved g c =
     let inv = c.loop-at.invariant in
     record {
       within = grind (arith, common_steps, c.in_ok-n.ensures.within);
-      tells = (λ t. inv.tells.0 (c.write.ensures.tells.0 t), λ t. c.write.ensures.tells.1 (inv.tells.1 t));
+      observable = (λ t. inv.observable.0 (c.write.ensures.observable.0 t), λ t. c.write.ensures.observable.1 (inv.observable.1 t));
       count = c.in_ok-n.ensures.moved (inl (omega arith)) ∙ inv.count;
-      bytes = λ t. written_part _ _ _ c.args.bytes.now c.loop-at.at c.in_ok-n.n (inv.bytes t) (c.in_ok-n.ensures.bytes (inv.tells.1 t));
+      bytes = λ t. written_part _ _ _ c.args.bytes.now c.loop-at.at c.in_ok-n.n (inv.bytes t) (c.in_ok-n.ensures.bytes (inv.observable.1 t));
     }

@@ -4,9 +4,9 @@ use Rattle.ion_tool.proofs.output.write_all.Given as goal
 abbrev pub invariant-loop-at : goal.invariant-loop-at
 invariant-loop-at g l = record {
   within : l.at ≤ length l.bytes;
-  tells : g.O.Output.tells l.device ↔ g.O.Output.tells l.initial.device;
+  observable : g.O.Output.observable l.device ↔ g.O.Output.observable l.initial.device;
   count : g.O.Output.failure_count l.device ≡ g.O.Output.failure_count l.initial.device;
-  bytes : g.O.Output.tells l.initial.device → g.O.Output.written l.device ≡ g.O.Output.written l.initial.device ++ take l.at l.bytes;
+  bytes : g.O.Output.observable l.initial.device → g.O.Output.written l.device ≡ g.O.Output.written l.initial.device ++ take l.at l.bytes;
 }
 
 abbrev pub decreases-loop-at : goal.decreases-loop-at

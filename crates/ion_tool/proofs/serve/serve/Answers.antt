@@ -20,7 +20,7 @@ returns-clause-ran g c action limits run =
       | in-Err w ↦ record {
         answer = Err Memory;
         status_is = search rules;
-        answered = λ _ _. record { says = tt; front = λ verdict output outcome. (output, sym (ap (λ o. g.O.Output.written o ++ output) w.out-is)) };
+        answered = λ _ _. record { says = tt; prefix = λ verdict output outcome. (output, sym (ap (λ o. g.O.Output.written o ++ output) w.out-is)) };
         blames = tt;
         said = search rules;
       }

@@ -1,8 +1,8 @@
 use Rattle.std.proofs.Common.{◌≡◌, ◌++◌, List, ℕ, subst}
 use Rattle.std.specs.Prelude.{OnOk}
-use Rattle.ion_meter.specs.Windows.{BeginsWith}
+use Rattle.ion_meter.specs.Windows.{HasPrefix}
 use Rattle.ion_value.specs.Outcome.{Verdict}
-use Rattle.ion_transcode.specs.Verdict.{Comes}
+use Rattle.ion_transcode.specs.Verdict.{HasVerdict}
 use Rattle.ion_transcode.specs.ByItem.{output_for}
 use Rattle.ion_transcode.proofs.run.run.Goals as goal
 
@@ -11,11 +11,11 @@ returns-clause-accepted g c i s e =
     let bytes = g.I.Input.rest c.args.input in
     let says = c.transcode.ensures.says i in
     let out = output_for c.args.catalog.now c.args.limits c.args.to bytes in
-    let comes = subst (λ (v : Verdict). Comes c.args.catalog.now c.args.limits c.args.to bytes v out) (says.accepted s e) (c.streams_are_read.ensures c.args.catalog.now c.args.limits c.args.to bytes) in (
+    let has_verdict = subst (λ (v : Verdict). HasVerdict c.args.catalog.now c.args.limits c.args.to bytes v out) (says.accepted s e) (c.streams_are_read.ensures c.args.catalog.now c.args.limits c.args.to bytes) in (
       says.form s e,
       record {
         output = out;
-        comes = comes;
+        has_verdict = has_verdict;
         written = λ o. subst (λ r. OnOk r (g.O.Output.written c.transcode.result.2 ≡ g.O.Output.written c.args.output ++ out)) e (c.transcode.ensures.writes i o).accepted;
       },
     )
@@ -26,12 +26,12 @@ returns-clause-refused g c i r p e =
     let out = output_for c.args.catalog.now c.args.limits c.args.to bytes in
     record {
       output = out;
-      comes = subst (λ (v : Verdict). Comes c.args.catalog.now c.args.limits c.args.to bytes v out) ((c.transcode.ensures.says i).rejected r p e) (c.streams_are_read.ensures c.args.catalog.now c.args.limits c.args.to bytes);
+      has_verdict = subst (λ (v : Verdict). HasVerdict c.args.catalog.now c.args.limits c.args.to bytes v out) ((c.transcode.ensures.says i).rejected r p e) (c.streams_are_read.ensures c.args.catalog.now c.args.limits c.args.to bytes);
       written = λ o. (c.transcode.ensures.writes i o).rejected r p e;
     }
 
-pub returns-clause-front : goal.returns-clause-front
-returns-clause-front g c i o v out comes =
+pub returns-clause-prefix : goal.returns-clause-prefix
+returns-clause-prefix g c i o v out has_verdict =
     let bytes = g.I.Input.rest c.args.input in
-    let same = (c.one_verdict.ensures c.args.catalog.now c.args.limits c.args.to bytes _ v _ out (c.streams_are_read.ensures c.args.catalog.now c.args.limits c.args.to bytes) comes).1 in
-    subst (λ (l : List ℕ). BeginsWith (g.O.Output.written c.args.output ++ l) (g.O.Output.written c.transcode.result.2)) same (c.transcode.ensures.writes i o).front
+    let same = (c.one_verdict.ensures c.args.catalog.now c.args.limits c.args.to bytes _ v _ out (c.streams_are_read.ensures c.args.catalog.now c.args.limits c.args.to bytes) has_verdict).1 in
+    subst (λ (l : List ℕ). HasPrefix (g.O.Output.written c.args.output ++ l) (g.O.Output.written c.transcode.result.2)) same (c.transcode.ensures.writes i o).prefix

@@ -5,7 +5,7 @@ use Rattle.ion_value.proofs.timestamp_text.few_digits.Given as goal
 
 abbrev pub invariant-loop-i : goal.invariant-loop-i
 invariant-loop-i l = record {
-  digits : all_are is_digit (take l.i l.front) ≡ true;
-  value : l.number ≡ number 10 (map digit_value (take l.i l.front));
+  digits : all_are is_digit (take l.i l.prefix) ≡ true;
+  value : l.number ≡ number 10 (map digit_value (take l.i l.prefix));
   small : l.number < 10 ^ l.i;
 }

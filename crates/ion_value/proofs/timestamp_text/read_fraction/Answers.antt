@@ -8,8 +8,8 @@ use Rattle.ion_value.proofs.timestamp_text.read_fraction.Goals as goal
 pub returns-in-46 : goal.returns-in-46
 returns-in-46 c =
     let bytes = c.args.bytes.now in
-    let front = rw (from_place bytes 1) at c.front_digits.ensures in
-    c.read_behind_digits.ensures ∙ second-fraction c.args.timestamp.now bytes (drop 1 bytes) _ (first-behind bytes 46 c.in-46.len_at_least (omega arith)) front
+    let prefix = rw (from_place bytes 1) at c.leading_digits.ensures in
+    c.read_behind_digits.ensures ∙ second-fraction c.args.timestamp.now bytes (drop 1 bytes) _ (first-behind bytes 46 c.in-46.len_at_least (omega arith)) prefix
 
 pub returns-in_default : goal.returns-in_default
 returns-in_default c =

@@ -18,10 +18,10 @@ returns-in_err-value-clause-refused c =
 
 pub returns-then-negative-clause-read : goal.returns-then-negative-clause-read
 returns-then-negative-clause-read c =
-    let front = take c.in_ok-value.count c.args.bytes.now in
+    let prefix = take c.in_ok-value.count c.args.bytes.now in
     let read = c.in_ok-value.ensures.read in
-    let len : length front ≡ c.in_ok-value.count = length-take-le c.in_ok-value.count c.args.bytes.now read.0 in
+    let len : length prefix ≡ c.in_ok-value.count = length-take-le c.in_ok-value.count c.args.bytes.now read.0 in
     let spelled = read.1 in (
       read.0,
-      VarInt-minus _ front (le-leb c.sign_bit-sign.result c.in_ok-value.value c.if-negative.true) spelled.short spelled.ends (rw len (omega (arith, sym spelled.value))),
+      VarInt-minus _ prefix (le-leb c.sign_bit-sign.result c.in_ok-value.value c.if-negative.true) spelled.short spelled.ends (rw len (omega (arith, sym spelled.value))),
     )

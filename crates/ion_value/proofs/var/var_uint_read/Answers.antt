@@ -1,24 +1,24 @@
 use Rattle.std.proofs.Common.{arith, ◌+◌, ◌-◌, ◌<◌, ◌≤◌, get_or, length, refl, below_more}
 use Rattle.std.proofs.lemmas.List.{length-take-le}
-use Rattle.ion_value.proofs.Numbers.{var_uint-take_more, append-lt, seven-fits, seven-low, seven-high, front-octet, IsVar-take, no-VarUInt}
+use Rattle.ion_value.proofs.Numbers.{var_uint-take_more, append-lt, seven-fits, seven-low, seven-high, prefix-octet, IsVar-take, no-VarUInt}
 use Rattle.ion_value.proofs.var.var_uint_read.Goals as goal
 
 -- at most eight octets came before this one
 pub overflow_mul-result : goal.overflow_mul-result
 overflow_mul-result c =
-    let here = front-octet c.args.bytes.now c.min.result c.loop-i.i (omega arith) c.loop-i-test.true in
+    let here = prefix-octet c.args.bytes.now c.min.result c.loop-i.i (omega arith) c.loop-i-test.true in
     omega (arith, seven-fits c.loop-i.value c.loop-i.i 0 c.loop-i.invariant.small (omega (arith, here.0)) (omega arith))
 
 pub overflow_add-result : goal.overflow_add-result
 overflow_add-result c =
-    let here = front-octet c.args.bytes.now c.min.result c.loop-i.i (omega arith) c.loop-i-test.true in
+    let here = prefix-octet c.args.bytes.now c.min.result c.loop-i.i (omega arith) c.loop-i-test.true in
     let byte = get_or c.args.bytes.now c.loop-i.i 0 in
     let octet : byte < 256 = omega (arith, c.type_inv.bytes c.loop-i.i) in
     omega (arith, here.1, seven-fits c.loop-i.value c.loop-i.i (byte - 128) c.loop-i.invariant.small (omega (arith, here.0)) (omega arith))
 
 pub returns-then-byte-ge128-clause-read : goal.returns-then-byte-ge128-clause-read
 returns-then-byte-ge128-clause-read c =
-    let here = front-octet c.args.bytes.now c.min.result c.loop-i.i (omega arith) c.loop-i-test.true in
+    let here = prefix-octet c.args.bytes.now c.min.result c.loop-i.i (omega arith) c.loop-i-test.true in
     let byte = get_or c.args.bytes.now c.loop-i.i 0 in
     let octet : byte < 256 = omega (arith, c.type_inv.bytes c.loop-i.i) in
     let high : 128 ≤ byte = omega (arith, here.1) in
@@ -34,17 +34,17 @@ returns-then-byte-ge128-clause-read c =
 
 pub overflow_mul-value : goal.overflow_mul-value
 overflow_mul-value c =
-    let here = front-octet c.args.bytes.now c.min.result c.loop-i.i (omega arith) c.loop-i-test.true in
+    let here = prefix-octet c.args.bytes.now c.min.result c.loop-i.i (omega arith) c.loop-i-test.true in
     omega (arith, seven-fits c.loop-i.value c.loop-i.i 0 c.loop-i.invariant.small (omega (arith, here.0)) (omega arith))
 
 pub overflow_add-value : goal.overflow_add-value
 overflow_add-value c =
-    let here = front-octet c.args.bytes.now c.min.result c.loop-i.i (omega arith) c.loop-i-test.true in
+    let here = prefix-octet c.args.bytes.now c.min.result c.loop-i.i (omega arith) c.loop-i-test.true in
     omega (arith, seven-fits c.loop-i.value c.loop-i.i _ c.loop-i.invariant.small (omega (arith, here.0)) c.if-byte-ge128.false)
 
 pub loop-i-preserved : goal.loop-i-preserved
 loop-i-preserved c =
-    let here = front-octet c.args.bytes.now c.min.result c.loop-i.i (omega arith) c.loop-i-test.true in
+    let here = prefix-octet c.args.bytes.now c.min.result c.loop-i.i (omega arith) c.loop-i-test.true in
     let byte = get_or c.args.bytes.now c.loop-i.i 0 in
     let low : byte < 128 = omega (arith, here.1) in
     let within : c.loop-i.i < length c.args.bytes.now = omega (arith, here.0) in

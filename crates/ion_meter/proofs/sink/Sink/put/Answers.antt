@@ -6,4 +6,4 @@ use Rattle.ion_meter.proofs.sink.Sink.put.Goals as goal
 pub returns-then-bytes-self-clause-puts : goal.returns-then-bytes-self-clause-puts
 returns-then-bytes-self-clause-puts g c =
     let all : c.take.new.self.pending ≡ c.args.self.now.pending ++ c.args.bytes.now = grind (arith, common_steps) in
-    λ _. Puts-taken g.O.Output.written g.O.Output.tells c.args.self.now c.take.new.self c.args.bytes.now c.take.ensures.device all
+    λ _. Puts-taken g.O.Output.written g.O.Output.observable c.args.self.now c.take.new.self c.args.bytes.now c.take.ensures.device all

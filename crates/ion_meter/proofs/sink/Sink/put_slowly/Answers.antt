@@ -6,7 +6,7 @@ use Rattle.ion_meter.proofs.sink.Sink.put_slowly.Goals as goal
 pub returns-in_err-make_room-clause-puts : goal.returns-in_err-make_room-clause-puts
 returns-in_err-make_room-clause-puts g c =
     let inv = c.loop-at.invariant in
-    λ _. Puts-after g.O.Output.written g.O.Output.tells c.args.self.now c.loop-at.self c.make_room.new.self c.args.bytes.now c.loop-at.at inv.tells inv.grown inv.bytes c.make_room.ensures.puts
+    λ _. Puts-after g.O.Output.written g.O.Output.observable c.args.self.now c.loop-at.self c.make_room.new.self c.args.bytes.now c.loop-at.at inv.observable inv.grown inv.bytes c.make_room.ensures.puts
 
 pub loop-at-preserved : goal.loop-at-preserved
 loop-at-preserved g c =
@@ -17,8 +17,8 @@ loop-at-preserved g c =
       well = c.take-at.ensures.fault ∙ c.in_ok-make_room.ensures.well;
       begun = inv.begun;
       count = ap g.O.Output.failure_count c.take-at.ensures.device ∙ (c.in_ok-make_room.ensures.count ∙ inv.count);
-      tells = subst (λ x. g.O.Output.tells x ↔ g.O.Output.tells c.args.self.now.device) (sym c.take-at.ensures.device) (λ t. inv.tells.0 (puts.still_tells.0 t), λ t. puts.still_tells.1 (inv.tells.1 t));
-      grown = λ t. let a = inv.grown t in let b = puts.grown (inv.tells.1 t) in (a.0 ++ b.0, ap g.O.Output.written c.take-at.ensures.device ∙ (b.1 ∙ (ap (λ (l : List ℕ). l ++ b.0) a.1 ∙ append_assoc (g.O.Output.written c.args.self.now.device) a.0 b.0)));
+      observable = subst (λ x. g.O.Output.observable x ↔ g.O.Output.observable c.args.self.now.device) (sym c.take-at.ensures.device) (λ t. inv.observable.0 (puts.still_observable.0 t), λ t. puts.still_observable.1 (inv.observable.1 t));
+      grown = λ t. let a = inv.grown t in let b = puts.grown (inv.observable.1 t) in (a.0 ++ b.0, ap g.O.Output.written c.take-at.ensures.device ∙ (b.1 ∙ (ap (λ (l : List ℕ). l ++ b.0) a.1 ∙ append_assoc (g.O.Output.written c.args.self.now.device) a.0 b.0)));
       bytes = λ t. taken_part g.O.Output.written c.args.self.now c.loop-at.self c.make_room.new.self c.take-at.new.self c.args.bytes.now c.loop-at.at c.take-at.result
-          (inv.bytes t) (c.in_ok-make_room.ensures.ok (inv.tells.1 t)) c.take-at.ensures.device c.take-at.ensures.pending;
+          (inv.bytes t) (c.in_ok-make_room.ensures.ok (inv.observable.1 t)) c.take-at.ensures.device c.take-at.ensures.pending;
     }

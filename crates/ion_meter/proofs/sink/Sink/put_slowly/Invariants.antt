@@ -1,5 +1,5 @@
 use Rattle.std.proofs.Common.{length, ◌-◌, ◌≡◌, ◌≤◌, ◌++◌, ◌↔◌, take, None}
-use Rattle.ion_meter.specs.Windows.{so_far, BeginsWith}
+use Rattle.ion_meter.specs.Windows.{so_far, HasPrefix}
 use Rattle.ion_meter.proofs.sink.Sink.put_slowly.Given as goal
 
 abbrev pub invariant-loop-at : goal.invariant-loop-at
@@ -8,9 +8,9 @@ invariant-loop-at g l = record {
   well : l.self.fault ≡ None;
   begun : l.initial.self.fault ≡ None;
   count : g.O.Output.failure_count l.self.device ≡ g.O.Output.failure_count l.initial.self.device;
-  tells : g.O.Output.tells l.self.device ↔ g.O.Output.tells l.initial.self.device;
-  grown : g.O.Output.tells l.initial.self.device → BeginsWith (g.O.Output.written l.self.device) (g.O.Output.written l.initial.self.device);
-  bytes : g.O.Output.tells l.initial.self.device → so_far g.O.Output.written l.self ≡ so_far g.O.Output.written l.initial.self ++ take l.at l.bytes;
+  observable : g.O.Output.observable l.self.device ↔ g.O.Output.observable l.initial.self.device;
+  grown : g.O.Output.observable l.initial.self.device → HasPrefix (g.O.Output.written l.self.device) (g.O.Output.written l.initial.self.device);
+  bytes : g.O.Output.observable l.initial.self.device → so_far g.O.Output.written l.self ≡ so_far g.O.Output.written l.initial.self ++ take l.at l.bytes;
 }
 
 abbrev pub decreases-loop-at : goal.decreases-loop-at

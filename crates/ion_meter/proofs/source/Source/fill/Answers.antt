@@ -10,10 +10,10 @@ returns-in_default-clause-kept g c =
     let copied = c.deref_mut-2.ensures.value ∙ (c.copy_within.ensures.after ∙ ap (λ (l : List ℕ). copy_within l s.start s.end 0) c.deref_mut.ensures.value) in
     let same = read_nothing s.window.value c.deref_mut-2.result.now c.read.new.into s.start s.end (4096 - (s.end - s.start)) (omega arith) (omega arith) copied in
     rw (← c.self.view_is) (record {
-      front = ([], same ∙ sym (append-nil _));
+      prefix = ([], same ∙ sym (append-nil _));
       place = omega arith;
       limit = refl;
-      still_tells = c.read.ensures.tells;
+      still_observable = c.read.ensures.observable;
       same_left = λ t. ap (λ (l : List ℕ). l ++ g.I.Input.rest c.read.new.self) same ∙ ap (λ (l : List ℕ). buffered ++ l) (c.in_default.ensures.bytes t);
     })
 
@@ -24,10 +24,10 @@ returns-clause-kept g c =
     let copied = c.deref_mut-2.ensures.value ∙ (c.copy_within.ensures.after ∙ ap (λ (l : List ℕ). copy_within l s.start s.end 0) c.deref_mut.ensures.value) in
     let same = read_behind s.window.value c.deref_mut-2.result.now c.read.new.into s.start s.end (4096 - (s.end - s.start)) c.in-Ok.n (omega arith) (omega arith) copied c.in-Ok.ensures.within in
     rw (← c.self.view_is) (record {
-      front = (take c.in-Ok.n c.read.new.into, same);
+      prefix = (take c.in-Ok.n c.read.new.into, same);
       place = omega arith;
       limit = refl;
-      still_tells = c.read.ensures.tells;
+      still_observable = c.read.ensures.observable;
       same_left = λ t. ap (λ (l : List ℕ). l ++ g.I.Input.rest c.read.new.self) same
           ∙ (append_assoc buffered (take c.in-Ok.n c.read.new.into) (g.I.Input.rest c.read.new.self)
           ∙ ap (λ (l : List ℕ). buffered ++ l) (sym (c.in-Ok.ensures.bytes t)));

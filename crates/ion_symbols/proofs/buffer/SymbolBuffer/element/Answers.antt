@@ -7,15 +7,15 @@ use Rattle.ion_symbols.proofs.buffer.SymbolBuffer.element.Goals.{in-Text-what+in
 pub returns-clause-pending : goal.returns-clause-pending
 returns-clause-pending g c =
     let b = c.args.self.now in
-    let m = c.match-told-2.self in
+    let m = c.match-item_view-2.self in
     let n = c.pass.new.self in
-    let cost = 16 + c.match-told.length in
+    let cost = 16 + c.match-item_view.length in
     let p = c.requires.can_take.pending in
     let at = c.requires.within.0 in
     let kept = c.pass.ensures.kept in
     let cheap : b.cost + cost ≤ c.args.limit = grind arith in
     let few : b.count + 1 ≤ most_slots = grind arith in
-    elim c.match-told-2.branch [
+    elim c.match-item_view-2.branch [
       | in-Text-what+in_ok-push_text-in-Text-what w ↦
           slot_pushed b m n (Some w.in-Text-what.text.now) cost w.push_text.new.self p at w.self-is
           w.in_ok-push_text-in-Text-what.ensures.ok kept (grind arith) cheap few

@@ -1,13 +1,13 @@
 use Rattle.std.proofs.Common.{◌+◌, ◌-◌, ◌≤◌, length, refl, ap, arith}
 use Rattle.ion_symbols.specs.Table.{most_slots}
-use Rattle.ion_symbols.specs.declared.symbols.Found.{Found}
+use Rattle.ion_symbols.specs.declared.symbols.FoundImport.{FoundImport}
 use Rattle.ion_symbols.proofs.Pendings.{import_pushed}
 use Rattle.ion_symbols.proofs.buffer.SymbolBuffer.end_import.Goals as goal
 
 pub returns-clause-pending : goal.returns-clause-pending
 returns-clause-pending g c =
     let b = c.args.self.now in
-    let f : Found = record { table = c.in-Slots.table; start = b.import_slots; count = c.in-Slots.count } in
+    let f : FoundImport = record { table = c.in-Slots.table; start = b.import_slots; count = c.in-Slots.count } in
     let cheap : (b.cost - length c.as_slice.result.now) + 32 ≤ c.args.limit = grind arith in
     let few : b.count + c.in-Slots.count ≤ most_slots = grind arith in
     import_pushed b c.push.new.self f (length c.as_slice.result.now) c.clear.new.self c.requires.can_take.pending c.requires.within.0

@@ -1,0 +1,15 @@
+use Rattle.std.proofs.Common.{◌≡◌, ◌-◌, ◌≤◌, length, take, None, Ok}
+use Rattle.ion_value.specs.Items.{annotations_of}
+use Rattle.ion_meter.specs.Sinks.{HasPut}
+use Rattle.ion_text_out.specs.Writing.{annotations_text}
+use Rattle.ion_text_out.proofs.item.put_annotations.Given as goal
+
+abbrev pub invariant-annotations : goal.invariant-annotations
+invariant-annotations g l = record {
+  within : l.index ≤ length (annotations_of g.N.Names.text l.annotations);
+  well : l.sink.fault ≡ None;
+  put : HasPut {T = Unit {0}} g.O.Output.written g.O.Output.observable g.O.Output.failure_count l.initial.sink l.sink (Ok tt) (annotations_text (take l.index (annotations_of g.N.Names.text l.annotations)));
+}
+
+abbrev pub decreases-annotations : goal.decreases-annotations
+decreases-annotations g l = length (annotations_of g.N.Names.text l.annotations) - l.index

@@ -1,5 +1,0 @@
-use Rattle.ion_meter.proofs.Putting.{put_cut}
-use Rattle.ion_text_out.proofs.item.put_note.Goals as goal
-
-pub returns-in-Err : goal.returns-in-Err
-returns-in-Err g c = put_cut _ c.in-Err.is c.put_symbol.ensures

@@ -1,0 +1,108 @@
+use Rattle.std.proofs.Common.{rules, ◌≡◌, ◌+◌, [], ◌∷◌, ◌++◌, length, Some, None, ap, ◌∙◌}
+use Rattle.ion_meter.specs.Windows.{so_far, HasPrefix}
+use Rattle.ion_value.specs.Items.{item_of}
+use Rattle.ion_value.specs.Reading.{More}
+use Rattle.ion_value.specs.Standing.{open_after, Continues}
+use Rattle.ion_value.specs.Outcome.{one_if_closed}
+use Rattle.ion_symbols.specs.Table.{text_at}
+use Rattle.ion_symbols.specs.User.{coming_to, lent_by}
+use Rattle.ion_value.proofs.Outcomes.{walk-more, walk-prefix, walk-fault, walk-refused, prefix-then, prefix-behind, output_behind-prefix}
+use Rattle.ion_transcode.proofs.copy_items.copy_items.Goals as goal
+
+pub returns-in_err-begin-clause-puts : goal.returns-in_err-begin-clause-puts
+returns-in_err-begin-clause-puts g c r o =
+    let w = g.W.ValueWriter in
+    let limits = w.limits c.args.writer.now in
+    let before = so_far g.O.Output.written c.args.sink.now in
+    record {
+      accepted = search rules;
+      rejected = search rules;
+      prefix = prefix-then _ (before ++ w.puts limits []) _
+          (prefix-behind before _ _ (output_behind-prefix (w.puts limits) (w.adds limits) (w.refusal limits) (g.met.W.ValueWriter.grows limits) [] (coming_to g.R.RawReader.reading c.args.reader.now)))
+          ((c.begin.ensures.part c.requires.writer.well).prefix o);
+    }
+
+pub returns-in_err-next-clause-puts : goal.returns-in_err-next-clause-puts
+returns-in_err-next-clause-puts g c r o =
+    let w = g.W.ValueWriter in
+    let limits = w.limits c.args.writer.now in
+    record {
+      accepted = search rules;
+      rejected = search rules;
+      prefix = walk-prefix c.items.invariant.walk (w.adds limits) (g.met.W.ValueWriter.grows limits) _ r o (c.items.invariant.prefix o);
+    }
+
+pub returns-in-Err-clause-says : goal.returns-in-Err-clause-says
+returns-in-Err-clause-says g c r =
+    let w = g.W.ValueWriter in
+    let limits = w.limits c.args.writer.now in
+    let walk = c.items.invariant.walk in
+    let item = lent_by g.R.RawReader.current c.next.new.self in
+    let may : Continues (w.limits c.items.writer) walk.path (item_of (λ s. text_at s.table) c.item-item.result) = search rules in
+    let is : coming_to g.R.RawReader.reading c.items.reader ≡ More item (coming_to g.R.RawReader.reading c.next.new.self) = search rules in
+    record {
+      accepted = search rules;
+      rejected = λ reason place e.
+          let why : w.refusal limits walk.path item ≡ Some (reason, place) =
+          rw (c.items.invariant.limits, c.item-item.ensures) at (c.item.ensures.refuses c.items.invariant.fresh c.items.invariant.sink walk.path walk.stands_at may reason place (search rules)) in
+          (walk-refused walk item _ reason place r is why).0;
+    }
+
+pub returns-in-Err-clause-puts : goal.returns-in-Err-clause-puts
+returns-in-Err-clause-puts g c r o =
+    let w = g.W.ValueWriter in
+    let limits = w.limits c.args.writer.now in
+    let walk = c.items.invariant.walk in
+    let item = lent_by g.R.RawReader.current c.next.new.self in
+    let may : Continues (w.limits c.items.writer) walk.path (item_of (λ s. text_at s.table) c.item-item.result) = search rules in
+    let is : coming_to g.R.RawReader.reading c.items.reader ≡ More item (coming_to g.R.RawReader.reading c.next.new.self) = search rules in
+    let part : HasPrefix (so_far g.O.Output.written c.items.sink ++ w.adds limits walk.path item) (g.O.Output.written c.item.new.sink.device) =
+    rw (c.items.invariant.limits, c.item-item.ensures) at ((c.item.ensures.part c.items.invariant.sink walk.path walk.stands_at may).prefix (c.items.invariant.written.1 o)) in
+    record {
+      accepted = search rules;
+      rejected = λ reason place e.
+          let why : w.refusal limits walk.path item ≡ Some (reason, place) =
+          rw (c.items.invariant.limits, c.item-item.ensures) at (c.item.ensures.refuses c.items.invariant.fresh c.items.invariant.sink walk.path walk.stands_at may reason place (search rules)) in
+          let quiet : c.item.new.sink ≡ c.items.sink = c.item.ensures.quiet c.items.invariant.sink reason place (search rules) in
+          ap (so_far g.O.Output.written) quiet ∙ (walk-refused walk item _ reason place r is why).1 o;
+      prefix = walk-fault walk (w.adds limits) (g.met.W.ValueWriter.grows limits) (g.met.W.ValueWriter.silent limits) item _ _ r o is part;
+    }
+
+pub items-preserved : goal.items-preserved
+items-preserved g c =
+    let w = g.W.ValueWriter in
+    let r = g.R.RawReader in
+    let limits = w.limits c.args.writer.now in
+    let walk = c.items.invariant.walk in
+    let item = lent_by r.current c.next.new.self in
+    let may : Continues (w.limits c.items.writer) walk.path (item_of (λ s. text_at s.table) c.item-item.result) = search rules in
+    let is : r.observable c.args.reader.now.raw → coming_to r.reading c.items.reader ≡ More item (coming_to r.reading c.next.new.self) = search rules in
+    let none : w.refusal limits walk.path item ≡ None = search rules in
+    let later : w.stands c.item.new.self (walk.path ++ item ∷ []) = search rules in
+    let put : g.O.Output.observable c.args.sink.now.device → so_far g.O.Output.written c.item.new.sink ≡ so_far g.O.Output.written c.items.sink ++ w.adds limits walk.path item = search rules in
+    let opens : r.opened c.next.new.self.raw ≡ open_after (r.opened c.items.reader.raw) item.head = search rules in
+    let level : length (r.opened c.next.new.self.raw) ≡ c.level_behind-level.result = search rules in
+    let counts : c.values_behind-values.result ≡ c.items.values + one_if_closed (r.opened c.next.new.self.raw) = c.values_behind-values.ensures (r.opened c.next.new.self.raw) level in
+    record {
+      walk = walk-more walk (w.adds limits) (g.met.W.ValueWriter.grows limits) item (coming_to r.reading c.next.new.self) _ _ _ is none later put opens counts;
+      read = search rules;
+      written = search rules;
+      prefix = search rules;
+      ready = search rules;
+      well = search rules;
+      writer = search rules;
+      fresh = search rules;
+      sink = search rules;
+      level = search rules;
+      left = search rules;
+      limits = search rules;
+      depth = search rules;
+      refused = search rules;
+      failures = search rules;
+      device = search rules;
+      exceeds = search rules;
+      most = search rules;
+      same = search rules;
+      writer_most = search rules;
+      charges = search rules;
+    }

@@ -1,0 +1,21 @@
+use Rattle.std.proofs.Common.{◌≡◌, [], refl, subst}
+use Rattle.ion_meter.specs.Windows.{so_far}
+use Rattle.ion_value.specs.Reading.{Reading}
+use Rattle.ion_value.specs.Outcome.{output_behind}
+use Rattle.ion_symbols.specs.Users.{at_start, users}
+use Rattle.ion_symbols.specs.User.{coming_to}
+use Rattle.ion_transcode.specs.Calls.{WritesOutput}
+use Rattle.ion_transcode.proofs.copy_stream.copy_stream.Goals as goal
+
+pub returns-clause-writes : goal.returns-clause-writes
+returns-clause-writes g c r o =
+    let w = g.W.ValueWriter in
+    let limits = w.limits c.args.writer.now in
+    let reads = g.R.RawReader.reading in
+    let copy_items = c.copy_items-outcome.ensures in
+    let new = c.new-reader.ensures in
+    let before = so_far g.O.Output.written c.args.sink.now in
+    let observable : g.R.RawReader.observable c.new-reader.result.raw = rw new.raw.0 r in
+    let same : coming_to reads c.new-reader.result ≡ users c.args.catalog.now c.args.limits.symbols at_start (reads c.args.raw) = rw (new.raw.0, new.table.0, new.table.1.0, new.table.1.1.0, new.table.1.1.1) refl in
+    subst (λ (x : Reading). WritesOutput (output_behind (w.puts limits) (w.refusal limits) [] x) c.finish-outcome.result before (g.O.Output.written c.finish-outcome.new.sink.device)) same
+    (c.finish-outcome.ensures.writes (copy_items.causes.still_observable.1 o) _ before (copy_items.puts observable o))

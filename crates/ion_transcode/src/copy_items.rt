@@ -1,0 +1,88 @@
+//! The reader of user values and any writer, joined by their laws alone.
+ghost use Rattle.std.specs.Prelude.{◌≡◌, ℕ, ◌+◌, ◌-◌, ◌^◌, ◌<◌, ◌≤◌, List, [], length};
+ghost use Rattle.ion_meter.specs.Windows.{so_far};
+ghost use Rattle.ion_value.specs.declared.ion_type.Kind.{Kind};
+ghost use Rattle.ion_value.specs.Items.{raw_head};
+ghost use Rattle.ion_value.specs.Standing.{open_after};
+ghost use Rattle.ion_value.specs.Shares.{Charges};
+ghost use Rattle.ion_value.specs.Outcome.{one_if_closed, verdict_behind, output_behind};
+ghost use Rattle.ion_symbols.specs.User.{coming_to, owned_by, share_of};
+ghost use Rattle.ion_transcode.specs.Calls.{Causes, HasRoom, IsAtStart, Joined, MayWrite};
+ghost use Rattle.ion_transcode.specs.Calls.{PutsOutput, SaysVerdict};
+
+use ion_meter::device::Output;
+use ion_meter::fault::Fault;
+use ion_meter::meter::Meter;
+use ion_meter::sink::Sink;
+use ion_symbols::user::UserReader;
+use ion_value::item::Head;
+use ion_value::reader::RawReader;
+use ion_value::writer::ValueWriter;
+use std::alloc::Allocator;
+
+// How many containers are open behind an item.
+#[inline]
+fn level_behind(level: u32, head: &Head<'_>) -> u32
+    requires { level ≤ 65535 }
+    ensures { (kinds : List Kind) → length kinds ≡ level
+        → length (open_after kinds (raw_head head.now)) ≡ result }
+{
+    match *head {
+        Head::Begin(_) => level + 1,
+        Head::End => level.saturating_sub(1),
+        _ => level,
+    }
+}
+
+// One value more where no container is open.
+#[inline]
+fn values_behind(values: u64, level: u32) -> u64
+    requires { values < 2 ^ 64 - 1 }
+    ensures { (kinds : List Kind) → length kinds ≡ level
+        → result ≡ values + one_if_closed kinds }
+{
+    if level == 0 { values + 1 } else { values }
+}
+
+/// Puts each item of the user values that are read, and counts the values at top level.
+pub fn copy_items<R: RawReader<A>, W: ValueWriter<O, A>, O: Output, A: Allocator + Copy>(
+    meter: &mut Meter<A>,
+    reader: &mut UserReader<'_, R, A>,
+    writer: &mut W,
+    sink: &mut Sink<O, A>,
+) -> Result<u64, Fault>
+    requires room { HasRoom (2 ^ 59) (owned_by R.own reader.old + W.own writer.old) meter.old }
+    requires reader { IsAtStart R.RawReader reader.old }
+    requires writer { MayWrite W.ValueWriter (R.depth reader.old.raw) writer.old sink.old }
+    ensures says { R.observable reader.old.raw
+        → SaysVerdict (verdict_behind (W.refusal (W.limits writer.old)) []
+        (coming_to R.reading reader.old)) result }
+    ensures puts { R.observable reader.old.raw → O.observable sink.old.device
+        → PutsOutput (output_behind (W.puts (W.limits writer.old))
+        (W.refusal (W.limits writer.old)) [] (coming_to R.reading reader.old)) result
+        (so_far O.written sink.old) (so_far O.written sink.new)
+        (O.written sink.new.device) }
+    ensures causes { Causes result meter.old meter.new
+        (R.failures reader.old.raw) (R.failures reader.new.raw) (R.exceeds reader.old.raw)
+        O.Output sink.old.device sink.new.device }
+    ensures joined { Joined R.RawReader W.ValueWriter reader.old reader.new
+        writer.old writer.new result sink.new.fault }
+    ensures charges { Charges meter.old meter.new
+        (owned_by R.own reader.old + W.own writer.old)
+        (owned_by R.own reader.new + W.own writer.new)
+        (share_of R.most reader.old + W.most writer.old) }
+{
+    writer.begin(sink)?;
+    let mut values: u64 = 0;
+    let mut level: u32 = 0;
+    'items: while reader.next(meter)? {
+        let item = reader.item();
+        let head = item.head();
+        if let Err(fault) = writer.item(meter, sink, &item) {
+            return Err(fault);
+        }
+        level = level_behind(level, &head);
+        values = values_behind(values, level);
+    }
+    Ok(values)
+}

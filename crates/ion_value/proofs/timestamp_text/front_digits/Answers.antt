@@ -1,8 +1,0 @@
-use Rattle.ion_value.proofs.TimestampOctets.{from_place}
-use Rattle.ion_value.proofs.FrontDigits.{front-few}
-use Rattle.ion_value.proofs.timestamp_text.front_digits.Goals as goal
-
-pub returns-then-count-lt-DIGITS_IN_64_BITS : goal.returns-then-count-lt-DIGITS_IN_64_BITS
-returns-then-count-lt-DIGITS_IN_64_BITS c =
-    front-few c.args.bytes.now _ c.few_digits-number.ensures.digits c.if-count-lt-DIGITS_IN_64_BITS.true c.few_digits-number.ensures.value
-    (from_place c.args.bytes.now c.few_digits-number.result.1)

@@ -5,7 +5,7 @@ usage: check_text_rows.py [--final] [--rows N] [--longest N] [--part N] [--keep 
 
 Run it from the root of the repository. Each line of a file is one case: `words` (the command line), `input` (hex), and
 what must come: `status`, `stdout` (hex), `stderr`; `final`, where a case has it, holds the last three as they must be
-once decimals are written with a point, and --final compares with that. Cases of binary input, with a catalogue, with
+now that decimals have a point, and --final compares with that. Cases of binary input, with a catalogue, with
 limits of the output or without `input` are passed over. Each other one becomes a row that the prover computes, in a
 copy of the crates: the verdict, and for `show` the text that is written. --rows takes the first N cases (500), --longest
 those of at most N bytes (200), --part puts N rows into a module (250), --keep makes the copy in a new folder and leaves it.
@@ -74,7 +74,7 @@ def unfoldable_names(repository):
     for crate in CRATES:
         folder = f'{repository}/crates/{crate}/specs'
         for name in sorted(os.listdir(folder)):
-            if not name.endswith('.antt') or name in ('Laws.antt', 'Grammar.antt', 'Paths.antt', 'Fits.antt'):
+            if not name.endswith('.antt') or name in ('Laws.antt', 'Grammar.antt', 'Paths.antt'):
                 continue
             block = False
             for line in open(f'{folder}/{name}'):

@@ -1,11 +1,14 @@
 mod Rows
 mod Termination
 mod VarLoop
-mod Cursors
 mod TimestampsSpelled
 mod TimestampsRead
 mod Bodies
 mod Narrow
+mod Refused
+mod Stable
+mod Free
+mod ExactLimits
 mod Taken
 mod TypedValueSound
 mod WrapperSound
@@ -17,7 +20,6 @@ mod SpelledParts
 mod SpelledMembers
 mod Complete
 mod BodyParts
-mod Passing
 mod TypedValueCode
 mod WrapperCode
 mod Annotations

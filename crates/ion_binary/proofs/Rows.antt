@@ -287,3 +287,35 @@ too_many_annotations = refl
 open_list_cut : read_behind usual (0xB2 ∷ 0x11 ∷ []) ≡ behind (first ∷ at 4 4 None [] (begin kind.List) ∷ at 5 4 None [] (whole (value.bool true)) ∷ []) (Stopped Reason.Truncated 6)
 unfolding read
 open_list_cut = refl
+
+-- one open container, and one annotation
+abbrev one_annotation : Limits
+one_annotation = record { depth = 1; scalar = 16; symbols = 1048576; value = 16777216; input = 281474976710656 }
+
+annotation_at_limit : read_behind one_annotation (0xE3 ∷ 0x81 ∷ 0x84 ∷ 0x11 ∷ []) ≡ behind (first ∷ at 7 4 None (symbol_id 4 6 ∷ []) (whole (value.bool true)) ∷ []) (Finished)
+unfolding read
+annotation_at_limit = refl
+
+second_annotation_past_limit : read_behind one_annotation (0xE4 ∷ 0x82 ∷ 0x84 ∷ 0x85 ∷ 0x11 ∷ []) ≡ behind (first ∷ []) (Stopped Reason.AnnotationLimit 7)
+unfolding read
+second_annotation_past_limit = refl
+
+overrun_before_depth : read_behind shallow (0xB1 ∷ 0xB1 ∷ []) ≡ behind (first ∷ at 4 4 None [] (begin kind.List) ∷ []) (Stopped Reason.Overrun 5)
+unfolding read
+overrun_before_depth = refl
+
+early_end_before_depth : read_behind one_annotation (0xB5 ∷ 0xE4 ∷ 0x81 ∷ 0x84 ∷ 0xB0 ∷ 0x11 ∷ []) ≡ behind (first ∷ at 4 4 None [] (begin kind.List) ∷ []) (Stopped Reason.BadAnnotation 8)
+unfolding read
+early_end_before_depth = refl
+
+early_end_before_length : read_behind one_annotation (0xEE ∷ 0x96 ∷ 0x81 ∷ 0x84 ∷ 0x8E ∷ 0x91 ∷ []) ≡ behind (first ∷ []) (Stopped Reason.BadAnnotation 8)
+unfolding read
+early_end_before_length = refl
+
+length_before_truncated : read_behind shallow (0x83 ∷ 0x61 ∷ []) ≡ behind (first ∷ []) (Stopped Reason.ScalarLimit 4)
+unfolding read
+length_before_truncated = refl
+
+truncated_before_range : read_behind usual (0x2E ∷ 0x91 ∷ 0xFF ∷ []) ≡ behind (first ∷ []) (Stopped Reason.Truncated 4)
+unfolding read
+truncated_before_range = refl

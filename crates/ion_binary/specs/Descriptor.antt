@@ -7,7 +7,7 @@ use Rattle.ion_value.specs.declared.ion_type.IonType.TheVariants as type
 use Rattle.ion_value.specs.declared.ion_type.Kind.{Kind}
 use Rattle.ion_value.specs.declared.ion_type.Kind.TheVariants as kind
 use Rattle.ion_value.specs.Number.{var_uint}
-use Rattle.ion_value.specs.Parts.{◌>>=◌, ◌>>◌}
+use Rattle.ion_value.specs.Parts.{◌>>=◌}
 use Rattle.ion_meter.specs.Sources.{Cursor}
 
 -- ---- regions
@@ -98,7 +98,7 @@ sized_shapes length_code =
     nop_pad length_code ∷ bool_shape length_code ∷ body 2 length_code ∷ body 3 length_code ∷ float
     ∷ body 5 length_code ∷ body 6 length_code ∷ body 7 length_code ∷ body 8 length_code ∷ body 9 length_code ∷ body 10 length_code
     ∷ container kind.List length_code ∷ container kind.Sexp length_code
-        ∷ struct_shape length_code ∷ wrapper_shape length_code ∷ []
+    ∷ struct_shape length_code ∷ wrapper_shape length_code ∷ []
 
 abbrev pub shape_by : ℕ → ℕ → Shape
 shape_by type_code length_code = slice_index_or (if nat_eq length_code 15 then null_shapes else sized_shapes length_code) type_code illegal

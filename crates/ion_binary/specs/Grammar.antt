@@ -161,7 +161,7 @@ pub data Tops : List (Top SymbolAt ℕ) → List ℕ → Type 0 where
   nop_pad : (ts : List (Top SymbolAt ℕ)) (b p : List ℕ) → Tops ts b → IsNopPad p → Tops ts (b ++ p)
   with_value : (ts : List (Top SymbolAt ℕ)) (h : ℕ) (annotations : List SymbolAt) (v : Value SymbolAt ℕ) (b x : List ℕ) → Tops ts b
       → Bin (length b) annotations h v x
-          → Tops (ts ++ value.tree (length b) annotations h v ∷ []) (b ++ x)
+      → Tops (ts ++ value.tree (length b) annotations h v ∷ []) (b ++ x)
 
 -- a binary stream begins with the octet that text never begins with, and so with a marker
 pub record Stream (bytes : List ℕ) (ts : List (Top SymbolAt ℕ)) : Type 0 where

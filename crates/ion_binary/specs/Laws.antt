@@ -1,13 +1,16 @@
 -- What is true of the grammar and the reading: laws that contracts cite.
-use Rattle.std.specs.Prelude.{◌≡◌, ℕ, ◌*◌, ◌≤◌, ◌⊎◌, List, ◌++◌, length, Ok}
+use Rattle.std.specs.Prelude.{◌≡◌, ◌≢◌, ℕ, ◌+◌, ◌*◌, ◌<◌, ◌≤◌, ◌⊎◌, List, [], ◌++◌, length, Ok}
 use Rattle.ion_meter.specs.declared.fault.Reason.{Reason}
-use Rattle.ion_meter.specs.declared.fault.Reason.TheVariants.{DepthLimit, ScalarLimit, AnnotationLimit}
+use Rattle.ion_meter.specs.declared.fault.Reason.TheVariants.{Truncated, DepthLimit, ScalarLimit, AnnotationLimit}
 use Rattle.ion_meter.specs.declared.limits.Limits.{Limits}
+use Rattle.ion_value.specs.declared.ion_type.Kind.{Kind}
+use Rattle.ion_value.specs.Number.{VarUInt}
 use Rattle.ion_value.specs.Scalar.{scalar_of_body}
+use Rattle.ion_value.specs.Standing.{open_behind}
 use Rattle.ion_value.specs.Value.{Symbol, SymbolAt, Scalar, Top, PlacedItem}
 use Rattle.ion_value.specs.Path.{Path, closed, path_items}
 use Rattle.ion_value.specs.Reading.{Reading, Finished, Stopped, Shrinks, items_of, behind}
-use Rattle.ion_binary.specs.Grammar.{Body, Tops, Stream}
+use Rattle.ion_binary.specs.Grammar.{Descriptor, Body, Ids, Header, Tops, Stream}
 use Rattle.ion_binary.specs.Paths.{IsPath, At, Follows}
 use Rattle.ion_binary.specs.Positions.{State}
 use Rattle.ion_binary.specs.Reading.{step, size, reading}
@@ -88,3 +91,65 @@ OnePath =
 -- the same bytes are one list of version markers and values
 abbrev pub OneStream : Type 0
 OneStream = (bytes : List ℕ) (a b : List (Top SymbolAt ℕ)) → Stream bytes a → Stream bytes b → a ≡ b
+
+-- where a reading stops, and not at a limit, the bytes are no stream
+abbrev pub RightlyRefused : Type 0
+RightlyRefused =
+    (limits : Limits) (bytes : List ℕ) (reason : Reason) (place : ℕ) (ts : List (Top SymbolAt ℕ))
+    → ending_of (reading limits bytes) ≡ Stopped reason place → (IsLimit reason → ⊥) → Stream bytes ts → ⊥
+
+-- a reading that stops, and not since the bytes end, stops so whatever bytes follow
+abbrev pub Stable : Type 0
+Stable =
+    (limits : Limits) (bytes more : List ℕ) (items : List PlacedItem) (reason : Reason) (place : ℕ)
+    → reading limits bytes ≡ behind items (Stopped reason place) → reason ≢ Truncated
+    → reading limits (bytes ++ more) ≡ behind items (Stopped reason place)
+
+-- and then, where the reason is no limit's either, no stream begins with the bytes
+abbrev pub NoStreamBegins : Type 0
+NoStreamBegins =
+    (limits : Limits) (bytes more : List ℕ) (reason : Reason) (place : ℕ) (ts : List (Top SymbolAt ℕ))
+    → ending_of (reading limits bytes) ≡ Stopped reason place → (IsLimit reason → ⊥) → reason ≢ Truncated
+    → Stream (bytes ++ more) ts → ⊥
+
+-- these octets stand at a place of the bytes
+pub record StandAt (bytes : List ℕ) (place : ℕ) (x : List ℕ) : Type 0 where
+  pub before : List ℕ
+  pub rest : List ℕ
+  pub split : bytes ≡ before ++ (x ++ rest)
+  pub place_is : place ≡ length before
+
+-- an annotation of a wrapper that begins at a place, behind others: the first with which they cost more than the limit
+pub record PassesLimit (limits : Limits) (bytes : List ℕ) (place : ℕ) : Type 0 where
+  pub first : ℕ
+  pub size : ℕ
+  pub ids_size : ℕ
+  pub head : List ℕ
+  pub len : List ℕ
+  pub ids : List ℕ
+  pub annotations : List SymbolAt
+  pub id : ℕ
+  pub octets : List ℕ
+  pub stands : StandAt bytes first (((head ++ len) ++ ids) ++ octets)
+  pub descriptor : Descriptor 14 size head
+  pub ids_length : VarUInt ids_size len
+  pub before : Ids (first + length (head ++ len)) annotations ids
+  pub spells : VarUInt id octets
+  pub place_is : place ≡ first + length ((head ++ len) ++ ids)
+  pub within : 16 * length annotations ≤ limits.scalar
+  pub above : limits.scalar < 16 * (length annotations + 1)
+
+-- a limit is passed at a place, where so many containers are open: by the header of one more, by a descriptor that announces a longer body,
+-- or by an annotation
+pub data Passes (limits : Limits) (bytes : List ℕ) (depth place : ℕ) : Reason → Type 0 where
+  container : (k : Kind) (n : ℕ) (header : List ℕ) → StandAt bytes place header → Header k n header → limits.depth ≤ depth
+      → Passes limits bytes depth place DepthLimit
+  body : (t n : ℕ) (head : List ℕ) → StandAt bytes place head → Descriptor t n head → limits.scalar < n → Passes limits bytes depth place ScalarLimit
+  annotation : PassesLimit limits bytes place → Passes limits bytes depth place AnnotationLimit
+
+-- a reading stops at a limit only where it is passed
+abbrev pub ExactLimits : Type 0
+ExactLimits =
+    (limits : Limits) (bytes : List ℕ) (items : List PlacedItem) (reason : Reason) (place : ℕ)
+    → reading limits bytes ≡ behind items (Stopped reason place) → IsLimit reason
+    → Passes limits bytes (length (open_behind [] items)) place reason

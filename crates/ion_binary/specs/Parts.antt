@@ -1,14 +1,12 @@
 -- What contracts of the code say of the parts of an item.
-use Rattle.std.specs.Prelude.{◌≡◌, ℕ, zero, suc, ◌+◌, ◌*◌, ◌%◌, nat_lt, if◌then◌else◌, length, take, Result, Ok, Err}
-use Rattle.ion_meter.specs.declared.fault.Fault.{Fault}
-use Rattle.ion_meter.specs.declared.fault.Fault.TheVariants.{Refused, Memory, ReadFault, WriteFault, InputLimit}
+use Rattle.std.specs.Prelude.{ℕ, zero, suc, ◌+◌, ◌*◌, ◌%◌, nat_lt, if◌then◌else◌, length, take, Result, Ok, Err}
 use Rattle.ion_meter.specs.declared.fault.Reason.{Reason}
 use Rattle.ion_meter.specs.declared.fault.Reason.TheVariants.{BadVar, ScalarLimit, Truncated}
 use Rattle.ion_meter.specs.declared.limits.Limits.{Limits}
 use Rattle.ion_value.specs.Scalar.{scalar_of_body}
 use Rattle.ion_value.specs.Value.{Symbol, Scalar}
 use Rattle.ion_meter.specs.Sources.{Cursor, skip}
-use Rattle.ion_value.specs.Parts.{◌>>=◌, ◌>>◌, refuse, Placed}
+use Rattle.ion_value.specs.Parts.{◌>>=◌, ◌>>◌, refuse}
 use Rattle.ion_binary.specs.Descriptor.{Region, octet_at}
 
 -- the VarUInt of which some octets were taken and spell a number, and so many more may come

@@ -9,7 +9,7 @@ ghost use Rattle.ion_meter.specs.Sources.{skip, cursor, Stands};
 ghost use Rattle.ion_binary.specs.Bodies.{as_scalar, IsNumberCode, IsBodyTypeCode};
 ghost use Rattle.ion_value.specs.Answers.{Answers};
 ghost use Rattle.ion_binary.specs.Parts.{body_here};
-ghost use Rattle.ion_binary.specs.Calls.{AnswersBy, CanRead, Reads, ReadsInto};
+ghost use Rattle.ion_value.specs.Calls.{AnswersBy, CanRead, Reads, ReadsInto};
 
 use ion_meter::buf::Buf;
 use ion_meter::device::Input;

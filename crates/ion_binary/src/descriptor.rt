@@ -81,15 +81,39 @@ impl Shape {
         match type_code {
             0 => Shape::NopPad(length_code),
             1 => Shape::bool(length_code),
-            2 => Shape::Body { type_code: 2, length_code },
-            3 => Shape::Body { type_code: 3, length_code },
+            2 => Shape::Body {
+                type_code: 2,
+                length_code,
+            },
+            3 => Shape::Body {
+                type_code: 3,
+                length_code,
+            },
             4 => Shape::Float,
-            5 => Shape::Body { type_code: 5, length_code },
-            6 => Shape::Body { type_code: 6, length_code },
-            7 => Shape::Body { type_code: 7, length_code },
-            8 => Shape::Body { type_code: 8, length_code },
-            9 => Shape::Body { type_code: 9, length_code },
-            10 => Shape::Body { type_code: 10, length_code },
+            5 => Shape::Body {
+                type_code: 5,
+                length_code,
+            },
+            6 => Shape::Body {
+                type_code: 6,
+                length_code,
+            },
+            7 => Shape::Body {
+                type_code: 7,
+                length_code,
+            },
+            8 => Shape::Body {
+                type_code: 8,
+                length_code,
+            },
+            9 => Shape::Body {
+                type_code: 9,
+                length_code,
+            },
+            10 => Shape::Body {
+                type_code: 10,
+                length_code,
+            },
             11 => Shape::Container(Kind::List, length_code),
             12 => Shape::Container(Kind::Sexp, length_code),
             13 => Shape::structure(length_code),

@@ -1,6 +1,6 @@
 //! Laws of the grammar and the reading of the binary form, each the contract of a function that
 //! does nothing.
-ghost use Rattle.ion_binary.specs.Laws.{Bodies, Complete, EachStepFalls, EachStepFollows, Narrow, OnePath, OneStream, Sound, StreamsAreRead};
+ghost use Rattle.ion_binary.specs.Laws.{Bodies, Complete, EachStepFalls, EachStepFollows, ExactLimits, Narrow, NoStreamBegins, OnePath, OneStream, RightlyRefused, Sound, Stable, StreamsAreRead};
 
 /// Every body of a scalar that the grammar has is read to its value, and no other body is read.
 pub fn bodies_are_read()
@@ -50,6 +50,28 @@ pub fn one_stream()
     ensures { OneStream }
 {}
 
+/// Where a reading stops, and not at a limit, the input is no stream of the grammar.
+pub fn rightly_refused()
+    ensures { RightlyRefused }
+{}
+
+/// A reading that stops, and not because the input ends, stops so whatever bytes follow.
+pub fn refusals_are_stable()
+    ensures { Stable }
+{}
+
+/// Where a reading stops, neither at a limit nor because the input ends, no stream of the grammar
+/// begins with the input.
+pub fn no_stream_begins()
+    ensures { NoStreamBegins }
+{}
+
+/// A reading stops at a limit only where the limit is passed: at the header of a container where so
+/// many are open, at a scalar that announces a longer body, or at the annotation that passes it.
+pub fn limits_are_exact()
+    ensures { ExactLimits }
+{}
+
 #[cfg(test)]
 mod tests {
     use super::*;
@@ -65,5 +87,9 @@ mod tests {
         streams_are_read();
         one_path();
         one_stream();
+        rightly_refused();
+        refusals_are_stable();
+        no_stream_begins();
+        limits_are_exact();
     }
 }

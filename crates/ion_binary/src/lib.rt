@@ -6,11 +6,11 @@
 
 mod body;
 mod descriptor;
-mod typed_value;
 pub mod laws;
 mod octets;
 pub mod reader;
 #[cfg(test)]
 mod tests;
+mod typed_value;
 mod value;
 mod wrapper;

@@ -4,7 +4,7 @@ ghost use Rattle.std.specs.Prelude.{◌≡◌, ◌+◌, ◌^◌, ◌<◌, OnOk, 
 ghost use Rattle.ion_binary.specs.Descriptor.{octet_at, var_uint_at, length_at};
 ghost use Rattle.ion_meter.specs.Sources.{Stands};
 ghost use Rattle.ion_value.specs.Answers.{itself};
-ghost use Rattle.ion_binary.specs.Calls.{AnswersBy, Reads};
+ghost use Rattle.ion_value.specs.Calls.{AnswersBy, Reads};
 
 use ion_meter::device::Input;
 use ion_meter::fault::{Fault, Reason};

@@ -8,7 +8,7 @@ ghost use Rattle.ion_binary.specs.Finds.{as_around, as_typed_value, end_by, IsOf
 ghost use Rattle.ion_binary.specs.Shapes.{as_shape};
 ghost use Rattle.ion_meter.specs.Sources.{cursor, Stands};
 ghost use Rattle.ion_value.specs.Answers.{Answers};
-ghost use Rattle.ion_binary.specs.Calls.{AnswersBy, CanRead, Reads, ReadsInto};
+ghost use Rattle.ion_value.specs.Calls.{AnswersBy, CanRead, Reads, ReadsInto};
 
 use crate::body::{Body, next_body, pass_over};
 use crate::descriptor::Shape;
@@ -190,7 +190,8 @@ fn next_container<I: Input, A: Allocator + Copy>(
     requires stands { Stands source.old }
     requires length_code { length_code < 15 }
     ensures gives { AnswersBy I.Input (λ end. a_container kind end)
-        source.old source.new place result (container_at limits (as_around around) kind length_code) }
+        source.old source.new place result
+        (container_at limits (as_around around) kind length_code) }
     ensures deep { OnOk result (around.depth < limits.depth) }
     ensures reads { Reads I.Input source.old source.new result }
 {
@@ -247,7 +248,8 @@ fn next_scalar<I: Input, A: Allocator + Copy>(
     requires length_code { length_code < 15 }
     requires type_code { IsBodyTypeCode type_code }
     ensures gives { AnswersBy I.Input (λ _. a_scalar (as_scalar text.new body.new))
-        source.old source.new place result (scalar_at limits (as_around around) type_code length_code) }
+        source.old source.new place result
+        (scalar_at limits (as_around around) type_code length_code) }
     ensures range { OnOk result (InRange (as_scalar text.new body.new)) }
     ensures reads { ReadsInto I.Input source.old source.new meter.old meter.new
         (length text.old) (length text.new) limits.scalar result }
@@ -278,7 +280,8 @@ fn read_by_descriptor<I: Input, A: Allocator + Copy>(
     requires can_read { CanRead limits limits.scalar source.old text.old meter.old }
     requires shape { IsOfDescriptor (as_shape shape) }
     ensures gives { AnswersBy I.Input (as_typed_value text.new body.new)
-        source.old source.new place result (read_by_descriptor limits (as_around around) (as_shape shape)) }
+        source.old source.new place result
+        (read_by_descriptor limits (as_around around) (as_shape shape)) }
     ensures range { result ≡ Ok TypedValue.Scalar → InRange (as_scalar text.new body.new) }
     ensures deep { (kind : Kind) (end : ℕ) → result ≡ Ok (TypedValue.Container kind end)
         → around.depth < limits.depth }
@@ -293,8 +296,21 @@ fn read_by_descriptor<I: Input, A: Allocator + Copy>(
             Err(fault) => Err(fault),
             Ok(()) => Ok(TypedValue::NopPad),
         },
-        Shape::Body { type_code, length_code } => {
-            match next_scalar(source, text, body, type_code, length_code, around, limits, place, meter) {
+        Shape::Body {
+            type_code,
+            length_code,
+        } => {
+            match next_scalar(
+                source,
+                text,
+                body,
+                type_code,
+                length_code,
+                around,
+                limits,
+                place,
+                meter,
+            ) {
                 Err(fault) => Err(fault),
                 Ok(()) => Ok(TypedValue::Scalar),
             }

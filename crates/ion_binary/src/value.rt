@@ -8,14 +8,15 @@ ghost use Rattle.ion_binary.specs.Positions.{Frame};
 ghost use Rattle.ion_binary.specs.Reading.{region_of, wrapper_length, inner_at, annotated_at, value_at};
 ghost use Rattle.ion_binary.specs.Bodies.{as_scalar};
 ghost use Rattle.ion_meter.specs.Sources.{cursor};
-ghost use Rattle.ion_binary.specs.Calls.{CanRead, ReadsInto, ReadsValue};
+ghost use Rattle.ion_value.specs.Calls.{CanRead, ReadsInto};
+ghost use Rattle.ion_binary.specs.Calls.{ReadsValue};
 ghost use Rattle.ion_binary.specs.Wrappers.{as_annotations};
 ghost use Rattle.ion_binary.specs.Values.{GivesStep};
 
 use crate::body::Body;
 use crate::descriptor::Shape;
-use crate::typed_value::{Around, TypedValue, next_typed_value};
 use crate::octets::next_octet;
+use crate::typed_value::{Around, TypedValue, next_typed_value};
 use crate::wrapper::{next_annotations, next_wrapper};
 use ion_meter::buf::Buf;
 use ion_meter::device::Input;
@@ -156,7 +157,16 @@ pub(crate) fn next_value<I: Input, A: Allocator + Copy>(
     };
     if let Some(length_code) = wrapper_length_code(octet) {
         return next_annotated(
-            source, annotations, text, body, length_code, region, depth, limits, place, meter,
+            source,
+            annotations,
+            text,
+            body,
+            length_code,
+            region,
+            depth,
+            limits,
+            place,
+            meter,
         );
     }
     let around = Around {

@@ -6,7 +6,7 @@ ghost use Rattle.ion_binary.specs.Descriptor.{passes};
 ghost use Rattle.ion_binary.specs.Reading.{wrapper_at, ids_at, field_at};
 ghost use Rattle.ion_meter.specs.Sources.{cursor, Stands};
 ghost use Rattle.ion_value.specs.Answers.{AnswersAt};
-ghost use Rattle.ion_binary.specs.Calls.{AnswersBy, CanRead, Reads, ReadsInto};
+ghost use Rattle.ion_value.specs.Calls.{AnswersBy, CanRead, Reads, ReadsInto};
 ghost use Rattle.ion_binary.specs.Wrappers.{as_wrapped, as_annotations, as_field, innermost};
 
 use crate::body::id_of;

@@ -36,7 +36,7 @@ pub record Moves {I : Type 0} (device : InputOf I) (old new : Incoming I) : Type
 
 -- why a call that takes no memory answers a fault
 pub record Causes (fault : Option Fault) (failures_old failures_new : ℕ) (exceeds : Type 0) : Type 0 where
-  pub device : fault ≡ Some ReadFault → failures_old < failures_new
+  pub device : fault ≡ Some ReadFault → failures_new ≡ failures_old + 1
   pub steady : (fault ≡ Some ReadFault → ⊥) → failures_new ≡ failures_old
   pub limit : fault ≡ Some InputLimit → exceeds
   pub no_memory : fault ≡ Some Memory → ⊥

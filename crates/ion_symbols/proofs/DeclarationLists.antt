@@ -83,7 +83,7 @@ again texts w before b e f = rw f (omega (arith, found texts w before e))
 -- ---- the fields of an import
 
 -- the import that is being read is what its fields say so far, by the values of its name, version and greatest id
-record Parts (name version most : Option (Value SymbolAt ℕ)) (c : Core) (q : Pending) : Type 0 where
+pub record Parts (name version most : Option (Value SymbolAt ℕ)) (c : Core) (q : Pending) : Type 0 where
   pub same : core q ≡ c
   pub has_name : q.entry.has_name ≡ is_some name
   pub has_version : q.entry.has_version ≡ is_some version
@@ -179,7 +179,7 @@ part_yields g top field_place place w x n v m c q h name version most =
     rw (or_later-none n, or_later-none v, or_later-none m) (yields_ignored g.old top x q h)
 
 -- a field of an import that may stand once stands twice
-abbrev Twice : (ℕ → Option (List ℕ)) → Members SymbolAt ℕ → Type 0
+abbrev pub Twice : (ℕ → Option (List ℕ)) → Members SymbolAt ℕ → Type 0
 Twice texts members = IsTwice texts members word.Name ⊎ (IsTwice texts members word.Version ⊎ IsTwice texts members word.MaxId)
 
 -- and with a field more it still does
@@ -190,11 +190,11 @@ twice_more texts before field annotations place x (inr (inl h)) = inr (inl (omeg
 twice_more texts before field annotations place x (inr (inr h)) = inr (inr (omega arith))
 
 -- the parts by all fields
-abbrev PartsOf : (ℕ → Option (List ℕ)) → Members SymbolAt ℕ → Core → Pending → Type 0
+abbrev pub PartsOf : (ℕ → Option (List ℕ)) → Members SymbolAt ℕ → Core → Pending → Type 0
 PartsOf texts members c q = Parts (value_of texts word.Name members) (value_of texts word.Version members) (value_of texts word.MaxId members) c q
 
 -- the fields of an import
-parts_yield : (g : Ground) (top start : ℕ) (members : Members SymbolAt ℕ) (p : Pending)
+pub parts_yield : (g : Ground) (top start : ℕ) (members : Members SymbolAt ℕ) (p : Pending)
     → Yields (PartsOf (text_at g.old) members (core p)) (Twice (text_at g.old) members) (parts_held g top members (record p { entry = new_entry start }))
 parts_yield g top start nothing p =
     yields_ok (record { same = refl; has_name = refl; has_version = refl; has_max = refl; name_is = refl; version_is = refl; max_is = refl })

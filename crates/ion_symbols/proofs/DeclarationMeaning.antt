@@ -1,6 +1,7 @@
 -- What a declaration says, and why it is refused: both laws at once, field by field.
 use Rattle.std.proofs.Common.{◌≡◌, ℕ, ◌⊎◌, inl, inr, refl, ap, sym, ◌∙◌, subst, Bool, true, false, if◌then◌else◌, List, [], ◌++◌, Option, Some, None, is_some, Ok, Err, arith}
 use Rattle.ion_meter.specs.declared.fault.Reason.{Reason}
+use Rattle.ion_meter.specs.declared.fault.Reason.TheVariants.{BadSymbol}
 use Rattle.ion_value.specs.declared.ion_type.Kind.TheVariants as kind
 use Rattle.ion_value.specs.Value as value
 use Rattle.ion_value.specs.Value.{SymbolAt, Value, Members, scalar, container, nothing, member}
@@ -10,22 +11,24 @@ use Rattle.ion_symbols.specs.Table.{Slots, Shared, Import, Table, text_at, table
 use Rattle.ion_symbols.specs.Declaration.{Ground, Held, Pending, nothing_yet, next, field_met, word_in, field_word, place_in}
 use Rattle.ion_symbols.specs.Users.{is_declaration}
 use Rattle.ion_symbols.specs.Tree.{same_word, or_later, value_of, elements, locals_of, imports_in, with_imports, by_word, by_imports, next_table, and_then, first_of, keeping_by, field_held, fields_held, table_left}
-use Rattle.ion_symbols.specs.Laws.{WhatIsDeclared, WhyRefused, ListIsDoubled, IsDoubled}
+use Rattle.ion_symbols.specs.Laws.{WhatIsDeclared, WhyRefused, ListIsDoubled, IsDoubled, SomeAbove}
+use Rattle.ion_symbols.proofs.Costly.{costly}
+use Rattle.ion_symbols.proofs.IdsAbove.{Tells, fields_tell}
 use Rattle.ion_symbols.proofs.Yields.{Yields, Why, why_more, yields_ok, yields_then, yields_more, yields_fine, yields_ignored, yields_counted, yields_once}
 use Rattle.ion_symbols.proofs.DeclarationLists.{Core, core, elements_yield, or_this, or_later-none, again, Gains, imports_yield}
 
 -- the field `imports` keeps the present table
-abbrev kept_by : (ℕ → Option (List ℕ)) → Option (Value SymbolAt ℕ) → Bool
+abbrev pub kept_by : (ℕ → Option (List ℕ)) → Option (Value SymbolAt ℕ) → Bool
 kept_by texts (Some (scalar (value.symbol s))) = is_declaration (word_in texts s.symbol)
 kept_by texts _ = false
 
 -- the imports of the field `imports`
-abbrev imports_by : List Shared → (ℕ → Option (List ℕ)) → Option (Value SymbolAt ℕ) → Option (List Import)
+abbrev pub imports_by : List Shared → (ℕ → Option (List ℕ)) → Option (Value SymbolAt ℕ) → Option (List Import)
 imports_by catalog texts (Some (container kind.List members last)) = imports_in catalog texts members
 imports_by catalog texts _ = Some []
 
 -- a pending table is what the fields say so far, by the values of `imports` and `symbols`
-record Says (g : Ground) (imports symbols : Option (Value SymbolAt ℕ)) (q : Pending) : Type 0 where
+pub record Says (g : Ground) (imports symbols : Option (Value SymbolAt ℕ)) (q : Pending) : Type 0 where
   pub has_imports : q.has_imports ≡ is_some imports
   pub has_symbols : q.has_symbols ≡ is_some symbols
   pub keeps : q.keeps ≡ kept_by (text_at g.old) imports
@@ -42,7 +45,7 @@ keeping_yields g place word.Declaration p e h =
 keeping_yields g place w p e h = yields_ok (h p.keeps p.cost p.count e)
 
 -- the list `imports` is at fault
-abbrev ListFault : Ground → Option (Value SymbolAt ℕ) → Type 0
+abbrev pub ListFault : Ground → Option (Value SymbolAt ℕ) → Type 0
 ListFault g imports = ListIsDoubled (text_at g.old) imports ⊎ (imports_by g.catalog (text_at g.old) imports ≡ None)
 
 -- the list `imports` is read
@@ -114,7 +117,7 @@ field_yields g top field_place place w x i s q h imports symbols list =
     rw (or_later-none i, or_later-none s) (yields_ignored g.old top x q h)
 
 -- a declaration is at fault: a field stands twice, or a table isn't there
-abbrev Fault : Ground → Members SymbolAt ℕ → Type 0
+abbrev pub Fault : Ground → Members SymbolAt ℕ → Type 0
 Fault g members = IsDoubled (text_at g.old) members ⊎ (imports_by g.catalog (text_at g.old) (value_of (text_at g.old) word.Imports members) ≡ None)
 
 -- the first field of a name stays the first
@@ -146,11 +149,11 @@ list_fault g members (inl h) = inl (inr (inr h))
 list_fault g members (inr e) = inr e
 
 -- what all fields say
-abbrev SaidBy : Ground → Members SymbolAt ℕ → Pending → Type 0
+abbrev pub SaidBy : Ground → Members SymbolAt ℕ → Pending → Type 0
 SaidBy g members q = Says g (value_of (text_at g.old) word.Imports members) (value_of (text_at g.old) word.Symbols members) q
 
 -- the fields of a declaration
-fields_yield : (g : Ground) (top : ℕ) (members : Members SymbolAt ℕ) → Yields (SaidBy g members) (Fault g members) (fields_held g top members nothing_yet)
+pub fields_yield : (g : Ground) (top : ℕ) (members : Members SymbolAt ℕ) → Yields (SaidBy g members) (Fault g members) (fields_held g top members nothing_yet)
 fields_yield g top nothing = yields_ok (record { has_imports = refl; has_symbols = refl; keeps = refl; imports_are = refl; locals_are = refl })
 fields_yield g top (member before field annotations place x) =
     let texts : ℕ → Option (List ℕ) = text_at g.old in
@@ -235,6 +238,23 @@ refused_by g members reason place (Err why) c e =
     let same : why ≡ (reason, place) = cc in
     subst (Why (NoTable g members)) (ap (λ (w : Reason × ℕ). w.0) same) (why_more (no_table g members) why.0 c.so)
 
+-- where it is a symbol's, an id is above
+above_by : (g : Ground) (members : Members SymbolAt ℕ) (reason : Reason) (place : ℕ) (h : Held) → Tells (SomeAbove g.old members) h
+    → table_left g h ≡ Err (reason, place) → reason ≡ BadSymbol → SomeAbove g.old members
+above_by g members reason place (Ok q) c e f = absurd (cc e)
+above_by g members reason place (Err why) c e f =
+    let same : why ≡ (reason, place) = cc in
+    c.so (ap (λ (w : Reason × ℕ). w.0) same ∙ f)
+
+held_err : (g : Ground) (h : Held) (reason : Reason) (place : ℕ) → table_left g h ≡ Err (reason, place) → h ≡ Err (reason, place)
+held_err g (Ok q) reason place e = absurd (cc e)
+held_err g (Err why) reason place e = cc
+
 -- a declaration is refused for a symbol id above the table before it, for a limit, for a field that stands twice, or for a table that isn't there
 pub why_it_is_refused : WhyRefused
-why_it_is_refused g top members reason place e = refused_by g members reason place (fields_held g top members nothing_yet) (fields_yield g top members) e
+why_it_is_refused g top members reason place e =
+    elim (refused_by g members reason place (fields_held g top members nothing_yet) (fields_yield g top members) e) [
+      | inl symbol ↦ inl (symbol, above_by g members reason place (fields_held g top members nothing_yet) (fields_tell g top members) e symbol)
+      | inr (inl limit) ↦ inr (inl (limit, costly g top members (reason, place) (held_err g (fields_held g top members nothing_yet) reason place e) limit))
+      | inr (inr other) ↦ inr (inr other)
+    ]

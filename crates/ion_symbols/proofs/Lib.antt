@@ -16,7 +16,12 @@ mod DeclarationReadings
 mod Yields
 mod DeclarationLists
 mod DeclarationMeaning
+mod StandingSymbols
+mod IdsAbove
+mod Accepted
+mod Costly
 mod UserReadings
+mod OpenUsers
 mod TextOrder
 mod Halving
 mod Probes

@@ -1,15 +1,14 @@
 -- A pending table that takes the place of the present one, or stands behind it.
-use Rattle.std.proofs.Common.{◌≡◌, ℕ, suc, ◌+◌, ◌*◌, ◌≤◌, Bool, true, false, List, [], ◌∷◌, ◌++◌, length, Result, Ok, Err, OnOk, OnErr, refl, ap, sym, subst, ◌∙◌, arith, length-append}
+use Rattle.std.proofs.Common.{◌≡◌, ℕ, ◌+◌, ◌*◌, ◌≤◌, Bool, true, false, ◌++◌, length, Result, Ok, Err, OnOk, OnErr, refl, ap, sym, ◌∙◌, arith, length-append}
 use Rattle.std.proofs.lemmas.Bool.{true≢false}
 use Rattle.ion_meter.specs.Counts.{Counts, Grows, Shrinks}
-use Rattle.ion_meter.specs.Entries.{Entries, cost_of}
+use Rattle.ion_meter.specs.Entries.{cost_of}
 use Rattle.ion_meter.specs.declared.fault.Fault.{Fault}
 use Rattle.ion_value.specs.Shares.{Charges}
-use Rattle.ion_symbols.specs.Table.{Slots, Shared, Import, Table, slots_cost, table_cost, count_of, most_slots}
-use Rattle.ion_symbols.specs.Present.{Present, with_locals, imports_in}
+use Rattle.ion_symbols.specs.Table.{Slots, Table, slots_cost, table_cost}
+use Rattle.ion_symbols.specs.Present.{Present, with_locals}
 use Rattle.ion_symbols.specs.Buffer.{IsPending, own_of, if_kept}
 use Rattle.ion_symbols.specs.Kept.{IsUndone}
-use Rattle.ion_symbols.specs.declared.symbols.FoundImport.{FoundImport}
 use Rattle.ion_symbols.specs.declared.buffer.SymbolBuffer.{SymbolBuffer}
 use Rattle.ion_symbols.proofs.Keeping.{cost_append}
 

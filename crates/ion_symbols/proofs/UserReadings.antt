@@ -1,5 +1,5 @@
 -- The items of an accepted stream are those of its user values.
-use Rattle.std.proofs.Common.{◌≡◌, ℕ, suc, ◌+◌, ◌-◌, Bool, true, false, List, [], ◌∷◌, ◌++◌, map, Option, Some, None, Result, Ok, Err, refl, ap, sym, ◌∙◌, arith, append_assoc, add-one, subst}
+use Rattle.std.proofs.Common.{◌≡◌, ℕ, suc, ◌+◌, ◌-◌, Bool, true, false, List, [], ◌∷◌, ◌++◌, map, Option, Some, None, Result, Ok, Err, refl, ap, sym, ◌∙◌, arith, append_assoc, append-nil, add-one, subst}
 use Rattle.std.specs.Prelude.{option_map, ◌&&◌, ◌==◌}
 use Rattle.std.proofs.Math.Dec.{eqb-suc-zero}
 use Rattle.std.proofs.lemmas.List.{map-append}
@@ -15,7 +15,9 @@ use Rattle.ion_symbols.specs.Table.{Shared, Table, system, text_at}
 use Rattle.ion_symbols.specs.Declaration.{start, word_in}
 use Rattle.ion_symbols.specs.Users.{Checked, fine, bad, checked, resolve, plain, declaring, users, by_step, after_check, level_after, begins_declaration, is_struct, declares, is_declaration}
 use Rattle.ion_symbols.specs.Tree.{first_of, content_of, next_table, declared, user_at, declares_table, user_tops}
-use Rattle.ion_symbols.specs.Laws.{by_declared, WhatIsDeclared, user_item, UsersAreRead}
+use Rattle.ion_symbols.specs.Laws.{by_declared, WhatIsDeclared, UsersAreRead, table_behind, UsersStand, SymbolsStand}
+use Rattle.ion_value.specs.Value.{user_item}
+use Rattle.ion_symbols.proofs.StandingSymbols.{AllFine, AllFine-append, value-stands}
 use Rattle.ion_symbols.proofs.DeclarationReadings.{behind_append, declarations_are_read}
 
 -- ---- the items of a value as a user knows them
@@ -50,7 +52,7 @@ map_head-twice f g value.end = refl
 map_head-twice f g value.marker = refl
 
 -- an item as a user knows it, by the table at its place
-abbrev seen : Table → PlacedItem → Item UserSymbol ℕ
+abbrev pub seen : Table → PlacedItem → Item UserSymbol ℕ
 seen t i = map_item (user_at t) (λ place. place) i
 
 -- a resolved item as a user knows it
@@ -63,7 +65,7 @@ resolve-seen t i =
     ) refl
 
 -- and so all of them
-resolve-seen_all : (t : Table) (is : List PlacedItem) → map user_item (map (resolve t) is) ≡ map (seen t) is
+pub resolve-seen_all : (t : Table) (is : List PlacedItem) → map user_item (map (resolve t) is) ≡ map (seen t) is
 resolve-seen_all t [] = refl
 resolve-seen_all t (i ∷ is) = rw (resolve-seen t i, resolve-seen_all t is) refl
 
@@ -78,7 +80,7 @@ mutual
       (map-append (map_item f (λ (p : ℕ). p)) (member_items top members) (bare_item value.end last top ∷ [])
       ∙ ap (λ is. is ++ bare_item value.end last top ∷ []) (member_items-map f top members))
 
-  member_items-map : {S T : Type 0} (f : S → T) (top : ℕ) (members : Members S ℕ) → map (map_item f (λ (p : ℕ). p)) (member_items top members)
+  pub member_items-map : {S T : Type 0} (f : S → T) (top : ℕ) (members : Members S ℕ) → map (map_item f (λ (p : ℕ). p)) (member_items top members)
       ≡ member_items top (map_members f (λ (p : ℕ). p) members)
   member_items-map f top nothing = refl
   member_items-map f top (member before field annotations place x) =
@@ -89,14 +91,15 @@ mutual
 -- ---- an accepted user value
 
 -- between declarations, where so many containers are open
-abbrev sees : List Shared → ℕ → Table → ℕ → Reading → Reading
+abbrev pub sees : List Shared → ℕ → Table → ℕ → Reading → Reading
 sees catalog limit t n rest = users catalog limit (record { table = t; mode = plain n }) rest
 
 -- these items stand resolved in front, and behind them the reading goes on
-record Passes (catalog : List Shared) (limit : ℕ) (t : Table) (n : ℕ) (prefix : List PlacedItem) (rest : Reading) (items : List PlacedItem) : Type 0 where
-  later : List PlacedItem
-  goes_on : sees catalog limit t n rest ≡ behind later Finished
-  items_are : items ≡ map (resolve t) prefix ++ later
+pub record Passes (catalog : List Shared) (limit : ℕ) (t : Table) (n : ℕ) (prefix : List PlacedItem) (rest : Reading) (items : List PlacedItem) : Type 0 where
+  pub later : List PlacedItem
+  pub goes_on : sees catalog limit t n rest ≡ behind later Finished
+  pub items_are : items ≡ map (resolve t) prefix ++ later
+  pub checks : AllFine t prefix
 
 -- a fault is not the end of accepted items
 not_stopped : (reason : Reason) (place : ℕ) (items : List PlacedItem) → Stopped reason place ≡ behind items Finished → ⊥
@@ -105,29 +108,29 @@ not_stopped reason place (i ∷ is) e = cc
 
 -- an item that is given is the first
 given : (catalog : List Shared) (limit : ℕ) (t : Table) (n : ℕ) (i : PlacedItem) (rest : Reading) (items : List PlacedItem)
-    → More (resolve t i) (sees catalog limit t n rest) ≡ behind items Finished → Passes catalog limit t n (i ∷ []) rest items
-given catalog limit t n i rest [] e = absurd (cc)
-given catalog limit t n i rest (j ∷ js) e = record { later = js; goes_on = cc; items_are = cc }
+    → checked t true i ≡ fine → More (resolve t i) (sees catalog limit t n rest) ≡ behind items Finished → Passes catalog limit t n (i ∷ []) rest items
+given catalog limit t n i rest [] is e = absurd (cc)
+given catalog limit t n i rest (j ∷ js) is e = record { later = js; goes_on = cc; items_are = cc; checks = (is, tt) }
 
 -- an accepted item was found fine, so it is given
 given_checked : (catalog : List Shared) (limit : ℕ) (t : Table) (n : ℕ) (c : Checked) (i : PlacedItem) (rest : Reading) (items : List PlacedItem)
-    → by_step (after_check c (Gives (resolve t i) (record { table = t; mode = plain n }))) (λ s. users catalog limit s rest) ≡ behind items Finished
+    → checked t true i ≡ c → by_step (after_check c (Gives (resolve t i) (record { table = t; mode = plain n }))) (λ s. users catalog limit s rest) ≡ behind items Finished
     → Passes catalog limit t n (i ∷ []) rest items
-given_checked catalog limit t n fine i rest items e = given catalog limit t n i rest items e
-given_checked catalog limit t n (bad reason place) i rest items e = absurd (not_stopped reason place items e)
+given_checked catalog limit t n fine i rest items is e = given catalog limit t n i rest items is e
+given_checked catalog limit t n (bad reason place) i rest items is e = absurd (not_stopped reason place items e)
 
 -- an accepted item that is no version marker and begins no declaration is given, resolved
-one_item : (catalog : List Shared) (limit : ℕ) (t : Table) (n : ℕ) (i : PlacedItem) (rest : Reading) (items : List PlacedItem)
+pub one_item : (catalog : List Shared) (limit : ℕ) (t : Table) (n : ℕ) (i : PlacedItem) (rest : Reading) (items : List PlacedItem)
     → is_marker i.head ≡ false → begins_declaration t n i ≡ false → sees catalog limit t n (More i rest) ≡ behind items Finished
     → Passes catalog limit t (level_after n i.head) (i ∷ []) rest items
-one_item catalog limit t n i rest items m b e = given_checked catalog limit t (level_after n i.head) (checked t true i) i rest items (rw (m, b) at e)
+one_item catalog limit t n i rest items m b e = given_checked catalog limit t (level_after n i.head) (checked t true i) i rest items refl (rw (m, b) at e)
 
 -- in a container no declaration begins
-not_at_top : (n : ℕ) (b : Bool) → (suc n == 0) && b ≡ false
+pub not_at_top : (n : ℕ) (b : Bool) → (suc n == 0) && b ≡ false
 not_at_top n b = ap (λ e. e && b) (eqb-suc-zero n)
 
 -- one prefix, and then another
-both_pass : (catalog : List Shared) (limit : ℕ) (t : Table) (m n : ℕ) (is js : List PlacedItem) (rest : Reading) (items : List PlacedItem)
+pub both_pass : (catalog : List Shared) (limit : ℕ) (t : Table) (m n : ℕ) (is js : List PlacedItem) (rest : Reading) (items : List PlacedItem)
     → (p : Passes catalog limit t m is (behind js rest) items) → Passes catalog limit t n js rest p.later → Passes catalog limit t n (is ++ js) rest items
 both_pass catalog limit t m n is js rest items p q = record {
   later = q.later;
@@ -135,15 +138,16 @@ both_pass catalog limit t m n is js rest items p q = record {
   items_are =
       p.items_are ∙ (ap (λ l. map (resolve t) is ++ l) q.items_are
       ∙ (sym (append_assoc (map (resolve t) is) (map (resolve t) js) q.later) ∙ ap (λ l. l ++ q.later) (sym (map-append (resolve t) is js))));
+  checks = AllFine-append t is js p.checks q.checks;
 }
 
 -- nothing stands in front
 no_items : (catalog : List Shared) (limit : ℕ) (t : Table) (n : ℕ) (rest : Reading) (items : List PlacedItem) → sees catalog limit t n rest
     ≡ behind items Finished → Passes catalog limit t n [] rest items
-no_items catalog limit t n rest items e = record { later = items; goes_on = e; items_are = refl }
+no_items catalog limit t n rest items e = record { later = items; goes_on = e; items_are = refl; checks = tt }
 
 -- the same at an equal number of open containers
-at_level : (catalog : List Shared) (limit : ℕ) (t : Table) (m n : ℕ) (is : List PlacedItem) (rest : Reading) (items : List PlacedItem) → m ≡ n
+pub at_level : (catalog : List Shared) (limit : ℕ) (t : Table) (m n : ℕ) (is : List PlacedItem) (rest : Reading) (items : List PlacedItem) → m ≡ n
     → Passes catalog limit t m is rest items → Passes catalog limit t n is rest items
 at_level catalog limit t m n is rest items e p = subst (λ k. Passes catalog limit t k is rest items) e p
 
@@ -190,7 +194,7 @@ mutual
       container_passes catalog limit t (suc n) top field annotations place k members last rest items (not_at_top n (is_struct (value.begin k) && declares t annotations))
       (λ js h. members_pass catalog limit t (suc n) top members (More (bare_item value.end last top) rest) js h) e
 
-  members_pass : (catalog : List Shared) (limit : ℕ) (t : Table) (n : ℕ) (top : ℕ) (members : Members SymbolAt ℕ) (rest : Reading) (items : List PlacedItem)
+  pub members_pass : (catalog : List Shared) (limit : ℕ) (t : Table) (n : ℕ) (top : ℕ) (members : Members SymbolAt ℕ) (rest : Reading) (items : List PlacedItem)
       → sees catalog limit t (suc n) (behind (member_items top members) rest) ≡ behind items Finished
       → Passes catalog limit t (suc n) (member_items top members) rest items
   members_pass catalog limit t n top nothing rest items e = no_items catalog limit t (suc n) rest items e
@@ -215,14 +219,21 @@ top_passes catalog limit t first annotations place (container k members last) re
 
 -- ---- a stream of markers and values
 
--- the items are those of the user values
-abbrev AreRead : List Shared → Table → List (Top SymbolAt ℕ) → List PlacedItem → Type 0
-AreRead catalog t tops items = (us : List (Top UserSymbol ℕ)) × (user_tops catalog t tops ≡ Some us) × (map user_item items ≡ top_items us)
+-- the items in front are those of the user values, whose symbols stand in their tables, and behind them the reading goes on
+pub record AreRead (catalog : List Shared) (limit : ℕ) (t : Table) (tops : List (Top SymbolAt ℕ)) (ending : Reading) (items : List PlacedItem) : Type 0 where
+  pub us : List (Top UserSymbol ℕ)
+  pub table : Table
+  pub later : List PlacedItem
+  pub says : user_tops catalog t tops ≡ Some us
+  pub table_is : table_behind catalog t tops ≡ Some table
+  pub goes_on : sees catalog limit table 0 ending ≡ behind later Finished
+  pub items_are : map user_item items ≡ top_items us ++ map user_item later
+  pub stand : UsersStand catalog t tops
 
 -- they are so from each table on
-abbrev TopsAreRead : List Shared → ℕ → List (Top SymbolAt ℕ) → Type 0
-TopsAreRead catalog limit tops = (t : Table) (items : List PlacedItem) → sees catalog limit t 0 (behind (top_items tops) Finished) ≡ behind items Finished
-    → AreRead catalog t tops items
+abbrev pub TopsAreRead : List Shared → ℕ → List (Top SymbolAt ℕ) → Reading → Type 0
+TopsAreRead catalog limit tops ending = (t : Table) (items : List PlacedItem) → sees catalog limit t 0 (behind (top_items tops) ending) ≡ behind items Finished
+    → AreRead catalog limit t tops ending items
 
 -- a value as a user knows it
 abbrev user_tree : Table → ℕ → List SymbolAt → ℕ → Value SymbolAt ℕ → Top UserSymbol ℕ
@@ -237,23 +248,32 @@ plain_tops catalog t first annotations place x tops us none e = rw (none, e, use
 
 -- a value that is no declaration, and what is behind it
 plain_read : (catalog : List Shared) (limit : ℕ) (t : Table) (first : ℕ) (annotations : List SymbolAt) (place : ℕ) (x : Value SymbolAt ℕ)
-    (tops : List (Top SymbolAt ℕ)) (items : List PlacedItem)
-    → begins_declaration t 0 (first_of first None annotations place x) ≡ false → declares_table t annotations x ≡ None → TopsAreRead catalog limit tops
-    → sees catalog limit t 0 (behind (top_items (tree first annotations place x ∷ tops)) Finished) ≡ behind items Finished
-    → AreRead catalog t (tree first annotations place x ∷ tops) items
-plain_read catalog limit t first annotations place x tops items b none more e =
-    let p : Passes catalog limit t 0 (value_items first None annotations place x) (behind (top_items tops) Finished) items
-    = top_passes catalog limit t first annotations place x (behind (top_items tops) Finished) items b
-    (ap (sees catalog limit t 0) (sym (behind_append (value_items first None annotations place x) (top_items tops) Finished)) ∙ e) in
-    let r : AreRead catalog t tops p.later = more t p.later p.goes_on in (
-      user_tree t first annotations place x ∷ r.0,
-      plain_tops catalog t first annotations place x tops r.0 none r.1,
-      ap (map user_item) p.items_are
+    (tops : List (Top SymbolAt ℕ)) (ending : Reading) (items : List PlacedItem)
+    → begins_declaration t 0 (first_of first None annotations place x) ≡ false → declares_table t annotations x ≡ None → TopsAreRead catalog limit tops ending
+    → sees catalog limit t 0 (behind (top_items (tree first annotations place x ∷ tops)) ending) ≡ behind items Finished
+    → AreRead catalog limit t (tree first annotations place x ∷ tops) ending items
+plain_read catalog limit t first annotations place x tops ending items b none more e =
+    let p : Passes catalog limit t 0 (value_items first None annotations place x) (behind (top_items tops) ending) items
+    = top_passes catalog limit t first annotations place x (behind (top_items tops) ending) items b
+    (ap (sees catalog limit t 0) (sym (behind_append (value_items first None annotations place x) (top_items tops) ending)) ∙ e) in
+    let r : AreRead catalog limit t tops ending p.later = more t p.later p.goes_on in
+    let stands = value-stands t first None annotations place x p.checks in
+    let shown : List (Item UserSymbol ℕ) = value_items first None (map (user_at t) annotations) place (map_value (user_at t) (λ (q : ℕ). q) x) in
+    record {
+      us = user_tree t first annotations place x ∷ r.us;
+      table = r.table;
+      later = r.later;
+      says = plain_tops catalog t first annotations place x tops r.us none r.says;
+      table_is = rw (none, table_behind) r.table_is;
+      goes_on = r.goes_on;
+      items_are =
+          ap (map user_item) p.items_are
           ∙ (map-append user_item (map (resolve t) (value_items first None annotations place x)) p.later
           ∙ (ap (λ is. is ++ map user_item p.later)
           (resolve-seen_all t (value_items first None annotations place x) ∙ value_items-map (user_at t) first None annotations place x)
-          ∙ ap (λ is. value_items first None (map (user_at t) annotations) place (map_value (user_at t) (λ (q : ℕ). q) x) ++ is) r.2)),
-    )
+          ∙ (ap (λ is. shown ++ is) r.items_are ∙ sym (append_assoc shown (top_items r.us) (map user_item r.later)))));
+      stand = rw (none, UsersStand) (stands.1, stands.2, r.stand);
+    }
 
 -- a declaration leaves its table to those behind it
 declared_tops : (catalog : List Shared) (t u : Table) (first : ℕ) (annotations : List SymbolAt) (place : ℕ) (x : Value SymbolAt ℕ) (members : Members SymbolAt ℕ)
@@ -265,19 +285,25 @@ declared_tops catalog t u first annotations place x members tops declares e = rw
 -- a declaration, and what is behind it
 by_declared_read : WhatIsDeclared
     → (catalog : List Shared) (limit : ℕ) (t : Table) (first : ℕ) (annotations : List SymbolAt) (place : ℕ) (x : Value SymbolAt ℕ) (members : Members SymbolAt ℕ)
-    (tops : List (Top SymbolAt ℕ)) (items : List PlacedItem) (d : Result Table (Reason × ℕ))
+    (tops : List (Top SymbolAt ℕ)) (ending : Reading) (items : List PlacedItem) (d : Result Table (Reason × ℕ))
     → declared (record { catalog = catalog; limit = limit; old = t }) first members ≡ d
-    → declares_table t annotations x ≡ Some members → TopsAreRead catalog limit tops
-    → by_declared d (λ u. sees catalog limit u 0 (behind (top_items tops) Finished)) ≡ behind items Finished
-    → AreRead catalog t (tree first annotations place x ∷ tops) items
-by_declared_read what catalog limit t first annotations place x members tops items (Ok u) is declares more e =
-    let r : AreRead catalog u tops items = more u items e in (
-      r.0,
-      declared_tops catalog t u first annotations place x members tops declares (what (record { catalog = catalog; limit = limit; old = t }) first members u is)
-          ∙ r.1,
-      r.2,
-    )
-by_declared_read what catalog limit t first annotations place x members tops items (Err why) is declares more e = absurd (not_stopped why.0 why.1 items e)
+    → declares_table t annotations x ≡ Some members → TopsAreRead catalog limit tops ending
+    → by_declared d (λ u. sees catalog limit u 0 (behind (top_items tops) ending)) ≡ behind items Finished
+    → AreRead catalog limit t (tree first annotations place x ∷ tops) ending items
+by_declared_read what catalog limit t first annotations place x members tops ending items (Ok u) is declares more e =
+    let r : AreRead catalog limit u tops ending items = more u items e in
+    let next : next_table catalog (text_at t) t members ≡ Some u = what (record { catalog = catalog; limit = limit; old = t }) first members u is in
+    record {
+      us = r.us;
+      table = r.table;
+      later = r.later;
+      says = declared_tops catalog t u first annotations place x members tops declares next ∙ r.says;
+      table_is = rw (declares, next, table_behind) r.table_is;
+      goes_on = r.goes_on;
+      items_are = r.items_are;
+      stand = rw (declares, next, UsersStand) r.stand;
+    }
+by_declared_read what catalog limit t first annotations place x members tops ending items (Err why) is declares more e = absurd (not_stopped why.0 why.1 items e)
 
 -- a declaration's first item is checked
 begun : (catalog : List Shared) (limit : ℕ) (t : Table) (c : Checked) (rest : Reading) (items : List PlacedItem)
@@ -288,59 +314,77 @@ begun catalog limit t (bad reason place) rest items e = absurd (not_stopped reas
 
 -- a struct with annotations
 struct_read : WhatIsDeclared → (catalog : List Shared) (limit : ℕ) (t : Table) (first : ℕ) (s : SymbolAt) (annotations : List SymbolAt) (place : ℕ)
-    (members : Members SymbolAt ℕ) (last : ℕ) (tops : List (Top SymbolAt ℕ)) (items : List PlacedItem) (b : Bool)
-    → is_declaration (word_in (text_at t) s.symbol) ≡ b → TopsAreRead catalog limit tops
-    → sees catalog limit t 0 (behind (top_items (tree first (s ∷ annotations) place (container kind.Struct members last) ∷ tops)) Finished) ≡ behind items Finished
-    → AreRead catalog t (tree first (s ∷ annotations) place (container kind.Struct members last) ∷ tops) items
-struct_read what catalog limit t first s annotations place members last tops items false is more e =
-    plain_read catalog limit t first (s ∷ annotations) place (container kind.Struct members last) tops items is (rw is refl) more e
-struct_read what catalog limit t first s annotations place members last tops items true is more e =
-    let rest : Reading = behind (top_items tops) Finished in
+    (members : Members SymbolAt ℕ) (last : ℕ) (tops : List (Top SymbolAt ℕ)) (ending : Reading) (items : List PlacedItem) (b : Bool)
+    → is_declaration (word_in (text_at t) s.symbol) ≡ b → TopsAreRead catalog limit tops ending
+    → sees catalog limit t 0 (behind (top_items (tree first (s ∷ annotations) place (container kind.Struct members last) ∷ tops)) ending) ≡ behind items Finished
+    → AreRead catalog limit t (tree first (s ∷ annotations) place (container kind.Struct members last) ∷ tops) ending items
+struct_read what catalog limit t first s annotations place members last tops ending items false is more e =
+    plain_read catalog limit t first (s ∷ annotations) place (container kind.Struct members last) tops ending items is (rw is refl) more e
+struct_read what catalog limit t first s annotations place members last tops ending items true is more e =
+    let rest : Reading = behind (top_items tops) ending in
     let f : PlacedItem = first_of first None (s ∷ annotations) place (container kind.Struct members last) in
     let begins : users catalog limit (record { table = t; mode = declaring start })
-    (behind (content_of first (container kind.Struct members last) ++ top_items tops) Finished) ≡ behind items Finished
-    = begun catalog limit t (checked t false f) (behind (content_of first (container kind.Struct members last) ++ top_items tops) Finished) items
+    (behind (content_of first (container kind.Struct members last) ++ top_items tops) ending) ≡ behind items Finished
+    = begun catalog limit t (checked t false f) (behind (content_of first (container kind.Struct members last) ++ top_items tops) ending) items
     (rw is at e) in
-    by_declared_read what catalog limit t first (s ∷ annotations) place (container kind.Struct members last) members tops items
+    by_declared_read what catalog limit t first (s ∷ annotations) place (container kind.Struct members last) members tops ending items
     (declared (record { catalog = catalog; limit = limit; old = t }) first members) refl (rw is refl) more
     (sym (declarations_are_read catalog limit t first last members rest)
     ∙ (ap (users catalog limit (record { table = t; mode = declaring start }))
-    (sym (behind_append (content_of first (container kind.Struct members last)) (top_items tops) Finished)) ∙ begins))
+    (sym (behind_append (content_of first (container kind.Struct members last)) (top_items tops) ending)) ∙ begins))
 
 -- a value, and what is behind it
 tree_read : WhatIsDeclared → (catalog : List Shared) (limit : ℕ) (t : Table) (first : ℕ) (annotations : List SymbolAt) (place : ℕ) (x : Value SymbolAt ℕ)
-    (tops : List (Top SymbolAt ℕ)) (items : List PlacedItem)
-    → TopsAreRead catalog limit tops → sees catalog limit t 0 (behind (top_items (tree first annotations place x ∷ tops)) Finished) ≡ behind items Finished
-    → AreRead catalog t (tree first annotations place x ∷ tops) items
-tree_read what catalog limit t first [] place (scalar body) tops items more e = plain_read catalog limit t first [] place
-    (scalar body) tops items refl refl more e
-tree_read what catalog limit t first [] place (container kind.List members last) tops items more e =
-    plain_read catalog limit t first [] place (container kind.List members last) tops items refl refl more e
-tree_read what catalog limit t first [] place (container kind.Sexp members last) tops items more e =
-    plain_read catalog limit t first [] place (container kind.Sexp members last) tops items refl refl more e
-tree_read what catalog limit t first [] place (container kind.Struct members last) tops items more e =
-    plain_read catalog limit t first [] place (container kind.Struct members last) tops items refl refl more e
-tree_read what catalog limit t first (s ∷ annotations) place (scalar body) tops items more e = plain_read catalog limit t first (s ∷ annotations) place
-    (scalar body) tops items refl refl more e
-tree_read what catalog limit t first (s ∷ annotations) place (container kind.List members last) tops items more e =
-    plain_read catalog limit t first (s ∷ annotations) place (container kind.List members last) tops items refl refl more e
-tree_read what catalog limit t first (s ∷ annotations) place (container kind.Sexp members last) tops items more e =
-    plain_read catalog limit t first (s ∷ annotations) place (container kind.Sexp members last) tops items refl refl more e
-tree_read what catalog limit t first (s ∷ annotations) place (container kind.Struct members last) tops items more e =
-    struct_read what catalog limit t first s annotations place members last tops items (is_declaration (word_in (text_at t) s.symbol)) refl more e
-
--- an empty stream has no user values
-none_read : (catalog : List Shared) (t : Table) (items : List PlacedItem) → Finished ≡ behind items Finished → AreRead catalog t [] items
-none_read catalog t [] e = ([], refl, refl)
-none_read catalog t (i ∷ is) e = absurd (cc)
+    (tops : List (Top SymbolAt ℕ)) (ending : Reading) (items : List PlacedItem)
+    → TopsAreRead catalog limit tops ending → sees catalog limit t 0 (behind (top_items (tree first annotations place x ∷ tops)) ending) ≡ behind items Finished
+    → AreRead catalog limit t (tree first annotations place x ∷ tops) ending items
+tree_read what catalog limit t first [] place (scalar body) tops ending items more e = plain_read catalog limit t first [] place
+    (scalar body) tops ending items refl refl more e
+tree_read what catalog limit t first [] place (container kind.List members last) tops ending items more e =
+    plain_read catalog limit t first [] place (container kind.List members last) tops ending items refl refl more e
+tree_read what catalog limit t first [] place (container kind.Sexp members last) tops ending items more e =
+    plain_read catalog limit t first [] place (container kind.Sexp members last) tops ending items refl refl more e
+tree_read what catalog limit t first [] place (container kind.Struct members last) tops ending items more e =
+    plain_read catalog limit t first [] place (container kind.Struct members last) tops ending items refl refl more e
+tree_read what catalog limit t first (s ∷ annotations) place (scalar body) tops ending items more e = plain_read catalog limit t first (s ∷ annotations) place
+    (scalar body) tops ending items refl refl more e
+tree_read what catalog limit t first (s ∷ annotations) place (container kind.List members last) tops ending items more e =
+    plain_read catalog limit t first (s ∷ annotations) place (container kind.List members last) tops ending items refl refl more e
+tree_read what catalog limit t first (s ∷ annotations) place (container kind.Sexp members last) tops ending items more e =
+    plain_read catalog limit t first (s ∷ annotations) place (container kind.Sexp members last) tops ending items refl refl more e
+tree_read what catalog limit t first (s ∷ annotations) place (container kind.Struct members last) tops ending items more e =
+    struct_read what catalog limit t first s annotations place members last tops ending items (is_declaration (word_in (text_at t) s.symbol)) refl more e
 
 -- markers and values, from any table on
-tops_are_read : WhatIsDeclared → (catalog : List Shared) (limit : ℕ) (tops : List (Top SymbolAt ℕ)) → TopsAreRead catalog limit tops
-tops_are_read what catalog limit [] t items e = none_read catalog t items e
-tops_are_read what catalog limit (value.version place ∷ tops) t items e = tops_are_read what catalog limit tops system items e
-tops_are_read what catalog limit (tree first annotations place x ∷ tops) t items e =
-    tree_read what catalog limit t first annotations place x tops items (tops_are_read what catalog limit tops) e
+pub tops_are_read : WhatIsDeclared → (catalog : List Shared) (limit : ℕ) (tops : List (Top SymbolAt ℕ)) (ending : Reading) → TopsAreRead catalog limit tops ending
+tops_are_read what catalog limit [] ending t items e =
+    record { us = []; table = t; later = items; says = refl; table_is = refl; goes_on = e; items_are = refl; stand = tt }
+tops_are_read what catalog limit (value.version place ∷ tops) ending t items e =
+    let r : AreRead catalog limit system tops ending items = tops_are_read what catalog limit tops ending system items e in
+    record {
+      us = r.us;
+      table = r.table;
+      later = r.later;
+      says = r.says;
+      table_is = r.table_is;
+      goes_on = r.goes_on;
+      items_are = r.items_are;
+      stand = r.stand;
+    }
+tops_are_read what catalog limit (tree first annotations place x ∷ tops) ending t items e =
+    tree_read what catalog limit t first annotations place x tops ending items (tops_are_read what catalog limit tops ending) e
+
+-- nothing is behind the end
+pub none_later : (items : List PlacedItem) → Finished ≡ behind items Finished → items ≡ []
+none_later [] e = refl
+none_later (i ∷ is) e = absurd (cc)
 
 -- where a whole stream is accepted, the items are those of its user values, since the table that a declaration leaves is the one that it says
 pub users_are_read_by : WhatIsDeclared → UsersAreRead
-users_are_read_by what catalog limit tops items e = tops_are_read what catalog limit tops system items e
+users_are_read_by what catalog limit tops items e =
+    let r = tops_are_read what catalog limit tops Finished system items e in
+    (r.us, r.says, r.items_are ∙ ap (λ is. top_items r.us ++ map user_item is) (none_later r.later r.goes_on) ∙ append-nil (top_items r.us))
+
+-- and their symbols stand in their tables
+pub symbols_stand_by : WhatIsDeclared → SymbolsStand
+symbols_stand_by what catalog limit tops items e = let r = tops_are_read what catalog limit tops Finished system items e in r.stand

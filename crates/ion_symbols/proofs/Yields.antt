@@ -98,12 +98,12 @@ head_fault t value.end = tt
 head_fault t value.marker = tt
 
 -- a whole item, and items
-item_fault : (t : Table) (i : PlacedItem) → IsSymbolFault (checked t false i)
+pub item_fault : (t : Table) (i : PlacedItem) → IsSymbolFault (checked t false i)
 item_fault t i =
     else_fault (field_checked t false i.field) (or_else (annotations_checked t false i.annotations) (head_checked t false i.head)) (field_fault t i.field)
     (else_fault (annotations_checked t false i.annotations) (head_checked t false i.head) (annotations_fault t i.annotations) (head_fault t i.head))
 
-items_fault : (t : Table) (is : List PlacedItem) → IsSymbolFault (items_checked t is)
+pub items_fault : (t : Table) (is : List PlacedItem) → IsSymbolFault (items_checked t is)
 items_fault t [] = tt
 items_fault t (i ∷ is) = else_fault (checked t false i) (items_checked t is) (item_fault t i) (items_fault t is)
 

@@ -1,5 +1,5 @@
 -- A declaration as it is kept while it is read, and what its calls answer.
-use Rattle.std.specs.Prelude.{◌≡◌, ◌≢◌, ℕ, ◌+◌, ◌-◌, ◌*◌, ◌^◌, ◌<◌, ◌≤◌, Bool, true, false, List, [], length, Option, Some, None, Result, Ok, Err, ⊤}
+use Rattle.std.specs.Prelude.{◌≡◌, ◌≢◌, ℕ, ◌+◌, ◌-◌, ◌*◌, ◌^◌, ◌<◌, ◌≤◌, Bool, true, false, List, [], length, Option, Some, Result, Ok, Err, ⊤}
 use Rattle.ion_meter.specs.Counts.{Counts}
 use Rattle.ion_meter.specs.declared.fault.Fault.{Fault}
 use Rattle.ion_meter.specs.declared.fault.Fault.TheVariants.{Refused, Memory, ReadFault, WriteFault, InputLimit}
@@ -136,6 +136,16 @@ pub record CanTake {A : Type 0} (most : ℕ) (now : Present) (b : SymbolBuffer A
   pub countable : meter.refused < 2 ^ 64 - 1
   pub small : most ≤ 2 ^ 30
   pub pending : IsPending most now.table b
+
+-- a table that was read can be put in place of the present one, or behind it
+pub record CanInstall {A : Type 0} (most : ℕ) (now : Present) (b : SymbolBuffer A) (meter : Counts) : Type 0 where
+  pub room : meter.held ≤ 2 ^ 62
+  pub held : table_cost now.table + own_of b ≤ meter.held
+  pub countable : meter.refused < 2 ^ 64 - 1
+  pub small : most ≤ 2 ^ 30
+  pub cheap : table_cost now.table ≤ most
+  pub pending : IsPending most now.table b
+  pub nameless : b.name ≡ []
 
 -- what it does to the meter
 pub record Takes {A : Type 0} (most : ℕ) (old new : SymbolBuffer A) (before after : Counts) (result : Result Bool Fault) : Type 0 where

@@ -1,5 +1,5 @@
 -- How slots are kept: the bytes of their texts, and where each stands; and how a growth is undone.
-use Rattle.std.specs.Prelude.{◌≡◌, ℕ, ◌+◌, ◌-◌, ◌≤◌, true, false, if◌then◌else◌, List, [], ◌∷◌, take, drop, map, Option, Some, None, max}
+use Rattle.std.specs.Prelude.{◌≡◌, ℕ, ◌+◌, ◌-◌, ◌^◌, ◌<◌, ◌≤◌, true, false, if◌then◌else◌, List, [], ◌∷◌, take, drop, map, Option, Some, None, max}
 use Rattle.ion_meter.specs.Counts.{Counts}
 use Rattle.ion_symbols.specs.Table.{Slots}
 use Rattle.ion_symbols.specs.declared.slots.Part.{Part}
@@ -18,6 +18,11 @@ Tiles from (p ∷ ps) length = (p.from ≡ from) × ((from ≤ p.to) × ((p.know
 -- a part whose text stands so many bytes further on
 abbrev pub moved : ℕ → Part → Part
 moved base p = record { from = base + p.from; to = base + p.to; known = p.known }
+
+-- a growth of some cost can be tried
+pub record CanGrow (cost : ℕ) (meter : Counts) : Type 0 where
+  pub room : meter.held + cost < 2 ^ 63
+  pub countable : meter.refused < 2 ^ 64 - 1
 
 -- a growth of some cost that was refused: all is as it was, and the peak is no higher than it would have been
 pub record IsUndone (old new : Counts) (cost : ℕ) : Type 0 where

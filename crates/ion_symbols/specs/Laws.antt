@@ -1,17 +1,20 @@
 -- What is true of the definitions of this crate: laws that contracts cite.
-use Rattle.std.specs.Prelude.{◌≡◌, ℕ, ◌+◌, ◌<◌, ◌⊎◌, Bool, true, false, List, [], ◌∷◌, ◌++◌, map, Option, Some, None, Result, Ok, Err}
+use Rattle.std.specs.Prelude.{◌≡◌, ℕ, ◌+◌, ◌<◌, ◌≤◌, ◌⊎◌, Bool, true, false, List, [], ◌∷◌, ◌++◌, length, map, Option, Some, None, option_map, Result, Ok, Err, ⊤}
+use Rattle.std.specs.List.{AllByRecursion}
 use Rattle.ion_meter.specs.declared.fault.Reason.{Reason}
 use Rattle.ion_meter.specs.declared.fault.Reason.TheVariants.{BadSymbol, BadTable, SymbolLimit}
 use Rattle.ion_value.specs.declared.ion_type.Kind.TheVariants as kind
 use Rattle.ion_value.specs.Value as value
-use Rattle.ion_value.specs.Value.{SymbolAt, UserSymbol, user_symbol, Value, Members, container, nothing, member, Top, PlacedItem, Item, bare_item, map_item, member_items, top_items}
+use Rattle.ion_value.specs.Value.{Symbol, SymbolAt, UserSymbol, Scalar, Value, Members, container, nothing, member, Top, PlacedItem, bare_item, map_members, member_items, top_items, user_item}
+use Rattle.ion_value.specs.Path.{Nest, outermost, inner, opened, path_items}
 use Rattle.ion_value.specs.Reading.{Reading, Finished, Stopped, behind}
 use Rattle.ion_symbols.specs.declared.known_text.Word.{Word}
 use Rattle.ion_symbols.specs.declared.known_text.Word.TheVariants as word
-use Rattle.ion_symbols.specs.Table.{Shared, Table, system, text_at}
-use Rattle.ion_symbols.specs.Declaration.{Ground, start, field_word}
+use Rattle.ion_symbols.specs.Table as slot
+use Rattle.ion_symbols.specs.Table.{Slot, Shared, Import, Table, system, slot_of, text_at, most_slots, table_cost, count_of, slots_cost, import_count}
+use Rattle.ion_symbols.specs.Declaration.{Ground, start, word_in, field_word}
 use Rattle.ion_symbols.specs.Users.{users, plain, declaring, at_start}
-use Rattle.ion_symbols.specs.Tree.{same_word, value_of, next_table, declared, user_tops}
+use Rattle.ion_symbols.specs.Tree.{same_word, value_of, elements, value_import, next_table, declared, declares_table, user_at, user_tops}
 
 -- the user items behind a declaration, or its fault
 abbrev pub by_declared : Result Table (Reason × ℕ) → (Table → Reading) → Reading
@@ -59,15 +62,107 @@ abbrev pub IsDoubled : (ℕ → Option (List ℕ)) → Members SymbolAt ℕ → 
 IsDoubled texts members =
     IsTwice texts members word.Imports ⊎ (IsTwice texts members word.Symbols ⊎ ListIsDoubled texts (value_of texts word.Imports members))
 
+-- an id above its table
+abbrev pub IsAbove : Slot → Type 0
+IsAbove slot.above = ⊤
+IsAbove _ = ⊥
+
+abbrev pub SymbolAbove : Table → Symbol → Type 0
+SymbolAbove t (value.Text bytes) = ⊥
+SymbolAbove t (value.Id id) = IsAbove (slot_of t id)
+
+abbrev pub FieldAbove : Table → Option SymbolAt → Type 0
+FieldAbove t None = ⊥
+FieldAbove t (Some s) = SymbolAbove t s.symbol
+
+abbrev pub AnyAbove : Table → List SymbolAt → Type 0
+AnyAbove t [] = ⊥
+AnyAbove t (s ∷ ss) = SymbolAbove t s.symbol ⊎ AnyAbove t ss
+
+abbrev pub ScalarAbove : Table → Scalar SymbolAt → Type 0
+ScalarAbove t (value.symbol s) = SymbolAbove t s.symbol
+ScalarAbove t _ = ⊥
+
+-- and one among the field names, annotations and symbols of a container's members
+abbrev mutual
+  pub ValueAbove : Table → Value SymbolAt ℕ → Type 0
+  ValueAbove t (value.scalar body) = ScalarAbove t body
+  ValueAbove t (container kind members last) = SomeAbove t members
+
+  pub SomeAbove : Table → Members SymbolAt ℕ → Type 0
+  SomeAbove t nothing = ⊥
+  SomeAbove t (member before field annotations place x) = SomeAbove t before ⊎ (FieldAbove t field ⊎ (AnyAbove t annotations ⊎ ValueAbove t x))
+
+-- what the members of a declaration cost in all: their slots, 32 an import, the names of imports, and the table that is kept
+abbrev pub name_cost : Word → Value SymbolAt ℕ → ℕ
+name_cost word.Name (value.scalar (value.string t)) = length t
+name_cost _ _ = 0
+
+abbrev pub names_cost : (ℕ → Option (List ℕ)) → Members SymbolAt ℕ → ℕ
+names_cost texts nothing = 0
+names_cost texts (member before field annotations place x) = names_cost texts before + name_cost (field_word texts field) x
+
+abbrev pub import_cost : (ℕ → Option (List ℕ)) → Value SymbolAt ℕ → ℕ
+import_cost texts (container kind.Struct members last) = 32 + names_cost texts members
+import_cost texts _ = 0
+
+abbrev pub imports_cost : (ℕ → Option (List ℕ)) → Members SymbolAt ℕ → ℕ
+imports_cost texts nothing = 0
+imports_cost texts (member before field annotations place x) = imports_cost texts before + import_cost texts x
+
+abbrev pub if_kept : Word → ℕ → ℕ
+if_kept word.Declaration n = n
+if_kept _ n = 0
+
+abbrev pub field_cost : Ground → Word → Value SymbolAt ℕ → ℕ
+field_cost g word.Imports (container kind.List members last) = imports_cost (text_at g.old) members
+field_cost g word.Imports (value.scalar (value.symbol s)) = if_kept (word_in (text_at g.old) s.symbol) (table_cost g.old)
+field_cost g word.Symbols (container kind.List members last) = slots_cost (elements members)
+field_cost g _ x = 0
+
+abbrev pub fields_cost : Ground → Members SymbolAt ℕ → ℕ
+fields_cost g nothing = 0
+fields_cost g (member before field annotations place x) = fields_cost g before + field_cost g (field_word (text_at g.old) field) x
+
+-- and how many slots they are
+abbrev pub slots_in : Option (List Import) → ℕ
+slots_in None = 0
+slots_in (Some imports) = import_count imports
+
+abbrev pub imports_slots : Ground → Members SymbolAt ℕ → ℕ
+imports_slots g nothing = 0
+imports_slots g (member before field annotations place x) = imports_slots g before + slots_in (value_import g.catalog (text_at g.old) x)
+
+abbrev pub field_slots : Ground → Word → Value SymbolAt ℕ → ℕ
+field_slots g word.Imports (container kind.List members last) = imports_slots g members
+field_slots g word.Imports (value.scalar (value.symbol s)) = if_kept (word_in (text_at g.old) s.symbol) (count_of g.old)
+field_slots g word.Symbols (container kind.List members last) = length (elements members)
+field_slots g _ x = 0
+
+abbrev pub fields_slots : Ground → Members SymbolAt ℕ → ℕ
+fields_slots g nothing = 0
+fields_slots g (member before field annotations place x) = fields_slots g before + field_slots g (field_word (text_at g.old) field) x
+
+-- that is more than the limit, or more slots than there are ids
+abbrev pub IsCostly : Ground → Members SymbolAt ℕ → Type 0
+IsCostly g members = (g.limit < fields_cost g members) ⊎ (most_slots < fields_slots g members)
+
 -- a declaration is refused for a symbol id above the table before it, for a limit, for a field that stands twice, or for a table that isn't there
 abbrev pub WhyRefused : Type 0
 WhyRefused =
     (g : Ground) (top : ℕ) (members : Members SymbolAt ℕ) (reason : Reason) (place : ℕ) → declared g top members ≡ Err (reason, place)
-    → (reason ≡ BadSymbol) ⊎ ((reason ≡ SymbolLimit) ⊎ ((reason ≡ BadTable) × (IsDoubled (text_at g.old) members ⊎ (next_table g.catalog (text_at g.old) g.old members ≡ None))))
+    → ((reason ≡ BadSymbol) × SomeAbove g.old members)
+    ⊎ (((reason ≡ SymbolLimit) × IsCostly g members) ⊎ ((reason ≡ BadTable) × (IsDoubled (text_at g.old) members ⊎ (next_table g.catalog (text_at g.old) g.old members ≡ None))))
 
--- an item as a user of the stream knows it
-abbrev pub user_item : PlacedItem → Item UserSymbol ℕ
-user_item item = map_item (λ s. user_symbol s.symbol) (λ place. place) item
+-- what is true of a declaration that leaves a table: the limits are kept, no id is above the table before it, and no field stands twice
+pub record IsKept (g : Ground) (members : Members SymbolAt ℕ) (t : Table) : Type 0 where
+  pub cost : table_cost t ≤ g.limit
+  pub count : count_of t ≤ most_slots
+  pub below : SomeAbove g.old members → ⊥
+  pub single : IsDoubled (text_at g.old) members → ⊥
+
+abbrev pub WhatIsAccepted : Type 0
+WhatIsAccepted = (g : Ground) (top : ℕ) (members : Members SymbolAt ℕ) (t : Table) → declared g top members ≡ Ok t → IsKept g members t
 
 -- where a whole stream of version markers and values is accepted, the items are those of its user values
 abbrev pub UsersAreRead : Type 0
@@ -75,3 +170,85 @@ UsersAreRead =
     (catalog : List Shared) (limit : ℕ) (tops : List (Top SymbolAt ℕ)) (items : List PlacedItem)
     → users catalog limit at_start (behind (top_items tops) Finished) ≡ behind items Finished
     → (us : List (Top UserSymbol ℕ)) × (user_tops catalog system tops ≡ Some us) × (map user_item items ≡ top_items us)
+
+-- the table behind version markers and values; None where a declaration has no next table
+abbrev pub table_behind : List Shared → Table → List (Top SymbolAt ℕ) → Option Table
+table_behind catalog t [] = Some t
+table_behind catalog t (value.version place ∷ tops) = table_behind catalog system tops
+table_behind catalog t (value.tree first annotations place x ∷ tops) =
+    elim (declares_table t annotations x) [
+      | Some members ↦ elim (next_table catalog (text_at t) t members) [ None ↦ None | Some u ↦ table_behind catalog u tops ]
+      | None ↦ table_behind catalog t tops
+    ]
+
+-- open containers with other symbols
+abbrev pub map_nest : {S T : Type 0} → (S → T) → Nest S ℕ → Nest T ℕ
+map_nest f (outermost annotations place kind members) = outermost (map f annotations) place kind (map_members f (λ p. p) members)
+map_nest f (inner around field annotations place kind members) =
+    inner (map_nest f around) (option_map f field) (map f annotations) place kind (map_members f (λ p. p) members)
+
+-- the members so far of a declaration that is open
+abbrev pub open_declaration : Table → Nest SymbolAt ℕ → Option (Members SymbolAt ℕ)
+open_declaration t (outermost annotations place kind members) = declares_table t annotations (container kind members place)
+open_declaration t (inner around field annotations place kind members) = open_declaration t around
+
+-- where whatever is read up to a place is accepted, and containers are open there that are no declaration's, the items are those of the user values
+-- before these containers and of what is read of them
+abbrev pub OpenUsersAreRead : Type 0
+OpenUsersAreRead =
+    (catalog : List Shared) (limit : ℕ) (tops : List (Top SymbolAt ℕ)) (first : ℕ) (nest : Nest SymbolAt ℕ) (items : List PlacedItem)
+    → users catalog limit at_start (behind (path_items (opened tops first nest)) Finished) ≡ behind items Finished
+    → (us : List (Top UserSymbol ℕ)) × (t : Table) × (user_tops catalog system tops ≡ Some us) × (table_behind catalog system tops ≡ Some t)
+    × (open_declaration t nest ≡ None → map user_item items ≡ path_items (opened us first (map_nest (user_at t) nest)))
+
+-- ---- the symbols of user values
+
+-- an id stands for a text or for a symbol of unknown text: its table goes as far, and has no gap there
+abbrev pub IsSlot : Slot → Type 0
+IsSlot slot.above = ⊥
+IsSlot slot.gap = ⊥
+IsSlot slot.unknown = ⊤
+IsSlot (slot.known t) = ⊤
+
+abbrev pub SymbolStands : Table → Symbol → Type 0
+SymbolStands t (value.Text bytes) = ⊤
+SymbolStands t (value.Id id) = IsSlot (slot_of t id)
+
+abbrev pub Stands : Table → SymbolAt → Type 0
+Stands t s = SymbolStands t s.symbol
+
+abbrev pub FieldStands : Table → Option SymbolAt → Type 0
+FieldStands t None = ⊤
+FieldStands t (Some s) = Stands t s
+
+abbrev pub ScalarStands : Table → Scalar SymbolAt → Type 0
+ScalarStands t (value.symbol s) = Stands t s
+ScalarStands t _ = ⊤
+
+-- so does each symbol of a value: its annotations, field names and symbols
+abbrev mutual
+  pub ValueStands : Table → Value SymbolAt ℕ → Type 0
+  ValueStands t (value.scalar body) = ScalarStands t body
+  ValueStands t (container kind members last) = MembersStand t members
+
+  pub MembersStand : Table → Members SymbolAt ℕ → Type 0
+  MembersStand t nothing = ⊤
+  MembersStand t (member before field annotations place x) =
+      MembersStand t before × FieldStands t field × AllByRecursion (Stands t) annotations × ValueStands t x
+
+-- and each symbol of the user values of a stream, in the table at the value's place
+abbrev pub UsersStand : List Shared → Table → List (Top SymbolAt ℕ) → Type 0
+UsersStand catalog t [] = ⊤
+UsersStand catalog t (value.version place ∷ tops) = UsersStand catalog system tops
+UsersStand catalog t (value.tree first annotations place x ∷ tops) =
+    elim (declares_table t annotations x) [
+      | Some members ↦ elim (next_table catalog (text_at t) t members) [ None ↦ ⊥ | Some u ↦ UsersStand catalog u tops ]
+      | None ↦ AllByRecursion (Stands t) annotations × ValueStands t x × UsersStand catalog t tops
+    ]
+
+-- where a whole stream is accepted, no symbol of a user value is above its table or in a gap of it
+abbrev pub SymbolsStand : Type 0
+SymbolsStand =
+    (catalog : List Shared) (limit : ℕ) (tops : List (Top SymbolAt ℕ)) (items : List PlacedItem)
+    → users catalog limit at_start (behind (top_items tops) Finished) ≡ behind items Finished
+    → UsersStand catalog system tops

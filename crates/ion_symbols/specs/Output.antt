@@ -1,6 +1,7 @@
 -- The texts of an output that have been given ids, and how they are found.
-use Rattle.std.specs.Prelude.{◌≡◌, ℕ, zero, suc, ◌+◌, ◌≤◌, ◌/◌, nat_le, if◌then◌else◌, List, [], ◌∷◌, ◌++◌, length, take, drop, slice_get, slice_index_or, All, ⊤, Option, Some, None, option_map, codes}
+use Rattle.std.specs.Prelude.{◌≡◌, ℕ, zero, suc, ◌+◌, ◌-◌, ◌^◌, ◌<◌, ◌≤◌, ◌/◌, nat_le, if◌then◌else◌, List, [], ◌∷◌, ◌++◌, length, take, drop, slice_get, slice_index_or, All, ⊤, Option, Some, None, option_map, codes}
 use Rattle.std.specs.Str.{bytes_eq}
+use Rattle.ion_meter.specs.Counts.{Counts}
 use Rattle.std.specs.Cmp.Lexicographic.{slice_cmp}
 use Rattle.std.specs.Ordering.{nat_cmp}
 use Rattle.std.specs.declared.cmp.Ordering.{Ordering}
@@ -48,6 +49,12 @@ pub record Output : Type 0 where
   pub texts : List (List ℕ)
   pub limit : ℕ
   pub probes : ℕ
+
+-- a text can be added, where memory and the limit allow it
+pub record CanAdd (texts : List (List ℕ)) (meter : Counts) : Type 0 where
+  pub room : meter.held ≤ 2 ^ 62
+  pub held : texts_cost texts ≤ meter.held
+  pub countable : meter.refused < 2 ^ 64 - 1
 
 -- ---- the search by halving
 

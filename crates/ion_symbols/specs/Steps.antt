@@ -1,16 +1,18 @@
 -- What a declaration asks of the raw reader that it is read from, and how it leaves it.
-use Rattle.std.specs.Prelude.{◌≡◌, ℕ, ◌+◌, ◌-◌, ◌^◌, ◌<◌, ◌≤◌, ◌↔◌, ◌≢◌, Bool, true, false, [], length, None, Result, Ok, OnOk}
+use Rattle.std.specs.Prelude.{◌≡◌, ℕ, ◌+◌, ◌-◌, ◌^◌, ◌<◌, ◌≤◌, ◌↔◌, ◌≢◌, Bool, true, false, [], length, None, Result, Ok, Err, OnOk}
 use Rattle.ion_meter.specs.Counts.{Counts}
+use Rattle.ion_meter.specs.declared.fault.Reason.{Reason}
 use Rattle.ion_meter.specs.declared.fault.Fault.{Fault}
+use Rattle.ion_meter.specs.declared.fault.Fault.TheVariants.{Refused}
 use Rattle.ion_meter.specs.declared.limits.Limits.{Limits}
 use Rattle.ion_meter.specs.Limits.{AreChecked}
-use Rattle.ion_value.specs.Reading.{Reading}
+use Rattle.ion_value.specs.Reading.{Reading, Finished, Stopped}
 use Rattle.ion_value.specs.declared.reader.RawReader.{Ghosts as RawReaderOf}
 use Rattle.ion_symbols.specs.Table.{Table, table_cost}
 use Rattle.ion_symbols.specs.Declaration.{Declaring}
 use Rattle.ion_symbols.specs.Present.{Present}
 use Rattle.ion_symbols.specs.Users.{declaring, plain, users}
-use Rattle.ion_symbols.specs.Buffer.{IsPending, declaring_in, depth_of, own_of}
+use Rattle.ion_symbols.specs.Buffer.{IsPending, declaring_in, depth_of, own_of, table_left}
 use Rattle.ion_symbols.specs.declared.buffer.SymbolBuffer.{SymbolBuffer}
 
 -- the user items to come inside of a declaration
@@ -32,10 +34,20 @@ pub record CanGather {R A : Type 0} (r : RawReaderOf R A) (most : ℕ) (now : Pr
   pub pending : IsPending most now.table b
   pub level : length (r.opened raw) ≡ depth_of (declaring_in now b)
 
--- what was taken in
-pub record Gathered {A : Type 0} (most : ℕ) (now : Present) (b : SymbolBuffer A) (before after : Counts) (result : Result Bool Fault) : Type 0 where
+-- what was taken in, and what the user items to come are by it: true where the declaration ended
+pub record GatherGives {R A : Type 0} (r : RawReaderOf R A) (most : ℕ) (now : Present) (old new : SymbolBuffer A) (before after : R) (result : Result Bool Fault) : Type 0 where
+  pub gives : r.observable before → result ≡ Ok true
+      → coming_inside now most (declaring_in now old) (r.reading before) ≡ coming_behind now most (table_left now new) (r.reading after)
+  pub ends : r.observable before → result ≡ Ok false
+      → (coming_inside now most (declaring_in now old) (r.reading before) ≡ Finished) × (r.reading after ≡ Finished)
+  pub refuses : r.observable before → r.failed before ≡ None → (reason : Reason) (place : ℕ) → result ≡ Err (Refused reason place)
+      → coming_inside now most (declaring_in now old) (r.reading before) ≡ Stopped reason place
+
+-- what is then held, and where the raw reader stands
+pub record Gathered {R A : Type 0} (r : RawReaderOf R A) (most : ℕ) (now : Present) (b : SymbolBuffer A) (raw : R) (before after : Counts) (result : Result Bool Fault) : Type 0 where
   pub pending : OnOk result (IsPending most now.table b)
   pub nameless : result ≡ Ok true → b.name ≡ []
+  pub level : result ≡ Ok true → r.opened raw ≡ []
   pub counted : OnOk result (after.refused ≡ before.refused)
 
 -- how the raw reader is left: what stays, and where it stands

@@ -1,5 +1,6 @@
 -- What is seen of the reader of user values.
-use Rattle.std.specs.Prelude.{◌≡◌, ℕ, ◌+◌, ◌-◌, ◌*◌, ◌^◌, ◌<◌, ◌≤◌, ◌↔◌, false, List, length, Option, None, Result, Ok, Err}
+use Rattle.std.specs.Prelude.{◌≡◌, ℕ, ◌+◌, ◌-◌, ◌*◌, ◌^◌, ◌<◌, ◌≤◌, ◌↔◌, false, List, length, Option, None, Result, Ok, Err, OnOk}
+use Rattle.ion_meter.specs.declared.fault.Reason.{Reason}
 use Rattle.ion_meter.specs.declared.fault.Fault.{Fault}
 use Rattle.ion_meter.specs.declared.fault.Fault.TheVariants.{Refused}
 use Rattle.ion_meter.specs.declared.limits.Limits.{Limits}
@@ -8,7 +9,7 @@ use Rattle.ion_meter.specs.Limits.{AreChecked}
 use Rattle.ion_value.specs.declared.ion_type.Kind.{Kind}
 use Rattle.ion_value.specs.Value.{PlacedItem}
 use Rattle.ion_value.specs.declared.reader.RawReader.{Ghosts as RawReaderOf}
-use Rattle.ion_value.specs.Reading.{Reading}
+use Rattle.ion_value.specs.Reading.{Reading, Finished, Stopped, More}
 use Rattle.ion_value.specs.Shares.{Charges}
 use Rattle.ion_value.specs.Standing.{Fits, is_marker, open_after}
 use Rattle.ion_symbols.specs.Table.{Shared, Table, table_cost}
@@ -84,14 +85,27 @@ pub record CanTurn {R A : Type 0} (r : RawReaderOf R A) (most : ℕ) (u : UserRe
   pub ready : IsReady r.sound r.opened r.failed r.ended u
   pub well : u.failed ≡ None
 
--- what such a call keeps and moves: `item` where it took one, and `over` at the end of the stream
+-- what such a call gives of the user items to come: `item` where it took one, and `over` at the end of the stream
+pub record UserGives {R A T : Type 0} (r : RawReaderOf R A) (item over : T) (old new : UserReader R A) (result : Result T Fault) : Type 0 where
+  pub gives : r.observable old.raw → result ≡ Ok item → coming_to r.reading old ≡ More (lent_by r.current new) (coming_to r.reading new)
+  pub ends : r.observable old.raw → result ≡ Ok over → (coming_to r.reading old ≡ Finished) × (coming_to r.reading new ≡ Finished)
+  pub refuses : r.observable old.raw → (reason : Reason) (place : ℕ) → result ≡ Err (Refused reason place) → coming_to r.reading old ≡ Stopped reason place
+
+-- a marker or a declaration was taken in: the user items to come are the same, and where they stand
+pub record UserPasses {R A : Type 0} (r : RawReaderOf R A) (old new : UserReader R A) : Type 0 where
+  pub coming : r.observable old.raw → coming_to r.reading old ≡ coming_to r.reading new
+  pub opened : r.opened new.raw ≡ r.opened old.raw
+
+-- what it keeps and moves
 pub record UserSteps {R A T : Type 0} (r : RawReaderOf R A) (item over : T) (old new : UserReader R A) (before after : Counts) (result : Result T Fault) : Type 0 where
+  pub ready : OnOk result (IsReady r.sound r.opened r.failed r.ended new)
   pub sound : r.sound new.raw
   pub cheap : table_cost new.symbols.table ≤ new.limits.symbols
   -- the item that is lent
   pub lends : result ≡ Ok item → r.lends new.raw
   pub comes : result ≡ Ok item → MayCome (r.depth old.raw) (r.opened old.raw) (r.opened new.raw) (lent_by r.current new)
   pub ended : result ≡ Ok over → r.ended new.raw
+  pub stays : r.ended old.raw → (result ≡ Ok over) × (new ≡ old) × (after ≡ before)
   -- what stays
   pub observable : r.observable new.raw ↔ r.observable old.raw
   pub exceeds : r.exceeds new.raw ↔ r.exceeds old.raw

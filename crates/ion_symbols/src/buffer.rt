@@ -10,15 +10,15 @@ ghost use Rattle.ion_value.specs.Shares.{Charges, ReadCauses, fault_of};
 ghost use Rattle.ion_symbols.specs.Table as tables;
 ghost use Rattle.ion_symbols.specs.Table.{Shared, most_slots, table_cost, text_at};
 ghost use Rattle.ion_symbols.specs.Declaration.{area_turn, at, element_turn, head_view, then_turn, imports_turn, keeping, with_import_name, next, on, part_turn, skip_ignored, start, item_view, turn};
-ghost use Rattle.ion_symbols.specs.Buffer.{CanTake, HoldsSame, IsPending, Takes, TurnGives, declaring_in, declaring_of, ground_in, import_end_turn, own_of, pending_in, pending_of, table_left, item_view_of, field_value_of};
-ghost use Rattle.ion_symbols.specs.Steps.{CanGather, CanRead, Gathered, LeavesReader, LeavesTable, coming_behind, coming_inside};
+ghost use Rattle.ion_symbols.specs.Buffer.{CanInstall, CanTake, HoldsSame, IsPending, Takes, TurnGives, declaring_in, declaring_of, ground_in, import_end_turn, own_of, pending_in, pending_of, table_left, item_view_of, field_value_of};
+ghost use Rattle.ion_symbols.specs.Steps.{CanGather, CanRead, GatherGives, Gathered, LeavesReader, LeavesTable, coming_behind, coming_inside};
 
 use crate::catalog::Import;
 use crate::checks::check_item;
+use crate::item_view::{FieldValue, ItemView, view};
+use crate::known_text::{Area, Word};
 use crate::slots::{MOST_SLOTS, Slots};
 use crate::symbols::{FoundImport, IMPORT_COST, Symbols};
-use crate::item_view::{ItemView, FieldValue, view};
-use crate::known_text::{Area, Word};
 use ion_meter::buf::Buf;
 use ion_meter::fault::{Fault, Reason};
 use ion_meter::limits::Limits;
@@ -249,7 +249,8 @@ impl<A: Allocator + Copy> SymbolBuffer<A> {
         requires pending { IsPending limit symbols.now.table self.old }
         ensures pending { OnOk result (IsPending limit symbols.now.table self.new) }
         ensures turn { TurnGives symbols.now (area_turn (ground_in symbols.now limit)
-            (item_view_of item_view.now) (pending_in symbols.now self.old) Area.Fields) result self.new }
+            (item_view_of item_view.now) (pending_in symbols.now self.old)
+            Area.Fields) result self.new }
         ensures same { HoldsSame self.old self.new result }
     {
         if let FieldValue::Ends = item_view.what {
@@ -263,7 +264,11 @@ impl<A: Allocator + Copy> SymbolBuffer<A> {
                 self.has_imports = true;
                 match item_view.what {
                     FieldValue::Begins(Kind::List) => self.area = Area::Imports,
-                    FieldValue::Names(Word::Declaration) => return self.keep(limit, symbols, item_view.place),
+                    FieldValue::Names(Word::Declaration) => return self.keep(
+                        limit,
+                        symbols,
+                        item_view.place,
+                    ),
                     _ => self.pass(item_view.what),
                 }
             }
@@ -288,7 +293,7 @@ impl<A: Allocator + Copy> SymbolBuffer<A> {
         requires nameless { self.old.name ≡ [] }
         ensures turn { (catalog : List Shared)
             → imports_turn (item_view_of item_view.now) (pending_of catalog
-                self.old) (field_value_of item_view.now.what)
+            self.old) (field_value_of item_view.now.what)
             ≡ on (declaring_of catalog self.new) }
         ensures kept { self.new
             ≡ record self.old {
@@ -324,7 +329,8 @@ impl<A: Allocator + Copy> SymbolBuffer<A> {
         requires nameless { self.old.name ≡ [] }
         ensures pending { OnOk result (IsPending limit symbols.now.table self.new) }
         ensures turn { TurnGives symbols.now (then_turn
-            (with_import_name (ground_in symbols.now limit) place text.now (pending_in symbols.now self.old))
+            (with_import_name (ground_in symbols.now limit) place text.now
+            (pending_in symbols.now self.old))
             (λ p. on (at Area.Import p))) result self.new }
         ensures takes { Takes limit self.old self.new meter.old meter.new result }
     {
@@ -360,7 +366,11 @@ impl<A: Allocator + Copy> SymbolBuffer<A> {
                 self.entry.has_name = true;
                 match item_view.what {
                     FieldValue::Text(text) => return self.take_name(
-                        meter, limit, symbols, text, item_view.place,
+                        meter,
+                        limit,
+                        symbols,
+                        text,
+                        item_view.place,
                     ),
                     _ => self.pass(item_view.what),
                 }
@@ -486,7 +496,8 @@ impl<A: Allocator + Copy> SymbolBuffer<A> {
         requires { self.old.inside < 2 ^ 31 }
         ensures gives { (catalog : List Shared) (texts : ℕ → Option (List ℕ))
             → declaring_of catalog self.new
-            ≡ skip_ignored (head_view texts (raw_item item.now).head) (declaring_of catalog self.old) }
+            ≡ skip_ignored (head_view texts (raw_item item.now).head)
+            (declaring_of catalog self.old) }
         ensures kept { self.new ≡ record self.old { inside = self.new.inside } }
     {
         match item.head() {
@@ -504,12 +515,7 @@ impl<A: Allocator + Copy> SymbolBuffer<A> {
         limit: u64,
         symbols: &mut Symbols<'_, A>,
     ) -> Result<(), Fault>
-        requires room { meter.old.held ≤ 2 ^ 62 }
-        requires held { table_cost symbols.old.table + own_of self ≤ meter.old.held }
-        requires countable { meter.old.refused < 2 ^ 64 - 1 }
-        requires limit { (limit ≤ 2 ^ 30) × (table_cost symbols.old.table ≤ limit) }
-        requires pending { IsPending limit symbols.old.table self }
-        requires nameless { self.name ≡ [] }
+        requires can_install { CanInstall limit symbols.old self meter.old }
         ensures table { OnOk result (symbols.new.table ≡ table_left symbols.old self) }
         ensures cheap { table_cost symbols.new.table ≤ limit }
         ensures err { OnErr result (symbols.new ≡ symbols.old) }
@@ -579,18 +585,10 @@ fn gather<R: RawReader<A>, A: Allocator + Copy>(
     buffer: &mut SymbolBuffer<A>,
 ) -> Result<bool, Fault>
     requires can_gather { CanGather R.RawReader limit symbols.now raw.old buffer.old meter.old }
-    ensures gives { R.observable raw.old → result ≡ Ok true
-        → coming_inside symbols.now limit (declaring_in symbols.now buffer.old) (R.reading raw.old)
-        ≡ coming_behind symbols.now limit (table_left symbols.now buffer.new) (R.reading raw.new) }
-    ensures ends { R.observable raw.old → result ≡ Ok false
-        → (coming_inside symbols.now limit (declaring_in symbols.now buffer.old) (R.reading raw.old)
-        ≡ Finished) × (R.reading raw.new ≡ Finished) }
-    ensures refuses { R.observable raw.old → R.failed raw.old ≡ None
-        → (r : Reason) (p : ℕ) → result ≡ Err (Refused r p)
-        → coming_inside symbols.now limit (declaring_in symbols.now buffer.old) (R.reading raw.old)
-        ≡ Stopped r p }
-    ensures level { result ≡ Ok true → R.opened raw.new ≡ [] }
-    ensures gathered { Gathered limit symbols.now buffer.new meter.old meter.new result }
+    ensures gives { GatherGives R.RawReader limit symbols.now buffer.old buffer.new
+        raw.old raw.new result }
+    ensures gathered { Gathered R.RawReader limit symbols.now buffer.new raw.new
+        meter.old meter.new result }
     ensures leaves { LeavesReader R.RawReader raw.old raw.new result }
     ensures causes { R.failed raw.old ≡ None → ReadCauses (fault_of result) meter.old meter.new
         (R.failures raw.old) (R.failures raw.new) (R.exceeds raw.old) }

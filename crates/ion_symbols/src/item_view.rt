@@ -5,8 +5,8 @@ ghost use Rattle.ion_symbols.specs.Table.{text_at};
 ghost use Rattle.ion_symbols.specs.Declaration.{field_word, head_view, is_end, place_in, item_view, word_in};
 ghost use Rattle.ion_symbols.specs.Buffer.{item_view_of, field_value_of};
 
-use crate::symbols::{Slot, Symbols};
 use crate::known_text::Word;
+use crate::symbols::{Slot, Symbols};
 use ion_value::ion_type::Kind;
 use ion_value::item::{Head, Item, Sym, SymAt};
 use ion_value::names::NoNames;
@@ -79,7 +79,10 @@ fn field_in<A: Allocator + Copy>(symbols: &Symbols<'_, A>, field: Option<SymAt<'
 
 // What a head is to a declaration.
 #[inline]
-fn field_value_in<'a, A: Allocator + Copy>(symbols: &Symbols<'_, A>, head: Head<'a>) -> FieldValue<'a>
+fn field_value_in<'a, A: Allocator + Copy>(
+    symbols: &Symbols<'_, A>,
+    head: Head<'a>,
+) -> FieldValue<'a>
     ensures { field_value_of result ≡ head_view (text_at symbols.now.table) (raw_head head.entry) }
 {
     match head {

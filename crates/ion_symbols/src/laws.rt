@@ -1,5 +1,5 @@
 //! Laws of the definitions of symbol tables, each the contract of a function that does nothing.
-ghost use Rattle.ion_symbols.specs.Laws.{DeclarationsAreRead, UsersAreRead, WhatIsDeclared, WhyRefused};
+ghost use Rattle.ion_symbols.specs.Laws.{DeclarationsAreRead, OpenUsersAreRead, SymbolsStand, UsersAreRead, WhatIsAccepted, WhatIsDeclared, WhyRefused};
 
 /// The streaming and the tree definitions of a declaration agree: its items give the table that its
 /// tree gives, or its tree's first fault, at each item first its symbols, then what it means.
@@ -18,9 +18,27 @@ pub fn why_refused()
     ensures { WhyRefused }
 {}
 
+/// A declaration that leaves a table keeps the limits on cost and count, has no symbol id above the
+/// table before it, and no field twice.
+pub fn what_is_accepted()
+    ensures { WhatIsAccepted }
+{}
+
 /// Where a whole stream is accepted, the items are those of its user values.
 pub fn users_are_read()
     ensures { UsersAreRead }
+{}
+
+/// Where whatever is read up to a place is accepted, the items are those of the user values before
+/// it and of the containers that are open there, if these are no declaration's.
+pub fn open_users_are_read()
+    ensures { OpenUsersAreRead }
+{}
+
+/// Where a whole stream is accepted, no symbol of a user value is above its table or in a gap of
+/// it.
+pub fn symbols_stand()
+    ensures { SymbolsStand }
 {}
 
 #[cfg(test)]
@@ -32,6 +50,9 @@ mod tests {
         declarations_are_read();
         what_is_declared();
         why_refused();
+        what_is_accepted();
         users_are_read();
+        open_users_are_read();
+        symbols_stand();
     }
 }

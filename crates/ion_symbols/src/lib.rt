@@ -9,6 +9,8 @@
 pub mod buffer;
 pub mod catalog;
 mod checks;
+mod item_view;
+mod known_text;
 pub mod laws;
 mod ordered;
 pub mod output;
@@ -18,6 +20,4 @@ mod slots;
 pub mod symbols;
 #[cfg(test)]
 mod tests;
-mod item_view;
 pub mod user;
-mod known_text;

@@ -4,7 +4,7 @@ ghost use Rattle.ion_meter.specs.declared.fault.Fault.TheVariants.{Memory};
 ghost use Rattle.ion_meter.specs.Limits.{AreChecked};
 ghost use Rattle.ion_meter.specs.Counts.{Shrinks};
 ghost use Rattle.ion_value.specs.Shares.{Charges};
-ghost use Rattle.ion_symbols.specs.Output.{Belongs, IsSorted, binary_digits, id_given, known_id, probes_for, system_id, texts_cost};
+ghost use Rattle.ion_symbols.specs.Output.{Belongs, CanAdd, IsSorted, binary_digits, id_given, known_id, probes_for, system_id, texts_cost};
 ghost use Rattle.ion_value.specs.Items.{is_none_left};
 
 use crate::ordered::{Place, Search};
@@ -127,9 +127,7 @@ impl<A: Allocator + Copy> OutSymbols<A> {
 
     // A text that is new, at its place in order of bytes.
     fn add(&mut self, meter: &mut Meter<A>, place: u32, text: &[u8]) -> Result<Option<u32>, Fault>
-        requires room { meter.old.held ≤ 2 ^ 62 }
-        requires held { texts_cost self.old.texts ≤ meter.old.held }
-        requires countable { meter.old.refused < 2 ^ 64 - 1 }
+        requires can_add { CanAdd self.old.texts meter.old }
         requires new { known_id self.old.texts text.now ≡ None }
         requires belongs { (sorted : List (List ℕ)) → IsSorted sorted self.old.texts
             → Belongs sorted text.now place }

@@ -3,7 +3,7 @@ ghost use Rattle.std.specs.Prelude.{◌≡◌, ℕ, ◌+◌, ◌-◌, ◌*◌, �
 ghost use Rattle.ion_meter.specs.declared.fault.Fault.TheVariants.{Memory};
 ghost use Rattle.ion_meter.specs.Counts.{Grows, Shrinks};
 ghost use Rattle.ion_symbols.specs.Table.{slots_cost};
-ghost use Rattle.ion_symbols.specs.Kept.{IsUndone, Tiles, moved};
+ghost use Rattle.ion_symbols.specs.Kept.{CanGrow, IsUndone, Tiles, moved};
 
 use ion_meter::buf::Buf;
 use ion_meter::fault::Fault;
@@ -89,8 +89,7 @@ impl<A: Allocator + Copy> Slots<A> {
 
     /// Adds a slot with a text.
     pub(crate) fn push_text(&mut self, meter: &mut Meter<A>, text: &[u8]) -> Result<(), Fault>
-        requires room { meter.old.held + (16 + length text.now) < 2 ^ 63 }
-        requires countable { meter.old.refused < 2 ^ 64 - 1 }
+        requires can_grow { CanGrow (16 + length text.now) meter.old }
         requires held { slots_cost self.old ≤ meter.old.held }
         ensures ok { OnOk result (self.new ≡ self.old ++ Some text.now ∷ []) }
         ensures cost { OnOk result (Grows meter.old meter.new (16 + length text.now)) }
@@ -119,8 +118,7 @@ impl<A: Allocator + Copy> Slots<A> {
 
     /// Adds a slot without a text.
     pub(crate) fn push_none(&mut self, meter: &mut Meter<A>) -> Result<(), Fault>
-        requires room { meter.old.held + 16 < 2 ^ 63 }
-        requires countable { meter.old.refused < 2 ^ 64 - 1 }
+        requires can_grow { CanGrow 16 meter.old }
         ensures ok { OnOk result (self.new ≡ self.old ++ None ∷ []) }
         ensures cost { OnOk result (Grows meter.old meter.new 16) }
         ensures memory { IfErr result (λ e. e ≡ Memory) }
@@ -143,8 +141,7 @@ impl<A: Allocator + Copy> Slots<A> {
 
     /// Adds all slots of another; where memory is refused, none.
     pub(crate) fn append(&mut self, meter: &mut Meter<A>, more: &Slots<A>) -> Result<(), Fault>
-        requires room { meter.old.held + slots_cost more.now < 2 ^ 63 }
-        requires countable { meter.old.refused < 2 ^ 64 - 1 }
+        requires can_grow { CanGrow (slots_cost more.now) meter.old }
         requires held { slots_cost self.old ≤ meter.old.held }
         ensures ok { OnOk result (self.new ≡ self.old ++ more.now) }
         ensures cost { OnOk result (Grows meter.old meter.new (slots_cost more.now)) }
@@ -189,8 +186,7 @@ fn push_moved<A: Allocator + Copy>(
     base: usize,
     more: &[Part],
 ) -> Result<(), Fault>
-    requires room { meter.old.held + 16 * length more.now < 2 ^ 63 }
-    requires countable { meter.old.refused < 2 ^ 64 - 1 }
+    requires can_grow { CanGrow (16 * length more.now) meter.old }
     requires peak { meter.old.held ≤ meter.old.peak }
     requires fits { (end : ℕ) × (Tiles 0 more.now end × (base + end < 2 ^ 64)) }
     ensures ok { OnOk result (parts.new ≡ parts.old ++ map (moved base) more.now) }

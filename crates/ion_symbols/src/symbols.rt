@@ -5,7 +5,7 @@ ghost use Rattle.ion_meter.specs.Counts.{Grows, Shrinks};
 ghost use Rattle.ion_symbols.specs.Table as tables;
 ghost use Rattle.ion_symbols.specs.Table.{count_of, import_slot, local_slot, most_slots, slot_in, slot_of, slots_cost, system, system_slots, table_cost};
 ghost use Rattle.ion_symbols.specs.Present.{IsKept, Starts, imports_in, kept_table, as_slot, slots_at, with_locals};
-ghost use Rattle.ion_symbols.specs.Kept.{IsUndone};
+ghost use Rattle.ion_symbols.specs.Kept.{CanGrow, IsUndone};
 
 use crate::catalog::Catalog;
 use crate::slots::Slots;
@@ -224,9 +224,8 @@ impl<'c, A: Allocator + Copy> Symbols<'c, A> {
 
     // Local slots behind those that are there; where memory is refused, none.
     pub(crate) fn append(&mut self, meter: &mut Meter<A>, more: &Slots<A>) -> Result<(), Fault>
-        requires room { meter.old.held + slots_cost more.now < 2 ^ 63 }
+        requires can_grow { CanGrow (slots_cost more.now) meter.old }
         requires held { table_cost self.old.table ≤ meter.old.held }
-        requires countable { meter.old.refused < 2 ^ 64 - 1 }
         requires few { count_of self.old.table + length more.now ≤ most_slots }
         ensures ok { OnOk result (self.new ≡ with_locals self.old more.now) }
         ensures cost { OnOk result (Grows meter.old meter.new (slots_cost more.now)) }

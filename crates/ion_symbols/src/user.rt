@@ -11,14 +11,14 @@ ghost use Rattle.ion_value.specs.Shares.{Charges, ReadCauses, fault_of};
 ghost use Rattle.ion_value.specs.Standing.{is_marker};
 ghost use Rattle.ion_symbols.specs.Table.{system, table_cost, text_at};
 ghost use Rattle.ion_symbols.specs.Users.{begins_declaration, level_after};
-ghost use Rattle.ion_symbols.specs.User.{CanTurn, IsReady, MayCome, UserSteps, answered_by, catalog_of, coming_to, lent_by, level_of, limits_of, owned_by, raw_of, share_of, table_of};
+ghost use Rattle.ion_symbols.specs.User.{CanTurn, IsReady, MayCome, UserGives, UserPasses, UserSteps, answered_by, catalog_of, coming_to, lent_by, level_of, limits_of, owned_by, raw_of, share_of, table_of};
 
 use crate::buffer::SymbolBuffer;
 use crate::catalog::Catalog;
 use crate::checks::check_item;
-use crate::symbols::Symbols;
 use crate::item_view::word_in;
 use crate::known_text::Word;
+use crate::symbols::Symbols;
 use ion_meter::fault::Fault;
 use ion_meter::limits::Limits;
 use ion_meter::meter::Meter;
@@ -144,21 +144,10 @@ impl<'c, R: RawReader<A>, A: Allocator + Copy> UserReader<'c, R, A> {
     #[inline(always)]
     fn turn(&mut self, meter: &mut Meter<A>) -> Result<StepResult, Fault>
         requires can_turn { CanTurn R.RawReader (2 ^ 61 + (2 ^ 59 + 2 ^ 32)) self.old meter.old }
-        ensures ready { OnOk result (IsReady R.sound R.opened R.failed R.ended self.new) }
-        ensures gives { R.observable (raw_of self.old) → result ≡ Ok StepResult.Item
-            → coming_to R.reading self.old
-            ≡ More (lent_by R.current self.new) (coming_to R.reading self.new) }
-        ensures passes { R.observable (raw_of self.old) → result ≡ Ok StepResult.Passed
-            → coming_to R.reading self.old ≡ coming_to R.reading self.new }
-        ensures ends { R.observable (raw_of self.old) → result ≡ Ok StepResult.Ended
-            → (coming_to R.reading self.old ≡ Finished)
-            × (coming_to R.reading self.new ≡ Finished) }
-        ensures refuses { R.observable (raw_of self.old) → (r : Reason) (p : ℕ)
-            → result ≡ Err (Refused r p) → coming_to R.reading self.old ≡ Stopped r p }
-        ensures stays_open { result ≡ Ok StepResult.Passed
-            → R.opened (raw_of self.new) ≡ R.opened (raw_of self.old) }
-        ensures stays { R.ended (raw_of self.old) → (result ≡ Ok StepResult.Ended)
-            × (self.new ≡ self.old) × (meter.new ≡ meter.old) }
+        ensures gives { UserGives R.RawReader StepResult.Item StepResult.Ended
+            self.old self.new result }
+        ensures passes { result ≡ Ok StepResult.Passed
+            → UserPasses R.RawReader self.old self.new }
         ensures falls { IfOk result (λ taken. taken ≢ StepResult.Ended
             → R.left (raw_of self.new) < R.left (raw_of self.old)) }
         ensures causes { ReadCauses (fault_of result) meter.old meter.new
@@ -199,17 +188,7 @@ impl<'c, R: RawReader<A>, A: Allocator + Copy> UserReader<'c, R, A> {
     #[inline(always)]
     fn advance(&mut self, meter: &mut Meter<A>) -> Result<bool, Fault>
         requires can_turn { CanTurn R.RawReader (2 ^ 61) self.old meter.old }
-        ensures ready { OnOk result (IsReady R.sound R.opened R.failed R.ended self.new) }
-        ensures gives { R.observable (raw_of self.old) → result ≡ Ok true
-            → coming_to R.reading self.old
-            ≡ More (lent_by R.current self.new) (coming_to R.reading self.new) }
-        ensures ends { R.observable (raw_of self.old) → result ≡ Ok false
-            → (coming_to R.reading self.old ≡ Finished)
-            × (coming_to R.reading self.new ≡ Finished) }
-        ensures refuses { R.observable (raw_of self.old) → (r : Reason) (p : ℕ)
-            → result ≡ Err (Refused r p) → coming_to R.reading self.old ≡ Stopped r p }
-        ensures stays { R.ended (raw_of self.old) → (result ≡ Ok false)
-            × (self.new ≡ self.old) × (meter.new ≡ meter.old) }
+        ensures gives { UserGives R.RawReader true false self.old self.new result }
         ensures falls { result ≡ Ok true → R.left (raw_of self.new) < R.left (raw_of self.old) }
         ensures causes { ReadCauses (fault_of result) meter.old meter.new
             (R.failures (raw_of self.old)) (R.failures (raw_of self.new))

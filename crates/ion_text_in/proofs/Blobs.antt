@@ -49,15 +49,15 @@ not-true false e = refl
 
 -- ---- groups of characters
 
-group-white : (more b : ℕ) (bytes : List ℕ) → is_white b ≡ true → group_of (suc more) (b ∷ bytes) ≡ group_of (suc more) bytes
+pub group-white : (more b : ℕ) (bytes : List ℕ) → is_white b ≡ true → group_of (suc more) (b ∷ bytes) ≡ group_of (suc more) bytes
 unfolding group_of
 group-white more b bytes e = rw (group_of, e) refl
 
-group-brace : (more b : ℕ) (bytes : List ℕ) → is_white b ≡ false → (b == 125) ≡ true → group_of (suc more) (b ∷ bytes) ≡ ([], b ∷ bytes)
+pub group-brace : (more b : ℕ) (bytes : List ℕ) → is_white b ≡ false → (b == 125) ≡ true → group_of (suc more) (b ∷ bytes) ≡ ([], b ∷ bytes)
 unfolding group_of
 group-brace more b bytes e f = rw (group_of, e, f) refl
 
-group-char : (more b : ℕ) (bytes : List ℕ) → is_white b ≡ false → (b == 125) ≡ false
+pub group-char : (more b : ℕ) (bytes : List ℕ) → is_white b ≡ false → (b == 125) ≡ false
     → group_of (suc more) (b ∷ bytes) ≡ (b ∷ (group_of more bytes).0, (group_of more bytes).1)
 unfolding group_of
 group-char more b bytes e f = rw (group_of, e, f) refl
@@ -100,10 +100,10 @@ grouped (suc n) (b ∷ bytes) = elim (cases_Bool (is_white b)) [
 
 -- ---- bytes of groups
 
-abbrev Octets : List ℕ → Type 0
+abbrev pub Octets : List ℕ → Type 0
 Octets bytes = All (λ octet. octet < 256) bytes
 
-octets-IsBytes : (bytes : List ℕ) → Octets bytes → IsBytes bytes
+pub octets-IsBytes : (bytes : List ℕ) → Octets bytes → IsBytes bytes
 octets-IsBytes [] all i = omega arith
 octets-IsBytes (b ∷ bytes) all zero = all 0 0 (omega arith)
 octets-IsBytes (b ∷ bytes) all (suc i) = octets-IsBytes bytes (λ k d lt. all (suc k) d (omega arith)) i
@@ -116,7 +116,7 @@ decoded s bytes e = go (decode_of standard s) e
     go (Ok x) e = ap Ok (cc e)
     go (Err x) e = absurd (cc e)
 
-length-encode_of : (bytes : List ℕ) → length (encode_of standard bytes) ≡ (4 * length bytes + 2) / 3 + (3 - length bytes % 3) % 3
+pub length-encode_of : (bytes : List ℕ) → length (encode_of standard bytes) ≡ (4 * length bytes + 2) / 3 + (3 - length bytes % 3) % 3
 length-encode_of bytes =
     length-append (encode_symbols standard.encode_table bytes) (replicate (padding_len (length bytes)) 61)
     ∙ rw (length-encode_symbols standard.encode_table bytes, length-replicate {A = ℕ} (padding_len (length bytes)) 61) refl
@@ -126,11 +126,11 @@ record IsGroup (padded : Bool) (group bytes : List ℕ) : Type 0 where
   base64 : group ≡ encode_of standard bytes
 
 -- what is made of the bytes that a group decodes to
-abbrev by_decoded : Bool → Option (List ℕ) → Result (List ℕ) Reason
+abbrev pub by_decoded : Bool → Option (List ℕ) → Result (List ℕ) Reason
 by_decoded padded (Some bytes) = if padded then Err BadLob else Ok bytes
 by_decoded padded None = Err BadLob
 
-by-decoded : (padded : Bool) (group : List ℕ) → group_bytes padded group ≡ by_decoded padded (decoded_of standard group)
+pub by-decoded : (padded : Bool) (group : List ℕ) → group_bytes padded group ≡ by_decoded padded (decoded_of standard group)
 by-decoded padded group = go (decoded_of standard group)
   where
     go : (o : Option (List ℕ)) → ◌≡◌ {A = Result (List ℕ) Reason} (elim o [ Some bytes ↦ if padded then Err BadLob else Ok bytes | None ↦ Err BadLob ]) (by_decoded padded o)
@@ -149,12 +149,12 @@ group-is padded group bytes octets e = go padded (decoded_of standard group) ref
 
 -- ---- a blob is its base64
 
-octets-prefix : (xs ys : List ℕ) → Octets (xs ++ ys) → Octets xs
+pub octets-prefix : (xs ys : List ℕ) → Octets (xs ++ ys) → Octets xs
 octets-prefix [] ys all = All-nil (λ octet. octet < 256)
 octets-prefix (x ∷ xs) ys all =
     All-cons (λ octet. octet < 256) x xs (All-head (λ octet. octet < 256) x (xs ++ ys) all) (octets-prefix xs ys (All-tail (λ octet. octet < 256) x (xs ++ ys) all))
 
-octets-behind : (xs ys : List ℕ) → Octets (xs ++ ys) → Octets ys
+pub octets-behind : (xs ys : List ℕ) → Octets (xs ++ ys) → Octets ys
 octets-behind [] ys all = all
 octets-behind (x ∷ xs) ys all = octets-behind xs ys (All-tail (λ octet. octet < 256) x (xs ++ ys) all)
 
@@ -215,7 +215,7 @@ record IsRead (padded : Bool) (bytes : List ℕ) (c d : Cursor) : Type 0 where
 behind-place : (p : ℕ) (all prefix rest : List ℕ) → all ≡ prefix ++ rest → p + (length all - length rest) ≡ p + length prefix
 behind-place p all prefix rest is = omega (arith, length-append prefix rest, ap (λ (xs : List ℕ). length xs) is)
 
-encode-nil : encode_of standard [] ≡ []
+pub encode-nil : encode_of standard [] ≡ []
 encode-nil = encode_of-nil standard
 
 end-read : (padded : Bool) (p : ℕ) (all prefix rest bytes : List ℕ) (d : Cursor) → all ≡ prefix ++ rest → solid prefix ≡ [] → bytes ≡ []
@@ -341,18 +341,18 @@ lob-in limit p all bytes d octets e = go (begins_with (34 ∷ []) all) (begins_w
     go false false e = blob-read limit p all bytes d octets e
 
 -- white space in front
-record Front (bytes : List ℕ) (r : List ℕ × List ℕ) : Type 0 where
+record WhitePrefix (bytes : List ℕ) (r : List ℕ × List ℕ) : Type 0 where
   is : bytes ≡ r.0 ++ r.1
   white : solid r.0 ≡ []
 
-white-prefix : (bytes : List ℕ) → Front bytes (run_of (first_is is_white) bytes)
-white-prefix [] = subst (Front []) (sym (run-none (first_is is_white) [] refl)) (record { is = refl; white = refl })
+white-prefix : (bytes : List ℕ) → WhitePrefix bytes (run_of (first_is is_white) bytes)
+white-prefix [] = subst (WhitePrefix []) (sym (run-none (first_is is_white) [] refl)) (record { is = refl; white = refl })
 white-prefix (b ∷ bytes) = elim (cases_Bool (is_white b)) [
   | inl white ↦
       let f = white-prefix bytes in
-      subst (Front (b ∷ bytes)) (sym (run-more (first_is is_white) b bytes white))
+      subst (WhitePrefix (b ∷ bytes)) (sym (run-more (first_is is_white) b bytes white))
       (record { is = ap (λ (xs : List ℕ). b ∷ xs) f.is; white = solid-white b (run_of (first_is is_white) bytes).0 white ∙ f.white })
-  | inr dark ↦ subst (Front (b ∷ bytes)) (sym (run-none (first_is is_white) (b ∷ bytes) dark)) (record { is = refl; white = refl })
+  | inr dark ↦ subst (WhitePrefix (b ∷ bytes)) (sym (run-none (first_is is_white) (b ∷ bytes) dark)) (record { is = refl; white = refl })
 ]
 
 prefix-text : (p : ℕ) (all prefix rest bytes : List ℕ) (d : Cursor) → all ≡ prefix ++ rest → solid prefix ≡ [] → BlobText bytes (at (p + length prefix) rest) d → BlobText bytes (at p all) d
@@ -459,7 +459,7 @@ none-taken n (b ∷ chars) behind e = elim (cases_Bool (is_white b)) [
   | inr dark ↦ absurd (cc (sym (solid-char b chars dark) ∙ e))
 ]
 
-group-decoded : (bytes : List ℕ) → Octets bytes → group_bytes false (encode_of standard bytes) ≡ Ok bytes
+pub group-decoded : (bytes : List ℕ) → Octets bytes → group_bytes false (encode_of standard bytes) ≡ Ok bytes
 group-decoded bytes octets =
     by-decoded false (encode_of standard bytes)
     ∙ ap (by_decoded false) (decoded_of-ok standard (encode_of standard bytes) bytes (decode_of-encode_of standard bytes refl (octets-IsBytes bytes octets)))

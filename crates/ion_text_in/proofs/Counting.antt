@@ -52,7 +52,7 @@ code-fits rest c taken long all =
     (let bounds = len_utf8_bounds c in omega (arith, long, all, length-encode c, bounds.1, length-drop taken rest)) tt
 
 -- so many digits
-abbrev HexFits : ℕ → List ℕ → Hex → Type 0
+abbrev pub HexFits : ℕ → List ℕ → Hex → Type 0
 HexFits k bytes (number n behind) = k + length behind ≤ length bytes
 HexFits k bytes no_digit = Unit {0}
 HexFits k bytes cut_digits = Unit {0}
@@ -63,7 +63,7 @@ hex-either k b bytes true no_digit fits = tt
 hex-either k b bytes true cut_digits fits = tt
 hex-either k b bytes false h fits = tt
 
-hex-fits : (k n : ℕ) (bytes : List ℕ) → HexFits k bytes (hex_behind k n bytes)
+pub hex-fits : (k n : ℕ) (bytes : List ℕ) → HexFits k bytes (hex_behind k n bytes)
 unfolding hex_behind
 hex-fits zero n bytes = omega arith
 hex-fits (suc k) n [] = tt
@@ -194,7 +194,7 @@ text-sized q c = segments-sized (suc (length c.rest)) q 0 c
 
 -- ---- under a limit of so many bytes
 
-bind-same : {A B : Type 0} (o w : Result A Reason) (f g : A → Result B Reason) → o ≡ w → ((x : A) → w ≡ Ok x → f x ≡ g x) → (o >>= f) ≡ (w >>= g)
+pub bind-same : {A B : Type 0} (o w : Result A Reason) (f g : A → Result B Reason) → o ≡ w → ((x : A) → w ≡ Ok x → f x ≡ g x) → (o >>= f) ≡ (w >>= g)
 bind-same o (Ok x) f g e more = ap (λ o. o >>= f) e ∙ more x refl
 bind-same o (Err reason) f g e more = ap (λ o. o >>= f) e
 
@@ -256,7 +256,7 @@ chosen-counts b n bytes true ends x y lx ly lb = omega (arith, lx)
 chosen-counts b n bytes false true x y lx ly lb = omega (arith, lb)
 chosen-counts b n bytes false false x y lx ly lb = omega (arith, ly)
 
-group-counts : (n : ℕ) (bytes : List ℕ) → length (group_of n bytes).0 + length (group_of n bytes).1 ≤ length bytes
+pub group-counts : (n : ℕ) (bytes : List ℕ) → length (group_of n bytes).0 + length (group_of n bytes).1 ≤ length bytes
 unfolding group_of
 group-counts zero bytes = omega arith
 group-counts (suc n) [] = omega arith
@@ -305,7 +305,7 @@ group_bytes-most false (Some b) bytes most e = let same : b ≡ bytes = cc e in 
 group_bytes-most padded None bytes most e = absurd (cc e)
 
 module _ (limit : ℕ) where
-  groups-if : (few : Bool) (x y u v : Result (List ℕ × Cursor) Reason) → x ≡ u → (few ≡ false → y ≡ v) → (if few then x else y) ≡ (if few then u else v)
+  pub groups-if : (few : Bool) (x y u v : Result (List ℕ × Cursor) Reason) → x ≡ u → (few ≡ false → y ≡ v) → (if few then x else y) ≡ (if few then u else v)
   groups-if true x y u v ex ey = ex
   groups-if false x y u v ex ey = ey refl
 

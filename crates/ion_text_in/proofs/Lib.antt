@@ -9,9 +9,46 @@ mod Complete
 mod TokenCuts
 mod Counting
 mod One
+mod Going
 mod Meaning
+mod Texts
 mod Blobs
 mod Strings
 mod Narrow
 mod Refused
+pub mod Behind
+pub mod NumberEnds
+pub mod TokenBegins
+pub mod Fuel
+pub mod Plain
+pub mod Quotes
+pub mod Hexes
+pub mod Still
+pub mod Looking
+pub mod Holding
+pub mod Taking
+pub mod Gathering
+pub mod Segments
+pub mod Utf8
+pub mod SegmentTexts
+pub mod ScannedTexts
+pub mod TextTokens
+pub mod Shown
+pub mod ShownRuns
+pub mod ShownBlanks
+pub mod ShownPieces
+mod ReadingText
+pub mod Runs
+pub mod Turns
+pub mod BlankTurns
+pub mod RunEnds
+pub mod ShownTokens
+pub mod RunTokens
+pub mod Gathered
+pub mod WordTokens
+pub mod FirstTokens
+pub mod TypedWords
+pub mod Held
+pub mod LobTurns
 mod Rows
+mod QuotedRows

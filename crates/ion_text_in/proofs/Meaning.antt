@@ -35,7 +35,8 @@ use Rattle.ion_text_in.specs.Places.{run_of}
 use Rattle.ion_text_in.specs.Blanks.{is_white}
 use Rattle.ion_text_in.specs.Token as tokens
 use Rattle.ion_text_in.specs.Token.{First, a_run, a_word, first_at, begins_run, in_run, in_word, bytes_of, with_type, word_of, word_token, counted, run_token, Token, plain, token_of}
-use Rattle.ion_text_in.specs.Meaning.{Limit, Allows, at, Means, behind_null, NullTextIsRead, BoolTextIsRead, PlainSymbolIsRead, IntTextIsRead, DecimalTextIsRead, TimestampTextIsRead}
+use Rattle.ion_text_in.specs.Meaning.{Limit, Allows, at}
+use Rattle.ion_text_in.proofs.Going.{MeansIf, behind_null, NullIf, BoolIf, PlainSymbolIf, IntIf, DecimalIf, TimestampIf}
 
 -- ---- limits and cursors
 
@@ -120,7 +121,7 @@ counted-run : (limit : Limit) (place : ℕ) (text bytes rest : List ℕ) (v : Sc
 counted-run limit place text bytes rest v is fits means =
     rw (is, fits, means, skip-prefix place text rest) refl
 
-pub run-means : (text : List ℕ) (v : Scalar SymbolAt) → IsRun text → scalar_of_run text ≡ Ok v → Means (length text) in_run text (plain v)
+pub run-means : (text : List ℕ) (v : Scalar SymbolAt) → IsRun text → scalar_of_run text ≡ Ok v → MeansIf (length text) in_run text (plain v)
 unfolding token_of
 run-means text v run means limit sexp place rest allows ends =
     ap (λ (f : First). token_of limit f (at place (text ++ rest))) (run-first sexp text rest run)
@@ -178,7 +179,7 @@ scalar-int run i e = ap (λ o. scalar_of_readings {S = SymbolAt} o (decimal_of_t
 decimal-runs : (n : ℕ) (text : List ℕ) → n < 10 ^ 64 → all_are is_run_byte text ≡ true → Runs (decimal n ++ text)
 decimal-runs n text small behind = let w = spells n small in digits-behind (decimal n) text w.some w.digits behind
 
-pub int-means : IntTextIsRead
+pub int-means : IntIf
 int-means i valid =
     let runs = subst Runs (append-nil (decimal i.magnitude)) (decimal-runs i.magnitude [] (omega (arith, valid.fits)) refl) in
     run-means (int_text i) (int i) (sign-run i.negative (decimal i.magnitude) runs) (scalar-int (int_text i) i (int_text-is_read i valid))
@@ -211,7 +212,7 @@ magnitude-runs n (negsuc e) small within = elim (cases_Bool (nat_lt e most_place
   | inr many ↦ rw many (decimal-runs n (100 ∷ integer_text (negsuc e)) small (exponent-bytes (negsuc e) within))
 ]
 
-pub decimal-means : DecimalTextIsRead
+pub decimal-means : DecimalIf
 decimal-means d valid =
     run-means (decimal_text d) (value.decimal d)
     (sign-run d.negative (magnitude_text d.coefficient d.exponent) (magnitude-runs d.coefficient d.exponent (omega (arith, valid.coefficient)) valid.exponent))
@@ -277,14 +278,14 @@ timestamp-runs : (t : Timestamp) → Runs (timestamp_text t)
 unfolding timestamp_text
 timestamp-runs t = text-runs t.precision t
 
-pub timestamp-means : TimestampTextIsRead
+pub timestamp-means : TimestampIf
 timestamp-means t valid =
     run-means (timestamp_text t) (timestamp t) (run-of_digits (timestamp_text t) (timestamp-runs t)) (scalar-timestamp (timestamp_text t) t (text-read t valid))
 
 -- ---- words
 
 word-means : (goes_on : List ℕ → Bool) (text : List ℕ) (t : Token) → ((rest : List ℕ) → goes_on rest ≡ false → word_of (text ++ rest) ≡ text)
-    → ((sexp : Bool) (rest : List ℕ) → first_at sexp (text ++ rest) ≡ a_word) → word_token text ≡ Ok t → Means (length text) goes_on text t
+    → ((sexp : Bool) (rest : List ℕ) → first_at sexp (text ++ rest) ≡ a_word) → word_token text ≡ Ok t → MeansIf (length text) goes_on text t
 unfolding token_of
 word-means goes_on text t word first means limit sexp place rest allows ends =
     ap (λ (f : First). token_of limit f (at place (text ++ rest))) (first sexp rest)
@@ -321,7 +322,7 @@ unfolding word_token
 bool-token true = refl
 bool-token false = refl
 
-pub bool-means : BoolTextIsRead
+pub bool-means : BoolIf
 bool-means truth = word-means in_word (bool_text truth) (plain (value.bool truth)) (bool-word truth) (bool-first truth) (bool-token truth)
 
 -- `null`, a point and a type
@@ -377,7 +378,7 @@ null-token type.List = refl
 null-token type.Sexp = refl
 null-token type.Struct = refl
 
-pub null-means : NullTextIsRead
+pub null-means : NullIf
 null-means t = word-means (behind_null t) (null_text t) (plain (value.null t)) (null-word t) (null-first t) (null-token t)
 
 -- ---- symbols without quotes
@@ -404,7 +405,7 @@ symbol-token word none no_id =
     ok_name : value.Symbol → Result Token Reason
     ok_name s = Ok (tokens.name false s)
 
-pub plain-symbol-means : PlainSymbolIsRead
+pub plain-symbol-means : PlainSymbolIf
 unfolding first_at
 plain-symbol-means [] is = absurd (false≢true is)
 plain-symbol-means (b ∷ word) is =

@@ -118,7 +118,7 @@ unfolding pieces_for
 pieces-within zero q limit count c = tt
 pieces-within (suc most) q limit count c = with_piece-within (λ n d. pieces_for most q limit n d) q limit count c (piece_at q c.rest) (λ n d. pieces-within most q limit n d)
 
-segment-within : (q : Quote) (limit : Option ℕ) (count : ℕ) (c : Cursor) → Within c (segment_at q limit count c)
+pub segment-within : (q : Quote) (limit : Option ℕ) (count : ℕ) (c : Cursor) → Within c (segment_at q limit count c)
 unfolding segment_at
 segment-within q limit count c =
     within-then c (pieces_for (suc (length c.rest)) q limit count c) _ (pieces-within (suc (length c.rest)) q limit count c) (λ x. within-refuse x.1 (not (q.in_clob || is_utf8 x.0)) BadText (Ok x) (stays x.1))
@@ -143,7 +143,7 @@ blanks-if : (c : Cursor) (o : Placed Cursor) → blanks.blanks c ≡ o → Withi
 blanks-if c (Ok b) e = (blanks-within c b e).0
 blanks-if c (Err fault) e = tt
 
-between-within : (in_clob : Bool) (c : Cursor) → WithinIf c (quoted.between in_clob c)
+pub between-within : (in_clob : Bool) (c : Cursor) → WithinIf c (quoted.between in_clob c)
 between-within true c = skip-within (length (run_of (first_is blanks.is_white) c.rest).0) c
 between-within false c = blanks-if c (blanks.blanks c) refl
 

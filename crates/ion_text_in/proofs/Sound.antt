@@ -24,8 +24,8 @@ begun-nothing _ _ _ at_separator e = absurd (cc e)
 begun-nothing _ _ _ at_field e = absurd (cc e)
 begun-nothing _ _ _ (in_item {field = field} {annotations = annotations} f ns) e =
     let no_field : field ≡ None = cc e in
-    let no_notes : annotations ≡ [] = cc e in
-    annotations-none ns no_notes ∙ field-none f no_field
+    let no_annotations : annotations ≡ [] = cc e in
+    annotations-none ns no_annotations ∙ field-none f no_field
 
 spells-tops : {b c : Cursor} (path : Path SymbolAt ℕ) (kinds : List Kind) (full : Bool) → Spells b path kinds full c → kinds ≡ []
     → (tops : List (Top SymbolAt ℕ)) × (path ≡ closed tops) × Tops b tops c

@@ -16,8 +16,8 @@ use Rattle.ion_text_in.specs.Quoted as texts
 use Rattle.ion_text_in.specs.Quoted.{Quote, Piece, symbol_quote, short_quote, piece_at, pieces_for, segment_at, segments_for, text_at, with_piece, raw, by_code, byte_code, hex_behind, number}
 use Rattle.ion_text_in.specs.Token as tokens
 use Rattle.ion_text_in.specs.Token.{Token, first_at, token_of}
-use Rattle.ion_text_in.specs.Meaning as meaning
-use Rattle.ion_text_in.specs.Meaning.{Limit, Allows, at, Escape, Char, Chars, quoted, StringTextIsRead, QuotedSymbolIsRead, ClobTextIsRead}
+use Rattle.ion_text_in.specs.Meaning.{Limit, Allows, at, Escape, Char, Chars, quoted, StringTextIsRead, ClobTextIsRead}
+use Rattle.ion_text_in.proofs.Going.{behind_symbol, QuotedSymbolIf}
 use Rattle.ion_text_in.specs.Places.{run_of, behind_run}
 use Rattle.ion_text_in.specs.Blanks.{is_white}
 use Rattle.ion_text_in.specs.Lob as lob
@@ -189,7 +189,7 @@ flip : (a b : ℕ) → (b == a) ≡ false → (a == b) ≡ false
 flip a b e = grind (arith, nat_tests)
 
 -- no long string begins at the quote
-no-long : (chars bytes rest : List ℕ) → Chars 39 false chars bytes → meaning.behind_symbol bytes rest ≡ false → begins_with (39 ∷ 39 ∷ []) (chars ++ 39 ∷ rest) ≡ false
+no-long : (chars bytes rest : List ℕ) → Chars 39 false chars bytes → behind_symbol bytes rest ≡ false → begins_with (39 ∷ 39 ∷ []) (chars ++ 39 ∷ rest) ≡ false
 no-long _ _ [] Chars.none ends = refl
 no-long _ _ (b ∷ rest) Chars.none ends = let other = flip 39 b ends in rw other refl
 no-long _ _ rest (Chars.and_then {chars = chars} char are) ends = by-char rest chars char
@@ -203,7 +203,7 @@ symbol-first : (sexp : Bool) (bytes : List ℕ) → begins_with (39 ∷ 39 ∷ [
 unfolding first_at
 symbol-first sexp bytes e = ap (λ (long : Bool). if long then tokens.a_long else tokens.a_quoted) e
 
-pub symbol-means : QuotedSymbolIsRead
+pub symbol-means : QuotedSymbolIf
 unfolding token_of
 symbol-means chars bytes are utf8 limit sexp place rest allows ends =
     ap (λ (xs : List ℕ). tokens.token_at limit sexp (at place (39 ∷ xs))) (behind-quotes 39 chars rest)

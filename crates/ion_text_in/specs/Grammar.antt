@@ -23,7 +23,7 @@ pub data Annotations (sexp : Bool) (c : Cursor) : List SymbolAt → Cursor → T
   nothing : Annotations sexp c [] c
   then : {annotations : List SymbolAt} {d e f : Cursor} {p q : ℕ} {quoted : Bool} {symbol : Symbol}
       → Annotations sexp c annotations d → Tok sexp d (name quoted symbol) p e
-          → Tok sexp e colons q f
+      → Tok sexp e colons q f
       → Annotations sexp c (annotations ++ at symbol p ∷ []) f
 
 -- a member's field in a struct, a symbol or a string before a colon, and nothing elsewhere

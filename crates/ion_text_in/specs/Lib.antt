@@ -10,3 +10,14 @@ pub mod Grammar
 pub mod Paths
 pub mod Laws
 pub mod Meaning
+pub mod Scanning
+pub mod Scanners
+pub mod Beginnings
+pub mod Quotes
+pub mod Pieces
+pub mod Gathered
+pub mod Overrun
+pub mod Runs
+pub mod Views
+pub mod Firsts
+pub mod Lobs

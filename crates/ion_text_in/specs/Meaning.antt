@@ -1,6 +1,5 @@
--- What a token means: the text of a scalar is read as that scalar, whatever stands behind it that does not go
--- on with it, and the characters of a blob are the base64 of its bytes.
-use Rattle.std.specs.Prelude.{◌≡◌, ◌≢◌, ℕ, ◌+◌, ◌*◌, ◌<◌, ◌≤◌, Bool, true, false, not, ◌&&◌, ◌||◌, ◌==◌, List, [], ◌∷◌, ◌++◌, All, length, filter, codes, Option, Some, None, Ok}
+-- What a token means: the text of a scalar is read as that scalar, whatever stands behind it that ends it, and the characters of a blob are the base64 of its bytes.
+use Rattle.std.specs.Prelude.{◌≡◌, ◌≢◌, ℕ, ◌+◌, ◌*◌, ◌<◌, ◌≤◌, Bool, true, false, not, List, [], ◌∷◌, ◌++◌, All, length, filter, codes, Option, Some, None, Ok}
 use Rattle.std.specs.Str.{is_utf8}
 use Rattle.base64.specs.Engines.{standard}
 use Rattle.base64.specs.GeneralPurpose.{encode_of}
@@ -11,14 +10,15 @@ use Rattle.ion_value.specs.declared.ion_type.IonType.{IonType}
 use Rattle.ion_value.specs.declared.ion_type.IonType.TheVariants as type
 use Rattle.ion_value.specs.declared.timestamp.Timestamp.{Timestamp}
 use Rattle.ion_value.specs.Decimal.{IsDecimal, decimal_text}
-use Rattle.ion_value.specs.Digits.{is_hex_digit, digit_value, first_is, all_are}
+use Rattle.ion_value.specs.Digits.{is_hex_digit, digit_value, all_are}
 use Rattle.ion_value.specs.Int.{IsInt, int_text}
 use Rattle.ion_value.specs.Name.{null_text, bool_text, is_plain}
 use Rattle.ion_value.specs.Timestamp.{IsTimestamp, timestamp_text}
 use Rattle.ion_value.specs.Value.{Text, null, bool, int, decimal, timestamp, clob, blob}
 use Rattle.ion_text_in.specs.Blanks.{is_white}
+use Rattle.ion_text_in.specs.Beginnings.{BeginsNot, EndsIdentifier, EndsNumber}
 use Rattle.ion_text_in.specs.Token as tokens
-use Rattle.ion_text_in.specs.Token.{Token, plain, in_run, in_word, token_at}
+use Rattle.ion_text_in.specs.Token.{Token, plain, token_at}
 
 -- a limit on what a token counts, where there is one
 abbrev pub Limit : Type 0
@@ -32,43 +32,47 @@ Allows (Some limit) count = count ≤ limit
 abbrev pub at : ℕ → List ℕ → Cursor
 at place rest = record { place = place; rest = rest }
 
--- a text is a token wherever it stands and whatever stands behind it that does not go on with it, under every
--- limit that allows so many bytes
-abbrev pub Means : ℕ → (List ℕ → Bool) → List ℕ → Token → Type 0
-Means count goes_on text t =
-    (limit : Limit) (sexp : Bool) (place : ℕ) (rest : List ℕ) → Allows limit count → goes_on rest ≡ false
+-- a text is a token wherever it stands and whatever stands behind it that ends it, under every limit that allows so
+-- many bytes
+abbrev pub Means : ℕ → (List ℕ → Type 0) → List ℕ → Token → Type 0
+Means count Ends text t =
+    (limit : Limit) (sexp : Bool) (place : ℕ) (rest : List ℕ) → Allows limit count → Ends rest
     → token_at limit sexp (at place (text ++ rest)) ≡ Ok (t, at (place + length text) rest)
+
+-- what closes itself is ended by anything
+abbrev pub Anything : List ℕ → Type 0
+Anything rest = Unit {0}
 
 -- ---- words
 
 -- a point too goes on with `null` alone
-abbrev pub behind_null : IonType → List ℕ → Bool
-behind_null type.Null rest = in_word rest || first_is (λ b. b == 46) rest
-behind_null t rest = in_word rest
+abbrev pub EndsNull : IonType → List ℕ → Type 0
+EndsNull type.Null rest = EndsIdentifier rest × BeginsNot (codes ".") rest
+EndsNull t rest = EndsIdentifier rest
 
 abbrev pub NullTextIsRead : Type 0
-NullTextIsRead = (t : IonType) → Means (length (null_text t)) (behind_null t) (null_text t) (plain (null t))
+NullTextIsRead = (t : IonType) → Means (length (null_text t)) (EndsNull t) (null_text t) (plain (null t))
 
 abbrev pub BoolTextIsRead : Type 0
-BoolTextIsRead = (truth : Bool) → Means (length (bool_text truth)) in_word (bool_text truth) (plain (bool truth))
+BoolTextIsRead = (truth : Bool) → Means (length (bool_text truth)) EndsIdentifier (bool_text truth) (plain (bool truth))
 
 -- an identifier that means nothing else
 abbrev pub PlainSymbolIsRead : Type 0
 PlainSymbolIsRead =
-    (word : List ℕ) → is_plain word ≡ true → Means (length word) in_word word (tokens.name false (Text word))
+    (word : List ℕ) → is_plain word ≡ true → Means (length word) EndsIdentifier word (tokens.name false (Text word))
 
 -- ---- runs
 
 abbrev pub IntTextIsRead : Type 0
-IntTextIsRead = (i : Int) → IsInt i → Means (length (int_text i)) in_run (int_text i) (plain (int i))
+IntTextIsRead = (i : Int) → IsInt i → Means (length (int_text i)) EndsNumber (int_text i) (plain (int i))
 
 abbrev pub DecimalTextIsRead : Type 0
 DecimalTextIsRead =
-    (d : Decimal) → IsDecimal d → Means (length (decimal_text d)) in_run (decimal_text d) (plain (decimal d))
+    (d : Decimal) → IsDecimal d → Means (length (decimal_text d)) EndsNumber (decimal_text d) (plain (decimal d))
 
 abbrev pub TimestampTextIsRead : Type 0
 TimestampTextIsRead =
-    (t : Timestamp) → IsTimestamp t → Means (length (timestamp_text t)) in_run (timestamp_text t) (plain (timestamp t))
+    (t : Timestamp) → IsTimestamp t → Means (length (timestamp_text t)) EndsNumber (timestamp_text t) (plain (timestamp t))
 
 -- ---- blobs
 
@@ -84,7 +88,7 @@ IsBase64 chars bytes = solid chars ≡ encode_of standard bytes
 abbrev pub Base64IsRead : Type 0
 Base64IsRead =
     (chars bytes : List ℕ) → All (λ octet. octet < 256) bytes → IsBase64 chars bytes
-    → Means (length bytes) (λ rest. false) (codes "{{" ++ (chars ++ codes "}}")) (plain (blob bytes))
+    → Means (length bytes) Anything (codes "{{" ++ (chars ++ codes "}}")) (plain (blob bytes))
 
 -- the characters of a blob and the braces that close it, from one place to another
 pub record BlobText (bytes : List ℕ) (c d : Cursor) : Type 0 where
@@ -139,21 +143,21 @@ quoted quote chars = quote ∷ (chars ++ quote ∷ [])
 abbrev pub StringTextIsRead : Type 0
 StringTextIsRead =
     (chars bytes : List ℕ) → Chars 34 false chars bytes → is_utf8 bytes ≡ true
-    → Means (length bytes) (λ rest. false) (quoted 34 chars) (tokens.text bytes)
+    → Means (length bytes) Anything (quoted 34 chars) (tokens.text bytes)
 
 -- behind two quotes alone a third begins a long string
-abbrev pub behind_symbol : List ℕ → List ℕ → Bool
-behind_symbol bytes rest = length bytes == 0 && first_is (λ b. b == 39) rest
+abbrev pub EndsSymbol : List ℕ → List ℕ → Type 0
+EndsSymbol bytes rest = bytes ≡ [] → BeginsNot (codes "'") rest
 
 abbrev pub QuotedSymbolIsRead : Type 0
 QuotedSymbolIsRead =
     (chars bytes : List ℕ) → Chars 39 false chars bytes → is_utf8 bytes ≡ true
-    → Means (length bytes) (behind_symbol bytes) (quoted 39 chars) (tokens.name true (Text bytes))
+    → Means (length bytes) (EndsSymbol bytes) (quoted 39 chars) (tokens.name true (Text bytes))
 
 -- a clob has white space around its quotes, and no comments
 abbrev pub ClobTextIsRead : Type 0
 ClobTextIsRead =
     (prefix chars back bytes : List ℕ)
     → all_are is_white prefix ≡ true → Chars 34 true chars bytes → all_are is_white back ≡ true
-    → Means (length bytes) (λ rest. false) (codes "{{" ++ (prefix ++ (quoted 34 chars ++ (back ++ codes "}}"))))
+    → Means (length bytes) Anything (codes "{{" ++ (prefix ++ (quoted 34 chars ++ (back ++ codes "}}"))))
     (plain (clob bytes))

@@ -27,7 +27,7 @@ pub data Spells (b : Cursor) : Path SymbolAt ℕ → List Kind → Bool → Curs
       → Spells b path kinds false c → Field (innermost kinds) c field d → Annotations (in_sexp (innermost kinds)) d annotations e
       → Tok (in_sexp (innermost kinds)) e (begin k) p f → Inside k f members full g
       → Spells b (open_in path (first_place annotations p) field annotations p k members) (k
-          ∷ kinds) full g
+      ∷ kinds) full g
 
 -- the bytes before a place spell the path
 pub record IsPath (bytes : List ℕ) (q : ℕ) (path : Path SymbolAt ℕ) : Type 0 where

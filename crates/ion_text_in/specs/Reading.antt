@@ -90,7 +90,7 @@ given kinds top field annotations place head after wants c =
 abbrev pub scalar_given : List Kind → ℕ → Option SymbolAt → List SymbolAt → ℕ → Scalar SymbolAt → Cursor → Step State
 scalar_given kinds top field annotations place body c =
     given kinds top field annotations place (value.whole body) kinds
-        (behind_member (innermost kinds)) c
+    (behind_member (innermost kinds)) c
 
 abbrev pub going_on : List Kind → ℕ → Wants → Cursor → Step State
 going_on kinds top wants c = GoesOn (record { kinds = kinds; top = top; wants = wants; cursor = c })

@@ -1,6 +1,8 @@
 //! Laws of the grammar and the reading of the text form, each the contract of a function that does
 //! nothing.
+ghost use Rattle.ion_text_in.specs.Beginnings.{IdentifiersEnd, NumbersAreCut, NumbersEnd, OneBegins, OperatorsEnd, WhatBegins, WhereNoneBegins};
 ghost use Rattle.ion_text_in.specs.Meaning.{Base64IsRead, BlobsAreBase64, BoolTextIsRead, ClobTextIsRead, DecimalTextIsRead, IntTextIsRead, NullTextIsRead, PlainSymbolIsRead, QuotedSymbolIsRead, StringTextIsRead, TimestampTextIsRead};
+ghost use Rattle.ion_text_in.specs.Scanning.{BlanksChangeNoStep, EachPieceTakes, GroupsInTurn, PiecesInTurn, PlainBytesAreSpelled, SegmentsInTurn};
 ghost use Rattle.ion_text_in.specs.Laws.{Complete, EachStepFalls, EachStepFollows, Narrow, OnePath, OneStream, RightlyRefused, Sound, StreamsAreRead};
 
 /// What is read is a path of the grammar, and where the reading finishes, the whole input is a
@@ -20,7 +22,7 @@ pub fn each_step_falls()
     ensures { EachStepFalls }
 {}
 
-/// Whatever path of the grammar the front of an input spells, its items are read first, under
+/// Whatever path of the grammar a prefix of an input spells, its items are read first, under
 /// limits that allow them.
 pub fn what_is_spelled_is_read()
     ensures { Complete }
@@ -111,6 +113,48 @@ pub fn plain_symbol_is_read()
     ensures { PlainSymbolIsRead }
 {}
 
+/// A number or timestamp goes on up to the input's end, one of the fifteen numeric stop characters or
+/// a comment, and no further.
+pub fn what_ends_a_number()
+    ensures ends { NumbersEnd }
+    ensures cut { NumbersAreCut }
+{}
+
+/// An identifier goes on up to a byte that is in none, and an operator up to a byte that is in none or
+/// a comment.
+pub fn what_ends_a_symbol()
+    ensures identifiers { IdentifiersEnd }
+    ensures operators { OperatorsEnd }
+{}
+
+/// The kind of token that is read at a place is the one that begins there by its first bytes; no two
+/// begin at one place, and where none does, none is read.
+pub fn what_begins_a_token()
+    ensures computed { WhatBegins }
+    ensures none { WhereNoneBegins }
+    ensures one { OneBegins }
+{}
+
+/// A step from behind blanks is the step from before them.
+pub fn blanks_change_no_step()
+    ensures { BlanksChangeNoStep }
+{}
+
+/// What stands between quotes is read piece by piece, each of which takes a byte and twelve at most,
+/// segment by segment, and what stands in a blob group by group, without a bound on how many.
+pub fn parts_follow_in_turn()
+    ensures takes { EachPieceTakes }
+    ensures pieces { PiecesInTurn }
+    ensures segments { SegmentsInTurn }
+    ensures groups { GroupsInTurn }
+{}
+
+/// Bytes that need no escape and close nothing, told one by one, spell themselves between quotes,
+/// unless the limit is passed among them.
+pub fn plain_bytes_are_spelled()
+    ensures { PlainBytesAreSpelled }
+{}
+
 #[cfg(test)]
 mod tests {
     use super::*;
@@ -137,5 +181,11 @@ mod tests {
         quoted_symbol_is_read();
         clob_text_is_read();
         plain_symbol_is_read();
+        what_ends_a_number();
+        what_ends_a_symbol();
+        what_begins_a_token();
+        blanks_change_no_step();
+        parts_follow_in_turn();
+        plain_bytes_are_spelled();
     }
 }

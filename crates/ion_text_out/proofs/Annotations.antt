@@ -7,7 +7,8 @@ use Rattle.ion_meter.specs.declared.fault.Fault.{Fault}
 use Rattle.ion_value.specs.Value.{SymbolAt}
 use Rattle.ion_text_out.specs.Text.{annotation_text}
 use Rattle.ion_meter.specs.Sinks.{HasPut}
-use Rattle.ion_text_out.specs.Writing.{user_symbol_at, next_annotation_text, annotations_text}
+use Rattle.ion_text_out.specs.Writing.{next_annotation_text, annotations_text}
+use Rattle.ion_value.specs.Value.{user_symbol_at}
 use Rattle.ion_meter.proofs.Putting.{put_cut, put_then}
 
 -- the texts of the first annotations, and of the next

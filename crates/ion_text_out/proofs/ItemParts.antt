@@ -6,7 +6,8 @@ use Rattle.ion_value.specs.Value as v
 use Rattle.ion_value.specs.Value.{PlacedItem, SymbolAt, map_head}
 use Rattle.ion_text_out.specs.Text.{Open, before_item, behind_value, head_text, item_text, opener}
 use Rattle.ion_meter.specs.Sinks.{HasPut}
-use Rattle.ion_text_out.specs.Writing.{body_text, first_text, is_value, last_text, middle_text, name_text, annotations_text, user_symbol_at, user_item, where_value}
+use Rattle.ion_text_out.specs.Writing.{body_text, first_text, is_value, last_text, middle_text, name_text, annotations_text, where_value}
+use Rattle.ion_value.specs.Value.{user_symbol_at, user_item}
 use Rattle.ion_meter.proofs.Putting.{put_cut, put_then}
 
 head_parts : (cs : Open) (name annotations : List ℕ) (h : v.Head SymbolAt)

@@ -1,11 +1,12 @@
 -- The text of items grows by that of each, and the text of trees is that of their items.
-use Rattle.std.proofs.Common.{◌≡◌, ℕ, true, List, [], ◌∷◌, ◌++◌, Option, None, refl, ap, ◌∙◌, append_assoc, append-nil}
+use Rattle.std.proofs.Common.{◌≡◌, ℕ, true, false, List, [], ◌∷◌, ◌++◌, Option, None, refl, ap, ◌∙◌, append_assoc, append-nil}
 use Rattle.std.specs.List.{flat_map}
 use Rattle.ion_value.specs.declared.ion_type.Kind.{Kind}
 use Rattle.ion_value.specs.Value as v
 use Rattle.ion_value.specs.Value.{UserSymbol, Value, Members, scalar, container, nothing, member, Top, tree, Item, bare_item, member_items, one_top, top_items, value_items}
+use Rattle.ion_value.specs.Path.{Nest, outermost, inner, Path, closed, opened, nest_items, path_items, begin_item}
 use Rattle.ion_text_out.specs.Written.{items_append}
-use Rattle.ion_text_out.specs.Text.{Open, annotation_text, before_item, before_next, behind_value, closer, field_text, is_empty, items_text, members_text, open_after, open_behind, opener, scalar_text, text, top_text, value_text, with_member}
+use Rattle.ion_text_out.specs.Text.{Open, annotation_text, before_item, before_next, behind_value, closer, field_text, inner_kind, inner_members, is_empty, items_text, nest_text, path_text, members_text, open_after, open_behind, opener, scalar_text, text, top_text, value_text, with_member}
 
 -- the open containers behind items and others
 behind_append : (cs : Open) (is js : List (Item UserSymbol ℕ)) → open_behind cs (is ++ js) ≡ open_behind (open_behind cs is) js
@@ -79,3 +80,55 @@ text_of_items (t ∷ ts) =
     ∙ (ap (λ a. a ++ items_text (open_behind [] (one_top t)) (top_items ts)) (one_text t)
     ∙ (ap (λ c. top_text t ++ items_text c (top_items ts)) (one_behind t)
     ∙ ap (λ a. top_text t ++ a) (text_of_items ts)))
+
+-- ---- paths
+
+tops_behind : (ts : List (Top UserSymbol ℕ)) → open_behind [] (top_items ts) ≡ []
+tops_behind [] = refl
+tops_behind (t ∷ ts) =
+    behind_append [] (one_top t) (top_items ts) ∙ (ap (λ c. open_behind c (top_items ts)) (one_behind t) ∙ tops_behind ts)
+
+-- the open containers around the innermost, whatever is open around the outermost
+abbrev around_of : Open → Nest UserSymbol ℕ → Open
+around_of cs (outermost annotations place kind members) = with_member cs
+around_of cs (inner around field annotations place kind members) = (inner_kind around, false) ∷ around_of cs around
+
+open_begin : (cs : Open) (top p : ℕ) (f : Option UserSymbol) (annotations : List UserSymbol) (kind : Kind) (members : Members UserSymbol ℕ)
+    → open_behind cs (begin_item top f annotations p kind ∷ member_items top members) ≡ (kind, is_empty members) ∷ with_member cs
+open_begin cs top p f annotations kind members = members_behind members kind top (with_member cs)
+
+nest_behind : (nest : Nest UserSymbol ℕ) (top : ℕ) (cs : Open) → open_behind cs (nest_items top nest) ≡ (inner_kind nest, is_empty (inner_members nest)) ∷ around_of cs nest
+nest_behind (outermost annotations place kind members) top cs = open_begin cs top place None annotations kind members
+nest_behind (inner around f annotations place kind members) top cs =
+    behind_append cs (nest_items top around) (begin_item top f annotations place kind ∷ member_items top members)
+    ∙ (ap (λ c. open_behind c (begin_item top f annotations place kind ∷ member_items top members)) (nest_behind around top cs)
+    ∙ open_begin ((inner_kind around, is_empty (inner_members around)) ∷ around_of cs around) top place f annotations kind members)
+
+-- the text of a container's beginning and of its members
+begun_text : (a b c d e : List ℕ) → (a ++ ((b ++ c) ++ d)) ++ e ≡ a ++ (b ++ (c ++ (d ++ e)))
+begun_text a b c d e = simp append_assoc
+
+begin_text_of : (cs : Open) (top p : ℕ) (f : Option UserSymbol) (annotations : List UserSymbol) (kind : Kind) (members : Members UserSymbol ℕ)
+    → items_text cs (begin_item top f annotations p kind ∷ member_items top members)
+    ≡ before_item cs ++ (field_text f ++ (flat_map annotation_text annotations ++ (opener kind ++ members_text kind members)))
+begin_text_of cs top p f annotations kind members =
+    ap (λ t. (before_item cs ++ ((field_text f ++ flat_map annotation_text annotations) ++ opener kind)) ++ t) (members_text_of members kind top (with_member cs))
+    ∙ begun_text (before_item cs) (field_text f) (flat_map annotation_text annotations) (opener kind) (members_text kind members)
+
+nest_text_of : (nest : Nest UserSymbol ℕ) (top : ℕ) → items_text [] (nest_items top nest) ≡ nest_text nest
+nest_text_of (outermost annotations place kind members) top = begin_text_of [] top place None annotations kind members
+nest_text_of (inner around f annotations place kind members) top =
+    items_append [] (nest_items top around) (begin_item top f annotations place kind ∷ member_items top members)
+    ∙ (ap (λ t. t ++ items_text (open_behind [] (nest_items top around)) (begin_item top f annotations place kind ∷ member_items top members)) (nest_text_of around top)
+    ∙ (ap (λ c. nest_text around ++ items_text c (begin_item top f annotations place kind ∷ member_items top members)) (nest_behind around top [])
+    ∙ ap (λ t. nest_text around ++ t)
+    (begin_text_of ((inner_kind around, is_empty (inner_members around)) ∷ around_of [] around) top place f annotations kind members)))
+
+-- the text of a path is that of its items
+pub path_text_of : (path : Path UserSymbol ℕ) → items_text [] (path_items path) ≡ path_text path
+path_text_of (closed tops) = text_of_items tops
+path_text_of (opened tops first nest) =
+    items_append [] (top_items tops) (nest_items first nest)
+    ∙ (ap (λ t. t ++ items_text (open_behind [] (top_items tops)) (nest_items first nest)) (text_of_items tops)
+    ∙ (ap (λ c. text tops ++ items_text c (nest_items first nest)) (tops_behind tops)
+    ∙ ap (λ t. text tops ++ t) (nest_text_of nest first)))

@@ -9,7 +9,8 @@ use Rattle.ion_value.specs.Value.{PlacedItem, SymbolAt, UserSymbol, map_head}
 use Rattle.ion_value.specs.Standing as standing
 use Rattle.ion_value.specs.Standing.{Continues, HasPlace}
 use Rattle.ion_text_out.specs.Text.{Open, open_after, open_behind, with_member}
-use Rattle.ion_text_out.specs.Writing.{shown_in, user_symbol_at, user_items, HasRoom, Shows}
+use Rattle.ion_text_out.specs.Writing.{shown_in, HasRoom, Shows}
+use Rattle.ion_value.specs.Value.{user_symbol_at, user_items}
 
 behind-append : (cs : Open) (path : List (v.Item UserSymbol ℕ)) (item : v.Item UserSymbol ℕ) → open_behind cs (path ++ item ∷ []) ≡ open_after (open_behind cs path) item.head
 behind-append cs [] item = refl

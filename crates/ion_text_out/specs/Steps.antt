@@ -8,7 +8,8 @@ use Rattle.ion_value.specs.Shares.{Charges}
 use Rattle.ion_value.specs.Value.{Head, PlacedItem}
 use Rattle.ion_text_out.specs.declared.writer.TextWriter.{TextWriter}
 use Rattle.ion_text_out.specs.Text.{Open, item_text}
-use Rattle.ion_text_out.specs.Writing.{shown, user_item, HasRoom, IsReady}
+use Rattle.ion_text_out.specs.Writing.{shown, HasRoom, IsReady}
+use Rattle.ion_value.specs.Value.{user_item}
 
 -- the containers that it has open
 abbrev pub opened_in : {A : Type 0} → TextWriter A → Open

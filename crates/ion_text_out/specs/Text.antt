@@ -11,6 +11,7 @@ use Rattle.ion_value.specs.Decimal.{decimal_text}
 use Rattle.ion_value.specs.Timestamp.{timestamp_text}
 use Rattle.ion_value.specs.Value as v
 use Rattle.ion_value.specs.Value.{UserSymbol, Known, Unknown, Scalar, Value, Members, scalar, container, nothing, member, Top, tree, Head, Item}
+use Rattle.ion_value.specs.Path.{Nest, outermost, inner, Path, closed, opened}
 use Rattle.ion_text_out.specs.Escape.{between_quotes}
 
 -- a symbol stands without quotes where its text is an identifier that means nothing else; one of unknown text is `$0`
@@ -79,6 +80,29 @@ top_text (tree first annotations place value) = flat_map annotation_text annotat
 
 abbrev pub text : {P : Type 0} → List (Top UserSymbol P) → List ℕ
 text tops = flat_map top_text tops
+
+-- ---- paths whose containers are still open
+
+-- the kind of the innermost open container, and its members so far
+abbrev pub inner_kind : {S P : Type 0} → Nest S P → Kind
+inner_kind (outermost annotations place kind members) = kind
+inner_kind (inner around field annotations place kind members) = kind
+
+abbrev pub inner_members : {S P : Type 0} → Nest S P → Members S P
+inner_members (outermost annotations place kind members) = members
+inner_members (inner around field annotations place kind members) = members
+
+-- each open container with its members so far, behind what is around it, and no bracket closed
+abbrev pub nest_text : {P : Type 0} → Nest UserSymbol P → List ℕ
+nest_text (outermost annotations place kind members) = flat_map annotation_text annotations ++ (opener kind ++ members_text kind members)
+nest_text (inner around field annotations place kind members) =
+    nest_text around
+    ++ (before_next (inner_kind around) (is_empty (inner_members around))
+    ++ (field_text field ++ (flat_map annotation_text annotations ++ (opener kind ++ members_text kind members))))
+
+abbrev pub path_text : {P : Type 0} → Path UserSymbol P → List ℕ
+path_text (closed tops) = text tops
+path_text (opened tops first nest) = text tops ++ nest_text nest
 
 -- ---- the streaming definition, item by item
 

@@ -6,19 +6,9 @@ use Rattle.ion_meter.specs.declared.limits.Limits.{Limits}
 use Rattle.ion_meter.specs.Limits.{AreChecked}
 use Rattle.ion_value.specs.declared.ion_type.Kind.{Kind}
 use Rattle.ion_value.specs.Value as v
-use Rattle.ion_value.specs.Value.{SymbolAt, UserSymbol, user_symbol, map_head, map_item, Head, Item, PlacedItem}
+use Rattle.ion_value.specs.Value.{SymbolAt, UserSymbol, user_symbol_at, user_item, user_items, map_head, Head, PlacedItem}
 use Rattle.ion_value.specs.Standing.{InRange}
 use Rattle.ion_text_out.specs.Text.{Open, annotation_text, before_item, behind_value, closer, field_text, item_text, items_text, open_behind, opener, scalar_text}
-
--- an item as its user knows it
-abbrev pub user_symbol_at : SymbolAt → UserSymbol
-user_symbol_at at = user_symbol at.symbol
-
-abbrev pub user_item : PlacedItem → Item UserSymbol ℕ
-user_item item = map_item user_symbol_at (λ place. place) item
-
-abbrev pub user_items : List PlacedItem → List (Item UserSymbol ℕ)
-user_items items = map user_item items
 
 -- what is put for items, what an item behind them adds, and that none is refused
 abbrev pub text_puts : Limits → List PlacedItem → List ℕ

@@ -4,7 +4,8 @@ use Rattle.ion_meter.specs.declared.limits.Limits.{Limits}
 use Rattle.ion_value.specs.Value.{PlacedItem, UserSymbol, Item}
 use Rattle.ion_value.specs.Standing.{WritesWithin}
 use Rattle.ion_text_out.specs.Text.{Open, item_text, items_text, open_after, open_behind}
-use Rattle.ion_text_out.specs.Writing.{text_adds, text_puts, text_refusal, user_item, user_items, IsReady}
+use Rattle.ion_text_out.specs.Writing.{text_adds, text_puts, text_refusal, IsReady}
+use Rattle.ion_value.specs.Value.{user_item, user_items}
 
 -- the text of items behind others
 pub items_append : (cs : Open) (is js : List (Item UserSymbol ℕ)) → items_text cs (is ++ js) ≡ items_text cs is ++ items_text (open_behind cs is) js

@@ -4,7 +4,8 @@ ghost use Rattle.ion_value.specs.Value.{user_symbol};
 ghost use Rattle.ion_value.specs.Items.{raw_head, raw_field, symbol_of, item_of, annotations_of};
 ghost use Rattle.ion_text_out.specs.Text.{symbol_text, item_text};
 ghost use Rattle.ion_meter.specs.Sinks.{IsPut};
-ghost use Rattle.ion_text_out.specs.Writing.{first_text, is_value, last_text, middle_text, name_text, next_annotation_text, annotations_text, shown, user_item, value_text, HeadInRange};
+ghost use Rattle.ion_text_out.specs.Writing.{first_text, is_value, last_text, middle_text, name_text, next_annotation_text, annotations_text, shown, value_text, HeadInRange};
+ghost use Rattle.ion_value.specs.Value.{user_item};
 
 use crate::between::{before, behind, behind_end, closing};
 use crate::put::put;
@@ -180,7 +181,8 @@ fn put_value<O: Output, A: Allocator + Copy, N: Names>(
     requires well { sink.old.fault ≡ None }
     requires range { HeadInRange (raw_head head.now) }
     ensures { IsPut O.Output sink.old sink.new result
-        (value_text (raw_field field.entry) (annotations_of N.text annotations.now) (raw_head head.now)) }
+        (value_text (raw_field field.entry) (annotations_of N.text annotations.now)
+        (raw_head head.now)) }
 {
     if let Err(fault) = put_field(sink, field) {
         return Err(fault);

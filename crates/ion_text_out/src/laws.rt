@@ -1,5 +1,5 @@
 //! Laws of the definitions of text, each the contract of a function that does nothing.
-ghost use Rattle.ion_text_out.specs.Laws.{ItemsAddTheirText, TextIsThatOfItems};
+ghost use Rattle.ion_text_out.specs.Laws.{ItemsAddTheirText, PathTextIsThatOfItems, TextIsThatOfItems};
 
 /// An item more adds its text to that of the items before it.
 pub fn items_add_their_text()
@@ -11,6 +11,12 @@ pub fn text_is_that_of_items()
     ensures { TextIsThatOfItems }
 {}
 
+/// The text of a path is that of its items, one after the other: of whole values, and of the
+/// containers that are still open, each with its members so far and no closing bracket.
+pub fn path_text_is_that_of_items()
+    ensures { PathTextIsThatOfItems }
+{}
+
 #[cfg(test)]
 mod tests {
     use super::*;
@@ -19,5 +25,6 @@ mod tests {
     fn states_laws() {
         items_add_their_text();
         text_is_that_of_items();
+        path_text_is_that_of_items();
     }
 }

@@ -11,7 +11,8 @@ ghost use Rattle.ion_value.specs.Items.{symbol_of, raw_head};
 ghost use Rattle.ion_text_out.specs.Escape.{between_quotes};
 ghost use Rattle.ion_text_out.specs.Text.{symbol_text};
 ghost use Rattle.ion_meter.specs.Sinks.{IsPut};
-ghost use Rattle.ion_text_out.specs.Writing.{user_symbol_at, body_text, HeadInRange};
+ghost use Rattle.ion_text_out.specs.Writing.{body_text, HeadInRange};
+ghost use Rattle.ion_value.specs.Value.{user_symbol_at};
 
 use crate::between::opener;
 use crate::blob::put_base64;

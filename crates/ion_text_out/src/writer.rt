@@ -8,7 +8,8 @@ ghost use Rattle.ion_value.specs.Value.{map_head};
 ghost use Rattle.ion_value.specs.Items.{raw_head, item_of};
 ghost use Rattle.ion_value.specs.Shares.{WriteCauses, fault_of};
 ghost use Rattle.ion_text_out.specs.Text.{open_after};
-ghost use Rattle.ion_text_out.specs.Writing.{text_puts, text_adds, text_refusal, user_symbol_at, HeadInRange, IsReady, Shows};
+ghost use Rattle.ion_text_out.specs.Writing.{text_puts, text_adds, text_refusal, HeadInRange, IsReady, Shows};
+ghost use Rattle.ion_value.specs.Value.{user_symbol_at};
 ghost use Rattle.ion_text_out.specs.Steps.{held_by, opened_in, share_of, text_of, CanStep, HasRoomFor, PutsText, Stepped};
 ghost use Rattle.ion_text_out.specs.Written.{text_grows, text-within};
 
@@ -79,7 +80,8 @@ impl<A: Allocator + Copy> TextWriter<A> {
         requires range { HeadInRange (item_of N.text item.now).head }
         requires fits { HasRoomFor self.old (item_of N.text item.now).head }
         ensures opens { OnOk result (opened_in self.new
-            ≡ open_after (opened_in self.old) (map_head user_symbol_at (item_of N.text item.now).head)) }
+            ≡ open_after (opened_in self.old)
+            (map_head user_symbol_at (item_of N.text item.now).head)) }
         ensures puts { PutsText O.Output sink.old sink.new result
             (text_of self.old (item_of N.text item.now)) }
         ensures refuses { sink.old.fault ≡ None

@@ -1,4 +1,5 @@
 pub mod Acts
+pub mod Asking
 pub mod LimitsRead
 pub mod OneRun
 pub mod ShowWord

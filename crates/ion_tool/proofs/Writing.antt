@@ -1,6 +1,10 @@
 -- Bytes that were written to a device, all or a prefix of them.
-use Rattle.std.proofs.Common.{arith, ◌≡◌, ◌+◌, ◌≤◌, ◌++◌, ℕ, List, Result, Ok, Err, OnOk, MatchResult, take, drop, sym, ◌∙◌, append-nil}
+use Rattle.std.proofs.Common.{arith, ◌≡◌, ◌↔◌, ◌⊎◌, inl, inr, ◌+◌, ◌++◌, ℕ, List, Result, Ok, Err, OnOk, MatchResult, take, drop, sym, ap, subst, ◌∙◌, append_assoc, append-nil}
+use Rattle.std.specs.Prelude.{true, false}
+use Rattle.std.specs.Result.{is_err}
 use Rattle.ion_meter.proofs.Written.{rest_of_prefix}
+use Rattle.ion_meter.specs.declared.device.Output.{Ghosts as OutputOf}
+use Rattle.ion_value.proofs.Outcomes.{prefix-then}
 use Rattle.ion_tool.specs.Serving.{Gets}
 
 -- a call after which the count of failures is as it was has succeeded
@@ -10,18 +14,55 @@ where_unfailed (Ok x) old new P count ok same = ok
 where_unfailed (Err e) old new P count ok same = absurd (omega arith)
 
 -- a call fails once at most
-one_at_most : {T F : Type 0} (r : Result T F) (old new : ℕ) → MatchResult r (λ _. new ≡ old) (λ _. new ≡ old + 1) → new ≤ old + 1
-one_at_most (Ok x) old new count = omega arith
-one_at_most (Err e) old new count = omega arith
+one_at_most : {T F : Type 0} (r : Result T F) (old new : ℕ) → MatchResult r (λ _. new ≡ old) (λ _. new ≡ old + 1) → (new ≡ old) ⊎ (new ≡ old + 1)
+one_at_most (Ok x) old new count = inl count
+one_at_most (Err e) old new count = inr count
 
 -- what a write of bytes says, as one fact
-pub gets : {D T F : Type 0} (written : D → List ℕ) (observable : D → Type 0) (failure_count : D → ℕ) (bytes : List ℕ) (old new : D) (r : Result T F)
-    → MatchResult r (λ _. failure_count new ≡ failure_count old) (λ _. failure_count new ≡ failure_count old + 1)
-    → (observable old → OnOk r (written new ≡ written old ++ bytes))
-    → (observable old → (n : ℕ) × (written new ≡ written old ++ take n bytes))
-    → Gets written observable failure_count bytes old new
-gets written observable failure_count bytes old new r count all prefix = record {
+pub gets : {D T F : Type 0} (device : OutputOf D) (bytes : List ℕ) (old new : D) (r : Result T F)
+    → (device.observable new ↔ device.observable old)
+    → MatchResult r (λ _. device.failure_count new ≡ device.failure_count old) (λ _. device.failure_count new ≡ device.failure_count old + 1)
+    → (device.observable old → OnOk r (device.written new ≡ device.written old ++ bytes))
+    → (device.observable old → (n : ℕ) × (device.written new ≡ device.written old ++ take n bytes))
+    → Gets device bytes old new
+gets device bytes old new r same count all prefix = record {
   prefix = λ t. let n = (prefix t).0 in (drop n bytes, sym (append-nil _) ∙ rest_of_prefix _ _ bytes n (prefix t).1);
+  grown = λ t. (take (prefix t).0 bytes, (prefix t).1);
   whole = λ t same. where_unfailed r _ _ _ count (all t) same;
   once = one_at_most r _ _ count;
+  still_observable = same;
 }
+
+-- bytes that went to a device whole, and then others
+pub gets_then : {D : Type 0} (device : OutputOf D) (first second : List ℕ) (old middle new : D)
+    → device.failure_count middle ≡ device.failure_count old
+    → Gets device first old middle → Gets device second middle new → Gets device (first ++ second) old new
+gets_then device first second old middle new count a b = record {
+  prefix = λ t. let rest = b.prefix (a.still_observable.1 t) in
+      (rest.0, sym (append_assoc (device.written old) first second) ∙ (ap (λ (l : List ℕ). l ++ second) (sym (a.whole t count)) ∙ rest.1));
+  grown = λ t. prefix-then (device.written old) (device.written middle) (device.written new) (b.grown (a.still_observable.1 t)) (a.grown t);
+  whole = λ t e. b.whole (a.still_observable.1 t) (e ∙ sym count) ∙ (ap (λ (l : List ℕ). l ++ second) (a.whole t count) ∙ append_assoc (device.written old) first second);
+  once = subst (λ (n : ℕ). (device.failure_count new ≡ n) ⊎ (device.failure_count new ≡ n + 1)) count b.once;
+  still_observable = (λ t. a.still_observable.0 (b.still_observable.0 t), λ t. b.still_observable.1 (a.still_observable.1 t));
+}
+
+-- bytes of which a prefix went to a device that failed then
+pub gets_cut : {D : Type 0} (device : OutputOf D) (first second : List ℕ) (old new : D)
+    → device.failure_count new ≡ device.failure_count old + 1 → Gets device first old new → Gets device (first ++ second) old new
+gets_cut device first second old new count a = record {
+  prefix = λ t. let rest = a.prefix t in
+      (rest.0 ++ second, sym (append_assoc (device.written old) first second) ∙ (ap (λ (l : List ℕ). l ++ second) rest.1 ∙ append_assoc (device.written new) rest.0 second));
+  grown = a.grown;
+  whole = λ t e. absurd (omega arith);
+  once = a.once;
+  still_observable = a.still_observable;
+}
+
+-- the count of failures behind a call that failed, and behind one that succeeded
+pub failed : {T F : Type 0} (r : Result T F) (old new : ℕ) → is_err r ≡ true → MatchResult r (λ _. new ≡ old) (λ _. new ≡ old + 1) → new ≡ old + 1
+failed (Ok x) old new e count = absurd (cc e)
+failed (Err x) old new e count = count
+
+pub worked : {T F : Type 0} (r : Result T F) (old new : ℕ) → is_err r ≡ false → MatchResult r (λ _. new ≡ old) (λ _. new ≡ old + 1) → new ≡ old
+worked (Ok x) old new e count = count
+worked (Err x) old new e count = absurd (cc e)

@@ -90,14 +90,19 @@ AsksRun words = (action : Action) × (limits : Limits) × (file : Option Text) �
 abbrev pub IsHelp : List Text → Type 0
 IsHelp words = IsAmong DisplayHelp (fault_of ion_app words) ⊎ IsAmong DisplayVersion (fault_of ion_app words)
 
+-- the words are wrong: `clap` may find a fault in them that asks for neither, or it finds none and the numbers are past a limit
+abbrev pub IsUsage : List Text → Type 0
+IsUsage words =
+    (fault_of ion_app words ≡ []) ⊎ ((kind : ErrorKind) × IsAmong kind (fault_of ion_app words) × (kind ≢ DisplayHelp) × (kind ≢ DisplayVersion))
+
 -- what the words ask for
 abbrev pub Asks : List Text → Request → Type 0
 Asks words (Run job) = IsRun words job.action job.limits (option_map string_bytes job.file) × AreChecked job.limits
-Asks words (Help text) = (¬ AsksRun words) × IsHelp words
-Asks words (Usage text) = ¬ AsksRun words
+Asks words (Help text) = (¬ AsksRun words) × IsHelp words × (string_bytes text ≢ [])
+Asks words (Usage text) = (¬ AsksRun words) × IsUsage words × (string_bytes text ≢ [])
 
 -- what is answered for an error of `clap`, by its kind
 abbrev pub AnswersError : ErrorKind → Request → Type 0
 AnswersError kind (Run job) = ⊥
-AnswersError kind (Help text) = (kind ≡ DisplayHelp) ⊎ (kind ≡ DisplayVersion)
-AnswersError kind (Usage text) = kind ≢ OutOfMemory
+AnswersError kind (Help text) = ((kind ≡ DisplayHelp) ⊎ (kind ≡ DisplayVersion)) × (string_bytes text ≢ [])
+AnswersError kind (Usage text) = (kind ≢ OutOfMemory) × (kind ≢ DisplayHelp) × (kind ≢ DisplayVersion) × (string_bytes text ≢ [])

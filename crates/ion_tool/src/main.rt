@@ -1,12 +1,15 @@
 //! The command `ion`.
 #![tactic(auto)]
 
+ghost use Rattle.std.specs.Prelude.{⊤};
+
 mod act;
 mod output;
 mod serve;
 mod words;
 
 use ion_meter::fault::Fault;
+use ion_meter::meter::Meter;
 use ion_meter::stream::{FromRead, ToWrite};
 use serve::{FileSource, give_usage, report, serve};
 use std::fs::File;
@@ -22,6 +25,8 @@ struct RealFiles {
 
 impl FileSource for RealFiles {
     type File = File;
+
+    ghost gives = { λ files name found. ⊤ };
 
     fn open_named(&mut self, name: &str) -> Option<File> {
         fs::open(&self.rt, name).ok()
@@ -47,7 +52,8 @@ fn main(rt: HostRuntime) -> io::Result<ExitCode> {
     let Some(words) = words else {
         return Ok(ExitCode::from(report(Err(Fault::Memory), &mut err)));
     };
+    let mut meter = Meter::new(alloc);
     let mut files = RealFiles { rt };
-    let (status, _, _, _) = serve(alloc, words, &mut files, input, out, err);
+    let (status, _, _, _) = serve(alloc, &mut meter, words, &mut files, input, out, err);
     Ok(ExitCode::from(status))
 }

@@ -1,10 +1,12 @@
 //! A run of the program over given devices.
-ghost use Rattle.std.specs.Prelude.{◌≡◌, ◌≢◌, ◌+◌, ◌-◌, ◌^◌, ◌<◌, ◌≤◌, ◌⊎◌, ◌++◌, List, [], ℕ, None, Some, length, map, string_bytes};
+ghost use Rattle.std.specs.Prelude.{◌≡◌, ◌+◌, ◌-◌, ◌^◌, ◌<◌, ◌≤◌, ◌⊎◌, ◌++◌};
+ghost use Rattle.std.specs.Prelude.{List, [], ℕ, Option, None, Some, length, map, option_map, string_bytes};
 ghost use Rattle.ion_meter.specs.declared.fault.Fault.{Fault};
 ghost use Rattle.ion_meter.specs.declared.limits.Limits.{Limits};
 ghost use Rattle.ion_meter.specs.Limits.{AreChecked};
-ghost use Rattle.ion_tool.specs.Serving.{status_of, line_of, fault_line, refusal_text, Gets, IsServed};
-ghost use Rattle.ion_tool.specs.Words.{default_limits, AsksRun, IsHelp, IsRun};
+ghost use Rattle.ion_tool.specs.Serving.{status_of, line_of, closed_line, fault_line, refusal_text};
+ghost use Rattle.ion_tool.specs.Serving.{Gets, IsServed, IsFileServed, IsUnread, IsHelped, IsUsageError};
+ghost use Rattle.ion_tool.specs.Words.{default_limits, AsksRun, IsRun};
 ghost use Rattle.ion_tool.specs.declared.words.Action.{Action};
 
 use crate::act::act;
@@ -14,6 +16,7 @@ use arrayvec::ArrayString;
 use ion_meter::device::{Broken, Input, Output};
 use ion_meter::fault::Fault;
 use ion_meter::limits::Limits;
+use ion_meter::meter::Meter;
 use ion_meter::stream::FromRead;
 use ion_transcode::to::Summary;
 use itoa::Buffer;
@@ -24,8 +27,12 @@ use std::io::Read;
 pub trait FileSource {
     type File: Read + Drop;
 
+    /// It may give this for a name.
+    ghost gives: { Self → List ℕ → Option Self.File → Type 0 };
+
     /// The file of this name, where it can be read.
-    fn open_named(&mut self, name: &str) -> Option<Self::File>;
+    fn open_named(&mut self, name: &str) -> Option<Self::File>
+        ensures { gives self.old name.now result };
 }
 
 /// The most bytes that an input may have.
@@ -34,7 +41,7 @@ const INPUT_LIMIT: u64 = 281_474_976_710_656;
 /// Writes bytes to standard error, whose failures change nothing else.
 fn say<E: Output>(err: &mut E, bytes: &[u8])
     requires { E.failure_count err.old < 2 ^ 64 - 1 }
-    ensures { Gets E.written E.observable E.failure_count bytes.now err.old err.new }
+    ensures { Gets E.Output bytes.now err.old err.new }
 {
     let _ = write_all(err, bytes);
 }
@@ -94,7 +101,7 @@ fn status_after(answer: Result<Summary, Fault>) -> u8
 pub fn report<E: Output>(answer: Result<Summary, Fault>, err: &mut E) -> u8
     requires { E.failure_count err.old < 2 ^ 64 - 1 }
     ensures status { result ≡ status_of answer }
-    ensures said { Gets E.written E.observable E.failure_count (line_of answer) err.old err.new }
+    ensures said { Gets E.Output (line_of answer) err.old err.new }
 {
     if let Err(fault) = answer {
         say(err, line_on(fault).as_str().as_bytes());
@@ -107,11 +114,11 @@ fn give_help<O: Output, E: Output>(text: &[u8], out: &mut O, err: &mut E) -> u8
     requires out_failures { O.failure_count out.old < 2 ^ 64 - 1 }
     requires err_failures { E.failure_count err.old < 2 ^ 64 - 1 }
     ensures status { (result ≡ 0) ⊎ (result ≡ 3) }
-    ensures given { Gets O.written O.observable O.failure_count text.now out.old out.new }
-    ensures silent { result ≡ 0
+    ensures given { Gets O.Output text.now out.old out.new }
+    ensures whole { result ≡ 0
         → (O.failure_count out.new ≡ O.failure_count out.old) × (err.new ≡ err.old) }
-    ensures fault { result ≡ 3 → Gets E.written E.observable E.failure_count
-        (fault_line Fault.WriteFault) err.old err.new }
+    ensures cut { result ≡ 3 → (O.failure_count out.new ≡ O.failure_count out.old + 1)
+        × Gets E.Output (fault_line Fault.WriteFault) err.old err.new }
 {
     match write_all(out, text) {
         Ok(()) => 0,
@@ -123,7 +130,7 @@ fn give_help<O: Output, E: Output>(text: &[u8], out: &mut O, err: &mut E) -> u8
 pub fn give_usage<E: Output>(text: &[u8], err: &mut E) -> u8
     requires { E.failure_count err.old < 2 ^ 64 - 1 }
     ensures status { result ≡ 2 }
-    ensures said { Gets E.written E.observable E.failure_count text.now err.old err.new }
+    ensures said { Gets E.Output text.now err.old err.new }
 {
     say(err, text);
     2
@@ -131,21 +138,24 @@ pub fn give_usage<E: Output>(text: &[u8], err: &mut E) -> u8
 
 /// Runs over the input, and says on standard error how it failed, if it did.
 fn serve_input<I: Input, O: Output, E: Output>(
-    alloc: Global,
+    meter: &mut Meter<Global>,
     action: Action,
     limits: Limits,
     input: I,
     out: O,
     mut err: E,
 ) -> (u8, I, O, E)
+    requires held { meter.old.held ≤ 2 ^ 48 }
+    requires countable { meter.old.refused < 2 ^ 64 - 1 }
     requires in_failures { I.failure_count input < 2 ^ 64 - 1 }
     requires out_failures { O.failure_count out < 2 ^ 64 - 1 }
     requires err_failures { E.failure_count err < 2 ^ 64 - 1 }
     requires checked { AreChecked limits }
-    ensures { IsServed I.Input O.Output E.Output [] action limits
+    ensures served { IsServed I.Input O.Output E.Output [] action limits meter.old meter.new
         input result.1 out result.2 err result.3 result.0 }
+    ensures status { (result.0 ≡ 0) ⊎ ((result.0 ≡ 1) ⊎ (result.0 ≡ 3)) }
 {
-    let (answer, input, out) = act(alloc, action, limits, input, out);
+    let (answer, input, out) = act(meter, action, limits, input, out);
     let status = report(answer, &mut err);
     (status, input, out, err)
 }
@@ -153,15 +163,20 @@ fn serve_input<I: Input, O: Output, E: Output>(
 /// Says that a file cannot be opened.
 fn say_closed<E: Output>(name: &str, err: &mut E)
     requires { E.failure_count err.old < 2 ^ 64 - 1 }
+    ensures { Gets E.Output (closed_line name.now) err.old err.new }
 {
-    let _ = write_all(err, b"cannot open ").is_ok()
-        && write_all(err, name.as_bytes()).is_ok()
-        && write_all(err, b"\n").is_ok();
+    if write_all(err, b"cannot open ").is_err() {
+        return;
+    }
+    if write_all(err, name.as_bytes()).is_err() {
+        return;
+    }
+    say(err, b"\n");
 }
 
 /// Runs over a file, and says on standard error how it failed, if it did.
 fn serve_file<F: FileSource, O: Output, E: Output>(
-    alloc: Global,
+    meter: &mut Meter<Global>,
     action: Action,
     limits: Limits,
     files: &mut F,
@@ -169,35 +184,44 @@ fn serve_file<F: FileSource, O: Output, E: Output>(
     out: O,
     mut err: E,
 ) -> (u8, O, E)
+    requires held { meter.old.held ≤ 2 ^ 48 }
+    requires countable { meter.old.refused < 2 ^ 64 - 1 }
     requires out_failures { O.failure_count out < 2 ^ 64 - 1 }
     requires err_failures { E.failure_count err < 2 ^ 64 - 1 }
     requires checked { AreChecked limits }
-    ensures { (result.0 ≡ 0) ⊎ ((result.0 ≡ 1) ⊎ (result.0 ≡ 3)) }
+    ensures served { IsFileServed (F.gives files.old) F.File.remaining O.Output E.Output []
+        action limits name.now meter.old meter.new out result.1 err result.2 result.0 }
+    ensures status { (result.0 ≡ 0) ⊎ ((result.0 ≡ 1) ⊎ (result.0 ≡ 3)) }
 {
     let Some(file) = files.open_named(name) else {
         say_closed(name, &mut err);
         return (3, out, err);
     };
-    let (status, _, out, err) = serve_input(alloc, action, limits, FromRead::new(file), out, err);
+    let (status, _, out, err) = serve_input(meter, action, limits, FromRead::new(file), out, err);
     (status, out, err)
 }
 
 /// Runs over the file that was named, or over the input.
 fn serve_job<F: FileSource, I: Input, O: Output, E: Output>(
-    alloc: Global,
+    meter: &mut Meter<Global>,
     job: Job,
     files: &mut F,
     input: I,
     out: O,
     err: E,
 ) -> (u8, I, O, E)
+    requires held { meter.old.held ≤ 2 ^ 48 }
+    requires countable { meter.old.refused < 2 ^ 64 - 1 }
     requires in_failures { I.failure_count input < 2 ^ 64 - 1 }
     requires out_failures { O.failure_count out < 2 ^ 64 - 1 }
     requires err_failures { E.failure_count err < 2 ^ 64 - 1 }
     requires checked { AreChecked job.limits }
     ensures input { job.file ≡ None → IsServed I.Input O.Output E.Output [] job.action job.limits
-        input result.1 out result.2 err result.3 result.0 }
-    ensures file { job.file ≢ None → result.1 ≡ input }
+        meter.old meter.new input result.1 out result.2 err result.3 result.0 }
+    ensures file { (name : List ℕ) → option_map string_bytes job.file ≡ Some name
+        → (result.1 ≡ input)
+        × IsFileServed (F.gives files.old) F.File.remaining O.Output E.Output []
+        job.action job.limits name meter.old meter.new out result.2 err result.3 result.0 }
     ensures status { (result.0 ≡ 0) ⊎ ((result.0 ≡ 1) ⊎ (result.0 ≡ 3)) }
 {
     let Job {
@@ -206,56 +230,64 @@ fn serve_job<F: FileSource, I: Input, O: Output, E: Output>(
         file,
     } = job;
     let Some(name) = file else {
-        return serve_input(alloc, action, limits, input, out, err);
+        return serve_input(meter, action, limits, input, out, err);
     };
-    let (status, out, err) = serve_file(alloc, action, limits, files, name.as_str(), out, err);
+    let (status, out, err) = serve_file(meter, action, limits, files, name.as_str(), out, err);
     (status, input, out, err)
 }
 
 /// Runs the program: does what the words after its name ask for, over these devices.
 ///
-/// The devices are handed back beside the status.
+/// The devices are handed back beside the status. All that a run holds is counted by the meter; the
+/// words are read beside it.
 pub fn serve<F: FileSource, I: Input + Drop, O: Output + Drop, E: Output + Drop>(
     alloc: Global,
+    meter: &mut Meter<Global>,
     words: Vec<String>,
     files: &mut F,
     input: I,
     mut out: O,
     mut err: E,
 ) -> (u8, I, O, E)
+    requires held { meter.old.held ≤ 2 ^ 48 }
+    requires countable { meter.old.refused < 2 ^ 64 - 1 }
     requires in_failures { I.failure_count input < 2 ^ 64 - 1 }
     requires out_failures { O.failure_count out < 2 ^ 64 - 1 }
     requires err_failures { E.failure_count err < 2 ^ 64 - 1 }
 
-    // Words that ask for a run over the input: the status, both outputs and the failures are
-    // those of some answer of that run.
+    // Words that ask for a run over the input: the status, both outputs, the failures and the
+    // memory are those of some answer of that run. Or the words could not be read.
     ensures ran { (action : Action) (limits : Limits)
         → IsRun (map string_bytes words.items) action limits None
-        → IsServed I.Input O.Output E.Output [] action limits
+        → IsServed I.Input O.Output E.Output [] action limits meter.old meter.new
+        input result.1 out result.2 err result.3 result.0
+        ⊎ IsUnread E.Output (map string_bytes words.items) meter.old meter.new
         input result.1 out result.2 err result.3 result.0 }
 
-    // Words that name a file: the input is not read.
+    // Words that name a file: the input is not read, and the same is said of what the name opens
+    // to.
     ensures file { (action : Action) (limits : Limits) (name : List ℕ)
-        → IsRun (map string_bytes words.items) action limits (Some name) → result.1 ≡ input }
+        → IsRun (map string_bytes words.items) action limits (Some name) → (result.1 ≡ input)
+        × (IsFileServed (F.gives files.old) F.File.remaining O.Output E.Output []
+        action limits name meter.old meter.new out result.2 err result.3 result.0
+        ⊎ IsUnread E.Output (map string_bytes words.items) meter.old meter.new
+        input result.1 out result.2 err result.3 result.0) }
 
     // Other words: help on standard output, or on standard error why there is nothing to do, or
-    // how the program failed.
-    ensures unread { ¬ AsksRun (map string_bytes words.items) → result.1 ≡ input }
-    ensures status { ¬ AsksRun (map string_bytes words.items)
-        → (result.0 ≡ 0) ⊎ ((result.0 ≡ 2) ⊎ (result.0 ≡ 3)) }
-    ensures help { ¬ AsksRun (map string_bytes words.items) → result.0 ≡ 0
-        → IsHelp (map string_bytes words.items)
-        × (result.3 ≡ err) × (O.failure_count result.2 ≡ O.failure_count out)
-        × ((text : List ℕ) × Gets O.written O.observable O.failure_count text out result.2) }
-    ensures usage { result.0 ≡ 2
-        → (¬ AsksRun (map string_bytes words.items)) × (result.2 ≡ out)
-        × ((text : List ℕ) × Gets E.written E.observable E.failure_count text err result.3) }
-    ensures failed { ¬ AsksRun (map string_bytes words.items) → result.0 ≡ 3
-        → (fault : Fault) × ((fault ≡ Fault.Memory) ⊎ (fault ≡ Fault.WriteFault))
-        × Gets E.written E.observable E.failure_count (fault_line fault) err result.3 }
+    // that the words could not be read.
+    ensures unread { ¬ AsksRun (map string_bytes words.items)
+        → (result.1 ≡ input) × (meter.new ≡ meter.old) }
+    ensures other { ¬ AsksRun (map string_bytes words.items)
+        → IsHelped O.Output E.Output (map string_bytes words.items)
+        out result.2 err result.3 result.0
+        ⊎ (IsUsageError E.Output (map string_bytes words.items) out result.2 err result.3 result.0
+        ⊎ IsUnread E.Output (map string_bytes words.items) meter.old meter.new
+        input result.1 out result.2 err result.3 result.0) }
+    ensures usage { result.0 ≡ 2 → (¬ AsksRun (map string_bytes words.items))
+        × IsUsageError E.Output (map string_bytes words.items) out result.2 err result.3 result.0 }
 {
     let status = match read_words(alloc, words.as_slice()) {
-        Ok(Request::Run(job)) => return serve_job(alloc, job, files, input, out, err),
+        Ok(Request::Run(job)) => return serve_job(meter, job, files, input, out, err),
         Ok(Request::Help(text)) => give_help(text.as_bytes(), &mut out, &mut err),
         Ok(Request::Usage(text)) => give_usage(text.as_bytes(), &mut err),
         Err(AllocError) => report(Err(Fault::Memory), &mut err),

@@ -1,5 +1,5 @@
 //! The words of the command line.
-ghost use Rattle.std.specs.Prelude.{◌≡◌, ◌≢◌, ◌≤◌, false, IfOk, IfSome, None, List, Some, map, option_map, string_bytes};
+ghost use Rattle.std.specs.Prelude.{◌≡◌, ◌≢◌, ◌≤◌, false, IfOk, IfSome, OnErr, None, List, [], Some, map, option_map, string_bytes};
 ghost use Rattle.clap.specs.Words.{Row, app_of, found_of, kind_of, rows_of, rule_of, fault_of, FailsBy, subcommand_of, subcommand_rows_of};
 ghost use Rattle.clap.specs.declared.builder.command.Command.TheViews.{out-Command};
 ghost use Rattle.ion_meter.specs.Limits.{AreChecked};
@@ -63,6 +63,9 @@ as canonical Ion text, a line each.
 
 Memory stays small and bounded. A stream that is not valid, or that passes a limit, is refused: standard
 error then says why and where, as the number of bytes before the place.";
+
+/// What is said of wrong words of which `clap` says nothing.
+const WRONG: &str = "error: no such command or limit\n";
 
 const AFTER: &str = "Without a command, ion shows standard input with the default limits.
 
@@ -157,6 +160,18 @@ fn matches_of<'a>(alloc: Global, words: &'a [String]) -> Result<ArgMatches<'a>, 
     command(alloc)?.try_get_matches_from(words)
 }
 
+/// What `clap` says of an error, or a text that is there in any case.
+fn text_of(alloc: Global, error: &Error, other: &str) -> Result<String, AllocError>
+    requires { other.now ≢ [] }
+    ensures { IfOk result (λ text. string_bytes text ≢ []) }
+{
+    let text = error.to_string(alloc)?;
+    if text.is_empty() {
+        return String::from_str(alloc, other);
+    }
+    Ok(text)
+}
+
 /// What is answered where there are no matches.
 fn request_of(alloc: Global, error: &Error) -> Result<Request, AllocError>
     ensures { IfOk result (AnswersError (kind_of error.now)) }
@@ -164,9 +179,9 @@ fn request_of(alloc: Global, error: &Error) -> Result<Request, AllocError>
     match error.kind() {
         ErrorKind::OutOfMemory => Err(AllocError),
         ErrorKind::DisplayHelp | ErrorKind::DisplayVersion => {
-            Ok(Request::Help(error.to_string(alloc)?))
+            Ok(Request::Help(text_of(alloc, error, ABOUT)?))
         }
-        _ => Ok(Request::Usage(error.to_string(alloc)?)),
+        _ => Ok(Request::Usage(text_of(alloc, error, WRONG)?)),
     }
 }
 
@@ -255,7 +270,8 @@ fn job_of(alloc: Global, asked: Asked<'_>) -> Result<Job, AllocError>
 
 /// Reads the words after the program's name. It fails only where it is out of memory.
 pub fn read_words(alloc: Global, words: &[String]) -> Result<Request, AllocError>
-    ensures { IfOk result (Asks (map string_bytes words.now)) }
+    ensures asks { IfOk result (Asks (map string_bytes words.now)) }
+    ensures some_words { OnErr result (map string_bytes words.now ≢ []) }
 {
     if words.is_empty() {
         return Ok(Request::Run(Job {
@@ -272,6 +288,6 @@ pub fn read_words(alloc: Global, words: &[String]) -> Result<Request, AllocError
         Some(asked) => Ok(Request::Run(job_of(alloc, asked)?)),
         // No words lead here: `clap` answers its own subcommand, `help`, by an error, and so numbers
         // that are past a limit.
-        None => Ok(Request::Usage(String::from_str(alloc, "error: no such command or limit\n")?)),
+        None => Ok(Request::Usage(String::from_str(alloc, WRONG)?)),
     }
 }

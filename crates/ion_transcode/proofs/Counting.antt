@@ -5,7 +5,7 @@ use Rattle.ion_value.specs.Value as value
 use Rattle.ion_value.specs.Value.{SymbolAt, UserSymbol, Head, Value, Members, Top, PlacedItem, Item, bare_item, value_items, member_items, top_items, map_head}
 use Rattle.ion_value.specs.Standing.{open_after}
 use Rattle.ion_value.specs.Outcome.{one_if_closed, values_in}
-use Rattle.ion_text_out.specs.Writing.{user_symbol_at, user_items}
+use Rattle.ion_value.specs.Value.{user_symbol_at, user_items}
 
 -- the same of items as a user knows them
 abbrev user_values : List Kind → List (Item UserSymbol ℕ) → ℕ

@@ -5,5 +5,6 @@ mod Counting
 mod Faultless
 mod NoEnd
 mod Reached
+mod SpellsOnce
 mod Streams
 mod TextSound

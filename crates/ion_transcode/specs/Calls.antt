@@ -55,19 +55,22 @@ pub record PassesOn (outcome answer : Result ℕ Fault) : Type 0 where
   pub accepted : (n : ℕ) → answer ≡ Ok n → outcome ≡ Ok n
   pub same : (f : Fault) → answer ≡ Err f → f ≢ WriteFault → outcome ≡ Err f
   pub memory : outcome ≡ Err Memory → answer ≡ Err Memory
+  pub read : outcome ≡ Err ReadFault → answer ≡ Err ReadFault
   pub write : outcome ≡ Err WriteFault → answer ≡ Err WriteFault
 
 -- ---- why a call fails
 
--- memory, where it was refused; a read or a write fault, where that device failed; the input limit, where the input goes past it; and a count
--- that is not told of stays as it was
+-- memory, where it was refused; a read or a write fault, where that device failed once more; the input limit, where the input goes past it; a
+-- count that is not told of stays as it was, and what is written only grows
 pub record Causes {T O : Type 0} (answer : Result T Fault) (old new : Counts) (reads_old reads_new : ℕ) (exceeds : Type 0) (output : OutputOf O) (before after : O) : Type 0 where
   pub memory : answer ≡ Err Memory → old.refused < new.refused
   pub counted : answer ≢ Err Memory → new.refused ≡ old.refused
-  pub read : answer ≡ Err ReadFault → reads_old < reads_new
-  pub write : answer ≡ Err WriteFault → output.failure_count before < output.failure_count after
+  pub read : answer ≡ Err ReadFault → reads_new ≡ reads_old + 1
+  pub reads_steady : answer ≢ Err ReadFault → reads_new ≡ reads_old
+  pub write : answer ≡ Err WriteFault → output.failure_count after ≡ output.failure_count before + 1
   pub steady : answer ≢ Err WriteFault → output.failure_count after ≡ output.failure_count before
   pub still_observable : output.observable after ↔ output.observable before
+  pub grown : output.observable before → HasPrefix (output.written after) (output.written before)
   pub limit : answer ≡ Err InputLimit → exceeds
 
 -- ---- what a call requires

@@ -1,4 +1,4 @@
--- In the order of reading. What `run` promises: how bytes are read, what is written of values, which form a stream has, what a stream comes to,
+-- In the order of reading. What `run` promises: how bytes are read, what is written of values, which form a stream has, its verdict,
 -- and what may be held.
 pub mod Encoding
 pub mod Outputs

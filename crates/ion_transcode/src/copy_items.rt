@@ -1,5 +1,5 @@
 //! The reader of user values and any writer, joined by their laws alone.
-ghost use Rattle.std.specs.Prelude.{◌≡◌, ℕ, ◌+◌, ◌-◌, ◌^◌, ◌<◌, ◌≤◌, List, [], length};
+ghost use Rattle.std.specs.Prelude.{◌≡◌, ◌↔◌, ℕ, ◌+◌, ◌-◌, ◌^◌, ◌<◌, ◌≤◌, List, [], length};
 ghost use Rattle.ion_meter.specs.Windows.{so_far};
 ghost use Rattle.ion_value.specs.declared.ion_type.Kind.{Kind};
 ghost use Rattle.ion_value.specs.Items.{raw_head};
@@ -65,6 +65,7 @@ pub fn copy_items<R: RawReader<A>, W: ValueWriter<O, A>, O: Output, A: Allocator
     ensures causes { Causes result meter.old meter.new
         (R.failures reader.old.raw) (R.failures reader.new.raw) (R.exceeds reader.old.raw)
         O.Output sink.old.device sink.new.device }
+    ensures input { R.observable reader.new.raw ↔ R.observable reader.old.raw }
     ensures joined { Joined R.RawReader W.ValueWriter reader.old reader.new
         writer.old writer.new result sink.new.fault }
     ensures charges { Charges meter.old meter.new

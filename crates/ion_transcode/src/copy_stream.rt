@@ -1,7 +1,7 @@
 //! A raw reader's user values, put by a writer and flushed.
 ghost use Rattle.std.specs.Prelude.{◌≡◌, ◌≢◌, ◌⊎◌, ◌↔◌, ℕ, ◌+◌, ◌*◌, ◌^◌, List, [], Err};
 ghost use Rattle.ion_meter.specs.declared.fault.Fault.TheVariants.{WriteFault};
-ghost use Rattle.ion_meter.specs.Windows.{so_far};
+ghost use Rattle.ion_meter.specs.Windows.{so_far, HasPrefix};
 ghost use Rattle.ion_value.specs.Shares.{Charges};
 ghost use Rattle.ion_value.specs.Outcome.{verdict_behind, output_behind};
 ghost use Rattle.ion_symbols.specs.Users.{at_start, users};
@@ -32,12 +32,15 @@ fn finish<O: Output, A: Allocator + Copy>(
         → PutsOutput due outcome before (so_far O.written sink.old) (O.written sink.old.device)
         → WritesOutput due result before (O.written sink.new.device) }
     ensures write { result ≡ Err WriteFault
-        → (outcome ≡ Err WriteFault
+        → ((outcome ≡ Err WriteFault)
         × (O.failure_count sink.new.device ≡ O.failure_count sink.old.device))
-        ⊎ (O.failure_count sink.new.device ≡ O.failure_count sink.old.device + 1) }
+        ⊎ ((outcome ≢ Err WriteFault)
+        × (O.failure_count sink.new.device ≡ O.failure_count sink.old.device + 1)) }
     ensures steady { result ≢ Err WriteFault
         → O.failure_count sink.new.device ≡ O.failure_count sink.old.device }
     ensures still_observable { O.observable sink.new.device ↔ O.observable sink.old.device }
+    ensures grown { O.observable sink.old.device
+        → HasPrefix (O.written sink.new.device) (O.written sink.old.device) }
 {
     match outcome {
         Ok(_) | Err(Fault::Refused(..)) => {
@@ -73,6 +76,7 @@ pub fn copy_stream<R: RawReader<A>, W: ValueWriter<O, A>, O: Output, A: Allocato
         (so_far O.written sink.old) (O.written sink.new.device) }
     ensures causes { Causes result.0 meter.old meter.new (R.failures raw) (R.failures result.1)
         (R.exceeds raw) O.Output sink.old.device sink.new.device }
+    ensures input { R.observable result.1 ↔ R.observable raw }
     ensures sound { W.sound writer.new }
     ensures charges { Charges meter.old meter.new (R.own raw + W.own writer.old)
         (R.own result.1 + W.own writer.new)

@@ -1,7 +1,7 @@
 //! Laws of the verdicts of streams, each the contract of a function that does nothing.
-ghost use Rattle.ion_transcode.specs.Laws.{BinaryIsSound, OneVerdict, StreamsAreRead};
+ghost use Rattle.ion_transcode.specs.Laws.{BinaryIsSound, OneSpelling, OneVerdict, StreamsAreRead};
 
-use ion_binary::laws::{each_step_falls, each_step_follows};
+use ion_binary::laws::{each_step_falls, each_step_follows, one_path, one_stream};
 use ion_symbols::laws::users_are_read;
 use ion_text_out::laws::text_is_that_of_items;
 
@@ -12,6 +12,15 @@ pub fn binary_is_sound()
 {
     each_step_follows();
     each_step_falls();
+}
+
+/// In the encoding of each form an input is one stream at most, and of two of its paths the items of
+/// one begin the other's.
+pub fn one_spelling()
+    ensures { OneSpelling }
+{
+    one_path();
+    one_stream();
 }
 
 /// A stream has one verdict and one output at most.
@@ -38,6 +47,7 @@ mod tests {
     #[test]
     fn states_laws() {
         binary_is_sound();
+        one_spelling();
         one_verdict();
         streams_are_read();
     }

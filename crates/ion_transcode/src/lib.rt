@@ -6,8 +6,8 @@
 //! one verdict.
 #![tactic(auto)]
 
-mod copy_stream;
 mod copy_items;
+mod copy_stream;
 pub mod laws;
 mod nothing;
 pub mod run;

@@ -7,6 +7,7 @@ pub mod DecimalOctets
 pub mod Days
 pub mod TimestampOctets
 pub mod TimestampBodies
+pub mod TimestampFewest
 pub mod TextDigits
 pub mod TextDecimals
 pub mod FixedDigits
@@ -25,3 +26,5 @@ pub mod Paths
 pub mod Items
 pub mod Outcomes
 pub mod ValueRows
+pub mod Cursors
+pub mod Passing

@@ -4,7 +4,7 @@ use Rattle.std.proofs.lemmas.List.{append-nil}
 use Rattle.ion_meter.specs.Windows.{HasPrefix}
 use Rattle.ion_meter.specs.declared.fault.Reason.{Reason}
 use Rattle.ion_value.specs.declared.ion_type.Kind.{Kind}
-use Rattle.ion_value.specs.Value.{PlacedItem, whole}
+use Rattle.ion_value.specs.Value.{PlacedItem}
 use Rattle.ion_value.specs.Reading.{Reading, Finished, Stopped, More}
 use Rattle.ion_value.specs.Standing.{open_after, open_behind}
 use Rattle.ion_value.specs.Outcome.{Rejected, one_if_closed, values_in, verdict_with, verdict_behind, output_with, output_behind}

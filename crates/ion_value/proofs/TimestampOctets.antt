@@ -447,7 +447,7 @@ signed-bounds : (negative : Bool) (n : ℕ) → n ≤ 1439 → (neg_ℤ (pos 143
 signed-bounds true n small = (omega (arith, ints), omega (arith, ints))
 signed-bounds false n small = (omega (arith, ints), omega (arith, ints))
 
-IsOffset-offset_in : (o : List ℕ) → var_int_magnitude o ≤ 1439 → IsOffset (offset_in o)
+pub IsOffset-offset_in : (o : List ℕ) → var_int_magnitude o ≤ 1439 → IsOffset (offset_in o)
 IsOffset-offset_in o small =
     elim (cases_Bool (var_int_negative o && (var_int_magnitude o == 0))) [
       | inl k ↦ rw k tt

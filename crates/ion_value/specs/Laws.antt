@@ -2,7 +2,7 @@
 use Rattle.std.specs.Prelude.{◌≡◌, ◌≢◌, ℕ, ◌^◌, ◌<◌, ◌≤◌, List, ◌++◌, All, length, Ok, ◌⊎◌, Err}
 use Rattle.ion_value.specs.declared.decimal.Decimal.{Decimal}
 use Rattle.ion_value.specs.declared.var.Signed.{Signed}
-use Rattle.ion_value.specs.Number.{VarUInt, VarInt, uint, uint_octets, var_uint_octets, var_int_octets}
+use Rattle.ion_value.specs.Number.{VarUInt, VarInt, uint_octets, var_uint_octets, var_int_octets}
 use Rattle.ion_value.specs.Decimal.{IsDecimal, DecimalBody, decimal_of_bytes, decimal_body, decimal_text, decimal_of_text}
 use Rattle.ion_value.specs.declared.timestamp.Timestamp.{Timestamp}
 use Rattle.ion_value.specs.Timestamp.{IsMoment, IsOffset, IsTimestamp, local_of, utc_of, timestamp_of_bytes, timestamp_body, timestamp_of_text, timestamp_text}
@@ -10,7 +10,7 @@ use Rattle.ion_value.specs.Value.{SymbolAt}
 use Rattle.ion_value.specs.Path.{Path, path_items}
 use Rattle.ion_meter.specs.declared.fault.Reason.TheVariants.{BadToken}
 use Rattle.ion_value.specs.declared.int.Int.{Int}
-use Rattle.ion_value.specs.Int.{IsInt, int_text, int_of_text}
+use Rattle.ion_value.specs.Int.{IsInt, int_of_bytes, int_text, int_of_text}
 
 -- at the front of a list there is at most one VarUInt, and it spells one number
 abbrev pub VarUIntIsUnique : Type 0
@@ -30,9 +30,9 @@ VarUIntBytesAreRead = (n : ℕ) → n < 2 ^ 63 → VarUInt n (var_uint_octets n)
 abbrev pub VarIntBytesAreRead : Type 0
 VarIntBytesAreRead = (z : Signed) → z.magnitude < 2 ^ 62 → VarInt z (var_int_octets z.negative z.magnitude)
 
--- the shortest octets of a number spell it as a UInt
+-- reading the sign and the octets that are written for an int gives the int
 abbrev pub IntBytesAreRead : Type 0
-IntBytesAreRead = (n : ℕ) → uint (uint_octets n) ≡ n
+IntBytesAreRead = (i : Int) → IsInt i → int_of_bytes i.negative (uint_octets i.magnitude) ≡ Ok i
 
 -- a decimal within its range is read from exactly the bodies that spell it, and none that is not
 abbrev pub DecimalBodies : Type 0
@@ -60,6 +60,11 @@ LocalIsBack = (t u : Timestamp) → IsMoment t → IsOffset t.offset → utc_of 
 -- the body of a timestamp is read as the timestamp
 abbrev pub TimestampBytesAreRead : Type 0
 TimestampBytesAreRead = (t : Timestamp) → IsTimestamp t → timestamp_of_bytes (timestamp_body t) ≡ Ok t
+
+-- no other octets that are read to the timestamp are fewer
+abbrev pub TimestampBytesAreShortest : Type 0
+TimestampBytesAreShortest =
+    (t : Timestamp) (b : List ℕ) → All (λ octet. octet < 256) b → timestamp_of_bytes b ≡ Ok t → length (timestamp_body t) ≤ length b
 
 -- reading the text of a timestamp gives the timestamp
 abbrev pub TimestampTextIsRead : Type 0

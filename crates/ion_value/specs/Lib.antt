@@ -12,6 +12,7 @@ pub mod Reading
 pub mod Parts
 pub mod Answers
 pub mod Shares
+pub mod Calls
 pub mod Standing
 pub mod Outcome
 pub mod TimestampFields

@@ -22,7 +22,7 @@ fault_of (Err fault) = Some fault
 pub record ReadCauses (fault : Option Fault) (old new : Counts) (failures_old failures_new : ℕ) (exceeds : Type 0) : Type 0 where
   pub memory : fault ≡ Some Memory → old.refused < new.refused
   pub counted : (fault ≡ Some Memory → ⊥) → new.refused ≡ old.refused
-  pub device : fault ≡ Some ReadFault → failures_old < failures_new
+  pub device : fault ≡ Some ReadFault → failures_new ≡ failures_old + 1
   pub steady : (fault ≡ Some ReadFault → ⊥) → failures_new ≡ failures_old
   pub limit : fault ≡ Some InputLimit → exceeds
   pub no_writes : fault ≡ Some WriteFault → ⊥
@@ -31,7 +31,7 @@ pub record ReadCauses (fault : Option Fault) (old new : Counts) (failures_old fa
 pub record WriteCauses (fault : Option Fault) (old new : Counts) (failures_old failures_new : ℕ) : Type 0 where
   pub memory : fault ≡ Some Memory → old.refused < new.refused
   pub counted : (fault ≡ Some Memory → ⊥) → new.refused ≡ old.refused
-  pub device : fault ≡ Some WriteFault → failures_old < failures_new
+  pub device : fault ≡ Some WriteFault → failures_new ≡ failures_old + 1
   pub steady : (fault ≡ Some WriteFault → ⊥) → failures_new ≡ failures_old
   pub no_reads : fault ≡ Some ReadFault → ⊥
   pub no_limit : fault ≡ Some InputLimit → ⊥

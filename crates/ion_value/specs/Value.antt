@@ -128,3 +128,15 @@ abbrev mutual
 abbrev pub user_symbol : Symbol → UserSymbol
 user_symbol (Text bytes) = Known bytes
 user_symbol (Id id) = Unknown
+
+-- ---- items of user values
+
+-- a symbol, an item and items as a user of the stream knows them
+abbrev pub user_symbol_at : SymbolAt → UserSymbol
+user_symbol_at s = user_symbol s.symbol
+
+abbrev pub user_item : PlacedItem → Item UserSymbol ℕ
+user_item item = map_item user_symbol_at (λ place. place) item
+
+abbrev pub user_items : List PlacedItem → List (Item UserSymbol ℕ)
+user_items items = map user_item items

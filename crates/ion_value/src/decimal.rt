@@ -138,6 +138,7 @@ fn joined(exponent: &[u8], coefficient: &[u8]) -> ArrayVec<u8, 22>
 #[cfg(test)]
 mod tests {
     use super::*;
+    use crate::tests::same;
 
     fn decimal(negative: bool, coefficient: u128, exponent: i32) -> Decimal
         ensures sign { result.negative ≡ negative }
@@ -161,50 +162,59 @@ mod tests {
 
     #[test]
     fn reads_decimals(rt: HostRuntime) {
-        assert_eq!(rt; decimal_from_bytes(&[]), Ok(decimal(false, 0, 0)));
-        assert_eq!(rt; decimal_from_bytes(&[0x80]), Ok(decimal(false, 0, 0)));
-        assert_eq!(rt; decimal_from_bytes(&[0xC0]), Ok(decimal(false, 0, 0)));
-        assert_eq!(rt; decimal_from_bytes(&[0xC2]), Ok(decimal(false, 0, -2)));
-        assert_eq!(rt; decimal_from_bytes(&[0x80, 0x80]), Ok(decimal(true, 0, 0)));
+        same(&rt, decimal_from_bytes(&[]), Ok(decimal(false, 0, 0)));
+        same(&rt, decimal_from_bytes(&[0x80]), Ok(decimal(false, 0, 0)));
+        same(&rt, decimal_from_bytes(&[0xC0]), Ok(decimal(false, 0, 0)));
+        same(&rt, decimal_from_bytes(&[0xC2]), Ok(decimal(false, 0, -2)));
+        same(
+            &rt,
+            decimal_from_bytes(&[0x80, 0x80]),
+            Ok(decimal(true, 0, 0)),
+        );
         assert_ne!(rt; decimal_from_bytes(&[0x80, 0x80]), Ok(decimal(false, 0, 0)));
-        assert_eq!(rt;
+        same(
+            &rt,
             decimal_from_bytes(&[0xC1, 0x0F]),
-            Ok(decimal(false, 15, -1))
+            Ok(decimal(false, 15, -1)),
         );
-        assert_eq!(rt;
+        same(
+            &rt,
             decimal_from_bytes(&[0xC1, 0x8F]),
-            Ok(decimal(true, 15, -1))
+            Ok(decimal(true, 15, -1)),
         );
-        assert_eq!(rt;
+        same(
+            &rt,
             decimal_from_bytes(&[0x80, 0x00, 0x00, 0x05]),
-            Ok(decimal(false, 5, 0))
+            Ok(decimal(false, 5, 0)),
         );
-        assert_eq!(rt;
+        same(
+            &rt,
             decimal_from_bytes(&[0x07, 0x7F, 0x7F, 0x7F, 0xFF, 0x01]),
-            Ok(decimal(false, 1, 0x7FFF_FFFF))
+            Ok(decimal(false, 1, 0x7FFF_FFFF)),
         );
-        assert_eq!(rt;
+        same(
+            &rt,
             decimal_from_bytes(&[0x47, 0x7F, 0x7F, 0x7F, 0xFF, 0x01]),
-            Ok(decimal(false, 1, -0x7FFF_FFFF))
+            Ok(decimal(false, 1, -0x7FFF_FFFF)),
         );
     }
 
     #[test]
     fn refuses_decimals(rt: HostRuntime) {
-        assert_eq!(rt; decimal_from_bytes(&[0x41, 0x0F]), Err(Reason::BadVar));
+        same(&rt, decimal_from_bytes(&[0x41, 0x0F]), Err(Reason::BadVar));
         let mut ten = [0; 10];
         ten[9] = 0x81;
-        assert_eq!(rt; decimal_from_bytes(&ten), Err(Reason::BadVar));
+        same(&rt, decimal_from_bytes(&ten), Err(Reason::BadVar));
         for first in [0x08, 0x48] {
             let body = [first, 0x00, 0x00, 0x00, 0x80];
-            assert_eq!(rt; decimal_from_bytes(&body), Err(Reason::Range));
+            same(&rt, decimal_from_bytes(&body), Err(Reason::Range));
         }
         let mut long = [0; 18];
         long[0] = 0x80;
         long[1] = 0x01;
-        assert_eq!(rt; decimal_from_bytes(&long), Err(Reason::Range));
+        same(&rt, decimal_from_bytes(&long), Err(Reason::Range));
         long[1] = 0x81;
-        assert_eq!(rt; decimal_from_bytes(&long), Err(Reason::Range));
+        same(&rt, decimal_from_bytes(&long), Err(Reason::Range));
     }
 
     #[test]
@@ -212,31 +222,45 @@ mod tests {
         let mut body = [0xFF; 18];
         body[0] = 0x80;
         body[1] = 0x80;
-        assert_eq!(rt; decimal_from_bytes(&body), Ok(decimal(true, u128::MAX, 0)));
-        assert_eq!(rt; again(&body).as_slice(), body.as_slice());
+        same(
+            &rt,
+            decimal_from_bytes(&body),
+            Ok(decimal(true, u128::MAX, 0)),
+        );
+        same(&rt, again(&body).as_slice(), body.as_slice());
     }
 
     #[test]
     fn writes_decimals(rt: HostRuntime) {
         let empty: [u8; 0] = [];
-        assert_eq!(rt; again(&[]).as_slice(), empty.as_slice());
-        assert_eq!(rt; again(&[0x80]).as_slice(), empty.as_slice());
-        assert_eq!(rt; again(&[0xC0, 0x00]).as_slice(), empty.as_slice());
-        assert_eq!(rt; again(&[0xC2, 0x00]).as_slice(), [0xC2].as_slice());
-        assert_eq!(rt; again(&[0x80, 0x80]).as_slice(), [0x80, 0x80].as_slice());
-        assert_eq!(rt;
-            again(&[0xC0, 0x80, 0x00]).as_slice(),
-            [0x80, 0x80].as_slice()
+        same(&rt, again(&[]).as_slice(), empty.as_slice());
+        same(&rt, again(&[0x80]).as_slice(), empty.as_slice());
+        same(&rt, again(&[0xC0, 0x00]).as_slice(), empty.as_slice());
+        same(&rt, again(&[0xC2, 0x00]).as_slice(), [0xC2].as_slice());
+        same(
+            &rt,
+            again(&[0x80, 0x80]).as_slice(),
+            [0x80, 0x80].as_slice(),
         );
-        assert_eq!(rt; again(&[0xC1, 0x0F]).as_slice(), [0xC1, 0x0F].as_slice());
-        assert_eq!(rt;
+        same(
+            &rt,
+            again(&[0xC0, 0x80, 0x00]).as_slice(),
+            [0x80, 0x80].as_slice(),
+        );
+        same(
+            &rt,
+            again(&[0xC1, 0x0F]).as_slice(),
+            [0xC1, 0x0F].as_slice(),
+        );
+        same(
+            &rt,
             again(&[0x80, 0x00, 0x00, 0x05]).as_slice(),
-            [0x80, 0x05].as_slice()
+            [0x80, 0x05].as_slice(),
         );
         let sign = [0xC1, 0x80, 0x80];
-        assert_eq!(rt; again(&sign).as_slice(), sign.as_slice());
+        same(&rt, again(&sign).as_slice(), sign.as_slice());
         let least = [0x47, 0x7F, 0x7F, 0x7F, 0xFF, 0x01];
-        assert_eq!(rt; again(&least).as_slice(), least.as_slice());
+        same(&rt, again(&least).as_slice(), least.as_slice());
     }
 
     #[test]
@@ -247,7 +271,7 @@ mod tests {
                 for negative in [false, true] {
                     let d = decimal(negative, coefficient, exponent);
                     let body = decimal_to_bytes(d);
-                    assert_eq!(rt; decimal_from_bytes(body.as_slice()), Ok(d));
+                    same(&rt, decimal_from_bytes(body.as_slice()), Ok(d));
                 }
             }
         }

@@ -50,7 +50,8 @@ struct Exponent {
 pub fn decimal_from_text(run: &[u8]) -> Result<Decimal, Reason>
     ensures read { result ≡ decimal_of_text run.now }
     ensures valid { IfOk result IsDecimal }
-    ensures refused { IfErr result (λ e. (e ≡ Reason.BadToken) ⊎ (e ≡ Reason.Float) ⊎ (e ≡ Reason.Range)) }
+    ensures refused { IfErr result (λ e. (e ≡ Reason.BadToken)
+        ⊎ (e ≡ Reason.Float) ⊎ (e ≡ Reason.Range)) }
 {
     let (negative, bytes) = sign(run);
     let Some(mantissa) = read_mantissa(bytes) else {
@@ -108,7 +109,8 @@ fn fraction(whole: Option<u128>, bytes: &[u8]) -> Option<Digits<'_>>
 // range, or why what stands there makes no decimal.
 #[inline]
 fn exponent_behind(mantissa: Mantissa<'_>) -> Result<Option<i32>, Reason>
-    ensures { ReadsPower mantissa.entry.places mantissa.entry.pointed mantissa.entry.power.now result }
+    ensures { ReadsPower mantissa.entry.places mantissa.entry.pointed mantissa.entry.power.now
+        result }
 {
     let [mark, behind @ ..] = mantissa.power else {
         return without_power(mantissa.pointed, mantissa.places);
@@ -325,6 +327,7 @@ fn push_power(text: &mut ArrayString<64>, number: u128, exponent: i32)
 #[cfg(test)]
 mod tests {
     use super::*;
+    use crate::tests::same;
 
     fn decimal(negative: bool, coefficient: u128, exponent: i32) -> Result<Decimal, Reason> {
         Ok(Decimal {
@@ -365,7 +368,7 @@ mod tests {
                 decimal(false, 10, -2147483647),
             ),
         ] {
-            assert_eq!(rt; decimal_from_text(run), want);
+            same(&rt, decimal_from_text(run), want);
         }
     }
 
@@ -379,7 +382,7 @@ mod tests {
             b"34028236692093846346337460743176821145.6".as_slice(),
             b"1d99999999999999999999999999999999999999999999".as_slice(),
         ] {
-            assert_eq!(rt; decimal_from_text(run), Err(Reason::Range));
+            same(&rt, decimal_from_text(run), Err(Reason::Range));
         }
     }
 
@@ -391,7 +394,7 @@ mod tests {
             b"1.e5".as_slice(),
             b"340282366920938463463374607431768211456e0".as_slice(),
         ] {
-            assert_eq!(rt; decimal_from_text(run), Err(Reason::Float));
+            same(&rt, decimal_from_text(run), Err(Reason::Float));
         }
     }
 
@@ -418,7 +421,7 @@ mod tests {
             b"99999999999999999999999999999999999999999999d1x".as_slice(),
             b"9999999999999999999999999999999999999999_d1".as_slice(),
         ] {
-            assert_eq!(rt; decimal_from_text(run), Err(Reason::BadToken));
+            same(&rt, decimal_from_text(run), Err(Reason::BadToken));
         }
     }
 
@@ -473,8 +476,8 @@ mod tests {
                 exponent,
             };
             let text = decimal_to_text(value);
-            assert_eq!(rt; text.as_str(), want);
-            assert_eq!(rt; decimal_from_text(text.as_str().as_bytes()), Ok(value));
+            same(&rt, text.as_str(), want);
+            same(&rt, decimal_from_text(text.as_str().as_bytes()), Ok(value));
         }
     }
 }

@@ -108,6 +108,7 @@ pub fn int_to_text(int: Int) -> ArrayString<40>
 #[cfg(test)]
 mod tests {
     use super::*;
+    use crate::tests::same;
 
     #[test]
     fn reads_ints(rt: HostRuntime) {
@@ -115,16 +116,16 @@ mod tests {
             negative: true,
             magnitude: 7,
         };
-        assert_eq!(rt; int_from_bytes(true, &[7]), Ok(seven));
-        assert_eq!(rt; int_from_bytes(true, &[0, 0, 7]), Ok(seven));
+        same(&rt, int_from_bytes(true, &[7]), Ok(seven));
+        same(&rt, int_from_bytes(true, &[0, 0, 7]), Ok(seven));
         let zero = Int {
             negative: false,
             magnitude: 0,
         };
-        assert_eq!(rt; int_from_bytes(false, &[]), Ok(zero));
-        assert_eq!(rt; int_from_bytes(false, &[0]), Ok(zero));
-        assert_eq!(rt; int_from_bytes(true, &[]), Err(Reason::BadNumber));
-        assert_eq!(rt; int_from_bytes(true, &[0, 0]), Err(Reason::BadNumber));
+        same(&rt, int_from_bytes(false, &[]), Ok(zero));
+        same(&rt, int_from_bytes(false, &[0]), Ok(zero));
+        same(&rt, int_from_bytes(true, &[]), Err(Reason::BadNumber));
+        same(&rt, int_from_bytes(true, &[0, 0]), Err(Reason::BadNumber));
     }
 
     #[test]
@@ -134,19 +135,19 @@ mod tests {
             negative: false,
             magnitude: u128::MAX,
         };
-        assert_eq!(rt; int_from_bytes(false, &octets[1..]), Ok(largest));
+        same(&rt, int_from_bytes(false, &octets[1..]), Ok(largest));
         octets[0] = 0;
-        assert_eq!(rt; int_from_bytes(false, &octets), Ok(largest));
+        same(&rt, int_from_bytes(false, &octets), Ok(largest));
         octets[0] = 1;
-        assert_eq!(rt; int_from_bytes(false, &octets), Err(Reason::Range));
+        same(&rt, int_from_bytes(false, &octets), Err(Reason::Range));
         let mut power = [0; 17];
         power[0] = 1;
-        assert_eq!(rt; int_from_bytes(true, &power), Err(Reason::Range));
+        same(&rt, int_from_bytes(true, &power), Err(Reason::Range));
         let counted = Int {
             negative: true,
             magnitude: 0x0102_0304_0506,
         };
-        assert_eq!(rt; int_from_bytes(true, &[1, 2, 3, 4, 5, 6]), Ok(counted));
+        same(&rt, int_from_bytes(true, &[1, 2, 3, 4, 5, 6]), Ok(counted));
     }
 
     #[test]
@@ -162,7 +163,7 @@ mod tests {
                 negative: false,
                 magnitude,
             });
-            assert_eq!(rt; text.as_str(), want);
+            same(&rt, text.as_str(), want);
         }
         for (magnitude, want) in [
             (7, "-7"),
@@ -173,7 +174,7 @@ mod tests {
                 negative: true,
                 magnitude,
             });
-            assert_eq!(rt; text.as_str(), want);
+            same(&rt, text.as_str(), want);
         }
     }
 
@@ -192,8 +193,8 @@ mod tests {
                 magnitude,
             };
             let octets = int_to_bytes(int);
-            assert_eq!(rt; octets.as_slice(), want);
-            assert_eq!(rt; int_from_bytes(false, octets.as_slice()), Ok(int));
+            same(&rt, octets.as_slice(), want);
+            same(&rt, int_from_bytes(false, octets.as_slice()), Ok(int));
         }
     }
 }

@@ -98,44 +98,65 @@ fn joined(first: u8, rest: &[u8]) -> ArrayVec<u8, 17>
 #[cfg(test)]
 mod tests {
     use super::*;
+    use crate::tests::same;
 
     #[test]
     fn reads_int_fields(rt: HostRuntime) {
-        assert_eq!(rt; int_field_read(&[]), Some((false, 0)));
-        assert_eq!(rt; int_field_read(&[0x80]), Some((true, 0)));
-        assert_eq!(rt; int_field_read(&[0x0F]), Some((false, 15)));
-        assert_eq!(rt; int_field_read(&[0x81, 0x02]), Some((true, 258)));
-        assert_eq!(rt; int_field_read(&[0x80, 0x00, 0x00, 0x05]), Some((true, 5)));
+        same(&rt, int_field_read(&[]), Some((false, 0)));
+        same(&rt, int_field_read(&[0x80]), Some((true, 0)));
+        same(&rt, int_field_read(&[0x0F]), Some((false, 15)));
+        same(&rt, int_field_read(&[0x81, 0x02]), Some((true, 258)));
+        same(
+            &rt,
+            int_field_read(&[0x80, 0x00, 0x00, 0x05]),
+            Some((true, 5)),
+        );
         let mut octets = [0xFF; 17];
         octets[0] = 0x80;
-        assert_eq!(rt; int_field_read(&octets), Some((true, u128::MAX)));
+        same(&rt, int_field_read(&octets), Some((true, u128::MAX)));
         octets[0] = 0x01;
-        assert_eq!(rt; int_field_read(&octets), None);
-        assert_eq!(rt;
+        same(&rt, int_field_read(&octets), None);
+        same(
+            &rt,
             int_field_read(&octets[..16]),
-            Some((false, (1 << 120) + u128::MAX / 256))
+            Some((false, (1 << 120) + u128::MAX / 256)),
         );
     }
 
     #[test]
     fn writes_int_fields(rt: HostRuntime) {
         let empty: [u8; 0] = [];
-        assert_eq!(rt; coefficient_write(false, 0).as_slice(), empty.as_slice());
-        assert_eq!(rt; coefficient_write(true, 0).as_slice(), [0x80].as_slice());
-        assert_eq!(rt; coefficient_write(true, 127).as_slice(), [0xFF].as_slice());
-        assert_eq!(rt;
-            coefficient_write(false, 128).as_slice(),
-            [0x00, 0x80].as_slice()
+        same(
+            &rt,
+            coefficient_write(false, 0).as_slice(),
+            empty.as_slice(),
         );
-        assert_eq!(rt;
+        same(
+            &rt,
+            coefficient_write(true, 0).as_slice(),
+            [0x80].as_slice(),
+        );
+        same(
+            &rt,
+            coefficient_write(true, 127).as_slice(),
+            [0xFF].as_slice(),
+        );
+        same(
+            &rt,
+            coefficient_write(false, 128).as_slice(),
+            [0x00, 0x80].as_slice(),
+        );
+        same(
+            &rt,
             coefficient_write(true, 258).as_slice(),
-            [0x81, 0x02].as_slice()
+            [0x81, 0x02].as_slice(),
         );
         let mut octets = [0xFF; 17];
         octets[0] = 0x80;
-        assert_eq!(rt;
+        same(
+            &rt,
             coefficient_write(true, u128::MAX).as_slice(),
-            octets.as_slice()
+            octets.as_slice(),
         );
     }
 }

@@ -57,6 +57,7 @@ fn int_in_128(negative: bool, number: Option<u128>) -> Result<Int, Reason>
 #[cfg(test)]
 mod tests {
     use super::*;
+    use crate::tests::same;
 
     fn int(negative: bool, magnitude: u128) -> Result<Int, Reason> {
         Ok(Int {
@@ -82,7 +83,7 @@ mod tests {
                 int(false, u128::MAX),
             ),
         ] {
-            assert_eq!(rt; int_from_text(run), want);
+            same(&rt, int_from_text(run), want);
         }
     }
 
@@ -102,12 +103,12 @@ mod tests {
                 int(false, u128::MAX),
             ),
         ] {
-            assert_eq!(rt; int_from_text(run), want);
+            same(&rt, int_from_text(run), want);
         }
         let mut run = [b'1'; 130];
         run[0] = b'0';
         run[1] = b'b';
-        assert_eq!(rt; int_from_text(&run), int(false, u128::MAX));
+        same(&rt, int_from_text(&run), int(false, u128::MAX));
     }
 
     #[test]
@@ -118,12 +119,12 @@ mod tests {
             b"1_0000000000000000000000000000000000000000".as_slice(),
             b"0x100000000000000000000000000000000".as_slice(),
         ] {
-            assert_eq!(rt; int_from_text(run), Err(Reason::Range));
+            same(&rt, int_from_text(run), Err(Reason::Range));
         }
         let mut run = [b'0'; 131];
         run[1] = b'b';
         run[2] = b'1';
-        assert_eq!(rt; int_from_text(&run), Err(Reason::Range));
+        same(&rt, int_from_text(&run), Err(Reason::Range));
     }
 
     #[test]
@@ -150,7 +151,7 @@ mod tests {
             b"9999999999999999999999999999999999999999_".as_slice(),
             b"99999999999999999999x".as_slice(),
         ] {
-            assert_eq!(rt; int_from_text(run), Err(Reason::BadToken));
+            same(&rt, int_from_text(run), Err(Reason::BadToken));
         }
     }
 }

@@ -1,5 +1,5 @@
 //! Items: what readers give and writers take, one at a time.
-ghost use Rattle.std.specs.Prelude.{◌≡◌, map, length, slice_get, slice_range};
+ghost use Rattle.std.specs.Prelude.{◌≡◌, ⊤, map, length, slice_get, slice_range};
 ghost use Rattle.ion_value.specs.Items.{symbol_at, named_at, raw_field, raw_head, raw_annotation, raw_annotations, raw_item, named_item, annotations_of, item_of, is_none_left};
 
 use crate::decimal::Decimal;
@@ -281,6 +281,10 @@ impl<'a> Item<'a, NoNames> {
 }
 
 impl<'a, N: Names> Clone for Annotations<'a, N> {
+    ghost is_clone = { λ a b. b ≡ a };
+
+    ghost is_infallible = { λ _. ⊤ };
+
     fn clone(&self) -> Result<Self, AllocError> {
         Ok(*self)
     }
@@ -289,6 +293,10 @@ impl<'a, N: Names> Clone for Annotations<'a, N> {
 impl<'a, N: Names> Copy for Annotations<'a, N> {}
 
 impl<'a, N: Names> Clone for Item<'a, N> {
+    ghost is_clone = { λ a b. b ≡ a };
+
+    ghost is_infallible = { λ _. ⊤ };
+
     fn clone(&self) -> Result<Self, AllocError> {
         Ok(*self)
     }
@@ -299,6 +307,7 @@ impl<'a, N: Names> Copy for Item<'a, N> {}
 #[cfg(test)]
 mod tests {
     use super::*;
+    use crate::tests::same;
 
     // Names of one id.
     struct OneName;
@@ -341,31 +350,43 @@ mod tests {
     #[test]
     fn gives_ids_as_they_are(rt: HostRuntime) {
         let annotations = Annotations::new(&ENTRIES, b"abcd", &NoNames);
-        let item = Item::new(Some(id(10, 5)), annotations, Head::Symbol(id(10, 13)), 13, 5);
-        assert_eq!(rt; item.field(), Some(id(10, 5)));
-        assert_eq!(rt; item.head(), Head::Symbol(id(10, 13)));
-        assert_eq!(rt; item.place(), 13);
-        assert_eq!(rt; item.top(), 5);
+        let item = Item::new(
+            Some(id(10, 5)),
+            annotations,
+            Head::Symbol(id(10, 13)),
+            13,
+            5,
+        );
+        same(&rt, item.field(), Some(id(10, 5)));
+        same(&rt, item.head(), Head::Symbol(id(10, 13)));
+        same(&rt, item.place(), 13);
+        same(&rt, item.top(), 5);
         let annotations = item.annotations();
-        assert_eq!(rt; annotations.len(), 3);
+        same(&rt, annotations.len(), 3);
         assert!(rt; !annotations.is_empty());
-        assert_eq!(rt; annotations.get(0), Some(text(b"bc", 7)));
-        assert_eq!(rt; annotations.get(1), Some(id(10, 11)));
-        assert_eq!(rt; annotations.get(3), None);
+        same(&rt, annotations.get(0), Some(text(b"bc", 7)));
+        same(&rt, annotations.get(1), Some(id(10, 11)));
+        same(&rt, annotations.get(3), None);
         assert!(rt; Annotations::new(&[], &[], &NoNames).is_empty());
-        assert_eq!(rt; NoNames.text_of(10), None);
+        same(&rt, NoNames.text_of(10), None);
     }
 
     #[test]
     fn gives_ids_as_their_texts(rt: HostRuntime) {
         let annotations = Annotations::new(&ENTRIES, b"abcd", &NoNames);
-        let raw = Item::new(Some(id(10, 5)), annotations, Head::Symbol(id(10, 13)), 13, 5);
+        let raw = Item::new(
+            Some(id(10, 5)),
+            annotations,
+            Head::Symbol(id(10, 13)),
+            13,
+            5,
+        );
         let item = raw.with_names(&OneName);
-        assert_eq!(rt; item.field(), Some(text(b"name", 5)));
-        assert_eq!(rt; item.head(), Head::Symbol(text(b"name", 13)));
+        same(&rt, item.field(), Some(text(b"name", 5)));
+        same(&rt, item.head(), Head::Symbol(text(b"name", 13)));
         let annotations = item.annotations();
-        assert_eq!(rt; annotations.get(0), Some(text(b"bc", 7)));
-        assert_eq!(rt; annotations.get(1), Some(text(b"name", 11)));
-        assert_eq!(rt; annotations.get(2), Some(id(11, 12)));
+        same(&rt, annotations.get(0), Some(text(b"bc", 7)));
+        same(&rt, annotations.get(1), Some(text(b"name", 11)));
+        same(&rt, annotations.get(2), Some(id(11, 12)));
     }
 }

@@ -1,6 +1,6 @@
 //! Laws of the definitions that the contracts cite, each the contract of a function that does
 //! nothing.
-ghost use Rattle.ion_value.specs.Laws.{VarUIntIsUnique, VarIntIsUnique, VarUIntBytesAreRead, VarIntBytesAreRead, IntBytesAreRead, DecimalBodies, DecimalBytesAreRead, DecimalBytesAreShortest, UtcIsBack, LocalIsBack, TimestampBytesAreRead, TimestampTextIsRead, NoNumberIsATimestamp, PathsAreTheirItems, IntTextIsRead, DecimalTextIsRead, OneShape};
+ghost use Rattle.ion_value.specs.Laws.{VarUIntIsUnique, VarIntIsUnique, VarUIntBytesAreRead, VarIntBytesAreRead, IntBytesAreRead, DecimalBodies, DecimalBytesAreRead, DecimalBytesAreShortest, UtcIsBack, LocalIsBack, TimestampBytesAreRead, TimestampBytesAreShortest, TimestampTextIsRead, NoNumberIsATimestamp, PathsAreTheirItems, IntTextIsRead, DecimalTextIsRead, OneShape};
 
 /// At most one VarUInt stands at the front of a list of octets, and it spells one number.
 pub fn var_uint_is_unique()
@@ -23,7 +23,7 @@ pub fn var_int_bytes_are_read()
     ensures { VarIntBytesAreRead }
 {}
 
-/// The octets that are written for a magnitude spell it as a UInt.
+/// Reading the sign and the octets that are written for an int gives the int.
 pub fn int_bytes_are_read()
     ensures { IntBytesAreRead }
 {}
@@ -57,6 +57,11 @@ pub fn local_is_back()
 /// The body that is written of a timestamp is read as that timestamp.
 pub fn timestamp_bytes_are_read()
     ensures { TimestampBytesAreRead }
+{}
+
+/// No octets that are read to a timestamp are fewer than those that are written for it.
+pub fn timestamp_bytes_are_shortest()
+    ensures { TimestampBytesAreShortest }
 {}
 
 /// A path of open containers is known by its items.
@@ -106,6 +111,7 @@ mod tests {
         utc_is_back();
         local_is_back();
         timestamp_bytes_are_read();
+        timestamp_bytes_are_shortest();
         a_path_is_its_items();
         int_text_is_read();
         decimal_text_is_read();

@@ -488,6 +488,7 @@ fn append(body: &mut ArrayVec<u8, 26>, octets: &[u8])
 #[cfg(test)]
 mod tests {
     use super::*;
+    use crate::tests::same;
 
     fn at(date: (u16, u8, u8), hour: u8, minute: u8, offset: Option<i16>) -> Timestamp
         ensures date { (result.year ≡ date.0) × (result.month ≡ date.1) × (result.day ≡ date.2) }
@@ -511,55 +512,59 @@ mod tests {
     fn keeps_the_day(rt: HostRuntime) {
         let utc = at((2007, 1, 1), 23, 30, Some(29));
         let local = at((2007, 1, 1), 23, 59, Some(29));
-        assert_eq!(rt; utc.to_local(), Ok(local));
-        assert_eq!(rt; local.to_utc(), Ok(utc));
+        same(&rt, utc.to_local(), Ok(local));
+        same(&rt, local.to_utc(), Ok(utc));
         let unknown = at((2007, 1, 1), 23, 30, None);
-        assert_eq!(rt; unknown.to_local(), Ok(unknown));
-        assert_eq!(rt; unknown.to_utc(), Ok(unknown));
+        same(&rt, unknown.to_local(), Ok(unknown));
+        same(&rt, unknown.to_utc(), Ok(unknown));
     }
 
     #[test]
     fn goes_over_new_year(rt: HostRuntime) {
         let utc = at((2000, 12, 31), 23, 30, Some(45));
         let local = at((2001, 1, 1), 0, 15, Some(45));
-        assert_eq!(rt; utc.to_local(), Ok(local));
-        assert_eq!(rt; local.to_utc(), Ok(utc));
+        same(&rt, utc.to_local(), Ok(local));
+        same(&rt, local.to_utc(), Ok(utc));
         let utc = at((2001, 1, 1), 0, 15, Some(-1439));
         let local = at((2000, 12, 31), 0, 16, Some(-1439));
-        assert_eq!(rt; utc.to_local(), Ok(local));
-        assert_eq!(rt; local.to_utc(), Ok(utc));
+        same(&rt, utc.to_local(), Ok(local));
+        same(&rt, local.to_utc(), Ok(utc));
     }
 
     #[test]
     fn goes_over_leap_days(rt: HostRuntime) {
         let utc = at((2000, 2, 28), 23, 30, Some(45));
         let local = at((2000, 2, 29), 0, 15, Some(45));
-        assert_eq!(rt; utc.to_local(), Ok(local));
-        assert_eq!(rt; local.to_utc(), Ok(utc));
+        same(&rt, utc.to_local(), Ok(local));
+        same(&rt, local.to_utc(), Ok(utc));
         let utc = at((2000, 3, 1), 0, 15, Some(-45));
         let local = at((2000, 2, 29), 23, 30, Some(-45));
-        assert_eq!(rt; utc.to_local(), Ok(local));
-        assert_eq!(rt; local.to_utc(), Ok(utc));
+        same(&rt, utc.to_local(), Ok(local));
+        same(&rt, local.to_utc(), Ok(utc));
         let utc = at((1900, 2, 28), 23, 30, Some(45));
         let local = at((1900, 3, 1), 0, 15, Some(45));
-        assert_eq!(rt; utc.to_local(), Ok(local));
-        assert_eq!(rt; local.to_utc(), Ok(utc));
+        same(&rt, utc.to_local(), Ok(local));
+        same(&rt, local.to_utc(), Ok(utc));
     }
 
     #[test]
     fn ends_with_the_years(rt: HostRuntime) {
         let first = at((1, 1, 1), 0, 0, Some(-1));
-        assert_eq!(rt; first.to_local(), Err(Reason::BadTimestamp));
-        assert_eq!(rt; first.to_utc(), Ok(at((1, 1, 1), 0, 1, Some(-1))));
+        same(&rt, first.to_local(), Err(Reason::BadTimestamp));
+        same(&rt, first.to_utc(), Ok(at((1, 1, 1), 0, 1, Some(-1))));
         let first = at((1, 1, 1), 0, 0, Some(1));
-        assert_eq!(rt; first.to_utc(), Err(Reason::BadTimestamp));
-        assert_eq!(rt; first.to_local(), Ok(at((1, 1, 1), 0, 1, Some(1))));
+        same(&rt, first.to_utc(), Err(Reason::BadTimestamp));
+        same(&rt, first.to_local(), Ok(at((1, 1, 1), 0, 1, Some(1))));
         let last = at((9999, 12, 31), 23, 59, Some(1));
-        assert_eq!(rt; last.to_local(), Err(Reason::BadTimestamp));
-        assert_eq!(rt; last.to_utc(), Ok(at((9999, 12, 31), 23, 58, Some(1))));
+        same(&rt, last.to_local(), Err(Reason::BadTimestamp));
+        same(&rt, last.to_utc(), Ok(at((9999, 12, 31), 23, 58, Some(1))));
         let last = at((9999, 12, 31), 23, 59, Some(-1));
-        assert_eq!(rt; last.to_utc(), Err(Reason::BadTimestamp));
-        assert_eq!(rt; last.to_local(), Ok(at((9999, 12, 31), 23, 58, Some(-1))));
+        same(&rt, last.to_utc(), Err(Reason::BadTimestamp));
+        same(
+            &rt,
+            last.to_local(),
+            Ok(at((9999, 12, 31), 23, 58, Some(-1))),
+        );
     }
 
     fn told(
@@ -594,30 +599,41 @@ mod tests {
     fn reads_dates(rt: HostRuntime) {
         let midnight = (0, 0, 0);
         let year = told(Precision::Year, (2007, 1, 1), midnight, 0, None);
-        assert_eq!(rt; timestamp_from_bytes(&[0xC0, 0x0F, 0xD7]), Ok(year));
+        same(&rt, timestamp_from_bytes(&[0xC0, 0x0F, 0xD7]), Ok(year));
         let month = told(Precision::Month, (2007, 12, 1), midnight, 0, None);
-        assert_eq!(rt; timestamp_from_bytes(&[0xC0, 0x0F, 0xD7, 0x8C]), Ok(month));
+        same(
+            &rt,
+            timestamp_from_bytes(&[0xC0, 0x0F, 0xD7, 0x8C]),
+            Ok(month),
+        );
         let day = told(Precision::Day, (2007, 1, 2), midnight, 0, None);
-        assert_eq!(rt;
+        same(
+            &rt,
             timestamp_from_bytes(&[0xC0, 0x0F, 0xD7, 0x81, 0x82]),
-            Ok(day)
+            Ok(day),
         );
 
         // Whatever offset is written.
-        assert_eq!(rt; timestamp_from_bytes(&[0x0B, 0xA0, 0x0F, 0xD7]), Ok(year));
+        same(
+            &rt,
+            timestamp_from_bytes(&[0x0B, 0xA0, 0x0F, 0xD7]),
+            Ok(year),
+        );
     }
 
     #[test]
     fn reads_times(rt: HostRuntime) {
         let unknown = told(Precision::Minute, (2007, 1, 2), (3, 4, 0), 0, None);
-        assert_eq!(rt;
+        same(
+            &rt,
             timestamp_from_bytes(&[0xC0, 0x0F, 0xD7, 0x81, 0x82, 0x83, 0x84]),
-            Ok(unknown)
+            Ok(unknown),
         );
         let east = told(Precision::Minute, (2007, 1, 2), (0, 30, 0), 0, Some(60));
-        assert_eq!(rt;
+        same(
+            &rt,
             timestamp_from_bytes(&[0xBC, 0x0F, 0xD7, 0x81, 0x81, 0x97, 0x9E]),
-            Ok(east)
+            Ok(east),
         );
         let west = told(
             Precision::Fraction(3),
@@ -626,11 +642,12 @@ mod tests {
             100,
             Some(-480),
         );
-        assert_eq!(rt;
+        same(
+            &rt,
             timestamp_from_bytes(&[
-                0x43, 0xE0, 0x0F, 0xDB, 0x82, 0x94, 0x93, 0x9E, 0xBB, 0xC3, 0x64
+                0x43, 0xE0, 0x0F, 0xDB, 0x82, 0x94, 0x93, 0x9E, 0xBB, 0xC3, 0x64,
             ]),
-            Ok(west)
+            Ok(west),
         );
     }
 
@@ -639,34 +656,34 @@ mod tests {
         // No exponent, an exponent of zero, one digit, and minus zero as a digit.
         let mut body = [0x80, 0x0F, 0xD0, 0x81, 0x81, 0x80, 0x80, 0x80, 0x80, 0x80];
         let whole = told(Precision::Second, (2000, 1, 1), (0, 0, 0), 0, Some(0));
-        assert_eq!(rt; timestamp_from_bytes(&body[..8]), Ok(whole));
-        assert_eq!(rt; timestamp_from_bytes(&body[..9]), Ok(whole));
+        same(&rt, timestamp_from_bytes(&body[..8]), Ok(whole));
+        same(&rt, timestamp_from_bytes(&body[..9]), Ok(whole));
         body[8] = 0xC1;
         let digit = told(Precision::Fraction(1), (2000, 1, 1), (0, 0, 0), 0, Some(0));
-        assert_eq!(rt; timestamp_from_bytes(&body[..9]), Ok(digit));
-        assert_eq!(rt; timestamp_from_bytes(&body), Ok(digit));
+        same(&rt, timestamp_from_bytes(&body[..9]), Ok(digit));
+        same(&rt, timestamp_from_bytes(&body), Ok(digit));
         body[9] = 0x09;
         let nine = told(Precision::Fraction(1), (2000, 1, 1), (0, 0, 0), 9, Some(0));
-        assert_eq!(rt; timestamp_from_bytes(&body), Ok(nine));
+        same(&rt, timestamp_from_bytes(&body), Ok(nine));
 
         // One, less than zero, and more than a second.
         body[9] = 0x0A;
-        assert_eq!(rt; timestamp_from_bytes(&body), Err(Reason::BadTimestamp));
+        same(&rt, timestamp_from_bytes(&body), Err(Reason::BadTimestamp));
         body[9] = 0x81;
-        assert_eq!(rt; timestamp_from_bytes(&body), Err(Reason::BadTimestamp));
+        same(&rt, timestamp_from_bytes(&body), Err(Reason::BadTimestamp));
         body[8] = 0x80;
         body[9] = 0x01;
-        assert_eq!(rt; timestamp_from_bytes(&body), Err(Reason::BadTimestamp));
+        same(&rt, timestamp_from_bytes(&body), Err(Reason::BadTimestamp));
 
         // 38 digits, and one more.
         body[8] = 0xE6;
         body[9] = 0x01;
         let least = told(Precision::Fraction(38), (2000, 1, 1), (0, 0, 0), 1, Some(0));
-        assert_eq!(rt; timestamp_from_bytes(&body), Ok(least));
+        same(&rt, timestamp_from_bytes(&body), Ok(least));
         body[8] = 0xE7;
-        assert_eq!(rt; timestamp_from_bytes(&body), Err(Reason::Range));
+        same(&rt, timestamp_from_bytes(&body), Err(Reason::Range));
         body[5] = 0x98;
-        assert_eq!(rt; timestamp_from_bytes(&body), Err(Reason::Range));
+        same(&rt, timestamp_from_bytes(&body), Err(Reason::Range));
     }
 
     #[test]
@@ -687,12 +704,17 @@ mod tests {
             // Local time in the year 0.
             [0xFF, 0x81, 0x81, 0x81, 0x80, 0x80].as_slice(),
         ] {
-            assert_eq!(rt; timestamp_from_bytes(body), Err(Reason::BadTimestamp));
+            same(&rt, timestamp_from_bytes(body), Err(Reason::BadTimestamp));
         }
-        assert_eq!(rt; timestamp_from_bytes(&[0x80, 0x0F]), Err(Reason::BadVar));
-        assert_eq!(rt;
+        same(
+            &rt,
+            timestamp_from_bytes(&[0x80, 0x0F]),
+            Err(Reason::BadVar),
+        );
+        same(
+            &rt,
             timestamp_from_bytes(&[0x80, 0x0F, 0xD0, 0x81, 0x81, 0x98, 0x80, 0x80, 0x67]),
-            Err(Reason::BadVar)
+            Err(Reason::BadVar),
         );
     }
 
@@ -712,7 +734,7 @@ mod tests {
             [0x80, 0x0F, 0xD0, 0x81, 0x81, 0x80, 0x80, 0x80, 0xC1].as_slice(),
         ] {
             match written(body) {
-                Ok(again) => assert_eq!(rt; again.as_slice(), body),
+                Ok(again) => same(&rt, again.as_slice(), body),
                 Err(_) => assert!(rt; false),
             }
         }
@@ -732,9 +754,9 @@ mod tests {
             99999999999999999999999999999999999999,
             Some(-1439),
         );
-        assert_eq!(rt; timestamp_from_bytes(&body), Ok(longest));
+        same(&rt, timestamp_from_bytes(&body), Ok(longest));
         match written(&body) {
-            Ok(again) => assert_eq!(rt; again.as_slice(), body.as_slice()),
+            Ok(again) => same(&rt, again.as_slice(), body.as_slice()),
             Err(_) => assert!(rt; false),
         }
     }

@@ -25,7 +25,8 @@ const DIGITS_IN_64_BITS: usize = 19;
 pub fn timestamp_from_text(run: &[u8]) -> Result<Timestamp, Reason>
     ensures read { result ≡ timestamp_of_text run.now }
     ensures valid { IfOk result IsTimestamp }
-    ensures refused { IfErr result (λ e. (e ≡ Reason.BadToken) ⊎ ((e ≡ Reason.Range) ⊎ (e ≡ Reason.BadTimestamp))) }
+    ensures refused { IfErr result (λ e. (e ≡ Reason.BadToken)
+        ⊎ ((e ≡ Reason.Range) ⊎ (e ≡ Reason.BadTimestamp))) }
 {
     let mut timestamp = Timestamp {
         precision: Precision::Year,

@@ -1,5 +1,5 @@
 //! What writes items.
-ghost use Rattle.std.specs.Prelude.{◌≡◌, ℕ, ◌-◌, ◌^◌, ◌<◌, ◌≤◌, ◌↔◌, ◌≢◌, ◌∷◌, ◌++◌, List, [], Option, Some, None, Ok, Err, OnErr, OnOk};
+ghost use Rattle.std.specs.Prelude.{◌≡◌, ℕ, ◌+◌, ◌-◌, ◌^◌, ◌<◌, ◌≤◌, ◌↔◌, ◌≢◌, ◌∷◌, ◌++◌, List, [], Option, Some, None, Ok, Err, OnErr, OnOk};
 ghost use Rattle.ion_meter.specs.declared.fault.Reason.{Reason};
 ghost use Rattle.ion_meter.specs.declared.fault.Fault.{Fault};
 ghost use Rattle.ion_meter.specs.declared.fault.Fault.TheVariants.{Refused, WriteFault};
@@ -65,9 +65,11 @@ pub trait ValueWriter<O: Output, A: Allocator + Copy> {
             → Puts O.written O.observable sink.old sink.new (puts (limits self.old) []) }
         ensures device { sink.old.fault ≡ None
             → OnErr result ((result ≡ Err WriteFault)
-            × (O.failure_count sink.old.device < O.failure_count sink.new.device)) }
+            × (O.failure_count sink.new.device ≡ O.failure_count sink.old.device + 1)) }
         ensures steady { OnOk result (O.failure_count sink.new.device
             ≡ O.failure_count sink.old.device) }
+        ensures passed { (f : Fault) → sink.old.fault ≡ Some f
+            → (result ≡ Err f) × (sink.new ≡ sink.old) }
         ensures failed { failed self.new ≡ fault_of result }
         ensures limits { limits self.new ≡ limits self.old }
         ensures own { own self.new ≡ own self.old }

@@ -35,7 +35,12 @@ fn expect_prefix(rt: &impl Abort, prefix: &Outcome, length: u64, whole: &Outcome
 }
 
 // Reads each prefix of these octets, in whatever pieces it comes.
-fn read_prefixes(rt: &impl Abort, alloc: Global, limits: Limits, octets: &[u8]) -> Result<(), Fail> {
+fn read_prefixes(
+    rt: &impl Abort,
+    alloc: Global,
+    limits: Limits,
+    octets: &[u8],
+) -> Result<(), Fail> {
     let whole = read(rt, alloc, limits, Pieces::whole(octets))?;
     for length in 0..octets.len() {
         let prefix = &octets[..length];

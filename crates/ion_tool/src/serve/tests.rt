@@ -1,6 +1,10 @@
-//! Whole runs over devices in memory.
+//! Whole runs over devices in memory, and over a real file.
+ghost use Rattle.std.specs.Prelude.{⊤};
+
 use super::*;
+use crate::RealFiles;
 use ion_meter::stream::{FromRead, ToWrite};
+use std::fs;
 use std::test::Fail;
 
 /// One file in memory.
@@ -12,6 +16,8 @@ struct OneFile {
 
 impl FileSource for OneFile {
     type File = &'static [u8];
+
+    ghost gives = { λ files name found. ⊤ };
 
     fn open_named(&mut self, name: &str) -> Option<&'static [u8]> {
         if name == self.name {
@@ -30,24 +36,36 @@ struct Answer {
     err: Vec<u8>,
 }
 
-/// The program's answer to these words, over this input.
-fn served(alloc: Global, words: &[&'static str], input: &[u8]) -> Result<Answer, AllocError> {
+/// The program's answer to these words, over this input and these files.
+fn served_from<F: FileSource>(
+    alloc: Global,
+    words: &[&'static str],
+    files: &mut F,
+    input: &[u8],
+) -> Result<Answer, AllocError> {
     let mut given = Vec::new(alloc);
     for word in words {
         given.push(String::from_str(alloc, word)?)?;
     }
-    let mut files = OneFile {
-        name: "file",
-        bytes: b"\xE0\x01\x00\xEA\xB3\xB2\x21\x05",
-    };
+    let mut meter = Meter::new(alloc);
     let out = ToWrite::new(Vec::new(alloc));
     let err = ToWrite::new(Vec::new(alloc));
-    let (status, _, out, err) = serve(alloc, given, &mut files, FromRead::new(input), out, err);
+    let input = FromRead::new(input);
+    let (status, _, out, err) = serve(alloc, &mut meter, given, files, input, out, err);
     Ok(Answer {
         status,
         out: out.into_inner(),
         err: err.into_inner(),
     })
+}
+
+/// The same over one file in memory.
+fn served(alloc: Global, words: &[&'static str], input: &[u8]) -> Result<Answer, AllocError> {
+    let mut files = OneFile {
+        name: "file",
+        bytes: b"\xE0\x01\x00\xEA\xB3\xB2\x21\x05",
+    };
+    served_from(alloc, words, &mut files, input)
 }
 
 /// A stream's answer to `show`, and its number of values where it is accepted.
@@ -230,6 +248,30 @@ fn reads_words(rt: HostRuntime) -> Result<(), Fail> {
         assert!(rt; answer.out.is_empty());
         assert!(rt; answer.err.starts_with(b"error: "));
     }
+    Ok(())
+}
+
+#[test]
+fn opens_a_real_file(rt: HostRuntime) -> Result<(), Fail> {
+    let alloc = rt.alloc();
+    fs::write(
+        &rt,
+        "ion_tool_test.10n",
+        b"\xE0\x01\x00\xEA\x21\x05\x82\x61".as_slice(),
+    )?;
+    let mut files = RealFiles { rt };
+    let shown = served_from(alloc, &["show", "ion_tool_test.10n"], &mut files, b"\xE0")?;
+    fs::remove_file(&files.rt, "ion_tool_test.10n")?;
+    let gone = served_from(alloc, &["show", "ion_tool_test.10n"], &mut files, b"\xE0")?;
+    assert_eq!(files.rt; shown.status, 1);
+    assert_eq!(files.rt; shown.out.as_slice(), "5\n".as_bytes());
+    assert_eq!(files.rt; shown.err.as_slice(), "refused Truncated at 6\n".as_bytes());
+    assert_eq!(files.rt; gone.status, 3);
+    assert!(files.rt; gone.out.is_empty());
+    assert_eq!(files.rt;
+        gone.err.as_slice(),
+        "cannot open ion_tool_test.10n\n".as_bytes()
+    );
     Ok(())
 }
 

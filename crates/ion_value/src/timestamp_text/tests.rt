@@ -1,4 +1,5 @@
 use super::*;
+use crate::tests::same;
 
 fn date(precision: Precision, year: u16, month: u8, day: u8) -> Timestamp {
     Timestamp {
@@ -69,23 +70,27 @@ fn reads_what_it_writes(rt: HostRuntime) {
         ),
     ] {
         let timestamp = timestamp_from_text(run).expect(&rt, "a timestamp");
-        assert_eq!(rt; timestamp, want);
-        assert_eq!(rt; timestamp_to_text(timestamp).as_str().as_bytes(), run);
+        same(&rt, timestamp, want);
+        same(&rt, timestamp_to_text(timestamp).as_str().as_bytes(), run);
     }
 }
 
 #[test]
 fn reads_other_spellings(rt: HostRuntime) {
     let day = date(Precision::Day, 2007, 1, 2);
-    assert_eq!(rt; timestamp_from_text(b"2007-01-02T"), Ok(day));
+    same(&rt, timestamp_from_text(b"2007-01-02T"), Ok(day));
     let utc = time(day, 3, 4, Some(0));
     for run in [
         b"2007-01-02T03:04Z".as_slice(),
         b"2007-01-02T03:04+00:00".as_slice(),
     ] {
         let timestamp = timestamp_from_text(run).expect(&rt, "a timestamp");
-        assert_eq!(rt; timestamp, utc);
-        assert_eq!(rt; timestamp_to_text(timestamp).as_str(), "2007-01-02T03:04Z");
+        same(&rt, timestamp, utc);
+        same(
+            &rt,
+            timestamp_to_text(timestamp).as_str(),
+            "2007-01-02T03:04Z",
+        );
     }
 }
 
@@ -101,8 +106,8 @@ fn reads_offsets(rt: HostRuntime) {
         (b"2007-01-02T03:04Z".as_slice(), Some(0)),
     ] {
         let timestamp = timestamp_from_text(run).expect(&rt, "a timestamp");
-        assert_eq!(rt; timestamp, time(day, 3, 4, want));
-        assert_eq!(rt; timestamp_to_text(timestamp).as_str().as_bytes(), run);
+        same(&rt, timestamp, time(day, 3, 4, want));
+        same(&rt, timestamp_to_text(timestamp).as_str().as_bytes(), run);
     }
 }
 
@@ -140,8 +145,8 @@ fn reads_fractions(rt: HostRuntime) {
         ),
     ] {
         let timestamp = timestamp_from_text(run).expect(&rt, "a timestamp");
-        assert_eq!(rt; timestamp, fraction(second, digits, want));
-        assert_eq!(rt; timestamp_to_text(timestamp).as_str().as_bytes(), run);
+        same(&rt, timestamp, fraction(second, digits, want));
+        same(&rt, timestamp_to_text(timestamp).as_str().as_bytes(), run);
     }
 }
 
@@ -154,7 +159,7 @@ fn reads_up_to_the_ends_of_the_years(rt: HostRuntime) {
         b"9999-12-31T23:59:59.9-00:00".as_slice(),
     ] {
         let timestamp = timestamp_from_text(run).expect(&rt, "a timestamp");
-        assert_eq!(rt; timestamp_to_text(timestamp).as_str().as_bytes(), run);
+        same(&rt, timestamp_to_text(timestamp).as_str().as_bytes(), run);
     }
 }
 
@@ -192,7 +197,7 @@ fn refuses_other_shapes(rt: HostRuntime) {
         b"2007-0:T".as_slice(),
         b"9999-99-99T99:99:99.9+99:9/".as_slice(),
     ] {
-        assert_eq!(rt; timestamp_from_text(run), Err(Reason::BadToken));
+        same(&rt, timestamp_from_text(run), Err(Reason::BadToken));
     }
 }
 
@@ -213,7 +218,7 @@ fn refuses_dates_and_times_that_there_are_not(rt: HostRuntime) {
         b"0001-01-01T00:00+00:01".as_slice(),
         b"9999-12-31T23:59-00:01".as_slice(),
     ] {
-        assert_eq!(rt; timestamp_from_text(run), Err(Reason::BadTimestamp));
+        same(&rt, timestamp_from_text(run), Err(Reason::BadTimestamp));
     }
 }
 
@@ -223,14 +228,14 @@ fn refuses_long_fractions(rt: HostRuntime) {
         b"2000-01-01T00:00:00.000000000000000000000000000000000000001Z".as_slice(),
         b"2000-01-01T24:00:00.000000000000000000000000000000000000001+99:99".as_slice(),
     ] {
-        assert_eq!(rt; timestamp_from_text(run), Err(Reason::Range));
+        same(&rt, timestamp_from_text(run), Err(Reason::Range));
     }
     let mut run = [b'0'; 1000];
     run[..20].copy_from_slice(b"2000-01-01T24:00:00.");
     run[999] = b'Z';
-    assert_eq!(rt; timestamp_from_text(&run), Err(Reason::Range));
+    same(&rt, timestamp_from_text(&run), Err(Reason::Range));
     run[500] = b'x';
-    assert_eq!(rt; timestamp_from_text(&run), Err(Reason::BadToken));
+    same(&rt, timestamp_from_text(&run), Err(Reason::BadToken));
     run[500] = b'Z';
-    assert_eq!(rt; timestamp_from_text(&run), Err(Reason::BadToken));
+    same(&rt, timestamp_from_text(&run), Err(Reason::BadToken));
 }

@@ -3,7 +3,7 @@ use Rattle.std.proofs.lemmas.Grind.{common_steps}
 use Rattle.std.proofs.lemmas.List.{length-append, length-take-le}
 use Rattle.ion_meter.specs.Windows.{left, lent}
 use Rattle.ion_meter.proofs.Lent.{lent-take}
-use Rattle.ion_binary.proofs.Passing.{Passed, Passed-then, Passed-lent, take_on}
+use Rattle.ion_value.proofs.Passing.{Passed, Passed-then, Passed-lent, take_on}
 use Rattle.ion_binary.proofs.body.gather.Goals as goal
 
 pub loop-source-preserved : goal.loop-source-preserved

@@ -1,6 +1,6 @@
 use Rattle.std.proofs.Common.{◌≡◌, ◌+◌, ◌-◌, ◌≤◌, length, take, max}
 use Rattle.ion_meter.specs.Windows.{left}
-use Rattle.ion_binary.proofs.Passing.{Passed}
+use Rattle.ion_value.proofs.Passing.{Passed}
 use Rattle.ion_binary.proofs.body.gather.Given as goal
 
 abbrev pub invariant-loop-source : goal.invariant-loop-source

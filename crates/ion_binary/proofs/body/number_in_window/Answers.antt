@@ -4,7 +4,7 @@ use Rattle.ion_value.specs.Scalar.{scalar_of_body}
 use Rattle.ion_binary.specs.Bodies.{as_scalar}
 use Rattle.ion_meter.specs.Sources.{cursor}
 use Rattle.ion_binary.proofs.BodyParts.{body_here-refused, body_here-read}
-use Rattle.ion_binary.proofs.Passing.{lent-there, IsPassed-cursor}
+use Rattle.ion_value.proofs.Passing.{lent-there, IsPassed-cursor}
 use Rattle.ion_binary.proofs.body.number_in_window.Goals as goal
 
 pub returns-in-Err-clause-gives : goal.returns-in-Err-clause-gives

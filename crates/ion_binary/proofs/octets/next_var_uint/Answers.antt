@@ -5,7 +5,7 @@ use Rattle.ion_meter.specs.Sources.{cursor}
 use Rattle.ion_value.specs.Answers.{itself}
 use Rattle.ion_binary.specs.Parts.{var_from}
 use Rattle.ion_binary.proofs.VarLoop.{var_uint_at-prefix, var_from-none, var_from-refused, var_from-ends, var_from-goes_on}
-use Rattle.ion_binary.proofs.Cursors.{moves-then, answers-refused}
+use Rattle.ion_value.proofs.Cursors.{moves-then, answers-refused}
 use Rattle.ion_binary.proofs.octets.next_var_uint.Goals as goal
 
 pub loop-init : goal.loop-init

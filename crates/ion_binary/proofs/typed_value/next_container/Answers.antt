@@ -4,7 +4,7 @@ use Rattle.ion_binary.specs.Finds.{as_around, end_by}
 use Rattle.ion_binary.specs.Reading.{a_container}
 use Rattle.ion_meter.specs.Sources.{cursor}
 use Rattle.ion_value.specs.Answers.{itself}
-use Rattle.ion_binary.proofs.Cursors.{answers-refused}
+use Rattle.ion_value.proofs.Cursors.{answers-refused}
 use Rattle.ion_binary.proofs.TypedValueCode.{container_at-no_length, container_at-refused, container_at-begun}
 use Rattle.ion_binary.proofs.typed_value.next_container.Goals as goal
 

@@ -6,7 +6,7 @@ use Rattle.ion_meter.specs.Sources.{cursor}
 use Rattle.ion_value.specs.Answers.{itself}
 use Rattle.ion_binary.specs.Parts.{body_here}
 use Rattle.ion_binary.specs.Reading.{fits, a_scalar}
-use Rattle.ion_binary.proofs.Cursors.{answers-refused}
+use Rattle.ion_value.proofs.Cursors.{answers-refused}
 use Rattle.ion_binary.proofs.TypedValueCode.{answers-mapped, scalar_at-no_length, scalar_at-misfits, scalar_at-body}
 use Rattle.ion_binary.proofs.typed_value.next_scalar.Goals as goal
 

@@ -5,7 +5,7 @@ use Rattle.ion_binary.specs.Reading.{a_container}
 use Rattle.ion_value.specs.declared.ion_type.Kind.TheVariants as kind
 use Rattle.ion_meter.specs.Sources.{cursor}
 use Rattle.ion_value.specs.Answers.{itself}
-use Rattle.ion_binary.proofs.Cursors.{answers-refused}
+use Rattle.ion_value.proofs.Cursors.{answers-refused}
 use Rattle.ion_binary.proofs.TypedValueCode.{sorted_at-no_length, sorted_at-empty, sorted_at-refused, sorted_at-begun}
 use Rattle.ion_binary.proofs.typed_value.next_sorted.Goals as goal
 

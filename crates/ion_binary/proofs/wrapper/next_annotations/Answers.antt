@@ -5,7 +5,7 @@ use Rattle.ion_binary.specs.Descriptor.{var_uint_at}
 use Rattle.ion_meter.specs.Sources.{cursor}
 use Rattle.ion_value.specs.Answers.{itself}
 use Rattle.ion_binary.specs.Wrappers.{as_annotations}
-use Rattle.ion_binary.proofs.Cursors.{moves-then}
+use Rattle.ion_value.proofs.Cursors.{moves-then}
 use Rattle.ion_binary.proofs.Annotations.{ids_at-ended, ids_at-refused, ids_at-limited, ids_at-one_more, answers_at-refused, charges-grown}
 use Rattle.ion_binary.proofs.wrapper.next_annotations.Goals as goal
 

@@ -4,7 +4,7 @@ use Rattle.ion_binary.specs.Reading.{wrapper_at}
 use Rattle.ion_meter.specs.Sources.{cursor}
 use Rattle.ion_value.specs.Answers.{itself}
 use Rattle.ion_binary.specs.Wrappers.{as_wrapped}
-use Rattle.ion_binary.proofs.Cursors.{answers-refused}
+use Rattle.ion_value.proofs.Cursors.{answers-refused}
 use Rattle.ion_binary.proofs.WrapperCode.{wrapper_at-no_length, wrapper_at-no_ids, wrapper_at-tested}
 use Rattle.ion_binary.proofs.wrapper.next_wrapper.Goals as goal
 

@@ -12,45 +12,58 @@ use Rattle.ion_symbols.proofs.buffer.gather.Goals as goal
 
 -- the item ends the declaration
 pub returns-in-Ok-true-clause-gives : goal.returns-in-Ok-true-clause-gives
-returns-in-Ok-true-clause-gives g c = λ t o.
-    let r = g.R.RawReader in
-    let s = c.args.symbols.now in
-    let d = declaring_of s.catalog c.items.buffer in
-    let u = next s.table (pending_of s.catalog c.take.new.self) in
-    let item = raw_item c.item-item.result in
-    let more : r.reading c.items.raw ≡ More (r.current c.next.new.self) (r.reading c.next.new.self) = search rules in
-    let turns : turn (record { catalog = s.catalog; limit = c.args.limit; old = s.table }) d (item_view (text_at s.table) item) ≡ made u = search rules in
-    let first = users s.catalog c.args.limit (record { table = s.table; mode = declaring (declaring_of s.catalog c.args.buffer.now) }) (r.reading c.args.raw.now) in
-    goes_out s.catalog c.args.limit s.table d u (r.current c.next.new.self) item first (r.reading c.items.raw) (r.reading c.next.new.self) c.check_item.result
-    (c.items.invariant.coming t) more c.item-item.ensures c.check_item.ensures c.in_default.is turns
+returns-in-Ok-true-clause-gives g c = record {
+  gives = λ t o.
+      let r = g.R.RawReader in
+      let s = c.args.symbols.now in
+      let d = declaring_of s.catalog c.items.buffer in
+      let u = next s.table (pending_of s.catalog c.take.new.self) in
+      let item = raw_item c.item-item.result in
+      let more : r.reading c.items.raw ≡ More (r.current c.next.new.self) (r.reading c.next.new.self) = search rules in
+      let turns : turn (record { catalog = s.catalog; limit = c.args.limit; old = s.table }) d (item_view (text_at s.table) item) ≡ made u = search rules in
+      let first = users s.catalog c.args.limit (record { table = s.table; mode = declaring (declaring_of s.catalog c.args.buffer.now) }) (r.reading c.args.raw.now) in
+      goes_out s.catalog c.args.limit s.table d u (r.current c.next.new.self) item first (r.reading c.items.raw) (r.reading c.next.new.self) c.check_item.result
+      (c.items.invariant.coming t) more c.item-item.ensures c.check_item.ensures c.in_default.is turns;
+  ends = λ t e. cc;
+  refuses = λ t well reason place e. cc;
+}
 
-pub returns-in-Ok-true-clause-level : goal.returns-in-Ok-true-clause-level
-returns-in-Ok-true-clause-level g c = λ o.
-    let r = g.R.RawReader in
-    let s = c.args.symbols.now in
-    let ground : Ground = record { catalog = s.catalog; limit = c.args.limit; old = s.table } in
-    let d = declaring_of s.catalog c.items.buffer in
-    let u = next s.table (pending_of s.catalog c.take.new.self) in
-    let item = raw_item c.item-item.result in
-    let opens : r.opened c.next.new.self ≡ open_after (r.opened c.items.raw) (r.current c.next.new.self).head = search rules in
-    let turns : turn ground d (item_view (text_at s.table) item) ≡ made u = search rules in
-    level-made (text_at s.table) ground d u (r.current c.next.new.self) item (r.opened c.items.raw) (r.opened c.next.new.self)
-    c.items.invariant.level opens c.item-item.ensures turns
+pub returns-in-Ok-true-clause-gathered : goal.returns-in-Ok-true-clause-gathered
+returns-in-Ok-true-clause-gathered g c = record {
+  pending = search rules;
+  nameless = search rules;
+  counted = search rules;
+  level = λ o.
+      let r = g.R.RawReader in
+      let s = c.args.symbols.now in
+      let ground : Ground = record { catalog = s.catalog; limit = c.args.limit; old = s.table } in
+      let d = declaring_of s.catalog c.items.buffer in
+      let u = next s.table (pending_of s.catalog c.take.new.self) in
+      let item = raw_item c.item-item.result in
+      let opens : r.opened c.next.new.self ≡ open_after (r.opened c.items.raw) (r.current c.next.new.self).head = search rules in
+      let turns : turn ground d (item_view (text_at s.table) item) ≡ made u = search rules in
+      level-made (text_at s.table) ground d u (r.current c.next.new.self) item (r.opened c.items.raw) (r.opened c.next.new.self)
+      c.items.invariant.level opens c.item-item.ensures turns;
+}
 
 -- the item is refused
-pub returns-in-Err-take-clause-refuses : goal.returns-in-Err-take-clause-refuses
-returns-in-Err-take-clause-refuses g c = λ t well reason place o.
-    let r = g.R.RawReader in
-    let s = c.args.symbols.now in
-    let d = declaring_of s.catalog c.items.buffer in
-    let item = raw_item c.item-item.result in
-    let more : r.reading c.items.raw ≡ More (r.current c.next.new.self) (r.reading c.next.new.self) = search rules in
-    let e = declaring_of s.catalog c.take.new.self in
-    let u = next s.table (pending_of s.catalog c.take.new.self) in
-    let turns = stopped _ c.in-Err-take.fault e u reason place c.in-Err-take.ensures.turn cc in
-    let first = users s.catalog c.args.limit (record { table = s.table; mode = declaring (declaring_of s.catalog c.args.buffer.now) }) (r.reading c.args.raw.now) in
-    turn_refused s.catalog c.args.limit s.table d (r.current c.next.new.self) item first (r.reading c.items.raw) (r.reading c.next.new.self)
-    c.check_item.result reason place (c.items.invariant.coming t) more c.item-item.ensures c.check_item.ensures c.in_default.is turns
+pub returns-in-Err-take-clause-gives : goal.returns-in-Err-take-clause-gives
+returns-in-Err-take-clause-gives g c = record {
+  gives = λ t e. cc;
+  ends = λ t e. cc;
+  refuses = λ t well reason place o.
+      let r = g.R.RawReader in
+      let s = c.args.symbols.now in
+      let d = declaring_of s.catalog c.items.buffer in
+      let item = raw_item c.item-item.result in
+      let more : r.reading c.items.raw ≡ More (r.current c.next.new.self) (r.reading c.next.new.self) = search rules in
+      let e = declaring_of s.catalog c.take.new.self in
+      let u = next s.table (pending_of s.catalog c.take.new.self) in
+      let turns = stopped _ c.in-Err-take.fault e u reason place c.in-Err-take.ensures.turn cc in
+      let first = users s.catalog c.args.limit (record { table = s.table; mode = declaring (declaring_of s.catalog c.args.buffer.now) }) (r.reading c.args.raw.now) in
+      turn_refused s.catalog c.args.limit s.table d (r.current c.next.new.self) item first (r.reading c.items.raw) (r.reading c.next.new.self)
+      c.check_item.result reason place (c.items.invariant.coming t) more c.item-item.ensures c.check_item.ensures c.in_default.is turns;
+}
 
 -- a symbol is refused
 pub returns-in-Err-clause-causes : goal.returns-in-Err-clause-causes

@@ -11,7 +11,7 @@ returns-in-Ok-clause-answered g c i o =
     let run_stream = c.run_stream-answer.ensures in
     let found = (run_stream.transcoded i).accepted c.in-Ok.summary c.in-Ok.is in
     let is = found.1 in
-    let out = run_stream.still_observable.1 o in
+    let out = run_stream.kept.still_observable.1 o in
     let say = c.say_count-said.ensures in
     said c.one_verdict.ensures [] c.args.limits (g.I.Input.rest c.args.input) (g.O.Output.written c.args.out) (g.O.Output.written c.run_stream-answer.result.2) (g.O.Output.written c.say_count-said.new.out)
     c.in-Ok.summary is.output is.has_verdict found.0 (is.written o) c.say_count-said.result say.ok (λ f e. (say.fault f e).0) (say.whole out) (say.prefix out)

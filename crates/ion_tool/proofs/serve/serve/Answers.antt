@@ -1,6 +1,6 @@
-use Rattle.std.proofs.Common.{rules, ap, sym, ◌++◌, Err, None}
+use Rattle.std.proofs.Common.{rules, inl, inr, sym, ◌∙◌, None, Some}
 use Rattle.std.specs.Prelude.{string_bytes, option_map}
-use Rattle.ion_meter.specs.declared.fault.Fault.TheVariants.{Memory}
+use Rattle.ion_tool.proofs.Asking.{not_two}
 use Rattle.ion_tool.proofs.OneRun.{one_run, no_file}
 use Rattle.ion_tool.proofs.serve.serve.Goals.{in-Ok-Help, in-Ok-Usage, in-Err}
 use Rattle.ion_tool.proofs.serve.serve.Goals as goal
@@ -8,20 +8,82 @@ use Rattle.ion_tool.proofs.serve.serve.Goals as goal
 pub returns-in-Ok-Run-clause-ran : goal.returns-in-Ok-Run-clause-ran
 returns-in-Ok-Run-clause-ran g c action limits run =
     let job = c.in-Ok-Run.job in
-    let asks = rw (c.in-Ok-Run.field-0-is, c.as_slice.ensures.value) at c.in-Ok-Run.ensures in
+    let asks = rw (c.in-Ok-Run.field-0-is, c.as_slice.ensures.value) at c.in-Ok-Run.ensures.asks in
     let same = one_run _ action job.action limits job.limits None (option_map string_bytes job.file) run asks.0 in
-    rw (same.0, same.1) (c.serve_job.ensures.input (no_file string_bytes job.file same.2))
+    inl (rw (same.0, same.1) (c.serve_job.ensures.input (no_file string_bytes job.file same.2)))
+
+pub returns-in-Ok-Run-clause-file : goal.returns-in-Ok-Run-clause-file
+returns-in-Ok-Run-clause-file g c action limits name run =
+    let job = c.in-Ok-Run.job in
+    let asks = rw (c.in-Ok-Run.field-0-is, c.as_slice.ensures.value) at c.in-Ok-Run.ensures.asks in
+    let same = one_run _ action job.action limits job.limits (Some name) (option_map string_bytes job.file) run asks.0 in
+    let served = c.serve_job.ensures.file name (sym same.2) in
+    (served.0, inl (rw (same.0, same.1) served.1))
 
 pub returns-clause-ran : goal.returns-clause-ran
 returns-clause-ran g c action limits run =
     elim c.match-read_words.branch [
-      | in-Ok-Help w ↦ let asks = rw (w.in-Ok-Help.field-0-is, c.as_slice.ensures.value) at w.in-Ok-Help.ensures in elim (asks.0 (action, limits, None, run)) [ ]
-      | in-Ok-Usage w ↦ let asks = rw (w.in-Ok-Usage.field-0-is, c.as_slice.ensures.value) at w.in-Ok-Usage.ensures in elim (asks (action, limits, None, run)) [ ]
-      | in-Err w ↦ record {
-        answer = Err Memory;
+      | in-Ok-Help w ↦ let asks = rw (w.in-Ok-Help.field-0-is, c.as_slice.ensures.value) at w.in-Ok-Help.ensures.asks in elim (asks.0 (action, limits, None, run)) [ ]
+      | in-Ok-Usage w ↦ let asks = rw (w.in-Ok-Usage.field-0-is, c.as_slice.ensures.value) at w.in-Ok-Usage.ensures.asks in elim (asks.0 (action, limits, None, run)) [ ]
+      | in-Err w ↦ inr (record {
+        some_words = rw c.as_slice.ensures.value at w.in-Err.ensures.some_words;
         status_is = search rules;
-        answered = λ _ _. record { says = tt; prefix = λ verdict output outcome. (output, sym (ap (λ o. g.O.Output.written o ++ output) w.out-is)) };
-        blames = tt;
+        memory = search rules;
+        input = search rules;
+        output = search rules;
         said = search rules;
-      }
+      })
+    ]
+
+pub returns-clause-other : goal.returns-clause-other
+returns-clause-other g c none =
+    elim c.match-read_words.branch [
+      | in-Ok-Help w ↦
+          let asks = rw (w.in-Ok-Help.field-0-is, c.as_slice.ensures.value) at w.in-Ok-Help.ensures.asks in
+          inl (record {
+            asked = asks.1;
+            text = w.as_bytes.result.now;
+            some_text = rw w.as_bytes.ensures.value asks.2;
+            given = search rules;
+            status_is = search rules;
+            whole = search rules;
+            cut = search rules;
+          })
+      | in-Ok-Usage w ↦
+          let asks = rw (w.in-Ok-Usage.field-0-is, c.as_slice.ensures.value) at w.in-Ok-Usage.ensures.asks in
+          inr (inl (record {
+            wrong = asks.1;
+            text = w.as_bytes-in-Ok-Usage.result.now;
+            some_text = rw w.as_bytes-in-Ok-Usage.ensures.value asks.2;
+            status_is = search rules;
+            output = search rules;
+            said = search rules;
+          }))
+      | in-Err w ↦ inr (inr (record {
+        some_words = rw c.as_slice.ensures.value at w.in-Err.ensures.some_words;
+        status_is = search rules;
+        memory = search rules;
+        input = search rules;
+        output = search rules;
+        said = search rules;
+      }))
+    ]
+
+pub returns-clause-usage : goal.returns-clause-usage
+returns-clause-usage g c two =
+    elim c.match-read_words.branch [
+      | in-Ok-Help w ↦ absurd (not_two _ w.give_help-status.ensures.status (sym w.status-is ∙ two))
+      | in-Ok-Usage w ↦
+          let asks = rw (w.in-Ok-Usage.field-0-is, c.as_slice.ensures.value) at w.in-Ok-Usage.ensures.asks in (
+            asks.0,
+            record {
+              wrong = asks.1;
+              text = w.as_bytes-in-Ok-Usage.result.now;
+              some_text = rw w.as_bytes-in-Ok-Usage.ensures.value asks.2;
+              status_is = two;
+              output = search rules;
+              said = search rules;
+            },
+          )
+      | in-Err w ↦ absurd (not_two _ (inr w.report-status.ensures.status) (sym w.status-is ∙ two))
     ]

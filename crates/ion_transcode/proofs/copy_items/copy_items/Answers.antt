@@ -68,6 +68,36 @@ returns-in-Err-clause-puts g c r o =
       prefix = walk-fault walk (w.adds limits) (g.met.W.ValueWriter.grows limits) (g.met.W.ValueWriter.silent limits) item _ _ r o is part;
     }
 
+pub returns-in-Err-clause-causes : goal.returns-in-Err-clause-causes
+returns-in-Err-clause-causes g c =
+    let w = g.W.ValueWriter in
+    let walk = c.items.invariant.walk in
+    let may : Continues (w.limits c.items.writer) walk.path (item_of (λ s. text_at s.table) c.item-item.result) = search rules in
+    record {
+      memory = search rules;
+      counted = search rules;
+      read = search rules;
+      reads_steady = search rules;
+      write = search rules;
+      steady = search rules;
+      still_observable = search rules;
+      grown = λ o. prefix-then _ _ _ ((c.item.ensures.part c.items.invariant.sink walk.path walk.stands_at may).grown (c.items.invariant.written.1 o)) (c.items.invariant.grown o);
+      limit = search rules;
+    }
+
+pub returns-clause-causes : goal.returns-clause-causes
+returns-clause-causes g c = record {
+  memory = search rules;
+  counted = search rules;
+  read = search rules;
+  reads_steady = search rules;
+  write = search rules;
+  steady = search rules;
+  still_observable = search rules;
+  grown = search rules;
+  limit = search rules;
+}
+
 pub items-preserved : goal.items-preserved
 items-preserved g c =
     let w = g.W.ValueWriter in
@@ -88,6 +118,7 @@ items-preserved g c =
       read = search rules;
       written = search rules;
       prefix = search rules;
+      grown = λ o. prefix-then _ _ _ ((c.item.ensures.part c.items.invariant.sink walk.path walk.stands_at may).grown (c.items.invariant.written.1 o)) (c.items.invariant.grown o);
       ready = search rules;
       well = search rules;
       writer = search rules;

@@ -17,6 +17,7 @@ invariant-items g l =
       read : r.observable l.reader.raw ↔ r.observable l.fn.reader.raw;
       written : o.observable l.sink.device ↔ o.observable l.fn.sink.device;
       prefix : o.observable l.fn.sink.device → HasPrefix (so_far o.written l.sink) (o.written l.sink.device);
+      grown : o.observable l.fn.sink.device → HasPrefix (o.written l.sink.device) (o.written l.fn.sink.device);
       ready : IsReady r.sound r.opened r.failed r.ended l.reader;
       well : l.reader.failed ≡ None;
       writer : w.sound l.writer;

@@ -1,7 +1,8 @@
-use Rattle.std.proofs.Common.{◌≡◌, [], refl, subst}
+use Rattle.std.proofs.Common.{rules, ◌≡◌, [], refl, subst}
 use Rattle.ion_meter.specs.Windows.{so_far}
 use Rattle.ion_value.specs.Reading.{Reading}
 use Rattle.ion_value.specs.Outcome.{output_behind}
+use Rattle.ion_value.proofs.Outcomes.{prefix-then}
 use Rattle.ion_symbols.specs.Users.{at_start, users}
 use Rattle.ion_symbols.specs.User.{coming_to}
 use Rattle.ion_transcode.specs.Calls.{WritesOutput}
@@ -19,3 +20,19 @@ returns-clause-writes g c r o =
     let same : coming_to reads c.new-reader.result ≡ users c.args.catalog.now c.args.limits.symbols at_start (reads c.args.raw) = rw (new.raw.0, new.table.0, new.table.1.0, new.table.1.1.0, new.table.1.1.1) refl in
     subst (λ (x : Reading). WritesOutput (output_behind (w.puts limits) (w.refusal limits) [] x) c.finish-outcome.result before (g.O.Output.written c.finish-outcome.new.sink.device)) same
     (c.finish-outcome.ensures.writes (copy_items.causes.still_observable.1 o) _ before (copy_items.puts observable o))
+
+pub returns-clause-causes : goal.returns-clause-causes
+returns-clause-causes g c =
+    let copied = c.copy_items-outcome.ensures.causes in
+    let finished = c.finish-outcome.ensures in
+    record {
+      memory = search rules;
+      counted = search rules;
+      read = search rules;
+      reads_steady = search rules;
+      write = search rules;
+      steady = search rules;
+      still_observable = search rules;
+      grown = λ o. prefix-then _ _ _ (finished.grown (copied.still_observable.1 o)) (copied.grown o);
+      limit = search rules;
+    }

@@ -18,7 +18,7 @@ pop-last-requires g c =
     let t = ap (λ (s : Output). s.texts) c.self.view_is in
     held_push c.self.inside.bytes c.self.inside.places.items c.push.new.self.items _ c.self.inside.order.items c.args.self.now.texts c.args.meter.now c.extend.new.meter c.push.new.meter
     (length c.args.text.now) c.self.inside.places.cost c.push.new.self.cost c.insert.new.meter.held
-    c.self.invariant.0 t c.in_default.ensures.ok c.requires.held c.in_ok-extend.ensures.cost c.in_default.ensures.cost c.self.invariant.1.place_cost c.push.ensures.same_cost c.in-Err-insert.ensures.refused.held
+    c.self.invariant.0 t c.in_default.ensures.ok c.requires.can_add.held c.in_ok-extend.ensures.cost c.in_default.ensures.cost c.self.invariant.1.place_cost c.push.ensures.same_cost c.in-Err-insert.ensures.refused.held
 
 pub invariant_of-self-in_default-insert : goal.invariant_of-self-in_default-insert
 invariant_of-self-in_default-insert g c =
@@ -56,4 +56,4 @@ returns-clause-charges g c =
     let more = texts_pushed c.self.inside.bytes c.extend.new.self c.args.text.now c.self.inside.places.items c.push.new.self.items _ c.self.inside.order.items c.args.self.now.texts
     c.self.invariant.0 t c.in_ok-extend.ensures.ok c.in_default.ensures.ok from (ap (λ k. k + length c.args.text.now) from) in
     charges_push c.args.meter.now c.extend.new.meter c.push.new.meter c.insert.new.meter c.self.inside.limit c.args.self.now.limit c.args.self.now.texts _ c.args.text.now c.self.inside.places.cost c.self.inside.order.cost c.cost.result
-    c.in_ok-extend.ensures.cost c.in_default.ensures.cost c.in_default-insert.ensures.cost c.self.invariant.1.place_cost c.self.invariant.1.id_cost c.requires.held (ap (λ (s : Output). s.limit) c.self.view_is) c.cost.ensures c.if-cost-length.false more
+    c.in_ok-extend.ensures.cost c.in_default.ensures.cost c.in_default-insert.ensures.cost c.self.invariant.1.place_cost c.self.invariant.1.id_cost c.requires.can_add.held (ap (λ (s : Output). s.limit) c.self.view_is) c.cost.ensures c.if-cost-length.false more

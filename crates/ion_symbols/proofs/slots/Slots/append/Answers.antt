@@ -9,13 +9,16 @@ pub extend-requires-clause-room : goal.extend-requires-clause-room
 extend-requires-clause-room g c =
     let k : slots_cost c.args.more.now ≡ 16 * length c.more.inside.parts + length c.more.inside.texts =
     full_cost c.more.inside.texts c.more.inside.parts c.args.more.now c.more.invariant c.more.view_is in
-    omega (arith, k, ap length c.as_slice.ensures, c.requires.room)
+    omega (arith, k, ap length c.as_slice.ensures, c.requires.can_grow.room)
 
-pub push_moved-requires-clause-room : goal.push_moved-requires-clause-room
-push_moved-requires-clause-room g c =
+pub push_moved-requires-clause-can_grow : goal.push_moved-requires-clause-can_grow
+push_moved-requires-clause-can_grow g c =
     let k : slots_cost c.args.more.now ≡ 16 * length c.more.inside.parts + length c.more.inside.texts =
     full_cost c.more.inside.texts c.more.inside.parts c.args.more.now c.more.invariant c.more.view_is in
-    omega (arith, k, ap length c.as_slice.ensures, ap length c.as_slice-2.ensures, c.requires.room, c.in_ok-extend.ensures.cost.held)
+    record {
+      room = omega (arith, k, ap length c.as_slice.ensures, ap length c.as_slice-2.ensures, c.requires.can_grow.room, c.in_ok-extend.ensures.cost.held);
+      countable = omega (arith, c.requires.can_grow.countable, c.in_ok-extend.ensures.cost.refused);
+    }
 
 pub returns-in-Err-clause-undone : goal.returns-in-Err-clause-undone
 returns-in-Err-clause-undone g c =

@@ -8,7 +8,7 @@ pub overflow_add-to : goal.overflow_add-to
 overflow_add-to g c =
     let k : slots_cost (kept_slots c.self.inside.texts c.self.inside.parts) + 0 ≡ 16 * length c.self.inside.parts + length c.self.inside.texts = kept_cost c.self.inside.texts 0 c.self.inside.parts (length c.self.inside.texts) c.self.invariant (omega arith) in
     let v : slots_cost c.args.self.now ≡ slots_cost (kept_slots c.self.inside.texts c.self.inside.parts) = ap slots_cost (sym c.self.view_is) in
-    omega (arith, k, v, c.requires.held, c.requires.room, (ap length c.as_slice-from.ensures))
+    omega (arith, k, v, c.requires.held, c.requires.can_grow.room, (ap length c.as_slice-from.ensures))
 
 pub pop-last-requires : goal.pop-last-requires
 pop-last-requires g c =

@@ -15,15 +15,19 @@ returns-in-Err-check_item-2-clause-causes g c =
     (g.R.RawReader.failures c.args.self.now.raw) (g.R.RawReader.failures c.next.new.self) (g.R.RawReader.exceeds c.args.self.now.raw) c.in-Err-check_item-2.ensures refused failures
 
 pub returns-clause-gives : goal.returns-clause-gives
-returns-clause-gives g c = λ observable _.
-    let t = c.args.self.now.symbols.table in
-    let i = g.R.RawReader.current c.next.new.self in
-    let same : raw_item c.item-item.result ≡ i = c.item-item.ensures in
-    let head = c.head_of-head.ensures ∙ ap (λ j. j.head) same in
-    let marker : is_marker i.head ≡ false = sym (ap is_marker head) ∙ (sym c.is_marker.ensures ∙ c.if-is_marker.false) in
-    let begins : begins_declaration t c.args.self.now.count i ≡ false = sym (ap (begins_declaration t c.args.self.now.count) same) ∙ (sym c.is_declaration.ensures ∙ c.if-is_declaration.false) in
-    let fine = subst (λ j. CheckedAs (checked t true j) (Ok tt)) same c.in_default-check_item.ensures in
-    let level = c.level_after-self.ensures ∙ ap (level_after c.args.self.now.count) head in
-    item_given c.args.self.now.symbols.catalog c.args.self.now.limits.symbols t c.args.self.now.count i (g.R.RawReader.reading c.args.self.now.raw) (g.R.RawReader.reading c.next.new.self)
-    (c.in-Ok-true.ensures.gives observable (ap Ok c.in-Ok-true.field-0-test)) marker begins fine
-    ∙ ap (λ n. More (resolve t i) (users c.args.self.now.symbols.catalog c.args.self.now.limits.symbols (record { table = t; mode = plain n }) (g.R.RawReader.reading c.next.new.self))) (sym level)
+returns-clause-gives g c = record {
+  gives = λ observable _.
+      let t = c.args.self.now.symbols.table in
+      let i = g.R.RawReader.current c.next.new.self in
+      let same : raw_item c.item-item.result ≡ i = c.item-item.ensures in
+      let head = c.head_of-head.ensures ∙ ap (λ j. j.head) same in
+      let marker : is_marker i.head ≡ false = sym (ap is_marker head) ∙ (sym c.is_marker.ensures ∙ c.if-is_marker.false) in
+      let begins : begins_declaration t c.args.self.now.count i ≡ false = sym (ap (begins_declaration t c.args.self.now.count) same) ∙ (sym c.is_declaration.ensures ∙ c.if-is_declaration.false) in
+      let fine = subst (λ j. CheckedAs (checked t true j) (Ok tt)) same c.in_default-check_item.ensures in
+      let level = c.level_after-self.ensures ∙ ap (level_after c.args.self.now.count) head in
+      item_given c.args.self.now.symbols.catalog c.args.self.now.limits.symbols t c.args.self.now.count i (g.R.RawReader.reading c.args.self.now.raw) (g.R.RawReader.reading c.next.new.self)
+      (c.in-Ok-true.ensures.gives observable (ap Ok c.in-Ok-true.field-0-test)) marker begins fine
+      ∙ ap (λ n. More (resolve t i) (users c.args.self.now.symbols.catalog c.args.self.now.limits.symbols (record { table = t; mode = plain n }) (g.R.RawReader.reading c.next.new.self))) (sym level);
+  ends = λ _ e. absurd (cc e);
+  refuses = λ _ _ _ e. absurd (cc e);
+}

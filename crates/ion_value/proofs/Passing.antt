@@ -7,7 +7,7 @@ use Rattle.ion_meter.specs.declared.device.Input.{Ghosts as InputOf}
 use Rattle.ion_meter.specs.Windows.{Incoming, left, lent, Extends, IsPassed}
 use Rattle.ion_meter.proofs.Lent.{lent-CanPass, IsPassed-left, IsPassed-total}
 use Rattle.ion_meter.specs.Sources.{skip, cursor, Stands, Moves}
-use Rattle.ion_binary.proofs.Cursors.{moves-then}
+use Rattle.ion_value.proofs.Cursors.{moves-then}
 
 -- what is lent is there
 pub lent-there : {I : Type 0} (rest : I → List ℕ) (s : Incoming I) (n : ℕ) → n ≤ length (lent s) → n ≤ length (left rest s)

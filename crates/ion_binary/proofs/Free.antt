@@ -1,0 +1,167 @@
+-- Octets, lengths and bodies of scalars are never at fault for a limit.
+use Rattle.std.proofs.Common.{◌≡◌, ℕ, zero, suc, ◌^◌, inl, inr, Bool, true, false, ◌&&◌, ◌==◌, if◌then◌else◌, nat_le, nat_lt, nat_eq, ℤ, List, [], ◌∷◌, Option, Some, None, Result, Ok, Err, refl, sym, ap, ◌∙◌}
+use Rattle.std.specs.Str.{is_utf8}
+use Rattle.ion_meter.specs.declared.fault.Reason.{Reason}
+use Rattle.ion_meter.specs.declared.fault.Reason.TheVariants as reason
+use Rattle.ion_value.specs.declared.timestamp.Timestamp.{Timestamp}
+use Rattle.ion_value.specs.Number.{uint, var_cut, int_negative, int_magnitude, var_int_negative, var_int_magnitude, signed}
+use Rattle.ion_value.specs.Digits.{is_between}
+use Rattle.ion_value.specs.Int.{int_of_bytes}
+use Rattle.ion_value.specs.Decimal.{is_exponent, decimal_in_range, decimal_of_cut, decimal_of_bytes}
+use Rattle.ion_value.specs.Timestamp.{is_fraction, exponent_in, utc_fields, is_date, in_years, local_of, moved, offset_minutes, in_local_time, timestamp_in_utc, timestamp_of_fields, timestamp_of_cut, timestamp_of_bytes, fields_cut}
+use Rattle.ion_value.specs.Scalar.{with_value, scalar_of_body}
+use Rattle.ion_meter.specs.Sources.{Cursor}
+use Rattle.ion_value.specs.Parts.{◌>>=◌, ◌>>◌, refuse, part}
+use Rattle.ion_binary.specs.Descriptor.{Region, is_at_end, first_octet, octet_at, var_at, var_uint_at, length_at}
+use Rattle.ion_binary.specs.Laws.{IsLimit}
+
+-- ---- the faults of a result
+
+abbrev Blamed : {A E : Type 0} → (E → Type 0) → Result A E → Type 0
+Blamed L (Ok x) = Unit {0}
+Blamed L (Err e) = L e
+
+-- each fault that the result has is of a kind
+pub record Blames {A E : Type 0} (L : E → Type 0) (r : Result A E) : Type 0 where
+  pub so : Blamed L r
+
+pub blames_ok : {A E : Type 0} (L : E → Type 0) (x : A) → Blames L (Ok x)
+blames_ok L x = record { so = tt }
+
+pub bind_blames : {A B E : Type 0} (L : E → Type 0) (r : Result A E) (f : A → Result B E) → Blames L r → ((x : A) → r ≡ Ok x → Blames L (f x)) → Blames L (r >>= f)
+bind_blames L (Ok x) f c h = h x refl
+bind_blames L (Err e) f c h = record { so = c.so }
+
+pub then_blames : {A B E : Type 0} (L : E → Type 0) (r : Result A E) (s : Result B E) → Blames L r → Blames L s → Blames L (r >> s)
+then_blames L (Ok x) s c d = d
+then_blames L (Err e) s c d = record { so = c.so }
+
+pub refuse_blames : (L : Reason → Type 0) (b : Bool) (why : Reason) → (b ≡ true → L why) → Blames L (refuse b why)
+refuse_blames L true why h = record { so = h refl }
+refuse_blames L false why h = record { so = tt }
+
+pub blames_more : {A E : Type 0} (L M : E → Type 0) (r : Result A E) → Blames L r → ((e : E) → L e → M e) → Blames M r
+blames_more L M (Ok x) c h = record { so = tt }
+blames_more L M (Err e) c h = record { so = h e c.so }
+
+pub part_blames : {A : Type 0} (L : Reason × ℕ → Type 0) (place : ℕ) (r : Result A Reason) → Blames (λ e. L (e, place)) r → Blames L (part place r)
+part_blames L place (Ok x) c = record { so = tt }
+part_blames L place (Err e) c = record { so = c.so }
+
+pub if_blames : {A E : Type 0} (L : E → Type 0) (b : Bool) (r s : Result A E) → Blames L r → Blames L s → Blames L (if b then r else s)
+if_blames L true r s c d = c
+if_blames L false r s c d = d
+
+-- ---- no limit's fault
+
+abbrev is_limit : Reason → Bool
+is_limit reason.DepthLimit = true
+is_limit reason.ScalarLimit = true
+is_limit reason.AnnotationLimit = true
+is_limit _ = false
+
+abbrev pub Free : Reason → Type 0
+Free why = IsLimit why → ⊥
+
+pub free : (why : Reason) → is_limit why ≡ false → Free why
+free why e (inl is) = let k : true ≡ false = sym (ap is_limit is) ∙ e in cc k
+free why e (inr (inl is)) = let k : true ≡ false = sym (ap is_limit is) ∙ e in cc k
+free why e (inr (inr is)) = let k : true ≡ false = sym (ap is_limit is) ∙ e in cc k
+
+fault_free : {A : Type 0} (why : Reason) → is_limit why ≡ false → Blames {A = A} Free (Err why)
+fault_free why e = record { so = free why e }
+
+pub refuse_free : (b : Bool) (why : Reason) → is_limit why ≡ false → Blames Free (refuse b why)
+refuse_free b why e = refuse_blames Free b why (λ _. free why e)
+
+-- ---- octets and lengths
+
+first_octet-free : (place : ℕ) (rest : List ℕ) → Blames Free (first_octet place rest)
+first_octet-free place [] = fault_free reason.Truncated refl
+first_octet-free place (b ∷ bytes) = record { so = tt }
+
+pub octet_at-free : (r : Region) (c : Cursor) → Blames Free (octet_at r c)
+unfolding octet_at
+octet_at-free r c = if_blames Free (is_at_end r c.place) (Err reason.Overrun) (first_octet c.place c.rest) (fault_free reason.Overrun refl) (first_octet-free c.place c.rest)
+
+var_at-free : (most : ℕ) (r : Region) (c : Cursor) → Blames Free (var_at most r c)
+unfolding var_at
+var_at-free zero r c = fault_free reason.BadVar refl
+var_at-free (suc most) r c =
+    bind_blames Free (octet_at r c) _ (octet_at-free r c) (λ b _. if_blames Free (nat_lt b.0 128) _ _
+    (bind_blames Free (var_at most r b.1) _ (var_at-free most r b.1) (λ v _. record { so = tt })) (record { so = tt }))
+
+pub var_uint_at-free : (r : Region) (c : Cursor) → Blames Free (var_uint_at r c)
+unfolding var_uint_at
+var_uint_at-free r c = bind_blames Free (var_at 9 r c) _ (var_at-free 9 r c) (λ v _. record { so = tt })
+
+pub length_at-free : (length_code : ℕ) (r : Region) (c : Cursor) → Blames Free (length_at length_code r c)
+unfolding length_at
+length_at-free length_code r c = if_blames Free (nat_eq length_code 14) (var_uint_at r c) (Ok (length_code, c)) (var_uint_at-free r c) (record { so = tt })
+
+-- ---- bodies
+
+value-free : {A B : Type 0} (f : A → B) (r : Result A Reason) → Blames Free r → Blames Free (with_value f r)
+value-free f (Ok x) c = record { so = tt }
+value-free f (Err why) c = record { so = c.so }
+
+int-free : (negative : Bool) (body : List ℕ) → Blames Free (int_of_bytes negative body)
+int-free negative body =
+    if_blames Free (nat_le (2 ^ 128) (uint body)) _ _ (fault_free reason.Range refl)
+    (if_blames Free (negative && (uint body == 0)) _ _ (fault_free reason.BadNumber refl) (record { so = tt }))
+
+either-free : {A : Type 0} (b : Bool) (x : A) (why : Reason) → is_limit why ≡ false → Blames {A = A} Free (if b then Ok x else Err why)
+either-free true x why e = record { so = tt }
+either-free false x why e = record { so = free why e }
+
+in_range-free : (negative : Bool) (n : ℕ) (e : ℤ) → Blames Free (decimal_in_range negative n e)
+in_range-free negative n e = either-free (nat_lt n (2 ^ 128) && is_exponent e) (record { negative = negative; coefficient = n; exponent = e }) reason.Range refl
+
+decimal_cut-free : (o : Option (List ℕ × List ℕ)) → Blames Free (decimal_of_cut o)
+decimal_cut-free None = fault_free reason.BadVar refl
+decimal_cut-free (Some cut) =
+    in_range-free (int_negative cut.1) (int_magnitude cut.1) (signed (var_int_negative cut.0) (var_int_magnitude cut.0))
+
+decimal-free : (body : List ℕ) → Blames Free (decimal_of_bytes body)
+unfolding decimal_of_bytes
+decimal-free [] = record { so = tt }
+decimal-free (b ∷ body) = decimal_cut-free (var_cut 9 (b ∷ body))
+
+years-free : (t : Timestamp) → Blames Free (in_years t)
+years-free t = either-free (is_between 1 9999 t.year) t reason.BadTimestamp refl
+
+local-free : (t : Timestamp) → Blames Free (local_of t)
+unfolding local_of
+local-free t = years-free (moved (offset_minutes t) t)
+
+in_local-free : (o : List ℕ) (utc : Timestamp) → Blames Free (in_local_time o utc)
+in_local-free o utc =
+    if_blames Free (is_date utc.precision) _ _ (record { so = tt }) (if_blames Free _ _ _ (local-free _) (fault_free reason.BadTimestamp refl))
+
+in_utc-free : (o : List ℕ) (fits : Bool) (t : Option Timestamp) → Blames Free (timestamp_in_utc o fits t)
+in_utc-free o fits None = fault_free reason.BadTimestamp refl
+in_utc-free o fits (Some utc) = if_blames Free _ _ _ (in_local-free o utc) (fault_free reason.BadTimestamp refl)
+
+timestamp_fields-free : (fields : List (List ℕ)) (c : List ℕ) → Blames Free (timestamp_of_fields fields c)
+timestamp_fields-free [] c = fault_free reason.BadTimestamp refl
+timestamp_fields-free (o ∷ others) c = in_utc-free o (is_fraction (exponent_in (o ∷ others)) c) (utc_fields others (int_magnitude c))
+
+timestamp_cut-free : (o : Option (List (List ℕ) × List ℕ)) → Blames Free (timestamp_of_cut o)
+timestamp_cut-free None = fault_free reason.BadVar refl
+timestamp_cut-free (Some cut) = if_blames Free _ _ _ (fault_free reason.Range refl) (timestamp_fields-free cut.0 cut.1)
+
+timestamp-free : (body : List ℕ) → Blames Free (timestamp_of_bytes body)
+unfolding timestamp_of_bytes
+timestamp-free body = timestamp_cut-free (fields_cut 8 body)
+
+pub scalar_of_body-free : (t : ℕ) (body : List ℕ) → Blames Free (scalar_of_body t body)
+unfolding scalar_of_body
+scalar_of_body-free t body =
+    if_blames Free (nat_eq t 2) _ _ (value-free _ _ (int-free false body))
+    (if_blames Free (nat_eq t 3) _ _ (value-free _ _ (int-free true body))
+    (if_blames Free (nat_eq t 5) _ _ (value-free _ _ (decimal-free body))
+    (if_blames Free (nat_eq t 6) _ _ (value-free _ _ (timestamp-free body))
+    (if_blames Free (nat_eq t 7) _ _ (record { so = tt })
+    (if_blames Free (nat_eq t 8) _ _ (if_blames Free (is_utf8 body) _ _ (record { so = tt }) (fault_free reason.BadText refl))
+    (if_blames Free (nat_eq t 9) _ _ (record { so = tt })
+    (if_blames Free (nat_eq t 10) _ _ (record { so = tt }) (fault_free reason.BadDescriptor refl))))))))

@@ -1,0 +1,43 @@
+-- Where a reading stops, and not at a limit, the bytes are no stream.
+use Rattle.std.proofs.Common.{◌≡◌, ℕ, ◌+◌, ◌*◌, inl, inr, List, [], ◌∷◌, ◌++◌, length, refl, sym, ap, ◌∙◌, arith}
+use Rattle.ion_meter.specs.declared.fault.Reason.{Reason}
+use Rattle.ion_meter.specs.declared.limits.Limits.{Limits}
+use Rattle.ion_value.specs.Value.{PlacedItem, top_items}
+use Rattle.ion_value.specs.Reading.{Reading, Finished, Stopped, items_of, behind}
+use Rattle.ion_binary.specs.Laws.{Bodies, ending_of, IsLimit, IsCut, here, later, RightlyRefused, NoStreamBegins}
+use Rattle.ion_binary.specs.Reading.{reading}
+use Rattle.ion_binary.proofs.Narrow.{narrow}
+use Rattle.ion_binary.proofs.Stable.{stable}
+use Rattle.ion_binary.proofs.Complete.{Shrinking, streams}
+
+pub ending_of-behind : (items : List PlacedItem) (r : Reading) → ending_of (behind items r) ≡ ending_of r
+ending_of-behind [] r = refl
+ending_of-behind (item ∷ items) r = ending_of-behind items r
+
+-- a reading that is cut short stops at a limit
+cut-limit : (r s : Reading) → IsCut r s → (reason : Reason) (place : ℕ) → ending_of r ≡ Stopped reason place → IsLimit reason
+cut-limit _ _ (here why q s is) reason place e = let same : why ≡ reason = cc e in rw (← same) is
+cut-limit _ _ (later item r s cut) reason place e = cut-limit r s cut reason place e
+
+pub rightly_refused : Bodies → Shrinking → RightlyRefused
+rightly_refused bodies shrinks limits bytes reason place ts stops no_limit stream =
+    let wide : Limits = record { depth = limits.depth + length bytes; scalar = limits.scalar + 16 * length bytes; symbols = 0; value = 0; input = 0 } in
+    let read = streams bodies shrinks wide bytes ts (omega arith, omega arith) stream.spells in
+    elim (narrow limits wide bytes (record { depth = omega arith; scalar = omega arith })) [
+      | inl same ↦
+          let ends : Stopped reason place ≡ Finished = sym stops ∙ ap ending_of (same ∙ read) ∙ ending_of-behind (top_items ts) Finished in
+          absurd (cc ends)
+      | inr cut ↦ no_limit (cut-limit _ _ cut reason place stops)
+    ]
+
+-- a reading is its items, and then how it ends
+ended : (r : Reading) (reason : Reason) (place : ℕ) → ending_of r ≡ Stopped reason place → r ≡ behind (items_of r) (Stopped reason place)
+ended Finished reason place e = absurd (cc e)
+ended (Stopped why q) reason place e = e
+ended (Reading.More item r) reason place e = ap (λ (s : Reading). Reading.More item s) (ended r reason place e)
+
+pub no_stream_begins : Bodies → Shrinking → NoStreamBegins
+no_stream_begins bodies shrinks limits bytes more reason place ts stops no_limit other stream =
+    let items : List PlacedItem = items_of (reading limits bytes) in
+    let longer = stable shrinks limits bytes more items reason place (ended (reading limits bytes) reason place stops) other in
+    rightly_refused bodies shrinks limits (bytes ++ more) reason place ts (ap ending_of longer ∙ ending_of-behind items (Stopped reason place)) no_limit stream

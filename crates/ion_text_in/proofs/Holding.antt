@@ -1,0 +1,158 @@
+-- Calls that read into a text one after the other: what they hold, and the causes of their faults.
+use Rattle.std.proofs.Common.{◌≡◌, ℕ, ◌+◌, ◌≤◌, List, [], length, Option, Some, None, Result, Ok, Err, refl, ap, ◌∙◌, arith}
+use Rattle.ion_meter.specs.Counts.{Counts, Shrinks}
+use Rattle.ion_meter.specs.declared.device.Input.{Ghosts as InputOf}
+use Rattle.ion_meter.specs.declared.fault.Fault.{Fault}
+use Rattle.ion_meter.specs.declared.limits.Limits.{Limits}
+use Rattle.ion_meter.specs.Windows.{Incoming}
+use Rattle.ion_meter.specs.Sources.{Exceeds, Stands, Moves, Causes}
+use Rattle.ion_value.specs.Calls.{CanRead, Reads, ReadsInto}
+use Rattle.ion_value.specs.Shares.{Charges, ReadCauses, fault_of}
+use Rattle.ion_value.proofs.Cursors.{moves-then}
+use Rattle.ion_text_in.specs.Gathered.{CanGrow, CanGather, Grown}
+
+-- what calls did so far, or all of them with the last one's fault
+pub record Held {I : Type 0} (device : InputOf I) (old new : Incoming I) (earlier later : Counts) (before after most : ℕ) (fault : Option Fault) : Type 0 where
+  pub stands : fault ≡ None → Stands new
+  pub moves : Moves device old new
+  pub causes : ReadCauses fault earlier later (device.failure_count old.device) (device.failure_count new.device) (Exceeds device old)
+  pub charges : Charges earlier later before after most
+
+stays : {I : Type 0} (device : InputOf I) (s : Incoming I) → Moves device s s
+stays device s = record { still_observable = (λ h. h, λ h. h); limit = refl; further = omega arith; total = λ h. refl }
+
+pub charges-none : (m : Counts) (n most : ℕ) → n ≤ most → n ≤ m.held → Charges m m n n most
+charges-none m n most le there = record { held = refl; share = le; peak = omega (arith, le, there); rises = omega arith }
+
+-- nothing yet
+pub held-none : {I : Type 0} (device : InputOf I) (s : Incoming I) (m : Counts) (n most : ℕ) → Stands s → n ≤ most → n ≤ m.held → Held device s s m m n n most None
+held-none device s m n most stands le there = record {
+  stands = λ _. stands;
+  moves = stays device s;
+  causes = record { memory = λ e. absurd (cc e); counted = λ _. refl; device = λ e. absurd (cc e); steady = λ _. refl; limit = λ e. absurd (cc e); no_writes = λ e. cc e };
+  charges = charges-none m n most le there;
+}
+
+charges-then : (a b c : Counts) (k l n most : ℕ) → k ≤ a.held → Charges a b k l most → Charges b c l n most → Charges a c k n most
+charges-then a b c k l n most there x y =
+    let hx = x.held in let hy = y.held in let px = x.peak in let py = y.peak in let rx = x.rises in let ry = y.rises in
+    record {
+      held = omega (arith, hx, hy);
+      share = y.share;
+      peak = omega (arith, hx, px, py, there);
+      rises = omega (arith, rx, ry);
+    }
+
+exceeds-then : {I : Type 0} (device : InputOf I) (s t : Incoming I) → Moves device s t → Exceeds device t → Exceeds device s
+exceeds-then device s t moves exceeds = λ h.
+    let over = exceeds (moves.still_observable.1 h) in
+    let total = moves.total h in
+    let limit = moves.limit in
+    omega (arith, over, total, limit)
+
+no-fault : {fault : Fault} → Some fault ≡ None → ⊥
+no-fault e = cc e
+
+pub held-then : {I : Type 0} (device : InputOf I) (s t u : Incoming I) (a b c : Counts) (k l n most : ℕ) (fault : Option Fault) → k ≤ a.held
+    → Held device s t a b k l most None → Held device t u b c l n most fault → Held device s u a c k n most fault
+held-then device s t u a b c k l n most fault there x y =
+    let still = x.causes.counted (λ e. cc e) in
+    let steady = x.causes.steady (λ e. cc e) in
+    record {
+      stands = y.stands;
+      moves = moves-then device s t u x.moves y.moves;
+      causes = record {
+        memory = λ e. let less = y.causes.memory e in omega (arith, less, still);
+        counted = λ e. y.causes.counted e ∙ still;
+        device = λ e. y.causes.device e ∙ ap (λ (n : ℕ). n + 1) steady;
+        steady = λ e. y.causes.steady e ∙ steady;
+        limit = λ e. exceeds-then device s t x.moves (y.causes.limit e);
+        no_writes = y.causes.no_writes;
+      };
+      charges = charges-then a b c k l n most there x.charges y.charges;
+    }
+
+-- ---- of one call
+
+pub into-held : {I T : Type 0} (device : InputOf I) (s t : Incoming I) (a b : Counts) (k l most : ℕ) (r : Result T Fault) → ReadsInto device s t a b k l most r → Held device s t a b k l most (fault_of r)
+into-held device s t a b k l most (Ok x) h = record { stands = λ _. h.stands; moves = h.moves; causes = h.causes; charges = h.charges }
+into-held device s t a b k l most (Err f) h = record { stands = λ e. absurd (cc e); moves = h.moves; causes = h.causes; charges = h.charges }
+
+pub held-into : {I T : Type 0} (device : InputOf I) (s t : Incoming I) (a b : Counts) (k l most : ℕ) (r : Result T Fault) → Held device s t a b k l most (fault_of r) → ReadsInto device s t a b k l most r
+held-into device s t a b k l most (Ok x) h = record { stands = h.stands refl; moves = h.moves; causes = h.causes; charges = h.charges }
+held-into device s t a b k l most (Err f) h = record { stands = tt; moves = h.moves; causes = h.causes; charges = h.charges }
+
+causes-held : (fault : Option Fault) (m : Counts) (n k : ℕ) (exceeds : Type 0) → Causes fault n k exceeds → ReadCauses fault m m n k exceeds
+causes-held fault m n k exceeds c = record { memory = λ e. absurd (c.no_memory e); counted = λ _. refl; device = c.device; steady = c.steady; limit = c.limit; no_writes = c.no_writes }
+
+-- one that takes no memory
+pub reads-held : {I T : Type 0} (device : InputOf I) (s t : Incoming I) (m : Counts) (n most : ℕ) (r : Result T Fault) → n ≤ most → n ≤ m.held → Reads device s t r → Held device s t m m n n most (fault_of r)
+reads-held device s t m n most (Ok x) le there h = record {
+  stands = λ _. h.stands;
+  moves = h.moves;
+  causes = causes-held None m _ _ _ h.causes;
+  charges = charges-none m n most le there;
+}
+reads-held device s t m n most (Err f) le there h = record {
+  stands = λ e. absurd (cc e);
+  moves = h.moves;
+  causes = causes-held (Some f) m _ _ _ h.causes;
+  charges = charges-none m n most le there;
+}
+
+-- one that reads nothing
+pub grown-held : {I : Type 0} (device : InputOf I) (s : Incoming I) (a b : Counts) (k l most : ℕ) (fault : Option Fault) → Stands s → Grown a b k l most fault → Held device s s a b k l most fault
+grown-held device s a b k l most fault stands g = record {
+  stands = λ _. stands;
+  moves = stays device s;
+  causes = record {
+    memory = g.memory;
+    counted = g.counted;
+    device = λ e. absurd (g.no_reads e);
+    steady = λ _. refl;
+    limit = λ e. absurd (g.no_limit e);
+    no_writes = g.no_writes;
+  };
+  charges = g.charges;
+}
+
+-- ---- what the next call may do
+
+pub can-grow : (limits : Limits) (text new : List ℕ) (a b : Counts) → CanGrow limits text a → Charges a b (length text) (length new) limits.scalar → b.refused ≡ a.refused → CanGrow limits new b
+can-grow limits text new a b can charges still =
+    let holds = can.holds in let room = can.room in let held = charges.held in let countable = can.countable in
+    record {
+      holds = omega (arith, holds, held);
+      room = omega (arith, holds, room, held);
+      countable = omega (arith, countable, still);
+      checked = can.checked;
+      share = charges.share;
+    }
+
+pub held-can : {I : Type 0} (device : InputOf I) (limits : Limits) (s t : Incoming I) (text new : List ℕ) (a b : Counts) → CanGather limits s text a
+    → Held device s t a b (length text) (length new) limits.scalar None → CanGather limits t new b
+held-can device limits s t text new a b can held =
+    record { stands = held.stands refl; grows = can-grow limits text new a b can.grows held.charges (held.causes.counted (λ e. cc e)) }
+
+pub read-can : {I : Type 0} (limits : Limits) (s : Incoming I) (text : List ℕ) (m : Counts) → CanRead limits limits.scalar s text m → CanGather limits s text m
+read-can limits s text m can =
+    let room = can.room in
+    record {
+      stands = can.stands;
+      grows = record { holds = can.holds; room = omega (arith, room); countable = can.countable; checked = can.checked; share = can.share };
+    }
+
+-- a text that is cleared
+pub cleared-held : {I : Type 0} (device : InputOf I) (limits : Limits) (s : Incoming I) (text new : List ℕ) (a b : Counts) → CanGather limits s text a → new ≡ [] → Shrinks a b (length text)
+    → Held device s s a b (length text) (length new) limits.scalar None
+cleared-held device limits s text new a b can none shrinks =
+    let held = shrinks.held in let peak = shrinks.peak in let zero_long : length new ≡ 0 = ap (λ (l : List ℕ). length l) none in
+    grown-held device s a b (length text) (length new) limits.scalar None can.stands
+    (record {
+      charges = record { held = omega (arith, held, zero_long); share = omega (arith, zero_long); peak = omega (arith, peak); rises = omega (arith, peak) };
+      memory = λ e. absurd (cc e);
+      counted = λ _. shrinks.refused;
+      no_reads = λ e. cc e;
+      no_writes = λ e. cc e;
+      no_limit = λ e. cc e;
+    })

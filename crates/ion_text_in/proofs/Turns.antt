@@ -1,0 +1,160 @@
+-- Turns of a loop that passes over bytes in the window of a source, more of the device having been read.
+use Rattle.std.proofs.Common.{◌≡◌, ℕ, ◌+◌, ◌-◌, ◌<◌, ◌≤◌, ◌↔◌, ◌⊎◌, List, [], ◌∷◌, ◌++◌, length, take, drop, slice_get, Option, None, Some, Result, Ok, Err, IfErr, OnOk, arith, refl, sym, ap, subst, ◌∙◌}
+use Rattle.std.proofs.lemmas.List.{append_assoc, take-append-drop, length-take-le, drop-append-le, length-append, append-nil}
+use Rattle.ion_meter.specs.declared.device.Input.{Ghosts as InputOf}
+use Rattle.ion_meter.specs.declared.fault.Fault.{Fault}
+use Rattle.ion_meter.specs.declared.fault.Fault.TheVariants.{Memory, ReadFault, WriteFault, InputLimit}
+use Rattle.ion_meter.specs.Windows.{Incoming, left, lent, Extends, IsGiven, IsPassed}
+use Rattle.ion_meter.specs.Sources.{Cursor, cursor, Stands, Moves, Exceeds, Causes}
+use Rattle.ion_meter.proofs.Lent.{lent-CanPass, lent-take, lent-IsGiven, IsPassed-left}
+use Rattle.ion_value.specs.Calls.{Reads}
+use Rattle.ion_value.specs.Shares.{fault_of}
+use Rattle.ion_value.proofs.Cursors.{moves-then}
+use Rattle.ion_value.proofs.Passing.{Passed, Passed-lent}
+use Rattle.ion_text_in.specs.Meaning.{at}
+use Rattle.ion_text_in.proofs.Shown.{behind_lent, lent_by-all, lent-left}
+use Rattle.ion_text_in.proofs.Runs.{first-shown}
+
+-- a source that went on and has not failed
+pub record Gone {I : Type 0} (device : InputOf I) (old new : Incoming I) : Type 0 where
+  pub stands : Stands new
+  pub moves : Moves device old new
+  pub steady : device.failure_count new.device ≡ device.failure_count old.device
+
+pub gone-not : {I : Type 0} (device : InputOf I) (s : Incoming I) → Stands s → Gone device s s
+gone-not device s stands = record {
+  stands = stands;
+  moves = record { still_observable = (λ h. h, λ h. h); limit = refl; further = omega arith; total = λ h. refl };
+  steady = refl;
+}
+
+pub gone-then : {I : Type 0} (device : InputOf I) (s t u : Incoming I) → Gone device s t → Gone device t u → Gone device s u
+gone-then device s t u a b = record { stands = b.stands; moves = moves-then device s t u a.moves b.moves; steady = b.steady ∙ a.steady }
+
+-- a call that gave something
+pub reads-gone : {I T : Type 0} (device : InputOf I) (s t : Incoming I) (x : T) → Reads device s t (Ok x) → Gone device s t
+reads-gone device s t x reads = record { stands = reads.stands; moves = reads.moves; steady = reads.causes.steady (λ e. cc e) }
+
+pub gone-reads : {I T : Type 0} (device : InputOf I) (s t : Incoming I) (x : T) → Gone device s t → Reads device s t (Ok x)
+gone-reads device s t x gone = record {
+  stands = gone.stands;
+  moves = gone.moves;
+  causes = record { device = λ e. absurd (cc e); steady = λ _. gone.steady; limit = λ e. absurd (cc e); no_memory = λ e. cc e; no_writes = λ e. cc e };
+}
+
+-- the input is as long as it was
+pub exceeds-before : {I : Type 0} (device : InputOf I) (s t : Incoming I) → Moves device s t → Exceeds device t → Exceeds device s
+exceeds-before device s t moves exceeds = λ h. omega (arith, exceeds (moves.still_observable.1 h), moves.limit, moves.total h)
+
+-- a call that failed, behind others
+pub gone-failed : {I T U : Type 0} (device : InputOf I) (s t u : Incoming I) (fault : Fault) → Gone device s t → Reads {T = T} device t u (Err fault) → Reads {T = U} device s u (Err fault)
+gone-failed device s t u fault gone reads = record {
+  stands = tt;
+  moves = moves-then device s t u gone.moves reads.moves;
+  causes = record {
+    device = λ e. reads.causes.device e ∙ ap (λ n. n + 1) gone.steady;
+    steady = λ no. reads.causes.steady no ∙ gone.steady;
+    limit = λ e. exceeds-before device s t gone.moves (reads.causes.limit e);
+    no_memory = reads.causes.no_memory;
+    no_writes = reads.causes.no_writes;
+  };
+}
+
+-- bytes were passed over
+pub record Turn {I : Type 0} (device : InputOf I) (old new : Incoming I) (run : List ℕ) : Type 0 where
+  pub gone : Gone device old new
+  pub place : new.place ≡ old.place + length run
+  pub bytes : device.observable old.device → left device.rest old ≡ run ++ left device.rest new
+
+pub turn : {I : Type 0} (device : InputOf I) (s p t : Incoming I) (bytes : List ℕ) (n : ℕ) → Stands s → Extends device.rest device.observable s p → p.fault ≡ None
+    → device.failure_count p.device ≡ device.failure_count s.device + 0 → bytes ≡ lent p → n ≤ length bytes → IsPassed p t n → Turn device s t (take n bytes)
+turn device s p t bytes n stands kept well steady is fits passed =
+    let there : n ≤ length (lent p) = subst (λ (l : List ℕ). n ≤ length l) is fits in
+    let over = Passed-lent device s p t n stands kept well there passed in
+    let long = length-take-le n bytes fits in
+    record {
+      gone = record { stands = over.stands; moves = over.moves; steady = let same : device.failure_count p.device ≡ device.failure_count s.device = omega (arith, steady) in ap device.failure_count passed.device ∙ same };
+      place = over.place ∙ ap (λ (k : ℕ). s.place + k) (sym long);
+      bytes = λ h.
+          let same = kept.same_left h in
+          sym (take-append-drop n (left device.rest s))
+          ∙ ap (λ (l : List ℕ). take n l ++ drop n (left device.rest s)) (sym same)
+          ∙ ap (λ (l : List ℕ). l ++ drop n (left device.rest s)) (lent-take device.rest p n there ∙ ap (λ (l : List ℕ). take n l) (sym is))
+          ∙ ap (λ (l : List ℕ). take n bytes ++ l) (sym (over.behind h));
+    }
+
+-- what is read from before the bytes is what is read from behind them
+pub turn-then : {I A : Type 0} (device : InputOf I) (s t : Incoming I) (run : List ℕ) (before after : Cursor → A) → Turn device s t run → device.observable s.device
+    → before (at s.place (run ++ left device.rest t)) ≡ after (at (s.place + length run) (left device.rest t)) → before (cursor device s) ≡ after (cursor device t)
+turn-then device s t run before after passed h same =
+    ap (λ (l : List ℕ). before (at s.place l)) (passed.bytes h) ∙ same ∙ ap (λ (n : ℕ). after (at n (left device.rest t))) (sym passed.place)
+
+-- where the source stands behind bytes of which the last was given
+pub passed-cursor : {I : Type 0} (device : InputOf I) (s p t : Incoming I) (ahead : ℕ) → Stands s → Extends device.rest device.observable s p → p.fault ≡ None → IsGiven p ahead
+    → IsPassed p t (ahead + 1) → device.observable s.device → cursor device t ≡ at (s.place + (ahead + 1)) (drop (ahead + 1) (left device.rest s))
+passed-cursor device s p t ahead stands kept well given passed h =
+    let there = lent-IsGiven p ahead well given in
+    let over = Passed-lent device s p t (ahead + 1) stands kept well (omega (arith, there)) passed in
+    ap (λ (n : ℕ). at n (left device.rest t)) over.place ∙ ap (λ (l : List ℕ). at (s.place + (ahead + 1)) l) (over.behind h)
+
+-- more was read, and more again
+pub extends-then : {I : Type 0} (device : InputOf I) (s p q : Incoming I) → Extends device.rest device.observable s p → Extends device.rest device.observable p q
+    → Extends device.rest device.observable s q
+extends-then device s p q a b = record {
+  prefix = (a.prefix.0 ++ b.prefix.0, b.prefix.1 ∙ ap (λ (l : List ℕ). l ++ b.prefix.0) a.prefix.1 ∙ append_assoc s.buffered a.prefix.0 b.prefix.0);
+  place = b.place ∙ a.place;
+  limit = b.limit ∙ a.limit;
+  still_observable = (λ h. a.still_observable.0 (b.still_observable.0 h), λ h. b.still_observable.1 (a.still_observable.1 h));
+  same_left = λ h. b.same_left (a.still_observable.1 h) ∙ a.same_left h;
+}
+
+-- what stands behind bytes of the window
+pub turn-behind : {I : Type 0} (device : InputOf I) (p t : Incoming I) (bytes : List ℕ) (n : ℕ) → bytes ≡ lent p → n ≤ length bytes → IsPassed p t n
+    → (more : List ℕ) × (left device.rest t ≡ drop n bytes ++ more)
+turn-behind device p t bytes n is fits passed =
+    let there : n ≤ length (lent p) = subst (λ (l : List ℕ). n ≤ length l) is fits in
+    let more : List ℕ = behind_lent p.fault (p.limit - p.place) p.buffered ++ device.rest p.device in (
+      more,
+      IsPassed-left device.rest p t n (lent-CanPass p n there).0 passed
+          ∙ ap (λ (l : List ℕ). drop n l) (lent-left device.rest p)
+          ∙ drop-append-le n (lent p) more there
+          ∙ ap (λ (l : List ℕ). drop n l ++ more) (sym is),
+    )
+
+-- and the first of them, in the window
+pub turn-first : {I : Type 0} (p t : Incoming I) (bytes : List ℕ) (n b : ℕ) → bytes ≡ lent p → n ≤ length bytes → IsPassed p t n → slice_get (drop n bytes) 0 ≡ Some b
+    → slice_get t.buffered 0 ≡ Some b
+turn-first p t bytes n b is fits passed first =
+    let more : List ℕ = behind_lent p.fault (p.limit - p.place) p.buffered in
+    let there : n ≤ length (lent p) = subst (λ (l : List ℕ). n ≤ length l) is fits in
+    let same : t.buffered ≡ drop n bytes ++ more =
+    passed.buffered
+    ∙ ap (λ (l : List ℕ). drop n l) (lent_by-all p.fault (p.limit - p.place) p.buffered)
+    ∙ drop-append-le n (lent p) more there
+    ∙ ap (λ (l : List ℕ). drop n l ++ more) (sym is) in
+    ap (λ (l : List ℕ). slice_get l 0) same ∙ first-shown (drop n bytes) more b first
+
+-- what was given is given still
+pub given-kept : {I : Type 0} (device : InputOf I) (s p : Incoming I) (ahead : ℕ) → Extends device.rest device.observable s p → IsGiven s ahead → IsGiven p ahead
+given-kept device s p ahead kept given =
+    let long = ap (λ (l : List ℕ). length l) kept.prefix.1 ∙ length-append s.buffered kept.prefix.0 in
+    (omega (arith, given.0, long), omega (arith, given.1, kept.place, kept.limit))
+
+-- nothing more was read
+pub extends-not : {I : Type 0} (device : InputOf I) (s : Incoming I) → Extends device.rest device.observable s s
+extends-not device s = record {
+  prefix = ([], sym (append-nil s.buffered));
+  place = refl;
+  limit = refl;
+  still_observable = (λ h. h, λ h. h);
+  same_left = λ h. refl;
+}
+
+-- a source behind bytes of which the last was given
+pub gone-passed : {I : Type 0} (device : InputOf I) (s p t : Incoming I) (ahead : ℕ) → Stands s → Extends device.rest device.observable s p → p.fault ≡ None
+    → device.failure_count p.device ≡ device.failure_count s.device + 0 → IsGiven p ahead → IsPassed p t (ahead + 1) → Gone device s t × (t.place ≡ s.place + (ahead + 1))
+gone-passed device s p t ahead stands kept well steady given passed =
+    let there = lent-IsGiven p ahead well given in
+    let over = Passed-lent device s p t (ahead + 1) stands kept well (omega (arith, there)) passed in
+    let same : device.failure_count p.device ≡ device.failure_count s.device = omega (arith, steady) in
+    (record { stands = over.stands; moves = over.moves; steady = ap device.failure_count passed.device ∙ same }, over.place)

@@ -1,0 +1,86 @@
+use Rattle.std.proofs.Common.{◌≡◌, ℕ, true, length, subst, List, [], take, Ok, sym, ap, ◌∙◌, arith}
+use Rattle.ion_meter.specs.Windows.{left}
+use Rattle.ion_meter.specs.Sources.{Cursor, cursor}
+use Rattle.ion_value.specs.Digits.{all_are}
+use Rattle.ion_text_in.specs.Blanks.{blanks, in_block}
+use Rattle.ion_text_in.specs.Overrun.{is_neither}
+use Rattle.ion_text_in.proofs.BlankTurns.{block-cut, block-over-run, star-stands}
+use Rattle.ion_text_in.proofs.Runs.{no-byte}
+use Rattle.ion_text_in.proofs.Turns.{turn, turn-then, turn-first, gone-then, reads-gone}
+use Rattle.ion_text_in.proofs.blank.pass_block.Goals as goal
+
+pub returns-in-Ok-None-clause-open : goal.returns-in-Ok-None-clause-open
+returns-in-Ok-None-clause-open g c = λ h same start.
+    let inv = c.block.invariant in
+    let s = c.block.source in
+    let there = inv.gone.moves.still_observable.1 h in
+    let none = no-byte (left g.I.Input.rest s) (sym (c.in-Ok-None.ensures.gives there) ∙ c.in-Ok-None.field-0-is) in
+    inv.behind h start ∙ ap (λ (l : List ℕ). in_block start s.place l) none ∙ block-cut start s.place
+
+pub returns-in-Ok-None-clause-used_up : goal.returns-in-Ok-None-clause-used_up
+returns-in-Ok-None-clause-used_up g c = λ h same.
+    let s = c.block.source in
+    let there = c.block.invariant.gone.moves.still_observable.1 h in
+    c.in-Ok-None.ensures.kept.same_left there ∙ no-byte (left g.I.Input.rest s) (sym (c.in-Ok-None.ensures.gives there) ∙ c.in-Ok-None.field-0-is)
+
+pub pass_star-requires-clause-star : goal.pass_star-requires-clause-star
+pass_star-requires-clause-star g c =
+    let bytes : List ℕ = c.buffer-bytes.result.now in
+    let n = c.run_without-plain.result in
+    turn-first c.peek.new.self c.consume.new.self bytes n 42 c.buffer-bytes.ensures c.run_without-plain.ensures.within c.consume.ensures (star-stands bytes n (omega (arith, c.if-star.true)) c.run_without-plain.ensures.ends)
+
+pub returns-in-Ok-true-clause-closed : goal.returns-in-Ok-true-clause-closed
+returns-in-Ok-true-clause-closed g c = λ h same start.
+    let inv = c.block.invariant in
+    let s = c.block.source in
+    let t = c.consume.new.self in
+    let peek = c.in-Ok-Some.ensures in
+    let bytes : List ℕ = c.buffer-bytes.result.now in
+    let n = c.run_without-plain.result in
+    let there = inv.gone.moves.still_observable.1 h in
+    let passed = turn g.I.Input s c.peek.new.self t bytes n inv.gone.stands peek.kept peek.well.1 (rw inv.gone.stands.well at peek.count) c.buffer-bytes.ensures c.run_without-plain.ensures.within c.consume.ensures in
+    let over = block-over-run start s.place (take n bytes) (left g.I.Input.rest t) c.run_without-plain.ensures.run in
+    inv.behind h start
+    ∙ turn-then g.I.Input s t (take n bytes) (λ d. in_block start d.place d.rest) (λ d. in_block start d.place d.rest) passed there over
+    ∙ c.in-Ok-true.ensures.closed (passed.gone.moves.still_observable.1 there) (ap Ok c.in-Ok-true.field-0-test) start
+
+pub block-preserved-in-Ok-false : goal.block-preserved-in-Ok-false
+block-preserved-in-Ok-false g c =
+    let inv = c.block.invariant in
+    let s = c.block.source in
+    let t = c.consume.new.self in
+    let u = c.pass_star.new.source in
+    let peek = c.in-Ok-Some.ensures in
+    let bytes : List ℕ = c.buffer-bytes.result.now in
+    let n = c.run_without-plain.result in
+    let passed = turn g.I.Input s c.peek.new.self t bytes n inv.gone.stands peek.kept peek.well.1 (rw inv.gone.stands.well at peek.count) c.buffer-bytes.ensures c.run_without-plain.ensures.within c.consume.ensures in
+    record {
+      gone = gone-then g.I.Input c.args.source.now s u inv.gone
+          (gone-then g.I.Input s t u passed.gone (reads-gone g.I.Input t u c.in-Ok-false.field-0 c.in-Ok-false.ensures.reads));
+      behind = λ h start.
+          let there = inv.gone.moves.still_observable.1 h in
+          let over = block-over-run start s.place (take n bytes) (left g.I.Input.rest t) c.run_without-plain.ensures.run in
+          inv.behind h start
+          ∙ turn-then g.I.Input s t (take n bytes) (λ d. in_block start d.place d.rest) (λ d. in_block start d.place d.rest) passed there over
+          ∙ c.in-Ok-false.ensures.open (passed.gone.moves.still_observable.1 there) (ap Ok c.in-Ok-false.field-0-test) start;
+    }
+
+pub block-preserved : goal.block-preserved
+block-preserved g c =
+    let inv = c.block.invariant in
+    let s = c.block.source in
+    let t = c.consume-else-star.new.self in
+    let peek = c.in-Ok-Some.ensures in
+    let bytes : List ℕ = c.buffer-bytes.result.now in
+    let run = c.run_without-plain.ensures in
+    let n : ℕ = length bytes in
+    let whole : c.run_without-plain.result ≡ n = omega (arith, run.within, c.if-star.false) in
+    let all : all_are (is_neither 42 42) (take n bytes) ≡ true = subst (λ (k : ℕ). all_are (is_neither 42 42) (take k bytes) ≡ true) whole run.run in
+    let passed = turn g.I.Input s c.peek.new.self t bytes n inv.gone.stands peek.kept peek.well.1 (rw inv.gone.stands.well at peek.count) c.buffer-bytes.ensures (omega arith) c.consume-else-star.ensures in
+    record {
+      gone = gone-then g.I.Input c.args.source.now s t inv.gone passed.gone;
+      behind = λ h start.
+          let over = block-over-run start s.place (take n bytes) (left g.I.Input.rest t) all in
+          inv.behind h start
+          ∙ turn-then g.I.Input s t (take n bytes) (λ d. in_block start d.place d.rest) (λ d. in_block start d.place d.rest) passed (inv.gone.moves.still_observable.1 h) over;
+    }

@@ -1,0 +1,13 @@
+use Rattle.std.proofs.Common.{◌≡◌, ◌-◌, ◌≤◌, true, length, take}
+use Rattle.ion_value.specs.Digits.{all_are}
+use Rattle.ion_text_in.specs.Overrun.{is_neither}
+use Rattle.ion_text_in.proofs.blank.run_without.Given as goal
+
+abbrev pub invariant-skip : goal.invariant-skip
+invariant-skip l = record {
+  within : l.at ≤ length l.bytes;
+  run : all_are (is_neither l.first l.second) (take l.at l.bytes) ≡ true;
+}
+
+abbrev pub decreases-skip : goal.decreases-skip
+decreases-skip l = length l.bytes - l.at

@@ -1,0 +1,29 @@
+use Rattle.std.proofs.Common.{◌≡◌, ◌≤◌, ◌∙◌, ap, sym, ℕ, List, ◌++◌, length, take, Some, arith}
+use Rattle.ion_meter.specs.Windows.{left, lent}
+use Rattle.ion_meter.specs.Sources.{Cursor, cursor, skip}
+use Rattle.ion_meter.proofs.Lent.{lent-take, lent-IsGiven}
+use Rattle.ion_value.proofs.Cursors.{cursor-extends}
+use Rattle.ion_value.proofs.Passing.{lent-there, IsPassed-cursor}
+use Rattle.ion_text_in.specs.Runs.{with_run}
+use Rattle.ion_text_in.proofs.Gathered.{first-then, answers-same}
+use Rattle.ion_text_in.proofs.gather.gather_token.Goals as goal
+
+pub returns-clause-gives : goal.returns-clause-gives
+returns-clause-gives g c = λ h.
+    let s = c.args.source.now in
+    let p = c.peek.new.self in
+    let t = c.append.new.source in
+    let peek = c.in-Ok-Some.ensures in
+    let added = c.in_default.ensures in
+    let limit = Some c.args.limits.scalar in
+    let byte = rw c.in-Ok-Some.field-0-is at peek in
+    let one : 1 ≤ length (lent p) = omega (arith, lent-IsGiven p 0 peek.well.1 byte.byte.0) in
+    let here : cursor g.I.Input p ≡ cursor g.I.Input s = cursor-extends g.I.Input s p peek.kept h in
+    let there : cursor g.I.Input t ≡ skip 1 (cursor g.I.Input s) = IsPassed-cursor g.I.Input p t 1 one added.appends.passed ∙ ap (skip 1) here in
+    let text : c.append.new.text ≡ take 1 (left g.I.Input.rest s) =
+    added.appends.text ∙ (ap (λ (l : List ℕ). l ++ take 1 (lent p)) c.clear.ensures.bytes ∙ (sym (lent-take g.I.Input.rest p 1 one) ∙ ap (λ (l : List ℕ). take 1 l) (peek.kept.same_left h))) in
+    let some : 1 ≤ length (left g.I.Input.rest s) = rw (peek.kept.same_left h) at (lent-there g.I.Input.rest p 1 one) in
+    let same = ap (λ (l : List ℕ). with_run c.args.run limit l (cursor g.I.Input t)) text
+    ∙ (ap (λ (d : Cursor). with_run c.args.run limit (take 1 (left g.I.Input.rest s)) d) there ∙ first-then c.args.run limit (cursor g.I.Input s) some) in
+    answers-same (λ (x : Unit {0}). c.gather.new.text) c.gather.result (cursor g.I.Input c.gather.new.source) c.place-place.result s.place _ _
+    (c.gather.ensures.gives (added.reads.moves.still_observable.1 (peek.kept.still_observable.1 h))) c.place-place.ensures same

@@ -1,0 +1,5 @@
+use Rattle.ion_text_in.proofs.TokenBegins.{identifiers-end, operators-end}
+use Rattle.ion_text_in.proofs.laws.what_ends_a_symbol.Goals as goal
+
+pub returns : goal.returns
+returns c = record { identifiers = identifiers-end; operators = operators-end }

@@ -1,0 +1,35 @@
+use Rattle.std.proofs.Common.{◌≡◌, ℕ, ◌+◌, ◌-◌, ◌≤◌, ◌<◌, ◌++◌, true, false, All, List, Some, None, length, take, drop, refl, sym, ap, subst, ◌∙◌, arith}
+use Rattle.std.proofs.lemmas.Bool.{lt-ltb, le-ltb}
+use Rattle.std.proofs.lemmas.List.{length-take-le}
+use Rattle.ion_meter.specs.declared.fault.Reason.TheVariants.{BadLob, ScalarLimit}
+use Rattle.ion_meter.specs.Windows.{left, lent}
+use Rattle.ion_meter.specs.Sources.{Cursor, cursor}
+use Rattle.base64.specs.Engines.{standard}
+use Rattle.base64.specs.GeneralPurpose.{decoded_of, encode_of}
+use Rattle.ion_text_in.specs.Limit.{passes}
+use Rattle.ion_text_in.specs.Lob.{group_of, behind_to}
+use Rattle.ion_text_in.specs.Lobs.{with_groups_behind, is_padded}
+use Rattle.ion_text_in.proofs.LobTurns.{block-of}
+use Rattle.ion_text_in.proofs.Turns.{turn, turn-then, extends-not}
+use Rattle.ion_text_in.proofs.lob.take_block.Goals as goal
+
+pub returns-clause-gives : goal.returns-clause-gives
+returns-clause-gives g c = λ h.
+    let s = c.args.source.now in
+    let t = c.consume.new.self in
+    let n = c.in-Some.n in
+    let d = c.in-Some.ensures in
+    let chars : List ℕ = take c.args.count c.buffer.result.now in
+    let bytes : List ℕ = take n c.decode.new.room in
+    let limit = c.args.limits.scalar in
+    let text : List ℕ = c.args.text.now in
+    let fits : c.args.count ≤ length c.buffer.result.now = subst (λ (l : List ℕ). c.args.count ≤ length l) (sym c.buffer.ensures) c.requires.there in
+    let passed = turn g.I.Input s s t c.buffer.result.now c.args.count c.requires.can_take.stands (extends-not g.I.Input s) c.requires.can_take.stands.well (omega arith) c.buffer.ensures fits c.consume.ensures in
+    let long = length-take-le n c.decode.new.room d.within in
+    let held = ap (λ (l : List ℕ). length l) c.as_slice.ensures in
+    let free : passes (Some limit) (length text + length bytes) ≡ false =
+    le-ltb limit (length text + length bytes) (omega (arith, long, held, c.if-left-n.false, c.requires.can_take.share)) in
+    turn-then g.I.Input s t chars (with_groups_behind limit text false) (with_groups_behind limit (text ++ bytes) (is_padded (length bytes))) passed h
+    (block-of limit text s.place chars bytes (left g.I.Input.rest t) d.some d.octets free)
+    ∙ ap (λ (k : ℕ). with_groups_behind limit (text ++ bytes) (is_padded k) (cursor g.I.Input t)) long
+    ∙ ap (λ (l : List ℕ). with_groups_behind limit l (is_padded n) (cursor g.I.Input t)) (sym c.in_default-extend.ensures.ok)

@@ -1,0 +1,15 @@
+use Rattle.std.proofs.Common.{◌≡◌, false, length}
+use Rattle.ion_meter.specs.Sources.{cursor}
+use Rattle.ion_text_in.specs.Lobs.{with_groups_behind}
+use Rattle.ion_text_in.proofs.Held.{Kept}
+use Rattle.ion_text_in.proofs.lob.take_blocks.Given as goal
+
+abbrev pub invariant-pieces : goal.invariant-pieces
+invariant-pieces g l = record {
+  kept : Kept g.I.Input l.fn.source l.source l.fn.meter l.meter (length l.fn.text) (length l.text) l.limits.scalar;
+  behind : g.I.Input.observable l.fn.source.device
+      → with_groups_behind l.limits.scalar l.fn.text false (cursor g.I.Input l.fn.source) ≡ with_groups_behind l.limits.scalar l.text false (cursor g.I.Input l.source);
+}
+
+abbrev pub decreases-pieces : goal.decreases-pieces
+decreases-pieces g l = l.run

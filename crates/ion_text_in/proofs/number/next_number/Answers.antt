@@ -1,0 +1,19 @@
+use Rattle.std.proofs.Common.{Some, List, ℕ, subst}
+use Rattle.ion_text_in.specs.declared.scanned.Scanned.TheVariants as scanned
+use Rattle.ion_text_in.specs.Scanners.{Shows}
+use Rattle.ion_text_in.specs.Token.{a_run, token_of}
+use Rattle.ion_text_in.specs.Views.{number_token}
+use Rattle.ion_text_in.proofs.Shown.{shown-whole, shown-fault}
+use Rattle.ion_text_in.proofs.number.next_number.Goals as goal
+
+pub returns-in-Whole-clause-gives : goal.returns-in-Whole-clause-gives
+returns-in-Whole-clause-gives g c = λ h.
+    let reading = token_of (Some c.args.limits.scalar) a_run in
+    let shows = subst (λ (l : List ℕ). Shows number_token l (scanned.Whole c.in-Whole.number c.in-Whole.count) reading) c.buffer.ensures c.in-Whole.ensures.shows in
+    shown-whole g.I.Input number_token c.args.source.now c.consume.new.self c.in-Whole.number c.in-Whole.count reading shows c.consume.ensures
+
+pub returns-in-Fault-clause-gives : goal.returns-in-Fault-clause-gives
+returns-in-Fault-clause-gives g c = λ h.
+    let reading = token_of (Some c.args.limits.scalar) a_run in
+    let shows = subst (λ (l : List ℕ). Shows number_token l (scanned.Fault c.in-Fault.reason) reading) c.buffer.ensures c.in-Fault.ensures.shows in
+    (shown-fault g.I.Input number_token c.args.source.now c.in-Fault.reason reading shows, c.place.ensures)

@@ -1,0 +1,129 @@
+use Rattle.std.proofs.Common.{◌≡◌, ℕ, ◌+◌, ◌-◌, ◌<◌, ◌≤◌, ◌++◌, ◌∙◌, List, length, None, Ok, Err, refl, sym, ap, subst, arith}
+use Rattle.std.proofs.lemmas.List.{length-append}
+use Rattle.ion_meter.specs.Windows.{left}
+use Rattle.ion_meter.specs.Sources.{Cursor, cursor, skip}
+use Rattle.ion_meter.specs.declared.fault.Reason.{Reason}
+use Rattle.ion_text_in.specs.declared.piece.Piece.{Piece as CodePiece}
+use Rattle.ion_text_in.specs.declared.piece.Piece.TheVariants as code
+use Rattle.ion_text_in.specs.Quoted.{piece_at}
+use Rattle.ion_text_in.specs.Quotes.{quote_of}
+use Rattle.ion_text_in.specs.Pieces.{piece_of, bytes_of_piece, taken_of, TakesSome}
+use Rattle.ion_text_in.specs.Gathered.{onward}
+use Rattle.ion_text_in.proofs.Quotes.{quote_of-is}
+use Rattle.ion_text_in.proofs.Gathering.{onward-close, onward-cut, onward-illegal, onward-char, onward-char_over, answers-over, is-char_else, IsChar}
+use Rattle.ion_text_in.proofs.Holding.{held-then, into-held, reads-held, grown-held, held-can}
+use Rattle.ion_text_in.proofs.segment.gather_pieces.Goals as goal
+
+pub returns-in-Close-clause-gives : goal.returns-in-Close-clause-gives
+returns-in-Close-clause-gives g c = λ h.
+    let t = c.take_plain.new.source in
+    let u = c.next_piece.new.source in
+    let q = quote_of c.args.quote in
+    let hs = c.pieces.invariant.held.moves.still_observable.1 h in
+    let ht = c.in_default.ensures.reads.moves.still_observable.1 hs in
+    let piece = subst (λ (p : CodePiece). piece_of p ≡ piece_at q (left g.I.Input.rest t)) c.in-Close.is (c.in-Ok.ensures.gives ht) in
+    let behind = subst (λ (p : CodePiece). cursor g.I.Input u ≡ skip (taken_of p) (cursor g.I.Input t)) c.in-Close.is (c.in-Ok.ensures.behind ht) in
+    c.pieces.invariant.same h ∙ c.in_default.ensures.gives hs
+    ∙ onward-close q c.args.limits.scalar c.take_plain.new.text (cursor g.I.Input t) c.in-Close.field-0 (quote_of-is c.args.quote) piece
+    ∙ ap (λ (d : Cursor). Ok (c.take_plain.new.text, d)) (sym behind)
+
+pub returns-in-Close-clause-further : goal.returns-in-Close-clause-further
+returns-in-Close-clause-further g c =
+    let some = subst TakesSome c.in-Close.is c.in-Ok.ensures.some in
+    let place = subst (λ (p : CodePiece). c.next_piece.new.source.place ≡ c.take_plain.new.source.place + taken_of p) c.in-Close.is c.in-Ok.ensures.place in
+    let one = c.pieces.invariant.held.moves.further in
+    let two = c.in_default.ensures.reads.moves.further in
+    omega (arith, some, place, one, two)
+
+pub returns-in-Illegal-clause-gives : goal.returns-in-Illegal-clause-gives
+returns-in-Illegal-clause-gives g c = λ h.
+    let t = c.take_plain.new.source in
+    let q = quote_of c.args.quote in
+    let hs = c.pieces.invariant.held.moves.still_observable.1 h in
+    let ht = c.in_default.ensures.reads.moves.still_observable.1 hs in
+    let piece = subst (λ (p : CodePiece). piece_of p ≡ piece_at q (left g.I.Input.rest t)) c.in-Illegal.is (c.in-Ok.ensures.gives ht) in (
+      c.pieces.invariant.same h ∙ c.in_default.ensures.gives hs
+          ∙ onward-illegal q c.args.limits.scalar c.take_plain.new.text (cursor g.I.Input t) (quote_of-is c.args.quote) piece
+          ∙ ap (λ (r : Reason). Err r) (sym c.bad_text.ensures),
+      refl,
+    )
+
+pub returns-in-Cut-clause-gives : goal.returns-in-Cut-clause-gives
+returns-in-Cut-clause-gives g c = λ h.
+    let t = c.take_plain.new.source in
+    let q = quote_of c.args.quote in
+    let hs = c.pieces.invariant.held.moves.still_observable.1 h in
+    let ht = c.in_default.ensures.reads.moves.still_observable.1 hs in
+    let piece = subst (λ (p : CodePiece). piece_of p ≡ piece_at q (left g.I.Input.rest t)) c.in-Cut.is (c.in-Ok.ensures.gives ht) in (
+      c.pieces.invariant.same h ∙ c.in_default.ensures.gives hs
+          ∙ onward-cut q c.args.limits.scalar c.take_plain.new.text (cursor g.I.Input t) (quote_of-is c.args.quote) piece,
+      refl,
+    )
+
+pub returns-in-Err-put_piece-clause-gives : goal.returns-in-Err-put_piece-clause-gives
+returns-in-Err-put_piece-clause-gives g c = λ h.
+    let t = c.take_plain.new.source in
+    let q = quote_of c.args.quote in
+    let hs = c.pieces.invariant.held.moves.still_observable.1 h in
+    let ht = c.in_default.ensures.reads.moves.still_observable.1 hs in
+    let char = is-char_else c.in-Ok.piece (λ n e. c.in_default-piece.not-Close n e) c.in_default-piece.not-Illegal c.in_default-piece.not-Cut in
+    answers-over (Unit {0}) (List ℕ) (λ _. c.put_piece.new.text) (cursor g.I.Input c.next_piece.new.source) c.in-Err-put_piece.fault
+    c.take_plain.new.text c.put_piece.new.text (bytes_of_piece c.in-Ok.piece) c.args.limits.scalar c.args.place
+    (onward q c.args.limits.scalar c.args.text.now (cursor g.I.Input c.args.source.now)) c.in-Err-put_piece.ensures.puts
+    (λ over. c.pieces.invariant.same h ∙ c.in_default.ensures.gives hs
+    ∙ onward-char_over q c.args.limits.scalar c.take_plain.new.text (cursor g.I.Input t) c.in-Ok.piece (quote_of-is c.args.quote) char (c.in-Ok.ensures.gives ht) over)
+
+takes-one : (piece : CodePiece) → IsChar piece → TakesSome piece → 1 ≤ taken_of piece
+takes-one (code.Char c n) char some = some
+takes-one (code.Byte b n) char some = some
+takes-one (code.Nothing n) char some = some
+takes-one (code.Close n) char some = absurd char
+takes-one code.Illegal char some = absurd char
+takes-one code.Cut char some = absurd char
+
+falls : (limit p q r n : ℕ) (l m : ℕ) → l ≡ limit → m ≡ l → p ≤ q → r ≡ q + n → 1 ≤ n → r ≤ m → m - r < limit - p
+falls limit p q r n l m a b one place some within = omega (arith, a, b, one, place, some, within)
+
+pub pieces-smaller : goal.pieces-smaller
+pieces-smaller g c =
+    let char = is-char_else c.in-Ok.piece (λ n e. c.in_default-piece.not-Close n e) c.in_default-piece.not-Illegal c.in_default-piece.not-Cut in
+    let some = takes-one c.in-Ok.piece char c.in-Ok.ensures.some in
+    falls c.pieces.source.limit c.pieces.source.place c.take_plain.new.source.place c.next_piece.new.source.place (taken_of c.in-Ok.piece) c.take_plain.new.source.limit c.next_piece.new.source.limit
+    c.in_default.ensures.reads.moves.limit c.in-Ok.ensures.reads.moves.limit c.in_default.ensures.reads.moves.further c.in-Ok.ensures.place some c.in-Ok.ensures.reads.stands.within
+
+grown-longer : (first old new bytes : List ℕ) → new ≡ old ++ bytes → length first ≤ length old → length first ≤ length new
+grown-longer first old new bytes e le = let long = ap (λ (l : List ℕ). length l) e ∙ length-append old bytes in omega (arith, long, le)
+
+pub pieces-preserved : goal.pieces-preserved
+pieces-preserved g c =
+    let device = g.I.Input in
+    let s = c.pieces.source in
+    let t = c.take_plain.new.source in
+    let u = c.next_piece.new.source in
+    let q = quote_of c.args.quote in
+    let most = c.args.limits.scalar in
+    let char = is-char_else c.in-Ok.piece (λ n e. c.in_default-piece.not-Close n e) c.in_default-piece.not-Illegal c.in_default-piece.not-Cut in
+    let holds = c.requires.can_gather.grows.holds in
+    let plain = into-held device s t c.pieces.meter c.take_plain.new.meter (length c.pieces.text) (length c.take_plain.new.text) most (Ok c.in_default.field-0) c.in_default.ensures.reads in
+    let two = held-then device c.args.source.now s t c.args.meter.now c.pieces.meter c.take_plain.new.meter (length c.args.text.now) (length c.pieces.text) (length c.take_plain.new.text) most None holds
+    c.pieces.invariant.held plain in
+    let can = held-can device c.args.limits c.args.source.now t c.args.text.now c.take_plain.new.text c.args.meter.now c.take_plain.new.meter c.requires.can_gather two in
+    let read = reads-held device t u c.take_plain.new.meter (length c.take_plain.new.text) most (Ok c.in-Ok.piece) can.grows.share can.grows.holds c.in-Ok.ensures.reads in
+    let three = held-then device c.args.source.now t u c.args.meter.now c.take_plain.new.meter c.take_plain.new.meter (length c.args.text.now) (length c.take_plain.new.text) (length c.take_plain.new.text) most None holds two read in
+    let grown = grown-held device u c.take_plain.new.meter c.put_piece.new.meter (length c.take_plain.new.text) (length c.put_piece.new.text) most None c.in-Ok.ensures.reads.stands c.in_default-put_piece.ensures.grown in
+    record {
+      held = held-then device c.args.source.now u u c.args.meter.now c.take_plain.new.meter c.put_piece.new.meter (length c.args.text.now) (length c.take_plain.new.text) (length c.put_piece.new.text) most None holds three grown;
+      longer =
+          let puts = c.in_default-put_piece.ensures.puts in
+          let before = c.pieces.invariant.longer in
+          let run = c.in_default.ensures.longer in
+          grown-longer c.args.text.now c.take_plain.new.text c.put_piece.new.text (bytes_of_piece c.in-Ok.piece) puts.0 (omega (arith, before, run));
+      same = λ h.
+          let hs = c.pieces.invariant.held.moves.still_observable.1 h in
+          let ht = c.in_default.ensures.reads.moves.still_observable.1 hs in
+          let puts = c.in_default-put_piece.ensures.puts in
+          c.pieces.invariant.same h ∙ c.in_default.ensures.gives hs
+          ∙ onward-char q most c.take_plain.new.text (cursor device t) c.in-Ok.piece (quote_of-is c.args.quote) char (c.in-Ok.ensures.gives ht) puts.1
+          ∙ ap (λ (d : Cursor). onward q most (c.take_plain.new.text ++ bytes_of_piece c.in-Ok.piece) d) (sym (c.in-Ok.ensures.behind ht))
+          ∙ ap (λ (l : List ℕ). onward q most l (cursor device u)) (sym puts.0);
+    }

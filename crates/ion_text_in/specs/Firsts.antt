@@ -1,0 +1,49 @@
+-- What is seen of the kinds of tokens of the code.
+use Rattle.std.specs.Prelude.{ℕ, Bool, not, ◌&&◌, ◌==◌, List, drop, codes}
+use Rattle.ion_value.specs.Digits.{first_is, is_digit}
+use Rattle.ion_value.specs.Name.{begins_with, is_identifier_byte, is_identifier_start}
+use Rattle.ion_text_in.specs.declared.first.First as code
+use Rattle.ion_text_in.specs.declared.first.First.TheVariants as kind
+use Rattle.ion_text_in.specs.Token as tokens
+
+abbrev pub first_of : code.First → tokens.First
+first_of kind.Number = tokens.a_run
+first_of kind.Word = tokens.a_word
+first_of kind.QuotedSymbol = tokens.a_quoted
+first_of kind.String = tokens.a_short
+first_of kind.LongString = tokens.a_long
+first_of kind.Lob = tokens.a_lob
+first_of kind.Operator = tokens.an_operator
+first_of kind.Infinity = tokens.an_infinity
+first_of (kind.Begin of) = tokens.a_begin of
+first_of (kind.End of) = tokens.an_end of
+first_of kind.Comma = tokens.a_comma
+first_of kind.Colon = tokens.a_colon
+first_of kind.Colons = tokens.two_colons
+first_of kind.Nothing = tokens.no_token
+
+-- how many bytes of a token tell its kind
+abbrev pub width : tokens.First → ℕ
+width tokens.a_run = 1
+width tokens.a_word = 1
+width tokens.a_quoted = 1
+width tokens.a_short = 1
+width tokens.a_long = 3
+width tokens.a_lob = 2
+width tokens.an_operator = 1
+width tokens.an_infinity = 4
+width (tokens.a_begin kind) = 1
+width (tokens.an_end kind) = 1
+width tokens.a_comma = 1
+width tokens.a_colon = 1
+width tokens.two_colons = 2
+width tokens.no_token = 1
+
+-- a byte that begins no word, no number and no string, and needs none behind it to tell what it begins
+abbrev pub is_told_alone : ℕ → Bool
+is_told_alone b =
+    not (is_identifier_start b) && not (is_digit b) && not (b == 34) && not (b == 39) && not (b == 123) && not (b == 58) && not (b == 43) && not (b == 45)
+
+-- `inf`, and no identifier goes on behind it
+abbrev pub is_inf : List ℕ → Bool
+is_inf bytes = begins_with (codes "inf") bytes && not (first_is is_identifier_byte (drop 3 bytes))

@@ -1,0 +1,87 @@
+-- What the calls that gather a text answer and hold.
+use Rattle.std.specs.Prelude.{◌≡◌, ℕ, ◌+◌, ◌-◌, ◌^◌, ◌<◌, ◌≤◌, Bool, true, false, List, ◌++◌, length, Option, Some, Result, Ok, Err}
+use Rattle.ion_meter.specs.Counts.{Counts}
+use Rattle.ion_meter.specs.declared.fault.Fault.{Fault}
+use Rattle.ion_meter.specs.declared.fault.Fault.TheVariants.{Refused, Memory, ReadFault, WriteFault, InputLimit}
+use Rattle.ion_meter.specs.declared.fault.Reason.{Reason}
+use Rattle.ion_meter.specs.declared.fault.Reason.TheVariants.{ScalarLimit}
+use Rattle.ion_meter.specs.declared.limits.Limits.{Limits}
+use Rattle.ion_meter.specs.Windows.{Incoming}
+use Rattle.ion_meter.specs.Sources.{Cursor, Stands}
+use Rattle.ion_value.specs.Digits.{first_is}
+use Rattle.ion_value.specs.Parts.{Placed}
+use Rattle.ion_value.specs.Shares.{Charges}
+use Rattle.ion_text_in.specs.Blanks.{is_white, blanks}
+use Rattle.ion_text_in.specs.Limit.{passes}
+use Rattle.ion_text_in.specs.Overrun.{overrun}
+use Rattle.ion_text_in.specs.Places.{behind_run}
+use Rattle.ion_text_in.specs.Quoted.{Quote, segment_at}
+use Rattle.ion_text_in.specs.Scanning.{Spelled, pieces, with_front}
+
+-- ---- what is held
+
+-- a text may grow up to a limit
+pub record CanGrow (limits : Limits) (text : List ℕ) (meter : Counts) : Type 0 where
+  pub holds : length text ≤ meter.held
+  pub room : meter.held + limits.scalar < 2 ^ 63 + length text
+  pub countable : meter.refused < 2 ^ 64 - 1
+  pub checked : limits.scalar ≤ 2 ^ 30
+  pub share : length text ≤ limits.scalar
+
+-- and one that is read into
+pub record CanGather {I : Type 0} (limits : Limits) (source : Incoming I) (text : List ℕ) (meter : Counts) : Type 0 where
+  pub stands : Stands source
+  pub grows : CanGrow limits text meter
+
+-- what putting bytes behind a text costs, and the causes of its faults
+pub record Grown (earlier later : Counts) (before after most : ℕ) (fault : Option Fault) : Type 0 where
+  pub charges : Charges earlier later before after most
+  pub memory : fault ≡ Some Memory → earlier.refused < later.refused
+  pub counted : (fault ≡ Some Memory → ⊥) → later.refused ≡ earlier.refused
+  pub no_reads : fault ≡ Some ReadFault → ⊥
+  pub no_writes : fault ≡ Some WriteFault → ⊥
+  pub no_limit : fault ≡ Some InputLimit → ⊥
+
+-- ---- what is answered
+
+-- bytes are put behind a text, unless it then passes the limit
+abbrev pub PutsOn : {T : Type 0} → List ℕ → List ℕ → List ℕ → ℕ → ℕ → Result T Fault → Type 0
+PutsOn old new bytes limit place (Ok x) = (new ≡ old ++ bytes) × (passes (Some limit) (length old + length bytes) ≡ false)
+PutsOn old new bytes limit place (Err (Refused reason at)) = (passes (Some limit) (length old + length bytes) ≡ true) × (reason ≡ ScalarLimit) × (at ≡ place)
+PutsOn old new bytes limit place (Err Memory) = Unit {0}
+PutsOn old new bytes limit place (Err ReadFault) = Unit {0}
+PutsOn old new bytes limit place (Err WriteFault) = Unit {0}
+PutsOn old new bytes limit place (Err InputLimit) = Unit {0}
+
+-- what is read on from one place is what is read on from another, or a fault
+abbrev pub Goes : {T : Type 0} → Result T Fault → ℕ → Spelled → Spelled → Type 0
+Goes (Ok x) place before after = before ≡ after
+Goes (Err (Refused reason at)) place before after = (before ≡ Err reason) × (at ≡ place)
+Goes (Err Memory) place before after = Unit {0}
+Goes (Err ReadFault) place before after = Unit {0}
+Goes (Err WriteFault) place before after = Unit {0}
+Goes (Err InputLimit) place before after = Unit {0}
+
+-- bytes that were read, and the pieces behind them
+abbrev pub onward : Quote → ℕ → List ℕ → Cursor → Spelled
+onward q limit text c = with_front text (pieces q (Some limit) (length text) c)
+
+-- bytes that were read, and the segment behind them
+abbrev pub with_segment : Quote → ℕ → List ℕ → Cursor → Spelled
+with_segment q limit text c = with_front text (segment_at q (Some limit) (length text) c)
+
+-- ---- what is overrun behind a text
+
+-- what stands between the segments of a long text: white space in a clob, and comments too else
+abbrev pub passed : Bool → Cursor → Placed Cursor
+passed true c = Ok (behind_run (first_is is_white) c)
+passed false c = blanks c
+
+-- a text and where it ends, which blanks follow that were passed over up to where the source stands
+abbrev pub Overruns : {A : Type 0} → Bool → A → Result (Option ℕ) Fault → Cursor → ℕ → Result (A × Cursor) Reason → Type 0
+Overruns in_clob text (Ok start) behind place given = (d : Cursor) × (given ≡ Ok (text, d)) × (passed in_clob d ≡ overrun start behind)
+Overruns in_clob text (Err (Refused reason at)) behind place given = (given ≡ Err reason) × (at ≡ place)
+Overruns in_clob text (Err Memory) behind place given = Unit {0}
+Overruns in_clob text (Err ReadFault) behind place given = Unit {0}
+Overruns in_clob text (Err WriteFault) behind place given = Unit {0}
+Overruns in_clob text (Err InputLimit) behind place given = Unit {0}

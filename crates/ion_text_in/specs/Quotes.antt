@@ -1,0 +1,34 @@
+-- Quotes and pieces as the code has them.
+use Rattle.std.specs.Prelude.{ℕ, ◌<◌, ◌≤◌, Bool, true, false, [], ◌∷◌}
+use Rattle.ion_text_in.specs.declared.quoted.Quote.{Quote as CodeQuote}
+use Rattle.ion_text_in.specs.declared.quoted.Quote.TheVariants as code
+use Rattle.ion_text_in.specs.declared.scanned.Scanned.{Scanned}
+use Rattle.ion_text_in.specs.declared.scanned.Scanned.TheVariants.{Whole, Fault, Cut}
+use Rattle.ion_text_in.specs.Quoted.{Quote, symbol_quote, short_quote, long_quote}
+
+-- ---- quotes
+
+abbrev pub quote_of : CodeQuote → Quote
+quote_of code.Symbol = symbol_quote
+quote_of code.Short = short_quote false
+quote_of code.ShortClob = short_quote true
+quote_of code.Long = long_quote false
+quote_of code.LongClob = long_quote true
+
+-- the byte that they are made of
+abbrev pub mark_of : CodeQuote → ℕ
+mark_of code.Symbol = 39
+mark_of code.Short = 34
+mark_of code.ShortClob = 34
+mark_of code.Long = 39
+mark_of code.LongClob = 39
+
+-- quotes of one byte
+abbrev pub one_mark : ℕ → Bool → Quote
+one_mark mark in_clob = record { closer = mark ∷ []; is_long = false; in_clob = in_clob }
+
+-- so many bytes of a text are within a limit, and the quote stands behind them
+abbrev pub IsWithin : ℕ → Scanned ℕ → Type 0
+IsWithin limit (Whole plain taken) = (plain ≤ limit) × (plain < taken)
+IsWithin limit (Fault reason) = Unit {0}
+IsWithin limit Cut = Unit {0}

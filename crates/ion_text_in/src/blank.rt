@@ -1,0 +1,308 @@
+//! What stands between tokens and is passed over: white space and comments (Ion specification,
+//! "Text Encoding").
+ghost use Rattle.std.specs.Prelude.{◌≡◌, ◌≢◌, ◌+◌, ◌<◌, ◌≤◌, ℕ, [], true, false, Ok, Err, length, take, drop, slice_get, Some, OnOk, IfOk, IfSome};
+ghost use Rattle.ion_meter.specs.Windows.{left, IsGiven};
+ghost use Rattle.ion_meter.specs.Sources.{cursor, Stands};
+ghost use Rattle.ion_value.specs.Calls.{Reads};
+ghost use Rattle.ion_value.specs.Digits.{first_is, all_are};
+ghost use Rattle.ion_text_in.specs.Blanks.{is_white, blanks};
+ghost use Rattle.ion_text_in.specs.Places.{behind_run};
+ghost use Rattle.ion_text_in.specs.Overrun.{is_neither, within, overrun};
+
+use ion_meter::device::Input;
+use ion_meter::fault::{Fault, Reason};
+use ion_meter::source::Source;
+use std::alloc::Allocator;
+
+// Which comment begins at a place, if any.
+#[derive(Clone, Copy, Debug, PartialEq, Eq)]
+pub(crate) enum Comment {
+    // None.
+    None,
+    // One up to the end of its line.
+    Line,
+    // One up to `*/`.
+    Block,
+}
+
+/// Passes over blanks, which are white space and comments.
+///
+/// It stops at the first byte where none begins, or at the input's end. `Some` is the place where
+/// a comment begins that no `*/` ends: then all of the input was passed over.
+#[inline]
+pub fn pass_blanks<I: Input, A: Allocator + Copy>(
+    source: &mut Source<I, A>,
+) -> Result<Option<u64>, Fault>
+    requires stands { Stands source.old }
+    ensures gives { I.observable source.old.device → IfOk result (λ start.
+        blanks (cursor I.Input source.old) ≡ overrun start (cursor I.Input source.new)) }
+    ensures used_up { I.observable source.old.device → IfOk result (λ start.
+        IfSome start (λ _. left I.rest source.new ≡ [])) }
+    ensures plain { (r : Reason) (p : ℕ) → result ≢ Err (Fault.Refused r p) }
+    ensures reads { Reads I.Input source.old source.new result }
+{
+    let bytes = source.buffer();
+    let run = white_run(bytes);
+    if run < bytes.len() && bytes[run] != b'/' {
+        source.consume(run);
+        return Ok(None);
+    }
+    pass_comments(source)
+}
+
+// `pass_blanks` where a comment may begin, or the window ends.
+#[inline(never)]
+fn pass_comments<I: Input, A: Allocator + Copy>(
+    source: &mut Source<I, A>,
+) -> Result<Option<u64>, Fault>
+    requires stands { Stands source.old }
+    ensures gives { I.observable source.old.device → IfOk result (λ start.
+        blanks (cursor I.Input source.old) ≡ overrun start (cursor I.Input source.new)) }
+    ensures used_up { I.observable source.old.device → IfOk result (λ start.
+        IfSome start (λ _. left I.rest source.new ≡ [])) }
+    ensures plain { (r : Reason) (p : ℕ) → result ≢ Err (Fault.Refused r p) }
+    ensures reads { Reads I.Input source.old source.new result }
+{
+    'comments: loop {
+        if let Err(fault) = pass_white(source) {
+            return Err(fault);
+        }
+        let start = source.place();
+        match next_comment(source) {
+            Err(fault) => return Err(fault),
+            Ok(Comment::None) => return Ok(None),
+            Ok(Comment::Line) => {
+                if let Err(fault) = pass_line(source) {
+                    return Err(fault);
+                }
+            }
+            Ok(Comment::Block) => match pass_block(source) {
+                Err(fault) => return Err(fault),
+                Ok(false) => return Ok(Some(start)),
+                Ok(true) => {}
+            },
+        }
+    }
+}
+
+/// Passes over white space, up to the first byte that is none or to the input's end.
+#[inline]
+pub fn pass_white<I: Input, A: Allocator + Copy>(source: &mut Source<I, A>) -> Result<(), Fault>
+    requires stands { Stands source.old }
+    ensures behind { I.observable source.old.device → OnOk result (cursor I.Input source.new
+        ≡ behind_run (first_is is_white) (cursor I.Input source.old)) }
+    ensures plain { (r : Reason) (p : ℕ) → result ≢ Err (Fault.Refused r p) }
+    ensures reads { Reads I.Input source.old source.new result }
+{
+    'white: loop {
+        match source.peek(0) {
+            Err(fault) => return Err(fault),
+            Ok(None) => return Ok(()),
+            Ok(Some(_)) => {}
+        }
+        let bytes = source.buffer();
+        let white = white_run(bytes);
+        let ends = white < bytes.len();
+        source.consume(white);
+        if ends {
+            return Ok(());
+        }
+    }
+}
+
+// Passes over the two bytes that begin a comment, where one begins here.
+fn next_comment<I: Input, A: Allocator + Copy>(source: &mut Source<I, A>) -> Result<Comment, Fault>
+    requires stands { Stands source.old }
+    ensures begins { I.observable source.old.device
+        → first_is is_white (left I.rest source.old) ≡ false
+        → IfOk result (λ comment. blanks (cursor I.Input source.old)
+        ≡ within comment source.old.place (cursor I.Input source.new)) }
+    ensures taken { IfOk result (λ comment. comment ≢ Comment.None
+        → source.new.place ≡ source.old.place + 2) }
+    ensures plain { (r : Reason) (p : ℕ) → result ≢ Err (Fault.Refused r p) }
+    ensures reads { Reads I.Input source.old source.new result }
+{
+    match source.peek(0) {
+        Err(fault) => return Err(fault),
+        Ok(None) => return Ok(Comment::None),
+        Ok(Some(byte)) => {
+            if byte != b'/' {
+                return Ok(Comment::None);
+            }
+        }
+    }
+    let second = match source.peek(1) {
+        Err(fault) => return Err(fault),
+        Ok(None) => return Ok(Comment::None),
+        Ok(Some(byte)) => byte,
+    };
+    if second == b'/' {
+        source.consume(2);
+        return Ok(Comment::Line);
+    }
+    if second == b'*' {
+        source.consume(2);
+        return Ok(Comment::Block);
+    }
+    Ok(Comment::None)
+}
+
+// Passes over the rest of a comment that ends with its line, and the end of the line.
+fn pass_line<I: Input, A: Allocator + Copy>(source: &mut Source<I, A>) -> Result<(), Fault>
+    requires stands { Stands source.old }
+    ensures behind { I.observable source.old.device → OnOk result
+        (within Comment.Line 0 (cursor I.Input source.old) ≡ blanks (cursor I.Input source.new)) }
+    ensures plain { (r : Reason) (p : ℕ) → result ≢ Err (Fault.Refused r p) }
+    ensures reads { Reads I.Input source.old source.new result }
+{
+    'line: loop {
+        match source.peek(0) {
+            Err(fault) => return Err(fault),
+            Ok(None) => return Ok(()),
+            Ok(Some(_)) => {}
+        }
+        let bytes = source.buffer();
+        let line = run_without(b'\n', b'\r', bytes);
+        if line < bytes.len() {
+            source.consume(line + 1);
+            return Ok(());
+        }
+        source.consume(line);
+    }
+}
+
+// Passes over the rest of a comment in a block, and its end; false where the input ends before.
+fn pass_block<I: Input, A: Allocator + Copy>(source: &mut Source<I, A>) -> Result<bool, Fault>
+    requires stands { Stands source.old }
+    ensures closed { I.observable source.old.device → result ≡ Ok true → (start : ℕ)
+        → within Comment.Block start (cursor I.Input source.old)
+        ≡ blanks (cursor I.Input source.new) }
+    ensures open { I.observable source.old.device → result ≡ Ok false → (start : ℕ)
+        → within Comment.Block start (cursor I.Input source.old)
+        ≡ overrun (Some start) (cursor I.Input source.new) }
+    ensures used_up { I.observable source.old.device → result ≡ Ok false
+        → left I.rest source.new ≡ [] }
+    ensures plain { (r : Reason) (p : ℕ) → result ≢ Err (Fault.Refused r p) }
+    ensures reads { Reads I.Input source.old source.new result }
+{
+    'block: loop {
+        match source.peek(0) {
+            Err(fault) => return Err(fault),
+            Ok(None) => return Ok(false),
+            Ok(Some(_)) => {}
+        }
+        let bytes = source.buffer();
+        let end = bytes.len();
+        let plain = run_without(b'*', b'*', bytes);
+        let star = plain < end;
+        if star {
+            source.consume(plain);
+            match pass_star(source) {
+                Err(fault) => return Err(fault),
+                Ok(true) => return Ok(true),
+                Ok(false) => {}
+            }
+        } else {
+            source.consume(end);
+        }
+    }
+}
+
+// Passes over the star that stands here, and over a slash behind it; true where there is one.
+fn pass_star<I: Input, A: Allocator + Copy>(source: &mut Source<I, A>) -> Result<bool, Fault>
+    requires stands { Stands source.old }
+    requires star { slice_get source.old.buffered 0 ≡ Some 42 }
+    requires given { IsGiven source.old 0 }
+    ensures closed { I.observable source.old.device → result ≡ Ok true → (start : ℕ)
+        → within Comment.Block start (cursor I.Input source.old)
+        ≡ blanks (cursor I.Input source.new) }
+    ensures open { I.observable source.old.device → result ≡ Ok false → (start : ℕ)
+        → within Comment.Block start (cursor I.Input source.old)
+        ≡ within Comment.Block start (cursor I.Input source.new) }
+    ensures taken { OnOk result (source.old.place < source.new.place) }
+    ensures plain { (r : Reason) (p : ℕ) → result ≢ Err (Fault.Refused r p) }
+    ensures reads { Reads I.Input source.old source.new result }
+{
+    let second = match source.peek(1) {
+        Err(fault) => return Err(fault),
+        Ok(second) => second,
+    };
+    if second == Some(b'/') {
+        source.consume(2);
+        return Ok(true);
+    }
+    source.advance();
+    Ok(false)
+}
+
+// How many bytes are looked at together. A loop over so many is compiled to a few steps, each on
+// sixteen bytes.
+const BLOCK: usize = 32;
+
+// How many bytes at the front of these are neither of two.
+#[inline]
+fn run_without(first: u8, second: u8, bytes: &[u8]) -> usize
+    ensures within { result ≤ length bytes.now }
+    ensures run { all_are (is_neither first second) (take result bytes.now) ≡ true }
+    ensures ends { first_is (is_neither first second) (drop result bytes.now) ≡ false }
+{
+    let mut at = 0;
+    'skip: while bytes.len() - at >= BLOCK {
+        if !are_neither(first, second, &bytes[at..at + BLOCK]) {
+            break;
+        }
+        at += BLOCK;
+    }
+    at + few_without(first, second, &bytes[at..])
+}
+
+// Whether all these bytes are neither of two. No byte ends the loop, so that it can look at many
+// of them at once.
+#[inline]
+fn are_neither(first: u8, second: u8, bytes: &[u8]) -> bool
+    ensures { result ≡ all_are (is_neither first second) bytes.now }
+{
+    let mut neither = true;
+    for byte in bytes {
+        neither &= *byte != first && *byte != second;
+    }
+    neither
+}
+
+// How many bytes at the front of these are neither of two, one after the other.
+#[inline]
+fn few_without(first: u8, second: u8, bytes: &[u8]) -> usize
+    ensures within { result ≤ length bytes.now }
+    ensures run { all_are (is_neither first second) (take result bytes.now) ≡ true }
+    ensures ends { first_is (is_neither first second) (drop result bytes.now) ≡ false }
+{
+    for (i, byte) in bytes.iter().enumerate() {
+        if *byte == first || *byte == second {
+            return i;
+        }
+    }
+    bytes.len()
+}
+
+// How many bytes at the front of these are white space. Mostly there are few.
+#[inline]
+fn white_run(bytes: &[u8]) -> usize
+    ensures within { result ≤ length bytes.now }
+    ensures run { all_are is_white (take result bytes.now) ≡ true }
+    ensures ends { first_is is_white (drop result bytes.now) ≡ false }
+{
+    for (i, byte) in bytes.iter().enumerate() {
+        if !is_white(*byte) {
+            return i;
+        }
+    }
+    bytes.len()
+}
+
+/// Whether a byte is white space: space, tab, LF, VT, FF or CR.
+#[inline]
+pub fn is_white(byte: u8) -> bool
+    ensures { result ≡ is_white byte }
+{
+    byte == b' ' || (9..=13).contains(&byte)
+}

@@ -1,0 +1,292 @@
+//! Which kind of token begins at a place (Ion specification, "Text Encoding").
+ghost use Rattle.std.specs.Prelude.{◌≡◌, ℕ, List, [], ◌+◌, ◌++◌, ◌∷◌, ◌<◌, ◌≤◌, length, slice_index, Bool, true, Err, ◌⊎◌, if◌then◌else◌, IfOk, IfSome, IsSome, MatchOption};
+ghost use Rattle.ion_meter.specs.Sources.{Stands};
+ghost use Rattle.ion_meter.specs.Windows.{left, lent, Extends};
+ghost use Rattle.ion_value.specs.Calls.{Reads};
+ghost use Rattle.ion_value.specs.Digits.{first_is, is_digit};
+ghost use Rattle.ion_text_in.specs.Firsts.{first_of, is_inf, is_told_alone, width};
+ghost use Rattle.ion_text_in.specs.Token.{first_at};
+
+use crate::run::{is_identifier_byte, is_operator_byte};
+use ion_meter::device::Input;
+use ion_meter::fault::{Fault, Reason};
+use ion_meter::source::Source;
+use ion_value::ion_type::Kind;
+use std::alloc::Allocator;
+
+/// A kind of token.
+#[derive(Clone, Copy, Debug, PartialEq, Eq)]
+pub enum First {
+    /// A number or a timestamp: a digit, or a minus and a digit.
+    Number,
+    /// A word: a letter, `_` or `$`.
+    Word,
+    /// A symbol in quotes: `'`.
+    QuotedSymbol,
+    /// A string: `"`.
+    String,
+    /// A long string: `'''`.
+    LongString,
+    /// A blob or a clob: `{{`.
+    Lob,
+    /// An operator, which stands in sexps alone.
+    Operator,
+    /// `+inf` or `-inf`.
+    Infinity,
+    /// A container begins: `{`, `[` or `(`.
+    Begin(Kind),
+    /// A container ends: `}`, `]` or `)`.
+    End(Kind),
+    /// `,`
+    Comma,
+    /// `:`
+    Colon,
+    /// `::`
+    Colons,
+    /// No token.
+    Nothing,
+}
+
+/// Which kind of token begins at the front of a slice, where the slice shows it: it does where it
+/// has five bytes.
+#[tactic(auto, unfolding(crate::specs::Token::first_at))]
+#[inline]
+pub fn scan_first(in_sexp: bool, bytes: &[u8]) -> Option<First>
+    ensures shows { IfSome result (λ f. (more : List ℕ)
+        → first_at in_sexp (bytes.now ++ more) ≡ first_of f) }
+    ensures wide { IfSome result (λ f. width (first_of f) ≤ length bytes.now) }
+    ensures known { 5 ≤ length bytes.now → IsSome result }
+{
+    match bytes {
+        [] => None,
+        [byte, others @ ..] => match *byte {
+            b'0'..=b'9' => Some(First::Number),
+            b'a'..=b'z' | b'A'..=b'Z' | b'_' | b'$' => Some(First::Word),
+            b'"' => Some(First::String),
+            b'\'' => quote(others),
+            b'{' => brace(others),
+            b':' => colon(others),
+            b'+' | b'-' => sign(in_sexp, *byte, others),
+            byte => Some(mark(in_sexp, byte)),
+        },
+    }
+}
+
+/// Which kind of token begins here, or none where the input ends; nothing is passed over.
+///
+/// No byte is waited for but those that tell it, and they stand in the window then.
+#[inline]
+pub fn next_first<I: Input, A: Allocator + Copy>(
+    source: &mut Source<I, A>,
+    in_sexp: bool,
+) -> Result<Option<First>, Fault>
+    requires stands { Stands source.old }
+    ensures first { I.observable source.old.device → IfOk result (λ found. MatchOption found
+        (left I.rest source.old ≡ [])
+        (λ f. first_at in_sexp (left I.rest source.old) ≡ first_of f)) }
+    ensures wide { IfOk result (λ found. IfSome found
+        (λ f. width (first_of f) ≤ length (lent source.new))) }
+    ensures kept { Extends I.rest I.observable source.old source.new }
+    ensures plain { (reason : Reason) (at : ℕ) → result ≡ Err (Fault.Refused reason at) → ⊥ }
+    ensures reads { Reads I.Input source.old source.new result }
+{
+    if let Some(first) = scan_first(in_sexp, source.buffer()) {
+        return Ok(Some(first));
+    }
+    look_ahead(source, in_sexp)
+}
+
+// The same where the window does not show it.
+#[cold]
+#[inline(never)]
+fn look_ahead<I: Input, A: Allocator + Copy>(
+    source: &mut Source<I, A>,
+    in_sexp: bool,
+) -> Result<Option<First>, Fault>
+    requires stands { Stands source.old }
+    requires short { length (lent source.old) < 5 }
+    ensures first { I.observable source.old.device → IfOk result (λ found. MatchOption found
+        (left I.rest source.old ≡ [])
+        (λ f. first_at in_sexp (left I.rest source.old) ≡ first_of f)) }
+    ensures wide { IfOk result (λ found. IfSome found
+        (λ f. width (first_of f) ≤ length (lent source.new))) }
+    ensures kept { Extends I.rest I.observable source.old source.new }
+    ensures plain { (reason : Reason) (at : ℕ) → result ≡ Err (Fault.Refused reason at) → ⊥ }
+    ensures reads { Reads I.Input source.old source.new result }
+{
+    let mut ahead = 0;
+    'ahead: loop {
+        match source.peek(ahead) {
+            Err(fault) => return Err(fault),
+            Ok(None) => return Ok(ended_first(in_sexp, source.buffer())),
+            Ok(Some(_)) => {}
+        }
+        if let Some(first) = scan_first(in_sexp, source.buffer()) {
+            return Ok(Some(first));
+        }
+        ahead += 1;
+    }
+}
+
+// What begins at the front of a slice where the input ends behind it, or none where there is no
+// byte.
+fn ended_first(in_sexp: bool, bytes: &[u8]) -> Option<First>
+    ensures first { MatchOption result (bytes.now ≡ [])
+        (λ f. first_at in_sexp bytes.now ≡ first_of f) }
+    ensures wide { IfSome result (λ f. width (first_of f) ≤ length bytes.now) }
+{
+    if bytes.is_empty() {
+        return None;
+    }
+    match scan_first(in_sexp, bytes) {
+        Some(first) => Some(first),
+        None => Some(short_first(in_sexp, bytes)),
+    }
+}
+
+// The same of fewer than five bytes: a byte that goes on with none of them changes nothing.
+fn short_first(in_sexp: bool, bytes: &[u8]) -> First
+    requires some { 1 ≤ length bytes.now }
+    requires few { length bytes.now < 5 }
+    ensures { first_at in_sexp bytes.now ≡ first_of result }
+{
+    let padded = [
+        bytes[0],
+        byte_at(bytes, 1),
+        byte_at(bytes, 2),
+        byte_at(bytes, 3),
+        0,
+    ];
+    match scan_first(in_sexp, &padded) {
+        Some(first) => first,
+        None => First::Nothing,
+    }
+}
+
+// The byte at an index, or 0 behind the last.
+fn byte_at(bytes: &[u8], index: usize) -> u8
+    ensures { result ≡ slice_index bytes.now index }
+{
+    if index < bytes.len() { bytes[index] } else { 0 }
+}
+
+// What begins with a single quote.
+#[tactic(auto, unfolding(crate::specs::Token::first_at))]
+fn quote(others: &[u8]) -> Option<First>
+    ensures shows { (in_sexp : Bool) → IfSome result (λ f. (more : List ℕ)
+        → first_at in_sexp (39 ∷ (others.now ++ more)) ≡ first_of f) }
+    ensures wide { IfSome result (λ f. width (first_of f) ≤ 1 + length others.now) }
+    ensures known { 2 ≤ length others.now → IsSome result }
+{
+    match others {
+        [] | [b'\''] => None,
+        [b'\'', b'\'', ..] => Some(First::LongString),
+        _ => Some(First::QuotedSymbol),
+    }
+}
+
+// What begins with a brace.
+#[tactic(auto, unfolding(crate::specs::Token::first_at))]
+#[inline]
+fn brace(others: &[u8]) -> Option<First>
+    ensures shows { (in_sexp : Bool) → IfSome result (λ f. (more : List ℕ)
+        → first_at in_sexp (123 ∷ (others.now ++ more)) ≡ first_of f) }
+    ensures wide { IfSome result (λ f. width (first_of f) ≤ 1 + length others.now) }
+    ensures known { 1 ≤ length others.now → IsSome result }
+{
+    match others {
+        [] => None,
+        [b'{', ..] => Some(First::Lob),
+        _ => Some(First::Begin(Kind::Struct)),
+    }
+}
+
+// What begins with a colon.
+#[tactic(auto, unfolding(crate::specs::Token::first_at))]
+#[inline]
+fn colon(others: &[u8]) -> Option<First>
+    ensures shows { (in_sexp : Bool) → IfSome result (λ f. (more : List ℕ)
+        → first_at in_sexp (58 ∷ (others.now ++ more)) ≡ first_of f) }
+    ensures wide { IfSome result (λ f. width (first_of f) ≤ 1 + length others.now) }
+    ensures known { 1 ≤ length others.now → IsSome result }
+{
+    match others {
+        [] => None,
+        [b':', ..] => Some(First::Colons),
+        _ => Some(First::Colon),
+    }
+}
+
+// What begins with a sign.
+#[tactic(auto, unfolding(crate::specs::Token::first_at))]
+fn sign(in_sexp: bool, sign: u8, others: &[u8]) -> Option<First>
+    requires { (sign ≡ 43) ⊎ (sign ≡ 45) }
+    ensures shows { IfSome result (λ f. (more : List ℕ)
+        → first_at in_sexp (sign ∷ (others.now ++ more)) ≡ first_of f) }
+    ensures wide { IfSome result (λ f. width (first_of f) ≤ 1 + length others.now) }
+    ensures known { 4 ≤ length others.now → IsSome result }
+{
+    if sign == b'-' && begins_digit(others) {
+        return Some(First::Number);
+    }
+    match is_infinity(others) {
+        None => None,
+        Some(true) => Some(First::Infinity),
+        Some(false) => Some(operator(in_sexp)),
+    }
+}
+
+// Whether these bytes begin with a digit.
+#[inline]
+fn begins_digit(bytes: &[u8]) -> bool
+    ensures { result ≡ first_is is_digit bytes.now }
+{
+    matches!(bytes, [b'0'..=b'9', ..])
+}
+
+// Whether `inf` stands behind a sign, and no identifier goes on behind it.
+#[inline]
+fn is_infinity(others: &[u8]) -> Option<bool>
+    ensures shows { IfSome result (λ is. (more : List ℕ) → is_inf (others.now ++ more) ≡ is) }
+    ensures some { IfSome result (λ _. 1 ≤ length others.now) }
+    ensures wide { IfSome result (λ is. is ≡ true → 3 ≤ length others.now) }
+    ensures known { 4 ≤ length others.now → IsSome result }
+{
+    match others {
+        [] | [b'i'] | [b'i', b'n'] | [b'i', b'n', b'f'] => None,
+        [b'i', b'n', b'f', next, ..] => Some(!is_identifier_byte(*next)),
+        _ => Some(false),
+    }
+}
+
+// An operator where it may stand.
+#[inline]
+fn operator(in_sexp: bool) -> First
+    ensures { result ≡ (if in_sexp then First.Operator else First.Nothing) }
+{
+    if in_sexp {
+        First::Operator
+    } else {
+        First::Nothing
+    }
+}
+
+// What begins with another byte.
+#[tactic(auto, unfolding(crate::specs::Token::first_at))]
+#[inline]
+fn mark(in_sexp: bool, byte: u8) -> First
+    requires { is_told_alone byte ≡ true }
+    ensures shows { (more : List ℕ) → first_at in_sexp (byte ∷ more) ≡ first_of result }
+    ensures wide { width (first_of result) ≡ 1 }
+{
+    match byte {
+        b'[' => First::Begin(Kind::List),
+        b'(' => First::Begin(Kind::Sexp),
+        b'}' => First::End(Kind::Struct),
+        b']' => First::End(Kind::List),
+        b')' => First::End(Kind::Sexp),
+        b',' => First::Comma,
+        _ if in_sexp && is_operator_byte(byte) => First::Operator,
+        _ => First::Nothing,
+    }
+}

@@ -1,0 +1,483 @@
+//! Blobs and clobs (Ion specification, "Blobs" and "Clobs").
+ghost use Rattle.std.specs.Prelude.{◌≡◌, ◌≢◌, ◌+◌, ◌<◌, ◌≤◌, ℕ, Option, All, None, Some, Ok, Err, true, false, length, take, OnOk, IfOk, IfSome, IfNone};
+ghost use Rattle.base64.specs.Decode.{decoded_estimate};
+ghost use Rattle.base64.specs.Engines.{standard};
+ghost use Rattle.base64.specs.GeneralPurpose.{decoded_of, encode_of};
+ghost use Rattle.ion_meter.specs.Sources.{cursor, Stands};
+ghost use Rattle.ion_meter.specs.Windows.{left, lent, IsGiven};
+ghost use Rattle.ion_value.specs.Answers.{Answers};
+ghost use Rattle.ion_value.specs.Calls.{AnswersBy, CanRead, Reads, ReadsInto};
+ghost use Rattle.ion_text_in.specs.Lob.{are_cut_quotes, closed_at, group_of, lob_in};
+ghost use Rattle.ion_text_in.specs.Lobs.{CanTake, Closes, Continues, with_groups_behind, blob_from, closed_behind, lob_of, opened};
+ghost use Rattle.ion_text_in.specs.Token.{a_lob, plain, token_of};
+
+use crate::blank::pass_white;
+use crate::quoted::Quote;
+use crate::text::{next_long_text, next_short_text, pass_quotes};
+use base64::engine::general_purpose::STANDARD;
+use ion_meter::buf::Buf;
+use ion_meter::device::Input;
+use ion_meter::fault::{Fault, Reason};
+use ion_meter::limits::Limits;
+use ion_meter::meter::Meter;
+use ion_meter::source::Source;
+use std::alloc::Allocator;
+
+/// A kind of lob.
+#[derive(Clone, Copy, Debug, PartialEq, Eq)]
+pub enum Lob {
+    /// A clob.
+    Clob,
+    /// A blob.
+    Blob,
+}
+
+// What opens the text of a clob.
+#[derive(Clone, Copy, Debug, PartialEq, Eq)]
+pub(crate) enum Opening {
+    // A double quote.
+    Short,
+    // Three single quotes.
+    Long,
+    // Nothing: it is a blob.
+    None,
+}
+
+/// Reads a lob, at whose two opening braces the source stands, and puts its bytes into `text`.
+///
+/// Faults stand at the first brace: `Truncated` where the input ends before the lob does,
+/// `ScalarLimit` before `text` grows above `Limits::scalar`, and `BadLob` for what may not stand in
+/// a lob.
+pub fn next_lob<I: Input, A: Allocator + Copy>(
+    source: &mut Source<I, A>,
+    text: &mut Buf<A>,
+    limits: Limits,
+    meter: &mut Meter<A>,
+) -> Result<Lob, Fault>
+    requires can_read { CanRead limits limits.scalar source.old text.old meter.old }
+    requires braces { IsGiven source.old 1 }
+    ensures gives { AnswersBy I.Input (λ lob. plain (lob_of lob text.new)) source.old source.new
+        source.old.place result (token_of (Some limits.scalar) a_lob) }
+    ensures reads { ReadsInto I.Input source.old source.new meter.old meter.new
+        (length text.old) (length text.new) limits.scalar result }
+{
+    let place = source.place();
+    source.consume(2);
+    if let Err(fault) = pass_white(source) {
+        return Err(fault);
+    }
+    let opening = match pass_opening(source) {
+        Err(fault) => return Err(fault),
+        Ok(opening) => opening,
+    };
+    match opening {
+        Opening::Short => next_short_clob(source, text, place, limits, meter),
+        Opening::Long => next_long_clob(source, text, place, limits, meter),
+        Opening::None => next_blob(source, text, place, limits, meter),
+    }
+}
+
+// Passes over the quotes that open the text of a clob.
+fn pass_opening<I: Input, A: Allocator + Copy>(source: &mut Source<I, A>) -> Result<Opening, Fault>
+    requires stands { Stands source.old }
+    ensures gives { I.observable source.old.device → (limit : Option ℕ)
+        → IfOk result (λ opening. lob_in limit (cursor I.Input source.old)
+        ≡ opened opening limit (cursor I.Input source.new)) }
+    ensures plain { (r : Reason) (p : ℕ) → result ≢ Err (Fault.Refused r p) }
+    ensures reads { Reads I.Input source.old source.new result }
+{
+    match source.peek(0) {
+        Err(fault) => return Err(fault),
+        Ok(None) => return Ok(Opening::None),
+        Ok(Some(byte)) => {
+            if byte == b'"' {
+                source.advance();
+                return Ok(Opening::Short);
+            }
+        }
+    }
+    match pass_quotes(source) {
+        Err(fault) => Err(fault),
+        Ok(true) => Ok(Opening::Long),
+        Ok(false) => Ok(Opening::None),
+    }
+}
+
+// The text of a clob behind a double quote, and what closes the clob, which begins at a place.
+fn next_short_clob<I: Input, A: Allocator + Copy>(
+    source: &mut Source<I, A>,
+    text: &mut Buf<A>,
+    place: u64,
+    limits: Limits,
+    meter: &mut Meter<A>,
+) -> Result<Lob, Fault>
+    requires can_read { CanRead limits limits.scalar source.old text.old meter.old }
+    ensures gives { I.observable source.old.device → Answers (λ lob. lob_of lob text.new) result
+        (cursor I.Input source.new) place
+        (opened Opening.Short (Some limits.scalar) (cursor I.Input source.old)) }
+    ensures reads { ReadsInto I.Input source.old source.new meter.old meter.new
+        (length text.old) (length text.new) limits.scalar result }
+{
+    if let Err(fault) = next_short_text(source, text, Quote::ShortClob, place, limits, meter) {
+        return Err(fault);
+    }
+    if let Err(fault) = pass_white(source) {
+        return Err(fault);
+    }
+    if let Err(fault) = pass_braces(source, place) {
+        return Err(fault);
+    }
+    Ok(Lob::Clob)
+}
+
+// The same behind three single quotes.
+fn next_long_clob<I: Input, A: Allocator + Copy>(
+    source: &mut Source<I, A>,
+    text: &mut Buf<A>,
+    place: u64,
+    limits: Limits,
+    meter: &mut Meter<A>,
+) -> Result<Lob, Fault>
+    requires can_read { CanRead limits limits.scalar source.old text.old meter.old }
+    ensures gives { I.observable source.old.device → Answers (λ lob. lob_of lob text.new) result
+        (cursor I.Input source.new) place
+        (opened Opening.Long (Some limits.scalar) (cursor I.Input source.old)) }
+    ensures reads { ReadsInto I.Input source.old source.new meter.old meter.new
+        (length text.old) (length text.new) limits.scalar result }
+{
+    if let Err(fault) = next_long_text(source, text, Quote::LongClob, place, limits, meter) {
+        return Err(fault);
+    }
+    match are_cut_quotes(source) {
+        Err(fault) => return Err(fault),
+        Ok(true) => return Err(Fault::Refused(Reason::Truncated, place)),
+        Ok(false) => {}
+    }
+    if let Err(fault) = pass_braces(source, place) {
+        return Err(fault);
+    }
+    Ok(Lob::Clob)
+}
+
+// Whether one quote or two are all that is left of the input: a further segment may begin there.
+fn are_cut_quotes<I: Input, A: Allocator + Copy>(source: &mut Source<I, A>) -> Result<bool, Fault>
+    requires stands { Stands source.old }
+    ensures gives { I.observable source.old.device → IfOk result (λ cut.
+        cut ≡ are_cut_quotes (left I.rest source.old)) }
+    ensures still { I.observable source.old.device
+        → cursor I.Input source.new ≡ cursor I.Input source.old }
+    ensures plain { (r : Reason) (p : ℕ) → result ≢ Err (Fault.Refused r p) }
+    ensures reads { Reads I.Input source.old source.new result }
+{
+    match source.peek(0) {
+        Err(fault) => return Err(fault),
+        Ok(None) => return Ok(false),
+        Ok(Some(byte)) => {
+            if byte != b'\'' {
+                return Ok(false);
+            }
+        }
+    }
+    match source.peek(1) {
+        Err(fault) => return Err(fault),
+        Ok(None) => return Ok(true),
+        Ok(Some(second)) => {
+            if second != b'\'' {
+                return Ok(false);
+            }
+        }
+    }
+    match source.peek(2) {
+        Err(fault) => Err(fault),
+        Ok(None) => Ok(true),
+        Ok(Some(_)) => Ok(false),
+    }
+}
+
+// How many characters of a blob are decoded at once: whole groups of four.
+const BLOCK: usize = 256;
+
+// The bytes of a blob behind its opening braces and white space, read up to and with the closing
+// braces of a lob that begins at a place.
+fn next_blob<I: Input, A: Allocator + Copy>(
+    source: &mut Source<I, A>,
+    text: &mut Buf<A>,
+    place: u64,
+    limits: Limits,
+    meter: &mut Meter<A>,
+) -> Result<Lob, Fault>
+    requires can_read { CanRead limits limits.scalar source.old text.old meter.old }
+    ensures gives { I.observable source.old.device → Answers (λ lob. lob_of lob text.new) result
+        (cursor I.Input source.new) place
+        (opened Opening.None (Some limits.scalar) (cursor I.Input source.old)) }
+    ensures reads { ReadsInto I.Input source.old source.new meter.old meter.new
+        (length text.old) (length text.new) limits.scalar result }
+{
+    text.clear(meter);
+    let mut padded = false;
+    'groups: loop {
+        if !padded {
+            padded = match take_blocks(source, text, limits, meter) {
+                Err(fault) => return Err(fault),
+                Ok(padded) => padded,
+            };
+        }
+        padded = match take_group(source, text, padded, place, limits, meter) {
+            Err(fault) => return Err(fault),
+            Ok(None) => return Ok(Lob::Blob),
+            Ok(Some(padded)) => padded,
+        };
+    }
+}
+
+// Takes groups of the window in blocks, as far as they stand without white space between them and
+// are well formed; true where the last of them is padded.
+fn take_blocks<I: Input, A: Allocator + Copy>(
+    source: &mut Source<I, A>,
+    text: &mut Buf<A>,
+    limits: Limits,
+    meter: &mut Meter<A>,
+) -> Result<bool, Fault>
+    requires can_take { CanTake limits source.old text.old meter.old }
+    ensures gives { I.observable source.old.device → IfOk result (λ padded.
+        with_groups_behind limits.scalar text.old false (cursor I.Input source.old)
+        ≡ with_groups_behind limits.scalar text.new padded (cursor I.Input source.new)) }
+    ensures plain { (r : Reason) (p : ℕ) → result ≢ Err (Fault.Refused r p) }
+    ensures reads { ReadsInto I.Input source.old source.new meter.old meter.new
+        (length text.old) (length text.new) limits.scalar result }
+{
+    let mut run = solid_run(source.buffer());
+    'pieces: while run >= 4 {
+        let count = run.min(BLOCK).min(source.buffer().len()) / 4 * 4;
+        if count == 0 {
+            break;
+        }
+        match take_block(source, text, count, limits, meter) {
+            Err(fault) => return Err(fault),
+            Ok(None) => break,
+            Ok(Some(true)) => return Ok(true),
+            Ok(Some(false)) => {}
+        }
+        run -= count;
+    }
+    Ok(false)
+}
+
+// Takes so many characters of the window, where they are well formed and their bytes are within the
+// limit; true where the last group of them is padded.
+fn take_block<I: Input, A: Allocator + Copy>(
+    source: &mut Source<I, A>,
+    text: &mut Buf<A>,
+    count: usize,
+    limits: Limits,
+    meter: &mut Meter<A>,
+) -> Result<Option<bool>, Fault>
+    requires can_take { CanTake limits source.old text.old meter.old }
+    requires few { count ≤ BLOCK }
+    requires some { 0 < count }
+    requires there { count ≤ length (lent source.old) }
+    ensures gives { I.observable source.old.device → IfOk result (λ found. IfSome found (λ padded.
+        with_groups_behind limits.scalar text.old false (cursor I.Input source.old)
+        ≡ with_groups_behind limits.scalar text.new padded (cursor I.Input source.new))) }
+    ensures none { result ≡ Ok None → (source.new ≡ source.old) × (text.new ≡ text.old)
+        × (meter.new ≡ meter.old) }
+    ensures plain { (r : Reason) (p : ℕ) → result ≢ Err (Fault.Refused r p) }
+    ensures reads { ReadsInto I.Input source.old source.new meter.old meter.new
+        (length text.old) (length text.new) limits.scalar result }
+{
+    let mut room = [0; BLOCK / 4 * 3];
+    let Some(n) = decode(&source.buffer()[..count], &mut room) else {
+        return Ok(None);
+    };
+    let left = limits.scalar - (text.as_slice().len() as u64);
+    if left < n as u64 {
+        return Ok(None);
+    }
+    if let Err(fault) = text.extend(meter, &room[..n]) {
+        return Err(fault);
+    }
+    source.consume(count);
+    Ok(Some(n % 3 != 0))
+}
+
+// Takes a group of four characters, with white space among them, or the closing braces.
+#[inline(never)]
+fn take_group<I: Input, A: Allocator + Copy>(
+    source: &mut Source<I, A>,
+    text: &mut Buf<A>,
+    padded: bool,
+    place: u64,
+    limits: Limits,
+    meter: &mut Meter<A>,
+) -> Result<Option<bool>, Fault>
+    requires can_take { CanTake limits source.old text.old meter.old }
+    ensures gives { I.observable source.old.device → Continues result place
+        (with_groups_behind limits.scalar text.old padded (cursor I.Input source.old))
+        (blob_from limits.scalar text.new (cursor I.Input source.new)) }
+    ensures taken { IfOk result (λ found. IfSome found (λ _.
+        source.old.place < source.new.place)) }
+    ensures reads { ReadsInto I.Input source.old source.new meter.old meter.new
+        (length text.old) (length text.new) limits.scalar result }
+{
+    let mut group = [0; 4];
+    let count = match next_characters(source, &mut group) {
+        Err(fault) => return Err(fault),
+        Ok(count) => count,
+    };
+    if count < 4 {
+        return end_groups(source, count, place);
+    }
+    let mut bytes = [0; 3];
+    let Some(n) = decode(&group, &mut bytes) else {
+        return Err(Fault::Refused(Reason::BadLob, place));
+    };
+    if padded {
+        return Err(Fault::Refused(Reason::BadLob, place));
+    }
+    if limits.scalar - (text.as_slice().len() as u64) < n as u64 {
+        return Err(Fault::Refused(Reason::ScalarLimit, place));
+    }
+    if let Err(fault) = text.extend(meter, &bytes[..n]) {
+        return Err(fault);
+    }
+    Ok(Some(n < 3))
+}
+
+// Passes over the braces behind fewer than four characters, which may be none alone.
+fn end_groups<I: Input, A: Allocator + Copy>(
+    source: &mut Source<I, A>,
+    count: usize,
+    place: u64,
+) -> Result<Option<bool>, Fault>
+    requires stands { Stands source.old }
+    ensures none { IfOk result (λ found. found ≡ None) }
+    ensures gives { I.observable source.old.device → Closes result (cursor I.Input source.new)
+        place (closed_behind count (cursor I.Input source.old)) }
+    ensures reads { Reads I.Input source.old source.new result }
+{
+    if let Err(fault) = pass_braces(source, place) {
+        return Err(fault);
+    }
+    if count > 0 {
+        return Err(Fault::Refused(Reason::BadLob, place));
+    }
+    Ok(None)
+}
+
+// Passes over the braces that close a lob which begins at a place.
+fn pass_braces<I: Input, A: Allocator + Copy>(
+    source: &mut Source<I, A>,
+    place: u64,
+) -> Result<(), Fault>
+    requires stands { Stands source.old }
+    ensures gives { I.observable source.old.device → Closes result (cursor I.Input source.new)
+        place (closed_at (cursor I.Input source.old)) }
+    ensures reads { Reads I.Input source.old source.new result }
+{
+    match source.peek(0) {
+        Err(fault) => return Err(fault),
+        Ok(None) => return Err(Fault::Refused(Reason::Truncated, place)),
+        Ok(Some(byte)) => {
+            if byte != b'}' {
+                return Err(Fault::Refused(Reason::BadLob, place));
+            }
+        }
+    }
+    match source.peek(1) {
+        Err(fault) => return Err(fault),
+        Ok(None) => return Err(Fault::Refused(Reason::Truncated, place)),
+        Ok(Some(second)) => {
+            if second != b'}' {
+                return Err(Fault::Refused(Reason::BadLob, place));
+            }
+        }
+    }
+    source.consume(2);
+    Ok(())
+}
+
+// Passes over up to four characters, white space apart, and stops before a brace or the input's end.
+// It answers how many there are.
+fn next_characters<I: Input, A: Allocator + Copy>(
+    source: &mut Source<I, A>,
+    group: &mut [u8; 4],
+) -> Result<usize, Fault>
+    requires stands { Stands source.old }
+    ensures gives { I.observable source.old.device → IfOk result (λ n.
+        group_of 4 (left I.rest source.old) ≡ (take n group.new, left I.rest source.new)) }
+    ensures few { IfOk result (λ n. n ≤ 4) }
+    ensures taken { IfOk result (λ n. source.old.place + n ≤ source.new.place) }
+    ensures plain { (r : Reason) (p : ℕ) → result ≢ Err (Fault.Refused r p) }
+    ensures reads { Reads I.Input source.old source.new result }
+{
+    for i in 0..4 {
+        if let Err(fault) = pass_white(source) {
+            return Err(fault);
+        }
+        match source.peek(0) {
+            Err(fault) => return Err(fault),
+            Ok(None) => return Ok(i),
+            Ok(Some(byte)) => {
+                if byte == b'}' {
+                    return Ok(i);
+                }
+                group[i] = byte;
+            }
+        }
+        source.advance();
+    }
+    Ok(4)
+}
+
+// Decodes whole groups of characters to the front of some room; none where they are not well formed.
+#[inline]
+fn decode(chars: &[u8], room: &mut [u8]) -> Option<usize>
+    requires room { decoded_estimate (length chars.now) ≤ length room.old }
+    ensures some { IfSome result (λ n. chars.now ≡ encode_of standard (take n room.new)) }
+    ensures octets { IfSome result (λ n. All (λ octet. octet < 256) (take n room.new)) }
+    ensures within { IfSome result (λ n. n ≤ length room.new) }
+    ensures none { IfNone result (decoded_of standard chars.now ≡ None) }
+    ensures length { length room.new ≡ length room.old }
+{
+    STANDARD.decode_slice_unchecked(chars, room).ok()
+}
+
+// How many bytes are looked at together.
+const STEP: usize = 32;
+
+// How many bytes at the front of these are no white space and no brace, at most; what they are is
+// seen as they are decoded.
+#[inline]
+fn solid_run(bytes: &[u8]) -> usize
+    ensures within { result ≤ length bytes.now }
+{
+    let mut at = 0;
+    'skip: while bytes.len() - at >= STEP {
+        if !are_solid(&bytes[at..at + STEP]) {
+            break;
+        }
+        at += STEP;
+    }
+    for (i, byte) in bytes[at..].iter().enumerate() {
+        if !is_solid(*byte) {
+            return at + i;
+        }
+    }
+    bytes.len()
+}
+
+// Whether none of these bytes is white space or a closing brace. No byte ends the loop, so that it
+// can look at many of them at once.
+#[inline]
+fn are_solid(bytes: &[u8]) -> bool {
+    let mut solid = true;
+    for byte in bytes {
+        solid &= is_solid(*byte);
+    }
+    solid
+}
+
+#[inline]
+fn is_solid(byte: u8) -> bool {
+    byte > b' ' && byte != b'}'
+}

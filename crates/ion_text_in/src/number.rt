@@ -1,0 +1,167 @@
+//! Numbers and timestamps (Ion specification, "Text Encoding").
+ghost use Rattle.std.specs.Prelude.{◌≡◌, Some, Ok, Err, length, IfOk, MatchResult};
+ghost use Rattle.ion_value.specs.Decimal.{decimal_of_text};
+ghost use Rattle.ion_value.specs.Int.{int_of_text};
+ghost use Rattle.ion_value.specs.Calls.{AnswersBy, CanRead, ReadsInto};
+ghost use Rattle.ion_value.specs.Standing.{InRange};
+ghost use Rattle.ion_text_in.specs.Scanners.{Shows};
+ghost use Rattle.ion_text_in.specs.Token.{a_run, run_token, token_of};
+ghost use Rattle.ion_text_in.specs.Views.{IfWhole, as_number, number_token};
+
+use crate::gather::gather_token;
+use crate::run::{Run, token_extent};
+use crate::scanned::Scanned;
+use ion_meter::buf::Buf;
+use ion_meter::device::Input;
+use ion_meter::fault::{Fault, Reason};
+use ion_meter::limits::Limits;
+use ion_meter::meter::Meter;
+use ion_meter::source::Source;
+use ion_value::decimal::{Decimal, decimal_from_text};
+use ion_value::int::{Int, int_from_text};
+use ion_value::timestamp::{Timestamp, timestamp_from_text};
+use std::alloc::Allocator;
+
+/// A number or a timestamp.
+#[derive(Clone, Copy, Debug, PartialEq, Eq)]
+pub enum Number {
+    /// An int.
+    Int(Int),
+    /// A decimal.
+    Decimal(Decimal),
+    /// A timestamp in local time.
+    Timestamp(Timestamp),
+}
+
+/// What a slice shows of the number or timestamp that begins at the front of it.
+///
+/// Answers `ScalarLimit` where it has more bytes than the limit, and then what is wrong in it:
+/// `BadToken`, `Float`, `Range` or `BadTimestamp`.
+#[inline]
+pub fn scan_number(limit: u64, bytes: &[u8]) -> Scanned<Number>
+    ensures shows { Shows number_token bytes.now result (token_of (Some limit) a_run) }
+    ensures range { IfWhole result (λ x. InRange (as_number x)) }
+{
+    let Some(count) = token_extent(Run::Number, bytes) else {
+        return Scanned::Cut;
+    };
+    if limit < count as u64 {
+        return Scanned::Fault(Reason::ScalarLimit);
+    }
+    match number_of(&bytes[..count]) {
+        Ok(number) => Scanned::Whole(number, count),
+        Err(reason) => Scanned::Fault(reason),
+    }
+}
+
+/// The number or timestamp that begins here, where nothing stands before it.
+///
+/// Only one that the window's end cuts is copied, to `text`. Answers `ScalarLimit` where it has more
+/// bytes than the limit, and then what is wrong in it: `BadToken`, `Float`, `Range` or
+/// `BadTimestamp`, each at the place of its first byte.
+#[inline]
+pub fn next_number<I: Input, A: Allocator + Copy>(
+    source: &mut Source<I, A>,
+    text: &mut Buf<A>,
+    limits: Limits,
+    meter: &mut Meter<A>,
+) -> Result<Number, Fault>
+    requires can_read { CanRead limits limits.scalar source.old text.old meter.old }
+    ensures gives { AnswersBy I.Input number_token source.old source.new source.old.place result
+        (token_of (Some limits.scalar) a_run) }
+    ensures range { IfOk result (λ x. InRange (as_number x)) }
+    ensures reads { ReadsInto I.Input source.old source.new meter.old meter.new
+        (length text.old) (length text.new) limits.scalar result }
+{
+    match scan_number(limits.scalar, source.buffer()) {
+        Scanned::Whole(number, count) => {
+            source.consume(count);
+            Ok(number)
+        }
+        Scanned::Fault(reason) => Err(Fault::Refused(reason, source.place())),
+        Scanned::Cut => gather_number(source, text, limits, meter),
+    }
+}
+
+// The same where the window's end cuts it.
+#[cold]
+#[inline(never)]
+fn gather_number<I: Input, A: Allocator + Copy>(
+    source: &mut Source<I, A>,
+    text: &mut Buf<A>,
+    limits: Limits,
+    meter: &mut Meter<A>,
+) -> Result<Number, Fault>
+    requires can_read { CanRead limits limits.scalar source.old text.old meter.old }
+    ensures gives { AnswersBy I.Input number_token source.old source.new source.old.place result
+        (token_of (Some limits.scalar) a_run) }
+    ensures range { IfOk result (λ x. InRange (as_number x)) }
+    ensures reads { ReadsInto I.Input source.old source.new meter.old meter.new
+        (length text.old) (length text.new) limits.scalar result }
+{
+    let place = source.place();
+    if let Err(fault) = gather_token(source, text, Run::Number, limits, meter) {
+        return Err(fault);
+    }
+    match number_of(text.as_slice()) {
+        Ok(number) => Ok(number),
+        Err(reason) => Err(Fault::Refused(reason, place)),
+    }
+}
+
+// The number or timestamp of a run.
+#[inline]
+fn number_of(run: &[u8]) -> Result<Number, Reason>
+    ensures gives { MatchResult result (λ x. run_token run.now ≡ Ok (number_token x))
+        (λ reason. run_token run.now ≡ Err reason) }
+    ensures range { IfOk result (λ x. InRange (as_number x)) }
+{
+    if let [_, _, _, _, b'-' | b'T', ..] = run {
+        match timestamp_from_text(run) {
+            Ok(timestamp) => return Ok(Number::Timestamp(timestamp)),
+            Err(reason) => match reason {
+                Reason::BadToken => {}
+                _ => return Err(reason),
+            },
+        }
+    }
+    match int_from_text(run) {
+        Ok(int) => Ok(Number::Int(int)),
+        Err(reason) => match reason {
+            Reason::BadToken => no_int(run),
+            _ => Err(reason),
+        },
+    }
+}
+
+// The decimal or timestamp of a run that is no int.
+#[inline]
+fn no_int(run: &[u8]) -> Result<Number, Reason>
+    requires { int_of_text run.now ≡ Err Reason.BadToken }
+    ensures gives { MatchResult result (λ x. run_token run.now ≡ Ok (number_token x))
+        (λ reason. run_token run.now ≡ Err reason) }
+    ensures range { IfOk result (λ x. InRange (as_number x)) }
+{
+    match decimal_from_text(run) {
+        Ok(decimal) => Ok(Number::Decimal(decimal)),
+        Err(reason) => match reason {
+            Reason::BadToken => no_number(run),
+            _ => Err(reason),
+        },
+    }
+}
+
+// The timestamp of a run that is neither an int nor a decimal.
+#[inline]
+fn no_number(run: &[u8]) -> Result<Number, Reason>
+    requires no_int { int_of_text run.now ≡ Err Reason.BadToken }
+    requires no_decimal { decimal_of_text run.now ≡ Err Reason.BadToken }
+    ensures gives { MatchResult result (λ x. run_token run.now ≡ Ok (number_token x))
+        (λ reason. run_token run.now ≡ Err reason) }
+    ensures range { IfOk result (λ x. InRange (as_number x)) }
+{
+    match timestamp_from_text(run) {
+        Ok(timestamp) => Ok(Number::Timestamp(timestamp)),
+        Err(reason) => Err(reason),
+    }
+}

@@ -1,0 +1,120 @@
+//! Operators, infinities and punctuation (Ion specification, "Text Encoding").
+ghost use Rattle.std.specs.Prelude.{◌≡◌, ℕ, ◌≤◌, ◌<◌, Option, Some, Ok, Err, length};
+ghost use Rattle.ion_meter.specs.Sources.{cursor, Stands};
+ghost use Rattle.ion_meter.specs.Windows.{lent, CanPass, IsPassed};
+ghost use Rattle.ion_value.specs.Calls.{AnswersBy, CanRead, Reads, ReadsInto};
+ghost use Rattle.ion_value.specs.declared.ion_type.Kind.{Kind};
+ghost use Rattle.ion_text_in.specs.Scanners.{Shows};
+ghost use Rattle.ion_text_in.specs.Token as tokens;
+ghost use Rattle.ion_text_in.specs.Token.{an_infinity, an_operator, token_of};
+ghost use Rattle.ion_text_in.specs.Views.{IsWithin, shown_text};
+
+use crate::gather::{copy, gather_token};
+use crate::run::{Run, token_extent};
+use crate::scanned::Scanned;
+use ion_meter::buf::Buf;
+use ion_meter::device::Input;
+use ion_meter::fault::{Fault, Reason};
+use ion_meter::limits::Limits;
+use ion_meter::meter::Meter;
+use ion_meter::source::Source;
+use std::alloc::Allocator;
+
+/// What a slice shows of the operator that begins at the front of it.
+///
+/// Its bytes are those at the front of the slice. Answers `ScalarLimit` where it has more than the
+/// limit.
+#[inline]
+pub fn scan_operator(limit: u64, bytes: &[u8]) -> Scanned<()>
+    ensures shows { Shows (λ _. tokens.operator (shown_text bytes.now result)) bytes.now result
+        (token_of (Some limit) an_operator) }
+    ensures within { IsWithin limit result }
+{
+    let Some(count) = token_extent(Run::Operator, bytes) else {
+        return Scanned::Cut;
+    };
+    if limit < count as u64 {
+        return Scanned::Fault(Reason::ScalarLimit);
+    }
+    Scanned::Whole((), count)
+}
+
+/// The operator that begins here: its bytes are copied to `text`.
+///
+/// Answers `ScalarLimit` where it has more bytes than the limit.
+#[inline]
+pub fn next_operator<I: Input, A: Allocator + Copy>(
+    source: &mut Source<I, A>,
+    text: &mut Buf<A>,
+    limits: Limits,
+    meter: &mut Meter<A>,
+) -> Result<(), Fault>
+    requires can_read { CanRead limits limits.scalar source.old text.old meter.old }
+    ensures gives { AnswersBy I.Input (λ _. tokens.operator text.new) source.old source.new
+        source.old.place result (token_of (Some limits.scalar) an_operator) }
+    ensures reads { ReadsInto I.Input source.old source.new meter.old meter.new
+        (length text.old) (length text.new) limits.scalar result }
+{
+    match scan_operator(limits.scalar, source.buffer()) {
+        Scanned::Whole((), count) => copy(source, text, count, limits, meter),
+        Scanned::Fault(reason) => Err(Fault::Refused(reason, source.place())),
+        Scanned::Cut => gather_token(source, text, Run::Operator, limits, meter),
+    }
+}
+
+/// Passes over `+inf` or `-inf`, whose four bytes stand in the window.
+///
+/// Answers `ScalarLimit` where the limit is below 4.
+#[tactic(auto, unfolding(crate::specs::Token::token_of))]
+#[inline]
+pub fn next_infinity<I: Input, A: Allocator + Copy>(
+    source: &mut Source<I, A>,
+    limits: Limits,
+) -> Result<(), Fault>
+    requires stands { Stands source.old }
+    requires there { 4 ≤ length (lent source.old) }
+    ensures gives { AnswersBy I.Input (λ _. tokens.no_number) source.old source.new
+        source.old.place result (token_of (Some limits.scalar) an_infinity) }
+    ensures reads { Reads I.Input source.old source.new result }
+{
+    if limits.scalar < 4 {
+        return Err(Fault::Refused(Reason::ScalarLimit, source.place()));
+    }
+    source.consume(4);
+    Ok(())
+}
+
+/// Passes over a bracket, a brace, a parenthesis, a comma or a colon, which stands in the window.
+#[tactic(auto, unfolding(crate::specs::Token::token_of))]
+#[inline]
+pub fn pass_mark<I: Input, A: Allocator + Copy>(source: &mut Source<I, A>)
+    requires stands { Stands source.old }
+    requires there { 1 ≤ length (lent source.old) }
+    ensures begin { (limit : Option ℕ) (kind : Kind)
+        → token_of limit (tokens.a_begin kind) (cursor I.Input source.old)
+        ≡ Ok (tokens.begin kind, cursor I.Input source.new) }
+    ensures end { (limit : Option ℕ) (kind : Kind)
+        → token_of limit (tokens.an_end kind) (cursor I.Input source.old)
+        ≡ Ok (tokens.end kind, cursor I.Input source.new) }
+    ensures comma { (limit : Option ℕ) → token_of limit tokens.a_comma (cursor I.Input source.old)
+        ≡ Ok (tokens.comma, cursor I.Input source.new) }
+    ensures colon { (limit : Option ℕ) → token_of limit tokens.a_colon (cursor I.Input source.old)
+        ≡ Ok (tokens.colon, cursor I.Input source.new) }
+    ensures passed { IsPassed source.old source.new 1 }
+{
+    source.consume(1);
+}
+
+/// Passes over two colons, which stand in the window.
+#[tactic(auto, unfolding(crate::specs::Token::token_of))]
+#[inline]
+pub fn pass_colons<I: Input, A: Allocator + Copy>(source: &mut Source<I, A>)
+    requires stands { Stands source.old }
+    requires there { 2 ≤ length (lent source.old) }
+    ensures colons { (limit : Option ℕ)
+        → token_of limit tokens.two_colons (cursor I.Input source.old)
+        ≡ Ok (tokens.colons, cursor I.Input source.new) }
+    ensures passed { IsPassed source.old source.new 2 }
+{
+    source.consume(2);
+}

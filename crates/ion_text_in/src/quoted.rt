@@ -1,0 +1,158 @@
+//! Quotes, and the plain bytes between them (Ion specification, "Strings", "Symbols" and "Clobs").
+ghost use Rattle.std.specs.Prelude.{◌≡◌, ◌<◌, ◌≤◌, ◌↔◌, true, false, Some, length, take, drop, IsTrue, IsUtf8};
+ghost use Rattle.ion_value.specs.Digits.{first_is, all_are};
+ghost use Rattle.ion_text_in.specs.Quotes.{quote_of, mark_of, one_mark, IsWithin};
+ghost use Rattle.ion_text_in.specs.Quoted.{text_at};
+ghost use Rattle.ion_text_in.specs.Scanners.{Shows};
+ghost use Rattle.ion_text_in.specs.Scanning.{is_plain_byte};
+
+use crate::scanned::Scanned;
+use ion_meter::fault::Reason;
+
+/// The quotes that a text stands between.
+#[derive(Clone, Copy, Debug, PartialEq, Eq)]
+pub enum Quote {
+    /// `'`, around a symbol.
+    Symbol,
+    /// `"`, around a string.
+    Short,
+    /// `"`, around the text of a clob.
+    ShortClob,
+    /// `'''`, around a segment of a long string.
+    Long,
+    /// `'''`, around a segment of a long clob.
+    LongClob,
+}
+
+impl Quote {
+    /// The byte that the quotes are made of.
+    #[inline]
+    pub(crate) fn mark(self) -> u8
+        ensures { result ≡ mark_of self }
+    {
+        match self {
+            Quote::Short | Quote::ShortClob => b'"',
+            _ => b'\'',
+        }
+    }
+
+    /// How many bytes the closing quotes have.
+    #[inline]
+    pub(crate) fn closer_length(self) -> usize
+        ensures { result ≡ length (quote_of self).closer }
+    {
+        if self.is_long() { 3 } else { 1 }
+    }
+
+    /// Whether there are three of it, so that lines may end in the text and segments follow.
+    #[inline]
+    pub(crate) fn is_long(self) -> bool
+        ensures { result ≡ (quote_of self).is_long }
+    {
+        matches!(self, Quote::Long | Quote::LongClob)
+    }
+
+    /// Whether the text is that of a clob.
+    #[inline]
+    pub(crate) fn in_clob(self) -> bool
+        ensures { result ≡ (quote_of self).in_clob }
+    {
+        matches!(self, Quote::ShortClob | Quote::LongClob)
+    }
+}
+
+/// A text of plain bytes alone, whose closing quote stands in these bytes: how many there are.
+///
+/// `Cut` where the bytes end before, where something else stands in the text, and for long quotes.
+/// Answers `ScalarLimit` for more bytes than the limit allows, and then `BadText` for bytes that
+/// are no UTF-8, but in a clob.
+#[inline]
+pub fn scan_text(quote: Quote, limit: u64, bytes: &[u8]) -> Scanned<usize>
+    ensures shows { Shows (λ n. take n bytes.now) bytes.now result
+        (λ c. text_at (quote_of quote) (Some limit) c) }
+    ensures within { IsWithin limit result }
+{
+    let plain = plain_length(quote, bytes);
+    if quote.is_long() || plain == bytes.len() || bytes[plain] != quote.mark() {
+        return Scanned::Cut;
+    }
+    if limit < plain as u64 {
+        return Scanned::Fault(Reason::ScalarLimit);
+    }
+    if !quote.in_clob() && !is_text(&bytes[..plain]) {
+        return Scanned::Fault(Reason::BadText);
+    }
+    Scanned::Whole(plain, plain + 1)
+}
+
+/// Whether bytes are UTF-8.
+#[inline]
+pub(crate) fn is_text(bytes: &[u8]) -> bool
+    ensures { IsTrue result ↔ IsUtf8 bytes.now }
+{
+    simdutf8::basic::from_utf8(bytes).is_ok()
+}
+
+// How many bytes are looked at together. A loop over so many is compiled to a few steps, each on
+// sixteen bytes; a shorter one is unrolled, and then goes byte by byte.
+const BLOCK: usize = 32;
+
+/// How many bytes at the front of these stand for themselves between the quotes, whatever follows
+/// them.
+#[inline]
+pub fn plain_length(quote: Quote, bytes: &[u8]) -> usize
+    ensures within { result ≤ length bytes.now }
+    ensures plain { all_are (is_plain_byte (quote_of quote)) (take result bytes.now) ≡ true }
+    ensures ends { first_is (is_plain_byte (quote_of quote)) (drop result bytes.now) ≡ false }
+{
+    let mark = quote.mark();
+    let in_clob = quote.in_clob();
+    let mut at = 0;
+    'skip: while bytes.len() - at >= BLOCK {
+        if !are_plain(mark, in_clob, &bytes[at..at + BLOCK]) {
+            break;
+        }
+        at += BLOCK;
+    }
+    at + few_plain(mark, in_clob, &bytes[at..])
+}
+
+// Whether all these bytes are plain. No byte ends the loop, so that it can look at many of them at
+// once.
+#[inline]
+fn are_plain(mark: u8, in_clob: bool, bytes: &[u8]) -> bool
+    ensures { result ≡ all_are (is_plain_byte (one_mark mark in_clob)) bytes.now }
+{
+    let mut plain = true;
+    for byte in bytes {
+        plain &= is_plain(mark, in_clob, *byte);
+    }
+    plain
+}
+
+// How many bytes at the front of these are plain, one after the other.
+#[inline]
+fn few_plain(mark: u8, in_clob: bool, bytes: &[u8]) -> usize
+    ensures within { result ≤ length bytes.now }
+    ensures plain { all_are (is_plain_byte (one_mark mark in_clob)) (take result bytes.now) ≡ true }
+    ensures ends { first_is (is_plain_byte (one_mark mark in_clob)) (drop result bytes.now)
+        ≡ false }
+{
+    for (i, byte) in bytes.iter().enumerate() {
+        if !is_plain(mark, in_clob, *byte) {
+            return i;
+        }
+    }
+    bytes.len()
+}
+
+// Whether a byte stands for itself between such quotes, whatever follows it.
+#[inline]
+fn is_plain(mark: u8, in_clob: bool, byte: u8) -> bool
+    ensures { result ≡ is_plain_byte (one_mark mark in_clob) byte }
+{
+    byte != mark
+        && byte != b'\\'
+        && (byte >= b' ' || byte == 9 || byte == 11 || byte == 12)
+        && (!in_clob || byte < 128)
+}

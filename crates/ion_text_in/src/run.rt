@@ -1,0 +1,150 @@
+//! How far numbers, timestamps, words and operators go (Ion specification, "Text Encoding").
+ghost use Rattle.std.specs.Prelude.{◌≡◌, ◌<◌, ◌≤◌, ℕ, List, ◌++◌, true, false, not, length, drop, IfSome, MatchOption};
+ghost use Rattle.ion_value.specs.Digits.{first_is};
+ghost use Rattle.ion_value.specs.Name.{is_identifier_byte, is_operator_byte};
+ghost use Rattle.ion_text_in.specs.Token.{bytes_of};
+ghost use Rattle.ion_text_in.specs.Views.{AreShown};
+ghost use Rattle.ion_text_in.specs.Runs.{goes_on, stays, has_slashes, GoOn, EndBehind, IsOpen};
+
+/// A token that goes on byte by byte.
+#[derive(Clone, Copy, Debug, PartialEq, Eq)]
+pub enum Run {
+    /// A number or a timestamp, which goes on up to punctuation, a quote, white space or a comment.
+    Number,
+    /// A word, which has letters, digits, `_` and `$`.
+    Word,
+    /// An operator, which goes on up to a comment or a byte that is none of an operator.
+    Operator,
+}
+
+/// How far a token goes on in a slice.
+#[derive(Clone, Copy, Debug, PartialEq, Eq)]
+pub struct Extent {
+    /// How many bytes at the front of the slice go on with it.
+    pub len: usize,
+    /// Whether the slice shows that no more do. A slash as its last byte does not show it, where a
+    /// comment may begin with that.
+    pub ended: bool,
+}
+
+/// How far a token goes on in a slice that begins behind the first byte of the token.
+#[inline(always)]
+pub fn run_extent(run: Run, bytes: &[u8]) -> Extent
+    ensures within { result.len ≤ length bytes.now }
+    ensures behind { result.ended ≡ true → result.len < length bytes.now }
+    ensures goes { GoOn (goes_on run) bytes.now result.len }
+    ensures ends { result.ended ≡ true → EndBehind (goes_on run) bytes.now result.len }
+    ensures open { result.ended ≡ false → IsOpen run (drop result.len bytes.now) }
+{
+    'bytes: for (i, byte) in bytes.iter().enumerate() {
+        if stays(run, *byte) {
+            continue;
+        }
+        match ends(run, &bytes[i..]) {
+            Some(false) => {}
+            Some(true) => return so_far(i, true),
+            None => return so_far(i, false),
+        }
+    }
+    so_far(bytes.len(), false)
+}
+
+// So many bytes go on, and no more, where that is known.
+#[inline(always)]
+fn so_far(len: usize, ended: bool) -> Extent
+    ensures len { result.len ≡ len }
+    ensures ended { result.ended ≡ ended }
+{
+    Extent { len, ended }
+}
+
+/// How many bytes the token has that begins at the front of a slice, where the slice shows it.
+#[inline(always)]
+pub fn token_extent(run: Run, bytes: &[u8]) -> Option<usize>
+    ensures { IfSome result (AreShown (bytes_of (goes_on run)) bytes.now) }
+{
+    let [_, others @ ..] = bytes else {
+        return None;
+    };
+    let extent = run_extent(run, others);
+    if !extent.ended {
+        return None;
+    }
+    Some(1 + extent.len)
+}
+
+// Whether a byte goes on with a token, whatever follows it.
+#[inline(always)]
+fn stays(run: Run, byte: u8) -> bool
+    ensures { result ≡ stays run byte }
+{
+    match run {
+        Run::Number => !matches!(
+            byte,
+            b'{' | b'}' | b'[' | b']' | b'(' | b')' | b',' | b'"' | b'\'' | b' ' | 9..=13 | b'/'
+        ),
+        Run::Word => is_identifier_byte(byte),
+        Run::Operator => is_operator_byte(byte) && byte != b'/',
+    }
+}
+
+/// Whether this byte can stand in an identifier.
+#[inline(always)]
+pub(crate) fn is_identifier_byte(byte: u8) -> bool
+    ensures { result ≡ is_identifier_byte byte }
+{
+    byte.is_ascii_alphanumeric() || byte == b'_' || byte == b'$'
+}
+
+/// Whether this byte can stand in an operator.
+#[inline(always)]
+pub(crate) fn is_operator_byte(byte: u8) -> bool
+    ensures { result ≡ is_operator_byte byte }
+{
+    matches!(
+        byte,
+        b'!' | b'#'
+            | b'%'
+            | b'&'
+            | b'*'
+            | b'+'
+            | b'-'
+            | b'.'
+            | b'/'
+            | b';'
+            | b'<'
+            | b'='
+            | b'>'
+            | b'?'
+            | b'@'
+            | b'^'
+            | b'`'
+            | b'|'
+            | b'~'
+    )
+}
+
+// Whether a slash goes on with a token unless it begins a comment.
+#[inline(always)]
+fn has_slashes(run: Run) -> bool
+    ensures { result ≡ has_slashes run }
+{
+    !matches!(run, Run::Word)
+}
+
+// Whether a token ends before these bytes, of which the first does not go on whatever follows it.
+#[inline(always)]
+fn ends(run: Run, rest: &[u8]) -> Option<bool>
+    requires { first_is (stays run) rest.now ≡ false }
+    ensures { MatchOption result (IsOpen run rest.now)
+        (λ over. (more : List ℕ) → goes_on run (rest.now ++ more) ≡ not over) }
+{
+    match rest {
+        [] => None,
+        [b'/', others @ ..] if has_slashes(run) => match others {
+            [] => None,
+            [next, ..] => Some(*next == b'/' || *next == b'*'),
+        },
+        _ => Some(true),
+    }
+}

@@ -1,0 +1,7 @@
+//! What the calls give of worked texts, in whatever pieces they come, and how they end.
+
+mod blanks;
+mod lobs;
+mod pieces;
+mod texts;
+mod tokens;

@@ -1,0 +1,362 @@
+//! Words: keywords, ids and symbols without quotes (Ion specification, "Text Encoding").
+ghost use Rattle.std.specs.Prelude.{◌≡◌, ◌&&◌, ◌==◌, ◌∷◌, ◌^◌, ◌≤◌, ◌<◌, codes, drop, length, Some, None, Ok, Err, true, false, IfSome, MatchOption, MatchResult};
+ghost use Rattle.std.specs.Str.{bytes_eq};
+ghost use Rattle.ion_value.specs.Calls.{AnswersBy, CanRead, ReadsInto};
+ghost use Rattle.ion_value.specs.Digits.{first_is};
+ghost use Rattle.ion_text_in.specs.Runs.{CanAppend};
+ghost use Rattle.ion_value.specs.Name.{begins_with, type_named};
+ghost use Rattle.ion_text_in.specs.Scanners.{Shows};
+ghost use Rattle.ion_text_in.specs.Token.{a_word, token_of, word_of, word_token};
+ghost use Rattle.ion_text_in.specs.Views.{AreShown, IsWithin, id_in, is_point, may_be_keyword, shown_text, spelled, with_name, text_or_container, word_token_of};
+
+use crate::gather::{append, copy, gather, gather_token};
+use crate::run::{Run, run_extent};
+use crate::scanned::Scanned;
+use ion_meter::buf::Buf;
+use ion_meter::device::Input;
+use ion_meter::fault::{Fault, Reason};
+use ion_meter::limits::Limits;
+use ion_meter::meter::Meter;
+use ion_meter::source::Source;
+use ion_value::ion_type::IonType;
+use std::alloc::Allocator;
+
+/// A word. The bytes of a symbol stand beside it.
+#[derive(Clone, Copy, Debug, PartialEq, Eq)]
+pub enum Word {
+    /// The null of a type.
+    Null(IonType),
+    /// A truth value.
+    Bool(bool),
+    /// `nan`.
+    NoNumber,
+    /// A symbol's id, where 2^31 stands for every id above 2^31 - 1.
+    Id(u32),
+    /// A symbol by its text.
+    Name,
+}
+
+/// What a slice shows of the word that begins at the front of it.
+///
+/// Its bytes are those at the front of the slice. Answers `ScalarLimit` where it has more than the
+/// limit, and then `BadToken` where no type's name stands behind `null.`.
+#[inline]
+pub fn scan_word(limit: u64, bytes: &[u8]) -> Scanned<Word>
+    ensures shows { Shows (word_token_of (shown_text bytes.now result)) bytes.now result
+        (token_of (Some limit) a_word) }
+    ensures within { IsWithin limit result }
+{
+    let Some(count) = word_extent(bytes) else {
+        return Scanned::Cut;
+    };
+    if limit < count as u64 {
+        return Scanned::Fault(Reason::ScalarLimit);
+    }
+    match word_by(&bytes[..count]) {
+        Ok(word) => Scanned::Whole(word, count),
+        Err(reason) => Scanned::Fault(reason),
+    }
+}
+
+/// The word that begins here: the bytes of a symbol are copied to `text`.
+///
+/// Answers `ScalarLimit` where it has more bytes than the limit, and then `BadToken` where no type's
+/// name stands behind `null.`, each at the place of its first byte.
+#[inline]
+pub fn next_word<I: Input, A: Allocator + Copy>(
+    source: &mut Source<I, A>,
+    text: &mut Buf<A>,
+    limits: Limits,
+    meter: &mut Meter<A>,
+) -> Result<Word, Fault>
+    requires can_read { CanRead limits limits.scalar source.old text.old meter.old }
+    ensures gives { AnswersBy I.Input (word_token_of text.new) source.old source.new
+        source.old.place result (token_of (Some limits.scalar) a_word) }
+    ensures reads { ReadsInto I.Input source.old source.new meter.old meter.new
+        (length text.old) (length text.new) limits.scalar result }
+{
+    match scan_word(limits.scalar, source.buffer()) {
+        Scanned::Whole(word, count) => match word {
+            Word::Name => match copy(source, text, count, limits, meter) {
+                Ok(()) => Ok(Word::Name),
+                Err(fault) => Err(fault),
+            },
+            _ => {
+                source.consume(count);
+                Ok(word)
+            }
+        },
+        Scanned::Fault(reason) => Err(Fault::Refused(reason, source.place())),
+        Scanned::Cut => gather_word(source, text, limits, meter),
+    }
+}
+
+// The same where the window's end cuts it.
+#[cold]
+#[inline(never)]
+fn gather_word<I: Input, A: Allocator + Copy>(
+    source: &mut Source<I, A>,
+    text: &mut Buf<A>,
+    limits: Limits,
+    meter: &mut Meter<A>,
+) -> Result<Word, Fault>
+    requires can_read { CanRead limits limits.scalar source.old text.old meter.old }
+    ensures gives { AnswersBy I.Input (word_token_of text.new) source.old source.new
+        source.old.place result (token_of (Some limits.scalar) a_word) }
+    ensures reads { ReadsInto I.Input source.old source.new meter.old meter.new
+        (length text.old) (length text.new) limits.scalar result }
+{
+    let place = source.place();
+    if let Err(fault) = gather_typed(source, text, limits, meter) {
+        return Err(fault);
+    }
+    match word_by(text.as_slice()) {
+        Ok(word) => Ok(word),
+        Err(reason) => Err(Fault::Refused(reason, place)),
+    }
+}
+
+// Gathers the bytes of a word, with the name of a type where one belongs to it.
+fn gather_typed<I: Input, A: Allocator + Copy>(
+    source: &mut Source<I, A>,
+    text: &mut Buf<A>,
+    limits: Limits,
+    meter: &mut Meter<A>,
+) -> Result<(), Fault>
+    requires can_read { CanRead limits limits.scalar source.old text.old meter.old }
+    ensures gives { AnswersBy I.Input (λ _. text.new) source.old source.new source.old.place result
+        (spelled word_of (Some limits.scalar)) }
+    ensures reads { ReadsInto I.Input source.old source.new meter.old meter.new
+        (length text.old) (length text.new) limits.scalar result }
+{
+    let place = source.place();
+    if let Err(fault) = gather_token(source, text, Run::Word, limits, meter) {
+        return Err(fault);
+    }
+    if !is_text(text.as_slice(), b"null") {
+        return Ok(());
+    }
+    gather_type(source, text, limits, place, meter)
+}
+
+// Adds a point and the name of a type to `null`, in a word that begins at a place.
+fn gather_type<I: Input, A: Allocator + Copy>(
+    source: &mut Source<I, A>,
+    text: &mut Buf<A>,
+    limits: Limits,
+    place: u64,
+    meter: &mut Meter<A>,
+) -> Result<(), Fault>
+    requires can_append { CanAppend limits source.old text.old meter.old }
+    ensures gives { AnswersBy I.Input (λ _. text.new) source.old source.new place result
+        (with_name (Some limits.scalar) text.old) }
+    ensures reads { ReadsInto I.Input source.old source.new meter.old meter.new
+        (length text.old) (length text.new) limits.scalar result }
+{
+    let next = match source.peek(0) {
+        Err(fault) => return Err(fault),
+        Ok(next) => next,
+    };
+    if !is_point(next) {
+        return Ok(());
+    }
+    if let Err(fault) = append(source, text, 1, limits, place, meter) {
+        return Err(fault);
+    }
+    gather(source, text, Run::Word, limits, place, meter)
+}
+
+// Whether a byte is a point.
+fn is_point(next: Option<u8>) -> bool
+    ensures { result ≡ is_point next }
+{
+    matches!(next, Some(b'.'))
+}
+
+// How many bytes the word has that begins at the front of a slice, where the slice shows it.
+#[inline]
+fn word_extent(bytes: &[u8]) -> Option<usize>
+    ensures { IfSome result (AreShown word_of bytes.now) }
+{
+    let [_, others @ ..] = bytes else {
+        return None;
+    };
+    let extent = run_extent(Run::Word, others);
+    if !extent.ended {
+        return None;
+    }
+    let count = 1 + extent.len;
+    if !has_type(&bytes[..count], &bytes[count..]) {
+        return Some(count);
+    }
+    let name = run_extent(Run::Word, &bytes[count + 1..]);
+    if !name.ended {
+        return None;
+    }
+    Some(count + 1 + name.len)
+}
+
+// Whether the name of a type belongs to a word, with these bytes behind it.
+#[inline]
+fn has_type(word: &[u8], behind: &[u8]) -> bool
+    ensures { result ≡ (bytes_eq (codes "null") word.now && first_is (λ b. b == 46) behind.now) }
+{
+    is_text(word, b"null") && matches!(behind, [b'.', ..])
+}
+
+// Whether these bytes are a text.
+#[inline(always)]
+fn is_text(bytes: &[u8], text: &[u8]) -> bool
+    ensures { result ≡ bytes_eq text.now bytes.now }
+{
+    bytes == text
+}
+
+// The word of these bytes.
+#[inline]
+fn word_by(word: &[u8]) -> Result<Word, Reason>
+    ensures { MatchResult result (λ w. word_token word.now ≡ Ok (word_token_of word.now w))
+        (λ reason. word_token word.now ≡ Err reason) }
+{
+    if may_be_keyword(word) {
+        return keyword_or_name(word);
+    }
+    if has_dollar(word) {
+        return Ok(id_or_name(word));
+    }
+    Ok(Word::Name)
+}
+
+// Whether a word begins as a keyword does.
+#[inline(always)]
+fn may_be_keyword(word: &[u8]) -> bool
+    ensures { result ≡ may_be_keyword word.now }
+{
+    matches!(word, [b'n' | b't' | b'f', ..])
+}
+
+// Whether a word begins with a dollar sign.
+#[inline(always)]
+fn has_dollar(word: &[u8]) -> bool
+    ensures { result ≡ first_is (λ b. b == 36) word.now }
+{
+    matches!(word, [b'$', ..])
+}
+
+// The same of one that begins as a keyword does.
+fn keyword_or_name(word: &[u8]) -> Result<Word, Reason>
+    requires { first_is (λ b. b == 36) word.now ≡ false }
+    ensures { MatchResult result (λ w. word_token word.now ≡ Ok (word_token_of word.now w))
+        (λ reason. word_token word.now ≡ Err reason) }
+{
+    if is_text(word, b"null") {
+        return Ok(Word::Null(IonType::Null));
+    }
+    if is_typed_null(word) {
+        return match type_named(&word[5..]) {
+            Some(ion_type) => Ok(Word::Null(ion_type)),
+            None => Err(Reason::BadToken),
+        };
+    }
+    if is_text(word, b"true") {
+        return Ok(Word::Bool(true));
+    }
+    if is_text(word, b"false") {
+        return Ok(Word::Bool(false));
+    }
+    if is_text(word, b"nan") {
+        return Ok(Word::NoNumber);
+    }
+    Ok(Word::Name)
+}
+
+// Whether a word is `null` with a point, and the name of a type behind it.
+fn is_typed_null(word: &[u8]) -> bool
+    ensures { result ≡ begins_with (codes "null.") word.now }
+{
+    matches!(word, [b'n', b'u', b'l', b'l', b'.', ..])
+}
+
+// The type of a name.
+fn type_named(name: &[u8]) -> Option<IonType>
+    ensures { result ≡ type_named name.now }
+{
+    if is_text(name, b"null") {
+        return Some(IonType::Null);
+    }
+    if is_text(name, b"bool") {
+        return Some(IonType::Bool);
+    }
+    if is_text(name, b"int") {
+        return Some(IonType::Int);
+    }
+    if is_text(name, b"float") {
+        return Some(IonType::Float);
+    }
+    if is_text(name, b"decimal") {
+        return Some(IonType::Decimal);
+    }
+    if is_text(name, b"timestamp") {
+        return Some(IonType::Timestamp);
+    }
+    if is_text(name, b"symbol") {
+        return Some(IonType::Symbol);
+    }
+    text_or_container(name)
+}
+
+// The same of a name that is none of those before.
+fn text_or_container(name: &[u8]) -> Option<IonType>
+    ensures { result ≡ text_or_container name.now }
+{
+    if is_text(name, b"string") {
+        return Some(IonType::String);
+    }
+    if is_text(name, b"clob") {
+        return Some(IonType::Clob);
+    }
+    if is_text(name, b"blob") {
+        return Some(IonType::Blob);
+    }
+    if is_text(name, b"list") {
+        return Some(IonType::List);
+    }
+    if is_text(name, b"sexp") {
+        return Some(IonType::Sexp);
+    }
+    if is_text(name, b"struct") {
+        return Some(IonType::Struct);
+    }
+    None
+}
+
+// The id or symbol of a word that begins with a dollar sign.
+#[inline]
+fn id_or_name(word: &[u8]) -> Word
+    requires { first_is (λ b. b == 36) word.now ≡ true }
+    ensures { word_token word.now ≡ Ok (word_token_of word.now result) }
+{
+    match id_of(&word[1..]) {
+        Some(id) => Word::Id(id),
+        None => Word::Name,
+    }
+}
+
+// The number of these digits, where 2^31 stands for every greater one; none where there is no digit,
+// or another byte.
+#[inline]
+fn id_of(digits: &[u8]) -> Option<u32>
+    ensures { result ≡ id_in digits.now }
+{
+    if digits.is_empty() {
+        return None;
+    }
+    let mut id = 0;
+    'digits: for byte in digits {
+        if !byte.is_ascii_digit() {
+            return None;
+        }
+        id = (id * 10 + u64::from(*byte - b'0')).min(1 << 31);
+    }
+    Some(id as u32)
+}

@@ -6,8 +6,8 @@ use Rattle.ion_value.specs.declared.ion_type.Kind.{Kind}
 use Rattle.ion_value.specs.Value as value
 use Rattle.ion_value.specs.Value.{Symbol, SymbolAt, Scalar, Value, Members, Top, PlacedItem, bare_item, value_items, member_items, one_top, top_items}
 use Rattle.ion_value.specs.Path.{Path, closed, opened, nest_items, path_items}
-use Rattle.ion_value.specs.Reading.{Reading, Finished, More, items_of, behind, Ends, Gives, GoesOn, reading_by, Shrinks}
-use Rattle.ion_value.proofs.Readings.{reading_by-ends, reading_by-gives, reading_by-goes_on, items_of-behind}
+use Rattle.ion_value.specs.Reading.{Reading, Finished, items_of, behind, Ends, Gives, GoesOn, reading_by, Shrinks}
+use Rattle.ion_value.proofs.Readings.{behind-append, reading_by-ends, reading_by-gives, reading_by-goes_on, items_of-behind}
 use Rattle.ion_value.proofs.Paths.{same_path}
 use Rattle.ion_binary.specs.Grammar.{IsNopPad, type_code, Header, Annotated, Bin, Inside, Tops}
 use Rattle.ion_binary.specs.Laws.{Bodies, Allows, Complete, StreamsAreRead, IsBegun, OnePath, OneStream}
@@ -29,10 +29,6 @@ read_from limits s = reading_by (step limits) size s
 -- from a state on these items are read, and what is read behind them is read from the other
 abbrev Reads : Limits → State → List PlacedItem → State → Type 0
 Reads limits s items t = read_from limits s ≡ behind items (read_from limits t)
-
-behind-append : (xs ys : List PlacedItem) (r : Reading) → behind (xs ++ ys) r ≡ behind xs (behind ys r)
-behind-append [] ys r = refl
-behind-append (x ∷ xs) ys r = ap (More x) (behind-append xs ys r)
 
 Reads-then : (limits : Limits) (s t u : State) (xs ys : List PlacedItem) → Reads limits s xs t → Reads limits t ys u → Reads limits s (xs ++ ys) u
 Reads-then limits s t u xs ys p q = p ∙ ap (behind xs) q ∙ sym (behind-append xs ys (read_from limits u))

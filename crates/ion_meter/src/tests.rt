@@ -4,6 +4,7 @@ ghost use Rattle.std.specs.Prelude.{◌≡◌, ◌^◌, ◌<◌};
 use crate::limits::Limits;
 use crate::meter::Meter;
 use std::alloc::{Allocator, Global};
+use std::fmt::Debug;
 use std::process::Abort;
 use std::test::Fail;
 
@@ -24,6 +25,11 @@ const LIMITS: Limits = Limits {
     value: 100,
     input: 100,
 };
+
+/// Asserts that what a call gave is what is wanted. The proof of an assertion stands here once.
+fn same<T: PartialEq + Debug + Copy>(rt: &impl Abort, given: T, wanted: T) {
+    assert_eq!(rt; given, wanted);
+}
 
 /// Runs a script over an allocator that refuses its first allocation, then over one that refuses its second, and so on until
 /// a run meets no refusal. A script answers how often it was refused. The answer is how many runs met a refusal.

@@ -12,7 +12,7 @@ use Rattle.ion_value.specs.Value as value
 use Rattle.ion_value.specs.Value.{Symbol, SymbolAt, Scalar, Value, Members, Top, PlacedItem, bare_item, value_items, member_items, top_items}
 use Rattle.ion_value.specs.Path.{Path, closed, opened, begin_item, nest_items, path_items}
 use Rattle.ion_value.specs.Reading.{Reading, Finished, More, behind, Step, Ends, Gives, GoesOn, reading_by}
-use Rattle.ion_value.proofs.Readings.{reading_by-ends, reading_by-gives, reading_by-goes_on}
+use Rattle.ion_value.proofs.Readings.{behind-append, reading_by-ends, reading_by-gives, reading_by-goes_on}
 use Rattle.ion_meter.specs.Sources.{Cursor}
 use Rattle.ion_value.specs.Parts.{part, refuse, ◌>>=◌, ◌>>◌}
 use Rattle.ion_text_in.specs.Blanks.{blanks}
@@ -37,10 +37,6 @@ read_from limits s = reading_by (step limits) size s
 -- from a state on these items are read, and what is read behind them is read from the other
 abbrev Reads : Limits → State → List PlacedItem → State → Type 0
 Reads limits s items t = read_from limits s ≡ behind items (read_from limits t)
-
-behind-append : (xs ys : List PlacedItem) (r : Reading) → behind (xs ++ ys) r ≡ behind xs (behind ys r)
-behind-append [] ys r = refl
-behind-append (x ∷ xs) ys r = ap (More x) (behind-append xs ys r)
 
 reads-then : (limits : Limits) (s t u : State) (xs ys : List PlacedItem) → Reads limits s xs t → Reads limits t ys u → Reads limits s (xs ++ ys) u
 reads-then limits s t u xs ys p q = p ∙ ap (behind xs) q ∙ sym (behind-append xs ys (read_from limits u))
@@ -92,7 +88,7 @@ annotations-read limits kinds top field c f _ (Annotations.then {annotations = a
     let next : State = state kinds top (a_value field (annotations ++ at symbol p ∷ [])) f in
     let one = step-token limits kinds top (a_value field annotations) d (name quoted symbol) p e (value-suits field annotations (name quoted symbol))
     (room-token limits (length kinds) d (room-later limits (length kinds) c d (annotations-advance before) room)) tok
-    ∙ ap (λ o. step_of (part p (reading.symbol_given limits kinds top field annotations quoted (at symbol p) e o))) (colons-stand (in_sexp (innermost kinds)) e f q after)
+    ∙ ap (λ o. step_of (part p (reading.symbol_step limits kinds top field annotations quoted (at symbol p) e o))) (colons-stand (in_sexp (innermost kinds)) e f q after)
     ∙ not-refused p (nat_lt limits.scalar (sum_by cost (annotations ++ at symbol p ∷ []))) AnnotationLimit (Ok (GoesOn next)) (le-ltb limits.scalar (sum_by cost (annotations ++ at symbol p ∷ [])) (omega (arith, cost_is, wide))) in
     prefix ∙ reads-goes_on limits (state kinds top (a_value field annotations) d) next one
 
@@ -129,7 +125,7 @@ same-kind kind.Struct = refl
 
 scalar-read : (limits : Limits) (kinds : List Kind) (top : ℕ) (field : Option SymbolAt) (annotations : List SymbolAt) (c d e : Cursor) (p : ℕ) (t : Token) (body : Scalar SymbolAt)
     → Annotations (in_sexp (innermost kinds)) c annotations d → Room limits (length kinds) c → Tok (in_sexp (innermost kinds)) d t p e
-    → step_of (take limits kinds top (a_value field annotations) p t e) ≡ reading.scalar_given kinds top field annotations p body e
+    → step_of (take limits kinds top (a_value field annotations) p t e) ≡ reading.scalar_step kinds top field annotations p body e
     → Reads limits (state kinds top (a_value field []) c) (value_items (top_of kinds top annotations p) field annotations p (value.scalar body)) (state kinds (top_of kinds top annotations p) (behind_member (innermost kinds)) e)
 scalar-read limits kinds top field annotations c d e p t body ns room tok taken =
     annotations-read limits kinds top field c d annotations ns room
@@ -144,7 +140,7 @@ end-suits-behind kind.List false = value-suits None [] (end kind.List)
 end-suits-behind kind.Sexp false = value-suits None [] (end kind.Sexp)
 end-suits-behind kind.Struct false = end-suits (end kind.Struct) refl
 
-closed-is : (kinds : List Kind) (top : ℕ) (k : Kind) (q : ℕ) (c : Cursor) → step_of (part q (reading.closed (k ∷ kinds) top k q c))
+closed-is : (kinds : List Kind) (top : ℕ) (k : Kind) (q : ℕ) (c : Cursor) → step_of (part q (reading.end_step (k ∷ kinds) top k q c))
     ≡ Gives (item_of top None [] q value.end) (state kinds top (behind_member (innermost kinds)) c)
 closed-is kinds top kind.List q c = refl
 closed-is kinds top kind.Sexp q c = refl
@@ -177,7 +173,7 @@ module _ (limits : Limits) where
     value-read kinds top field _ c e _ p _ is (Txt.of_symbol {k = k} {d = d} {annotations = annotations} {quoted = quoted} {symbol = symbol} ns tok alone no_version) room =
         scalar-read limits kinds top field annotations c d e p (name quoted symbol) (value.symbol (at symbol p)) (subst (λ k. Annotations (in_sexp k) c annotations d) (sym is) ns) room
         (subst (λ k. Tok (in_sexp k) d (name quoted symbol) p e) (sym is) tok)
-        (ap (λ o. step_of (part p (reading.symbol_given limits kinds top field annotations quoted (at symbol p) e o))) (ap (λ k. behind_colons (in_sexp k) e) is ∙ colons-none (in_sexp k) e alone)
+        (ap (λ o. step_of (part p (reading.symbol_step limits kinds top field annotations quoted (at symbol p) e o))) (ap (λ k. behind_colons (in_sexp k) e) is ∙ colons-none (in_sexp k) e alone)
         ∙ ap (λ told. step_of (part p (reading.value_or_version kinds top field annotations (at symbol p) e told))) (ap (λ k. tells_version k annotations quoted symbol) is ∙ version-none k annotations quoted symbol no_version))
     value-read kinds top field _ c g _ p _ is (Txt.of_members {d = d} {e = e} {f = f} {annotations = annotations} {q = q} {j = j} {members = members} {full = full} ns tok ins tok') room =
         let top' : ℕ = top_of kinds top annotations p in
@@ -242,7 +238,7 @@ module _ (limits : Limits) (bytes : List ℕ) (allows : Allows limits bytes) whe
       let prefix = tops-read d tops before in
       let room = all-room limits bytes 0 d allows (let le = tops-advance before in omega (arith, le)) in
       let one = step-token limits [] prefix.0 (a_value None []) d (name false (value.Text version_word)) p e (value-suits None [] (name false (value.Text version_word))) (room-token limits 0 d room) tok
-      ∙ ap (λ o. step_of (part p (reading.symbol_given limits [] prefix.0 None [] false (at (value.Text version_word) p) e o))) (colons-none false e alone)
+      ∙ ap (λ o. step_of (part p (reading.symbol_step limits [] prefix.0 None [] false (at (value.Text version_word) p) e o))) (colons-none false e alone)
       ∙ marker-taken prefix.0 p e in
       let all = reads-then limits (start bytes) (state [] prefix.0 (a_value None []) d) (state [] p (a_value None []) e) (top_items tops) (item_of p None [] p value.marker ∷ [])
       prefix.1 (reads-gives limits (state [] prefix.0 (a_value None []) d) (state [] p (a_value None []) e) (item_of p None [] p value.marker) one) in

@@ -36,12 +36,12 @@ most-more n m (Stops reason place) le most = tt
 most-more n m (Gives item after) le most = omega (arith, le, most)
 most-more n m (GoesOn after) le most = omega (arith, le, most)
 
-closed-most : (kinds : List Kind) (top : ℕ) (k : Kind) (p : ℕ) (c : Cursor) → Most (length c.rest) (part p (reading.closed kinds top k p c))
+closed-most : (kinds : List Kind) (top : ℕ) (k : Kind) (p : ℕ) (c : Cursor) → Most (length c.rest) (part p (reading.end_step kinds top k p c))
 closed-most [] top k p c = tt
 closed-most (j ∷ kinds) top k p c = most-refuse (length c.rest) p (not (reading.is_same j k)) BadToken _ (stays c)
 
 bare-most : (field : Option SymbolAt) (annotations : List SymbolAt) (kinds : List Kind) (top : ℕ) (k : Kind) (p : ℕ) (c : Cursor)
-    → Most (length c.rest) (part p (reading.closed_bare field annotations kinds top k p c))
+    → Most (length c.rest) (part p (reading.bare_end_step field annotations kinds top k p c))
 bare-most None [] kinds top k p c = closed-most kinds top k p c
 bare-most None (a ∷ annotations) kinds top k p c = tt
 bare-most (Some a) annotations kinds top k p c = tt
@@ -75,7 +75,7 @@ told-most kinds top field annotations a p c true = most-refuse (length c.rest) p
 told-most kinds top field annotations a p c false = stays c
 
 symbol-most : (limits : Limits) (kinds : List Kind) (top : ℕ) (field : Option SymbolAt) (annotations : List SymbolAt) (quoted : Bool) (a : SymbolAt) (p : ℕ) (c : Cursor) (o : Option Cursor)
-    → behind_colons (in_sexp (innermost kinds)) c ≡ o → Most (length c.rest) (part p (reading.symbol_given limits kinds top field annotations quoted a c o))
+    → behind_colons (in_sexp (innermost kinds)) c ≡ o → Most (length c.rest) (part p (reading.symbol_step limits kinds top field annotations quoted a c o))
 symbol-most limits kinds top field annotations quoted a p c None e = told-most kinds top field annotations a p c (reading.tells_version (innermost kinds) annotations quoted a.symbol)
 symbol-most limits kinds top field annotations quoted a p c (Some d) e =
     most-refuse (length c.rest) p (nat_lt limits.scalar (sum_by reading.cost (annotations ++ a ∷ []))) AnnotationLimit _ (colons-blank (in_sexp (innermost kinds)) c d (blanks c) refl e)
@@ -160,11 +160,11 @@ cut-less limits s b first some (Ok t) e =
     let less : length t.1.rest < length b.rest = subst (λ o. Past b o) e (token-past (Some limits.scalar) first b some) in
     less-from (length t.1.rest) (length b.rest) (step_of (take limits s.kinds s.top s.wants b.place t.0 t.1)) less (take-most limits s.kinds s.top s.wants b.place t.0 t.1)
 
-coming-less : (limits : Limits) (s : State) (b : Cursor) (first : First) (may : Bool) → 0 < length b.rest → Leaves_less (length b.rest) (step_of (reading.coming limits s b first may))
+coming-less : (limits : Limits) (s : State) (b : Cursor) (first : First) (may : Bool) → 0 < length b.rest → Leaves_less (length b.rest) (step_of (reading.next_part limits s b first may))
 coming-less limits s b first false some = tt
 coming-less limits s b first true some = cut-less limits s b first some (token_of (Some limits.scalar) first b) refl
 
-ended-less : (n : ℕ) (kinds : List Kind) (wants : Wants) (p : ℕ) → Leaves_less n (step_of (reading.ended kinds wants p))
+ended-less : (n : ℕ) (kinds : List Kind) (wants : Wants) (p : ℕ) → Leaves_less n (step_of (reading.final_step kinds wants p))
 ended-less n [] (a_value None []) p = tt
 ended-less n [] (a_value None (a ∷ annotations)) p = tt
 ended-less n [] (a_value (Some a) annotations) p = tt

@@ -70,8 +70,8 @@ module _ (limits wide : Limits) (within : AreWithin limits wide) where
     -- an annotation
     symbol-Cut : (field : Option SymbolAt) (annotations : List SymbolAt) (quoted : Bool) (symbol : Symbol) (p : ℕ) (d : Cursor) → s.wants ≡ a_value field annotations
         → Tok sexp s.cursor (name quoted symbol) p d → (o : Option Cursor) → behind_colons sexp d ≡ o
-        → Cut (PassesAt limits s) (part p (reading.symbol_given limits s.kinds s.top field annotations quoted (at symbol p) d o))
-        (part p (reading.symbol_given wide s.kinds s.top field annotations quoted (at symbol p) d o))
+        → Cut (PassesAt limits s) (part p (reading.symbol_step limits s.kinds s.top field annotations quoted (at symbol p) d o))
+        (part p (reading.symbol_step wide s.kinds s.top field annotations quoted (at symbol p) d o))
     symbol-Cut field annotations quoted symbol p d are tok None found = same _
     symbol-Cut field annotations quoted symbol p d are tok (Some e) found =
         let cost_is : ℕ = sum_by cost (annotations ++ at symbol p ∷ []) in
@@ -81,7 +81,7 @@ module _ (limits wide : Limits) (within : AreWithin limits wide) where
 
     -- a container: its depth alone is held against a limit
     begun-Cut : (field : Option SymbolAt) (annotations : List SymbolAt) (k : Kind) (p : ℕ) (d : Cursor) → Tok sexp s.cursor (begin k) p d
-        → Cut (PassesAt limits s) (part p (reading.begun limits s.kinds s.top field annotations k p d)) (part p (reading.begun wide s.kinds s.top field annotations k p d))
+        → Cut (PassesAt limits s) (part p (reading.begin_step limits s.kinds s.top field annotations k p d)) (part p (reading.begin_step wide s.kinds s.top field annotations k p d))
     begun-Cut field annotations k p d tok =
         refused-Cut (PassesAt limits s) p (nat_le limits.depth (length s.kinds)) (nat_le wide.depth (length s.kinds)) DepthLimit _ (depth-reached (length s.kinds))
         (λ full. Passes.container k d tok (leb-true limits.depth (length s.kinds) full))
@@ -129,7 +129,7 @@ module _ (limits wide : Limits) (within : AreWithin limits wide) where
         limit (e, c.place) (part c.place w) (rw long (Passes.token (rw (blank, is, long) refl)))
 
     coming-Cut : (c : Cursor) (first : First) (may : Bool) → blanks s.cursor ≡ Ok c → first_at sexp c.rest ≡ first
-        → Cut (PassesAt limits s) (reading.coming limits s c first may) (reading.coming wide s c first may)
+        → Cut (PassesAt limits s) (reading.next_part limits s c first may) (reading.next_part wide s c first may)
     coming-Cut c first false blank is = same _
     coming-Cut c first true blank is =
         known-Cut (PassesAt limits s) (part c.place (token_of (Some limits.scalar) first c)) (part c.place (token_of (Some wide.scalar) first c)) _ _

@@ -189,7 +189,7 @@ module _ (limits : Limits) (bytes : List ℕ) (path : Path SymbolAt ℕ) (top : 
       (end_in path p, record { full = has_commas (innermost js); behind = d; spells = Spells-end path j js (j ∷ js) full p refl spells tok; begun = begun-behind d js; top = e.top_is }, e.items)
 
   closed-goes : (kinds : List Kind) (k : Kind) (wants : Wants) (full : Bool) (behind : Cursor) → Spells (start_of bytes) path kinds full behind
-      → Tok (in_sexp (innermost kinds)) behind (end k) p d → (s : State) → Goes bytes path s (part p (reading.closed kinds top k p d))
+      → Tok (in_sexp (innermost kinds)) behind (end k) p d → (s : State) → Goes bytes path s (part p (reading.end_step kinds top k p d))
   closed-goes [] k wants full behind spells tok s = tt
   closed-goes (kind.List ∷ js) kind.List wants full behind spells tok s = end-goes kind.List js wants full behind spells tok s
   closed-goes (kind.List ∷ js) kind.Sexp wants full behind spells tok s = tt
@@ -204,7 +204,7 @@ module _ (limits : Limits) (bytes : List ℕ) (path : Path SymbolAt ℕ) (top : 
   -- no bracket closes behind a field or an annotation
   bare-goes : (kinds : List Kind) (k : Kind) (field : Option SymbolAt) (annotations : List SymbolAt) (behind b c : Cursor) → Spells (start_of bytes) path kinds false behind
       → Field (innermost kinds) behind field b → Annotations (in_sexp (innermost kinds)) b annotations c
-      → Tok (in_sexp (innermost kinds)) c (end k) p d → (s : State) → Goes bytes path s (part p (reading.closed_bare field annotations kinds top k p d))
+      → Tok (in_sexp (innermost kinds)) c (end k) p d → (s : State) → Goes bytes path s (part p (reading.bare_end_step field annotations kinds top k p d))
   bare-goes kinds k (Some a) annotations behind b c spells f ns tok s = tt
   bare-goes kinds k None (a ∷ annotations) behind b c spells f ns tok s = tt
   bare-goes kinds k None [] behind b c spells f ns tok s =
@@ -215,7 +215,7 @@ module _ (limits : Limits) (bytes : List ℕ) (path : Path SymbolAt ℕ) (top : 
   -- a whole value
   value-goes : (kinds : List Kind) (field : Option SymbolAt) (annotations : List SymbolAt) (v : Scalar SymbolAt) (behind b : Cursor) → Spells (start_of bytes) path kinds false behind
       → Field (innermost kinds) behind field b → Txt (innermost kinds) b annotations p (value.scalar v) d → (s : State)
-      → Follows bytes path s (reading.scalar_given kinds top field annotations p v d)
+      → Follows bytes path s (reading.scalar_step kinds top field annotations p v d)
   value-goes kinds field annotations v behind b spells f txt s = (
     put_in path (first_place annotations p) field annotations p (value.scalar v),
     record {
@@ -232,7 +232,7 @@ module _ (limits : Limits) (bytes : List ℕ) (path : Path SymbolAt ℕ) (top : 
   begin-goes : (kinds : List Kind) (k : Kind) (field : Option SymbolAt) (annotations : List SymbolAt) (behind b c : Cursor) → Spells (start_of bytes) path kinds false behind
       → Field (innermost kinds) behind field b → Annotations (in_sexp (innermost kinds)) b annotations c
       → Tok (in_sexp (innermost kinds)) c (begin k) p d → (s : State)
-      → Goes bytes path s (part p (reading.begun limits kinds top field annotations k p d))
+      → Goes bytes path s (part p (reading.begin_step limits kinds top field annotations k p d))
   begin-goes kinds k field annotations behind b c spells f ns tok s =
       let after : State = state (k ∷ kinds) (top_of kinds top annotations p) (reading.member_of k) d in
       let item : PlacedItem = item_of (top_of kinds top annotations p) field annotations p (value.begin k) in
@@ -281,14 +281,14 @@ marker-word (value.Id id) e = absurd (false≢true e)
 module _ (limits : Limits) (bytes : List ℕ) (path : Path SymbolAt ℕ) (top : ℕ) (is_top : IsTop path top) (p : ℕ) (d : Cursor) where
   marker-goes : (symbol : Symbol) (behind : Cursor) → Spells (start_of bytes) path [] false behind → Tok false behind (name false symbol) p d
       → behind_colons false d ≡ None → (m : Bool) → is_marker symbol ≡ m → (s : State)
-      → Goes bytes path s (part p (refuse (not m) BadVersion >> Ok (reading.given [] top None [] p value.marker [] (behind_member None) d)))
+      → Goes bytes path s (part p (refuse (not m) BadVersion >> Ok (reading.item_step [] top None [] p value.marker [] (behind_member None) d)))
   marker-goes symbol behind spells tok alone false is s = tt
   marker-goes symbol behind spells tok alone true is s =
       let tok' : Tok false behind (name false (value.Text version_word)) p d = subst (λ symbol. Tok false behind (name false symbol) p d) (marker-word symbol is) tok in
       mark-goes path spells tok' alone s
     where
       mark-goes : (path : Path SymbolAt ℕ) → Spells (start_of bytes) path [] false behind → Tok false behind (name false (value.Text version_word)) p d
-          → behind_colons false d ≡ None → (s : State) → Follows bytes path s (reading.given [] top None [] p value.marker [] (behind_member None) d)
+          → behind_colons false d ≡ None → (s : State) → Follows bytes path s (reading.item_step [] top None [] p value.marker [] (behind_member None) d)
       mark-goes _ (Spells.top {tops} t) tok alone s = (
         mark_in (closed tops) p,
         record {
@@ -304,7 +304,7 @@ module _ (limits : Limits) (bytes : List ℕ) (path : Path SymbolAt ℕ) (top : 
   version-goes : (kinds : List Kind) (field : Option SymbolAt) (annotations : List SymbolAt) (quoted : Bool) (symbol : Symbol) (behind b c : Cursor)
       → Spells (start_of bytes) path kinds false behind → Field (innermost kinds) behind field b → Annotations (in_sexp (innermost kinds)) b annotations c
       → Tok (in_sexp (innermost kinds)) c (name quoted symbol) p d → behind_colons (in_sexp (innermost kinds)) d ≡ None → IsVersion (innermost kinds) annotations quoted symbol
-      → (s : State) → Goes bytes path s (part p (reading.version_given kinds top field annotations (at symbol p) d))
+      → (s : State) → Goes bytes path s (part p (reading.version_step kinds top field annotations (at symbol p) d))
   version-goes (k ∷ kinds) field annotations quoted symbol behind b c spells f ns tok alone told s = absurd (cc told.at_top)
   version-goes [] field (a ∷ annotations) quoted symbol behind b c spells f ns tok alone told s = absurd (cc told.bare)
   version-goes [] field [] true symbol behind b c spells f ns tok alone told s = absurd (cc told.unquoted)
@@ -328,7 +328,7 @@ module _ (limits : Limits) (bytes : List ℕ) (path : Path SymbolAt ℕ) (top : 
       → Spells (start_of bytes) path kinds false behind → Field (innermost kinds) behind field b → Annotations (in_sexp (innermost kinds)) b annotations c
       → Tok (in_sexp (innermost kinds)) c (name quoted symbol) p d
       → (colons : Option Cursor) → behind_colons (in_sexp (innermost kinds)) d ≡ colons
-      → (s : State) → Goes bytes path s (part p (reading.symbol_given limits kinds top field annotations quoted (at symbol p) d colons))
+      → (s : State) → Goes bytes path s (part p (reading.symbol_step limits kinds top field annotations quoted (at symbol p) d colons))
   symbol-goes kinds field annotations quoted symbol behind b c spells f ns tok None alone s =
       told-goes kinds field annotations quoted symbol behind b c spells f ns tok alone (tells_version (innermost kinds) annotations quoted symbol) refl s
   symbol-goes kinds field annotations quoted symbol behind b c spells f ns tok (Some e) found s =
@@ -377,7 +377,7 @@ module _ (limits : Limits) (bytes : List ℕ) (path : Path SymbolAt ℕ) (top : 
 
   named-goes : (kinds : List Kind) (a : SymbolAt) (behind b : Cursor) → Spells (start_of bytes) path kinds false behind
       → ((q : ℕ) (f : Cursor) → Tok false b colon q f → Field (innermost kinds) behind (Some a) f)
-      → (s : State) → Goes bytes path s (reading.named kinds top a b)
+      → (s : State) → Goes bytes path s (reading.field_step kinds top a b)
   named-goes kinds a behind b spells field s = blank-goes kinds a behind b spells field (blanks b) refl s
 
   -- ---- all tokens
@@ -437,13 +437,13 @@ cut-goes limits bytes path s b stands blank (Ok t) token =
     (tok-read (Some limits.scalar) (in_sexp (innermost s.kinds)) s.cursor b t.1 t.0 blank token) s
 
 coming-goes : (limits : Limits) (bytes : List ℕ) (path : Path SymbolAt ℕ) (s : State) (b : Cursor) → At bytes path s → blanks s.cursor ≡ Ok b
-    → (first : First) → first_at (in_sexp (innermost s.kinds)) b.rest ≡ first → (may : Bool) → Goes bytes path s (reading.coming limits s b first may)
+    → (first : First) → first_at (in_sexp (innermost s.kinds)) b.rest ≡ first → (may : Bool) → Goes bytes path s (reading.next_part limits s b first may)
 coming-goes limits bytes path s b stands blank first is false = tt
 coming-goes limits bytes path s b stands blank first is true =
     cut-goes limits bytes path s b stands blank (token_of (Some limits.scalar) first b) (ap (λ first. token_of (Some limits.scalar) first b) is)
 
 ended-goes : (limits : Limits) (bytes : List ℕ) (path : Path SymbolAt ℕ) (s : State) (b : Cursor) → blanks s.cursor ≡ Ok b → b.rest ≡ []
-    → (kinds : List Kind) (wants : Wants) → s.kinds ≡ kinds → s.wants ≡ wants → Goes bytes path s (reading.ended kinds wants b.place)
+    → (kinds : List Kind) (wants : Wants) → s.kinds ≡ kinds → s.wants ≡ wants → Goes bytes path s (reading.final_step kinds wants b.place)
 ended-goes limits bytes path s b blank none [] (a_value None []) kinds_are wants_are = (kinds_are, wants_are, b, blank, none)
 ended-goes limits bytes path s b blank none [] (a_value None (a ∷ annotations)) kinds_are wants_are = tt
 ended-goes limits bytes path s b blank none [] (a_value (Some a) annotations) kinds_are wants_are = tt

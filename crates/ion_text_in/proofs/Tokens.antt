@@ -179,7 +179,7 @@ module _ (limits : Limits) (kinds : List Kind) (top : ℕ) (wants : Wants) (c : 
       let first : First = first_at (in_sexp (innermost kinds)) (x ∷ rest) in
       let e' : token_of (Some limits.scalar) first b ≡ got t d = subst (λ rest. token_of (Some limits.scalar) (first_at (in_sexp (innermost kinds)) rest) b ≡ got t d) is e in
       let may : may_come wants first ≡ true = suits first (token-told (Some limits.scalar) first b d t e') in
-      ap (λ m. reading.coming limits (state kinds top wants c) b first m) may
+      ap (λ m. reading.next_part limits (state kinds top wants c) b first m) may
       ∙ ap (λ (o : Result (Token × Cursor) Reason). part b.place o >>= (λ t. take limits kinds top wants b.place t.0 t.1)) e'
 
 pub step-token : (limits : Limits) (kinds : List Kind) (top : ℕ) (wants : Wants) (c : Cursor) (t : Token) (p : ℕ) (d : Cursor) → Suits wants t
@@ -243,18 +243,18 @@ colons-stand sexp c d p tok =
     ap (λ o. reading.colons_behind sexp o) s.blank ∙ ap (λ first. reading.colons_at first s.prefix) are.0 ∙ ap Some (sym are.1)
 
 colon-from : (kinds : List Kind) (top : ℕ) (a : SymbolAt) (b : Cursor) (rest : List ℕ) → first_at false rest ≡ a_colon
-    → reading.colon_from kinds top a b rest ≡ Ok (reading.going_on kinds top (a_value (Some a) []) (skip 1 b))
+    → reading.colon_from kinds top a b rest ≡ Ok (reading.onward_step kinds top (a_value (Some a) []) (skip 1 b))
 unfolding first_at
 colon-from kinds top a b [] is = absurd (cc is)
 colon-from kinds top a b (x ∷ rest) is = ap (reading.colon_of kinds top a b) is
 
 -- behind a field's name
 pub colon-stands : (c d : Cursor) (p : ℕ) (kinds : List Kind) (top : ℕ) (a : SymbolAt) → Tok false c colon p d
-    → reading.named kinds top a c ≡ Ok (reading.going_on kinds top (a_value (Some a) []) d)
+    → reading.field_step kinds top a c ≡ Ok (reading.onward_step kinds top (a_value (Some a) []) d)
 colon-stands c d p kinds top a tok =
     let s = tok-stands false c d colon p tok in
     let told = token-told None (first_at false s.prefix.rest) s.prefix d colon s.token in
     let is = one-colon None (first_at false s.prefix.rest) s.prefix d s.token (sym told.mark) in
     ap (λ o. o >>= (λ b. reading.colon_from kinds top a b b.rest)) s.blank
     ∙ colon-from kinds top a s.prefix s.prefix.rest is.0
-    ∙ ap (λ d. Ok (reading.going_on kinds top (a_value (Some a) []) d)) (sym is.1)
+    ∙ ap (λ d. Ok (reading.onward_step kinds top (a_value (Some a) []) d)) (sym is.1)

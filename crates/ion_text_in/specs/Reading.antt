@@ -82,18 +82,18 @@ abbrev pub item_of : ℕ → Option SymbolAt → List SymbolAt → ℕ → Head 
 item_of top field annotations place head = record { field = field; annotations = annotations; head = head; place = place; top = top }
 
 -- an item whose head begins at a place, and what must come behind it
-abbrev pub given : List Kind → ℕ → Option SymbolAt → List SymbolAt → ℕ → Head SymbolAt → List Kind → Wants → Cursor → Step State
-given kinds top field annotations place head after wants c =
+abbrev pub item_step : List Kind → ℕ → Option SymbolAt → List SymbolAt → ℕ → Head SymbolAt → List Kind → Wants → Cursor → Step State
+item_step kinds top field annotations place head after wants c =
     Gives (item_of (top_of kinds top annotations place) field annotations place head)
     (record { kinds = after; top = top_of kinds top annotations place; wants = wants; cursor = c })
 
-abbrev pub scalar_given : List Kind → ℕ → Option SymbolAt → List SymbolAt → ℕ → Scalar SymbolAt → Cursor → Step State
-scalar_given kinds top field annotations place body c =
-    given kinds top field annotations place (value.whole body) kinds
+abbrev pub scalar_step : List Kind → ℕ → Option SymbolAt → List SymbolAt → ℕ → Scalar SymbolAt → Cursor → Step State
+scalar_step kinds top field annotations place body c =
+    item_step kinds top field annotations place (value.whole body) kinds
     (behind_member (innermost kinds)) c
 
-abbrev pub going_on : List Kind → ℕ → Wants → Cursor → Step State
-going_on kinds top wants c = GoesOn (record { kinds = kinds; top = top; wants = wants; cursor = c })
+abbrev pub onward_step : List Kind → ℕ → Wants → Cursor → Step State
+onward_step kinds top wants c = GoesOn (record { kinds = kinds; top = top; wants = wants; cursor = c })
 
 -- ---- symbols where a value may stand
 
@@ -104,10 +104,10 @@ cost a = cost_of a.symbol where
   cost_of (value.Text bytes) = 16 + length bytes
   cost_of (value.Id id) = 16
 
-abbrev pub annotated : Limits → List Kind → ℕ → Option SymbolAt → List SymbolAt → SymbolAt → Cursor → Result (Step State) Reason
-annotated limits kinds top field annotations a c = do
+abbrev pub with_annotation : Limits → List Kind → ℕ → Option SymbolAt → List SymbolAt → SymbolAt → Cursor → Result (Step State) Reason
+with_annotation limits kinds top field annotations a c = do
   refuse (nat_lt limits.scalar (sum_by cost (annotations ++ a ∷ []))) AnnotationLimit
-  Ok (going_on kinds top (a_value field (annotations ++ a ∷ [])) c)
+  Ok (onward_step kinds top (a_value field (annotations ++ a ∷ [])) c)
 
 -- a version's word without quotes and annotations at top level
 unfoldable pub tells_version : Option Kind → List SymbolAt → Bool → Symbol → Bool
@@ -118,15 +118,15 @@ abbrev pub is_marker : Symbol → Bool
 is_marker (value.Text word) = bytes_eq version_word word
 is_marker (value.Id id) = false
 
-abbrev pub version_given : List Kind → ℕ → Option SymbolAt → List SymbolAt → SymbolAt → Cursor → Result (Step State) Reason
-version_given kinds top field annotations a c = do
+abbrev pub version_step : List Kind → ℕ → Option SymbolAt → List SymbolAt → SymbolAt → Cursor → Result (Step State) Reason
+version_step kinds top field annotations a c = do
   refuse (not (is_marker a.symbol)) BadVersion
-  Ok (given kinds top field annotations a.place value.marker kinds (behind_member (innermost kinds)) c)
+  Ok (item_step kinds top field annotations a.place value.marker kinds (behind_member (innermost kinds)) c)
 
 abbrev pub value_or_version : List Kind → ℕ → Option SymbolAt → List SymbolAt → SymbolAt → Cursor → Bool → Result (Step State) Reason
 value_or_version kinds top field annotations a c true =
-    version_given kinds top field annotations a c
-value_or_version kinds top field annotations a c false = Ok (scalar_given kinds top field annotations a.place (value.symbol a) c)
+    version_step kinds top field annotations a c
+value_or_version kinds top field annotations a c false = Ok (scalar_step kinds top field annotations a.place (value.symbol a) c)
 
 -- behind the two colons, where they are the next token
 abbrev pub colons_at : First → Cursor → Option Cursor
@@ -141,9 +141,9 @@ abbrev pub behind_colons : Bool → Cursor → Option Cursor
 behind_colons sexp c = colons_behind sexp (blanks c)
 
 -- an annotation where two colons follow, else the value or a version marker
-abbrev pub symbol_given : Limits → List Kind → ℕ → Option SymbolAt → List SymbolAt → Bool → SymbolAt → Cursor → Option Cursor → Result (Step State) Reason
-symbol_given limits kinds top field annotations quoted a c (Some behind) = annotated limits kinds top field annotations a behind
-symbol_given limits kinds top field annotations quoted a c None =
+abbrev pub symbol_step : Limits → List Kind → ℕ → Option SymbolAt → List SymbolAt → Bool → SymbolAt → Cursor → Option Cursor → Result (Step State) Reason
+symbol_step limits kinds top field annotations quoted a c (Some behind) = with_annotation limits kinds top field annotations a behind
+symbol_step limits kinds top field annotations quoted a c None =
     value_or_version kinds top field annotations a c (tells_version (innermost kinds) annotations quoted a.symbol)
 
 -- ---- brackets, commas and fields
@@ -154,33 +154,33 @@ is_same kind.Sexp kind.Sexp = true
 is_same kind.Struct kind.Struct = true
 is_same _ _ = false
 
-abbrev pub closed : List Kind → ℕ → Kind → ℕ → Cursor → Result (Step State) Reason
-closed [] top k place c = Err BadToken
-closed (j ∷ kinds) top k place c = do
+abbrev pub end_step : List Kind → ℕ → Kind → ℕ → Cursor → Result (Step State) Reason
+end_step [] top k place c = Err BadToken
+end_step (j ∷ kinds) top k place c = do
   refuse (not (is_same j k)) BadToken
   Ok (Gives (item_of top None [] place value.end) (record { kinds = kinds; top = top; wants = behind_member (innermost kinds); cursor = c }))
 
 -- nothing closes behind a field or an annotation
-abbrev pub closed_bare : Option SymbolAt → List SymbolAt → List Kind → ℕ → Kind → ℕ → Cursor → Result (Step State) Reason
-closed_bare None [] kinds top k place c = closed kinds top k place c
-closed_bare _ _ kinds top k place c = Err BadToken
+abbrev pub bare_end_step : Option SymbolAt → List SymbolAt → List Kind → ℕ → Kind → ℕ → Cursor → Result (Step State) Reason
+bare_end_step None [] kinds top k place c = end_step kinds top k place c
+bare_end_step _ _ kinds top k place c = Err BadToken
 
-abbrev pub begun : Limits → List Kind → ℕ → Option SymbolAt → List SymbolAt → Kind → ℕ → Cursor → Result (Step State) Reason
-begun limits kinds top field annotations k place c = do
+abbrev pub begin_step : Limits → List Kind → ℕ → Option SymbolAt → List SymbolAt → Kind → ℕ → Cursor → Result (Step State) Reason
+begin_step limits kinds top field annotations k place c = do
   refuse (nat_le limits.depth (length kinds)) DepthLimit
-  Ok (given kinds top field annotations place (value.begin k) (k ∷ kinds) (member_of k) c)
+  Ok (item_step kinds top field annotations place (value.begin k) (k ∷ kinds) (member_of k) c)
 
 -- behind a field's name
 abbrev pub colon_of : List Kind → ℕ → SymbolAt → Cursor → First → Placed (Step State)
-colon_of kinds top a c a_colon = Ok (going_on kinds top (a_value (Some a) []) (skip 1 c))
+colon_of kinds top a c a_colon = Ok (onward_step kinds top (a_value (Some a) []) (skip 1 c))
 colon_of kinds top a c _ = Err (BadToken, c.place)
 
 abbrev pub colon_from : List Kind → ℕ → SymbolAt → Cursor → List ℕ → Placed (Step State)
 colon_from kinds top a c [] = Err (Truncated, c.place)
 colon_from kinds top a c (b ∷ bytes) = colon_of kinds top a c (first_at false (b ∷ bytes))
 
-abbrev pub named : List Kind → ℕ → SymbolAt → Cursor → Placed (Step State)
-named kinds top a c = do
+abbrev pub field_step : List Kind → ℕ → SymbolAt → Cursor → Placed (Step State)
+field_step kinds top a c = do
   d ← blanks c
   colon_from kinds top a d d.rest
 
@@ -188,38 +188,38 @@ named kinds top a c = do
 
 -- what a token that begins at a place makes of what must come
 unfoldable pub take : Limits → List Kind → ℕ → Wants → ℕ → Token → Cursor → Placed (Step State)
-take limits kinds top a_separator place (end k) c = part place (closed kinds top k place c)
-take limits kinds top a_separator place comma c = Ok (going_on kinds top (at_member (innermost kinds)) c)
-take limits kinds top a_field place (end k) c = part place (closed kinds top k place c)
-take limits kinds top a_field place (name quoted symbol) c = named kinds top (at symbol place) c
-take limits kinds top a_field place (text bytes) c = named kinds top (at (value.Text bytes) place) c
-take limits kinds top (a_value field annotations) place (end k) c = part place (closed_bare field annotations kinds top k place c)
-take limits kinds top (a_value field annotations) place (plain body) c = Ok (scalar_given kinds top field annotations place body c)
-take limits kinds top (a_value field annotations) place (text bytes) c = Ok (scalar_given kinds top field annotations place (value.string bytes) c)
+take limits kinds top a_separator place (end k) c = part place (end_step kinds top k place c)
+take limits kinds top a_separator place comma c = Ok (onward_step kinds top (at_member (innermost kinds)) c)
+take limits kinds top a_field place (end k) c = part place (end_step kinds top k place c)
+take limits kinds top a_field place (name quoted symbol) c = field_step kinds top (at symbol place) c
+take limits kinds top a_field place (text bytes) c = field_step kinds top (at (value.Text bytes) place) c
+take limits kinds top (a_value field annotations) place (end k) c = part place (bare_end_step field annotations kinds top k place c)
+take limits kinds top (a_value field annotations) place (plain body) c = Ok (scalar_step kinds top field annotations place body c)
+take limits kinds top (a_value field annotations) place (text bytes) c = Ok (scalar_step kinds top field annotations place (value.string bytes) c)
 take limits kinds top (a_value field annotations) place (operator bytes) c =
-    Ok (scalar_given kinds top field annotations place (value.symbol (at (value.Text bytes) place)) c)
+    Ok (scalar_step kinds top field annotations place (value.symbol (at (value.Text bytes) place)) c)
 take limits kinds top (a_value field annotations) place (name quoted symbol) c =
-    part place (symbol_given limits kinds top field annotations quoted (at symbol place) c (behind_colons (in_sexp (innermost kinds)) c))
-take limits kinds top (a_value field annotations) place (begin k) c = part place (begun limits kinds top field annotations k place c)
+    part place (symbol_step limits kinds top field annotations quoted (at symbol place) c (behind_colons (in_sexp (innermost kinds)) c))
+take limits kinds top (a_value field annotations) place (begin k) c = part place (begin_step limits kinds top field annotations k place c)
 take limits kinds top (a_value field annotations) place no_number c = Err (Float, place)
 take limits kinds top _ place _ c = Err (BadToken, place)
 
 -- the stream ends where nothing is open and a value may begin
-abbrev pub ended : List Kind → Wants → ℕ → Placed (Step State)
-ended [] (a_value None []) place = Ok Ends
-ended _ _ place = Err (Truncated, place)
+abbrev pub final_step : List Kind → Wants → ℕ → Placed (Step State)
+final_step [] (a_value None []) place = Ok Ends
+final_step _ _ place = Err (Truncated, place)
 
-abbrev pub coming : Limits → State → Cursor → First → Bool → Placed (Step State)
-coming limits s c first false = Err (BadToken, c.place)
-coming limits s c first true = do
+abbrev pub next_part : Limits → State → Cursor → First → Bool → Placed (Step State)
+next_part limits s c first false = Err (BadToken, c.place)
+next_part limits s c first true = do
   t ← part c.place (token_of (Some limits.scalar) first c)
   take limits s.kinds s.top s.wants c.place t.0 t.1
 
 abbrev pub part_from : Limits → State → Cursor → First → Placed (Step State)
-part_from limits s c first = coming limits s c first (may_come s.wants first)
+part_from limits s c first = next_part limits s c first (may_come s.wants first)
 
 abbrev pub part_behind : Limits → State → Cursor → List ℕ → Placed (Step State)
-part_behind limits s c [] = ended s.kinds s.wants c.place
+part_behind limits s c [] = final_step s.kinds s.wants c.place
 part_behind limits s c (b ∷ bytes) = part_from limits s c (first_at (in_sexp (innermost s.kinds)) (b ∷ bytes))
 
 unfoldable pub part_at : Limits → State → Placed (Step State)

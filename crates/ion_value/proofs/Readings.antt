@@ -3,6 +3,11 @@ use Rattle.std.proofs.Common.{arith, refl, ap, ◌∙◌, ◌≡◌, ℕ, zero, 
 use Rattle.ion_value.specs.Value.{PlacedItem}
 use Rattle.ion_value.specs.Reading.{Reading, Finished, More, items_of, behind, Step, Ends, Stops, Gives, GoesOn, Leaves, behind_item, behind_nothing, next_reading, reading_for, reading_by, Shrinks}
 
+-- what is read behind items and then others is read behind all of them
+pub behind-append : (xs ys : List PlacedItem) (r : Reading) → behind (xs ++ ys) r ≡ behind xs (behind ys r)
+behind-append [] ys r = refl
+behind-append (x ∷ xs) ys r = ap (More x) (behind-append xs ys r)
+
 -- readings that agree behind a step agree before it
 next_same : {T : Type 0} (f g : T → Reading) (o : Step T) → ((after : T) → Leaves o after → f after ≡ g after) → next_reading f o ≡ next_reading g o
 next_same f g Ends h = refl

@@ -9,6 +9,7 @@ use crate::meter::Meter;
 use crate::sink::Sink;
 use crate::source::Source;
 use crate::stream::{FromRead, ToWrite};
+use crate::tests::same;
 use std::alloc::{Allocator, Global};
 use std::process::Abort;
 use std::test::Fail;
@@ -171,7 +172,7 @@ fn pass<I: Input, A: Allocator + Copy>(
     let Some(found) = source.peek(0)? else {
         panic!(rt; "the input has ended")
     };
-    assert_eq!(rt; found, byte);
+    same(rt, found, byte);
     source.advance();
     Ok(())
 }
@@ -198,11 +199,11 @@ fn a_read_that_fails_is_answered_from_then_on(rt: HostRuntime) -> Result<(), Fai
         }
         for ahead in 0..3 {
             assert_eq!(rt; source.peek(ahead), Err(Fault::ReadFault), "after {before}");
-            assert_eq!(rt; source.buffer(), b"".as_slice());
+            same(&rt, source.buffer(), b"".as_slice());
         }
         let device = source.release(&mut meter);
-        assert_eq!(rt; device.calls, before + 1);
-        assert_eq!(rt; device.failures(), 1);
+        same(&rt, device.calls, before + 1);
+        same(&rt, device.failures(), 1);
     }
     Ok(())
 }
@@ -214,12 +215,12 @@ fn a_reader_that_never_fails_is_read_to_its_end(rt: HostRuntime) -> Result<(), F
     for byte in TEXT {
         pass(&rt, &mut source, *byte)?;
     }
-    assert_eq!(rt; source.place(), 10);
-    assert_eq!(rt; source.peek(0)?, None);
-    assert_eq!(rt; source.peek(0)?, None);
+    same(&rt, source.place(), 10);
+    same(&rt, source.peek(0)?, None);
+    same(&rt, source.peek(0)?, None);
     let device = source.release(&mut meter);
-    assert_eq!(rt; device.calls, 11);
-    assert_eq!(rt; device.failures(), 0);
+    same(&rt, device.calls, 11);
+    same(&rt, device.failures(), 0);
     Ok(())
 }
 
@@ -227,17 +228,17 @@ fn a_reader_that_never_fails_is_read_to_its_end(rt: HostRuntime) -> Result<(), F
 fn a_peek_ahead_reads_no_more_than_it_needs(rt: HostRuntime) -> Result<(), Fail> {
     let mut meter = Meter::new(rt.alloc());
     let mut source = source_on(&rt, &mut meter, LIMITS, Drip::new(TEXT, 0));
-    assert_eq!(rt; source.peek(3)?, Some(b'3'));
-    assert_eq!(rt; source.buffer(), b"0123".as_slice());
-    assert_eq!(rt; source.peek(1)?, Some(b'1'));
+    same(&rt, source.peek(3)?, Some(b'3'));
+    same(&rt, source.buffer(), b"0123".as_slice());
+    same(&rt, source.peek(1)?, Some(b'1'));
     pass(&rt, &mut source, b'0')?;
-    assert_eq!(rt; source.peek(3)?, Some(b'4'));
-    assert_eq!(rt; source.buffer(), b"1234".as_slice());
-    assert_eq!(rt; source.peek(15)?, None);
-    assert_eq!(rt; source.peek(8)?, Some(b'9'));
-    assert_eq!(rt; source.peek(9)?, None);
+    same(&rt, source.peek(3)?, Some(b'4'));
+    same(&rt, source.buffer(), b"1234".as_slice());
+    same(&rt, source.peek(15)?, None);
+    same(&rt, source.peek(8)?, Some(b'9'));
+    same(&rt, source.peek(9)?, None);
     let device = source.release(&mut meter);
-    assert_eq!(rt; device.calls, 11);
+    same(&rt, device.calls, 11);
     Ok(())
 }
 
@@ -254,11 +255,11 @@ fn windows_follow_one_another(rt: HostRuntime) -> Result<(), Fail> {
     let mut read = Vec::new(rt.alloc());
     for length in [4_096, 4_096, 1_808] {
         assert!(rt; source.peek(0)?.is_some());
-        assert_eq!(rt; take_lent(&mut source, &mut read)?, length);
+        same(&rt, take_lent(&mut source, &mut read)?, length);
     }
-    assert_eq!(rt; source.peek(0)?, None);
-    assert_eq!(rt; source.place(), 10_000);
-    assert_eq!(rt; read.as_slice(), bytes.as_slice());
+    same(&rt, source.peek(0)?, None);
+    same(&rt, source.place(), 10_000);
+    same(&rt, read.as_slice(), bytes.as_slice());
     Ok(())
 }
 
@@ -271,8 +272,8 @@ fn an_input_may_be_as_long_as_its_limit(rt: HostRuntime) -> Result<(), Fail> {
     for byte in b"abc" {
         pass(&rt, &mut source, *byte)?;
     }
-    assert_eq!(rt; source.peek(0)?, None);
-    assert_eq!(rt; source.peek(0)?, None);
+    same(&rt, source.peek(0)?, None);
+    same(&rt, source.peek(0)?, None);
     Ok(())
 }
 
@@ -282,15 +283,15 @@ fn an_input_past_its_limit_is_a_fault(rt: HostRuntime) -> Result<(), Fail> {
     let mut meter = Meter::new(rt.alloc());
     let device = FromRead::new(b"abc".as_slice());
     let mut source = source_on(&rt, &mut meter, limits, device);
-    assert_eq!(rt; source.peek(0)?, Some(b'a'));
-    assert_eq!(rt; source.buffer(), b"ab".as_slice());
+    same(&rt, source.peek(0)?, Some(b'a'));
+    same(&rt, source.buffer(), b"ab".as_slice());
     pass(&rt, &mut source, b'a')?;
     pass(&rt, &mut source, b'b')?;
-    assert_eq!(rt; source.buffer(), b"".as_slice());
-    assert_eq!(rt; source.peek(0), Err(Fault::InputLimit));
-    assert_eq!(rt; source.peek(0), Err(Fault::InputLimit));
+    same(&rt, source.buffer(), b"".as_slice());
+    same(&rt, source.peek(0), Err(Fault::InputLimit));
+    same(&rt, source.peek(0), Err(Fault::InputLimit));
     let device = source.release(&mut meter);
-    assert_eq!(rt; device.failures(), 0);
+    same(&rt, device.failures(), 0);
     Ok(())
 }
 
@@ -311,9 +312,9 @@ fn write_to_fault(
         assert_eq!(rt; sink.put(b""), Err(Fault::WriteFault), "after {before}");
     }
     let device = sink.release(&mut meter);
-    assert_eq!(rt; device.taken.as_slice(), &TEXT[..before]);
-    assert_eq!(rt; device.calls, before + 1);
-    assert_eq!(rt; device.failures(), 1);
+    same(rt, device.taken.as_slice(), &TEXT[..before]);
+    same(rt, device.calls, before + 1);
+    same(rt, device.failures(), 1);
     Ok(())
 }
 
@@ -334,9 +335,9 @@ fn a_writer_that_never_fails_gets_all(rt: HostRuntime) -> Result<(), Fail> {
     sink.flush()?;
     sink.flush()?;
     let device = sink.release(&mut meter);
-    assert_eq!(rt; device.taken.as_slice(), TEXT);
-    assert_eq!(rt; device.calls, 10);
-    assert_eq!(rt; device.failures(), 0);
+    same(&rt, device.taken.as_slice(), TEXT);
+    same(&rt, device.calls, 10);
+    same(&rt, device.failures(), 0);
     Ok(())
 }
 
@@ -345,13 +346,13 @@ fn a_put_into_a_full_window_may_fail(rt: HostRuntime) -> Result<(), Fail> {
     let bytes = many_bytes(rt.alloc(), 4_097)?;
     let mut meter = Meter::new(rt.alloc());
     let mut sink = sink_on(&rt, &mut meter, Narrow::new(rt.alloc(), 3, Failing::ByErr));
-    assert_eq!(rt; sink.put(bytes.as_slice()), Err(Fault::WriteFault));
-    assert_eq!(rt; sink.put(b"a"), Err(Fault::WriteFault));
-    assert_eq!(rt; sink.flush(), Err(Fault::WriteFault));
+    same(&rt, sink.put(bytes.as_slice()), Err(Fault::WriteFault));
+    same(&rt, sink.put(b"a"), Err(Fault::WriteFault));
+    same(&rt, sink.flush(), Err(Fault::WriteFault));
     let device = sink.release(&mut meter);
-    assert_eq!(rt; device.taken.as_slice(), [0, 1].as_slice());
-    assert_eq!(rt; device.calls, 3);
-    assert_eq!(rt; device.failures(), 1);
+    same(&rt, device.taken.as_slice(), [0, 1].as_slice());
+    same(&rt, device.calls, 3);
+    same(&rt, device.failures(), 1);
     Ok(())
 }
 
@@ -365,7 +366,7 @@ fn pieces_arrive_whole_and_in_order(rt: HostRuntime) -> Result<(), Fail> {
     }
     sink.flush()?;
     let written = sink.release(&mut meter).into_inner();
-    assert_eq!(rt; written.as_slice(), bytes.as_slice());
-    assert_eq!(rt; meter.held(), 0);
+    same(&rt, written.as_slice(), bytes.as_slice());
+    same(&rt, meter.held(), 0);
     Ok(())
 }

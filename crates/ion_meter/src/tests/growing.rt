@@ -8,6 +8,7 @@ use crate::fault::Fault;
 use crate::meter::Meter;
 use crate::stack::Stack;
 use crate::table::Table;
+use crate::tests::same;
 use std::alloc::{Allocator, Global};
 use std::process::Abort;
 use std::test::Fail;
@@ -129,7 +130,7 @@ impl<A: Allocator + Copy> Growing<A> for Spliced<A> {
 /// The answer without the entry, which has to be this one.
 fn handed_back(rt: &impl Abort, answer: Result<(), (u8, Fault)>, entry: u8) -> Result<(), Fault> {
     if let Err((back, fault)) = answer {
-        assert_eq!(rt; back, entry);
+        same(rt, back, entry);
         return Err(fault);
     }
     Ok(())
@@ -146,8 +147,8 @@ fn grow<A: Allocator + Copy>(
     let before = counts_of(rt, meter);
     let contents = grown.contents().to_vec(alloc)?;
     if let Err(fault) = grown.make(rt, meter, call) {
-        assert_eq!(rt; fault, Fault::Memory);
-        assert_eq!(rt; grown.contents(), contents.as_slice());
+        same(rt, fault, Fault::Memory);
+        same(rt, grown.contents(), contents.as_slice());
         is_refused(rt, meter, before);
         grown.make(rt, meter, call)?;
     }
@@ -169,9 +170,9 @@ fn grow_often<A: Allocator + Copy>(
     for place in 0..60 {
         grow(rt, alloc, meter, grown, Call::Insert(place, 9))?;
     }
-    assert_eq!(rt; grown.contents().len(), 200);
-    assert_eq!(rt; meter.held(), held);
-    assert_eq!(rt; meter.peak(), held);
+    same(rt, grown.contents().len(), 200);
+    same(rt, meter.held(), held);
+    same(rt, meter.peak(), held);
     Ok(meter.refused())
 }
 
@@ -185,7 +186,7 @@ fn bytes_grow_past_each_refusal(rt: HostRuntime) -> Result<(), Fail> {
         let mut buf = Buf::new(&meter);
         grow_often(&rt, rt.alloc(), &mut meter, &mut buf, 200)
     })?;
-    assert_eq!(rt; runs, REFUSALS);
+    same(&rt, runs, REFUSALS);
     Ok(())
 }
 
@@ -196,7 +197,7 @@ fn spliced_bytes_grow_past_each_refusal(rt: HostRuntime) -> Result<(), Fail> {
         let buf = Buf::new(&meter);
         grow_often(&rt, rt.alloc(), &mut meter, &mut Spliced { buf }, 200)
     })?;
-    assert_eq!(rt; runs, REFUSALS);
+    same(&rt, runs, REFUSALS);
     Ok(())
 }
 
@@ -207,7 +208,7 @@ fn stacks_grow_past_each_refusal(rt: HostRuntime) -> Result<(), Fail> {
         let mut stack = Stack::new(&meter);
         grow_often(&rt, rt.alloc(), &mut meter, &mut stack, 3_200)
     })?;
-    assert_eq!(rt; runs, REFUSALS);
+    same(&rt, runs, REFUSALS);
     Ok(())
 }
 
@@ -218,6 +219,6 @@ fn tables_grow_past_each_refusal(rt: HostRuntime) -> Result<(), Fail> {
         let table = Table::new(&meter, 24);
         grow_often(&rt, rt.alloc(), &mut meter, &mut Priced { table }, 4_800)
     })?;
-    assert_eq!(rt; runs, REFUSALS);
+    same(&rt, runs, REFUSALS);
     Ok(())
 }

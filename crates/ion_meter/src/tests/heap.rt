@@ -7,6 +7,7 @@ use crate::meter::Meter;
 use crate::sink::Sink;
 use crate::source::Source;
 use crate::stream::{FromRead, ToWrite};
+use crate::tests::same;
 use linked_list_allocator::LocalHeap;
 use std::alloc::Allocator;
 use std::process::Abort;
@@ -51,20 +52,20 @@ fn a_run_fits_into_a_heap(rt: HostRuntime) -> Result<(), Fail> {
     for length in [4_096, 4_096, 1_808] {
         assert!(rt; source.peek(0)?.is_some());
         let count = copy_window(&rt, &mut meter, &mut source, &mut buf, &mut sink)?;
-        assert_eq!(rt; count, length);
+        same(&rt, count, length);
     }
-    assert_eq!(rt; source.peek(0)?, None);
+    same(&rt, source.peek(0)?, None);
     sink.flush()?;
-    assert_eq!(rt; meter.peak(), 12_288);
-    assert_eq!(rt; meter.held(), 8_192);
+    same(&rt, meter.peak(), 12_288);
+    same(&rt, meter.held(), 8_192);
     assert!(rt; buf.as_slice().is_empty());
     source.release(&mut meter);
     let written = sink.release(&mut meter).into_inner();
     buf.release(&mut meter);
-    assert_eq!(rt; written.as_slice(), text.as_slice());
-    assert_eq!(rt; meter.held(), 0);
-    assert_eq!(rt; meter.refused(), 0);
-    assert_eq!(rt; heap.used(), 0);
+    same(&rt, written.as_slice(), text.as_slice());
+    same(&rt, meter.held(), 0);
+    same(&rt, meter.refused(), 0);
+    same(&rt, heap.used(), 0);
     Ok(())
 }
 
@@ -75,9 +76,9 @@ fn a_small_heap_refuses_a_window(rt: HostRuntime) -> Result<(), Fail> {
     let Err(device) = Source::new(&mut meter, LIMITS, FromRead::new(b"ab".as_slice())) else {
         panic!(rt; "a window of 4,096 bytes in a heap of 2,048")
     };
-    assert_eq!(rt; device.into_inner(), b"ab".as_slice());
-    assert_eq!(rt; meter.refused(), 1);
-    assert_eq!(rt; meter.held(), 0);
-    assert_eq!(rt; meter.peak(), 0);
+    same(&rt, device.into_inner(), b"ab".as_slice());
+    same(&rt, meter.refused(), 1);
+    same(&rt, meter.held(), 0);
+    same(&rt, meter.peak(), 0);
     Ok(())
 }

@@ -9,6 +9,7 @@ use crate::source::Source;
 use crate::stack::Stack;
 use crate::stream::{FromRead, ToWrite};
 use crate::table::Table;
+use crate::tests::same;
 use std::process::Abort;
 use std::test::Fail;
 
@@ -18,16 +19,16 @@ fn bytes_are_put_in_and_cut(rt: HostRuntime) -> Result<(), Fail> {
     let mut buf = Buf::new(&meter);
     buf.extend(&mut meter, b"abc")?;
     buf.insert(&mut meter, 1, b'x')?;
-    assert_eq!(rt; buf.as_slice(), b"axbc".as_slice());
-    assert_eq!(rt; meter.held(), 4);
+    same(&rt, buf.as_slice(), b"axbc".as_slice());
+    same(&rt, meter.held(), 4);
     buf.truncate(&mut meter, 2);
-    assert_eq!(rt; buf.as_slice(), b"ax".as_slice());
-    assert_eq!(rt; meter.held(), 2);
-    assert_eq!(rt; meter.peak(), 4);
+    same(&rt, buf.as_slice(), b"ax".as_slice());
+    same(&rt, meter.held(), 2);
+    same(&rt, meter.peak(), 4);
     buf.release(&mut meter);
-    assert_eq!(rt; meter.held(), 0);
-    assert_eq!(rt; meter.peak(), 4);
-    assert_eq!(rt; meter.refused(), 0);
+    same(&rt, meter.held(), 0);
+    same(&rt, meter.peak(), 4);
+    same(&rt, meter.refused(), 0);
     Ok(())
 }
 
@@ -37,15 +38,15 @@ fn bytes_are_written_over_and_taken_off(rt: HostRuntime) -> Result<(), Fail> {
     let mut buf = Buf::new(&meter);
     buf.extend(&mut meter, b"ab")?;
     buf.set(0, b'y');
-    assert_eq!(rt; buf.as_slice(), b"yb".as_slice());
-    assert_eq!(rt; meter.held(), 2);
-    assert_eq!(rt; buf.pop(&mut meter), Some(b'b'));
-    assert_eq!(rt; buf.as_slice(), b"y".as_slice());
-    assert_eq!(rt; meter.held(), 1);
+    same(&rt, buf.as_slice(), b"yb".as_slice());
+    same(&rt, meter.held(), 2);
+    same(&rt, buf.pop(&mut meter), Some(b'b'));
+    same(&rt, buf.as_slice(), b"y".as_slice());
+    same(&rt, meter.held(), 1);
     buf.clear(&mut meter);
-    assert_eq!(rt; buf.as_slice(), b"".as_slice());
-    assert_eq!(rt; meter.held(), 0);
-    assert_eq!(rt; buf.pop(&mut meter), None);
+    same(&rt, buf.as_slice(), b"".as_slice());
+    same(&rt, meter.held(), 0);
+    same(&rt, buf.pop(&mut meter), None);
     Ok(())
 }
 
@@ -56,10 +57,10 @@ fn a_slice_is_put_in(rt: HostRuntime) -> Result<(), Fail> {
     buf.push(&mut meter, b'a')?;
     buf.push(&mut meter, b'b')?;
     buf.insert_slice(&mut meter, 1, b"xy")?;
-    assert_eq!(rt; buf.as_slice(), b"axyb".as_slice());
-    assert_eq!(rt; meter.held(), 4);
+    same(&rt, buf.as_slice(), b"axyb".as_slice());
+    same(&rt, meter.held(), 4);
     buf.release(&mut meter);
-    assert_eq!(rt; meter.held(), 0);
+    same(&rt, meter.held(), 0);
     Ok(())
 }
 
@@ -68,25 +69,25 @@ fn an_entry_of_a_stack_costs_16(rt: HostRuntime) -> Result<(), Fail> {
     let mut meter = Meter::new(rt.alloc());
     let mut stack = Stack::new(&meter);
     stack.extend(&mut meter, &[1_u32, 2])?;
-    assert_eq!(rt; meter.held(), 32);
+    same(&rt, meter.held(), 32);
     stack.set(0, 7);
-    assert_eq!(rt; stack.as_slice(), [7, 2].as_slice());
-    assert_eq!(rt; stack.pop(&mut meter), Some(2));
-    assert_eq!(rt; meter.held(), 16);
-    assert_eq!(rt; stack.insert(&mut meter, 0, 5), Ok(()));
-    assert_eq!(rt; stack.push(&mut meter, 9), Ok(()));
-    assert_eq!(rt; stack.as_slice(), [5, 7, 9].as_slice());
-    assert_eq!(rt; meter.held(), 48);
+    same(&rt, stack.as_slice(), [7, 2].as_slice());
+    same(&rt, stack.pop(&mut meter), Some(2));
+    same(&rt, meter.held(), 16);
+    same(&rt, stack.insert(&mut meter, 0, 5), Ok(()));
+    same(&rt, stack.push(&mut meter, 9), Ok(()));
+    same(&rt, stack.as_slice(), [5, 7, 9].as_slice());
+    same(&rt, meter.held(), 48);
     stack.truncate(&mut meter, 1);
-    assert_eq!(rt; stack.as_slice(), [5].as_slice());
-    assert_eq!(rt; meter.held(), 16);
+    same(&rt, stack.as_slice(), [5].as_slice());
+    same(&rt, meter.held(), 16);
     stack.clear(&mut meter);
-    assert_eq!(rt; stack.as_slice(), [].as_slice());
-    assert_eq!(rt; meter.held(), 0);
-    assert_eq!(rt; stack.push(&mut meter, 3), Ok(()));
+    same(&rt, stack.as_slice(), [].as_slice());
+    same(&rt, meter.held(), 0);
+    same(&rt, stack.push(&mut meter, 3), Ok(()));
     stack.release(&mut meter);
-    assert_eq!(rt; meter.held(), 0);
-    assert_eq!(rt; meter.peak(), 48);
+    same(&rt, meter.held(), 0);
+    same(&rt, meter.peak(), 48);
     Ok(())
 }
 
@@ -94,26 +95,26 @@ fn an_entry_of_a_stack_costs_16(rt: HostRuntime) -> Result<(), Fail> {
 fn an_entry_of_a_table_has_its_cost(rt: HostRuntime) -> Result<(), Fail> {
     let mut meter = Meter::new(rt.alloc());
     let mut table = Table::new(&meter, 24);
-    assert_eq!(rt; table.push(&mut meter, 7_u32), Ok(()));
-    assert_eq!(rt; meter.held(), 24);
+    same(&rt, table.push(&mut meter, 7_u32), Ok(()));
+    same(&rt, meter.held(), 24);
     table.set(0, 8);
-    assert_eq!(rt; table.as_slice(), [8].as_slice());
+    same(&rt, table.as_slice(), [8].as_slice());
     table.extend(&mut meter, &[1, 2])?;
-    assert_eq!(rt; table.insert(&mut meter, 1, 5), Ok(()));
-    assert_eq!(rt; table.as_slice(), [8, 5, 1, 2].as_slice());
-    assert_eq!(rt; meter.held(), 96);
-    assert_eq!(rt; table.pop(&mut meter), Some(2));
-    assert_eq!(rt; meter.held(), 72);
+    same(&rt, table.insert(&mut meter, 1, 5), Ok(()));
+    same(&rt, table.as_slice(), [8, 5, 1, 2].as_slice());
+    same(&rt, meter.held(), 96);
+    same(&rt, table.pop(&mut meter), Some(2));
+    same(&rt, meter.held(), 72);
     table.truncate(&mut meter, 1);
-    assert_eq!(rt; table.as_slice(), [8].as_slice());
-    assert_eq!(rt; meter.held(), 24);
+    same(&rt, table.as_slice(), [8].as_slice());
+    same(&rt, meter.held(), 24);
     table.clear(&mut meter);
-    assert_eq!(rt; table.as_slice(), [].as_slice());
-    assert_eq!(rt; meter.held(), 0);
-    assert_eq!(rt; table.push(&mut meter, 3), Ok(()));
+    same(&rt, table.as_slice(), [].as_slice());
+    same(&rt, meter.held(), 0);
+    same(&rt, table.push(&mut meter, 3), Ok(()));
     table.release(&mut meter);
-    assert_eq!(rt; meter.held(), 0);
-    assert_eq!(rt; meter.peak(), 96);
+    same(&rt, meter.held(), 0);
+    same(&rt, meter.peak(), 96);
     Ok(())
 }
 
@@ -126,13 +127,13 @@ fn both_windows_cost_8_192(rt: HostRuntime) -> Result<(), Fail> {
     let Ok(sink) = Sink::new(&mut meter, ToWrite::new(Vec::new(rt.alloc()))) else {
         panic!(rt; "no memory")
     };
-    assert_eq!(rt; meter.held(), 8_192);
+    same(&rt, meter.held(), 8_192);
     let reader = source.release(&mut meter).into_inner();
-    assert_eq!(rt; reader, b"ab".as_slice());
-    assert_eq!(rt; meter.held(), 4_096);
+    same(&rt, reader, b"ab".as_slice());
+    same(&rt, meter.held(), 4_096);
     sink.release(&mut meter);
-    assert_eq!(rt; meter.held(), 0);
-    assert_eq!(rt; meter.peak(), 8_192);
+    same(&rt, meter.held(), 0);
+    same(&rt, meter.peak(), 8_192);
     Ok(())
 }
 
@@ -183,8 +184,8 @@ fn reasons_have_names_and_numbers(rt: HostRuntime) {
         (Reason::CatalogEntry, "CatalogEntry", 23),
     ];
     for (reason, name, number) in known {
-        assert_eq!(rt; reason.name(), name);
-        assert_eq!(rt; reason.number(), number);
+        same(&rt, reason.name(), name);
+        same(&rt, reason.number(), number);
     }
 }
 
@@ -202,7 +203,7 @@ fn faults_are_shown(rt: HostRuntime) -> Result<(), Fail> {
     ];
     for (fault, shown) in known {
         let text = format!(in rt.alloc(); "{fault}")?;
-        assert_eq!(rt; text.as_str(), shown);
+        same(&rt, text.as_str(), shown);
     }
     Ok(())
 }

@@ -5,6 +5,7 @@ use crate::meter::Meter;
 use crate::sink::Sink;
 use crate::source::Source;
 use crate::stream::{FromRead, ToWrite};
+use crate::tests::same;
 use std::alloc::Global;
 use std::process::Abort;
 use std::test::Fail;
@@ -24,10 +25,10 @@ fn read_byte(rt: &impl Abort, refusing: &Refusing<Global>) -> Result<u64, Fail> 
     let Ok(mut source) = made else {
         panic!(rt; "refused again")
     };
-    assert_eq!(rt; meter.held(), 4096);
-    assert_eq!(rt; source.peek(0)?, Some(b'a'));
+    same(rt, meter.held(), 4096);
+    same(rt, source.peek(0)?, Some(b'a'));
     source.release(&mut meter);
-    assert_eq!(rt; meter.held(), 0);
+    same(rt, meter.held(), 0);
     Ok(meter.refused())
 }
 
@@ -46,19 +47,19 @@ fn write_bytes(rt: &impl Abort, alloc: Global, refusing: &Refusing<Global>) -> R
     let Ok(mut sink) = made else {
         panic!(rt; "refused again")
     };
-    assert_eq!(rt; meter.held(), 4096);
+    same(rt, meter.held(), 4096);
     sink.put(b"ab")?;
     sink.flush()?;
     let written = sink.release(&mut meter).into_inner();
-    assert_eq!(rt; written.as_slice(), b"ab".as_slice());
-    assert_eq!(rt; meter.held(), 0);
+    same(rt, written.as_slice(), b"ab".as_slice());
+    same(rt, meter.held(), 0);
     Ok(meter.refused())
 }
 
 #[test]
 fn a_refused_input_is_handed_back(rt: HostRuntime) -> Result<(), Fail> {
     let runs = refuse_each(&rt, rt.alloc(), |refusing| read_byte(&rt, refusing))?;
-    assert_eq!(rt; runs, 1);
+    same(&rt, runs, 1);
     Ok(())
 }
 
@@ -69,6 +70,6 @@ fn a_refused_output_is_handed_back(rt: HostRuntime) -> Result<(), Fail> {
         rt.alloc(),
         |refusing| write_bytes(&rt, rt.alloc(), refusing),
     )?;
-    assert_eq!(rt; runs, 1);
+    same(&rt, runs, 1);
     Ok(())
 }

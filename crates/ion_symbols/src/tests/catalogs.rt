@@ -4,6 +4,7 @@ ghost use Rattle.ion_symbols.specs.Table.{catalog_cost, shared_cost};
 
 use crate::catalog::Catalog;
 use crate::shared::SharedTable;
+use crate::tests::same;
 use ion_meter::fault::{Fault, Reason};
 use ion_meter::meter::Meter;
 use std::alloc::Global;
@@ -84,13 +85,13 @@ impl Shelf {
         let Err((table, fault)) = self.catalog.add(&mut self.meter, table) else {
             panic!(rt; "{name} {version} was added")
         };
-        assert_eq!(rt; fault, Fault::Refused(Reason::CatalogEntry, 0));
-        assert_eq!(rt; table.name(), name.as_bytes());
-        assert_eq!(rt; table.version(), version);
-        assert_eq!(rt; table.get(0), Some(b"new".as_slice()));
+        same(rt, fault, Fault::Refused(Reason::CatalogEntry, 0));
+        same(rt, table.name(), name.as_bytes());
+        same(rt, table.version(), version);
+        same(rt, table.get(0), Some(b"new".as_slice()));
         table.release(&mut self.meter);
-        assert_eq!(rt; self.catalog.len(), count);
-        assert_eq!(rt; self.meter.held(), held);
+        same(rt, self.catalog.len(), count);
+        same(rt, self.meter.held(), held);
         Ok(())
     }
 
@@ -99,16 +100,16 @@ impl Shelf {
         let Some(table) = self.catalog.find(name, version) else {
             panic!(rt; "no {name} {version}")
         };
-        assert_eq!(rt; table.name(), name.as_bytes());
-        assert_eq!(rt; table.version(), version);
-        assert_eq!(rt; table.len(), texts.len());
+        same(rt, table.name(), name.as_bytes());
+        same(rt, table.version(), version);
+        same(rt, table.len(), texts.len());
         let mut place = 0;
         for text in texts {
             assert_eq!(rt; table.get(place), Some(text.as_bytes()), "{name} {version}");
             assert!(rt; place < 1_000);
             place += 1;
         }
-        assert_eq!(rt; table.get(place), None);
+        same(rt, table.get(place), None);
     }
 
     // Gives all back, after which nothing is held.
@@ -117,7 +118,7 @@ impl Shelf {
     {
         let Shelf { catalog, mut meter } = self;
         catalog.release(&mut meter);
-        assert_eq!(rt; meter.held(), 0);
+        same(rt, meter.held(), 0);
     }
 }
 
@@ -129,21 +130,21 @@ fn a_table_costs_32_more_in_a_catalog(rt: HostRuntime) -> Result<(), Fail> {
     table.push(&mut meter, None)?;
     let mut catalog = Catalog::new(&meter);
     assert!(rt; catalog.is_empty());
-    assert_eq!(rt; meter.held(), 34);
+    same(&rt, meter.held(), 34);
     let added = catalog.add(&mut meter, table);
     assert!(rt; added.is_ok());
-    assert_eq!(rt; catalog.len(), 1);
+    same(&rt, catalog.len(), 1);
     assert!(rt; !catalog.is_empty());
-    assert_eq!(rt; meter.held(), 66);
+    same(&rt, meter.held(), 66);
     let Some(table) = catalog.find("x", 1) else {
         panic!(rt; "no table")
     };
-    assert_eq!(rt; table.get(0), Some(b"p".as_slice()));
-    assert_eq!(rt; table.get(1), None);
-    assert_eq!(rt; table.len(), 2);
+    same(&rt, table.get(0), Some(b"p".as_slice()));
+    same(&rt, table.get(1), None);
+    same(&rt, table.len(), 2);
     catalog.release(&mut meter);
-    assert_eq!(rt; meter.held(), 0);
-    assert_eq!(rt; meter.peak(), 66);
+    same(&rt, meter.held(), 0);
+    same(&rt, meter.peak(), 66);
     Ok(())
 }
 
@@ -185,7 +186,7 @@ fn a_table_is_found_by_name_and_version(rt: HostRuntime) -> Result<(), Fail> {
         );
     }
     let slots = 6 * (16 + 1);
-    assert_eq!(rt; shelf.meter.held(), 4 * 32 + 1 + 1 + 2 + 5 + slots);
+    same(&rt, shelf.meter.held(), 4 * 32 + 1 + 1 + 2 + 5 + slots);
     shelf.finish(&rt);
     Ok(())
 }

@@ -4,6 +4,7 @@ ghost use Rattle.ion_symbols.specs.Output.{texts_cost};
 
 use crate::output::OutSymbols;
 use crate::search::place_of;
+use crate::tests::same;
 use ion_meter::fault::Fault;
 use ion_meter::limits::Limits;
 use ion_meter::meter::Meter;
@@ -61,20 +62,20 @@ impl Texting {
     fn expect_since(&self, rt: &impl Abort, id: u32, texts: &[&str]) {
         let since = self.texts.new_since(id);
         assert_eq!(rt; since.len(), texts.len(), "from {id} on");
-        assert_eq!(rt; since.is_empty(), texts.is_empty());
+        same(rt, since.is_empty(), texts.is_empty());
         let mut place = 0;
         for text in texts {
             assert_eq!(rt; since.get(place), Some(text.as_bytes()), "from {id} on");
             assert!(rt; place < 1_000);
             place += 1;
         }
-        assert_eq!(rt; since.get(place), None);
+        same(rt, since.get(place), None);
     }
 
     // Asserts where a text stands in order of bytes, or where it belongs.
     fn expect_place(&self, rt: &impl Abort, text: &[u8], place: Result<u32, u32>) {
         let mut search = self.texts.search();
-        assert_eq!(rt; search.probes(), 0);
+        same(rt, search.probes(), 0);
         assert_eq!(rt; place_of(&mut search, text), place, "{text:?}");
     }
 
@@ -83,16 +84,16 @@ impl Texting {
         requires { texts_cost self.texts.texts ≤ self.meter.held }
     {
         let Texting { texts, mut meter } = self;
-        assert_eq!(rt; meter.held(), texts.cost());
+        same(rt, meter.held(), texts.cost());
         texts.release(&mut meter);
-        assert_eq!(rt; meter.held(), 0);
+        same(rt, meter.held(), 0);
     }
 }
 
 #[test]
 fn texts_get_ids_from_10_on(rt: HostRuntime) -> Result<(), Fail> {
     let mut texting = start(&rt, rt.alloc(), 1_024);
-    assert_eq!(rt; texting.texts.last_probes(), 0);
+    same(&rt, texting.texts.last_probes(), 0);
     texting.expect_ids(
         &rt,
         &[
@@ -103,8 +104,8 @@ fn texts_get_ids_from_10_on(rt: HostRuntime) -> Result<(), Fail> {
         ],
     )?;
     assert!(rt; texting.texts.last_probes() <= 2);
-    assert_eq!(rt; texting.texts.cost(), 51);
-    assert_eq!(rt; texting.meter.held(), 51);
+    same(&rt, texting.texts.cost(), 51);
+    same(&rt, texting.meter.held(), 51);
     texting.expect_since(&rt, 10, &["b", "a", "c"]);
     texting.expect_since(&rt, 11, &["a", "c"]);
     texting.expect_since(&rt, 12, &["c"]);
@@ -133,13 +134,13 @@ fn system_texts_have_ids_without_probes(rt: HostRuntime) -> Result<(), Fail> {
     texting.expect_ids(&rt, &[("b", Some(10)), ("a", Some(11)), ("b", Some(10))])?;
     assert!(rt; texting.texts.last_probes() > 0);
     texting.expect_ids(&rt, &SYSTEM)?;
-    assert_eq!(rt; texting.texts.last_probes(), 0);
+    same(&rt, texting.texts.last_probes(), 0);
     texting.expect_ids(
         &rt,
         &[("$ion_1", Some(12)), ("", Some(13)), ("$ion_", Some(14))],
     )?;
     texting.expect_since(&rt, 10, &["b", "a", "$ion_1", "", "$ion_"]);
-    assert_eq!(rt; texting.meter.held(), 5 * 16 + 1 + 1 + 6 + 5);
+    same(&rt, texting.meter.held(), 5 * 16 + 1 + 1 + 6 + 5);
     texting.finish(&rt);
     Ok(())
 }
@@ -159,9 +160,9 @@ fn a_text_past_the_limit_gets_no_id(rt: HostRuntime) -> Result<(), Fail> {
         ],
     )?;
     texting.expect_since(&rt, 10, &["a"]);
-    assert_eq!(rt; texting.texts.cost(), 17);
-    assert_eq!(rt; texting.meter.held(), 17);
-    assert_eq!(rt; texting.meter.peak(), 17);
+    same(&rt, texting.texts.cost(), 17);
+    same(&rt, texting.meter.held(), 17);
+    same(&rt, texting.meter.peak(), 17);
     texting.finish(&rt);
     Ok(())
 }
@@ -220,10 +221,10 @@ fn a_place_is_found_with_few_probes(rt: HostRuntime) -> Result<(), Fail> {
         let name = number * 1_103 % 4_096;
         let text = format!(in rt.alloc(); "text {name}")?;
         let id = texting.id_of(&rt, text.as_str().as_bytes())?;
-        assert_eq!(rt; id, Some(number + 10));
+        same(&rt, id, Some(number + 10));
     }
     assert!(rt; texting.texts.last_probes() <= 12);
-    assert_eq!(rt; texting.texts.new_since(10).len(), 4_096);
+    same(&rt, texting.texts.new_since(10).len(), 4_096);
     texting.expect_ids(&rt, &[("text 0", Some(10)), ("text 1103", Some(11))])?;
     assert!(rt; texting.texts.last_probes() <= 13);
     assert!(rt; texting.texts.last_probes() > 0);

@@ -1,6 +1,7 @@
 //! Shared tables alone.
 
 use crate::shared::SharedTable;
+use crate::tests::same;
 use ion_meter::meter::Meter;
 use std::alloc::Global;
 use std::process::Abort;
@@ -11,19 +12,19 @@ fn a_table_costs_its_name_and_16_a_slot(rt: HostRuntime) -> Result<(), Fail> {
     let mut meter = Meter::new(rt.alloc());
     let mut table = SharedTable::new(&mut meter, "x", 1)?;
     assert!(rt; table.is_empty());
-    assert_eq!(rt; meter.held(), 1);
+    same(&rt, meter.held(), 1);
     table.push(&mut meter, Some("p"))?;
     table.push(&mut meter, None)?;
-    assert_eq!(rt; meter.held(), 34);
+    same(&rt, meter.held(), 34);
     table.set_name(&mut meter, "abc")?;
-    assert_eq!(rt; table.name(), b"abc".as_slice());
-    assert_eq!(rt; meter.held(), 36);
+    same(&rt, table.name(), b"abc".as_slice());
+    same(&rt, meter.held(), 36);
     table.set_name(&mut meter, "x")?;
-    assert_eq!(rt; table.name(), b"x".as_slice());
-    assert_eq!(rt; meter.held(), 34);
+    same(&rt, table.name(), b"x".as_slice());
+    same(&rt, meter.held(), 34);
     table.release(&mut meter);
-    assert_eq!(rt; meter.held(), 0);
-    assert_eq!(rt; meter.peak(), 36);
+    same(&rt, meter.held(), 0);
+    same(&rt, meter.peak(), 36);
     Ok(())
 }
 
@@ -31,21 +32,21 @@ fn a_table_costs_its_name_and_16_a_slot(rt: HostRuntime) -> Result<(), Fail> {
 fn a_version_costs_nothing(rt: HostRuntime) -> Result<(), Fail> {
     let mut meter = Meter::new(rt.alloc());
     let mut table = SharedTable::new(&mut meter, "x", 1)?;
-    assert_eq!(rt; table.version(), 1);
+    same(&rt, table.version(), 1);
     table.set_version(2);
-    assert_eq!(rt; table.version(), 2);
-    assert_eq!(rt; meter.held(), 1);
+    same(&rt, table.version(), 2);
+    same(&rt, meter.held(), 1);
     table.set_version(1);
-    assert_eq!(rt; table.version(), 1);
-    assert_eq!(rt; meter.held(), 1);
+    same(&rt, table.version(), 1);
+    same(&rt, meter.held(), 1);
     table.release(&mut meter);
-    assert_eq!(rt; meter.held(), 0);
+    same(&rt, meter.held(), 0);
     Ok(())
 }
 
 // Asserts the text of each slot, none where there is none.
 fn expect_slots(rt: &impl Abort, table: &SharedTable<Global>, slots: &[Option<&str>]) {
-    assert_eq!(rt; table.len(), slots.len());
+    same(rt, table.len(), slots.len());
     let mut place = 0;
     for slot in slots {
         match slot {
@@ -68,8 +69,8 @@ fn slots_are_given_by_place(rt: HostRuntime) -> Result<(), Fail> {
     table.push(&mut meter, Some("two"))?;
     assert!(rt; !table.is_empty());
     expect_slots(&rt, &table, &[Some("p"), None, Some(""), Some("two")]);
-    assert_eq!(rt; meter.held(), 1 + 4 * 16 + 4);
+    same(&rt, meter.held(), 1 + 4 * 16 + 4);
     table.release(&mut meter);
-    assert_eq!(rt; meter.held(), 0);
+    same(&rt, meter.held(), 0);
     Ok(())
 }

@@ -2,6 +2,7 @@
 
 use crate::catalog::Catalog;
 use crate::symbols::{Slot, Symbols};
+use crate::tests::same;
 use ion_meter::meter::Meter;
 use ion_value::names::Names;
 
@@ -29,9 +30,9 @@ fn ids_1_to_9_have_texts(rt: HostRuntime) {
         assert!(rt; id < 10);
         id += 1;
     }
-    assert_eq!(rt; id, 10);
+    same(&rt, id, 10);
     symbols.release(&mut meter);
-    assert_eq!(rt; meter.held(), 0);
+    same(&rt, meter.held(), 0);
 }
 
 #[test]
@@ -39,11 +40,11 @@ fn id_0_is_unknown_and_10_above(rt: HostRuntime) {
     let meter = Meter::new(rt.alloc());
     let catalog = Catalog::new(&meter);
     let symbols = Symbols::new(&meter, &catalog);
-    assert_eq!(rt; symbols.text(0), Slot::Unknown);
+    same(&rt, symbols.text(0), Slot::Unknown);
     for id in [10, 11, 2_147_483_648, u32::MAX] {
         assert_eq!(rt; symbols.text(id), Slot::Above, "at {id}");
         assert_eq!(rt; symbols.text_of(id), None, "at {id}");
     }
-    assert_eq!(rt; symbols.text_of(0), None);
-    assert_eq!(rt; meter.held(), 0);
+    same(&rt, symbols.text_of(0), None);
+    same(&rt, meter.held(), 0);
 }

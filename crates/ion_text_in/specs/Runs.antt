@@ -51,6 +51,11 @@ opens_comment None = false
 abbrev pub IsOpen : Run → List ℕ → Type 0
 IsOpen run rest = (rest ≡ []) ⊎ ((has_slashes run ≡ true) × (rest ≡ 47 ∷ []))
 
+-- a slash that may begin a comment is all that stands there
+pub record IsAtSlash (run : Run) (rest : List ℕ) : Type 0 where
+  pub slashes : has_slashes run ≡ true
+  pub slash : rest ≡ 47 ∷ []
+
 -- so many bytes at the front of some go on
 abbrev pub GoesOver : (List ℕ → Bool) → List ℕ → ℕ → Type 0
 GoesOver test bytes n = run_of test bytes ≡ (take n bytes ++ (run_of test (drop n bytes)).0, (run_of test (drop n bytes)).1)

@@ -1,12 +1,12 @@
 //! Tokens that the end of a window cuts: their bytes are gathered into a buffer.
-ghost use Rattle.std.specs.Prelude.{◌≡◌, ◌∷◌, ◌≤◌, ℕ, [], Some, Ok, Err, true, length, OnOk, IfOk, IfErr};
+ghost use Rattle.std.specs.Prelude.{◌≡◌, ◌≤◌, ℕ, [], Some, Ok, Err, length, OnOk, IfOk, IfErr};
 ghost use Rattle.ion_meter.specs.Sources.{Stands};
 ghost use Rattle.ion_meter.specs.Windows.{left, lent, Extends, IsGiven};
 ghost use Rattle.ion_value.specs.Calls.{AnswersBy, CanRead, Reads, ReadsInto};
 ghost use Rattle.ion_text_in.specs.Places.{run_of};
 ghost use Rattle.ion_text_in.specs.Token.{bytes_of};
 ghost use Rattle.ion_text_in.specs.Views.{spelled};
-ghost use Rattle.ion_text_in.specs.Runs.{goes_on, has_slashes, opens_comment, GoesOver, with_run, CanAppend, IsAppended, IsOver};
+ghost use Rattle.ion_text_in.specs.Runs.{goes_on, opens_comment, GoesOver, IsAtSlash, with_run, CanAppend, IsAppended, IsOver};
 
 use crate::run::{Run, run_extent};
 use ion_meter::buf::Buf;
@@ -104,8 +104,7 @@ fn next_part<I: Input, A: Allocator + Copy>(
 // The same at a slash that is the last byte of the window.
 fn slash<I: Input, A: Allocator + Copy>(source: &mut Source<I, A>, run: Run) -> Result<usize, Fault>
     requires stands { Stands source.old }
-    requires slashes { has_slashes run ≡ true }
-    requires slash { lent source.old ≡ 47 ∷ [] }
+    requires at_slash { IsAtSlash run (lent source.old) }
     ensures kept { Extends I.rest I.observable source.old source.new }
     ensures there { IfOk result (λ n. n ≤ length (lent source.new)) }
     ensures goes { I.observable source.old.device

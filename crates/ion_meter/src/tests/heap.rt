@@ -57,7 +57,7 @@ fn a_run_fits_into_a_heap(rt: HostRuntime) -> Result<(), Fail> {
     same(&rt, source.peek(0)?, None);
     sink.flush()?;
     same(&rt, meter.peak(), 12_288);
-    same(&rt, meter.held(), 8_192);
+    assert_eq!(rt; meter.held(), 8_192);
     assert!(rt; buf.as_slice().is_empty());
     source.release(&mut meter);
     let written = sink.release(&mut meter).into_inner();

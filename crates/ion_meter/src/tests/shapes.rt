@@ -95,7 +95,7 @@ fn an_entry_of_a_stack_costs_16(rt: HostRuntime) -> Result<(), Fail> {
 fn an_entry_of_a_table_has_its_cost(rt: HostRuntime) -> Result<(), Fail> {
     let mut meter = Meter::new(rt.alloc());
     let mut table = Table::new(&meter, 24);
-    same(&rt, table.push(&mut meter, 7_u32), Ok(()));
+    assert_eq!(rt; table.push(&mut meter, 7_u32), Ok(()));
     same(&rt, meter.held(), 24);
     table.set(0, 8);
     same(&rt, table.as_slice(), [8].as_slice());

@@ -9,12 +9,12 @@ pub returns-then-opens_comment-clause-ends : goal.returns-then-opens_comment-cla
 returns-then-opens_comment-clause-ends g c = λ h e.
     let s = c.args.source.now in
     let here = lent-left g.I.Input.rest s in
-    slash-ends c.args.run (lent s) _ (left g.I.Input.rest s) c.requires.slashes c.requires.slash here
+    slash-ends c.args.run (lent s) _ (left g.I.Input.rest s) c.requires.at_slash.slashes c.requires.at_slash.slash here
     (ap opens_comment (sym (c.in-Ok.ensures.gives h)) ∙ (sym c.opens_comment.ensures ∙ c.if-opens_comment.true))
 
 pub returns-clause-goes : goal.returns-clause-goes
 returns-clause-goes g c = λ h.
     let s = c.args.source.now in
     let here = lent-left g.I.Input.rest s in
-    slash-stays c.args.run (lent s) _ (left g.I.Input.rest s) c.requires.slashes c.requires.slash here
+    slash-stays c.args.run (lent s) _ (left g.I.Input.rest s) c.requires.at_slash.slashes c.requires.at_slash.slash here
     (ap opens_comment (sym (c.in-Ok.ensures.gives h)) ∙ (sym c.opens_comment.ensures ∙ c.if-opens_comment.false))

@@ -19,6 +19,7 @@ use Rattle.ion_value.specs.Parts.{◌>>=◌, ◌>>◌, refuse, Placed, part}
 use Rattle.ion_binary.specs.Positions.{symbol_id, Frame, State}
 use Rattle.ion_binary.specs.Descriptor.{Region, passes, falls_short, octet_at, var_uint_at, length_at, Shape, shape_of, is_unwrappable}
 use Rattle.ion_binary.specs.Reading.{Around, TypedValue, a_nop_pad, a_marker, a_scalar, a_container, is_top, marker_rest, marker_at, fits, bare_at, nop_pad_at, body_at, scalar_at, begin_at, container_at, sorted_at, read_by_descriptor, typed_value_at, wrapper_at, ids_at, region_of, field_in, field_at, placed_item, step_for, plain_at, inner_at, annotated_at, wrapper_length, by_wrapper, value_at, top_of, member_at, step_of, top_step, step_in, step, size, start, reading}
+use Rattle.ion_binary.specs.Bodies.{IsBodyTypeCode}
 use Rattle.ion_binary.specs.Grammar.{Descriptor, Ids, Header, type_code, Tops}
 use Rattle.ion_binary.specs.Paths.{Spells, At, Follows}
 use Rattle.ion_binary.specs.Laws.{Bodies, IsLimit, StandAt, Passes, ExactLimits}
@@ -48,7 +49,7 @@ part_free P place r c = part_limited P place r (from_free (P place) r c)
 
 -- behind a descriptor octet a longer body is announced, or a container begins where no more may be open
 data TypedPass (limits : Limits) (a : Around) (b : ℕ) (c : Cursor) : Reason → Type 0 where
-  body : (t n : ℕ) (octets : List ℕ) (d : Cursor) → Took a.region c octets d → Descriptor t n (b ∷ octets) → limits.scalar < n → TypedPass limits a b c ScalarLimit
+  body : (t n : ℕ) (octets : List ℕ) (d : Cursor) → Took a.region c octets d → Descriptor t n (b ∷ octets) → IsBodyTypeCode t → limits.scalar < n → TypedPass limits a b c ScalarLimit
   container : (k : Kind) (n : ℕ) (octets : List ℕ) (d : Cursor) → Took a.region c octets d → Header k n (b ∷ octets) → limits.depth ≤ a.depth
       → TypedPass limits a b c DepthLimit
 
@@ -80,16 +81,16 @@ marker_at-free r c =
     (then_blames Free (marker_rest c.rest) _ (marker_rest-free c.rest) (record { so = tt }))
 
 module _ (limits : Limits) where
-  scalar_at-limited : (a : Around) (b t length_code : ℕ) (c : Cursor) → b ≡ 16 * t + length_code → length_code < 15
+  scalar_at-limited : (a : Around) (b t length_code : ℕ) (c : Cursor) → b ≡ 16 * t + length_code → length_code < 15 → IsBodyTypeCode t
       → Blames (Limited (TypedPass limits a b c)) (scalar_at limits a t length_code c)
   unfolding scalar_at body_at
-  scalar_at-limited a b t length_code c is lt =
+  scalar_at-limited a b t length_code c is lt scalar =
       let L : Reason → Type 0 = Limited (TypedPass limits a b c) in
       bind_blames L (length_at length_code a.region c) _ (from_free _ _ (length_at-free length_code a.region c)) (λ n e.
       let len = length_at-taken t length_code a.region c n lt e in
       then_blames L (fits a n.1.place n.0) _ (from_free _ _ (fits-free a n.1.place n.0))
       (then_blames L (refuse (nat_lt limits.scalar n.0) ScalarLimit) _
-      (refuse_blames L _ ScalarLimit (λ more _. body t n.0 len.octets n.1 len.took (rw is len.spells) (ltb-true _ _ more)))
+      (refuse_blames L _ ScalarLimit (λ more _. body t n.0 len.octets n.1 len.took (rw is len.spells) scalar (ltb-true _ _ more)))
       (then_blames L (refuse (nat_lt (length n.1.rest) n.0) Truncated) _ (from_free _ _ (refuse_free _ Truncated refl))
       (bind_blames L (scalar_of_body t (take n.0 n.1.rest)) _ (from_free _ _ (scalar_of_body-free t (take n.0 n.1.rest))) (λ v _. record { so = tt })))))
 
@@ -130,7 +131,7 @@ module _ (limits : Limits) where
   read_by_descriptor-limited a b (Shape.bool truth) c is = from_free _ _ (bare_at-free a (value.bool truth) c)
   read_by_descriptor-limited a b (Shape.nop_pad length_code) c is = from_free _ _ (nop_pad_at-free a length_code c)
   read_by_descriptor-limited a b (Shape.wrapper length_code) c is = record { so = λ k. absurd (free BadAnnotation refl k) }
-  read_by_descriptor-limited a b (Shape.body t length_code) c is = scalar_at-limited a b t length_code c is.0 is.1
+  read_by_descriptor-limited a b (Shape.body t length_code) c is = scalar_at-limited a b t length_code c is.0 is.1 is.2
   read_by_descriptor-limited a b (Shape.container k length_code) c is = container_at-limited a b length_code k c is.0 is.1 is.2
   read_by_descriptor-limited a b Shape.sorted c is = sorted_at-limited a b c is
   read_by_descriptor-limited a b Shape.marker c is = from_free _ _ (marker_at-free a.region c)
@@ -264,8 +265,8 @@ module _ (limits : Limits) (bytes : List ℕ) (frames : List Frame) where
   -- what stands behind a descriptor octet stands with it
   typed-passes : (a : Around) (s : Cursor) (b : ℕ) (c : Cursor) (why : Reason) → a.depth ≡ length frames → Reaches bytes s → Took a.region s (b ∷ []) c
       → TypedPass limits a b c why → Passes limits bytes (length frames) s.place why
-  typed-passes a s b c _ deep reaches first (TypedPass.body t n octets d took descriptor more) =
-      Passes.body t n (b ∷ octets) (stand bytes a.region s (b ∷ octets) d reaches (Took-then a.region s c d (b ∷ []) octets first took)) descriptor more
+  typed-passes a s b c _ deep reaches first (TypedPass.body t n octets d took descriptor scalar more) =
+      Passes.body t n (b ∷ octets) (stand bytes a.region s (b ∷ octets) d reaches (Took-then a.region s c d (b ∷ []) octets first took)) descriptor scalar more
   typed-passes a s b c _ deep reaches first (TypedPass.container k n octets d took header full) =
       Passes.container k n (b ∷ octets) (stand bytes a.region s (b ∷ octets) d reaches (Took-then a.region s c d (b ∷ []) octets first took)) header
       (omega (arith, full, deep))

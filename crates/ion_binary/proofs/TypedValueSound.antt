@@ -14,6 +14,7 @@ use Rattle.ion_value.specs.Value.{Symbol, Scalar}
 use Rattle.ion_meter.specs.Sources.{Cursor, skip}
 use Rattle.ion_binary.specs.Descriptor.{Region, passes, falls_short, Shape, null_shapes, sized_shapes, shape_by, shape_of, length_at, var_uint_at, is_unwrappable}
 use Rattle.ion_binary.specs.Reading.{Around, TypedValue, a_nop_pad, a_marker, a_scalar, a_container, marker_rest, is_top, marker_at, fits, bare_at, nop_pad_at, body_at, scalar_at, begin_at, container_at, sorted_at, read_by_descriptor, typed_value_at}
+use Rattle.ion_binary.specs.Bodies.{IsBodyTypeCode}
 use Rattle.ion_binary.specs.Grammar.{IsNullOf, IsNopPad, Header, Plain, type_code}
 use Rattle.ion_binary.specs.Laws.{Bodies}
 use Rattle.ion_binary.proofs.Taken.{bind_ok, then_ok, refuse_ok, passed, ok_is, not_ok, InRegion, Took, Took-none, Took-then, var_uint_at-taken, length_at-taken, skip-taken}
@@ -26,7 +27,7 @@ IsShape b (Shape.bool false) = b ≡ 16
 IsShape b (Shape.bool true) = b ≡ 17
 IsShape b (Shape.nop_pad length_code) = (b ≡ 16 * 0 + length_code) × (length_code < 15)
 IsShape b (Shape.wrapper length_code) = (b ≡ 16 * 14 + length_code) × (length_code < 15)
-IsShape b (Shape.body t length_code) = (b ≡ 16 * t + length_code) × (length_code < 15)
+IsShape b (Shape.body t length_code) = (b ≡ 16 * t + length_code) × (length_code < 15) × IsBodyTypeCode t
 IsShape b (Shape.container k length_code) = (b ≡ 16 * type_code k + length_code) × (length_code < 15) × (b ≢ 209)
 IsShape b Shape.sorted = b ≡ 209
 IsShape b Shape.marker = b ≡ 224
@@ -72,15 +73,15 @@ wrappers length_code lt =
 sized : (t length_code : ℕ) → length_code < 15 → IsShape (16 * t + length_code) (slice_index_or (sized_shapes length_code) t Shape.illegal)
 sized zero length_code lt = (refl, lt)
 sized (suc zero) length_code lt = bools length_code
-sized (suc (suc zero)) length_code lt = (refl, lt)
-sized (suc (suc (suc zero))) length_code lt = (refl, lt)
+sized (suc (suc zero)) length_code lt = (refl, lt, inl refl)
+sized (suc (suc (suc zero))) length_code lt = (refl, lt, inr (inl refl))
 sized (suc (suc (suc (suc zero)))) length_code lt = tt
-sized (suc (suc (suc (suc (suc zero))))) length_code lt = (refl, lt)
-sized (suc (suc (suc (suc (suc (suc zero)))))) length_code lt = (refl, lt)
-sized (suc (suc (suc (suc (suc (suc (suc zero))))))) length_code lt = (refl, lt)
-sized (suc (suc (suc (suc (suc (suc (suc (suc zero)))))))) length_code lt = (refl, lt)
-sized (suc (suc (suc (suc (suc (suc (suc (suc (suc zero))))))))) length_code lt = (refl, lt)
-sized (suc (suc (suc (suc (suc (suc (suc (suc (suc (suc zero)))))))))) length_code lt = (refl, lt)
+sized (suc (suc (suc (suc (suc zero))))) length_code lt = (refl, lt, inr (inr (inl refl)))
+sized (suc (suc (suc (suc (suc (suc zero)))))) length_code lt = (refl, lt, inr (inr (inr (inl refl))))
+sized (suc (suc (suc (suc (suc (suc (suc zero))))))) length_code lt = (refl, lt, inr (inr (inr (inr (inl refl)))))
+sized (suc (suc (suc (suc (suc (suc (suc (suc zero)))))))) length_code lt = (refl, lt, inr (inr (inr (inr (inr (omega arith, omega arith))))))
+sized (suc (suc (suc (suc (suc (suc (suc (suc (suc zero))))))))) length_code lt = (refl, lt, inr (inr (inr (inr (inr (omega arith, omega arith))))))
+sized (suc (suc (suc (suc (suc (suc (suc (suc (suc (suc zero)))))))))) length_code lt = (refl, lt, inr (inr (inr (inr (inr (omega arith, omega arith))))))
 sized (suc (suc (suc (suc (suc (suc (suc (suc (suc (suc (suc zero))))))))))) length_code lt = (refl, lt, λ e. omega (arith, e))
 sized (suc (suc (suc (suc (suc (suc (suc (suc (suc (suc (suc (suc zero)))))))))))) length_code lt = (refl, lt, λ e. omega (arith, e))
 sized (suc (suc (suc (suc (suc (suc (suc (suc (suc (suc (suc (suc (suc zero))))))))))))) length_code lt = structs length_code lt

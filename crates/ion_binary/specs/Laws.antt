@@ -10,6 +10,7 @@ use Rattle.ion_value.specs.Standing.{open_behind}
 use Rattle.ion_value.specs.Value.{Symbol, SymbolAt, Scalar, Top, PlacedItem}
 use Rattle.ion_value.specs.Path.{Path, closed, path_items}
 use Rattle.ion_value.specs.Reading.{Reading, Finished, Stopped, Shrinks, items_of, behind}
+use Rattle.ion_binary.specs.Bodies.{IsBodyTypeCode}
 use Rattle.ion_binary.specs.Grammar.{Descriptor, Body, Ids, Header, Tops, Stream}
 use Rattle.ion_binary.specs.Paths.{IsPath, At, Follows}
 use Rattle.ion_binary.specs.Positions.{State}
@@ -139,12 +140,13 @@ pub record PassesLimit (limits : Limits) (bytes : List ℕ) (place : ℕ) : Type
   pub within : 16 * length annotations ≤ limits.scalar
   pub above : limits.scalar < 16 * (length annotations + 1)
 
--- a limit is passed at a place, where so many containers are open: by the header of one more, by a descriptor that announces a longer body,
--- or by an annotation
+-- a limit is passed at a place, where so many containers are open: by the header of one more, by the descriptor of a scalar that announces a
+-- longer body, or by an annotation
 pub data Passes (limits : Limits) (bytes : List ℕ) (depth place : ℕ) : Reason → Type 0 where
   container : (k : Kind) (n : ℕ) (header : List ℕ) → StandAt bytes place header → Header k n header → limits.depth ≤ depth
       → Passes limits bytes depth place DepthLimit
-  body : (t n : ℕ) (head : List ℕ) → StandAt bytes place head → Descriptor t n head → limits.scalar < n → Passes limits bytes depth place ScalarLimit
+  body : (t n : ℕ) (head : List ℕ) → StandAt bytes place head → Descriptor t n head → IsBodyTypeCode t → limits.scalar < n
+      → Passes limits bytes depth place ScalarLimit
   annotation : PassesLimit limits bytes place → Passes limits bytes depth place AnnotationLimit
 
 -- a reading stops at a limit only where it is passed

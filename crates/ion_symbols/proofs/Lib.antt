@@ -21,7 +21,9 @@ mod IdsAbove
 mod Accepted
 mod Costly
 mod UserReadings
+mod OpenDeclarations
 mod OpenUsers
+mod RefusedUsers
 mod TextOrder
 mod Halving
 mod Probes

@@ -5,7 +5,7 @@ use Rattle.std.proofs.lemmas.List.{map-append}
 use Rattle.ion_value.specs.declared.ion_type.Kind.{Kind}
 use Rattle.ion_value.specs.declared.ion_type.Kind.TheVariants as kind
 use Rattle.ion_value.specs.Value as value
-use Rattle.ion_value.specs.Value.{SymbolAt, UserSymbol, Members, container, Top, PlacedItem, Item, member_items, top_items, map_item, map_members}
+use Rattle.ion_value.specs.Value.{SymbolAt, Members, container, PlacedItem, member_items, top_items, map_item}
 use Rattle.ion_value.specs.Path.{Nest, outermost, inner, begin_item, nest_items}
 use Rattle.ion_value.specs.Reading.{Reading, Finished, behind}
 use Rattle.ion_symbols.specs.Table.{Shared, Table, system, text_at}
@@ -15,6 +15,7 @@ use Rattle.ion_symbols.specs.Tree.{declares_table, user_at}
 use Rattle.ion_symbols.specs.Laws.{WhatIsDeclared, map_nest, open_declaration, OpenUsersAreRead}
 use Rattle.ion_value.specs.Value.{user_item}
 use Rattle.ion_symbols.proofs.DeclarationReadings.{behind_append}
+use Rattle.ion_symbols.proofs.OpenDeclarations.{nothing_given}
 use Rattle.ion_symbols.proofs.UserReadings.{sees, Passes, resolve-seen_all, member_items-map, one_item, not_at_top, both_pass, at_level, members_pass, tops_are_read, none_later}
 
 -- how many containers are open around the innermost
@@ -81,4 +82,7 @@ open_users_are_read_by what catalog limit tops first nest items e =
           p.items_are ∙ ap (λ is. map (resolve r.table) (nest_items first nest) ++ is) (none_later p.later p.goes_on) ∙ append-nil (map (resolve r.table) (nest_items first nest)) in
           r.items_are ∙ ap (λ is. top_items r.us ++ is)
           (ap (map user_item) all ∙ resolve-seen_all r.table (nest_items first nest) ∙ nest_items-map (user_at r.table) first nest)),
+      (λ members some.
+          r.items_are ∙ ap (λ is. top_items r.us ++ map user_item is) (nothing_given catalog limit r.table first nest members r.later some r.goes_on)
+          ∙ append-nil (top_items r.us)),
     )

@@ -102,7 +102,7 @@ pub record Passes (catalog : List Shared) (limit : ℕ) (t : Table) (n : ℕ) (p
   pub checks : AllFine t prefix
 
 -- a fault is not the end of accepted items
-not_stopped : (reason : Reason) (place : ℕ) (items : List PlacedItem) → Stopped reason place ≡ behind items Finished → ⊥
+pub not_stopped : (reason : Reason) (place : ℕ) (items : List PlacedItem) → Stopped reason place ≡ behind items Finished → ⊥
 not_stopped reason place [] e = cc
 not_stopped reason place (i ∷ is) e = cc
 
@@ -306,7 +306,7 @@ by_declared_read what catalog limit t first annotations place x members tops end
 by_declared_read what catalog limit t first annotations place x members tops ending items (Err why) is declares more e = absurd (not_stopped why.0 why.1 items e)
 
 -- a declaration's first item is checked
-begun : (catalog : List Shared) (limit : ℕ) (t : Table) (c : Checked) (rest : Reading) (items : List PlacedItem)
+pub begun : (catalog : List Shared) (limit : ℕ) (t : Table) (c : Checked) (rest : Reading) (items : List PlacedItem)
     → by_step (after_check c (GoesOn (record { table = t; mode = declaring start }))) (λ s. users catalog limit s rest) ≡ behind items Finished
     → users catalog limit (record { table = t; mode = declaring start }) rest ≡ behind items Finished
 begun catalog limit t fine rest items e = e

@@ -1,19 +1,20 @@
 -- What is true of the definitions of this crate: laws that contracts cite.
-use Rattle.std.specs.Prelude.{◌≡◌, ℕ, ◌+◌, ◌<◌, ◌≤◌, ◌⊎◌, Bool, true, false, List, [], ◌∷◌, ◌++◌, length, map, Option, Some, None, option_map, Result, Ok, Err, ⊤}
+use Rattle.std.specs.Prelude.{◌≡◌, ℕ, ◌+◌, ◌<◌, ◌≤◌, ◌⊎◌, Bool, true, false, not, List, [], ◌∷◌, ◌++◌, length, map, Option, Some, None, option_map, Result, Ok, Err, ⊤}
 use Rattle.std.specs.List.{AllByRecursion}
 use Rattle.ion_meter.specs.declared.fault.Reason.{Reason}
-use Rattle.ion_meter.specs.declared.fault.Reason.TheVariants.{BadSymbol, BadTable, SymbolLimit}
+use Rattle.ion_meter.specs.declared.fault.Reason.TheVariants.{BadSymbol, UnknownSymbol, BadTable, SymbolLimit}
 use Rattle.ion_value.specs.declared.ion_type.Kind.TheVariants as kind
 use Rattle.ion_value.specs.Value as value
 use Rattle.ion_value.specs.Value.{Symbol, SymbolAt, UserSymbol, Scalar, Value, Members, container, nothing, member, Top, PlacedItem, bare_item, map_members, member_items, top_items, user_item}
 use Rattle.ion_value.specs.Path.{Nest, outermost, inner, opened, path_items}
-use Rattle.ion_value.specs.Reading.{Reading, Finished, Stopped, behind}
+use Rattle.ion_value.specs.Reading.{Reading, Finished, Stopped, More, Leaves, items_of, behind}
+use Rattle.ion_value.specs.Standing.{is_marker}
 use Rattle.ion_symbols.specs.declared.known_text.Word.{Word}
 use Rattle.ion_symbols.specs.declared.known_text.Word.TheVariants as word
 use Rattle.ion_symbols.specs.Table as slot
 use Rattle.ion_symbols.specs.Table.{Slot, Shared, Import, Table, system, slot_of, text_at, most_slots, table_cost, count_of, slots_cost, import_count}
-use Rattle.ion_symbols.specs.Declaration.{Ground, start, word_in, field_word}
-use Rattle.ion_symbols.specs.Users.{users, plain, declaring, at_start}
+use Rattle.ion_symbols.specs.Declaration.{Ground, Declaring, start, turn, stop, item_view, word_in, field_word}
+use Rattle.ion_symbols.specs.Users.{users, user_step, begins_declaration, State, Mode, plain, declaring, at_start}
 use Rattle.ion_symbols.specs.Tree.{same_word, value_of, elements, value_import, next_table, declared, declares_table, user_at, user_tops}
 
 -- the user items behind a declaration, or its fault
@@ -192,14 +193,15 @@ abbrev pub open_declaration : Table → Nest SymbolAt ℕ → Option (Members Sy
 open_declaration t (outermost annotations place kind members) = declares_table t annotations (container kind members place)
 open_declaration t (inner around field annotations place kind members) = open_declaration t around
 
--- where whatever is read up to a place is accepted, and containers are open there that are no declaration's, the items are those of the user values
--- before these containers and of what is read of them
+-- where whatever is read up to a place is accepted, and containers are open there, the items are those of the user values before these containers
+-- and of what is read of them, or of those values alone where these are a declaration's
 abbrev pub OpenUsersAreRead : Type 0
 OpenUsersAreRead =
     (catalog : List Shared) (limit : ℕ) (tops : List (Top SymbolAt ℕ)) (first : ℕ) (nest : Nest SymbolAt ℕ) (items : List PlacedItem)
     → users catalog limit at_start (behind (path_items (opened tops first nest)) Finished) ≡ behind items Finished
     → (us : List (Top UserSymbol ℕ)) × (t : Table) × (user_tops catalog system tops ≡ Some us) × (table_behind catalog system tops ≡ Some t)
     × (open_declaration t nest ≡ None → map user_item items ≡ path_items (opened us first (map_nest (user_at t) nest)))
+    × ((members : Members SymbolAt ℕ) → open_declaration t nest ≡ Some members → map user_item items ≡ top_items us)
 
 -- ---- the symbols of user values
 
@@ -252,3 +254,59 @@ SymbolsStand =
     (catalog : List Shared) (limit : ℕ) (tops : List (Top SymbolAt ℕ)) (items : List PlacedItem)
     → users catalog limit at_start (behind (top_items tops) Finished) ≡ behind items Finished
     → UsersStand catalog system tops
+
+-- ---- why a user item is refused
+
+-- a symbol of an item: its field, one of its annotations, or the symbol that it is
+abbrev pub Among : SymbolAt → List SymbolAt → Type 0
+Among s [] = ⊥
+Among s (r ∷ rs) = (r ≡ s) ⊎ Among s rs
+
+abbrev pub IsSymbolOf : SymbolAt → PlacedItem → Type 0
+IsSymbolOf s i = (i.field ≡ Some s) ⊎ (Among s i.annotations ⊎ (i.head ≡ value.whole (value.symbol s)))
+
+-- an id in a gap of its table
+abbrev pub IsGap : Slot → Type 0
+IsGap slot.gap = ⊤
+IsGap _ = ⊥
+
+abbrev pub SymbolInGap : Table → Symbol → Type 0
+SymbolInGap t (value.Text bytes) = ⊥
+SymbolInGap t (value.Id id) = IsGap (slot_of t id)
+
+-- at a place an item has a symbol whose id is above the table, or, where a gap is a fault, in a gap of it
+pub data SymbolAtFault (t : Table) (user : Bool) (i : PlacedItem) (place : ℕ) : Reason → Type 0 where
+  above : (s : SymbolAt) → IsSymbolOf s i → s.place ≡ place → SymbolAbove t s.symbol → SymbolAtFault t user i place BadSymbol
+  in_gap : (s : SymbolAt) → IsSymbolOf s i → s.place ≡ place → SymbolInGap t s.symbol → user ≡ true → SymbolAtFault t user i place UnknownSymbol
+
+-- an item is refused where it stands: outside of declarations for a symbol alone, a gap being a fault in user values; in one for a symbol, or for
+-- what it means there
+pub data IsRefused (catalog : List Shared) (limit : ℕ) (t : Table) (i : PlacedItem) (reason : Reason) (place : ℕ) : Mode → Type 0 where
+  outside : (n : ℕ) → is_marker i.head ≡ false → SymbolAtFault t (not (begins_declaration t n i)) i place reason
+      → IsRefused catalog limit t i reason place (plain n)
+  symbol : (d : Declaring) → SymbolAtFault t false i place reason → IsRefused catalog limit t i reason place (declaring d)
+  meaning : (d : Declaring) → turn (record { catalog = catalog; limit = limit; old = t }) d (item_view (text_at t) i) ≡ stop reason place
+      → IsRefused catalog limit t i reason place (declaring d)
+
+-- raw items are taken in one after the other, none of them refused
+pub data AreTaken (catalog : List Shared) (limit : ℕ) : State → List PlacedItem → State → Type 0 where
+  none : (s : State) → AreTaken catalog limit s [] s
+  one : (s after end : State) (i : PlacedItem) (is : List PlacedItem) → Leaves (user_step catalog limit s i) after
+      → AreTaken catalog limit after is end → AreTaken catalog limit s (i ∷ is) end
+
+-- a raw item is refused, behind others that are taken in
+pub record AtItem (catalog : List Shared) (limit : ℕ) (s : State) (raw : Reading) (reason : Reason) (place : ℕ) : Type 0 where
+  pub before : List PlacedItem
+  pub item : PlacedItem
+  pub rest : Reading
+  pub state : State
+  pub raw_is : raw ≡ behind before (More item rest)
+  pub taken : AreTaken catalog limit s before state
+  pub refused : IsRefused catalog limit state.table item reason place state.mode
+
+-- where reading users stops, the raw reading stops so, or one of its items is refused for this reason at this place
+abbrev pub WhyUsersStop : Type 0
+WhyUsersStop =
+    (catalog : List Shared) (limit : ℕ) (raw : Reading) (items : List PlacedItem) (reason : Reason) (place : ℕ)
+    → users catalog limit at_start raw ≡ behind items (Stopped reason place)
+    → (raw ≡ behind (items_of raw) (Stopped reason place)) ⊎ AtItem catalog limit at_start raw reason place

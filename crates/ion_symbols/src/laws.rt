@@ -1,5 +1,5 @@
 //! Laws of the definitions of symbol tables, each the contract of a function that does nothing.
-ghost use Rattle.ion_symbols.specs.Laws.{DeclarationsAreRead, OpenUsersAreRead, SymbolsStand, UsersAreRead, WhatIsAccepted, WhatIsDeclared, WhyRefused};
+ghost use Rattle.ion_symbols.specs.Laws.{DeclarationsAreRead, OpenUsersAreRead, SymbolsStand, UsersAreRead, WhatIsAccepted, WhatIsDeclared, WhyRefused, WhyUsersStop};
 
 /// The streaming and the tree definitions of a declaration agree: its items give the table that its
 /// tree gives, or its tree's first fault, at each item first its symbols, then what it means.
@@ -30,7 +30,8 @@ pub fn users_are_read()
 {}
 
 /// Where whatever is read up to a place is accepted, the items are those of the user values before
-/// it and of the containers that are open there, if these are no declaration's.
+/// it and of the containers that are open there, or of those values alone where these are a
+/// declaration's.
 pub fn open_users_are_read()
     ensures { OpenUsersAreRead }
 {}
@@ -39,6 +40,13 @@ pub fn open_users_are_read()
 /// it.
 pub fn symbols_stand()
     ensures { SymbolsStand }
+{}
+
+/// Where reading user values stops, the raw reading stops so, or one of its items is refused there:
+/// for a symbol whose id is above the table or, in a user value, in a gap of it; or, in a
+/// declaration, for what the item means.
+pub fn why_users_stop()
+    ensures { WhyUsersStop }
 {}
 
 #[cfg(test)]
@@ -54,5 +62,6 @@ mod tests {
         users_are_read();
         open_users_are_read();
         symbols_stand();
+        why_users_stop();
     }
 }

@@ -76,6 +76,11 @@ pub record Puts {O : Type 0} (written : O → List ℕ) (observable : O → Type
   pub grown : observable old.device → HasPrefix (written new.device) (written old.device)
   pub prefix : observable old.device → HasPrefix (so_far written old ++ bytes) (written new.device)
 
+-- what was put only grows, and by a prefix of these bytes
+pub record PutsPart {O : Type 0} (written : O → List ℕ) (observable : O → Type 0) (old new : Outgoing O) (bytes : List ℕ) : Type 0 where
+  pub grown : observable old.device → HasPrefix (so_far written new) (so_far written old)
+  pub prefix : observable old.device → HasPrefix (so_far written old ++ bytes) (so_far written new)
+
 -- one where a window that had not failed answers that its device did
 abbrev pub write_failures_in : {T : Type 0} → Option Fault → Result T Fault → ℕ
 write_failures_in None (Err WriteFault) = 1

@@ -73,8 +73,9 @@ pub trait Output {
         ensures { result ≡ failure_count self.now };
 }
 
-/// Writes all of the bytes. A write that takes nothing is a failure.
-pub(crate) fn write_out<O: Output>(device: &mut O, bytes: &[u8]) -> Result<(), Broken>
+/// Writes all of the bytes, without a window. A write that takes nothing is a failure, and none comes
+/// after a failure.
+pub fn write_all<O: Output>(device: &mut O, bytes: &[u8]) -> Result<(), Broken>
     requires { O.failure_count device.old < 2 ^ 64 - 1 }
     ensures observable { O.observable device.new ↔ O.observable device.old }
     ensures count { MatchResult result

@@ -3,7 +3,7 @@ ghost use Rattle.std.specs.Prelude.{◌≡◌, ◌+◌, ◌-◌, ◌^◌, ◌<�
 ghost use Rattle.ion_meter.specs.Counts.{Grows, Shrinks, IsRefused};
 ghost use Rattle.ion_meter.specs.Windows.{Outgoing, so_far, Puts, write_failures_in};
 
-use crate::device::{Output, write_out};
+use crate::device::{Output, write_all};
 use crate::fault::Fault;
 use crate::meter::Meter;
 use crate::source::WINDOW;
@@ -12,8 +12,8 @@ use std::marker::Model;
 
 /// A window on an output, which takes bytes and writes them in order.
 ///
-/// It holds 4,096 counted bytes from its making to its release. Once it has answered a fault it
-/// answers that fault again and writes no more.
+/// It holds 4,096 counted bytes from its making to its release. Once it has answered a fault, which
+/// is `WriteFault`, it answers that fault again and writes no more.
 #[derive(Drop)]
 pub struct Sink<O: Output, A: Allocator + Copy> {
     device: O,
@@ -23,7 +23,8 @@ pub struct Sink<O: Output, A: Allocator + Copy> {
 }
 
 impl<O: Output, A: Allocator + Copy> Model for Sink<O, A> {
-    ghost use Rattle.std.specs.Prelude.{◌≡◌, ◌-◌, ◌^◌, ◌<◌, ◌≤◌, None, length, take};
+    ghost use Rattle.std.specs.Prelude.{◌≡◌, ◌-◌, ◌^◌, ◌<◌, ◌≤◌, None, length, take, IfSome};
+    ghost use Rattle.ion_meter.specs.declared.fault.Fault.TheVariants.{WriteFault};
     ghost use Rattle.ion_meter.specs.Windows.{Outgoing};
 
     ghost Value = { Outgoing O };
@@ -35,7 +36,8 @@ impl<O: Output, A: Allocator + Copy> Model for Sink<O, A> {
     } };
 
     ghost invariant = { λ s. (length s.window.value ≡ 4096) × (s.len ≤ 4096)
-        × (s.fault ≡ None → O.failure_count s.device < 2 ^ 64 - 1) };
+        × (s.fault ≡ None → O.failure_count s.device < 2 ^ 64 - 1)
+        × IfSome s.fault (λ f. f ≡ WriteFault) };
 }
 
 impl<O: Output, A: Allocator + Copy> Sink<O, A> {
@@ -106,7 +108,7 @@ impl<O: Output, A: Allocator + Copy> Sink<O, A> {
         ensures well { OnOk result ((self.old.fault ≡ None) × (self.new.fault ≡ None)) }
         ensures fault { IfErr result (λ f. self.new.fault ≡ Some f) }
         ensures again { IfSome self.old.fault (λ f. (result ≡ Err f) × (self.new ≡ self.old)) }
-        ensures cause { IfErr result (λ f. self.old.fault ≡ None → f ≡ Fault.WriteFault) }
+        ensures cause { IfErr result (λ f. f ≡ Fault.WriteFault) }
         ensures count { O.failure_count self.new.device
             ≡ O.failure_count self.old.device + write_failures_in self.old.fault result }
     {
@@ -134,7 +136,7 @@ impl<O: Output, A: Allocator + Copy> Sink<O, A> {
         ensures well { OnOk result ((self.old.fault ≡ None) × (self.new.fault ≡ None)) }
         ensures fault { IfErr result (λ f. self.new.fault ≡ Some f) }
         ensures again { IfSome self.old.fault (λ f. (result ≡ Err f) × (self.new ≡ self.old)) }
-        ensures cause { IfErr result (λ f. self.old.fault ≡ None → f ≡ Fault.WriteFault) }
+        ensures cause { IfErr result (λ f. f ≡ Fault.WriteFault) }
         ensures count { O.failure_count self.new.device
             ≡ O.failure_count self.old.device + write_failures_in self.old.fault result }
     {
@@ -157,14 +159,14 @@ impl<O: Output, A: Allocator + Copy> Sink<O, A> {
         ensures well { OnOk result ((self.old.fault ≡ None) × (self.new.fault ≡ None)) }
         ensures fault { IfErr result (λ f. self.new.fault ≡ Some f) }
         ensures again { IfSome self.old.fault (λ f. (result ≡ Err f) × (self.new ≡ self.old)) }
-        ensures cause { IfErr result (λ f. self.old.fault ≡ None → f ≡ Fault.WriteFault) }
+        ensures cause { IfErr result (λ f. f ≡ Fault.WriteFault) }
         ensures count { O.failure_count self.new.device
             ≡ O.failure_count self.old.device + write_failures_in self.old.fault result }
     {
         if let Some(fault) = self.fault {
             return Err(fault);
         }
-        if write_out(&mut self.device, &self.window[..self.len]).is_err() {
+        if write_all(&mut self.device, &self.window[..self.len]).is_err() {
             self.fault = Some(Fault::WriteFault);
             return Err(Fault::WriteFault);
         }

@@ -13,6 +13,7 @@ mod growing;
 mod heap;
 mod refusing;
 mod shapes;
+mod std_devices;
 mod windows;
 
 use refusing::Refusing;

@@ -1,9 +1,10 @@
 -- What one step of the writer asks for, puts, keeps and moves.
-use Rattle.std.specs.Prelude.{◌≡◌, ℕ, ◌*◌, ◌-◌, ◌^◌, ◌<◌, ◌≤◌, List, length, ◌++◌, None, Result, OnOk}
+use Rattle.std.specs.Prelude.{◌≡◌, ℕ, ◌*◌, ◌-◌, ◌^◌, ◌<◌, ◌≤◌, List, length, ◌++◌, Some, None, Result, Err, OnOk}
 use Rattle.ion_meter.specs.Counts.{Counts}
-use Rattle.ion_meter.specs.Windows.{Outgoing, so_far, Puts}
+use Rattle.ion_meter.specs.Windows.{Outgoing, so_far, Puts, PutsPart}
 use Rattle.ion_meter.specs.declared.device.Output.{Ghosts as OutputOf}
 use Rattle.ion_meter.specs.declared.fault.Fault.{Fault}
+use Rattle.ion_meter.specs.declared.fault.Fault.TheVariants.{Memory}
 use Rattle.ion_value.specs.Shares.{Charges}
 use Rattle.ion_value.specs.Value.{Head, PlacedItem}
 use Rattle.ion_text_out.specs.declared.writer.TextWriter.{TextWriter}
@@ -47,8 +48,10 @@ pub record Stepped {A : Type 0} (old new : TextWriter A) (before after : Counts)
   pub failed : new.failed ≡ old.failed
   pub charges : Charges before after (held_by old) (held_by new) (share_of old)
 
--- where it answers well, this text was put, and where it fails, a prefix of it
+-- where it answers well, this text was put, and where it fails, a prefix of it; nothing where the sink had failed before
 pub record PutsText {O T : Type 0} (device : OutputOf O) (old new : Outgoing O) (result : Result T Fault) (text : List ℕ) : Type 0 where
   pub whole : OnOk result (device.observable old.device → so_far device.written new ≡ so_far device.written old ++ text)
   pub well : OnOk result (old.fault ≡ None → new.fault ≡ None)
   pub part : old.fault ≡ None → Puts device.written device.observable old new text
+  pub cut : old.fault ≡ None → result ≡ Err Memory → PutsPart device.written device.observable old new text
+  pub passed : (f : Fault) → old.fault ≡ Some f → new ≡ old

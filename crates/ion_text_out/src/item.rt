@@ -1,5 +1,6 @@
 //! The text of an item, in parts.
-ghost use Rattle.std.specs.Prelude.{◌≡◌, ◌+◌, ◌*◌, ◌<◌, ◌-◌, ◌++◌, Bool, None, Some, Ok, Err, OnOk, codes, slice_get};
+ghost use Rattle.std.specs.Prelude.{◌≡◌, ◌+◌, ◌*◌, ◌<◌, ◌-◌, ◌++◌, Bool, None, Some, Ok, Err, OnOk, IfErr, codes, slice_get};
+ghost use Rattle.ion_meter.specs.declared.fault.Fault.{Fault};
 ghost use Rattle.ion_value.specs.Value.{user_symbol};
 ghost use Rattle.ion_value.specs.Items.{raw_head, raw_field, symbol_of, item_of, annotations_of};
 ghost use Rattle.ion_text_out.specs.Text.{symbol_text, item_text};
@@ -114,6 +115,8 @@ fn put_first<O: Output, A: Allocator + Copy>(
     head: &Head<'_>,
 ) -> Result<(), Fault>
     ensures well { OnOk result (sink.old.fault ≡ None) }
+    ensures cause { IfErr result (λ f. f ≡ Fault.WriteFault) }
+    ensures passed { (f : Fault) → sink.old.fault ≡ Some f → sink.new ≡ sink.old }
     ensures puts { sink.old.fault ≡ None → IsPut O.Output sink.old sink.new result
         (first_text (shown kinds.now empty) (raw_head head.now)) }
 {
@@ -203,6 +206,8 @@ pub fn put_item<O: Output, A: Allocator + Copy, N: Names>(
 ) -> Result<(), Fault>
     requires range { HeadInRange (item_of N.text item.now).head }
     ensures well { OnOk result (sink.old.fault ≡ None) }
+    ensures cause { IfErr result (λ f. f ≡ Fault.WriteFault) }
+    ensures passed { (f : Fault) → sink.old.fault ≡ Some f → sink.new ≡ sink.old }
     ensures puts { sink.old.fault ≡ None → IsPut O.Output sink.old sink.new result
         (item_text (shown kinds.now empty) (user_item (item_of N.text item.now))) }
 {

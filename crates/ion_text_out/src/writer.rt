@@ -6,7 +6,7 @@ ghost use Rattle.ion_meter.specs.Limits.{AreChecked};
 ghost use Rattle.ion_meter.specs.Counts.{Shrinks};
 ghost use Rattle.ion_value.specs.Value.{map_head};
 ghost use Rattle.ion_value.specs.Items.{raw_head, item_of};
-ghost use Rattle.ion_value.specs.Shares.{WriteCauses, fault_of};
+ghost use Rattle.ion_value.specs.Shares.{MemoryCauses, WriteCauses, fault_of};
 ghost use Rattle.ion_text_out.specs.Text.{open_after};
 ghost use Rattle.ion_text_out.specs.Writing.{text_puts, text_adds, text_refusal, HeadInRange, IsReady, Shows};
 ghost use Rattle.ion_value.specs.Value.{user_symbol_at};
@@ -86,7 +86,8 @@ impl<A: Allocator + Copy> TextWriter<A> {
             (text_of self.old (item_of N.text item.now)) }
         ensures refuses { sink.old.fault ≡ None
             → (r : Reason) (p : ℕ) → result ≡ Err (Refused r p) → ⊥ }
-        ensures causes { sink.old.fault ≡ None → WriteCauses (fault_of result) meter.old meter.new
+        ensures memory { MemoryCauses (fault_of result) meter.old meter.new }
+        ensures causes { sink.old.fault ≡ None → WriteCauses (fault_of result)
             (O.failure_count sink.old.device) (O.failure_count sink.new.device) }
         ensures stepped { Stepped self.old self.new meter.old meter.new }
     {

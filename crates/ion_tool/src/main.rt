@@ -4,7 +4,6 @@
 ghost use Rattle.std.specs.Prelude.{⊤};
 
 mod act;
-mod output;
 mod serve;
 mod words;
 

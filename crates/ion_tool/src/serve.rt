@@ -4,16 +4,16 @@ ghost use Rattle.std.specs.Prelude.{List, [], ℕ, Option, None, Some, length, m
 ghost use Rattle.ion_meter.specs.declared.fault.Fault.{Fault};
 ghost use Rattle.ion_meter.specs.declared.limits.Limits.{Limits};
 ghost use Rattle.ion_meter.specs.Limits.{AreChecked};
+ghost use Rattle.ion_transcode.specs.Calls.{HasRoom};
 ghost use Rattle.ion_tool.specs.Serving.{status_of, line_of, closed_line, fault_line, refusal_text};
 ghost use Rattle.ion_tool.specs.Serving.{Gets, IsServed, IsFileServed, IsUnread, IsHelped, IsUsageError};
 ghost use Rattle.ion_tool.specs.Words.{default_limits, AsksRun, IsRun};
 ghost use Rattle.ion_tool.specs.declared.words.Action.{Action};
 
 use crate::act::act;
-use crate::output::write_all;
 use crate::words::{Action, Job, Request, read_words};
 use arrayvec::ArrayString;
-use ion_meter::device::{Broken, Input, Output};
+use ion_meter::device::{Broken, Input, Output, write_all};
 use ion_meter::fault::Fault;
 use ion_meter::limits::Limits;
 use ion_meter::meter::Meter;
@@ -210,8 +210,7 @@ fn serve_job<F: FileSource, I: Input, O: Output, E: Output>(
     out: O,
     err: E,
 ) -> (u8, I, O, E)
-    requires held { meter.old.held ≤ 2 ^ 48 }
-    requires countable { meter.old.refused < 2 ^ 64 - 1 }
+    requires room { HasRoom (2 ^ 48) 0 meter.old }
     requires in_failures { I.failure_count input < 2 ^ 64 - 1 }
     requires out_failures { O.failure_count out < 2 ^ 64 - 1 }
     requires err_failures { E.failure_count err < 2 ^ 64 - 1 }

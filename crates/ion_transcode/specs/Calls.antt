@@ -18,7 +18,8 @@ use Rattle.ion_transcode.specs.declared.to.Form.{Form}
 use Rattle.ion_transcode.specs.declared.to.Form.TheVariants as forms
 use Rattle.ion_transcode.specs.declared.to.To.{To}
 use Rattle.ion_transcode.specs.declared.to.Summary.{Summary}
-use Rattle.ion_transcode.specs.Bound.{bound}
+use Rattle.ion_value.specs.Shares.{Charges}
+use Rattle.ion_transcode.specs.Bound.{bound, share}
 
 -- ---- what a call answers and writes
 
@@ -81,6 +82,11 @@ pub record HasRoom (most own : ℕ) (meter : Counts) : Type 0 where
   pub held : own ≤ meter.held
   pub countable : meter.refused < 2 ^ 64 - 1
 
+-- each device may fail once more, and its count of failures still fits
+pub record MayFail (reads writes : ℕ) : Type 0 where
+  pub reads : reads < 2 ^ 64 - 1
+  pub writes : writes < 2 ^ 64 - 1
+
 -- a raw reader that has given nothing
 pub record IsFresh {R A : Type 0} (reader : ReaderOf R A) (limits : Limits) (raw : R) : Type 0 where
   pub checked : AreChecked limits
@@ -124,6 +130,11 @@ pub record Joined {R W O A T : Type 0} (reader : ReaderOf R A) (writer : WriterO
   pub sound : writer.sound after
   pub writer_most : writer.most after ≡ writer.most before
   pub well : StaysWell answer fault
+
+-- the meter behind a stream whose windows are made: that on the input is given back, and no more was held than the share of the form
+pub record GivesBackSource (limits : Limits) (to : To) (is_binary : Type 0) (old new : Counts) : Type 0 where
+  pub charges : Charges old new 4096 0 (4096 + share limits forms.Text to)
+  pub charges_of_binary : is_binary → Charges old new 4096 0 (4096 + share limits forms.Binary to)
 
 -- the meter behind a run: all is given back, and no more was held than the bound of the form
 pub record GivesBack (limits : Limits) (to : To) (is_binary : Type 0) (old new : Counts) : Type 0 where

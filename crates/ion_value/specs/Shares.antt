@@ -27,10 +27,13 @@ pub record ReadCauses (fault : Option Fault) (old new : Counts) (failures_old fa
   pub limit : fault ≡ Some InputLimit → exceeds
   pub no_writes : fault ≡ Some WriteFault → ⊥
 
--- and why a writer does
-pub record WriteCauses (fault : Option Fault) (old new : Counts) (failures_old failures_new : ℕ) : Type 0 where
+-- the same of a writer: the lines on memory
+pub record MemoryCauses (fault : Option Fault) (old new : Counts) : Type 0 where
   pub memory : fault ≡ Some Memory → old.refused < new.refused
   pub counted : (fault ≡ Some Memory → ⊥) → new.refused ≡ old.refused
+
+-- and on its device
+pub record WriteCauses (fault : Option Fault) (failures_old failures_new : ℕ) : Type 0 where
   pub device : fault ≡ Some WriteFault → failures_new ≡ failures_old + 1
   pub steady : (fault ≡ Some WriteFault → ⊥) → failures_new ≡ failures_old
   pub no_reads : fault ≡ Some ReadFault → ⊥

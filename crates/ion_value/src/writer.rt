@@ -2,12 +2,12 @@
 ghost use Rattle.std.specs.Prelude.{◌≡◌, ℕ, ◌+◌, ◌-◌, ◌^◌, ◌<◌, ◌≤◌, ◌↔◌, ◌≢◌, ◌∷◌, ◌++◌, List, [], Option, Some, None, Ok, Err, OnErr, OnOk};
 ghost use Rattle.ion_meter.specs.declared.fault.Reason.{Reason};
 ghost use Rattle.ion_meter.specs.declared.fault.Fault.{Fault};
-ghost use Rattle.ion_meter.specs.declared.fault.Fault.TheVariants.{Refused, WriteFault};
+ghost use Rattle.ion_meter.specs.declared.fault.Fault.TheVariants.{Refused, Memory, WriteFault};
 ghost use Rattle.ion_meter.specs.declared.limits.Limits.{Limits};
-ghost use Rattle.ion_meter.specs.Windows.{so_far, Puts, HasPrefix};
+ghost use Rattle.ion_meter.specs.Windows.{so_far, Puts, PutsPart, HasPrefix};
 ghost use Rattle.ion_value.specs.Value.{PlacedItem};
 ghost use Rattle.ion_value.specs.Items.{item_of};
-ghost use Rattle.ion_value.specs.Shares.{Charges, WriteCauses, fault_of};
+ghost use Rattle.ion_value.specs.Shares.{Charges, MemoryCauses, WriteCauses, fault_of};
 ghost use Rattle.ion_value.specs.Standing.{Continues, WritesWithin};
 
 use crate::item::Item;
@@ -21,7 +21,8 @@ use std::alloc::Allocator;
 /// What writes user values one item at a time, an id being a symbol of unknown text.
 ///
 /// `begin` is called once, before all items. After a fault each call of `item` answers it again and
-/// changes nothing. Where the sink had failed before, its fault may be passed on.
+/// changes nothing. Where the sink had failed before, `begin` passes its fault on, and neither call
+/// changes it.
 pub trait ValueWriter<O: Output, A: Allocator + Copy> {
     /// What is put for a list of items.
     ghost puts: { Limits → List PlacedItem → List ℕ };
@@ -79,7 +80,8 @@ pub trait ValueWriter<O: Output, A: Allocator + Copy> {
     /// what is whole by it.
     ///
     /// It refuses what its limits do not allow, before anything of the item is put, and answers
-    /// `Memory` where a growth was refused and `WriteFault` where the device failed.
+    /// `Memory` where a growth was refused and `WriteFault` where the device failed. After `Memory` a
+    /// prefix of what it puts was put.
     fn item<N: Names>(
         &mut self,
         meter: &mut Meter<A>,
@@ -108,6 +110,10 @@ pub trait ValueWriter<O: Output, A: Allocator + Copy> {
             → Continues (limits self.old) path (item_of N.text item.now)
             → Puts O.written O.observable sink.old sink.new
             (adds (limits self.old) path (item_of N.text item.now)) }
+        ensures cut { sink.old.fault ≡ None → (path : List PlacedItem) → stands self.old path
+            → Continues (limits self.old) path (item_of N.text item.now) → result ≡ Err Memory
+            → PutsPart O.written O.observable sink.old sink.new
+            (adds (limits self.old) path (item_of N.text item.now)) }
         ensures refuses { failed self.old ≡ None → sink.old.fault ≡ None → (path : List PlacedItem)
             → stands self.old path → Continues (limits self.old) path (item_of N.text item.now)
             → (r : Reason) (p : ℕ) → result ≡ Err (Refused r p)
@@ -121,9 +127,12 @@ pub trait ValueWriter<O: Output, A: Allocator + Copy> {
         ensures again { (f : Fault) → failed self.old ≡ Some f
             → (result ≡ Err f) × (self.new ≡ self.old) × (sink.new ≡ sink.old)
             × (meter.new ≡ meter.old) }
+        ensures memory { failed self.old ≡ None
+            → MemoryCauses (fault_of result) meter.old meter.new }
         ensures causes { failed self.old ≡ None → sink.old.fault ≡ None
-            → WriteCauses (fault_of result) meter.old meter.new
+            → WriteCauses (fault_of result)
             (O.failure_count sink.old.device) (O.failure_count sink.new.device) }
+        ensures passed { (f : Fault) → sink.old.fault ≡ Some f → sink.new ≡ sink.old }
         ensures limits { limits self.new ≡ limits self.old }
 
         // Memory, on every exit.

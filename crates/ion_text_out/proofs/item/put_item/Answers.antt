@@ -16,3 +16,6 @@ pub returns-clause-puts : goal.returns-clause-puts
 returns-clause-puts g c well =
     item_last (shown c.args.kinds.now c.args.empty) (item_of g.N.Names.text c.args.item.now) (raw_head c.head-head.result) c.head-head.ensures c.in_default.is (c.put_first.ensures.puts well)
     c.in_default-put_middle.is c.put_middle.ensures (c.put_last.ensures c.args.empty)
+
+pub returns-clause-cause : goal.returns-clause-cause
+returns-clause-cause g c = (c.put_last.ensures c.args.empty).cause

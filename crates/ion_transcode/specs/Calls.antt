@@ -83,9 +83,9 @@ pub record HasRoom (most own : ℕ) (meter : Counts) : Type 0 where
   pub countable : meter.refused < 2 ^ 64 - 1
 
 -- each device may fail once more, and its count of failures still fits
-pub record MayFail (reads writes : ℕ) : Type 0 where
-  pub reads : reads < 2 ^ 64 - 1
-  pub writes : writes < 2 ^ 64 - 1
+pub record MayFail (reads_before writes_before : ℕ) : Type 0 where
+  pub reads : reads_before < 2 ^ 64 - 1
+  pub writes : writes_before < 2 ^ 64 - 1
 
 -- a raw reader that has given nothing
 pub record IsFresh {R A : Type 0} (reader : ReaderOf R A) (limits : Limits) (raw : R) : Type 0 where

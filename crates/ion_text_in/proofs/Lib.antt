@@ -50,5 +50,6 @@ pub mod FirstTokens
 pub mod TypedWords
 pub mod Held
 pub mod LobTurns
+mod RunCuts
 mod Rows
 mod QuotedRows

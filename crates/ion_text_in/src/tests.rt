@@ -3,5 +3,6 @@
 mod blanks;
 mod lobs;
 mod pieces;
+mod refusals;
 mod texts;
 mod tokens;

@@ -18,7 +18,7 @@ fn read_piece<I: Input>(
 ) -> Result<(), Fail> {
     assert!(rt; device.failures() == 0);
     let count = device.read(into)?;
-    assert!(rt; count == piece.len() && into == piece);
+    assert!(rt; count == piece.len() && &*into == piece);
     Ok(())
 }
 

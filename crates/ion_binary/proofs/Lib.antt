@@ -19,6 +19,13 @@ mod Spelled
 mod SpelledParts
 mod SpelledMembers
 mod Complete
+mod WritingRows
+mod KnownIds
+mod WholeValues
+mod ClosedSize
+mod WrittenSpelled
+mod WrittenDeclarations
+mod WrittenStream
 mod BodyParts
 mod TypedValueCode
 mod WrapperCode

@@ -1,6 +1,8 @@
 //! Laws of the grammar and the reading of the binary form, each the contract of a function that
 //! does nothing.
 ghost use Rattle.ion_binary.specs.Laws.{Bodies, Complete, EachStepFalls, EachStepFollows, ExactLimits, Narrow, NoStreamBegins, OnePath, OneStream, RightlyRefused, Sound, Stable, StreamsAreRead};
+ghost use Rattle.ion_binary.specs.WritingLaws.{ClosedSizeIsThatOfTheClosing, ItemsAddTheirOctets, ItemsPutTheForm, RefusedItemsAddNothing};
+ghost use Rattle.ion_binary.specs.Spelling.{DeclarationsAreRead, TheFormIsRead, ValuesAreSpelled};
 
 /// Every body of a scalar that the grammar has is read to its value, and no other body is read.
 pub fn bodies_are_read()
@@ -72,6 +74,45 @@ pub fn limits_are_exact()
     ensures { ExactLimits }
 {}
 
+/// The items of whole values put the canonical form of the values, whatever the limit of symbol
+/// tables.
+pub fn items_put_the_form()
+    ensures { ItemsPutTheForm }
+{}
+
+/// An item that is not refused adds its octets to those of the items before it.
+pub fn items_add_their_octets()
+    ensures { ItemsAddTheirOctets }
+{}
+
+/// An item that is refused adds nothing.
+pub fn refused_items_add_nothing()
+    ensures { RefusedItemsAddNothing }
+{}
+
+/// The closed size of a path with an item is the length of its last value, all containers that are
+/// open behind the item being closed there.
+pub fn closed_size_is_that_of_the_closing()
+    ensures { ClosedSizeIsThatOfTheClosing }
+{}
+
+/// What is written of a value spells that value in the grammar, from any place on and whatever ids
+/// its symbols have.
+pub fn values_are_spelled()
+    ensures { ValuesAreSpelled }
+{}
+
+/// What is written of a declaration is read as one, which leaves the table before it with the
+/// declared texts behind.
+pub fn declarations_are_read()
+    ensures { DeclarationsAreRead }
+{}
+
+/// The canonical form of values is a stream, and they are its user values under every catalogue.
+pub fn the_form_is_read()
+    ensures { TheFormIsRead }
+{}
+
 #[cfg(test)]
 mod tests {
     use super::*;
@@ -91,5 +132,12 @@ mod tests {
         refusals_are_stable();
         no_stream_begins();
         limits_are_exact();
+        items_put_the_form();
+        items_add_their_octets();
+        refused_items_add_nothing();
+        closed_size_is_that_of_the_closing();
+        values_are_spelled();
+        declarations_are_read();
+        the_form_is_read();
     }
 }

@@ -201,6 +201,18 @@ impl<A: Allocator + Copy> OutSymbols<A> {
         self.probes
     }
 
+    /// Takes all texts away, so that ids begin at 10 again. It takes no memory.
+    pub fn clear(&mut self, meter: &mut Meter<A>)
+        requires { texts_cost self.old.texts ≤ meter.old.held }
+        ensures cleared { self.new ≡ record { texts = []; limit = self.old.limit; probes = 0 } }
+        ensures cost { Shrinks meter.old meter.new (texts_cost self.old.texts) }
+    {
+        self.bytes.clear(meter);
+        self.places.clear(meter);
+        self.order.clear(meter);
+        self.probes = 0;
+    }
+
     /// Gives all back.
     pub fn release(self, meter: &mut Meter<A>)
         requires { texts_cost self.texts ≤ meter.old.held }

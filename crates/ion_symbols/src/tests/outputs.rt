@@ -116,6 +116,19 @@ fn texts_get_ids_from_10_on(rt: HostRuntime) -> Result<(), Fail> {
     Ok(())
 }
 
+#[test]
+fn cleared_texts_begin_at_10_again(rt: HostRuntime) -> Result<(), Fail> {
+    let mut texting = start(&rt, rt.alloc(), 1_024);
+    texting.expect_ids(&rt, &[("b", Some(10)), ("a", Some(11))])?;
+    texting.texts.clear(&mut texting.meter);
+    assert_eq!(rt; texting.meter.held(), 0);
+    assert_eq!(rt; texting.texts.last_probes(), 0);
+    texting.expect_ids(&rt, &[("a", Some(10)), ("b", Some(11))])?;
+    texting.expect_since(&rt, 10, &["a", "b"]);
+    texting.finish(&rt);
+    Ok(())
+}
+
 const SYSTEM: [(&str, Option<u32>); 9] = [
     ("$ion", Some(1)),
     ("$ion_1_0", Some(2)),

@@ -1,0 +1,294 @@
+-- The octets of a declaration are a declaration, which adds its texts to the table before it.
+use Rattle.std.proofs.Common.{◌≡◌, ℕ, suc, ◌+◌, ◌^◌, ◌<◌, Bool, true, false, List, [], ◌∷◌, ◌++◌, length, map, Option, Some, None, option_map, unwrap_or, if◌then◌else◌, IsUtf8, refl, ap, ap₂, sym, ◌∙◌, append_assoc, append-nil, arith, codes}
+use Rattle.std.specs.Bool.{⊤}
+use Rattle.std.specs.List.{AllByRecursion}
+use Rattle.ion_value.specs.declared.ion_type.Kind.{Kind}
+use Rattle.ion_value.specs.declared.ion_type.Kind.TheVariants as kind
+use Rattle.ion_value.specs.Value as value
+use Rattle.ion_value.specs.Value.{Symbol, Id, SymbolAt, UserSymbol, Known, Unknown, Scalar, Value, Members, scalar, container, nothing, member, map_scalar, map_value, map_members}
+use Rattle.ion_symbols.specs.Output.{position, system_texts, or_given}
+use Rattle.ion_symbols.specs.Table.{Shared, Slots, Table, text_at}
+use Rattle.ion_symbols.specs.Tree.{declares_table, element, elements, next_table}
+use Rattle.ion_binary.specs.Canonical.{declaration, declaring, id_in, string_members}
+use Rattle.ion_binary.specs.Spelling.{AreWritable, IsWritable, IsSpelledAt, DeclarationsAreRead, bare_symbol, no_place, with_id, with_texts}
+use Rattle.ion_binary.proofs.WrittenSpelled.{value-spelled}
+
+-- ---- ids are small
+
+position-lt-by : (b : Bool) (p : Option ℕ) (k n : ℕ) → ((m : ℕ) → p ≡ Some m → m < k) → (if b then Some 0 else option_map (λ place. place + 1) p) ≡ Some n → n < suc k
+position-lt-by true p k n f h = let e : 0 ≡ n = cc h in omega (arith, e)
+position-lt-by false (Some m) k n f h = let e : m + 1 ≡ n = cc h in omega (arith, e, f m refl)
+position-lt-by false None k n f h = absurd (cc h)
+
+pub position-lt : (us : List (List ℕ)) (t : List ℕ) (n : ℕ) → position us t ≡ Some n → n < length us
+position-lt [] t n h = absurd (cc h)
+position-lt (u ∷ us) t n h = position-lt-by _ (position us t) (length us) n (λ m e. position-lt us t m e) h
+
+given-lt : (system p : Option ℕ) (k : ℕ) → ((m : ℕ) → system ≡ Some m → m < 9) → ((m : ℕ) → p ≡ Some m → m < k)
+    → unwrap_or (or_given (option_map (λ place. place + 1) system) p) 0 < k + 10
+given-lt (Some m) p k f g = omega (arith, f m refl)
+given-lt None (Some m) k f g = omega (arith, g m refl)
+given-lt None None k f g = omega arith
+
+-- the ids that so many texts give
+pub id_in-lt : (texts : List (List ℕ)) (s : UserSymbol) → id_in texts s < length texts + 10
+unfolding id_in
+id_in-lt texts (Known t) = given-lt (position system_texts t) (position texts t) (length texts) (λ m e. position-lt system_texts t m e) (λ m e. position-lt texts t m e)
+id_in-lt texts Unknown = omega arith
+
+-- ---- the tree of a declaration
+
+strings-writable : (before : Members UserSymbol ⊤) (texts : List (List ℕ)) → AreWritable kind.List before → AllByRecursion IsUtf8 texts → AreWritable kind.List (string_members before texts)
+strings-writable before [] w h = w
+strings-writable before (t ∷ ts) w h = strings-writable (member before None [] tt (scalar (value.string t))) ts (w, (refl, (tt, h.0))) h.1
+
+declaring-writable : (texts : List (List ℕ)) → AllByRecursion IsUtf8 texts → IsWritable (declaring texts)
+declaring-writable texts h = ((tt, (refl, (tt, tt))), (refl, strings-writable nothing texts tt h))
+
+-- what a declaration says that has these ids
+abbrev said : ℕ → ℕ → ℕ → Members Symbol ⊤ → Value Symbol ⊤
+said imports table symbols strings =
+    container kind.Struct
+    (member (member nothing (Some (Id imports)) [] tt (scalar (value.symbol (Id table)))) (Some (Id symbols)) [] tt (container kind.List strings tt)) tt
+
+abbrev strings_of : List (List ℕ) → Members Symbol ⊤
+strings_of texts = map_members (with_id (id_in [])) no_place (string_members nothing texts)
+
+imports-id : id_in [] (Known (codes "imports")) ≡ 6
+unfolding id_in
+imports-id = refl
+
+table-id : id_in [] (Known (codes "$ion_symbol_table")) ≡ 3
+unfolding id_in
+table-id = refl
+
+symbols-id : id_in [] (Known (codes "symbols")) ≡ 7
+unfolding id_in
+symbols-id = refl
+
+said-is : (texts : List (List ℕ)) → map_value (with_id (id_in [])) no_place (declaring texts) ≡ said 6 3 7 (strings_of texts)
+said-is texts =
+    let strings : Members Symbol ⊤ = strings_of texts in
+    let i : UserSymbol → ℕ = id_in [] in
+    ap (λ (n : ℕ). said n (i (Known (codes "$ion_symbol_table"))) (i (Known (codes "symbols"))) strings) imports-id
+    ∙ (ap (λ (n : ℕ). said 6 n (i (Known (codes "symbols"))) strings) table-id
+    ∙ ap (λ (n : ℕ). said 6 3 n strings) symbols-id)
+
+-- ---- the elements of `symbols`
+
+-- elements whose symbols and places do not matter
+abbrev bare_element : {S P : Type 0} → Value S P → Option (List ℕ)
+bare_element (scalar (value.string t)) = Some t
+bare_element _ = None
+
+abbrev bare_elements : {S P : Type 0} → Members S P → Slots
+bare_elements nothing = []
+bare_elements (member before f annotations place x) = bare_elements before ++ bare_element x ∷ []
+
+element-scalar : {S T P Q : Type 0} (f : S → T) (g : P → Q) (v : Scalar S) → bare_element {S = T} {P = Q} (scalar (map_scalar f v)) ≡ bare_element {S = S} {P = P} (scalar v)
+element-scalar f g (value.null t) = refl
+element-scalar f g (value.bool truth) = refl
+element-scalar f g (value.int number) = refl
+element-scalar f g (value.decimal number) = refl
+element-scalar f g (value.timestamp moment) = refl
+element-scalar f g (value.symbol s) = refl
+element-scalar f g (value.string b) = refl
+element-scalar f g (value.clob b) = refl
+element-scalar f g (value.blob b) = refl
+
+element-mapped : {S T P Q : Type 0} (f : S → T) (g : P → Q) (x : Value S P) → bare_element (map_value f g x) ≡ bare_element x
+element-mapped f g (scalar v) = element-scalar f g v
+element-mapped f g (container k ms last) = refl
+
+elements-mapped : {S T P Q : Type 0} (f : S → T) (g : P → Q) (ms : Members S P) → bare_elements (map_members f g ms) ≡ bare_elements ms
+elements-mapped f g nothing = refl
+elements-mapped f g (member before field annotations place x) =
+    ap (λ (l : Slots). l ++ bare_element (map_value f g x) ∷ []) (elements-mapped f g before)
+    ∙ ap (λ (o : Option (List ℕ)). bare_elements before ++ o ∷ []) (element-mapped f g x)
+
+element-seen : (v : Scalar SymbolAt) → bare_element {S = SymbolAt} {P = ℕ} (scalar v) ≡ element (scalar v)
+element-seen (value.null t) = refl
+element-seen (value.bool truth) = refl
+element-seen (value.int number) = refl
+element-seen (value.decimal number) = refl
+element-seen (value.timestamp moment) = refl
+element-seen (value.symbol s) = refl
+element-seen (value.string b) = refl
+element-seen (value.clob b) = refl
+element-seen (value.blob b) = refl
+
+elements-seen : (ms : Members SymbolAt ℕ) → elements ms ≡ bare_elements ms
+elements-seen nothing = refl
+elements-seen (member before f annotations place (scalar v)) = ap₂ (λ (l : Slots) (o : Option (List ℕ)). l ++ o ∷ []) (elements-seen before) (sym (element-seen v))
+elements-seen (member before f annotations place (container k ms last)) = ap (λ (l : Slots). l ++ None ∷ []) (elements-seen before)
+
+strings-elements : (before : Members UserSymbol ⊤) (texts : List (List ℕ)) → bare_elements (string_members before texts) ≡ bare_elements before ++ map (λ t. Some t) texts
+strings-elements before [] = sym (append-nil (bare_elements before))
+strings-elements before (t ∷ ts) =
+    strings-elements (member before None [] tt (scalar (value.string t))) ts
+    ∙ append_assoc (bare_elements before) (Some t ∷ []) (map (λ u. Some u) ts)
+
+-- members that are these strings
+elements-are : (texts : List (List ℕ)) (ms : Members SymbolAt ℕ) → map_members bare_symbol no_place ms ≡ strings_of texts → elements ms ≡ map (λ t. Some t) texts
+elements-are texts ms e =
+    elements-seen ms
+    ∙ (sym (elements-mapped bare_symbol no_place ms)
+    ∙ (ap (λ (l : Members Symbol ⊤). bare_elements l) e
+    ∙ (elements-mapped (with_id (id_in [])) no_place (string_members nothing texts)
+    ∙ strings-elements nothing texts)))
+
+-- ---- what raw trees are that say this
+
+abbrev bare : Value SymbolAt ℕ → Value Symbol ⊤
+bare x = map_value bare_symbol no_place x
+
+abbrev bare_members : Members SymbolAt ℕ → Members Symbol ⊤
+bare_members ms = map_members bare_symbol no_place ms
+
+record IsContainer (k : Kind) (inside : Members Symbol ⊤) (x : Value SymbolAt ℕ) : Type 0 where
+  pub members : Members SymbolAt ℕ
+  pub last : ℕ
+  pub is : x ≡ container k members last
+  pub inside_is : bare_members members ≡ inside
+
+same_container : (k l : Kind) (ms : Members SymbolAt ℕ) (last : ℕ) → k ≡ l → container k ms last ≡ container l ms last
+same_container k l ms last e = ap (λ (j : Kind). container j ms last) e
+
+a_container : (k : Kind) (inside : Members Symbol ⊤) (x : Value SymbolAt ℕ) → bare x ≡ container k inside tt → IsContainer k inside x
+a_container k inside (scalar v) e = absurd (cc e)
+a_container k inside (container l ms last) e =
+    let f : container l (bare_members ms) tt ≡ container k inside tt = e in
+    let kinds : l ≡ k = cc f in
+    let insides : bare_members ms ≡ inside = cc f in
+    record { members = ms; last = last; is = same_container l k ms last kinds; inside_is = insides }
+
+record IsMember (before : Members Symbol ⊤) (id : ℕ) (inner : Value Symbol ⊤) (ms : Members SymbolAt ℕ) : Type 0 where
+  pub others : Members SymbolAt ℕ
+  pub name : SymbolAt
+  pub annotations : List SymbolAt
+  pub place : ℕ
+  pub held : Value SymbolAt ℕ
+  pub is : ms ≡ member others (Some name) annotations place held
+  pub others_are : bare_members others ≡ before
+  pub name_is : name.symbol ≡ Id id
+  pub held_is : bare held ≡ inner
+
+a_member : (before : Members Symbol ⊤) (id : ℕ) (inner : Value Symbol ⊤) (ms : Members SymbolAt ℕ) → bare_members ms ≡ member before (Some (Id id)) [] tt inner → IsMember before id inner ms
+a_member before id inner nothing e = absurd (cc e)
+a_member before id inner (member others None annotations place x) e =
+    let f : member (bare_members others) None (map bare_symbol annotations) tt (bare x) ≡ member before (Some (Id id)) [] tt inner = e in
+    let names : None ≡ Some (Id id) = cc f in
+    absurd (cc names)
+a_member before id inner (member others (Some s) annotations place x) e =
+    let f : member (bare_members others) (Some s.symbol) (map bare_symbol annotations) tt (bare x) ≡ member before (Some (Id id)) [] tt inner = e in
+    let names : Some s.symbol ≡ Some (Id id) = cc f in
+    let a : bare_members others ≡ before = cc f in
+    let b : bare x ≡ inner = cc f in
+    record { others = others; name = s; annotations = annotations; place = place; held = x; is = refl; others_are = a; name_is = cc names; held_is = b }
+
+no_member : (ms : Members SymbolAt ℕ) → bare_members ms ≡ nothing → ms ≡ nothing
+no_member nothing e = refl
+no_member (member before f annotations place x) e = absurd (cc e)
+
+record IsSymbol (id : ℕ) (x : Value SymbolAt ℕ) : Type 0 where
+  pub name : SymbolAt
+  pub is : x ≡ scalar (value.symbol name)
+  pub name_is : name.symbol ≡ Id id
+
+a_symbol_scalar : (id : ℕ) (v : Scalar SymbolAt) → map_scalar bare_symbol v ≡ value.symbol (Id id) → IsSymbol id (scalar v)
+a_symbol_scalar id (value.symbol s) e =
+    let f : value.symbol s.symbol ≡ value.symbol (Id id) = e in
+    record { name = s; is = refl; name_is = cc f }
+a_symbol_scalar id (value.null t) e = absurd (cc e)
+a_symbol_scalar id (value.bool truth) e = absurd (cc e)
+a_symbol_scalar id (value.int number) e = absurd (cc e)
+a_symbol_scalar id (value.decimal number) e = absurd (cc e)
+a_symbol_scalar id (value.timestamp moment) e = absurd (cc e)
+a_symbol_scalar id (value.string b) e = absurd (cc e)
+a_symbol_scalar id (value.clob b) e = absurd (cc e)
+a_symbol_scalar id (value.blob b) e = absurd (cc e)
+
+abbrev scalar_in : Value Symbol ⊤ → Scalar Symbol
+scalar_in (scalar v) = v
+scalar_in (container k ms last) = value.bool true
+
+a_symbol : (id : ℕ) (x : Value SymbolAt ℕ) → bare x ≡ scalar (value.symbol (Id id)) → IsSymbol id x
+a_symbol id (scalar v) e = a_symbol_scalar id v (ap scalar_in e)
+a_symbol id (container k ms last) e = absurd (cc e)
+
+-- ---- what such a tree leaves
+
+abbrev raw_members : SymbolAt → List SymbolAt → ℕ → SymbolAt → SymbolAt → List SymbolAt → ℕ → Members SymbolAt ℕ → ℕ → Members SymbolAt ℕ
+raw_members imports a p table symbols b q strings last =
+    member (member nothing (Some imports) a p (scalar (value.symbol table))) (Some symbols) b q (container kind.List strings last)
+
+abbrev marked_at : Symbol → ℕ → SymbolAt
+marked_at s place = record { symbol = s; place = place }
+
+leaves-strings : (catalog : List Shared) (old : Table) (imports table symbols : SymbolAt) (a b : List SymbolAt) (p q last : ℕ) (strings : Members SymbolAt ℕ)
+    → imports.symbol ≡ Id 6 → table.symbol ≡ Id 3 → symbols.symbol ≡ Id 7
+    → next_table catalog (text_at old) old (raw_members imports a p table symbols b q strings last) ≡ Some (record { imports = old.imports; locals = old.locals ++ elements strings })
+leaves-strings catalog old imports table symbols a b p q last strings i t s =
+    let left : Symbol → Symbol → Symbol → Option Table = λ x y z. next_table catalog (text_at old) old
+    (raw_members (marked_at x imports.place) a p (marked_at y table.place) (marked_at z symbols.place) b q strings last) in
+    ap (λ (x : Symbol). left x table.symbol symbols.symbol) i ∙ (ap (λ (y : Symbol). left (Id 6) y symbols.symbol) t ∙ ap (λ (z : Symbol). left (Id 6) (Id 3) z) s)
+
+record Said (catalog : List Shared) (old : Table) (texts : List (List ℕ)) (own : List SymbolAt) (raw : Value SymbolAt ℕ) : Type 0 where
+  pub members : Members SymbolAt ℕ
+  pub is_declaration : declares_table old own raw ≡ Some members
+  pub leaves : next_table catalog (text_at old) old members ≡ Some (with_texts old texts)
+
+declares-struct : (old : Table) (s : SymbolAt) (ss : List SymbolAt) (members : Members SymbolAt ℕ) (last : ℕ) → s.symbol ≡ Id 3
+    → declares_table old (s ∷ ss) (container kind.Struct members last) ≡ Some members
+declares-struct old s ss members last e =
+    ap (λ (x : Symbol). declares_table old (marked_at x s.place ∷ ss) (container kind.Struct members last)) e
+
+first-own : (s : SymbolAt) (ss : List SymbolAt) (n : ℕ) → map bare_symbol (s ∷ ss) ≡ Id n ∷ [] → s.symbol ≡ Id n
+first-own s ss n e = let f : s.symbol ∷ map bare_symbol ss ≡ Id n ∷ [] = e in cc f
+
+what-is-said : (catalog : List Shared) (old : Table) (texts : List (List ℕ)) (own : List SymbolAt) (raw : Value SymbolAt ℕ)
+    → map bare_symbol own ≡ Id 3 ∷ [] → bare raw ≡ said 6 3 7 (strings_of texts) → Said catalog old texts own raw
+what-is-said catalog old texts [] raw n e = absurd (cc n)
+what-is-said catalog old texts (s ∷ ss) raw n e =
+    let whole = a_container kind.Struct _ raw e in
+    let second = a_member _ 7 _ whole.members whole.inside_is in
+    let first = a_member nothing 6 _ second.others second.others_are in
+    let none : first.others ≡ nothing = no_member first.others first.others_are in
+    let table = a_symbol 3 first.held first.held_is in
+    let list = a_container kind.List (strings_of texts) second.held second.held_is in
+    let made : Members SymbolAt ℕ = raw_members first.name first.annotations first.place table.name second.name second.annotations second.place list.members list.last in
+    let with_first : second.others ≡ member nothing (Some first.name) first.annotations first.place (scalar (value.symbol table.name)) =
+    first.is ∙ ap₂ (λ (o : Members SymbolAt ℕ) (x : Value SymbolAt ℕ). member o (Some first.name) first.annotations first.place x) none table.is
+    in
+    let members_are : whole.members ≡ made =
+    second.is ∙ ap₂ (λ (o : Members SymbolAt ℕ) (x : Value SymbolAt ℕ). member o (Some second.name) second.annotations second.place x) with_first list.is
+    in
+    let raw_is : raw ≡ container kind.Struct made whole.last = whole.is ∙ ap (λ (ms : Members SymbolAt ℕ). container kind.Struct ms whole.last) members_are in
+    record {
+      members = made;
+      is_declaration = ap (declares_table old (s ∷ ss)) raw_is ∙ declares-struct old s ss made whole.last (first-own s ss 3 n);
+      leaves = leaves-strings catalog old first.name table.name second.name first.annotations second.annotations first.place second.place list.last list.members first.name_is table.name_is second.name_is
+          ∙ ap (λ (l : Slots). Some (record { imports = old.imports; locals = old.locals ++ l })) (elements-are texts list.members list.inside_is);
+    }
+
+-- what is written of a declaration
+pub declaration-spelled : (q : ℕ) (t : List ℕ) (ts : List (List ℕ)) → AllByRecursion IsUtf8 (t ∷ ts) → length (declaration (t ∷ ts)) < 2 ^ 62
+    → IsSpelledAt (id_in []) q (Known (codes "$ion_symbol_table") ∷ []) (declaring (t ∷ ts)) (declaration (t ∷ ts))
+unfolding declaration
+declaration-spelled q t ts h short =
+    value-spelled (id_in []) q (Known (codes "$ion_symbol_table") ∷ []) (declaring (t ∷ ts)) (λ s. omega (arith, id_in-lt [] s)) (declaring-writable (t ∷ ts) h) short
+
+pub declarations_are_read : DeclarationsAreRead
+declarations_are_read catalog old q [] some h short = absurd (omega (arith, some))
+declarations_are_read catalog old q (t ∷ ts) some h short =
+    let d = declaration-spelled q t ts h short in
+    let s = what-is-said catalog old (t ∷ ts) d.own d.raw (d.annotations_are ∙ ap (λ (n : ℕ). Id n ∷ []) table-id) (d.value_is ∙ said-is (t ∷ ts)) in
+    record {
+      own = d.own;
+      place = d.place;
+      raw = d.raw;
+      members = s.members;
+      spells = d.spells;
+      is_declaration = s.is_declaration;
+      leaves = s.leaves;
+    }

@@ -1,0 +1,164 @@
+-- The canonical binary form: one spelling of each value, behind the declaration of the symbols that it needs.
+use Rattle.std.specs.Prelude.{ℕ, ◌+◌, ◌*◌, ◌/◌, Bool, true, false, nat_lt, if◌then◌else◌, List, [], ◌∷◌, ◌++◌, length, drop, Option, Some, None, unwrap_or, codes, ⊤}
+use Rattle.std.specs.List.{flat_map}
+use Rattle.ion_value.specs.declared.ion_type.Kind.TheVariants as kind
+use Rattle.ion_value.specs.Number.{var_uint_octets}
+use Rattle.ion_value.specs.Scalar as numbered
+use Rattle.ion_value.specs.Scalar.{scalar_body, scalar_code}
+use Rattle.ion_value.specs.Value as value
+use Rattle.ion_value.specs.Value.{UserSymbol, Known, Unknown, Scalar, Value, Members, scalar, container, nothing, member, Top, version, tree, Head, Item}
+use Rattle.ion_symbols.specs.Output.{known_id, texts_cost}
+use Rattle.ion_binary.specs.Grammar.{type_code}
+
+-- ---- headers
+
+-- the length code of n octets, and the length behind a descriptor that has no room for it
+abbrev pub length_code : ℕ → ℕ
+length_code n = if nat_lt n 14 then n else 14
+
+abbrev pub length_octets : ℕ → List ℕ
+length_octets n = if nat_lt n 14 then [] else var_uint_octets n
+
+-- the shortest header of a body of n octets
+abbrev pub header : ℕ → ℕ → List ℕ
+header t n = (16 * t + length_code n) ∷ length_octets n
+
+abbrev pub headed : ℕ → List ℕ → List ℕ
+headed t body = header t (length body) ++ body
+
+-- a value behind its annotations, in a wrapper where there are any
+abbrev pub wrapped : List ℕ → List ℕ → List ℕ
+wrapped [] x = x
+wrapped (n ∷ ns) x = headed 14 ((n ∷ ns) ++ x)
+
+-- ---- values, where symbols have ids
+
+abbrev pub id_octets : (UserSymbol → ℕ) → List UserSymbol → List ℕ
+id_octets ids symbols = flat_map (λ s. var_uint_octets (ids s)) symbols
+
+-- the length of the annotations' ids, and the ids
+abbrev pub annotation_octets : (UserSymbol → ℕ) → List UserSymbol → List ℕ
+annotation_octets ids [] = []
+annotation_octets ids (s ∷ ss) = var_uint_octets (length (id_octets ids (s ∷ ss))) ++ id_octets ids (s ∷ ss)
+
+abbrev pub field_octets : (UserSymbol → ℕ) → Option UserSymbol → List ℕ
+field_octets ids None = []
+field_octets ids (Some s) = var_uint_octets (ids s)
+
+-- what stands before a value, and its own octets
+abbrev pub member_octets : (UserSymbol → ℕ) → Option UserSymbol → List UserSymbol → List ℕ → List ℕ
+member_octets ids f annotations x = field_octets ids f ++ wrapped (annotation_octets ids annotations) x
+
+abbrev pub scalar_octets : (UserSymbol → ℕ) → Scalar UserSymbol → List ℕ
+scalar_octets ids (value.null type) = (16 * numbered.type_code type + 15) ∷ []
+scalar_octets ids (value.bool truth) = (if truth then 17 else 16) ∷ []
+scalar_octets ids body = headed (scalar_code body) (scalar_body ids body)
+
+abbrev mutual
+  pub value_octets : {P : Type 0} → (UserSymbol → ℕ) → Value UserSymbol P → List ℕ
+  value_octets ids (scalar body) = scalar_octets ids body
+  value_octets ids (container kind members last) = headed (type_code kind) (members_octets ids members)
+
+  pub members_octets : {P : Type 0} → (UserSymbol → ℕ) → Members UserSymbol P → List ℕ
+  members_octets ids nothing = []
+  members_octets ids (member before f annotations place x) = members_octets ids before ++ member_octets ids f annotations (value_octets ids x)
+
+-- ---- ids
+
+-- the id of a symbol by the texts that were given ids, which is 0 where its text is unknown
+unfoldable pub id_in : List (List ℕ) → UserSymbol → ℕ
+id_in texts (Known t) = unwrap_or (known_id texts t) 0
+id_in texts Unknown = 0
+
+abbrev pub with_text : List (List ℕ) → List ℕ → Option ℕ → List (List ℕ)
+with_text texts t (Some id) = texts
+with_text texts t None = texts ++ t ∷ []
+
+-- the texts with that of a symbol behind them, where it has no id yet
+unfoldable pub with_symbol : List (List ℕ) → UserSymbol → List (List ℕ)
+with_symbol texts (Known t) = with_text texts t (known_id texts t)
+with_symbol texts Unknown = texts
+
+abbrev pub with_symbols : List (List ℕ) → List UserSymbol → List (List ℕ)
+with_symbols texts [] = texts
+with_symbols texts (s ∷ ss) = with_symbols (with_symbol texts s) ss
+
+-- the symbols of a value in order of first use: a field, annotations, and then a symbol value
+abbrev pub field_symbols : {S : Type 0} → Option S → List S
+field_symbols None = []
+field_symbols (Some s) = s ∷ []
+
+abbrev pub scalar_symbols : {S : Type 0} → Scalar S → List S
+scalar_symbols (value.symbol name) = name ∷ []
+scalar_symbols (value.null type) = []
+scalar_symbols (value.bool truth) = []
+scalar_symbols (value.int number) = []
+scalar_symbols (value.decimal number) = []
+scalar_symbols (value.timestamp moment) = []
+scalar_symbols (value.string bytes) = []
+scalar_symbols (value.clob bytes) = []
+scalar_symbols (value.blob bytes) = []
+
+abbrev mutual
+  pub value_symbols : {S P : Type 0} → Option S → List S → Value S P → List S
+  value_symbols f annotations (scalar body) = field_symbols f ++ (annotations ++ scalar_symbols body)
+  value_symbols f annotations (container kind members last) = (field_symbols f ++ (annotations ++ [])) ++ members_symbols members
+
+  pub members_symbols : {S P : Type 0} → Members S P → List S
+  members_symbols nothing = []
+  members_symbols (member before f annotations place x) = members_symbols before ++ value_symbols f annotations x
+
+-- ---- declarations
+
+abbrev pub string_members : Members UserSymbol ⊤ → List (List ℕ) → Members UserSymbol ⊤
+string_members before [] = before
+string_members before (t ∷ ts) = string_members (member before None [] tt (scalar (value.string t))) ts
+
+-- the struct of a declaration that keeps the present table and adds these texts
+abbrev pub declaring : List (List ℕ) → Value UserSymbol ⊤
+declaring texts =
+    container kind.Struct
+    (member (member nothing (Some (Known (codes "imports"))) [] tt (scalar (value.symbol (Known (codes "$ion_symbol_table")))))
+    (Some (Known (codes "symbols"))) [] tt (container kind.List (string_members nothing texts) tt))
+    tt
+
+-- its octets, where there are texts to be added
+unfoldable pub declaration : List (List ℕ) → List ℕ
+declaration [] = []
+declaration (t ∷ ts) = member_octets (id_in []) None (Known (codes "$ion_symbol_table") ∷ []) (value_octets (id_in []) (declaring (t ∷ ts)))
+
+-- ---- streams
+
+abbrev pub marker_octets : List ℕ
+marker_octets = 224 ∷ 1 ∷ 0 ∷ 234 ∷ []
+
+abbrev pub marker_if : Bool → List ℕ
+marker_if true = marker_octets
+marker_if false = []
+
+-- the texts cost more than half of what they may: the next value begins without them, behind a version marker
+unfoldable pub is_over : ℕ → List (List ℕ) → Bool
+is_over limit texts = nat_lt (limit / 2) (texts_cost texts)
+
+abbrev pub texts_kept : Bool → List (List ℕ) → List (List ℕ)
+texts_kept true texts = []
+texts_kept false texts = texts
+
+-- a value at top level, where these texts have been declared and those are all that are by then
+abbrev pub tree_octets : {P : Type 0} → Bool → List (List ℕ) → List (List ℕ) → List UserSymbol → Value UserSymbol P → List ℕ
+tree_octets emptied kept all annotations x =
+    marker_if emptied ++ (declaration (drop (length kept) all) ++ member_octets (id_in all) None annotations (value_octets (id_in all) x))
+
+-- each value at top level, where these texts have been declared before the first; version markers of the values have no octets
+abbrev pub octets_behind : {P : Type 0} → ℕ → List (List ℕ) → List (Top UserSymbol P) → List ℕ
+octets_behind limit texts [] = []
+octets_behind limit texts (version place ∷ ts) = octets_behind limit texts ts
+octets_behind limit texts (tree first annotations place x ∷ ts) =
+    let emptied = is_over limit texts in
+    let kept = texts_kept emptied texts in
+    let all = with_symbols kept (value_symbols None annotations x) in
+    tree_octets emptied kept all annotations x ++ octets_behind limit all ts
+
+-- a version marker, and each value behind the declaration of those of its texts that are new
+abbrev pub binary : {P : Type 0} → ℕ → List (Top UserSymbol P) → List ℕ
+binary limit tops = marker_octets ++ octets_behind limit [] tops

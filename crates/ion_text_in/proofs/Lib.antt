@@ -2,7 +2,7 @@ mod Growing
 mod Steps
 mod Shrinking
 mod Falling
-mod Sound
+pub mod Sound
 mod Tokens
 mod Advancing
 mod Complete

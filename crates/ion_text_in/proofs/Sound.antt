@@ -15,7 +15,7 @@ use Rattle.ion_text_in.specs.Laws.{ending_of, Sound}
 use Rattle.ion_text_in.proofs.Steps.{annotations-none, field-none, step-follows}
 use Rattle.ion_text_in.proofs.Falling.{each_step_falls}
 
-abbrev IsWhole : List ℕ → Path SymbolAt ℕ → Type 0
+abbrev pub IsWhole : List ℕ → Path SymbolAt ℕ → Type 0
 IsWhole bytes path = (tops : List (Top SymbolAt ℕ)) × (path ≡ closed tops) × Stream bytes tops
 
 -- nothing of an item is read
@@ -32,7 +32,7 @@ spells-tops : {b c : Cursor} (path : Path SymbolAt ℕ) (kinds : List Kind) (ful
 spells-tops _ _ _ (Spells.top {tops} t) e = (tops, refl, t)
 spells-tops _ _ _ (Spells.inside path field annotations p k members s f ns tok ins) e = absurd (cc e)
 
-at-whole : (bytes : List ℕ) (path : Path SymbolAt ℕ) (s : State) → At bytes path s → Follows bytes path s Ends → IsWhole bytes path
+pub at-whole : (bytes : List ℕ) (path : Path SymbolAt ℕ) (s : State) → At bytes path s → Follows bytes path s Ends → IsWhole bytes path
 at-whole bytes path s stands ends =
     let tops = spells-tops path s.kinds stands.full stands.spells ends.0 in
     let same : s.cursor ≡ stands.behind = begun-nothing s.kinds stands.full s.wants stands.begun ends.1 in (
@@ -55,7 +55,7 @@ record HasVerdict (bytes : List ℕ) (path : Path SymbolAt ℕ) (r : Reading) : 
   items : path_items next ≡ path_items path ++ items_of r
   whole : ending_of r ≡ Finished → IsWhole bytes next
 
-at-path : (bytes : List ℕ) (path : Path SymbolAt ℕ) (s : State) (stands : At bytes path s) → IsPath bytes stands.behind.place path
+pub at-path : (bytes : List ℕ) (path : Path SymbolAt ℕ) (s : State) (stands : At bytes path s) → IsPath bytes stands.behind.place path
 at-path bytes path s stands = record { kinds = s.kinds; full = stands.full; behind = stands.behind; place = refl; spells = stands.spells }
 
 not_finished : (reason : Reason) (place : ℕ) → Stopped reason place ≡ Finished → ⊥

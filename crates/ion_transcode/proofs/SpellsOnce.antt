@@ -5,8 +5,10 @@ use Rattle.ion_value.specs.Path.{Path, path_items}
 use Rattle.ion_binary.specs.Positions.{State}
 use Rattle.ion_binary.specs.Paths.{At, IsPath}
 use Rattle.ion_binary.specs.Laws.{OnePath, OneStream}
+use Rattle.ion_text_in.specs.Laws as text
+use Rattle.ion_text_in.proofs.Sound as text_sound
 use Rattle.ion_transcode.specs.declared.to.Form.TheVariants as form
-use Rattle.ion_transcode.specs.Forms.{binary_encoding, text_encoding}
+use Rattle.ion_transcode.specs.Forms.{binary_encoding, text_encoding, text_form}
 use Rattle.ion_transcode.specs.Laws.{OneSpelling, SpellsOnce}
 
 at-path : (bytes : List ℕ) (path : Path SymbolAt ℕ) (s : State) → At bytes path s → IsPath bytes s.cursor.place path
@@ -14,14 +16,21 @@ at-path bytes path s at = record { frames = s.frames; before = at.0.before; rest
 
 binary-once : OnePath → OneStream → SpellsOnce binary_encoding
 binary-once one_path one_stream = record {
-  path = λ limits bytes a b s t at is. one_path bytes s.cursor.place t.cursor.place a b (at-path bytes a s at) (at-path bytes b t is);
-  stream = λ limits bytes a b is other. one_stream bytes a b is other;
+  path = λ bytes a b s t at is. one_path bytes s.cursor.place t.cursor.place a b (at-path bytes a s at) (at-path bytes b t is);
+  stream = λ bytes a b is other. one_stream bytes a b is other;
+}
+
+pub text-form-once : text.OnePath → text.OneStream → SpellsOnce text_form
+text-form-once one_path one_stream = record {
+  path = λ bytes a b s t at is.
+      one_path bytes at.behind.place is.behind.place a b (text_sound.at-path bytes a s at) (text_sound.at-path bytes b t is);
+  stream = λ bytes a b is other. one_stream bytes a b is other;
 }
 
 text-once : SpellsOnce text_encoding
 text-once = record {
-  path = λ limits bytes a b s t at is. inl ([], ap path_items (is.0 ∙ sym at.0) ∙ sym (append-nil (path_items a)));
-  stream = λ limits bytes a b is other. is.0 ∙ sym other.0;
+  path = λ bytes a b s t at is. inl ([], ap path_items (is.0 ∙ sym at.0) ∙ sym (append-nil (path_items a)));
+  stream = λ bytes a b is other. is.0 ∙ sym other.0;
 }
 
 pub one_spelling : OnePath → OneStream → OneSpelling

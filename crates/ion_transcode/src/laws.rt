@@ -1,8 +1,9 @@
 //! Laws of the verdicts of streams, each the contract of a function that does nothing.
-ghost use Rattle.ion_transcode.specs.Laws.{BinaryIsSound, OneSpelling, OneVerdict, StreamsAreRead};
+ghost use Rattle.ion_transcode.specs.Laws.{BinaryIsSound, OneSpelling, OneVerdict, StreamsAreRead, TextHasOneVerdict, TextIsSound};
 
 use ion_binary::laws::{each_step_falls, each_step_follows, one_path, one_stream};
 use ion_symbols::laws::users_are_read;
+use ion_text_in::laws as text;
 use ion_text_out::laws::text_is_that_of_items;
 
 /// The binary encoding is sound: its reading is that of its steps, and each step follows its
@@ -12,6 +13,26 @@ pub fn binary_is_sound()
 {
     each_step_follows();
     each_step_falls();
+}
+
+/// The encoding of text is sound: its reading is that of its steps, and each step follows its
+/// grammar.
+pub fn text_is_sound()
+    ensures { TextIsSound }
+{
+    text::each_step_follows();
+    text::each_step_falls();
+}
+
+/// A text, which `run` does not read yet, is one stream at most in its encoding, and it has one
+/// verdict and one output, those that the reading of its items one by one has.
+pub fn text_has_one_verdict()
+    ensures { TextHasOneVerdict }
+{
+    text_is_sound();
+    text::one_path();
+    text::one_stream();
+    users_are_read();
 }
 
 /// In the encoding of each form an input is one stream at most, and of two of its paths the items of
@@ -47,6 +68,8 @@ mod tests {
     #[test]
     fn states_laws() {
         binary_is_sound();
+        text_is_sound();
+        text_has_one_verdict();
         one_spelling();
         one_verdict();
         streams_are_read();

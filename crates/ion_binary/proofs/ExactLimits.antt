@@ -21,7 +21,8 @@ use Rattle.ion_binary.specs.Descriptor.{Region, passes, falls_short, octet_at, v
 use Rattle.ion_binary.specs.Reading.{Around, TypedValue, a_nop_pad, a_marker, a_scalar, a_container, is_top, marker_rest, marker_at, fits, bare_at, nop_pad_at, body_at, scalar_at, begin_at, container_at, sorted_at, read_by_descriptor, typed_value_at, wrapper_at, ids_at, region_of, field_in, field_at, placed_item, step_for, plain_at, inner_at, annotated_at, wrapper_length, by_wrapper, value_at, top_of, member_at, step_of, top_step, step_in, step, size, start, reading}
 use Rattle.ion_binary.specs.Grammar.{Descriptor, Ids, Header, type_code, Tops}
 use Rattle.ion_binary.specs.Paths.{Spells, At, Follows}
-use Rattle.ion_binary.specs.Laws.{Bodies, IsLimit, StandAt, Passes, ExactLimits}
+use Rattle.ion_value.specs.ReadingLaws.{IsLimit}
+use Rattle.ion_binary.specs.Laws.{Bodies, StandAt, Passes, ExactLimits}
 use Rattle.ion_binary.proofs.Free.{Blames, bind_blames, then_blames, refuse_blames, blames_more, part_blames, if_blames, Free, free, refuse_free, octet_at-free, var_uint_at-free, length_at-free, scalar_of_body-free}
 use Rattle.ion_binary.proofs.Taken.{part_ok, Took, Took-then, octet_at-taken, var_uint_at-taken, length_at-taken}
 use Rattle.ion_binary.proofs.TypedValueSound.{IsShape, shape_of-is}

@@ -1,5 +1,5 @@
 -- Whatever the grammar spells is read, where the limits allow it.
-use Rattle.std.proofs.Common.{◌≡◌, ℕ, suc, ◌+◌, ◌*◌, ◌<◌, ◌≤◌, ◌⊎◌, inl, inr, List, [], ◌∷◌, ◌++◌, length, Option, None, Ok, refl, sym, ap, ◌∙◌, append_assoc, append-nil, arith}
+use Rattle.std.proofs.Common.{◌≡◌, ℕ, suc, ◌+◌, ◌*◌, ◌<◌, ◌≤◌, List, [], ◌∷◌, ◌++◌, length, Option, None, Ok, refl, sym, ap, ◌∙◌, append_assoc, append-nil, arith}
 use Rattle.std.proofs.lemmas.List.{length-append}
 use Rattle.ion_meter.specs.declared.limits.Limits.{Limits}
 use Rattle.ion_value.specs.declared.ion_type.Kind.{Kind}
@@ -7,10 +7,12 @@ use Rattle.ion_value.specs.Value as value
 use Rattle.ion_value.specs.Value.{Symbol, SymbolAt, Scalar, Value, Members, Top, PlacedItem, bare_item, value_items, member_items, one_top, top_items}
 use Rattle.ion_value.specs.Path.{Path, closed, opened, nest_items, path_items}
 use Rattle.ion_value.specs.Reading.{Reading, Finished, items_of, behind, Ends, Gives, GoesOn, reading_by, Shrinks}
+use Rattle.ion_value.specs.ReadingLaws.{Allows}
+use Rattle.ion_value.proofs.ReadingLaws.{prefixes}
 use Rattle.ion_value.proofs.Readings.{behind-append, reading_by-ends, reading_by-gives, reading_by-goes_on, items_of-behind}
 use Rattle.ion_value.proofs.Paths.{same_path}
 use Rattle.ion_binary.specs.Grammar.{IsNopPad, type_code, Header, Annotated, Bin, Inside, Tops}
-use Rattle.ion_binary.specs.Laws.{Bodies, Allows, Complete, StreamsAreRead, IsBegun, OnePath, OneStream}
+use Rattle.ion_binary.specs.Laws.{Bodies, Complete, StreamsAreRead, OnePath, OneStream}
 use Rattle.ion_binary.specs.Paths.{FieldIn, Within, frame_of, open_in, Spells}
 use Rattle.ion_binary.specs.Positions.{placed_scalar, Frame, State}
 use Rattle.ion_binary.specs.Reading.{Around, TypedValue, a_nop_pad, a_marker, a_scalar, a_container, placed_item, step_for, region_of, top_of, step, size, start, reading}
@@ -306,18 +308,6 @@ wide bytes = record { depth = length bytes; scalar = 16 * length bytes; symbols 
 wide-Allows : (bytes : List ℕ) → Allows (wide bytes) bytes
 unfolding wide
 wide-Allows bytes = (omega arith, omega arith)
-
--- of two prefixes of one list one is a prefix of the other
-IsBegun-more : (item : PlacedItem) (xs ys : List PlacedItem) → IsBegun xs ys → IsBegun (item ∷ xs) (item ∷ ys)
-IsBegun-more item xs ys begun = (begun.0, ap (λ l. item ∷ l) begun.1)
-
-prefixes : (xs ys us vs : List PlacedItem) → xs ++ us ≡ ys ++ vs → IsBegun xs ys ⊎ IsBegun ys xs
-prefixes [] ys us vs e = inl (ys, refl)
-prefixes (x ∷ xs) [] us vs e = inr (x ∷ xs, refl)
-prefixes (x ∷ xs) (y ∷ ys) us vs e =
-    let first : x ≡ y = cc e in
-    let rest : xs ++ us ≡ ys ++ vs = cc e in
-    rw first (elim (prefixes xs ys us vs rest) [ inl begun ↦ inl (IsBegun-more y xs ys begun) | inr begun ↦ inr (IsBegun-more y ys xs begun) ])
 
 -- of two paths of the same bytes the items of one begin the other's
 pub one_path : Bodies → Shrinking → OnePath

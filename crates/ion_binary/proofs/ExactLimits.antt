@@ -22,7 +22,8 @@ use Rattle.ion_binary.specs.Reading.{Around, TypedValue, a_nop_pad, a_marker, a_
 use Rattle.ion_binary.specs.Bodies.{IsBodyTypeCode}
 use Rattle.ion_binary.specs.Grammar.{Descriptor, Ids, Header, type_code, Tops}
 use Rattle.ion_binary.specs.Paths.{Spells, At, Follows}
-use Rattle.ion_binary.specs.Laws.{Bodies, IsLimit, StandAt, Passes, ExactLimits}
+use Rattle.ion_value.specs.ReadingLaws.{IsLimit}
+use Rattle.ion_binary.specs.Laws.{Bodies, StandAt, Passes, ExactLimits}
 use Rattle.ion_binary.proofs.Free.{Blames, bind_blames, then_blames, refuse_blames, blames_more, part_blames, if_blames, Free, free, refuse_free, octet_at-free, var_uint_at-free, length_at-free, scalar_of_body-free}
 use Rattle.ion_binary.proofs.Taken.{part_ok, Took, Took-then, octet_at-taken, var_uint_at-taken, length_at-taken}
 use Rattle.ion_binary.proofs.TypedValueSound.{IsShape, shape_of-is}

@@ -13,7 +13,7 @@ use Rattle.ion_value.specs.Scalar.{with_value, scalar_of_body}
 use Rattle.ion_meter.specs.Sources.{Cursor}
 use Rattle.ion_value.specs.Parts.{◌>>=◌, ◌>>◌, refuse, part}
 use Rattle.ion_binary.specs.Descriptor.{Region, is_at_end, first_octet, octet_at, var_at, var_uint_at, length_at}
-use Rattle.ion_binary.specs.Laws.{IsLimit}
+use Rattle.ion_value.specs.ReadingLaws.{IsLimit}
 
 -- ---- the faults of a result
 

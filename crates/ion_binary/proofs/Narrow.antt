@@ -13,7 +13,8 @@ use Rattle.ion_meter.specs.Sources.{Cursor}
 use Rattle.ion_value.specs.Parts.{◌>>=◌, ◌>>◌, refuse, Placed, part}
 use Rattle.ion_binary.specs.Descriptor.{var_uint_at, Shape, null, bool, nop_pad, wrapper, body, container, sorted, marker, float, illegal, shape_of}
 use Rattle.ion_binary.specs.Reading.{Around, body_at, scalar_at, begin_at, container_at, sorted_at, read_by_descriptor, typed_value_at, ids_at, plain_at, inner_at, annotated_at, wrapper_length, by_wrapper, value_at, top_of, member_at, step_of, top_step, step_in, step, size, start, reading}
-use Rattle.ion_binary.specs.Laws.{IsLimit, AreWithin, IsCut, here, later, Narrow}
+use Rattle.ion_value.specs.ReadingLaws.{IsLimit, AreWithin}
+use Rattle.ion_binary.specs.Laws.{IsCut, here, later, Narrow}
 
 -- ---- one result, or a limit's fault in its place
 

@@ -1,18 +1,16 @@
 -- Where a reading stops, and not at a limit, the bytes are no stream.
-use Rattle.std.proofs.Common.{◌≡◌, ℕ, ◌+◌, ◌*◌, inl, inr, List, [], ◌∷◌, ◌++◌, length, refl, sym, ap, ◌∙◌, arith}
+use Rattle.std.proofs.Common.{◌≡◌, ℕ, ◌+◌, ◌*◌, inl, inr, List, ◌++◌, length, sym, ap, ◌∙◌, arith}
 use Rattle.ion_meter.specs.declared.fault.Reason.{Reason}
 use Rattle.ion_meter.specs.declared.limits.Limits.{Limits}
 use Rattle.ion_value.specs.Value.{PlacedItem, top_items}
 use Rattle.ion_value.specs.Reading.{Reading, Finished, Stopped, items_of, behind}
-use Rattle.ion_binary.specs.Laws.{Bodies, ending_of, IsLimit, IsCut, here, later, RightlyRefused, NoStreamBegins}
+use Rattle.ion_value.specs.ReadingLaws.{ending_of, IsLimit}
+use Rattle.ion_value.proofs.ReadingLaws.{ending_of-behind}
+use Rattle.ion_binary.specs.Laws.{Bodies, IsCut, here, later, RightlyRefused, NoStreamBegins}
 use Rattle.ion_binary.specs.Reading.{reading}
 use Rattle.ion_binary.proofs.Narrow.{narrow}
 use Rattle.ion_binary.proofs.Stable.{stable}
 use Rattle.ion_binary.proofs.Complete.{Shrinking, streams}
-
-pub ending_of-behind : (items : List PlacedItem) (r : Reading) → ending_of (behind items r) ≡ ending_of r
-ending_of-behind [] r = refl
-ending_of-behind (item ∷ items) r = ending_of-behind items r
 
 -- a reading that is cut short stops at a limit
 cut-limit : (r s : Reading) → IsCut r s → (reason : Reason) (place : ℕ) → ending_of r ≡ Stopped reason place → IsLimit reason

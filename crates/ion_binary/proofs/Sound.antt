@@ -9,7 +9,8 @@ use Rattle.ion_binary.specs.Positions.{Frame, State}
 use Rattle.ion_binary.specs.Reading.{step, size, start, reading}
 use Rattle.ion_binary.specs.Grammar.{Tops}
 use Rattle.ion_binary.specs.Paths.{Spells, IsPath, At, Follows}
-use Rattle.ion_binary.specs.Laws.{Bodies, ending_of, Sound}
+use Rattle.ion_value.specs.ReadingLaws.{ending_of}
+use Rattle.ion_binary.specs.Laws.{Bodies, Sound}
 use Rattle.ion_binary.proofs.StepPreservesPath.{step-follows}
 
 -- a path with nothing open and nothing left is the whole of the bytes

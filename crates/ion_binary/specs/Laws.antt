@@ -10,6 +10,7 @@ use Rattle.ion_value.specs.Standing.{open_behind}
 use Rattle.ion_value.specs.Value.{Symbol, SymbolAt, Scalar, Top, PlacedItem}
 use Rattle.ion_value.specs.Path.{Path, closed, path_items}
 use Rattle.ion_value.specs.Reading.{Reading, Finished, Stopped, Shrinks, items_of, behind}
+use Rattle.ion_value.specs.ReadingLaws.{ending_of, IsLimit, Allows, AreWithin, IsBegun}
 use Rattle.ion_binary.specs.Bodies.{IsBodyTypeCode}
 use Rattle.ion_binary.specs.Grammar.{Descriptor, Body, Ids, Header, Tops, Stream}
 use Rattle.ion_binary.specs.Paths.{IsPath, At, Follows}
@@ -19,12 +20,6 @@ use Rattle.ion_binary.specs.Reading.{step, size, reading}
 -- the bodies that the grammar has are read, each to its value, and no others are
 abbrev pub Bodies : Type 0
 Bodies = (t : ℕ) (v : Scalar Symbol) (b : List ℕ) → (Body t v b → scalar_of_body t b ≡ Ok v) × (scalar_of_body t b ≡ Ok v → Body t v b)
-
--- how a reading ends
-abbrev pub ending_of : Reading → Reading
-ending_of Finished = Finished
-ending_of (Stopped reason place) = Stopped reason place
-ending_of (Reading.More item rest) = ending_of rest
 
 -- what is read is a path of the bytes, and the whole of them where reading finishes
 pub record IsRead (bytes : List ℕ) (r : Reading) : Type 0 where
@@ -46,10 +41,6 @@ EachStepFollows = (limits : Limits) (bytes : List ℕ) (path : Path SymbolAt ℕ
 abbrev pub EachStepFalls : Type 0
 EachStepFalls = (limits : Limits) → Shrinks (step limits) size
 
--- limits that nothing that stands in n bytes passes
-abbrev pub Allows : Limits → List ℕ → Type 0
-Allows limits bytes = (length bytes ≤ limits.depth) × (16 * length bytes ≤ limits.scalar)
-
 -- whatever path the bytes have, its items are read first where the limits allow them
 abbrev pub Complete : Type 0
 Complete =
@@ -62,14 +53,6 @@ StreamsAreRead =
     (limits : Limits) (bytes : List ℕ) (ts : List (Top SymbolAt ℕ)) → Allows limits bytes → Tops ts bytes
     → reading limits bytes ≡ behind (path_items (closed ts)) Finished
 
-abbrev pub IsLimit : Reason → Type 0
-IsLimit reason = (reason ≡ DepthLimit) ⊎ (reason ≡ ScalarLimit) ⊎ (reason ≡ AnnotationLimit)
-
--- limits of which the others pass nothing that these do not
-pub record AreWithin (limits wide : Limits) : Type 0 where
-  pub depth : limits.depth ≤ wide.depth
-  pub scalar : limits.scalar ≤ wide.scalar
-
 -- a reading is a prefix of another, up to a limit's fault
 pub data IsCut : Reading → Reading → Type 0 where
   here : (reason : Reason) (place : ℕ) (r : Reading) → IsLimit reason → IsCut (Stopped reason place) r
@@ -78,10 +61,6 @@ pub data IsCut : Reading → Reading → Type 0 where
 -- narrower limits change nothing, or cut the reading short by a limit's fault
 abbrev pub Narrow : Type 0
 Narrow = (limits wide : Limits) (bytes : List ℕ) → AreWithin limits wide → (reading limits bytes ≡ reading wide bytes) ⊎ IsCut (reading limits bytes) (reading wide bytes)
-
--- one list of items begins another
-abbrev pub IsBegun : List PlacedItem → List PlacedItem → Type 0
-IsBegun items all = (more : List PlacedItem) × (all ≡ items ++ more)
 
 -- of two paths of the same bytes the items of one begin the other's
 abbrev pub OnePath : Type 0

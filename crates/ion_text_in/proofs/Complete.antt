@@ -22,7 +22,8 @@ use Rattle.ion_text_in.specs.Positions.{Wants, a_value, a_field, a_separator, St
 use Rattle.ion_text_in.specs.Reading.{member_of, at_member, behind_member, top_of, item_of, cost, tells_version, behind_colons, step, step_of, take, size, start}
 use Rattle.ion_text_in.specs.Grammar.{Tok, Annotations, Field, Txt, Inside, Tops, start_of}
 use Rattle.ion_text_in.specs.Paths.{open_in, Spells, IsTop}
-use Rattle.ion_text_in.specs.Laws.{Allows, Complete, StreamsAreRead}
+use Rattle.ion_value.specs.ReadingLaws.{Allows}
+use Rattle.ion_text_in.specs.Laws.{Complete, StreamsAreRead}
 use Rattle.ion_text_in.proofs.Growing.{Fits}
 use Rattle.ion_text_in.proofs.Steps.{colons-none, version-none, fits}
 use Rattle.ion_text_in.proofs.Advancing.{annotations-cost, annotations-advance, field-advances, tok-advances, inside-advances, tops-advance, spells-advance}

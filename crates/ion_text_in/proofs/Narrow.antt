@@ -18,7 +18,8 @@ use Rattle.ion_text_in.specs.Reading as reading
 use Rattle.ion_text_in.specs.Reading.{cost, may_come, behind_colons, take, part_at, step_of, step, size, start}
 use Rattle.ion_text_in.specs.Grammar.{Tok, Annotations, Field, Tops, start_of}
 use Rattle.ion_text_in.specs.Paths.{Spells, in_item, At, Follows}
-use Rattle.ion_text_in.specs.Laws.{AreWithin, Passes, IsCut, Narrow}
+use Rattle.ion_value.specs.ReadingLaws.{AreWithin}
+use Rattle.ion_text_in.specs.Laws.{Passes, IsCut, Narrow}
 use Rattle.ion_text_in.proofs.TokenCuts.{Cut, same, limit, IsScalarLimit, token-cut}
 use Rattle.ion_text_in.proofs.Steps.{tok-read, colons-behind, step-follows}
 use Rattle.ion_text_in.proofs.Falling.{each_step_falls}

@@ -1,12 +1,14 @@
 -- One text has one path up to a place, and is one stream.
-use Rattle.std.proofs.Common.{◌≡◌, ℕ, ◌*◌, ◌⊎◌, inl, inr, List, [], ◌∷◌, ◌++◌, length, refl, sym, ap, ◌∙◌, append-nil, arith}
+use Rattle.std.proofs.Common.{◌≡◌, ℕ, ◌*◌, List, [], ◌++◌, length, sym, ap, ◌∙◌, append-nil, arith}
 use Rattle.ion_meter.specs.declared.limits.Limits.{Limits}
-use Rattle.ion_value.specs.Value.{PlacedItem, top_items}
+use Rattle.ion_value.specs.Value.{top_items}
 use Rattle.ion_value.specs.Path.{closed, path_items}
 use Rattle.ion_value.specs.Reading.{Finished, items_of}
 use Rattle.ion_value.proofs.Readings.{items_of-behind}
 use Rattle.ion_value.proofs.Paths.{same_path}
-use Rattle.ion_text_in.specs.Laws.{Allows, IsBegun, OnePath, OneStream}
+use Rattle.ion_value.specs.ReadingLaws.{Allows}
+use Rattle.ion_value.proofs.ReadingLaws.{prefixes}
+use Rattle.ion_text_in.specs.Laws.{OnePath, OneStream}
 use Rattle.ion_text_in.proofs.Complete.{complete, streams_are_read}
 
 -- limits that allow an input
@@ -15,17 +17,6 @@ roomy bytes = record { depth = length bytes; scalar = 16 * length bytes; symbols
 
 allowed : (bytes : List ℕ) → Allows (roomy bytes) bytes
 allowed bytes = (omega arith, omega arith)
-
-is-begun-more : (item : PlacedItem) (xs ys : List PlacedItem) → IsBegun xs ys → IsBegun (item ∷ xs) (item ∷ ys)
-is-begun-more item xs ys begun = (begun.0, ap (λ l. item ∷ l) begun.1)
-
-prefixes : (xs ys us vs : List PlacedItem) → xs ++ us ≡ ys ++ vs → IsBegun xs ys ⊎ IsBegun ys xs
-prefixes [] ys us vs e = inl (ys, refl)
-prefixes (x ∷ xs) [] us vs e = inr (x ∷ xs, refl)
-prefixes (x ∷ xs) (y ∷ ys) us vs e =
-    let first : x ≡ y = cc e in
-    let rest : xs ++ us ≡ ys ++ vs = cc e in
-    rw first (elim (prefixes xs ys us vs rest) [ inl begun ↦ inl (is-begun-more y xs ys begun) | inr begun ↦ inr (is-begun-more y ys xs begun) ])
 
 pub one_path : OnePath
 one_path bytes q r a b is_a is_b =

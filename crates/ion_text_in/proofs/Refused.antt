@@ -1,12 +1,14 @@
 -- Where a reading stops, and not at a limit, the bytes are no stream.
-use Rattle.std.proofs.Common.{◌≡◌, ℕ, ◌+◌, ◌*◌, inl, inr, List, [], ◌∷◌, length, refl, sym, ap, ◌∙◌, arith, subst}
+use Rattle.std.proofs.Common.{◌≡◌, ℕ, ◌+◌, ◌*◌, inl, inr, length, refl, sym, ap, ◌∙◌, arith, subst}
 use Rattle.ion_meter.specs.declared.fault.Reason.{Reason}
 use Rattle.ion_meter.specs.declared.limits.Limits.{Limits}
-use Rattle.ion_value.specs.Value.{PlacedItem, top_items}
-use Rattle.ion_value.specs.Reading.{Reading, Finished, Stopped, behind}
+use Rattle.ion_value.specs.Value.{top_items}
+use Rattle.ion_value.specs.Reading.{Finished, Stopped}
 use Rattle.ion_value.specs.Path.{path_items}
 use Rattle.ion_text_in.specs.Positions.{State}
-use Rattle.ion_text_in.specs.Laws.{ending_of, IsLimit, Passes, RightlyRefused}
+use Rattle.ion_value.specs.ReadingLaws.{ending_of, IsLimit}
+use Rattle.ion_value.proofs.ReadingLaws.{ending_of-behind}
+use Rattle.ion_text_in.specs.Laws.{Passes, RightlyRefused}
 use Rattle.ion_text_in.proofs.Narrow.{narrow}
 use Rattle.ion_text_in.proofs.Complete.{streams_are_read}
 
@@ -15,10 +17,6 @@ passes-limit : (limits : Limits) (s : State) (place : ℕ) (reason : Reason) →
 passes-limit limits s place _ (Passes.token is) = inr (inl refl)
 passes-limit limits s place _ (Passes.container k d tok full) = inl refl
 passes-limit limits s place _ (Passes.annotations field annotations quoted symbol q d e are tok after more) = inr (inr refl)
-
-ending_of-behind : (items : List PlacedItem) (r : Reading) → ending_of (behind items r) ≡ ending_of r
-ending_of-behind [] r = refl
-ending_of-behind (item ∷ items) r = ending_of-behind items r
 
 pub rightly_refused : RightlyRefused
 rightly_refused limits bytes reason place tops stops no_limit stream =

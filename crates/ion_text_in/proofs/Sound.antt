@@ -11,7 +11,8 @@ use Rattle.ion_text_in.specs.Positions.{Wants, a_value, State}
 use Rattle.ion_text_in.specs.Reading.{step, size, start, reading}
 use Rattle.ion_text_in.specs.Grammar.{Field, Annotations, Tops, Stream, start_of}
 use Rattle.ion_text_in.specs.Paths.{Spells, IsPath, Begun, at_separator, at_field, in_item, At, Follows}
-use Rattle.ion_text_in.specs.Laws.{ending_of, Sound}
+use Rattle.ion_value.specs.ReadingLaws.{ending_of}
+use Rattle.ion_text_in.specs.Laws.{Sound}
 use Rattle.ion_text_in.proofs.Steps.{annotations-none, field-none, step-follows}
 use Rattle.ion_text_in.proofs.Falling.{each_step_falls}
 

@@ -1,24 +1,19 @@
 -- What is true of the grammar and the reading: laws that contracts cite.
-use Rattle.std.specs.Prelude.{◌≡◌, ℕ, ◌*◌, ◌<◌, ◌≤◌, ◌⊎◌, Bool, List, [], ◌∷◌, ◌++◌, length, sum_by, Option, Some, Err}
+use Rattle.std.specs.Prelude.{◌≡◌, ℕ, ◌<◌, ◌≤◌, ◌⊎◌, Bool, List, [], ◌∷◌, ◌++◌, length, sum_by, Option, Some, Err}
 use Rattle.ion_meter.specs.declared.fault.Reason.{Reason}
 use Rattle.ion_meter.specs.declared.fault.Reason.TheVariants.{DepthLimit, ScalarLimit, AnnotationLimit}
 use Rattle.ion_meter.specs.declared.limits.Limits.{Limits}
 use Rattle.ion_value.specs.declared.ion_type.Kind.{Kind}
-use Rattle.ion_value.specs.Value.{Symbol, SymbolAt, Top, PlacedItem}
+use Rattle.ion_value.specs.Value.{Symbol, SymbolAt, Top}
 use Rattle.ion_value.specs.Path.{Path, closed, path_items}
 use Rattle.ion_value.specs.Reading.{Reading, Finished, Stopped, Shrinks, items_of, behind, reading_by}
+use Rattle.ion_value.specs.ReadingLaws.{ending_of, IsLimit, Allows, AreWithin, IsBegun}
 use Rattle.ion_meter.specs.Sources.{Cursor}
 use Rattle.ion_text_in.specs.Token.{name, begin, colons, next_token}
 use Rattle.ion_text_in.specs.Positions.{State, a_value, innermost, in_sexp, at}
 use Rattle.ion_text_in.specs.Reading.{cost, step, size, reading}
 use Rattle.ion_text_in.specs.Grammar.{Tok, Stream}
 use Rattle.ion_text_in.specs.Paths.{IsPath, At, Follows}
-
--- how a reading ends
-abbrev pub ending_of : Reading → Reading
-ending_of Finished = Finished
-ending_of (Stopped reason place) = Stopped reason place
-ending_of (Reading.More item rest) = ending_of rest
 
 -- what is read is a path of the bytes, and a stream where reading finishes
 pub record IsRead (bytes : List ℕ) (r : Reading) : Type 0 where
@@ -41,10 +36,6 @@ EachStepFollows =
 abbrev pub EachStepFalls : Type 0
 EachStepFalls = (limits : Limits) → Shrinks (step limits) size
 
--- limits that nothing that stands in so many bytes passes
-abbrev pub Allows : Limits → List ℕ → Type 0
-Allows limits bytes = (length bytes ≤ limits.depth) × (16 * length bytes ≤ limits.scalar)
-
 -- whatever path the bytes have, its items are read first where the limits allow them
 abbrev pub Complete : Type 0
 Complete =
@@ -56,14 +47,6 @@ abbrev pub StreamsAreRead : Type 0
 StreamsAreRead =
     (limits : Limits) (bytes : List ℕ) (tops : List (Top SymbolAt ℕ)) → Allows limits bytes → Stream bytes tops
     → reading limits bytes ≡ behind (path_items (closed tops)) Finished
-
-abbrev pub IsLimit : Reason → Type 0
-IsLimit reason = (reason ≡ DepthLimit) ⊎ (reason ≡ ScalarLimit) ⊎ (reason ≡ AnnotationLimit)
-
--- limits of which the others pass nothing that these do not
-pub record AreWithin (limits wide : Limits) : Type 0 where
-  pub depth : limits.depth ≤ wide.depth
-  pub scalar : limits.scalar ≤ wide.scalar
 
 -- a limit is passed where a reading stands, at the place of the next token: by this token, by the container that it
 -- begins, or by the annotations with the one that it is
@@ -100,10 +83,6 @@ abbrev pub RightlyRefused : Type 0
 RightlyRefused =
     (limits : Limits) (bytes : List ℕ) (reason : Reason) (place : ℕ) (tops : List (Top SymbolAt ℕ))
     → ending_of (reading limits bytes) ≡ Stopped reason place → (IsLimit reason → ⊥) → Stream bytes tops → ⊥
-
--- one list of items begins another
-abbrev pub IsBegun : List PlacedItem → List PlacedItem → Type 0
-IsBegun items all = (more : List PlacedItem) × (all ≡ items ++ more)
 
 -- of two paths of the same bytes the items of one begin the other's
 abbrev pub OnePath : Type 0

@@ -1,18 +1,13 @@
 -- The bytes of a stream spell one path and one stream at most, in the encoding of each form.
-use Rattle.std.proofs.Common.{◌≡◌, ℕ, List, [], inl, ap, sym, ◌∙◌, append-nil}
-use Rattle.ion_value.specs.Value.{SymbolAt}
-use Rattle.ion_value.specs.Path.{Path, path_items}
-use Rattle.ion_binary.specs.Positions.{State}
-use Rattle.ion_binary.specs.Paths.{At, IsPath}
+use Rattle.std.proofs.Common.{[], inl, ap, sym, ◌∙◌, append-nil}
+use Rattle.ion_value.specs.Path.{path_items}
 use Rattle.ion_binary.specs.Laws.{OnePath, OneStream}
 use Rattle.ion_text_in.specs.Laws as text
 use Rattle.ion_text_in.proofs.Sound as text_sound
 use Rattle.ion_transcode.specs.declared.to.Form.TheVariants as form
 use Rattle.ion_transcode.specs.Forms.{binary_encoding, text_encoding, text_form}
 use Rattle.ion_transcode.specs.Laws.{OneSpelling, SpellsOnce}
-
-at-path : (bytes : List ℕ) (path : Path SymbolAt ℕ) (s : State) → At bytes path s → IsPath bytes s.cursor.place path
-at-path bytes path s at = record { frames = s.frames; before = at.0.before; rest = s.cursor.rest; split = at.0.split; place = at.0.place; spells = at.0.spells }
+use Rattle.ion_transcode.proofs.BinarySound.{at-path}
 
 binary-once : OnePath → OneStream → SpellsOnce binary_encoding
 binary-once one_path one_stream = record {

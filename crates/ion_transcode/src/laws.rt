@@ -1,7 +1,7 @@
 //! Laws of the verdicts of streams, each the contract of a function that does nothing.
-ghost use Rattle.ion_transcode.specs.Laws.{BinaryIsSound, OneSpelling, OneVerdict, StreamsAreRead, TextHasOneVerdict, TextIsSound};
+ghost use Rattle.ion_transcode.specs.Laws.{BinaryIsComplete, BinaryIsSound, OneSpelling, OneVerdict, StreamsAreRead, TextHasOneVerdict, TextIsComplete, TextIsSound};
 
-use ion_binary::laws::{each_step_falls, each_step_follows, one_path, one_stream};
+use ion_binary::laws as binary;
 use ion_symbols::laws::users_are_read;
 use ion_text_in::laws as text;
 use ion_text_out::laws::text_is_that_of_items;
@@ -11,8 +11,8 @@ use ion_text_out::laws::text_is_that_of_items;
 pub fn binary_is_sound()
     ensures { BinaryIsSound }
 {
-    each_step_follows();
-    each_step_falls();
+    binary::each_step_follows();
+    binary::each_step_falls();
 }
 
 /// The encoding of text is sound: its reading is that of its steps, and each step follows its
@@ -22,6 +22,25 @@ pub fn text_is_sound()
 {
     text::each_step_follows();
     text::each_step_falls();
+}
+
+/// Under limits that allow as many bytes as there are, what binary spells is read, and where a reading
+/// stops for another reason than a limit, the input is no stream of binary.
+pub fn binary_is_complete()
+    ensures { BinaryIsComplete }
+{
+    binary::what_is_spelled_is_read();
+    binary::streams_are_read();
+    binary::rightly_refused();
+}
+
+/// The same of text.
+pub fn text_is_complete()
+    ensures { TextIsComplete }
+{
+    text::what_is_spelled_is_read();
+    text::streams_are_read();
+    text::rightly_refused();
 }
 
 /// A text, which `run` does not read yet, is one stream at most in its encoding, and it has one
@@ -40,8 +59,8 @@ pub fn text_has_one_verdict()
 pub fn one_spelling()
     ensures { OneSpelling }
 {
-    one_path();
-    one_stream();
+    binary::one_path();
+    binary::one_stream();
 }
 
 /// A stream has one verdict and one output at most.
@@ -69,6 +88,8 @@ mod tests {
     fn states_laws() {
         binary_is_sound();
         text_is_sound();
+        binary_is_complete();
+        text_is_complete();
         text_has_one_verdict();
         one_spelling();
         one_verdict();

@@ -22,6 +22,7 @@ pub mod DecimalRoundTrip
 pub mod TextKinds
 pub mod Rows
 pub mod Readings
+pub mod ReadingLaws
 pub mod Paths
 pub mod Items
 pub mod Outcomes

@@ -9,6 +9,7 @@ pub mod Scalar
 pub mod Items
 pub mod Path
 pub mod Reading
+pub mod ReadingLaws
 pub mod Parts
 pub mod Answers
 pub mod Shares

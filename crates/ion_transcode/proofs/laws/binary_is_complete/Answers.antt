@@ -1,0 +1,5 @@
+use Rattle.ion_transcode.proofs.BinarySound.{binary-complete}
+use Rattle.ion_transcode.proofs.laws.binary_is_complete.Goals as goal
+
+pub returns : goal.returns
+returns c = binary-complete c.what_is_spelled_is_read.ensures c.streams_are_read.ensures c.rightly_refused.ensures

@@ -1,19 +1,20 @@
 #!/usr/bin/env python3
-"""Runs text inputs through the definitions of the text form and compares with what must come; see docs/TEXT_INPUT.md.
+"""Runs text inputs through the definitions of the text and the binary form and compares with what must come; see docs/TEXT_INPUT.md.
 
-usage: check_text_rows.py [--final] [--rows N] [--longest N] [--part N] [--keep FOLDER] CASES.jsonl ..
+usage: check_text_rows.py [--final] [--only COMMAND] [--rows N] [--longest N] [--part N] [--keep FOLDER] CASES.jsonl ..
 
 Run it from the root of the repository. Each line of a file is one case: `words` (the command line), `input` (hex), and
 what must come: `status`, `stdout` (hex), `stderr`; `final`, where a case has it, holds the last three as they must be
-now that decimals have a point, and --final compares with that. Cases of binary input, with a catalogue, with
-limits of the output or without `input` are passed over. Each other one becomes a row that the prover computes, in a
-copy of the crates: the verdict, and for `show` the text that is written. --rows takes the first N cases (500), --longest
-those of at most N bytes (200), --part puts N rows into a module (250), --keep makes the copy in a new folder and leaves it.
+now that decimals have a point and the symbol table of an output is emptied, and --final compares with that. Cases of
+binary input, with a catalogue or without `input` are passed over. Each other one becomes a row that the prover computes,
+in a copy of the crates: the verdict, and for `show` and `convert` what is written. --only takes the cases of one command,
+--rows the first N cases (500), --longest those of at most N bytes (200), --part puts N rows into a module (250), --keep
+makes the copy in a new folder and leaves it.
 The last line is 'N cases agree, M differ, K passed over'; the exit status is 0 where M is 0.
 """
 import json, os, re, shutil, subprocess, sys, tempfile
 
-CRATES = ['ion_meter', 'ion_value', 'ion_symbols', 'ion_text_out', 'ion_text_in']
+CRATES = ['ion_meter', 'ion_value', 'ion_symbols', 'ion_binary', 'ion_text_out', 'ion_text_in']
 LIMITS = {'depth': 64, 'scalar': 1048576, 'symbols': 1048576, 'value': 16777216}
 
 SHOW = '''-- What a text comes to for a user without a catalogue: the verdict, and the text that is written.
@@ -25,6 +26,7 @@ use Rattle.ion_value.specs.Reading.{Reading}
 use Rattle.ion_value.specs.Outcome.{Verdict, verdict_behind, output_behind}
 use Rattle.ion_symbols.specs.Users.{at_start, users}
 use Rattle.ion_text_in.specs.Reading.{reading}
+use Rattle.ion_binary.specs.Writing.{binary_puts, binary_refusal}
 use Rattle.ion_text_out.specs.Writing.{text_puts}
 
 abbrev pub never : List PlacedItem → PlacedItem → Option (Reason × ℕ)
@@ -38,6 +40,12 @@ verdict limits bytes = verdict_behind never [] (user_reading limits bytes)
 
 abbrev pub output : Limits → List ℕ → List ℕ
 output limits bytes = output_behind (text_puts limits) never [] (user_reading limits bytes)
+
+abbrev pub binary_verdict : Limits → List ℕ → Verdict
+binary_verdict limits bytes = verdict_behind (binary_refusal limits) [] (user_reading limits bytes)
+
+abbrev pub binary_output : Limits → List ℕ → List ℕ
+binary_output limits bytes = output_behind (binary_puts limits) (binary_refusal limits) [] (user_reading limits bytes)
 '''
 
 HEAD = '''use Rattle.std.specs.Prelude.{◌≡◌, refl, ℕ, List, [], ◌∷◌, Bool, true, false}
@@ -60,6 +68,14 @@ unfoldable output : Limits → List ℕ → List ℕ
 unfolding @NAMES@
 output limits bytes = show.output limits bytes
 
+unfoldable binary_verdict : Limits → List ℕ → Verdict
+unfolding @NAMES@
+binary_verdict limits bytes = show.binary_verdict limits bytes
+
+unfoldable binary_output : Limits → List ℕ → List ℕ
+unfolding @NAMES@
+binary_output limits bytes = show.binary_output limits bytes
+
 abbrev is_accepted : Verdict → Bool
 is_accepted (Accepted values) = true
 is_accepted (Rejected reason place) = false
@@ -75,6 +91,8 @@ def unfoldable_names(repository):
         folder = f'{repository}/crates/{crate}/specs'
         for name in sorted(os.listdir(folder)):
             if not name.endswith('.antt') or name in ('Laws.antt', 'Grammar.antt', 'Paths.antt'):
+                continue
+            if crate == 'ion_binary' and name != 'Canonical.antt':
                 continue
             block = False
             for line in open(f'{folder}/{name}'):
@@ -109,19 +127,18 @@ def row_of(case):
         return None
     command = words[0] if words and not words[0].startswith('--') else 'show'
     given = f'({limits_of(words)}) ({listed(bytes.fromhex(case["input"]))})'
+    binary = 'binary_' if command == 'convert' else ''
     if want['status'] == 1:
         _, reason, _, place = want['stderr'].split()
-        if command == 'convert' and reason in ('SymbolLimit', 'ValueLimit'):
-            return None
-        claims = [('verdict', f'verdict {given}', f'Rejected Reason.{reason} {place}')]
+        claims = [(f'{binary}verdict', f'{binary}verdict {given}', f'Rejected Reason.{reason} {place}')]
     elif command == 'check':
         claims = [('verdict', f'verdict {given}', f'Accepted {bytes.fromhex(want["stdout"]).split()[1].decode()}')]
     else:
-        claims = [('verdict', f'is_accepted (verdict {given})', 'true')]
-    if command == 'show':
+        claims = [(f'{binary}verdict', f'is_accepted ({binary}verdict {given})', 'true')]
+    if command != 'check':
         if 'stdout' not in want:
             return None
-        claims.append(('output', f'output {given}', listed(bytes.fromhex(want['stdout']))))
+        claims.append((f'{binary}output', f'{binary}output {given}', listed(bytes.fromhex(want['stdout']))))
     return claims
 
 
@@ -163,7 +180,7 @@ def check(crate, rows):
     run = subprocess.run(['rt', 'check', '--jobs', '1'], cwd=crate, capture_output=True, text=True)
     said, wrong, whole = run.stdout + run.stderr, {}, True
     for error in re.findall(r'^.*(?<!\w)error: .*$', said, re.M):
-        row = re.search(r'error: `(?:verdict|output)(\d+)`', error)
+        row = re.search(r'error: `(?:binary_)?(?:verdict|output)(\d+)`', error)
         if row and int(row[1]) < len(rows):
             wrong.setdefault(int(row[1]), error)
         else:
@@ -172,7 +189,7 @@ def check(crate, rows):
 
 
 def main(words):
-    final, most, longest, part, keep, files = False, 500, 200, 250, None, []
+    final, most, longest, part, keep, only, files = False, 500, 200, 250, None, None, []
     while words:
         word = words.pop(0)
         if word == '--final': final = True
@@ -180,13 +197,15 @@ def main(words):
         elif word == '--longest': longest = int(words.pop(0))
         elif word == '--part': part = int(words.pop(0))
         elif word == '--keep': keep = words.pop(0)
+        elif word == '--only': only = words.pop(0)
         else: files.append(word)
     if not files:
         print(__doc__)
         return 2
     rows, over = [], 0
     for case in (json.loads(line) for name in files for line in open(name)):
-        claims = row_of(expected(case, final)) if len(case.get('input', '')) <= 2 * longest else None
+        asked = not only or only in case['words']
+        claims = row_of(expected(case, final)) if asked and len(case.get('input', '')) <= 2 * longest else None
         if claims and len(rows) < most:
             rows.append((case, claims))
         else:

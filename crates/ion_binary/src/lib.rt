@@ -1,7 +1,7 @@
 //! The binary encoding of Amazon Ion 1.0: its grammar, its reading, and `BinReader`, which reads a
 //! stream one item at a time. The laws tie the reading to the grammar.
 //!
-//! Nothing writes binary yet.
+//! The definition of its canonical form and the laws of it are here too; no code writes it yet.
 #![tactic(auto)]
 
 mod body;

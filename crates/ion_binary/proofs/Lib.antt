@@ -23,6 +23,7 @@ mod WritingRows
 mod KnownIds
 mod WholeValues
 mod ClosedSize
+mod PlacedHeaders
 mod WrittenSpelled
 mod WrittenDeclarations
 mod WrittenStream

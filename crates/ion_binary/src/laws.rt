@@ -2,6 +2,7 @@
 //! does nothing.
 ghost use Rattle.ion_binary.specs.Laws.{Bodies, Complete, EachStepFalls, EachStepFollows, ExactLimits, Narrow, NoStreamBegins, OnePath, OneStream, RightlyRefused, Sound, Stable, StreamsAreRead};
 ghost use Rattle.ion_binary.specs.WritingLaws.{ClosedSizeIsThatOfTheClosing, ItemsAddTheirOctets, ItemsPutTheForm, RefusedItemsAddNothing};
+ghost use Rattle.ion_binary.specs.Places.{ClosedSizeByCounts, ClosedSizeByPlaces};
 ghost use Rattle.ion_binary.specs.Spelling.{DeclarationsAreRead, TheFormIsRead, ValuesAreSpelled};
 
 /// Every body of a scalar that the grammar has is read to its value, and no other body is read.
@@ -96,6 +97,18 @@ pub fn closed_size_is_that_of_the_closing()
     ensures { ClosedSizeIsThatOfTheClosing }
 {}
 
+/// The closed size is found from the places where the headers of open containers go in, and the
+/// number of octets that are there.
+pub fn closed_size_by_places()
+    ensures { ClosedSizeByPlaces }
+{}
+
+/// It is the sum of these octets, one for each header, and as many more as headers have more than
+/// one.
+pub fn closed_size_by_counts()
+    ensures { ClosedSizeByCounts }
+{}
+
 /// What is written of a value spells that value in the grammar, from any place on and whatever ids
 /// its symbols have.
 pub fn values_are_spelled()
@@ -136,6 +149,8 @@ mod tests {
         items_add_their_octets();
         refused_items_add_nothing();
         closed_size_is_that_of_the_closing();
+        closed_size_by_places();
+        closed_size_by_counts();
         values_are_spelled();
         declarations_are_read();
         the_form_is_read();

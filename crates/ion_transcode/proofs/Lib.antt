@@ -8,3 +8,4 @@ mod Reached
 mod SpellsOnce
 mod Streams
 mod TextSound
+mod UserPaths

@@ -9,3 +9,4 @@ mod SpellsOnce
 mod Streams
 mod TextFormSound
 mod TextSound
+mod UserPaths

@@ -8,4 +8,5 @@ pub mod Bound
 -- What is proved of that, and what the calls below `run` say to each other.
 pub mod ByItem
 pub mod Laws
+pub mod UserPaths
 pub mod Calls

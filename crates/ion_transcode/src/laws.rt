@@ -1,10 +1,11 @@
 //! Laws of the verdicts of streams, each the contract of a function that does nothing.
 ghost use Rattle.ion_transcode.specs.Laws.{BinaryIsComplete, BinaryIsSound, OneSpelling, OneVerdict, StreamsAreRead, TextHasOneVerdict, TextIsComplete, TextIsSound};
+ghost use Rattle.ion_transcode.specs.UserPaths.{FaultlessPathsAreRead, RefusedOutputIsPathText};
 
 use ion_binary::laws as binary;
-use ion_symbols::laws::users_are_read;
+use ion_symbols::laws::{open_users_are_read, users_are_read};
 use ion_text_in::laws as text;
-use ion_text_out::laws::text_is_that_of_items;
+use ion_text_out::laws::{path_text_is_that_of_items, text_is_that_of_items};
 
 /// The binary encoding is sound: its reading is that of its steps, and each step follows its
 /// grammar.
@@ -80,6 +81,24 @@ pub fn streams_are_read()
     text_is_that_of_items();
 }
 
+/// The user items of a path that is faultless are those of its path of user values: whole values, and
+/// the containers that are open there, unless they are a declaration's.
+pub fn faultless_paths_are_read()
+    ensures { FaultlessPathsAreRead }
+{
+    users_are_read();
+    open_users_are_read();
+}
+
+/// Where text is written of a stream that is refused, it is the text of the user values of a path
+/// that the stream's bytes spell, behind which the first fault stands.
+pub fn refused_output_is_path_text()
+    ensures { RefusedOutputIsPathText }
+{
+    faultless_paths_are_read();
+    path_text_is_that_of_items();
+}
+
 #[cfg(test)]
 mod tests {
     use super::*;
@@ -94,5 +113,7 @@ mod tests {
         one_spelling();
         one_verdict();
         streams_are_read();
+        faultless_paths_are_read();
+        refused_output_is_path_text();
     }
 }

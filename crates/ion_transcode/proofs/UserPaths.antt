@@ -1,0 +1,115 @@
+-- The user items of a faultless path are those of its path of user values, so that what is written of a refused stream is the text of such a path.
+use Rattle.std.specs.Prelude.{⊤}
+use Rattle.std.proofs.Common.{◌≡◌, ℕ, List, [], ◌∷◌, Option, Some, None, refl, ap, sym, ◌∙◌, subst}
+use Rattle.ion_meter.specs.declared.fault.Reason.{Reason}
+use Rattle.ion_meter.specs.declared.limits.Limits.{Limits}
+use Rattle.ion_value.specs.Value.{SymbolAt, UserSymbol, Members, Top, PlacedItem, top_items, user_items}
+use Rattle.ion_value.specs.Path.{Path, Nest, closed, opened, path_items}
+use Rattle.ion_value.specs.Reading.{Reading, Finished, More, behind}
+use Rattle.ion_value.specs.Outcome.{Verdict, Accepted, Rejected}
+use Rattle.ion_symbols.specs.Table.{Shared, Table, system}
+use Rattle.ion_symbols.specs.Users as users
+use Rattle.ion_symbols.specs.Users.{at_start, by_step}
+use Rattle.ion_symbols.specs.Tree.{user_at, user_tops}
+use Rattle.ion_symbols.specs.Laws.{UsersAreRead, OpenUsersAreRead, table_behind, map_nest, open_declaration}
+use Rattle.ion_text_out.specs.Laws.{PathTextIsThatOfItems}
+use Rattle.ion_text_out.specs.Text.{items_text}
+use Rattle.ion_transcode.specs.declared.to.Form.{Form}
+use Rattle.ion_transcode.specs.declared.to.Target.TheVariants as target
+use Rattle.ion_transcode.specs.Encoding.{Encoding}
+use Rattle.ion_transcode.specs.Outputs.{Outputs, outputs_of, to_text}
+use Rattle.ion_transcode.specs.Forms.{form_of, encoding_of}
+use Rattle.ion_transcode.specs.Verdict.{Faultless, nothing, goes_on, taken_in, user, HasVerdictFrom, whole, own_fault, symbol_fault, writer_fault, HasVerdictAs}
+use Rattle.ion_transcode.specs.UserPaths.{none_open, value_open, declaration_open, UsersAlong, FaultlessPathsAreRead, IsFaultBehind, IsRefusedText, RefusedOutputIsPathText}
+use Rattle.ion_transcode.proofs.Faultless.{behind_append}
+
+-- what is read of users in items that are faultless, whatever stands behind them
+faultless-users : (e : Encoding) (target : Outputs) (catalog : List Shared) (limits : Limits) (bytes : List ℕ) (items : List PlacedItem) (s : e.State)
+    (u : users.State) (mine : List PlacedItem) → Faultless e target catalog limits bytes items s u mine → (rest : Reading)
+    → users.users catalog limits.symbols at_start (behind items rest) ≡ behind mine (users.users catalog limits.symbols u rest)
+faultless-users e target catalog limits bytes _ _ _ _ nothing rest = refl
+faultless-users e target catalog limits bytes _ _ _ _ (goes_on items mine s t u f is) rest = faultless-users e target catalog limits bytes items s u mine f rest
+faultless-users e target catalog limits bytes _ _ _ _ (taken_in items mine item s t u v f is g) rest =
+    ap (users.users catalog limits.symbols at_start) (behind_append items (item ∷ []) rest)
+    ∙ (faultless-users e target catalog limits bytes items s u mine f (More item rest)
+    ∙ ap (λ o. behind mine (by_step o (λ w. users.users catalog limits.symbols w rest))) g)
+faultless-users e target catalog limits bytes _ _ _ _ (user items mine item own s t u v f is g fine) rest =
+    ap (users.users catalog limits.symbols at_start) (behind_append items (item ∷ []) rest)
+    ∙ (faultless-users e target catalog limits bytes items s u mine f (More item rest)
+    ∙ (ap (λ o. behind mine (by_step o (λ w. users.users catalog limits.symbols w rest))) g
+    ∙ sym (behind_append mine (own ∷ []) (users.users catalog limits.symbols v rest))))
+
+-- where containers are open
+users-open : (catalog : List Shared) (tops : List (Top SymbolAt ℕ)) (us : List (Top UserSymbol ℕ)) (t : Table) (first : ℕ) (nest : Nest SymbolAt ℕ) (mine : List PlacedItem)
+    → user_tops catalog system tops ≡ Some us → table_behind catalog system tops ≡ Some t
+    → (open_declaration t nest ≡ None → user_items mine ≡ path_items (opened us first (map_nest (user_at t) nest)))
+    → ((members : Members SymbolAt ℕ) → open_declaration t nest ≡ Some members → user_items mine ≡ top_items us)
+    → (d : Option (Members SymbolAt ℕ)) → open_declaration t nest ≡ d → UsersAlong catalog (opened tops first nest) mine
+users-open catalog tops us t first nest mine says behind_is value declaration None is = record {
+  user_path = opened us first (map_nest (user_at t) nest);
+  is_user_path = value_open tops us t first nest says behind_is is;
+  items = value is;
+}
+users-open catalog tops us t first nest mine says behind_is value declaration (Some members) is = record {
+  user_path = closed us;
+  is_user_path = declaration_open tops us t first nest members says behind_is is;
+  items = declaration members is;
+}
+
+module _ (users_read : UsersAreRead) (open_users_read : OpenUsersAreRead) where
+  -- what is read of users along a path, to its end
+  users-along : (catalog : List Shared) (limit : ℕ) (path : Path SymbolAt ℕ) (mine : List PlacedItem)
+      → users.users catalog limit at_start (behind (path_items path) Finished) ≡ behind mine Finished → UsersAlong catalog path mine
+  users-along catalog limit (closed tops) mine e =
+      let r = users_read catalog limit tops mine e in
+      record { user_path = closed r.0; is_user_path = none_open tops r.0 r.1; items = r.2 }
+  users-along catalog limit (opened tops first nest) mine e =
+      let r = open_users_read catalog limit tops first nest mine e in
+      users-open catalog tops r.0 r.1 first nest mine r.2 r.3 r.4 r.5 (open_declaration r.1 nest) refl
+
+  pub faultless_paths_are_read : FaultlessPathsAreRead
+  faultless_paths_are_read form target catalog limits bytes path mine s u faultless =
+      users-along catalog limits.symbols path mine
+      (faultless-users (encoding_of form) (outputs_of target) catalog limits bytes (path_items path) s u mine faultless Finished)
+
+-- ---- what is refused
+
+module _ (read : FaultlessPathsAreRead) (texts : PathTextIsThatOfItems) (form : Form) (catalog : List Shared) (limits : Limits) (bytes : List ℕ) where
+  abbrev e : Encoding
+  e = encoding_of form
+
+  refused-behind : (path : Path SymbolAt ℕ) (mine : List PlacedItem) (s : e.State) (u : users.State) (reason : Reason) (place : ℕ)
+      → e.At limits bytes path s → Faultless e to_text catalog limits bytes (path_items path) s u mine
+      → IsFaultBehind e catalog limits s u reason place → IsRefusedText e catalog limits bytes reason place (to_text.open_output mine)
+  refused-behind path mine s u reason place at faultless why =
+      let along = read form target.Text catalog limits bytes path mine s u faultless in
+      record {
+        path = path;
+        user_path = along.user_path;
+        mine = mine;
+        state = s;
+        user_state = u;
+        spelled = at;
+        faultless = faultless;
+        fault = why;
+        is_user_path = along.is_user_path;
+        output = ap (items_text []) along.items ∙ texts along.user_path;
+      }
+
+  -- of the verdicts of a stream those that refuse
+  abbrev RefusedAs : Verdict → List ℕ → Type 0
+  RefusedAs (Accepted count) out = ⊤
+  RefusedAs (Rejected reason place) out = IsRefusedText e catalog limits bytes reason place out
+
+  refused-as : (v : Verdict) (out : List ℕ) → HasVerdictFrom e to_text catalog limits bytes v out → RefusedAs v out
+  refused-as _ _ (whole tops us mine s u stream faultless ends told) = tt
+  refused-as _ _ (own_fault path mine s u reason place at faultless stops) =
+      refused-behind path mine s u reason place at faultless (IsFaultBehind.own stops)
+  refused-as _ _ (symbol_fault path mine item s t u reason place at faultless gives stops) =
+      refused-behind path mine s u reason place at faultless (IsFaultBehind.symbol item t gives stops)
+  refused-as _ _ (writer_fault path mine item own s t u v reason place at faultless gives told refused) = absurd (cc refused)
+
+pub refused_output_is_path_text : FaultlessPathsAreRead → PathTextIsThatOfItems → RefusedOutputIsPathText
+refused_output_is_path_text read texts catalog limits to bytes reason place out is has =
+    refused-as read texts (form_of bytes) catalog limits bytes (Rejected reason place) out
+    (subst (λ r. HasVerdictAs r (encoding_of (form_of bytes)) catalog limits bytes (Rejected reason place) out) is has)

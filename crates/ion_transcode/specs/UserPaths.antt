@@ -1,0 +1,77 @@
+-- The paths of user values that paths of raw items mean, and what is proved of the output of a stream that is refused: laws that contracts cite.
+use Rattle.std.specs.Prelude.{◌≡◌, ℕ, List, Some, None}
+use Rattle.ion_meter.specs.declared.fault.Reason.{Reason}
+use Rattle.ion_meter.specs.declared.limits.Limits.{Limits}
+use Rattle.ion_value.specs.Value.{SymbolAt, UserSymbol, Members, Top, PlacedItem, user_items}
+use Rattle.ion_value.specs.Path.{Path, Nest, closed, opened, path_items}
+use Rattle.ion_value.specs.Reading.{Stops, Gives}
+use Rattle.ion_value.specs.Outcome.{Rejected}
+use Rattle.ion_symbols.specs.Table.{Shared, Table, system}
+use Rattle.ion_symbols.specs.Users as users
+use Rattle.ion_symbols.specs.Users.{user_step}
+use Rattle.ion_symbols.specs.Tree.{user_at, user_tops}
+use Rattle.ion_symbols.specs.Laws.{table_behind, map_nest, open_declaration}
+use Rattle.ion_text_out.specs.Text.{path_text}
+use Rattle.ion_transcode.specs.declared.to.Form.{Form}
+use Rattle.ion_transcode.specs.declared.to.To.{To}
+use Rattle.ion_transcode.specs.declared.to.Target.{Target}
+use Rattle.ion_transcode.specs.declared.to.Target.TheVariants as target
+use Rattle.ion_transcode.specs.Encoding.{Encoding}
+use Rattle.ion_transcode.specs.Outputs.{outputs_of, resolved}
+use Rattle.ion_transcode.specs.Forms.{form_of, encoding_of}
+use Rattle.ion_transcode.specs.Verdict.{Faultless, HasVerdict}
+
+-- the user values of a path: its whole values without version markers and declarations, and the containers that are open with their symbols as
+-- they are in the table behind these, unless they are a declaration's
+pub data IsUserPath (catalog : List Shared) : Path SymbolAt ℕ → Path UserSymbol ℕ → Type 0 where
+  none_open : (tops : List (Top SymbolAt ℕ)) (us : List (Top UserSymbol ℕ)) → user_tops catalog system tops ≡ Some us
+      → IsUserPath catalog (closed tops) (closed us)
+  value_open : (tops : List (Top SymbolAt ℕ)) (us : List (Top UserSymbol ℕ)) (t : Table) (first : ℕ) (nest : Nest SymbolAt ℕ)
+      → user_tops catalog system tops ≡ Some us → table_behind catalog system tops ≡ Some t → open_declaration t nest ≡ None
+      → IsUserPath catalog (opened tops first nest) (opened us first (map_nest (user_at t) nest))
+  declaration_open : (tops : List (Top SymbolAt ℕ)) (us : List (Top UserSymbol ℕ)) (t : Table) (first : ℕ) (nest : Nest SymbolAt ℕ)
+      (members : Members SymbolAt ℕ)
+      → user_tops catalog system tops ≡ Some us → table_behind catalog system tops ≡ Some t → open_declaration t nest ≡ Some members
+      → IsUserPath catalog (opened tops first nest) (closed us)
+
+-- the user items of a path are those of a path of user values
+pub record UsersAlong (catalog : List Shared) (path : Path SymbolAt ℕ) (mine : List PlacedItem) : Type 0 where
+  pub user_path : Path UserSymbol ℕ
+  pub is_user_path : IsUserPath catalog path user_path
+  pub items : user_items mine ≡ path_items user_path
+
+-- so it is with every path that is faultless, of each form, whatever is written
+abbrev pub FaultlessPathsAreRead : Type 0
+FaultlessPathsAreRead =
+    (form : Form) (target : Target) (catalog : List Shared) (limits : Limits) (bytes : List ℕ) (path : Path SymbolAt ℕ) (mine : List PlacedItem)
+    (s : (encoding_of form).State) (u : users.State)
+    → Faultless (encoding_of form) (outputs_of target) catalog limits bytes (path_items path) s u mine → UsersAlong catalog path mine
+
+-- ---- what is refused
+
+-- a fault stands behind a path, by itself or in the item behind it
+pub data IsFaultBehind (e : Encoding) (catalog : List Shared) (limits : Limits) (s : e.State) (u : users.State) (reason : Reason) (place : ℕ) : Type 0 where
+  own : e.step limits s ≡ Stops reason place → IsFaultBehind e catalog limits s u reason place
+  symbol : (item : PlacedItem) (t : e.State) → e.step limits s ≡ Gives item t → user_step catalog limits.symbols u item ≡ Stops reason place
+      → IsFaultBehind e catalog limits s u reason place
+
+-- the output of a stream that is refused is the text of the user values of a path that its bytes spell, which is faultless, and behind which
+-- the fault stands
+pub record IsRefusedText (e : Encoding) (catalog : List Shared) (limits : Limits) (bytes : List ℕ) (reason : Reason) (place : ℕ) (out : List ℕ) : Type 0 where
+  pub path : Path SymbolAt ℕ
+  pub user_path : Path UserSymbol ℕ
+  pub mine : List PlacedItem
+  pub state : e.State
+  pub user_state : users.State
+  pub spelled : e.At bytes path state
+  pub faultless : Faultless e (outputs_of target.Text) catalog limits bytes (path_items path) state user_state mine
+  pub fault : IsFaultBehind e catalog limits state user_state reason place
+  pub is_user_path : IsUserPath catalog path user_path
+  pub output : out ≡ path_text user_path
+
+-- so it is with every stream that is refused where text is written
+abbrev pub RefusedOutputIsPathText : Type 0
+RefusedOutputIsPathText =
+    (catalog : List Shared) (limits : Limits) (to : To) (bytes : List ℕ) (reason : Reason) (place : ℕ) (out : List ℕ)
+    → resolved (form_of bytes) to ≡ Some target.Text → HasVerdict catalog limits to bytes (Rejected reason place) out
+    → IsRefusedText (encoding_of (form_of bytes)) catalog limits bytes reason place out

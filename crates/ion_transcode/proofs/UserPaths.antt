@@ -79,7 +79,7 @@ module _ (read : FaultlessPathsAreRead) (texts : PathTextIsThatOfItems) (form : 
   e = encoding_of form
 
   refused-behind : (path : Path SymbolAt ℕ) (mine : List PlacedItem) (s : e.State) (u : users.State) (reason : Reason) (place : ℕ)
-      → e.At limits bytes path s → Faultless e to_text catalog limits bytes (path_items path) s u mine
+      → e.At bytes path s → Faultless e to_text catalog limits bytes (path_items path) s u mine
       → IsFaultBehind e catalog limits s u reason place → IsRefusedText e catalog limits bytes reason place (to_text.open_output mine)
   refused-behind path mine s u reason place at faultless why =
       let along = read form target.Text catalog limits bytes path mine s u faultless in

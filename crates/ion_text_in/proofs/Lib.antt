@@ -51,4 +51,5 @@ pub mod TypedWords
 pub mod Held
 pub mod LobTurns
 mod Rows
+mod QuickNumbers
 mod QuotedRows

@@ -1,17 +1,16 @@
 -- Ints and decimals that are read in one pass.
-use Rattle.std.proofs.Common.{◌≡◌, IsTrue, ℕ, zero, suc, ◌+◌, ◌*◌, ◌-◌, ◌^◌, ◌<◌, ◌≤◌, ℤ, pos, ◌-ℤ◌, inl, inr, Bool, true, false, not, ◌&&◌, ◌||◌, ◌==◌, nat_lt, Option, Some, Ok, Err, List, [], ◌∷◌, ◌++◌, length, take, drop, get_or, codes, refl, sym, ap, subst, ◌∙◌, arith}
+use Rattle.std.proofs.Common.{◌≡◌, IsTrue, ℕ, zero, suc, ◌+◌, ◌*◌, ◌-◌, ◌^◌, ◌<◌, ◌≤◌, pos, ◌-ℤ◌, inl, inr, Bool, true, false, not, ◌&&◌, ◌||◌, ◌==◌, nat_lt, Some, Ok, List, [], ◌∷◌, ◌++◌, length, take, drop, get_or, codes, refl, sym, ap, subst, ◌∙◌, arith}
 use Rattle.std.proofs.lemmas.Bool.{and_parts, and_right, lt-ltb}
 use Rattle.std.proofs.lemmas.Bool.Decides.{nat_tests}
 use Rattle.std.proofs.lemmas.Int.{ints}
 use Rattle.std.proofs.lemmas.List.{take_more, drop_more, append_assoc, append-nil, length-take-le}
 use Rattle.std.proofs.Math.Seq.{take-add}
-use Rattle.ion_meter.specs.declared.fault.Reason.TheVariants.{BadToken}
 use Rattle.ion_value.specs.declared.decimal.Decimal.{Decimal}
 use Rattle.ion_value.specs.declared.int.Int.{Int}
 use Rattle.ion_value.specs.Int.{IsInt, int_of_text}
 use Rattle.ion_value.specs.Decimal.{IsDecimal, decimal_in_range, decimal_of_text}
 use Rattle.ion_value.specs.Digits.{is_digit, digit_value, all_are, first_is, has_minus}
-use Rattle.ion_value.specs.DigitReading.{Read, is_digit_of, read_digits, read_whole, read_int, read_fraction}
+use Rattle.ion_value.specs.DigitReading.{Read, read_digits, read_whole, read_int, read_fraction}
 use Rattle.ion_value.specs.Name.{is_one_of}
 use Rattle.ion_value.proofs.LeadingDigits.{all_are-append}
 use Rattle.ion_value.proofs.TextDigits.{ten, zero_first, int-text, int-whole}

@@ -1,5 +1,6 @@
 //! Quotes, and the plain bytes between them (Ion specification, "Strings", "Symbols" and "Clobs").
-ghost use Rattle.std.specs.Prelude.{◌≡◌, ◌<◌, ◌≤◌, ◌↔◌, true, false, Some, length, take, drop, IsTrue, IsUtf8};
+ghost use Rattle.std.specs.Prelude.{◌≡◌, ◌<◌, ◌≤◌, ◌↔◌, ◌&&◌, ◌||◌, ◌==◌, nat_le, not, [], ◌∷◌, true, false, Some, length, take, drop, IsTrue, IsUtf8};
+ghost use Rattle.ion_value.specs.Name.{is_one_of};
 ghost use Rattle.ion_value.specs.Digits.{first_is, all_are};
 ghost use Rattle.ion_text_in.specs.Quotes.{quote_of, mark_of, one_mark, IsWithin};
 ghost use Rattle.ion_text_in.specs.Quoted.{text_at};
@@ -139,7 +140,7 @@ fn few_plain(mark: u8, in_clob: bool, bytes: &[u8]) -> usize
         ≡ false }
 {
     for (i, byte) in bytes.iter().enumerate() {
-        if !is_plain(mark, in_clob, *byte) {
+        if !is_plain_alone(mark, in_clob, *byte) {
             return i;
         }
     }
@@ -155,4 +156,33 @@ fn is_plain(mark: u8, in_clob: bool, byte: u8) -> bool
         && byte != b'\\'
         && (byte >= b' ' || byte == 9 || byte == 11 || byte == 12)
         && (!in_clob || byte < 128)
+}
+
+// The same of a byte that is looked at alone, by a table.
+#[inline(always)]
+fn is_plain_alone(mark: u8, in_clob: bool, byte: u8) -> bool
+    ensures { result ≡ is_plain_byte (one_mark mark in_clob) byte }
+{
+    byte != mark && is_written(byte) && (!in_clob || byte < 128)
+}
+
+// Which bytes stand for themselves between quotes of another sort, where the text is no clob's.
+static WRITTEN_BYTES: [u8; 256] = [
+    0, 0, 0, 0, 0, 0, 0, 0, 0, 1, 0, 1, 1, 0, 0, 0, 0, 0, 0, 0, 0, 0, 0, 0, 0, 0, 0, 0, 0, 0, 0, 0,
+    1, 1, 1, 1, 1, 1, 1, 1, 1, 1, 1, 1, 1, 1, 1, 1, 1, 1, 1, 1, 1, 1, 1, 1, 1, 1, 1, 1, 1, 1, 1, 1,
+    1, 1, 1, 1, 1, 1, 1, 1, 1, 1, 1, 1, 1, 1, 1, 1, 1, 1, 1, 1, 1, 1, 1, 1, 1, 1, 1, 1, 0, 1, 1, 1,
+    1, 1, 1, 1, 1, 1, 1, 1, 1, 1, 1, 1, 1, 1, 1, 1, 1, 1, 1, 1, 1, 1, 1, 1, 1, 1, 1, 1, 1, 1, 1, 1,
+    1, 1, 1, 1, 1, 1, 1, 1, 1, 1, 1, 1, 1, 1, 1, 1, 1, 1, 1, 1, 1, 1, 1, 1, 1, 1, 1, 1, 1, 1, 1, 1,
+    1, 1, 1, 1, 1, 1, 1, 1, 1, 1, 1, 1, 1, 1, 1, 1, 1, 1, 1, 1, 1, 1, 1, 1, 1, 1, 1, 1, 1, 1, 1, 1,
+    1, 1, 1, 1, 1, 1, 1, 1, 1, 1, 1, 1, 1, 1, 1, 1, 1, 1, 1, 1, 1, 1, 1, 1, 1, 1, 1, 1, 1, 1, 1, 1,
+    1, 1, 1, 1, 1, 1, 1, 1, 1, 1, 1, 1, 1, 1, 1, 1, 1, 1, 1, 1, 1, 1, 1, 1, 1, 1, 1, 1, 1, 1, 1, 1,
+];
+
+// Whether a byte is one of these.
+#[inline(always)]
+fn is_written(byte: u8) -> bool
+    ensures { result ≡ (not (byte == 92)
+        && (nat_le 32 byte || is_one_of (9 ∷ 11 ∷ 12 ∷ []) byte)) }
+{
+    WRITTEN_BYTES[byte as usize] > 0
 }

@@ -52,4 +52,5 @@ pub mod Held
 pub mod LobTurns
 mod RunCuts
 mod Rows
+mod QuickNumbers
 mod QuotedRows

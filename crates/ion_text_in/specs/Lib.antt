@@ -2,6 +2,7 @@ pub mod Places
 pub mod Limit
 pub mod Positions
 pub mod Blanks
+pub mod Quick
 pub mod Quoted
 pub mod Lob
 pub mod Token

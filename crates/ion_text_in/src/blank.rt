@@ -29,7 +29,7 @@ pub(crate) enum Comment {
 ///
 /// It stops at the first byte where none begins, or at the input's end. `Some` is the place where
 /// a comment begins that no `*/` ends: then all of the input was passed over.
-#[inline]
+#[inline(always)]
 pub fn pass_blanks<I: Input, A: Allocator + Copy>(
     source: &mut Source<I, A>,
 ) -> Result<Option<u64>, Fault>
@@ -240,7 +240,7 @@ fn pass_star<I: Input, A: Allocator + Copy>(source: &mut Source<I, A>) -> Result
 const BLOCK: usize = 32;
 
 // How many bytes at the front of these are neither of two.
-#[inline]
+#[inline(always)]
 fn run_without(first: u8, second: u8, bytes: &[u8]) -> usize
     ensures within { result ≤ length bytes.now }
     ensures run { all_are (is_neither first second) (take result bytes.now) ≡ true }
@@ -258,7 +258,7 @@ fn run_without(first: u8, second: u8, bytes: &[u8]) -> usize
 
 // Whether all these bytes are neither of two. No byte ends the loop, so that it can look at many
 // of them at once.
-#[inline]
+#[inline(always)]
 fn are_neither(first: u8, second: u8, bytes: &[u8]) -> bool
     ensures { result ≡ all_are (is_neither first second) bytes.now }
 {
@@ -270,7 +270,7 @@ fn are_neither(first: u8, second: u8, bytes: &[u8]) -> bool
 }
 
 // How many bytes at the front of these are neither of two, one after the other.
-#[inline]
+#[inline(always)]
 fn few_without(first: u8, second: u8, bytes: &[u8]) -> usize
     ensures within { result ≤ length bytes.now }
     ensures run { all_are (is_neither first second) (take result bytes.now) ≡ true }
@@ -285,7 +285,7 @@ fn few_without(first: u8, second: u8, bytes: &[u8]) -> usize
 }
 
 // How many bytes at the front of these are white space. Mostly there are few.
-#[inline]
+#[inline(always)]
 fn white_run(bytes: &[u8]) -> usize
     ensures within { result ≤ length bytes.now }
     ensures run { all_are is_white (take result bytes.now) ≡ true }
@@ -300,7 +300,7 @@ fn white_run(bytes: &[u8]) -> usize
 }
 
 /// Whether a byte is white space: space, tab, LF, VT, FF or CR.
-#[inline]
+#[inline(always)]
 pub fn is_white(byte: u8) -> bool
     ensures { result ≡ is_white byte }
 {

@@ -50,7 +50,7 @@ pub enum First {
 /// Which kind of token begins at the front of a slice, where the slice shows it: it does where it
 /// has five bytes.
 #[tactic(auto, unfolding(crate::specs::Token::first_at))]
-#[inline]
+#[inline(always)]
 pub fn scan_first(in_sexp: bool, bytes: &[u8]) -> Option<First>
     ensures shows { IfSome result (λ f. (more : List ℕ)
         → first_at in_sexp (bytes.now ++ more) ≡ first_of f) }
@@ -75,7 +75,7 @@ pub fn scan_first(in_sexp: bool, bytes: &[u8]) -> Option<First>
 /// Which kind of token begins here, or none where the input ends; nothing is passed over.
 ///
 /// No byte is waited for but those that tell it, and they stand in the window then.
-#[inline]
+#[inline(always)]
 pub fn next_first<I: Input, A: Allocator + Copy>(
     source: &mut Source<I, A>,
     in_sexp: bool,
@@ -172,6 +172,7 @@ fn byte_at(bytes: &[u8], index: usize) -> u8
 
 // What begins with a single quote.
 #[tactic(auto, unfolding(crate::specs::Token::first_at))]
+#[inline(always)]
 fn quote(others: &[u8]) -> Option<First>
     ensures shows { (in_sexp : Bool) → IfSome result (λ f. (more : List ℕ)
         → first_at in_sexp (39 ∷ (others.now ++ more)) ≡ first_of f) }
@@ -187,7 +188,7 @@ fn quote(others: &[u8]) -> Option<First>
 
 // What begins with a brace.
 #[tactic(auto, unfolding(crate::specs::Token::first_at))]
-#[inline]
+#[inline(always)]
 fn brace(others: &[u8]) -> Option<First>
     ensures shows { (in_sexp : Bool) → IfSome result (λ f. (more : List ℕ)
         → first_at in_sexp (123 ∷ (others.now ++ more)) ≡ first_of f) }
@@ -203,7 +204,7 @@ fn brace(others: &[u8]) -> Option<First>
 
 // What begins with a colon.
 #[tactic(auto, unfolding(crate::specs::Token::first_at))]
-#[inline]
+#[inline(always)]
 fn colon(others: &[u8]) -> Option<First>
     ensures shows { (in_sexp : Bool) → IfSome result (λ f. (more : List ℕ)
         → first_at in_sexp (58 ∷ (others.now ++ more)) ≡ first_of f) }
@@ -219,6 +220,7 @@ fn colon(others: &[u8]) -> Option<First>
 
 // What begins with a sign.
 #[tactic(auto, unfolding(crate::specs::Token::first_at))]
+#[inline(always)]
 fn sign(in_sexp: bool, sign: u8, others: &[u8]) -> Option<First>
     requires { (sign ≡ 43) ⊎ (sign ≡ 45) }
     ensures shows { IfSome result (λ f. (more : List ℕ)
@@ -237,7 +239,7 @@ fn sign(in_sexp: bool, sign: u8, others: &[u8]) -> Option<First>
 }
 
 // Whether these bytes begin with a digit.
-#[inline]
+#[inline(always)]
 fn begins_digit(bytes: &[u8]) -> bool
     ensures { result ≡ first_is is_digit bytes.now }
 {
@@ -245,7 +247,7 @@ fn begins_digit(bytes: &[u8]) -> bool
 }
 
 // Whether `inf` stands behind a sign, and no identifier goes on behind it.
-#[inline]
+#[inline(always)]
 fn is_infinity(others: &[u8]) -> Option<bool>
     ensures shows { IfSome result (λ is. (more : List ℕ) → is_inf (others.now ++ more) ≡ is) }
     ensures some { IfSome result (λ _. 1 ≤ length others.now) }
@@ -260,7 +262,7 @@ fn is_infinity(others: &[u8]) -> Option<bool>
 }
 
 // An operator where it may stand.
-#[inline]
+#[inline(always)]
 fn operator(in_sexp: bool) -> First
     ensures { result ≡ (if in_sexp then First.Operator else First.Nothing) }
 {
@@ -273,7 +275,7 @@ fn operator(in_sexp: bool) -> First
 
 // What begins with another byte.
 #[tactic(auto, unfolding(crate::specs::Token::first_at))]
-#[inline]
+#[inline(always)]
 fn mark(in_sexp: bool, byte: u8) -> First
     requires { is_told_alone byte ≡ true }
     ensures shows { (more : List ℕ) → first_at in_sexp (byte ∷ more) ≡ first_of result }

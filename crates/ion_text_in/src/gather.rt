@@ -49,7 +49,7 @@ pub fn append<I: Input, A: Allocator + Copy>(
 }
 
 /// Makes so many bytes of the window the text, and passes over them.
-#[inline]
+#[inline(always)]
 pub fn copy<I: Input, A: Allocator + Copy>(
     source: &mut Source<I, A>,
     text: &mut Buf<A>,

@@ -9,6 +9,7 @@ pub mod lob;
 pub mod number;
 pub mod operator;
 pub mod piece;
+pub mod quick;
 pub mod quoted;
 pub mod run;
 pub mod scanned;

@@ -9,6 +9,7 @@ ghost use Rattle.ion_text_in.specs.Token.{a_run, run_token, token_of};
 ghost use Rattle.ion_text_in.specs.Views.{IfWhole, as_number, number_token};
 
 use crate::gather::gather_token;
+use crate::quick::quick_number;
 use crate::run::{Run, token_extent};
 use crate::scanned::Scanned;
 use ion_meter::buf::Buf;
@@ -37,11 +38,17 @@ pub enum Number {
 ///
 /// Answers `ScalarLimit` where it has more bytes than the limit, and then what is wrong in it:
 /// `BadToken`, `Float`, `Range` or `BadTimestamp`.
-#[inline]
+#[inline(always)]
 pub fn scan_number(limit: u64, bytes: &[u8]) -> Scanned<Number>
     ensures shows { Shows number_token bytes.now result (token_of (Some limit) a_run) }
     ensures range { IfWhole result (λ x. InRange (as_number x)) }
 {
+    if let Some((number, count)) = quick_number(bytes) {
+        if limit < count as u64 {
+            return Scanned::Fault(Reason::ScalarLimit);
+        }
+        return Scanned::Whole(number, count);
+    }
     let Some(count) = token_extent(Run::Number, bytes) else {
         return Scanned::Cut;
     };
@@ -59,7 +66,7 @@ pub fn scan_number(limit: u64, bytes: &[u8]) -> Scanned<Number>
 /// Only one that the window's end cuts is copied, to `text`. Answers `ScalarLimit` where it has more
 /// bytes than the limit, and then what is wrong in it: `BadToken`, `Float`, `Range` or
 /// `BadTimestamp`, each at the place of its first byte.
-#[inline]
+#[inline(always)]
 pub fn next_number<I: Input, A: Allocator + Copy>(
     source: &mut Source<I, A>,
     text: &mut Buf<A>,
@@ -110,7 +117,7 @@ fn gather_number<I: Input, A: Allocator + Copy>(
 }
 
 // The number or timestamp of a run.
-#[inline]
+#[inline(always)]
 fn number_of(run: &[u8]) -> Result<Number, Reason>
     ensures gives { MatchResult result (λ x. run_token run.now ≡ Ok (number_token x))
         (λ reason. run_token run.now ≡ Err reason) }
@@ -135,7 +142,7 @@ fn number_of(run: &[u8]) -> Result<Number, Reason>
 }
 
 // The decimal or timestamp of a run that is no int.
-#[inline]
+#[inline(always)]
 fn no_int(run: &[u8]) -> Result<Number, Reason>
     requires { int_of_text run.now ≡ Err Reason.BadToken }
     ensures gives { MatchResult result (λ x. run_token run.now ≡ Ok (number_token x))

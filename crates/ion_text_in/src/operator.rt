@@ -24,7 +24,7 @@ use std::alloc::Allocator;
 ///
 /// Its bytes are those at the front of the slice. Answers `ScalarLimit` where it has more than the
 /// limit.
-#[inline]
+#[inline(always)]
 pub fn scan_operator(limit: u64, bytes: &[u8]) -> Scanned<()>
     ensures shows { Shows (λ _. tokens.operator (shown_text bytes.now result)) bytes.now result
         (token_of (Some limit) an_operator) }
@@ -42,7 +42,7 @@ pub fn scan_operator(limit: u64, bytes: &[u8]) -> Scanned<()>
 /// The operator that begins here: its bytes are copied to `text`.
 ///
 /// Answers `ScalarLimit` where it has more bytes than the limit.
-#[inline]
+#[inline(always)]
 pub fn next_operator<I: Input, A: Allocator + Copy>(
     source: &mut Source<I, A>,
     text: &mut Buf<A>,
@@ -86,7 +86,7 @@ pub fn next_infinity<I: Input, A: Allocator + Copy>(
 
 /// Passes over a bracket, a brace, a parenthesis, a comma or a colon, which stands in the window.
 #[tactic(auto, unfolding(crate::specs::Token::token_of))]
-#[inline]
+#[inline(always)]
 pub fn pass_mark<I: Input, A: Allocator + Copy>(source: &mut Source<I, A>)
     requires stands { Stands source.old }
     requires there { 1 ≤ length (lent source.old) }
@@ -107,7 +107,7 @@ pub fn pass_mark<I: Input, A: Allocator + Copy>(source: &mut Source<I, A>)
 
 /// Passes over two colons, which stand in the window.
 #[tactic(auto, unfolding(crate::specs::Token::token_of))]
-#[inline]
+#[inline(always)]
 pub fn pass_colons<I: Input, A: Allocator + Copy>(source: &mut Source<I, A>)
     requires stands { Stands source.old }
     requires there { 2 ≤ length (lent source.old) }

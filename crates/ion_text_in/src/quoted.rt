@@ -1,5 +1,6 @@
 //! Quotes, and the plain bytes between them (Ion specification, "Strings", "Symbols" and "Clobs").
-ghost use Rattle.std.specs.Prelude.{◌≡◌, ◌<◌, ◌≤◌, ◌↔◌, true, false, Some, length, take, drop, IsTrue, IsUtf8};
+ghost use Rattle.std.specs.Prelude.{◌≡◌, ◌<◌, ◌≤◌, ◌↔◌, ◌&&◌, ◌||◌, ◌==◌, nat_le, not, [], ◌∷◌, true, false, Some, length, take, drop, IsTrue, IsUtf8};
+ghost use Rattle.ion_value.specs.Name.{is_one_of};
 ghost use Rattle.ion_value.specs.Digits.{first_is, all_are};
 ghost use Rattle.ion_text_in.specs.Quotes.{quote_of, mark_of, one_mark, IsWithin};
 ghost use Rattle.ion_text_in.specs.Quoted.{text_at};
@@ -26,7 +27,7 @@ pub enum Quote {
 
 impl Quote {
     /// The byte that the quotes are made of.
-    #[inline]
+    #[inline(always)]
     pub(crate) fn mark(self) -> u8
         ensures { result ≡ mark_of self }
     {
@@ -37,7 +38,7 @@ impl Quote {
     }
 
     /// How many bytes the closing quotes have.
-    #[inline]
+    #[inline(always)]
     pub(crate) fn closer_length(self) -> usize
         ensures { result ≡ length (quote_of self).closer }
     {
@@ -45,7 +46,7 @@ impl Quote {
     }
 
     /// Whether there are three of it, so that lines may end in the text and segments follow.
-    #[inline]
+    #[inline(always)]
     pub(crate) fn is_long(self) -> bool
         ensures { result ≡ (quote_of self).is_long }
     {
@@ -53,7 +54,7 @@ impl Quote {
     }
 
     /// Whether the text is that of a clob.
-    #[inline]
+    #[inline(always)]
     pub(crate) fn in_clob(self) -> bool
         ensures { result ≡ (quote_of self).in_clob }
     {
@@ -66,7 +67,7 @@ impl Quote {
 /// `Cut` where the bytes end before, where something else stands in the text, and for long quotes.
 /// Answers `ScalarLimit` for more bytes than the limit allows, and then `BadText` for bytes that
 /// are no UTF-8, but in a clob.
-#[inline]
+#[inline(always)]
 pub fn scan_text(quote: Quote, limit: u64, bytes: &[u8]) -> Scanned<usize>
     ensures shows { Shows (λ n. take n bytes.now) bytes.now result
         (λ c. text_at (quote_of quote) (Some limit) c) }
@@ -86,7 +87,7 @@ pub fn scan_text(quote: Quote, limit: u64, bytes: &[u8]) -> Scanned<usize>
 }
 
 /// Whether bytes are UTF-8.
-#[inline]
+#[inline(always)]
 pub(crate) fn is_text(bytes: &[u8]) -> bool
     ensures { IsTrue result ↔ IsUtf8 bytes.now }
 {
@@ -99,7 +100,7 @@ const BLOCK: usize = 32;
 
 /// How many bytes at the front of these stand for themselves between the quotes, whatever follows
 /// them.
-#[inline]
+#[inline(always)]
 pub fn plain_length(quote: Quote, bytes: &[u8]) -> usize
     ensures within { result ≤ length bytes.now }
     ensures plain { all_are (is_plain_byte (quote_of quote)) (take result bytes.now) ≡ true }
@@ -119,7 +120,7 @@ pub fn plain_length(quote: Quote, bytes: &[u8]) -> usize
 
 // Whether all these bytes are plain. No byte ends the loop, so that it can look at many of them at
 // once.
-#[inline]
+#[inline(always)]
 fn are_plain(mark: u8, in_clob: bool, bytes: &[u8]) -> bool
     ensures { result ≡ all_are (is_plain_byte (one_mark mark in_clob)) bytes.now }
 {
@@ -131,7 +132,7 @@ fn are_plain(mark: u8, in_clob: bool, bytes: &[u8]) -> bool
 }
 
 // How many bytes at the front of these are plain, one after the other.
-#[inline]
+#[inline(always)]
 fn few_plain(mark: u8, in_clob: bool, bytes: &[u8]) -> usize
     ensures within { result ≤ length bytes.now }
     ensures plain { all_are (is_plain_byte (one_mark mark in_clob)) (take result bytes.now) ≡ true }
@@ -139,7 +140,7 @@ fn few_plain(mark: u8, in_clob: bool, bytes: &[u8]) -> usize
         ≡ false }
 {
     for (i, byte) in bytes.iter().enumerate() {
-        if !is_plain(mark, in_clob, *byte) {
+        if !is_plain_alone(mark, in_clob, *byte) {
             return i;
         }
     }
@@ -147,7 +148,7 @@ fn few_plain(mark: u8, in_clob: bool, bytes: &[u8]) -> usize
 }
 
 // Whether a byte stands for itself between such quotes, whatever follows it.
-#[inline]
+#[inline(always)]
 fn is_plain(mark: u8, in_clob: bool, byte: u8) -> bool
     ensures { result ≡ is_plain_byte (one_mark mark in_clob) byte }
 {
@@ -155,4 +156,33 @@ fn is_plain(mark: u8, in_clob: bool, byte: u8) -> bool
         && byte != b'\\'
         && (byte >= b' ' || byte == 9 || byte == 11 || byte == 12)
         && (!in_clob || byte < 128)
+}
+
+// The same of a byte that is looked at alone, by a table.
+#[inline(always)]
+fn is_plain_alone(mark: u8, in_clob: bool, byte: u8) -> bool
+    ensures { result ≡ is_plain_byte (one_mark mark in_clob) byte }
+{
+    byte != mark && is_written(byte) && (!in_clob || byte < 128)
+}
+
+// Which bytes stand for themselves between quotes of another sort, where the text is no clob's.
+static WRITTEN_BYTES: [u8; 256] = [
+    0, 0, 0, 0, 0, 0, 0, 0, 0, 1, 0, 1, 1, 0, 0, 0, 0, 0, 0, 0, 0, 0, 0, 0, 0, 0, 0, 0, 0, 0, 0, 0,
+    1, 1, 1, 1, 1, 1, 1, 1, 1, 1, 1, 1, 1, 1, 1, 1, 1, 1, 1, 1, 1, 1, 1, 1, 1, 1, 1, 1, 1, 1, 1, 1,
+    1, 1, 1, 1, 1, 1, 1, 1, 1, 1, 1, 1, 1, 1, 1, 1, 1, 1, 1, 1, 1, 1, 1, 1, 1, 1, 1, 1, 0, 1, 1, 1,
+    1, 1, 1, 1, 1, 1, 1, 1, 1, 1, 1, 1, 1, 1, 1, 1, 1, 1, 1, 1, 1, 1, 1, 1, 1, 1, 1, 1, 1, 1, 1, 1,
+    1, 1, 1, 1, 1, 1, 1, 1, 1, 1, 1, 1, 1, 1, 1, 1, 1, 1, 1, 1, 1, 1, 1, 1, 1, 1, 1, 1, 1, 1, 1, 1,
+    1, 1, 1, 1, 1, 1, 1, 1, 1, 1, 1, 1, 1, 1, 1, 1, 1, 1, 1, 1, 1, 1, 1, 1, 1, 1, 1, 1, 1, 1, 1, 1,
+    1, 1, 1, 1, 1, 1, 1, 1, 1, 1, 1, 1, 1, 1, 1, 1, 1, 1, 1, 1, 1, 1, 1, 1, 1, 1, 1, 1, 1, 1, 1, 1,
+    1, 1, 1, 1, 1, 1, 1, 1, 1, 1, 1, 1, 1, 1, 1, 1, 1, 1, 1, 1, 1, 1, 1, 1, 1, 1, 1, 1, 1, 1, 1, 1,
+];
+
+// Whether a byte is one of these.
+#[inline(always)]
+fn is_written(byte: u8) -> bool
+    ensures { result ≡ (not (byte == 92)
+        && (nat_le 32 byte || is_one_of (9 ∷ 11 ∷ 12 ∷ []) byte)) }
+{
+    WRITTEN_BYTES[byte as usize] > 0
 }

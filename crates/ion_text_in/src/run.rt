@@ -1,7 +1,8 @@
 //! How far numbers, timestamps, words and operators go (Ion specification, "Text Encoding").
-ghost use Rattle.std.specs.Prelude.{◌≡◌, ◌<◌, ◌≤◌, ℕ, List, ◌++◌, true, false, not, length, drop, IfSome, MatchOption};
+ghost use Rattle.std.specs.Prelude.{◌≡◌, ◌<◌, ◌≤◌, ℕ, List, ◌++◌, ◌||◌, true, false, not, codes, length, drop, IfSome, MatchOption};
 ghost use Rattle.ion_value.specs.Digits.{first_is};
-ghost use Rattle.ion_value.specs.Name.{is_identifier_byte, is_operator_byte};
+ghost use Rattle.ion_value.specs.Name.{is_identifier_byte, is_one_of, is_operator_byte};
+ghost use Rattle.ion_text_in.specs.Blanks.{is_white};
 ghost use Rattle.ion_text_in.specs.Token.{bytes_of};
 ghost use Rattle.ion_text_in.specs.Views.{AreShown};
 ghost use Rattle.ion_text_in.specs.Runs.{goes_on, stays, has_slashes, GoOn, EndBehind, IsOpen};
@@ -73,19 +74,59 @@ pub fn token_extent(run: Run, bytes: &[u8]) -> Option<usize>
     Some(1 + extent.len)
 }
 
+// Which bytes go on with a number or a timestamp, whatever follows them.
+static NUMBER_BYTES: [u8; 256] = [
+    1, 1, 1, 1, 1, 1, 1, 1, 1, 0, 0, 0, 0, 0, 1, 1, 1, 1, 1, 1, 1, 1, 1, 1, 1, 1, 1, 1, 1, 1, 1, 1,
+    0, 1, 0, 1, 1, 1, 1, 0, 0, 0, 1, 1, 0, 1, 1, 0, 1, 1, 1, 1, 1, 1, 1, 1, 1, 1, 1, 1, 1, 1, 1, 1,
+    1, 1, 1, 1, 1, 1, 1, 1, 1, 1, 1, 1, 1, 1, 1, 1, 1, 1, 1, 1, 1, 1, 1, 1, 1, 1, 1, 0, 1, 0, 1, 1,
+    1, 1, 1, 1, 1, 1, 1, 1, 1, 1, 1, 1, 1, 1, 1, 1, 1, 1, 1, 1, 1, 1, 1, 1, 1, 1, 1, 0, 1, 0, 1, 1,
+    1, 1, 1, 1, 1, 1, 1, 1, 1, 1, 1, 1, 1, 1, 1, 1, 1, 1, 1, 1, 1, 1, 1, 1, 1, 1, 1, 1, 1, 1, 1, 1,
+    1, 1, 1, 1, 1, 1, 1, 1, 1, 1, 1, 1, 1, 1, 1, 1, 1, 1, 1, 1, 1, 1, 1, 1, 1, 1, 1, 1, 1, 1, 1, 1,
+    1, 1, 1, 1, 1, 1, 1, 1, 1, 1, 1, 1, 1, 1, 1, 1, 1, 1, 1, 1, 1, 1, 1, 1, 1, 1, 1, 1, 1, 1, 1, 1,
+    1, 1, 1, 1, 1, 1, 1, 1, 1, 1, 1, 1, 1, 1, 1, 1, 1, 1, 1, 1, 1, 1, 1, 1, 1, 1, 1, 1, 1, 1, 1, 1,
+];
+
+// Which bytes can stand in an identifier.
+static IDENTIFIER_BYTES: [u8; 256] = [
+    0, 0, 0, 0, 0, 0, 0, 0, 0, 0, 0, 0, 0, 0, 0, 0, 0, 0, 0, 0, 0, 0, 0, 0, 0, 0, 0, 0, 0, 0, 0, 0,
+    0, 0, 0, 0, 1, 0, 0, 0, 0, 0, 0, 0, 0, 0, 0, 0, 1, 1, 1, 1, 1, 1, 1, 1, 1, 1, 0, 0, 0, 0, 0, 0,
+    0, 1, 1, 1, 1, 1, 1, 1, 1, 1, 1, 1, 1, 1, 1, 1, 1, 1, 1, 1, 1, 1, 1, 1, 1, 1, 1, 0, 0, 0, 0, 1,
+    0, 1, 1, 1, 1, 1, 1, 1, 1, 1, 1, 1, 1, 1, 1, 1, 1, 1, 1, 1, 1, 1, 1, 1, 1, 1, 1, 0, 0, 0, 0, 0,
+    0, 0, 0, 0, 0, 0, 0, 0, 0, 0, 0, 0, 0, 0, 0, 0, 0, 0, 0, 0, 0, 0, 0, 0, 0, 0, 0, 0, 0, 0, 0, 0,
+    0, 0, 0, 0, 0, 0, 0, 0, 0, 0, 0, 0, 0, 0, 0, 0, 0, 0, 0, 0, 0, 0, 0, 0, 0, 0, 0, 0, 0, 0, 0, 0,
+    0, 0, 0, 0, 0, 0, 0, 0, 0, 0, 0, 0, 0, 0, 0, 0, 0, 0, 0, 0, 0, 0, 0, 0, 0, 0, 0, 0, 0, 0, 0, 0,
+    0, 0, 0, 0, 0, 0, 0, 0, 0, 0, 0, 0, 0, 0, 0, 0, 0, 0, 0, 0, 0, 0, 0, 0, 0, 0, 0, 0, 0, 0, 0, 0,
+];
+
+// Whether a byte goes on with a number or a timestamp, whatever follows it.
+#[inline(always)]
+fn is_number_byte(byte: u8) -> bool
+    ensures { result ≡ stays Run.Number byte }
+{
+    NUMBER_BYTES[byte as usize] > 0
+}
+
 // Whether a byte goes on with a token, whatever follows it.
 #[inline(always)]
 fn stays(run: Run, byte: u8) -> bool
     ensures { result ≡ stays run byte }
 {
     match run {
-        Run::Number => !matches!(
-            byte,
-            b'{' | b'}' | b'[' | b']' | b'(' | b')' | b',' | b'"' | b'\'' | b' ' | 9..=13 | b'/'
-        ),
+        Run::Number => is_number_byte(byte),
         Run::Word => is_identifier_byte(byte),
         Run::Operator => is_operator_byte(byte) && byte != b'/',
     }
+}
+
+/// Whether this byte ends a number or a timestamp, whatever follows it.
+#[inline(always)]
+pub(crate) fn stops_number(byte: u8) -> bool
+    ensures { result ≡ (is_one_of (codes "{}[](),\"'") byte || is_white byte) }
+{
+    matches!(
+        byte,
+        b'{' | b'}' | b'[' | b']' | b'(' | b')' | b',' | b'"' | b'\'' | b' ' | 9..=13
+    )
 }
 
 /// Whether this byte can stand in an identifier.
@@ -93,7 +134,7 @@ fn stays(run: Run, byte: u8) -> bool
 pub(crate) fn is_identifier_byte(byte: u8) -> bool
     ensures { result ≡ is_identifier_byte byte }
 {
-    byte.is_ascii_alphanumeric() || byte == b'_' || byte == b'$'
+    IDENTIFIER_BYTES[byte as usize] > 0
 }
 
 /// Whether this byte can stand in an operator.

@@ -29,7 +29,7 @@ use std::alloc::Allocator;
 /// Reads a symbol in quotes, at whose opening quote the source stands, into `text`.
 ///
 /// Faults stand at the quote: `Truncated`, `ScalarLimit` and `BadText`.
-#[inline]
+#[inline(always)]
 pub fn next_quoted_symbol<I: Input, A: Allocator + Copy>(
     source: &mut Source<I, A>,
     text: &mut Buf<A>,
@@ -52,7 +52,7 @@ pub fn next_quoted_symbol<I: Input, A: Allocator + Copy>(
 /// Reads a short string, at whose opening quote the source stands, into `text`.
 ///
 /// Faults stand at the quote: `Truncated`, `ScalarLimit` and `BadText`.
-#[inline]
+#[inline(always)]
 pub fn next_short_string<I: Input, A: Allocator + Copy>(
     source: &mut Source<I, A>,
     text: &mut Buf<A>,
@@ -99,6 +99,7 @@ pub fn next_long_string<I: Input, A: Allocator + Copy>(
 /// Reads a text that is not long from behind its opening quote into `text`.
 ///
 /// Faults stand at `place`: `Truncated`, `ScalarLimit`, and `BadText` or `BadLob`.
+#[inline(always)]
 pub fn next_short_text<I: Input, A: Allocator + Copy>(
     source: &mut Source<I, A>,
     text: &mut Buf<A>,

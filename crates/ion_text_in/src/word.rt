@@ -40,7 +40,7 @@ pub enum Word {
 ///
 /// Its bytes are those at the front of the slice. Answers `ScalarLimit` where it has more than the
 /// limit, and then `BadToken` where no type's name stands behind `null.`.
-#[inline]
+#[inline(always)]
 pub fn scan_word(limit: u64, bytes: &[u8]) -> Scanned<Word>
     ensures shows { Shows (word_token_of (shown_text bytes.now result)) bytes.now result
         (token_of (Some limit) a_word) }
@@ -62,7 +62,7 @@ pub fn scan_word(limit: u64, bytes: &[u8]) -> Scanned<Word>
 ///
 /// Answers `ScalarLimit` where it has more bytes than the limit, and then `BadToken` where no type's
 /// name stands behind `null.`, each at the place of its first byte.
-#[inline]
+#[inline(always)]
 pub fn next_word<I: Input, A: Allocator + Copy>(
     source: &mut Source<I, A>,
     text: &mut Buf<A>,
@@ -174,7 +174,7 @@ fn is_point(next: Option<u8>) -> bool
 }
 
 // How many bytes the word has that begins at the front of a slice, where the slice shows it.
-#[inline]
+#[inline(always)]
 fn word_extent(bytes: &[u8]) -> Option<usize>
     ensures { IfSome result (AreShown word_of bytes.now) }
 {
@@ -197,7 +197,7 @@ fn word_extent(bytes: &[u8]) -> Option<usize>
 }
 
 // Whether the name of a type belongs to a word, with these bytes behind it.
-#[inline]
+#[inline(always)]
 fn has_type(word: &[u8], behind: &[u8]) -> bool
     ensures { result ≡ (bytes_eq (codes "null") word.now && first_is (λ b. b == 46) behind.now) }
 {
@@ -213,7 +213,7 @@ fn is_text(bytes: &[u8], text: &[u8]) -> bool
 }
 
 // The word of these bytes.
-#[inline]
+#[inline(always)]
 fn word_by(word: &[u8]) -> Result<Word, Reason>
     ensures { MatchResult result (λ w. word_token word.now ≡ Ok (word_token_of word.now w))
         (λ reason. word_token word.now ≡ Err reason) }
@@ -331,7 +331,7 @@ fn text_or_container(name: &[u8]) -> Option<IonType>
 }
 
 // The id or symbol of a word that begins with a dollar sign.
-#[inline]
+#[inline(always)]
 fn id_or_name(word: &[u8]) -> Word
     requires { first_is (λ b. b == 36) word.now ≡ true }
     ensures { word_token word.now ≡ Ok (word_token_of word.now result) }

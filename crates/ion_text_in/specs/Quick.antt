@@ -1,0 +1,41 @@
+-- Ints and decimals that are read in one pass.
+use Rattle.std.specs.Prelude.{◌≡◌, ℕ, ◌<◌, ◌≤◌, Bool, true, false, ◌&&◌, ◌||◌, ◌==◌, nat_lt, if◌then◌else◌, List, [], ◌∷◌, ◌++◌, length, take, drop, Ok}
+use Rattle.ion_value.specs.declared.int.Int.{Int}
+use Rattle.ion_value.specs.Digits.{is_digit, all_are, first_is}
+use Rattle.ion_value.specs.DigitReading.{read_digits}
+use Rattle.ion_value.specs.Standing.{InRange}
+use Rattle.ion_text_in.specs.declared.number.Number.{Number}
+use Rattle.ion_text_in.specs.declared.run.Run.TheVariants as run
+use Rattle.ion_text_in.specs.Runs.{stays}
+use Rattle.ion_text_in.specs.Token.{in_run, run_token}
+use Rattle.ion_text_in.specs.Views.{as_number, number_token}
+
+-- a minus or none, and what stands behind it
+abbrev pub signed_text : Bool → List ℕ → List ℕ
+signed_text negative text = (if negative then 45 ∷ [] else []) ++ text
+
+-- the int of a sign and a magnitude, of which zero has no sign
+abbrev pub signed_int : Bool → ℕ → Int
+signed_int negative n = record { negative = negative && nat_lt 0 n; magnitude = n }
+
+-- so many bytes in front are digits, and behind a number they spell another, whatever follows them
+pub record AreDigits (start : ℕ) (bytes : List ℕ) (number count : ℕ) : Type 0 where
+  pub within : count ≤ length bytes
+  pub digits : all_are is_digit (take count bytes) ≡ true
+  pub read : (tail : List ℕ) → read_digits 10 start false 0 (take count bytes ++ tail) ≡ read_digits 10 number (nat_lt 0 count) count tail
+
+-- they are digits of which a first zero stands alone, and another byte stands behind them
+pub record IsWhole (bytes : List ℕ) (number count : ℕ) : Type 0 where
+  pub read : AreDigits 0 bytes number count
+  pub some : 0 < count
+  pub within : count < length bytes
+  pub no_zeros : (first_is (λ b. b == 48) bytes && first_is (λ b. is_digit b || b == 95) (drop 1 bytes)) ≡ false
+
+-- so many bytes behind a sign are a number, and a byte that stops it stands behind them
+pub record IsQuick (negative : Bool) (bytes : List ℕ) (number : Number) (count : ℕ) : Type 0 where
+  pub some : 0 < count
+  pub within : count < length bytes
+  pub goes : all_are (stays run.Number) (take count bytes) ≡ true
+  pub ends : (more : List ℕ) → in_run (drop count bytes ++ more) ≡ false
+  pub gives : run_token (signed_text negative (take count bytes)) ≡ Ok (number_token number)
+  pub range : InRange (as_number number)

@@ -1,0 +1,133 @@
+//! Ints and decimals that 64 bits hold, without underscores, exponents and bases, read in one pass
+//! (Ion specification, "Integers" and "Real Numbers").
+ghost use Rattle.std.specs.Prelude.{◌≡◌, ◌≤◌, ◌&&◌, ◌||◌, ◌==◌, pos, ◌-ℤ◌, Ok, drop, take, get_or, IfSome};
+ghost use Rattle.ion_value.specs.Digits.{first_is, is_digit};
+ghost use Rattle.ion_value.specs.Standing.{InRange};
+ghost use Rattle.ion_text_in.specs.Quick.{AreDigits, IsQuick, IsWhole, signed_int, signed_text};
+ghost use Rattle.ion_text_in.specs.Token.{bytes_of, in_run, run_token};
+ghost use Rattle.ion_text_in.specs.Views.{AreShown, as_number, number_token};
+
+use crate::number::Number;
+use crate::run::stops_number;
+use ion_value::decimal::Decimal;
+use ion_value::int::Int;
+
+/// The int or decimal at the front of these bytes, and how many bytes it has.
+///
+/// There is an answer where it is a minus or none and digits, which may have one point among them,
+/// where 64 bits hold the number that they spell, and where punctuation, a quote or white space
+/// ends it within the bytes.
+#[inline(always)]
+pub fn quick_number(bytes: &[u8]) -> Option<(Number, usize)>
+    ensures shown { IfSome result (λ x. AreShown (bytes_of in_run) bytes.now x.1) }
+    ensures gives { IfSome result (λ x. run_token (take x.1 bytes.now) ≡ Ok (number_token x.0)) }
+    ensures range { IfSome result (λ x. InRange (as_number x.0)) }
+{
+    let (negative, digits) = sign(bytes);
+    let Some((number, count)) = quick_digits(negative, digits) else {
+        return None;
+    };
+    Some((number, if negative { count + 1 } else { count }))
+}
+
+// Whether there is a minus in front, and what stands behind it.
+#[inline(always)]
+fn sign(bytes: &[u8]) -> (bool, &[u8])
+    ensures { signed_text result.0 result.1.now ≡ bytes.now }
+{
+    match bytes {
+        [b'-', digits @ ..] => (true, digits),
+        _ => (false, bytes),
+    }
+}
+
+// The same behind the sign.
+#[inline(always)]
+fn quick_digits(negative: bool, digits: &[u8]) -> Option<(Number, usize)>
+    ensures { IfSome result (λ x. IsQuick negative digits.now x.0 x.1) }
+{
+    let (whole, count) = digits_behind(0, digits);
+    if count == 0 || count >= digits.len() || begins_zeros(digits) {
+        return None;
+    }
+    let next = digits[count];
+    if next == b'.' {
+        return quick_decimal(negative, whole, count, digits);
+    }
+    if !stops_number(next) {
+        return None;
+    }
+    Some((Number::Int(signed_int(negative, whole)), count))
+}
+
+// The int of a sign and digits, of which zero has no sign.
+#[inline(always)]
+fn signed_int(negative: bool, magnitude: u64) -> Int
+    ensures { result ≡ signed_int negative magnitude }
+{
+    Int {
+        negative: negative && magnitude > 0,
+        magnitude: magnitude as u128,
+    }
+}
+
+// Whether a zero stands before another digit or an underscore.
+#[inline(always)]
+fn begins_zeros(digits: &[u8]) -> bool
+    ensures { result ≡ (first_is (λ b. b == 48) digits.now
+        && first_is (λ b. is_digit b || b == 95) (drop 1 digits.now)) }
+{
+    matches!(digits, [b'0', b'0'..=b'9' | b'_', ..])
+}
+
+// How many digits there may be behind a point.
+const MOST_PLACES: usize = 128;
+
+// The decimal of so many digits with a point behind them.
+#[inline(always)]
+fn quick_decimal(negative: bool, whole: u64, count: usize, digits: &[u8]) -> Option<(Number, usize)>
+    requires whole { IsWhole digits.now whole count }
+    requires point { get_or digits.now count 0 ≡ 46 }
+    ensures { IfSome result (λ x. IsQuick negative digits.now x.0 x.1) }
+{
+    let (coefficient, places) = digits_behind(whole, &digits[count + 1..]);
+    let end = count + 1 + places;
+    if places == 0 || places > MOST_PLACES || end >= digits.len() || !stops_number(digits[end]) {
+        return None;
+    }
+    Some((Number::Decimal(pointed(negative, coefficient, places)), end))
+}
+
+// The decimal of a sign and digits, of which so many stand behind the point.
+#[inline(always)]
+fn pointed(negative: bool, coefficient: u64, places: usize) -> Decimal
+    requires few { places ≤ 128 }
+    ensures negative { result.negative ≡ negative }
+    ensures coefficient { result.coefficient ≡ coefficient }
+    ensures exponent { result.exponent ≡ pos 0 -ℤ pos places }
+{
+    Decimal {
+        negative,
+        coefficient: coefficient as u128,
+        exponent: -(places as i32),
+    }
+}
+
+// Numbers up to this one have room for a digit more in 64 bits.
+const ROOMY: u64 = u64::MAX / 10 - 1;
+
+// Reads the digits at the front of these bytes, behind a number, as long as 64 bits hold what they
+// spell: that number, and how many they are.
+#[inline(always)]
+fn digits_behind(start: u64, bytes: &[u8]) -> (u64, usize)
+    ensures { AreDigits start bytes.now result.0 result.1 }
+{
+    let mut number = start;
+    'digits: for (i, byte) in bytes.iter().enumerate() {
+        if !byte.is_ascii_digit() || number > ROOMY {
+            return (number, i);
+        }
+        number = number * 10 + u64::from(*byte - b'0');
+    }
+    (number, bytes.len())
+}

@@ -1,5 +1,5 @@
 -- The bytes of a stream spell one path and one stream at most, in the encoding of each form.
-use Rattle.std.proofs.Common.{◌≡◌, ℕ, List, [], inl, ap, sym, ◌∙◌, append-nil}
+use Rattle.std.proofs.Common.{ℕ, List, [], inl, ap, sym, ◌∙◌, append-nil}
 use Rattle.ion_value.specs.Value.{SymbolAt}
 use Rattle.ion_value.specs.Path.{Path, path_items}
 use Rattle.ion_binary.specs.Positions.{State}

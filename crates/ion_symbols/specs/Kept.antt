@@ -1,5 +1,5 @@
 -- How slots are kept: the bytes of their texts, and where each stands; and how a growth is undone.
-use Rattle.std.specs.Prelude.{◌≡◌, ℕ, ◌+◌, ◌-◌, ◌^◌, ◌<◌, ◌≤◌, true, false, if◌then◌else◌, List, [], ◌∷◌, take, drop, map, Option, Some, None, max}
+use Rattle.std.specs.Prelude.{◌≡◌, ℕ, ◌+◌, ◌-◌, ◌^◌, ◌<◌, ◌≤◌, false, if◌then◌else◌, List, [], ◌∷◌, take, drop, map, Option, Some, None, max}
 use Rattle.ion_meter.specs.Counts.{Counts}
 use Rattle.ion_symbols.specs.Table.{Slots}
 use Rattle.ion_symbols.specs.declared.slots.Part.{Part}

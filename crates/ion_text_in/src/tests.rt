@@ -3,5 +3,6 @@
 mod blanks;
 mod lobs;
 mod pieces;
+mod readers;
 mod texts;
 mod tokens;

@@ -44,7 +44,7 @@ use Rattle.ion_text_in.specs.Scanning.{moved_to}
 use Rattle.ion_text_in.specs.Tokens.{as_symbol, going, TokenGives}
 use Rattle.ion_text_in.specs.Symbols.{as_annotations, as_field, is_annotated}
 use Rattle.ion_text_in.specs.Expecting.{wanted, MayExpect}
-use Rattle.ion_text_in.specs.Steps.{annotations_in, as_head, closing, comes, ending, field_in, given_by, held_by, later, lent_by, opened_in, opening, part_by, share_of, state_at, state_behind, to_come_by, to_come_in, taking, unless_unfinished, with_colons, without_colons, AdvanceGives, IsSized, IsInside, StepGives, Stepped}
+use Rattle.ion_text_in.specs.Steps.{annotations_in, as_head, closing, comes, ending, field_in, given_by, held_by, later, lent_by, opened_in, opening, part_by, share_of, state_at, state_behind, to_come_by, to_come_in, taking, unless_unfinished, with_colons, without_colons, IsSized, IsInside, StepGives, Stepped}
 use Rattle.ion_text_in.proofs.Behind.{blanks-again}
 use Rattle.ion_text_in.proofs.Falling.{each_step_falls}
 use Rattle.ion_text_in.proofs.Holding.{held-none, held-into}
@@ -420,6 +420,12 @@ module _ {I A : Type 0} (device : InputOf I) where
 
 -- ---- steps one after the other
 
+pub stopped-same : (a r : Reason) (s p : ℕ) → Refused a s ≡ Refused r p → Stopped a s ≡ Stopped r p
+stopped-same a r s p e =
+    let one : a ≡ r = cc e in
+    let two : s ≡ p = cc e in
+    ap (λ (x : Reason). Stopped x s) one ∙ ap (λ (n : ℕ). Stopped r n) two
+
 pub width-some : (f : First) → 1 ≤ width f
 width-some tokens.a_run = omega arith
 width-some tokens.a_word = omega arith
@@ -452,9 +458,9 @@ module _ {I A : Type 0} (device : InputOf I) where
   item-gives before new step_result.Passed e h = absurd (cc e)
   item-gives before new step_result.Item e h = h
 
-  pub failed-gives : (first before : Reading) (new : TextReader I A) (fault : Fault) → first ≡ before → StepGives device before new (Err fault) → AdvanceGives device first new (Err fault)
-  failed-gives first before new (Refused reason place) e h = e ∙ h
-  failed-gives first before new Memory e h = tt
-  failed-gives first before new ReadFault e h = tt
-  failed-gives first before new WriteFault e h = tt
-  failed-gives first before new InputLimit e h = tt
+  pub failed-refuses : (first before : Reading) (new : TextReader I A) (fault : Fault) (r : Reason) (p : ℕ) → first ≡ before → StepGives device before new (Err fault) → fault ≡ Refused r p → first ≡ Stopped r p
+  failed-refuses first before new (Refused reason place) r p e h is = e ∙ (h ∙ stopped-same reason r place p is)
+  failed-refuses first before new Memory r p e h is = absurd (cc is)
+  failed-refuses first before new ReadFault r p e h is = absurd (cc is)
+  failed-refuses first before new WriteFault r p e h is = absurd (cc is)
+  failed-refuses first before new InputLimit r p e h is = absurd (cc is)

@@ -177,7 +177,15 @@ pub record CanStep {I A : Type 0} (r : TextReader I A) (meter : Counts) : Type 0
   pub sized : IsSized r
   pub inside : IsInside r
 
--- what it does, by what was to come before
+-- and all steps up to an item, between two items
+pub record CanAdvance {I A : Type 0} (r : TextReader I A) (meter : Counts) : Type 0 where
+  pub room : meter.held ≤ 2 ^ 62
+  pub held : held_by r ≤ meter.held
+  pub countable : meter.refused < 2 ^ 64 - 1
+  pub sized : IsSized r
+  pub ready : IsReady r
+
+-- what a step does, by what was to come before
 abbrev pub StepGives : {I A : Type 0} → InputOf I → Reading → TextReader I A → Result StepResult Fault → Type 0
 StepGives device before new (Ok step_result.Ended) = (before ≡ Finished) × (to_come_by device new ≡ Finished)
 StepGives device before new (Ok step_result.Passed) = before ≡ to_come_in device new
@@ -187,16 +195,6 @@ StepGives device before new (Err Memory) = Unit {0}
 StepGives device before new (Err ReadFault) = Unit {0}
 StepGives device before new (Err WriteFault) = Unit {0}
 StepGives device before new (Err InputLimit) = Unit {0}
-
--- the same of all steps up to an item
-abbrev pub AdvanceGives : {I A : Type 0} → InputOf I → Reading → TextReader I A → Result Bool Fault → Type 0
-AdvanceGives device before new (Ok true) = before ≡ More (lent_by new) (to_come_by device new)
-AdvanceGives device before new (Ok false) = (before ≡ Finished) × (to_come_by device new ≡ Finished)
-AdvanceGives device before new (Err (Refused reason place)) = before ≡ Stopped reason place
-AdvanceGives device before new (Err Memory) = Unit {0}
-AdvanceGives device before new (Err ReadFault) = Unit {0}
-AdvanceGives device before new (Err WriteFault) = Unit {0}
-AdvanceGives device before new (Err InputLimit) = Unit {0}
 
 -- how it leaves the reader
 abbrev pub ReadyAfter : {I A : Type 0} → Result StepResult Fault → TextReader I A → Type 0

@@ -1,11 +1,13 @@
 //! The reader of texts.
-ghost use Rattle.std.specs.Prelude.{◌≡◌, ◌≢◌, ◌+◌, ◌-◌, ◌*◌, ◌^◌, ◌<◌, ◌≤◌, [], length, is_some, Option, Some, None, Ok, Err, true, false, OnOk};
+ghost use Rattle.std.specs.Prelude.{◌≡◌, ◌≢◌, ℕ, ◌+◌, ◌-◌, ◌*◌, ◌^◌, ◌<◌, ◌≤◌, [], length, is_some, Option, Some, None, Ok, Err, true, false, OnOk};
+ghost use Rattle.ion_meter.specs.declared.fault.Reason.{Reason};
+ghost use Rattle.ion_meter.specs.declared.fault.Fault.TheVariants.{Refused};
 ghost use Rattle.ion_meter.specs.Counts.{Counts, Shrinks};
 ghost use Rattle.ion_meter.specs.Limits.{AreChecked};
 ghost use Rattle.ion_meter.specs.Sources.{Cursor, cursor, skip, Exceeds, Stands};
 ghost use Rattle.ion_meter.specs.Windows.{left, lent};
 ghost use Rattle.ion_value.specs.Items.{raw_head};
-ghost use Rattle.ion_value.specs.Reading.{Finished};
+ghost use Rattle.ion_value.specs.Reading.{Finished, More, Stopped};
 ghost use Rattle.ion_text_in.specs.Blanks.{blanks};
 ghost use Rattle.ion_text_in.specs.Firsts.{first_of, width};
 ghost use Rattle.ion_text_in.specs.Positions.{at, innermost, in_sexp};
@@ -14,7 +16,7 @@ ghost use Rattle.ion_text_in.specs.Reading.{reading};
 ghost use Rattle.ion_text_in.specs.Tokens.{as_symbol, going, overrun_of, token_view, BodyInRange, TokenInRange};
 ghost use Rattle.ion_text_in.specs.Symbols.{is_annotated, kept_text};
 ghost use Rattle.ion_text_in.specs.Expecting.{wanted, MayExpect};
-ghost use Rattle.ion_text_in.specs.Steps.{annotations_in, as_head, closing, ending, given_by, held_by, left_to, lent_by, naming, opened_in, opening, part_by, scalar_by, share_of, sound-within, taking, to_come_by, to_come_in, with_colons, without_colons, AdvanceGives, CanStep, IsInside, IsReady, IsSized, IsSound, ReadyAfter, StepGives, Stepped};
+ghost use Rattle.ion_text_in.specs.Steps.{annotations_in, as_head, closing, ending, given_by, held_by, left_to, lent_by, naming, opened_in, opening, part_by, scalar_by, share_of, sound-within, taking, to_come_by, to_come_in, with_colons, without_colons, CanAdvance, CanStep, IsInside, IsReady, IsSized, IsSound, ReadyAfter, StepGives, Stepped};
 
 use crate::blank::pass_blanks;
 use crate::expected::{
@@ -654,13 +656,13 @@ impl<I: Input, A: Allocator + Copy> TextReader<I, A> {
 
     // Takes the next item; false at the end of the stream.
     fn advance(&mut self, meter: &mut Meter<A>) -> Result<bool, Fault>
-        requires room { meter.old.held ≤ 2 ^ 62 }
-        requires held { held_by self.old ≤ meter.old.held }
-        requires countable { meter.old.refused < 2 ^ 64 - 1 }
-        requires sized { IsSized self.old }
-        requires ready { IsReady self.old }
-        ensures gives { I.observable self.old.source.device → AdvanceGives I.Input
-            (to_come_by I.Input self.old) self.new result }
+        requires can_advance { CanAdvance self.old meter.old }
+        ensures gives { I.observable self.old.source.device → result ≡ Ok true
+            → to_come_by I.Input self.old ≡ More (lent_by self.new) (to_come_by I.Input self.new) }
+        ensures ends { I.observable self.old.source.device → result ≡ Ok false
+            → (to_come_by I.Input self.old ≡ Finished) × (to_come_by I.Input self.new ≡ Finished) }
+        ensures refuses { I.observable self.old.source.device → (r : Reason) (p : ℕ)
+            → result ≡ Err (Refused r p) → to_come_by I.Input self.old ≡ Stopped r p }
         ensures ready { OnOk result (IsReady self.new) }
         ensures falls { result ≡ Ok true → left_to self.new < left_to self.old }
         ensures stepped { Stepped I.Input true self.old self.new meter.old meter.new result }

@@ -49,6 +49,14 @@ pub mod WordTokens
 pub mod FirstTokens
 pub mod TypedWords
 pub mod Held
+pub mod Versions
+pub mod ReaderSteps
+pub mod ReaderAnnotations
+pub mod ReaderCalls
+pub mod ReaderTokens
+pub mod ShownFurther
+pub mod ReaderSymbols
+pub mod ReaderTakes
 pub mod LobTurns
 mod RunCuts
 mod Rows

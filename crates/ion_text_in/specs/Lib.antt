@@ -22,3 +22,7 @@ pub mod Runs
 pub mod Views
 pub mod Firsts
 pub mod Lobs
+pub mod Tokens
+pub mod Symbols
+pub mod Expecting
+pub mod Steps

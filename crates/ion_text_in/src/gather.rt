@@ -1,5 +1,5 @@
 //! Tokens that the end of a window cuts: their bytes are gathered into a buffer.
-ghost use Rattle.std.specs.Prelude.{◌≡◌, ◌≤◌, ℕ, [], Some, Ok, Err, length, OnOk, IfOk, IfErr};
+ghost use Rattle.std.specs.Prelude.{◌≡◌, ◌≤◌, ◌<◌, ℕ, [], Some, Ok, Err, length, OnOk, IfOk, IfErr};
 ghost use Rattle.ion_meter.specs.Sources.{Stands};
 ghost use Rattle.ion_meter.specs.Windows.{left, lent, Extends, IsGiven};
 ghost use Rattle.ion_value.specs.Calls.{AnswersBy, CanRead, Reads, ReadsInto};
@@ -175,6 +175,8 @@ pub fn gather_token<I: Input, A: Allocator + Copy>(
     requires can_read { CanRead limits limits.scalar source.old text.old meter.old }
     ensures gives { AnswersBy I.Input (λ _. text.new) source.old source.new source.old.place result
         (spelled (bytes_of (goes_on run)) (Some limits.scalar)) }
+    ensures further { 1 ≤ length (lent source.old)
+        → OnOk result (source.old.place < source.new.place) }
     ensures reads { ReadsInto I.Input source.old source.new meter.old meter.new
         (length text.old) (length text.new) limits.scalar result }
 {

@@ -58,6 +58,8 @@ pub fn next_lob<I: Input, A: Allocator + Copy>(
     requires braces { IsGiven source.old 1 }
     ensures gives { AnswersBy I.Input (λ lob. plain (lob_of lob text.new)) source.old source.new
         source.old.place result (token_of (Some limits.scalar) a_lob) }
+    ensures further { 1 ≤ length (lent source.old)
+        → OnOk result (source.old.place < source.new.place) }
     ensures reads { ReadsInto I.Input source.old source.new meter.old meter.new
         (length text.old) (length text.new) limits.scalar result }
 {

@@ -1,7 +1,8 @@
 //! Numbers and timestamps (Ion specification, "Text Encoding").
-ghost use Rattle.std.specs.Prelude.{◌≡◌, Some, Ok, Err, length, IfOk, MatchResult};
+ghost use Rattle.std.specs.Prelude.{◌≡◌, Some, Ok, Err, length, IfOk, MatchResult, ◌≤◌, ◌<◌, OnOk};
 ghost use Rattle.ion_value.specs.Decimal.{decimal_of_text};
 ghost use Rattle.ion_value.specs.Int.{int_of_text};
+ghost use Rattle.ion_meter.specs.Windows.{lent};
 ghost use Rattle.ion_value.specs.Calls.{AnswersBy, CanRead, ReadsInto};
 ghost use Rattle.ion_value.specs.Standing.{InRange};
 ghost use Rattle.ion_text_in.specs.Scanners.{Shows};
@@ -77,6 +78,8 @@ pub fn next_number<I: Input, A: Allocator + Copy>(
     ensures gives { AnswersBy I.Input number_token source.old source.new source.old.place result
         (token_of (Some limits.scalar) a_run) }
     ensures range { IfOk result (λ x. InRange (as_number x)) }
+    ensures further { 1 ≤ length (lent source.old)
+        → OnOk result (source.old.place < source.new.place) }
     ensures reads { ReadsInto I.Input source.old source.new meter.old meter.new
         (length text.old) (length text.new) limits.scalar result }
 {
@@ -103,6 +106,8 @@ fn gather_number<I: Input, A: Allocator + Copy>(
     ensures gives { AnswersBy I.Input number_token source.old source.new source.old.place result
         (token_of (Some limits.scalar) a_run) }
     ensures range { IfOk result (λ x. InRange (as_number x)) }
+    ensures further { 1 ≤ length (lent source.old)
+        → OnOk result (source.old.place < source.new.place) }
     ensures reads { ReadsInto I.Input source.old source.new meter.old meter.new
         (length text.old) (length text.new) limits.scalar result }
 {

@@ -1,5 +1,5 @@
 //! Operators, infinities and punctuation (Ion specification, "Text Encoding").
-ghost use Rattle.std.specs.Prelude.{◌≡◌, ℕ, ◌≤◌, ◌<◌, Option, Some, Ok, Err, length};
+ghost use Rattle.std.specs.Prelude.{◌≡◌, ℕ, ◌≤◌, ◌<◌, Option, Some, Ok, Err, length, OnOk};
 ghost use Rattle.ion_meter.specs.Sources.{cursor, Stands};
 ghost use Rattle.ion_meter.specs.Windows.{lent, CanPass, IsPassed};
 ghost use Rattle.ion_value.specs.Calls.{AnswersBy, CanRead, Reads, ReadsInto};
@@ -52,6 +52,8 @@ pub fn next_operator<I: Input, A: Allocator + Copy>(
     requires can_read { CanRead limits limits.scalar source.old text.old meter.old }
     ensures gives { AnswersBy I.Input (λ _. tokens.operator text.new) source.old source.new
         source.old.place result (token_of (Some limits.scalar) an_operator) }
+    ensures further { 1 ≤ length (lent source.old)
+        → OnOk result (source.old.place < source.new.place) }
     ensures reads { ReadsInto I.Input source.old source.new meter.old meter.new
         (length text.old) (length text.new) limits.scalar result }
 {
@@ -75,6 +77,7 @@ pub fn next_infinity<I: Input, A: Allocator + Copy>(
     requires there { 4 ≤ length (lent source.old) }
     ensures gives { AnswersBy I.Input (λ _. tokens.no_number) source.old source.new
         source.old.place result (token_of (Some limits.scalar) an_infinity) }
+    ensures further { OnOk result (source.old.place < source.new.place) }
     ensures reads { Reads I.Input source.old source.new result }
 {
     if limits.scalar < 4 {

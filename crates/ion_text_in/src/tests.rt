@@ -5,6 +5,7 @@ mod cuts;
 mod drawn;
 mod lobs;
 mod pieces;
+mod readers;
 mod refusals;
 mod telling;
 mod texts;

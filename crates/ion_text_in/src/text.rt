@@ -41,6 +41,8 @@ pub fn next_quoted_symbol<I: Input, A: Allocator + Copy>(
     ensures gives { AnswersBy I.Input (λ _. tokens.name true (value.Text text.new))
         source.old source.new source.old.place result
         (token_of (Some limits.scalar) tokens.a_quoted) }
+    ensures further { 1 ≤ length (lent source.old)
+        → OnOk result (source.old.place < source.new.place) }
     ensures reads { ReadsInto I.Input source.old source.new meter.old meter.new
         (length text.old) (length text.new) limits.scalar result }
 {
@@ -64,6 +66,8 @@ pub fn next_short_string<I: Input, A: Allocator + Copy>(
     ensures gives { AnswersBy I.Input (λ _. tokens.text text.new)
         source.old source.new source.old.place result
         (token_of (Some limits.scalar) tokens.a_short) }
+    ensures further { 1 ≤ length (lent source.old)
+        → OnOk result (source.old.place < source.new.place) }
     ensures reads { ReadsInto I.Input source.old source.new meter.old meter.new
         (length text.old) (length text.new) limits.scalar result }
 {
@@ -88,6 +92,8 @@ pub fn next_long_string<I: Input, A: Allocator + Copy>(
     ensures gives { I.observable source.old.device → Overruns false (tokens.text text.new) result
         (cursor I.Input source.new) source.old.place
         (token_of (Some limits.scalar) tokens.a_long (cursor I.Input source.old)) }
+    ensures further { 1 ≤ length (lent source.old)
+        → OnOk result (source.old.place < source.new.place) }
     ensures reads { ReadsInto I.Input source.old source.new meter.old meter.new
         (length text.old) (length text.new) limits.scalar result }
 {

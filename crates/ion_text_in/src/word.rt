@@ -1,6 +1,7 @@
 //! Words: keywords, ids and symbols without quotes (Ion specification, "Text Encoding").
-ghost use Rattle.std.specs.Prelude.{◌≡◌, ◌&&◌, ◌==◌, ◌∷◌, ◌^◌, ◌≤◌, ◌<◌, codes, drop, length, Some, None, Ok, Err, true, false, IfSome, MatchOption, MatchResult};
+ghost use Rattle.std.specs.Prelude.{◌≡◌, ◌&&◌, ◌==◌, ◌∷◌, ◌^◌, ◌≤◌, ◌<◌, codes, drop, length, Some, None, Ok, Err, true, false, IfSome, MatchOption, MatchResult, OnOk};
 ghost use Rattle.std.specs.Str.{bytes_eq};
+ghost use Rattle.ion_meter.specs.Windows.{lent};
 ghost use Rattle.ion_value.specs.Calls.{AnswersBy, CanRead, ReadsInto};
 ghost use Rattle.ion_value.specs.Digits.{first_is};
 ghost use Rattle.ion_text_in.specs.Runs.{CanAppend};
@@ -72,6 +73,8 @@ pub fn next_word<I: Input, A: Allocator + Copy>(
     requires can_read { CanRead limits limits.scalar source.old text.old meter.old }
     ensures gives { AnswersBy I.Input (word_token_of text.new) source.old source.new
         source.old.place result (token_of (Some limits.scalar) a_word) }
+    ensures further { 1 ≤ length (lent source.old)
+        → OnOk result (source.old.place < source.new.place) }
     ensures reads { ReadsInto I.Input source.old source.new meter.old meter.new
         (length text.old) (length text.new) limits.scalar result }
 {
@@ -103,6 +106,8 @@ fn gather_word<I: Input, A: Allocator + Copy>(
     requires can_read { CanRead limits limits.scalar source.old text.old meter.old }
     ensures gives { AnswersBy I.Input (word_token_of text.new) source.old source.new
         source.old.place result (token_of (Some limits.scalar) a_word) }
+    ensures further { 1 ≤ length (lent source.old)
+        → OnOk result (source.old.place < source.new.place) }
     ensures reads { ReadsInto I.Input source.old source.new meter.old meter.new
         (length text.old) (length text.new) limits.scalar result }
 {
@@ -126,6 +131,8 @@ fn gather_typed<I: Input, A: Allocator + Copy>(
     requires can_read { CanRead limits limits.scalar source.old text.old meter.old }
     ensures gives { AnswersBy I.Input (λ _. text.new) source.old source.new source.old.place result
         (spelled word_of (Some limits.scalar)) }
+    ensures further { 1 ≤ length (lent source.old)
+        → OnOk result (source.old.place < source.new.place) }
     ensures reads { ReadsInto I.Input source.old source.new meter.old meter.new
         (length text.old) (length text.new) limits.scalar result }
 {

@@ -6,6 +6,8 @@ use Rattle.ion_value.proofs.Cursors.{cursor-extends}
 use Rattle.ion_value.proofs.Passing.{lent-there, IsPassed-cursor}
 use Rattle.ion_text_in.specs.Runs.{with_run}
 use Rattle.ion_text_in.proofs.Gathered.{first-then, answers-same}
+use Rattle.ion_text_in.proofs.ShownFurther.{on-ok, some-got}
+use Rattle.ion_text_in.proofs.ReaderTokens.{lent-given}
 use Rattle.ion_text_in.proofs.gather.gather_token.Goals as goal
 
 pub returns-clause-gives : goal.returns-clause-gives
@@ -27,3 +29,17 @@ returns-clause-gives g c = λ h.
     ∙ (ap (λ (d : Cursor). with_run c.args.run limit (take 1 (left g.I.Input.rest s)) d) there ∙ first-then c.args.run limit (cursor g.I.Input s) some) in
     answers-same (λ (x : Unit {0}). c.gather.new.text) c.gather.result (cursor g.I.Input c.gather.new.source) c.place-place.result s.place _ _
     (c.gather.ensures.gives (added.reads.moves.still_observable.1 (peek.kept.still_observable.1 h))) c.place-place.ensures same
+
+pub returns-in-Ok-None-clause-further : goal.returns-in-Ok-None-clause-further
+returns-in-Ok-None-clause-further g c = λ some.
+    let s = c.args.source.now in
+    let given = lent-given s 0 some in
+    let there = c.in-Ok-None.ensures.there c.requires.can_read.stands.well given in
+    absurd (some-got s.buffered given.0 (cc (there.0, c.in-Ok-None.field-0-is)))
+
+pub returns-clause-further : goal.returns-clause-further
+returns-clause-further g c = λ some.
+    let passed = c.in_default.ensures.appends.passed.place in
+    let place = c.in-Ok-Some.ensures.kept.place in
+    let further = c.gather.ensures.reads.moves.further in
+    on-ok c.gather.result (omega (arith, passed, place, further))

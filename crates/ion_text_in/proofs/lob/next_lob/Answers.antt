@@ -7,6 +7,7 @@ use Rattle.ion_text_in.specs.Lobs.{opened}
 use Rattle.ion_text_in.specs.Token.{a_lob, token_of}
 use Rattle.ion_text_in.proofs.LobTurns.{answers-lob, lob-token}
 use Rattle.ion_text_in.proofs.Turns.{extends-not, passed-cursor, gone-passed}
+use Rattle.ion_text_in.proofs.ShownFurther.{on-ok}
 use Rattle.ion_text_in.proofs.lob.next_lob.Goals as goal
 
 pub returns-in-Short-clause-gives : goal.returns-in-Short-clause-gives
@@ -65,3 +66,27 @@ returns-in-None-clause-gives g c = λ h.
     let token = lob-token limit (cursor g.I.Input s) (cursor g.I.Input t) (cursor g.I.Input w) (cursor g.I.Input q) opening.None first (c.in_default.ensures.behind at_first) same in
     rw c.place-place.ensures at (answers-lob c.next_blob.new.text c.next_blob.result (cursor g.I.Input c.next_blob.new.source) c.place-place.result (opened opening.None limit (cursor g.I.Input q))
     (token_of limit a_lob (cursor g.I.Input s)) (c.next_blob.ensures.gives at_text) token)
+
+pub returns-in-Short-clause-further : goal.returns-in-Short-clause-further
+returns-in-Short-clause-further g c = λ _.
+    let passed = c.consume.ensures.place in
+    let white = c.in_default.ensures.reads.moves.further in
+    let opens = c.in-Ok.ensures.reads.moves.further in
+    let further = c.next_short_clob.ensures.reads.moves.further in
+    on-ok c.next_short_clob.result (omega (arith, passed, white, opens, further))
+
+pub returns-in-Long-clause-further : goal.returns-in-Long-clause-further
+returns-in-Long-clause-further g c = λ _.
+    let passed = c.consume.ensures.place in
+    let white = c.in_default.ensures.reads.moves.further in
+    let opens = c.in-Ok.ensures.reads.moves.further in
+    let further = c.next_long_clob.ensures.reads.moves.further in
+    on-ok c.next_long_clob.result (omega (arith, passed, white, opens, further))
+
+pub returns-in-None-clause-further : goal.returns-in-None-clause-further
+returns-in-None-clause-further g c = λ _.
+    let passed = c.consume.ensures.place in
+    let white = c.in_default.ensures.reads.moves.further in
+    let opens = c.in-Ok.ensures.reads.moves.further in
+    let further = c.next_blob.ensures.reads.moves.further in
+    on-ok c.next_blob.result (omega (arith, passed, white, opens, further))

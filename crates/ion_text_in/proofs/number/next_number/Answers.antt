@@ -4,6 +4,7 @@ use Rattle.ion_text_in.specs.Scanners.{Shows}
 use Rattle.ion_text_in.specs.Token.{a_run, token_of}
 use Rattle.ion_text_in.specs.Views.{number_token}
 use Rattle.ion_text_in.proofs.Shown.{shown-whole, shown-fault}
+use Rattle.ion_text_in.proofs.ShownFurther.{shown-further}
 use Rattle.ion_text_in.proofs.number.next_number.Goals as goal
 
 pub returns-in-Whole-clause-gives : goal.returns-in-Whole-clause-gives
@@ -17,3 +18,9 @@ returns-in-Fault-clause-gives g c = λ h.
     let reading = token_of (Some c.args.limits.scalar) a_run in
     let shows = subst (λ (l : List ℕ). Shows number_token l (scanned.Fault c.in-Fault.reason) reading) c.buffer.ensures c.in-Fault.ensures.shows in
     (shown-fault g.I.Input number_token c.args.source.now c.in-Fault.reason reading shows, c.place.ensures)
+
+pub returns-in-Whole-clause-further : goal.returns-in-Whole-clause-further
+returns-in-Whole-clause-further g c = λ some.
+    let reading = token_of (Some c.args.limits.scalar) a_run in
+    let shows = subst (λ (l : List ℕ). Shows number_token l (scanned.Whole c.in-Whole.number c.in-Whole.count) reading) c.buffer.ensures c.in-Whole.ensures.shows in
+    shown-further number_token c.args.source.now c.consume.new.self c.in-Whole.number c.in-Whole.count (Some c.args.limits.scalar) a_run shows some c.consume.ensures

@@ -10,6 +10,7 @@ use Rattle.ion_text_in.specs.Runs.{IsAppended}
 use Rattle.ion_text_in.proofs.Shown.{shown-whole, shown-fault}
 use Rattle.ion_text_in.proofs.ShownTokens.{operator-spelled, operator-refused}
 use Rattle.ion_text_in.proofs.Gathered.{answers-then, answers-copied}
+use Rattle.ion_text_in.proofs.ShownFurther.{on-ok-map, shown-further}
 use Rattle.ion_text_in.proofs.operator.next_operator.Goals as goal
 
 abbrev operator_with : Cursor → List ℕ → Result (Token × Cursor) Reason
@@ -43,3 +44,13 @@ returns-in-Cut-clause-gives g c = λ h.
     let text : List ℕ = c.gather_token.new.text in
     answers-then (λ (u : Unit {0}). text) (λ (u : Unit {0}). tokens.operator text) c.gather_token.result to c.args.source.now.place _ _
     (λ x e. operator-spelled limit from to text e) (λ reason e. operator-refused limit from reason e) (c.gather_token.ensures.gives h)
+
+pub returns-in-Whole-clause-further : goal.returns-in-Whole-clause-further
+returns-in-Whole-clause-further g c = λ some.
+    let s = c.args.source.now in
+    let t = c.copy.new.source in
+    let n = c.in-Whole.count in
+    let reading = token_of (Some c.args.limits.scalar) an_operator in
+    let view = λ (u : Unit {0}). tokens.operator (take n (lent s)) in
+    let shows = subst (λ (l : List ℕ). Shows (λ (u : Unit {0}). tokens.operator (take n l)) l (scanned.Whole tt n) reading) c.buffer.ensures c.in-Whole.ensures.shows in
+    on-ok-map c.copy.result c.copy.ensures.copies (λ (copied : IsAppended [] c.copy.new.text s t n). shown-further view s t tt n (Some c.args.limits.scalar) an_operator shows some copied.passed)

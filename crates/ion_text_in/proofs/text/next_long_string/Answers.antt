@@ -7,6 +7,7 @@ use Rattle.ion_text_in.specs.Token as tokens
 use Rattle.ion_text_in.specs.Token.{token_of}
 use Rattle.ion_text_in.specs.Gathered.{Overruns}
 use Rattle.ion_text_in.proofs.TextTokens.{made, long-token, overruns-made, given-lent}
+use Rattle.ion_text_in.proofs.ShownFurther.{on-ok}
 use Rattle.ion_text_in.proofs.text.next_long_string.Goals as goal
 
 pub returns-clause-gives : goal.returns-clause-gives
@@ -23,3 +24,9 @@ returns-clause-gives g c = λ h.
     subst (λ (o : Result (tokens.Token × Cursor) Reason). Overruns false (token text) c.next_long_text.result end s.place o) from
     (overruns-made token false text c.next_long_text.result end s.place (text_at (long_quote false) (Some c.args.limits.scalar) (cursor g.I.Input t))
     (subst (λ (n : ℕ). Overruns false text c.next_long_text.result end n (text_at (long_quote false) (Some c.args.limits.scalar) (cursor g.I.Input t))) c.place-place.ensures (c.next_long_text.ensures.gives seen)))
+
+pub returns-clause-further : goal.returns-clause-further
+returns-clause-further g c = λ _.
+    let passed = c.consume.ensures.place in
+    let further = c.next_long_text.ensures.reads.moves.further in
+    on-ok c.next_long_text.result (omega (arith, passed, further))

@@ -8,6 +8,7 @@ use Rattle.ion_text_in.specs.Quoted.{symbol_quote, text_at}
 use Rattle.ion_text_in.specs.Token as tokens
 use Rattle.ion_text_in.specs.Token.{token_of}
 use Rattle.ion_text_in.proofs.TextTokens.{made, quoted-token, answers-made, given-lent}
+use Rattle.ion_text_in.proofs.ShownFurther.{on-ok}
 use Rattle.ion_text_in.proofs.text.next_quoted_symbol.Goals as goal
 
 pub returns-clause-gives : goal.returns-clause-gives
@@ -24,3 +25,9 @@ returns-clause-gives g c = λ h.
     subst (λ (o : Result (tokens.Token × Cursor) Reason). Answers {T = Unit {0}} (λ _. token text) c.next_short_text.result end s.place o) from
     (answers-made token text c.next_short_text.result end s.place (text_at symbol_quote (Some c.args.limits.scalar) (cursor g.I.Input t))
     (subst (λ (n : ℕ). Answers {T = Unit {0}} (λ _. text) c.next_short_text.result end n (text_at symbol_quote (Some c.args.limits.scalar) (cursor g.I.Input t))) c.place-place.ensures (c.next_short_text.ensures.gives seen)))
+
+pub returns-clause-further : goal.returns-clause-further
+returns-clause-further g c = λ _.
+    let passed = c.advance.ensures.place in
+    let further = c.next_short_text.ensures.reads.moves.further in
+    on-ok c.next_short_text.result (omega (arith, passed, further))

@@ -7,6 +7,7 @@ use Rattle.ion_text_in.specs.Quoted.{short_quote, text_at}
 use Rattle.ion_text_in.specs.Token as tokens
 use Rattle.ion_text_in.specs.Token.{token_of}
 use Rattle.ion_text_in.proofs.TextTokens.{made, short-token, answers-made, given-lent}
+use Rattle.ion_text_in.proofs.ShownFurther.{on-ok}
 use Rattle.ion_text_in.proofs.text.next_short_string.Goals as goal
 
 pub returns-clause-gives : goal.returns-clause-gives
@@ -23,3 +24,9 @@ returns-clause-gives g c = λ h.
     subst (λ (o : Result (tokens.Token × Cursor) Reason). Answers {T = Unit {0}} (λ _. token text) c.next_short_text.result end s.place o) from
     (answers-made token text c.next_short_text.result end s.place (text_at (short_quote false) (Some c.args.limits.scalar) (cursor g.I.Input t))
     (subst (λ (n : ℕ). Answers {T = Unit {0}} (λ _. text) c.next_short_text.result end n (text_at (short_quote false) (Some c.args.limits.scalar) (cursor g.I.Input t))) c.place-place.ensures (c.next_short_text.ensures.gives seen)))
+
+pub returns-clause-further : goal.returns-clause-further
+returns-clause-further g c = λ _.
+    let passed = c.advance.ensures.place in
+    let further = c.next_short_text.ensures.reads.moves.further in
+    on-ok c.next_short_text.result (omega (arith, passed, further))

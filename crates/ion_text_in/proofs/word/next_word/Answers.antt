@@ -8,6 +8,7 @@ use Rattle.ion_text_in.specs.Token.{Token, a_word, token_of}
 use Rattle.ion_text_in.specs.Views.{word_token_of}
 use Rattle.ion_text_in.proofs.Shown.{shown-whole, shown-fault}
 use Rattle.ion_text_in.proofs.TypedWords.{no_text}
+use Rattle.ion_text_in.proofs.ShownFurther.{shown-further}
 use Rattle.ion_text_in.proofs.word.next_word.Goals as goal
 
 pub returns-in-Ok-clause-gives : goal.returns-in-Ok-clause-gives
@@ -37,3 +38,21 @@ returns-in-Fault-clause-gives g c = λ h.
     let reading = token_of (Some c.args.limits.scalar) a_word in
     let shows = subst (λ (l : List ℕ). Shows (word_token_of []) l (scanned.Fault c.in-Fault.reason) reading) c.buffer.ensures c.in-Fault.ensures.shows in
     (shown-fault g.I.Input (word_token_of []) c.args.source.now c.in-Fault.reason reading shows, c.place.ensures)
+
+pub returns-in-Ok-clause-further : goal.returns-in-Ok-clause-further
+returns-in-Ok-clause-further g c = λ some.
+    let s = c.args.source.now in
+    let n = c.in-Whole.count in
+    let w = c.in-Whole.word in
+    let reading = token_of (Some c.args.limits.scalar) a_word in
+    let shows = subst (λ (l : List ℕ). Shows (word_token_of (take n l)) l (scanned.Whole w n) reading) c.buffer.ensures c.in-Whole.ensures.shows in
+    shown-further (word_token_of (take n (lent s))) s c.copy.new.source w n (Some c.args.limits.scalar) a_word shows some c.in-Ok.ensures.copies.passed
+
+pub returns-in_default-clause-further : goal.returns-in_default-clause-further
+returns-in_default-clause-further g c = λ some.
+    let s = c.args.source.now in
+    let n = c.in-Whole.count in
+    let w = c.in-Whole.word in
+    let reading = token_of (Some c.args.limits.scalar) a_word in
+    let shows = subst (λ (l : List ℕ). Shows (word_token_of (take n l)) l (scanned.Whole w n) reading) c.buffer.ensures c.in-Whole.ensures.shows in
+    shown-further (word_token_of (take n (lent s))) s c.consume.new.self w n (Some c.args.limits.scalar) a_word shows some c.consume.ensures

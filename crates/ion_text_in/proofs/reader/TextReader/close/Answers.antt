@@ -1,0 +1,14 @@
+use Rattle.std.proofs.Common.{◌∙◌, Option, sym, ap}
+use Rattle.ion_value.specs.declared.ion_type.Kind.{Kind}
+use Rattle.ion_text_in.specs.Reading.{behind_member}
+use Rattle.ion_text_in.proofs.ReaderSteps.{gives-closed, closed-opened}
+use Rattle.ion_text_in.proofs.reader.TextReader.close.Goals as goal
+
+pub returns-clause-gives : goal.returns-clause-gives
+returns-clause-gives g c = λ h d blank.
+    let r = c.args.self.now in
+    let left = c.pop-closed.new.self in
+    let opened = closed-opened r.kinds left c.in-Some.innermost c.pop-closed.result (sym c.innermost.ensures ∙ c.in-Some.is) c.pop-closed.ensures.items in
+    gives-closed g.I.Input r c.in-Some.innermost c.args.kind left c.behind_member-self.result c.args.place d opened
+    (sym c.is_same.ensures ∙ c.if-not-is_same.false) c.requires.bare.0 c.requires.bare.1 c.requires.can_step.inside.finished
+    (c.behind_member-self.ensures.is ∙ ap (λ (k : Option Kind). behind_member k) c.innermost-2.ensures) blank

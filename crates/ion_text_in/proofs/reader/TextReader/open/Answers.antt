@@ -1,0 +1,15 @@
+use Rattle.std.proofs.Common.{ap, arith, length}
+use Rattle.std.proofs.lemmas.Bool.{lt-leb}
+use Rattle.std.proofs.lemmas.List.{length-reverse}
+use Rattle.ion_text_in.specs.Steps.{opened_in}
+use Rattle.ion_text_in.proofs.ReaderSteps.{gives-opened}
+use Rattle.ion_text_in.proofs.reader.TextReader.open.Goals as goal
+
+pub returns-clause-gives : goal.returns-clause-gives
+returns-clause-gives g c = λ h d blank.
+    let r = c.args.self.now in
+    let all = length-reverse r.kinds in
+    rw (c.in_default.ensures.ok, c.top_at-top.ensures)
+    (gives-opened g.I.Input r c.args.kind c.at_member-self.result c.args.place d
+    (lt-leb r.limits.depth (length (opened_in r)) (omega (arith, all, c.if-from-as_slice.false, c.from.ensures, ap length c.as_slice.ensures)))
+    c.requires.can_step.inside.finished c.at_member-self.ensures.is blank)

@@ -1,0 +1,17 @@
+use Rattle.std.proofs.Common.{false}
+use Rattle.ion_meter.specs.Sources.{cursor}
+use Rattle.ion_text_in.specs.Token as tokens
+use Rattle.ion_text_in.proofs.ReaderTokens.{overrun-refused, overrun-going, lent-given}
+use Rattle.ion_text_in.proofs.token.long_string_token.Goals as goal
+
+pub next_long_string-requires-clause-given : goal.next_long_string-requires-clause-given
+next_long_string-requires-clause-given g c = lent-given c.args.source.now 2 c.requires.there
+
+pub returns-in-Err-clause-gives : goal.returns-in-Err-clause-gives
+returns-in-Err-clause-gives g c = λ h.
+    overrun-refused false (tokens.text c.next_long_string.new.text) c.next_long_string.new.text c.args.source.now.place c.in-Err.fault (cursor g.I.Input c.next_long_string.new.source) _ (c.in-Err.ensures.gives h)
+
+pub returns-in-Ok-clause-gives : goal.returns-in-Ok-clause-gives
+returns-in-Ok-clause-gives g c = λ h.
+    let o = c.in-Ok.ensures.gives h in
+    (o.0, o.1, overrun-going c.in-Ok.start o.0 (cursor g.I.Input c.next_long_string.new.source) o.2)

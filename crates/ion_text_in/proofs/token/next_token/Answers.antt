@@ -1,0 +1,46 @@
+use Rattle.std.proofs.Common.{◌∙◌, Some, refl, ap}
+use Rattle.ion_meter.specs.Sources.{cursor}
+use Rattle.ion_text_in.specs.declared.first.First.{First}
+use Rattle.ion_text_in.specs.Firsts.{first_of}
+use Rattle.ion_text_in.specs.Token.{token_of}
+use Rattle.ion_text_in.proofs.token.next_token.Goals as goal
+
+pub returns-in-Begin-clause-gives : goal.returns-in-Begin-clause-gives
+returns-in-Begin-clause-gives g c = λ h. (
+  cursor g.I.Input c.pass_mark.new.source,
+  ap (λ (f : First). token_of (Some c.args.limits.scalar) (first_of f) (cursor g.I.Input c.args.source.now)) c.in-Begin.is ∙ c.pass_mark.ensures.begin (Some c.args.limits.scalar) c.in-Begin.kind,
+  refl,
+)
+
+pub returns-in-End-clause-gives : goal.returns-in-End-clause-gives
+returns-in-End-clause-gives g c = λ h. (
+  cursor g.I.Input c.pass_mark-in-End.new.source,
+  ap (λ (f : First). token_of (Some c.args.limits.scalar) (first_of f) (cursor g.I.Input c.args.source.now)) c.in-End.is ∙ c.pass_mark-in-End.ensures.end (Some c.args.limits.scalar) c.in-End.kind,
+  refl,
+)
+
+pub returns-in-Comma-clause-gives : goal.returns-in-Comma-clause-gives
+returns-in-Comma-clause-gives g c = λ h. (
+  cursor g.I.Input c.pass_mark-in-Comma.new.source,
+  ap (λ (f : First). token_of (Some c.args.limits.scalar) (first_of f) (cursor g.I.Input c.args.source.now)) c.in-Comma.is ∙ c.pass_mark-in-Comma.ensures.comma (Some c.args.limits.scalar),
+  refl,
+)
+
+pub returns-in-Colon-clause-gives : goal.returns-in-Colon-clause-gives
+returns-in-Colon-clause-gives g c = λ h. (
+  cursor g.I.Input c.pass_mark-in-Colon.new.source,
+  ap (λ (f : First). token_of (Some c.args.limits.scalar) (first_of f) (cursor g.I.Input c.args.source.now)) c.in-Colon.is ∙ c.pass_mark-in-Colon.ensures.colon (Some c.args.limits.scalar),
+  refl,
+)
+
+pub returns-in-Colons-clause-gives : goal.returns-in-Colons-clause-gives
+returns-in-Colons-clause-gives g c = λ h. (
+  cursor g.I.Input c.pass_colons.new.source,
+  ap (λ (f : First). token_of (Some c.args.limits.scalar) (first_of f) (cursor g.I.Input c.args.source.now)) c.in-Colons.is ∙ c.pass_colons.ensures.colons (Some c.args.limits.scalar),
+  refl,
+)
+
+pub returns-in-Nothing-clause-gives : goal.returns-in-Nothing-clause-gives
+unfolding token_of
+returns-in-Nothing-clause-gives g c = λ h.
+    (ap (λ (f : First). token_of (Some c.args.limits.scalar) (first_of f) (cursor g.I.Input c.args.source.now)) c.in-Nothing.is, c.place.ensures)

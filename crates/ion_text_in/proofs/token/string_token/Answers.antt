@@ -1,0 +1,15 @@
+use Rattle.std.proofs.Common.{refl}
+use Rattle.ion_meter.specs.Sources.{cursor}
+use Rattle.ion_text_in.specs.Token as tokens
+use Rattle.ion_text_in.proofs.ReaderTokens.{token-refused, lent-given}
+use Rattle.ion_text_in.proofs.token.string_token.Goals as goal
+
+pub next_short_string-requires-clause-given : goal.next_short_string-requires-clause-given
+next_short_string-requires-clause-given g c = lent-given c.args.source.now 0 c.requires.there
+
+pub returns-in-Err-clause-gives : goal.returns-in-Err-clause-gives
+returns-in-Err-clause-gives g c = λ h.
+    token-refused (λ (x : Unit {0}). tokens.text c.next_short_string.new.text) c.next_short_string.new.text c.args.source.now.place c.in-Err.fault (cursor g.I.Input c.next_short_string.new.source) _ (c.in-Err.ensures.gives h)
+
+pub returns-in-Ok-clause-gives : goal.returns-in-Ok-clause-gives
+returns-in-Ok-clause-gives g c = λ h. (cursor g.I.Input c.next_short_string.new.source, c.in-Ok.ensures.gives h, refl)

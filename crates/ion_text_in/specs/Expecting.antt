@@ -1,0 +1,22 @@
+-- What is seen of what must come next.
+use Rattle.std.specs.Prelude.{◌≡◌, true, List, [], is_some, Option, None}
+use Rattle.ion_value.specs.declared.ion_type.Kind.{Kind}
+use Rattle.ion_value.specs.declared.item.Annotation.{Annotation}
+use Rattle.ion_value.specs.Standing.{in_struct}
+use Rattle.ion_value.specs.Value.{SymbolAt}
+use Rattle.ion_text_in.specs.declared.expected.Expected.{Expected}
+use Rattle.ion_text_in.specs.declared.expected.Expected.TheVariants as expected
+use Rattle.ion_text_in.specs.declared.symbol.FieldName.{FieldName}
+use Rattle.ion_text_in.specs.Positions.{Wants, a_value, a_field, a_separator}
+
+-- what must come, behind what is read of an item
+abbrev pub wanted : Expected → Option SymbolAt → List SymbolAt → Wants
+wanted expected.Value field annotations = a_value field annotations
+wanted expected.Field field annotations = a_field
+wanted expected.Separator field annotations = a_separator
+
+-- a field's name and annotations stand before a value alone, and a field in structs alone
+abbrev pub MayExpect : Expected → List Kind → Option FieldName → List Annotation → Type 0
+MayExpect expected.Value kinds field annotations = is_some field ≡ in_struct kinds
+MayExpect expected.Field kinds field annotations = (in_struct kinds ≡ true) × (field ≡ None) × (annotations ≡ [])
+MayExpect expected.Separator kinds field annotations = (field ≡ None) × (annotations ≡ [])

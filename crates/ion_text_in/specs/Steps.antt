@@ -1,0 +1,230 @@
+-- What is seen of the reader, and what one step of it asks for, gives, keeps and moves.
+use Rattle.std.specs.Prelude.{◌≡◌, ◌≢◌, ℕ, ◌+◌, ◌*◌, ◌-◌, ◌^◌, ◌<◌, ◌≤◌, Bool, true, false, List, [], length, reverse, Option, Some, None, Result, Ok, Err}
+use Rattle.std.proofs.Common.{arith}
+use Rattle.std.proofs.lemmas.List.{length-reverse}
+use Rattle.ion_meter.specs.Counts.{Counts}
+use Rattle.ion_meter.specs.declared.device.Input.{Ghosts as InputOf}
+use Rattle.ion_meter.specs.declared.fault.Fault.{Fault}
+use Rattle.ion_meter.specs.declared.fault.Fault.TheVariants.{Refused, Memory, ReadFault, WriteFault, InputLimit}
+use Rattle.ion_meter.specs.declared.fault.Reason.TheVariants.{Truncated}
+use Rattle.ion_meter.specs.declared.limits.Limits.{Limits}
+use Rattle.ion_meter.specs.Limits.{AreChecked}
+use Rattle.ion_meter.specs.Sources.{Cursor, cursor, Stands}
+use Rattle.ion_value.specs.declared.ion_type.Kind.{Kind}
+use Rattle.ion_value.specs.Calls.{ReadsInto}
+use Rattle.ion_value.specs.Parts.{Placed, part}
+use Rattle.ion_value.specs.Reading.{Reading, Finished, Stopped, More, Step, next_reading, reading_by}
+use Rattle.ion_value.specs.Standing.{Fits, ReadsWithin, open_after}
+use Rattle.ion_value.specs.Value as value
+use Rattle.ion_value.specs.Value.{SymbolAt, Head, PlacedItem}
+use Rattle.ion_text_in.specs.declared.token.Body.{Body}
+use Rattle.ion_text_in.specs.declared.token.Symbol.{Symbol}
+use Rattle.ion_text_in.specs.declared.reader.ItemKind.{ItemKind}
+use Rattle.ion_text_in.specs.declared.reader.ItemKind.TheVariants as kind
+use Rattle.ion_text_in.specs.declared.expected.Expected.{Expected}
+use Rattle.ion_text_in.specs.declared.reader.StepResult.{StepResult}
+use Rattle.ion_text_in.specs.declared.reader.StepResult.TheVariants as step_result
+use Rattle.ion_text_in.specs.declared.reader.TextReader.{TextReader}
+use Rattle.ion_text_in.specs.Positions.{State, innermost, at}
+use Rattle.ion_text_in.specs.Reading.{step, step_of, size, take, annotated, begun, closed, ended, named, part_from, scalar_given, tells_version, top_of, value_or_version}
+use Rattle.ion_text_in.specs.Token as tokens
+use Rattle.ion_text_in.specs.Tokens.{as_symbol, as_scalar}
+use Rattle.ion_text_in.specs.Symbols.{as_field, as_annotations, AreKept}
+use Rattle.ion_text_in.specs.Expecting.{wanted, MayExpect}
+
+-- ---- what is seen of a reader
+
+abbrev pub as_head : List ℕ → ℕ → ItemKind → Head SymbolAt
+as_head text place (kind.Scalar body) = value.whole (as_scalar text place body)
+as_head text place (kind.Begin k) = value.begin k
+as_head text place kind.End = value.end
+as_head text place kind.Marker = value.marker
+
+abbrev pub field_in : {I A : Type 0} → TextReader I A → Option SymbolAt
+field_in r = as_field r.name r.field
+
+abbrev pub annotations_in : {I A : Type 0} → TextReader I A → List SymbolAt
+annotations_in r = as_annotations r.texts r.annotations
+
+-- the item that it lends
+abbrev pub lent_by : {I A : Type 0} → TextReader I A → PlacedItem
+lent_by r = record { field = field_in r; annotations = annotations_in r; head = as_head r.text r.place r.what; place = r.place; top = r.top }
+
+-- the kinds of its open containers, the innermost first
+abbrev pub opened_in : {I A : Type 0} → TextReader I A → List Kind
+opened_in r = reverse r.kinds
+
+-- the counted bytes that it holds, and the most that it may
+abbrev pub held_by : {I A : Type 0} → TextReader I A → ℕ
+held_by r = 4096 + 16 * length r.kinds + 16 * length r.annotations + length r.texts + length r.name + length r.text
+
+abbrev pub share_of : {I A : Type 0} → TextReader I A → ℕ
+share_of r = 4096 + 16 * r.limits.depth + 3 * r.limits.scalar
+
+-- what falls with each token
+abbrev pub left_to : {I A : Type 0} → TextReader I A → ℕ
+left_to r = r.source.limit - r.source.place
+
+-- with an item whose head begins at a place, behind what was read of it
+abbrev pub given_by : {I A : Type 0} → TextReader I A → ItemKind → ℕ → Option ℕ → Expected → TextReader I A
+given_by r what place unfinished expected = record r {
+  what = what;
+  place = place;
+  top = top_of (opened_in r) r.top (annotations_in r) place;
+  unfinished = unfinished;
+  expected = expected;
+}
+
+-- ---- what holds of a reader
+
+-- of its parts at all times
+pub record IsSized {I A : Type 0} (r : TextReader I A) : Type 0 where
+  pub checked : AreChecked r.limits
+  pub few : length r.kinds ≤ r.limits.depth
+  pub annotated : 16 * length r.annotations + length r.texts ≤ r.limits.scalar
+  pub name : length r.name ≤ r.limits.scalar
+  pub text : length r.text ≤ r.limits.scalar
+
+-- between two items, while it has not failed
+pub record IsReady {I A : Type 0} (r : TextReader I A) : Type 0 where
+  pub stands : Stands r.source
+  pub expects : MayExpect r.expected (opened_in r) None []
+
+-- inside an item
+pub record IsInside {I A : Type 0} (r : TextReader I A) : Type 0 where
+  pub stands : Stands r.source
+  pub expects : MayExpect r.expected (opened_in r) r.field r.annotations
+  pub kept : AreKept r.annotations r.texts
+  pub finished : r.unfinished ≡ None
+
+-- between calls
+pub record IsSound {I A : Type 0} (r : TextReader I A) : Type 0 where
+  pub sized : IsSized r
+  pub small : r.source.limit ≤ 2 ^ 48
+  pub ready : r.failed ≡ None → IsReady r
+  pub one_ending : r.done ≡ true → r.failed ≡ None
+
+-- ---- where its reading is
+
+-- all that is to come from a state on
+abbrev pub later : Limits → State → Reading
+later limits s = reading_by (step limits) size s
+
+abbrev pub comes : Limits → Placed (Step State) → Reading
+comes limits o = next_reading (later limits) (step_of o)
+
+-- where a comment does not end, this is a fault
+abbrev pub unless_unfinished : Option ℕ → Reading → Reading
+unless_unfinished None r = r
+unless_unfinished (Some start) r = Stopped Truncated start
+
+-- inside an item, its input going on here
+abbrev pub state_at : {I A : Type 0} → Cursor → TextReader I A → State
+state_at c r = record { kinds = opened_in r; top = r.top; wants = wanted r.expected (field_in r) (annotations_in r); cursor = c }
+
+abbrev pub to_come_in : {I A : Type 0} → InputOf I → TextReader I A → Reading
+to_come_in device r = later r.limits (state_at (cursor device r.source) r)
+
+-- between two items
+abbrev pub state_behind : {I A : Type 0} → Cursor → TextReader I A → State
+state_behind c r = record { kinds = opened_in r; top = r.top; wants = wanted r.expected None []; cursor = c }
+
+abbrev pub to_come_by : {I A : Type 0} → InputOf I → TextReader I A → Reading
+to_come_by device r = unless_unfinished r.unfinished (later r.limits (state_behind (cursor device r.source) r))
+
+-- what a token makes of it
+abbrev pub taking : {I A : Type 0} → TextReader I A → ℕ → tokens.Token → Cursor → Reading
+taking r place token c = comes r.limits (take r.limits (opened_in r) r.top (wanted r.expected (field_in r) (annotations_in r)) place token c)
+
+-- the token that so begins, here
+abbrev pub part_by : {I A : Type 0} → InputOf I → TextReader I A → tokens.First → Reading
+part_by device r first = comes r.limits (part_from r.limits (state_at (cursor device r.source) r) (cursor device r.source) first)
+
+-- the end of the input
+abbrev pub ending : {I A : Type 0} → TextReader I A → ℕ → Reading
+ending r place = comes r.limits (ended (opened_in r) (wanted r.expected (field_in r) (annotations_in r)) place)
+
+-- a scalar
+abbrev pub scalar_by : {I A : Type 0} → TextReader I A → Body → ℕ → Cursor → Reading
+scalar_by r body place c = comes r.limits (Ok (scalar_given (opened_in r) r.top (field_in r) (annotations_in r) place (as_scalar r.text place body) c))
+
+-- a symbol with two colons before the cursor, and one without
+abbrev pub with_colons : {I A : Type 0} → TextReader I A → Symbol → ℕ → Cursor → Reading
+with_colons r symbol place c = comes r.limits (part place (annotated r.limits (opened_in r) r.top (field_in r) (annotations_in r) (at (as_symbol r.text symbol) place) c))
+
+abbrev pub without_colons : {I A : Type 0} → TextReader I A → Symbol → Bool → ℕ → Cursor → Reading
+without_colons r symbol quoted place c =
+    comes r.limits (part place (value_or_version (opened_in r) r.top (field_in r) (annotations_in r) (at (as_symbol r.text symbol) place) c
+    (tells_version (innermost (opened_in r)) (annotations_in r) quoted (as_symbol r.text symbol))))
+
+-- a field's name, a closing bracket and an opening one
+abbrev pub naming : {I A : Type 0} → TextReader I A → Symbol → ℕ → Cursor → Reading
+naming r symbol place c = comes r.limits (named (opened_in r) r.top (at (as_symbol r.text symbol) place) c)
+
+abbrev pub closing : {I A : Type 0} → TextReader I A → Kind → ℕ → Cursor → Reading
+closing r k place c = comes r.limits (part place (closed (opened_in r) r.top k place c))
+
+abbrev pub opening : {I A : Type 0} → TextReader I A → Kind → ℕ → Cursor → Reading
+opening r k place c = comes r.limits (part place (begun r.limits (opened_in r) r.top (field_in r) (annotations_in r) k place c))
+
+-- ---- a step
+
+-- it may begin
+pub record CanStep {I A : Type 0} (r : TextReader I A) (meter : Counts) : Type 0 where
+  pub room : meter.held ≤ 2 ^ 62 + held_by r
+  pub held : held_by r ≤ meter.held
+  pub countable : meter.refused < 2 ^ 64 - 1
+  pub sized : IsSized r
+  pub inside : IsInside r
+
+-- and all steps up to an item, between two items
+pub record CanAdvance {I A : Type 0} (r : TextReader I A) (meter : Counts) : Type 0 where
+  pub room : meter.held ≤ 2 ^ 62
+  pub held : held_by r ≤ meter.held
+  pub countable : meter.refused < 2 ^ 64 - 1
+  pub sized : IsSized r
+  pub ready : IsReady r
+
+-- what a step does, by what was to come before
+abbrev pub StepGives : {I A : Type 0} → InputOf I → Reading → TextReader I A → Result StepResult Fault → Type 0
+StepGives device before new (Ok step_result.Ended) = (before ≡ Finished) × (to_come_by device new ≡ Finished)
+StepGives device before new (Ok step_result.Passed) = before ≡ to_come_in device new
+StepGives device before new (Ok step_result.Item) = before ≡ More (lent_by new) (to_come_by device new)
+StepGives device before new (Err (Refused reason place)) = before ≡ Stopped reason place
+StepGives device before new (Err Memory) = Unit {0}
+StepGives device before new (Err ReadFault) = Unit {0}
+StepGives device before new (Err WriteFault) = Unit {0}
+StepGives device before new (Err InputLimit) = Unit {0}
+
+-- how it leaves the reader
+abbrev pub ReadyAfter : {I A : Type 0} → Result StepResult Fault → TextReader I A → Type 0
+ReadyAfter (Ok step_result.Ended) r = IsReady r
+ReadyAfter (Ok step_result.Passed) r = IsInside r
+ReadyAfter (Ok step_result.Item) r = IsReady r
+ReadyAfter (Err fault) r = Unit {0}
+
+-- what a call keeps and moves whatever it answers: `item` where it took one
+pub record Stepped {I A T : Type 0} (device : InputOf I) (item : T) (old new : TextReader I A) (earlier later : Counts) (result : Result T Fault) : Type 0 where
+  -- the containers that are open
+  pub opens : result ≡ Ok item → opened_in new ≡ open_after (opened_in old) (lent_by new).head
+  pub stays : result ≢ Ok item → new.kinds ≡ old.kinds
+  pub fits : result ≡ Ok item → Fits old.limits.depth (opened_in old) (lent_by new)
+  -- what stays
+  pub limits : new.limits ≡ old.limits
+  pub done : new.done ≡ old.done
+  pub failed : new.failed ≡ old.failed
+  -- the input, faults and memory
+  pub sized : IsSized new
+  pub reads : ReadsInto device old.source new.source earlier later (held_by old) (held_by new) (share_of old) result
+
+-- ---- memory
+
+-- what holds of the memory, the depth and the items to come of every reader
+pub sound-within : {I A : Type 0} (r : TextReader I A) → IsSound r → ReadsWithin (held_by r) (share_of r) r.limits.depth (length (opened_in r)) (left_to r)
+sound-within r sound = record {
+  share = omega (arith, sound.sized.few, sound.sized.annotated, sound.sized.name, sound.sized.text);
+  small = omega (arith, sound.sized.checked.scalar, sound.sized.checked.depth);
+  deep = sound.sized.checked.depth;
+  level = omega (arith, sound.sized.few, length-reverse r.kinds);
+  few = omega (arith, sound.small);
+}

@@ -1,0 +1,123 @@
+//! What must come next in a text, and which tokens may.
+ghost use Rattle.std.specs.Prelude.{◌≡◌, ◌≢◌, List, [], ◌∷◌, Option, Some, None, true, false};
+ghost use Rattle.ion_value.specs.declared.ion_type.Kind as kinds;
+ghost use Rattle.ion_value.specs.Value.{SymbolAt};
+ghost use Rattle.ion_text_in.specs.Firsts.{first_of};
+ghost use Rattle.ion_text_in.specs.Positions.{innermost};
+ghost use Rattle.ion_text_in.specs.Reading as reading;
+ghost use Rattle.ion_text_in.specs.Expecting.{wanted, MayExpect};
+
+use crate::first::First;
+use ion_value::ion_type::Kind;
+
+/// What must come next.
+#[derive(Clone, Copy, Debug, PartialEq, Eq)]
+pub(crate) enum Expected {
+    /// A value, behind its field's name and annotations.
+    Value,
+    /// A field's name, or the end of the struct.
+    Field,
+    /// A comma, or the end of the container.
+    Separator,
+}
+
+// Whether two kinds are one.
+#[inline]
+pub(crate) fn is_same(one: Kind, other: Kind) -> bool
+    ensures { result ≡ reading.is_same one other }
+{
+    matches!(
+        (one, other),
+        (Kind::List, Kind::List) | (Kind::Sexp, Kind::Sexp) | (Kind::Struct, Kind::Struct)
+    )
+}
+
+// Where a member of a container may begin.
+#[inline]
+pub(crate) fn at_member(kind: Kind) -> Expected
+    ensures is { wanted result None [] ≡ reading.member_of kind }
+    ensures may { (outer : List kinds.Kind) → MayExpect result (kind ∷ outer) None [] }
+{
+    match kind {
+        Kind::Struct => Expected::Field,
+        Kind::List | Kind::Sexp => Expected::Value,
+    }
+}
+
+// Where a member of the innermost container, if any, may begin.
+#[inline]
+pub(crate) fn behind_comma(kind: Option<Kind>) -> Expected
+    ensures is { wanted result None [] ≡ reading.at_member kind }
+    ensures may { (opened : List kinds.Kind) → innermost opened ≡ kind
+        → MayExpect result opened None [] }
+{
+    match kind {
+        None => Expected::Value,
+        Some(kind) => at_member(kind),
+    }
+}
+
+// What comes behind a member of the innermost container, if any.
+#[inline]
+pub(crate) fn behind_member(kind: Option<Kind>) -> Expected
+    ensures is { wanted result None [] ≡ reading.behind_member kind }
+    ensures may { (opened : List kinds.Kind) → innermost opened ≡ kind
+        → MayExpect result opened None [] }
+{
+    match kind {
+        Some(Kind::List | Kind::Struct) => Expected::Separator,
+        Some(Kind::Sexp) | None => Expected::Value,
+    }
+}
+
+// Whether a token that so begins is read before it is found not to belong here.
+#[tactic(auto, unfolding(crate::specs::Reading::may_come))]
+#[inline]
+pub(crate) fn may_come(expected: Expected, first: First) -> bool
+    ensures { (field : Option SymbolAt) (annotations : List SymbolAt)
+        → result ≡ reading.may_come (wanted expected field annotations) (first_of first) }
+{
+    match expected {
+        Expected::Value => true,
+        Expected::Field => is_punctuation(first) || names_field(first),
+        Expected::Separator => is_punctuation(first),
+    }
+}
+
+// Whether a token that so begins is punctuation, or none.
+#[inline]
+fn is_punctuation(first: First) -> bool
+    ensures { result ≡ reading.is_punctuation (first_of first) }
+{
+    match first {
+        First::Number
+        | First::Word
+        | First::QuotedSymbol
+        | First::String
+        | First::LongString
+        | First::Lob
+        | First::Operator
+        | First::Infinity => false,
+        _ => true,
+    }
+}
+
+// Whether a token that so begins may name a field.
+#[inline]
+fn names_field(first: First) -> bool
+    ensures { result ≡ reading.names_field (first_of first) }
+{
+    match first {
+        First::Word | First::QuotedSymbol | First::String | First::LongString => true,
+        _ => false,
+    }
+}
+
+// Whether two colons come.
+#[inline]
+pub(crate) fn is_colons(found: Option<First>) -> bool
+    ensures some { result ≡ true → found ≡ Some First.Colons }
+    ensures none { result ≡ false → found ≢ Some First.Colons }
+{
+    matches!(found, Some(First::Colons))
+}

@@ -1,0 +1,770 @@
+//! The reader of texts.
+ghost use Rattle.std.specs.Prelude.{◌≡◌, ◌≢◌, ℕ, ◌+◌, ◌-◌, ◌*◌, ◌^◌, ◌<◌, ◌≤◌, [], length, is_some, Option, Some, None, Ok, Err, true, false, OnOk};
+ghost use Rattle.ion_meter.specs.declared.fault.Reason.{Reason};
+ghost use Rattle.ion_meter.specs.declared.fault.Fault.TheVariants.{Refused};
+ghost use Rattle.ion_meter.specs.Counts.{Counts, Shrinks};
+ghost use Rattle.ion_meter.specs.Limits.{AreChecked};
+ghost use Rattle.ion_meter.specs.Sources.{Cursor, cursor, skip, Exceeds, Stands};
+ghost use Rattle.ion_meter.specs.Windows.{left, lent};
+ghost use Rattle.ion_value.specs.Items.{raw_head};
+ghost use Rattle.ion_value.specs.Reading.{Finished, More, Stopped};
+ghost use Rattle.ion_text_in.specs.Blanks.{blanks};
+ghost use Rattle.ion_text_in.specs.Firsts.{first_of, width};
+ghost use Rattle.ion_text_in.specs.Positions.{at, innermost, in_sexp};
+ghost use Rattle.ion_text_in.specs.Reading as reading;
+ghost use Rattle.ion_text_in.specs.Reading.{reading};
+ghost use Rattle.ion_text_in.specs.Tokens.{as_symbol, going, overrun_of, token_view, BodyInRange, TokenInRange};
+ghost use Rattle.ion_text_in.specs.Symbols.{is_annotated, kept_text};
+ghost use Rattle.ion_text_in.specs.Expecting.{wanted, MayExpect};
+ghost use Rattle.ion_text_in.specs.Steps.{annotations_in, as_head, closing, ending, given_by, held_by, left_to, lent_by, naming, opened_in, opening, part_by, scalar_by, share_of, sound-within, taking, to_come_by, to_come_in, with_colons, without_colons, CanAdvance, CanStep, IsInside, IsReady, IsSized, IsSound, ReadyAfter, StepGives, Stepped};
+
+use crate::blank::pass_blanks;
+use crate::expected::{
+    Expected, at_member, behind_comma, behind_member, is_colons, is_same, may_come,
+};
+use crate::first::{First, next_first};
+use crate::operator::{pass_colons, pass_mark};
+use crate::symbol::{FieldName, annotation_place, keep_text, lent_field, lent_symbol};
+use crate::token::{Body, Symbol, Token, next_token};
+use crate::version::{is_version, is_version_word};
+use ion_meter::buf::Buf;
+use ion_meter::device::Input;
+use ion_meter::fault::{Fault, Reason};
+use ion_meter::limits::Limits;
+use ion_meter::meter::Meter;
+use ion_meter::source::Source;
+use ion_meter::stack::Stack;
+use ion_value::ion_type::Kind;
+use ion_value::item::{Annotation, Annotations, Head, Item};
+use ion_value::names::NoNames;
+use ion_value::reader::RawReader;
+use std::alloc::Allocator;
+use std::mem;
+
+/// What the item is that is lent. The bytes of a text stand beside it.
+#[derive(Clone, Copy, Debug, PartialEq, Eq)]
+pub(crate) enum ItemKind {
+    /// A scalar.
+    Scalar(Body),
+    /// A container's beginning.
+    Begin(Kind),
+    /// A container's end.
+    End,
+    /// A version marker.
+    Marker,
+}
+
+/// What one step gave.
+#[derive(Clone, Copy, Debug, PartialEq, Eq)]
+pub(crate) enum StepResult {
+    /// The stream has ended.
+    Ended,
+    /// A comma, a field's name or an annotation was passed over.
+    Passed,
+    /// An item was taken.
+    Item,
+}
+
+/// Reads a text one item at a time.
+///
+/// It holds at most the window of its source, one scalar, one field's name, the annotations of one
+/// value, each counted as 16 and its text's length, and 16 for each open container:
+/// `4096 + 16 * depth + 3 * scalar` counted bytes at any moment.
+#[derive(Drop)]
+pub struct TextReader<I: Input, A: Allocator + Copy> {
+    source: Source<I, A>,
+    // The kinds of the open containers, the innermost last.
+    kinds: Stack<Kind, A>,
+    expected: Expected,
+    // What is read of the next item, or all of the item that is lent: its field and its bytes, its
+    // annotations and their texts, the bytes of its scalar, what it is, and the places of its head
+    // and of its top-level value.
+    field: Option<FieldName>,
+    name: Buf<A>,
+    annotations: Stack<Annotation, A>,
+    texts: Buf<A>,
+    text: Buf<A>,
+    what: ItemKind,
+    place: u64,
+    top: u64,
+    // Where a comment behind the item that is lent begins that does not end.
+    unfinished: Option<u64>,
+    limits: Limits,
+    done: bool,
+    failed: Option<Fault>,
+}
+
+impl<I: Input, A: Allocator + Copy> TextReader<I, A> {
+    /// A reader of the text that this source gives from its present place on.
+    #[tactic(auto, unfolding(crate::specs::Reading::reading))]
+    pub fn new(meter: &Meter<A>, limits: Limits, source: Source<I, A>) -> TextReader<I, A>
+        requires checked { AreChecked limits }
+        requires stands { Stands source }
+        ensures sound { IsSound result }
+        ensures source { (result.source ≡ source) × (result.limits ≡ limits) }
+        ensures holds { held_by result ≡ 4096 }
+        ensures fresh { (result.done ≡ false) × (result.failed ≡ None) }
+        ensures reading { source.place ≡ 0
+            → to_come_by I.Input result ≡ reading limits (left I.rest source) }
+    {
+        TextReader {
+            source,
+            kinds: Stack::new(meter),
+            expected: Expected::Value,
+            field: None,
+            name: Buf::new(meter),
+            annotations: Stack::new(meter),
+            texts: Buf::new(meter),
+            text: Buf::new(meter),
+            what: ItemKind::Marker,
+            place: 0,
+            top: 0,
+            unfinished: None,
+            limits,
+            done: false,
+            failed: None,
+        }
+    }
+
+    /// Gives back all that it holds, and hands out the device.
+    pub fn release(self, meter: &mut Meter<A>) -> I
+        requires { held_by self ≤ meter.old.held }
+        ensures device { result ≡ self.source.device }
+        ensures cost { Shrinks meter.old meter.new (held_by self) }
+    {
+        let TextReader {
+            source,
+            kinds,
+            expected: _,
+            field: _,
+            name,
+            annotations,
+            texts,
+            text,
+            what: _,
+            place: _,
+            top: _,
+            unfinished: _,
+            limits: _,
+            done: _,
+            failed: _,
+        } = self;
+        kinds.release(meter);
+        name.release(meter);
+        annotations.release(meter);
+        texts.release(meter);
+        text.release(meter);
+        source.release(meter)
+    }
+
+    // The kind of the innermost open container.
+    #[inline]
+    fn innermost(&self) -> Option<Kind>
+        ensures { result ≡ innermost (opened_in self.now) }
+    {
+        self.kinds.as_slice().last().copied()
+    }
+
+    // Whether a container is open.
+    #[inline]
+    fn is_inside(&self) -> bool
+        ensures { result ≡ is_some (innermost (opened_in self.now)) }
+    {
+        self.innermost().is_some()
+    }
+
+    // Whether annotations were read.
+    #[inline]
+    fn is_annotated(&self) -> bool
+        ensures { result ≡ is_annotated (annotations_in self.now) }
+    {
+        match self.annotations.as_slice() {
+            [] => false,
+            _ => true,
+        }
+    }
+
+    // Whether the innermost open container is a sexp.
+    #[inline]
+    fn in_sexp(&self) -> bool
+        ensures { result ≡ in_sexp (innermost (opened_in self.now)) }
+    {
+        matches!(self.innermost(), Some(Kind::Sexp))
+    }
+
+    // Where the value at top level begins of which this is the place of a head.
+    #[inline]
+    fn top_at(&self, place: u64) -> u64
+        ensures { result ≡ reading.top_of (opened_in self.now) self.now.top
+            (annotations_in self.now) place }
+    {
+        if self.is_inside() {
+            return self.top;
+        }
+        match self.annotations.as_slice().first() {
+            None => place,
+            Some(annotation) => annotation_place(*annotation),
+        }
+    }
+
+    // Lends an item whose head begins at a place, behind what was read of it.
+    #[inline]
+    fn give(&mut self, what: ItemKind, place: u64, unfinished: Option<u64>)
+        ensures given { self.new
+            ≡ given_by self.old what place unfinished self.new.expected }
+        ensures behind { wanted self.new.expected None []
+            ≡ reading.behind_member (innermost (opened_in self.old)) }
+        ensures may { MayExpect self.new.expected (opened_in self.old) None [] }
+    {
+        self.top = self.top_at(place);
+        self.place = place;
+        self.what = what;
+        self.unfinished = unfinished;
+        self.expected = behind_member(self.innermost());
+    }
+
+    // Takes a scalar that no annotation goes before that was not read.
+    #[inline]
+    fn scalar(&mut self, body: Body, place: u64, unfinished: Option<u64>) -> StepResult
+        requires value { self.old.expected ≡ Expected.Value }
+        requires inside { IsInside self.old }
+        requires sized { IsSized self.old }
+        requires range { BodyInRange body }
+        ensures gives { I.observable self.old.source.device → (d : Cursor)
+            → blanks d ≡ going unfinished (cursor I.Input self.old.source)
+            → StepGives I.Input (scalar_by self.old body place d) self.new (Ok result) }
+        ensures ready { ReadyAfter (Ok result) self.new }
+        ensures stepped { (m : Counts) → held_by self.old ≤ m.held
+            → Stepped I.Input StepResult.Item self.old self.new m m (Ok result) }
+    {
+        self.give(ItemKind::Scalar(body), place, unfinished);
+        StepResult::Item
+    }
+
+    // Takes a version marker, or the symbol that was read as a value.
+    fn symbol_value(
+        &mut self,
+        symbol: Symbol,
+        quoted: bool,
+        place: u64,
+        unfinished: Option<u64>,
+    ) -> Result<StepResult, Fault>
+        requires value { self.old.expected ≡ Expected.Value }
+        requires inside { IsInside self.old }
+        requires sized { IsSized self.old }
+        ensures gives { I.observable self.old.source.device → (d : Cursor)
+            → blanks d ≡ going unfinished (cursor I.Input self.old.source)
+            → StepGives I.Input (without_colons self.old symbol quoted place d) self.new result }
+        ensures ready { ReadyAfter result self.new }
+        ensures stepped { (m : Counts) → held_by self.old ≤ m.held
+            → Stepped I.Input StepResult.Item self.old self.new m m result }
+    {
+        if !self.tells_version(symbol, quoted) {
+            return Ok(self.scalar(Body::Symbol(symbol), place, unfinished));
+        }
+        if !is_version_word(self.text.as_slice()) {
+            return Err(Fault::Refused(Reason::BadVersion, place));
+        }
+        self.give(ItemKind::Marker, place, unfinished);
+        Ok(StepResult::Item)
+    }
+
+    // Whether a symbol is a version's word without quotes and annotations at top level.
+    #[inline]
+    fn tells_version(&self, symbol: Symbol, quoted: bool) -> bool
+        ensures { result ≡ reading.tells_version (innermost (opened_in self.now))
+            (annotations_in self.now) quoted (as_symbol self.now.text symbol) }
+    {
+        if quoted {
+            return false;
+        }
+        if self.is_inside() {
+            return false;
+        }
+        if self.is_annotated() {
+            return false;
+        }
+        match symbol {
+            Symbol::Id(_) => false,
+            Symbol::Text => is_version(self.text.as_slice()),
+        }
+    }
+
+    // Takes the symbol that was read as an annotation; two colons follow.
+    fn annotate(
+        &mut self,
+        symbol: Symbol,
+        place: u64,
+        meter: &mut Meter<A>,
+    ) -> Result<StepResult, Fault>
+        requires can_step { CanStep self.old meter.old }
+        requires value { self.old.expected ≡ Expected.Value }
+        requires colons { 2 ≤ length (lent self.old.source) }
+        ensures gives { I.observable self.old.source.device
+            → StepGives I.Input (with_colons self.old symbol place
+            (skip 2 (cursor I.Input self.old.source))) self.new result }
+        ensures ready { ReadyAfter result self.new }
+        ensures stepped { Stepped I.Input StepResult.Item self.old self.new
+            meter.old meter.new result }
+    {
+        let limit = self.limits.scalar;
+        let cost = self.annotations_cost(symbol);
+        if limit < cost {
+            return Err(Fault::Refused(Reason::AnnotationLimit, place));
+        }
+        pass_colons(&mut self.source);
+        match keep_text(&mut self.texts, self.text.as_slice(), symbol, place, meter) {
+            Err(fault) => Err(fault),
+            Ok(annotation) => match self.annotations.push(meter, annotation) {
+                Err((_, fault)) => Err(fault),
+                Ok(()) => Ok(StepResult::Passed),
+            },
+        }
+    }
+
+    // What the annotations cost with the symbol that was read as one more.
+    #[inline]
+    fn annotations_cost(&self, symbol: Symbol) -> u64
+        requires { IsSized self.now }
+        ensures { result ≡ 16 * length self.now.annotations + length self.now.texts
+            + (16 + length (kept_text self.now.text symbol)) }
+    {
+        let before = 16 * self.annotations.as_slice().len() as u64
+            + self.texts.as_slice().len() as u64;
+        match symbol {
+            Symbol::Id(_) => before + 16,
+            Symbol::Text => before + 16 + self.text.as_slice().len() as u64,
+        }
+    }
+
+    // Takes the symbol that was read where a value may stand: an annotation, a version marker or a
+    // value.
+    fn symbol(
+        &mut self,
+        symbol: Symbol,
+        quoted: bool,
+        place: u64,
+        meter: &mut Meter<A>,
+    ) -> Result<StepResult, Fault>
+        requires can_step { CanStep self.old meter.old }
+        requires value { self.old.expected ≡ Expected.Value }
+        ensures gives { I.observable self.old.source.device → (d : Cursor)
+            → blanks d ≡ blanks (cursor I.Input self.old.source)
+            → StepGives I.Input (taking self.old place
+            (token_view self.old.text place (Token.Symbol symbol quoted)) d) self.new result }
+        ensures ready { ReadyAfter result self.new }
+        ensures stepped { Stepped I.Input StepResult.Item self.old self.new
+            meter.old meter.new result }
+    {
+        let unfinished = match pass_blanks(&mut self.source) {
+            Err(fault) => return Err(fault),
+            Ok(unfinished) => unfinished,
+        };
+        let in_sexp = self.in_sexp();
+        let found = match next_first(&mut self.source, in_sexp) {
+            Err(fault) => return Err(fault),
+            Ok(found) => found,
+        };
+        if is_colons(found) {
+            return self.annotate(symbol, place, meter);
+        }
+        self.symbol_value(symbol, quoted, place, unfinished)
+    }
+
+    // Takes the symbol that was read as the name of a field: a colon has to follow.
+    fn named(&mut self, symbol: Symbol, place: u64) -> Result<StepResult, Fault>
+        requires value { self.old.expected ≡ Expected.Field }
+        requires inside { IsInside self.old }
+        requires sized { IsSized self.old }
+        ensures gives { I.observable self.old.source.device → (d : Cursor)
+            → blanks d ≡ blanks (cursor I.Input self.old.source)
+            → StepGives I.Input (naming self.old symbol place d) self.new result }
+        ensures ready { ReadyAfter result self.new }
+        ensures stepped { (m : Counts) → held_by self.old ≤ m.held
+            → Stepped I.Input StepResult.Item self.old self.new m m result }
+    {
+        match pass_blanks(&mut self.source) {
+            Err(fault) => return Err(fault),
+            Ok(Some(start)) => return Err(Fault::Refused(Reason::Truncated, start)),
+            Ok(None) => {}
+        }
+        match next_first(&mut self.source, false) {
+            Err(fault) => Err(fault),
+            Ok(None) => Err(Fault::Refused(Reason::Truncated, self.source.place())),
+            Ok(Some(First::Colon)) => {
+                pass_mark(&mut self.source);
+                mem::swap(&mut self.name, &mut self.text);
+                self.field = Some(FieldName { symbol, place });
+                self.expected = Expected::Value;
+                Ok(StepResult::Passed)
+            }
+            Ok(Some(_)) => Err(Fault::Refused(Reason::BadToken, self.source.place())),
+        }
+    }
+
+    // Closes the innermost open container, where it is of this kind.
+    fn close(&mut self, kind: Kind, place: u64, meter: &mut Meter<A>) -> Result<StepResult, Fault>
+        requires can_step { CanStep self.old meter.old }
+        requires bare { (self.old.field ≡ None) × (self.old.annotations ≡ []) }
+        ensures gives { I.observable self.old.source.device → (d : Cursor)
+            → blanks d ≡ blanks (cursor I.Input self.old.source)
+            → StepGives I.Input (closing self.old kind place d) self.new result }
+        ensures ready { ReadyAfter result self.new }
+        ensures stepped { Stepped I.Input StepResult.Item self.old self.new
+            meter.old meter.new result }
+    {
+        let Some(innermost) = self.innermost() else {
+            return Err(Fault::Refused(Reason::BadToken, place));
+        };
+        if !is_same(innermost, kind) {
+            return Err(Fault::Refused(Reason::BadToken, place));
+        }
+        let _closed = self.kinds.pop(meter);
+        self.what = ItemKind::End;
+        self.place = place;
+        self.expected = behind_member(self.innermost());
+        Ok(StepResult::Item)
+    }
+
+    // Opens a container.
+    fn open(&mut self, kind: Kind, place: u64, meter: &mut Meter<A>) -> Result<StepResult, Fault>
+        requires can_step { CanStep self.old meter.old }
+        requires value { self.old.expected ≡ Expected.Value }
+        ensures gives { I.observable self.old.source.device → (d : Cursor)
+            → blanks d ≡ blanks (cursor I.Input self.old.source)
+            → StepGives I.Input (opening self.old kind place d) self.new result }
+        ensures ready { ReadyAfter result self.new }
+        ensures stepped { Stepped I.Input StepResult.Item self.old self.new
+            meter.old meter.new result }
+    {
+        if u64::from(self.limits.depth) <= self.kinds.as_slice().len() as u64 {
+            return Err(Fault::Refused(Reason::DepthLimit, place));
+        }
+        let top = self.top_at(place);
+        if let Err((_, fault)) = self.kinds.push(meter, kind) {
+            return Err(fault);
+        }
+        self.top = top;
+        self.what = ItemKind::Begin(kind);
+        self.place = place;
+        self.expected = at_member(kind);
+        Ok(StepResult::Item)
+    }
+
+    // Takes the token that was read behind a member.
+    #[tactic(auto, unfolding(crate::specs::Reading::take))]
+    fn take_separator(
+        &mut self,
+        token: Token,
+        place: u64,
+        meter: &mut Meter<A>,
+    ) -> Result<StepResult, Fault>
+        requires can_step { CanStep self.old meter.old }
+        requires separator { self.old.expected ≡ Expected.Separator }
+        ensures gives { I.observable self.old.source.device → (d : Cursor)
+            → blanks d ≡ going (overrun_of token) (cursor I.Input self.old.source)
+            → StepGives I.Input
+            (taking self.old place (token_view self.old.text place token) d) self.new result }
+        ensures ready { ReadyAfter result self.new }
+        ensures stepped { Stepped I.Input StepResult.Item self.old self.new
+            meter.old meter.new result }
+    {
+        match token {
+            Token::Comma => {
+                self.expected = behind_comma(self.innermost());
+                Ok(StepResult::Passed)
+            }
+            Token::End(kind) => self.close(kind, place, meter),
+            _ => Err(Fault::Refused(Reason::BadToken, place)),
+        }
+    }
+
+    // Takes the token that was read where a field may begin.
+    #[tactic(auto, unfolding(crate::specs::Reading::take))]
+    fn take_field(
+        &mut self,
+        token: Token,
+        place: u64,
+        meter: &mut Meter<A>,
+    ) -> Result<StepResult, Fault>
+        requires can_step { CanStep self.old meter.old }
+        requires field { self.old.expected ≡ Expected.Field }
+        ensures gives { I.observable self.old.source.device → (d : Cursor)
+            → blanks d ≡ going (overrun_of token) (cursor I.Input self.old.source)
+            → StepGives I.Input
+            (taking self.old place (token_view self.old.text place token) d) self.new result }
+        ensures ready { ReadyAfter result self.new }
+        ensures stepped { Stepped I.Input StepResult.Item self.old self.new
+            meter.old meter.new result }
+    {
+        match token {
+            Token::Symbol(symbol, _) => self.named(symbol, place),
+            Token::String(None) => self.named(Symbol::Text, place),
+            Token::String(Some(start)) => Err(Fault::Refused(Reason::Truncated, start)),
+            Token::End(kind) => self.close(kind, place, meter),
+            _ => Err(Fault::Refused(Reason::BadToken, place)),
+        }
+    }
+
+    // Takes the token that was read where a value may stand.
+    #[tactic(auto, unfolding(crate::specs::Reading::take))]
+    fn take_value(
+        &mut self,
+        token: Token,
+        place: u64,
+        meter: &mut Meter<A>,
+    ) -> Result<StepResult, Fault>
+        requires can_step { CanStep self.old meter.old }
+        requires value { self.old.expected ≡ Expected.Value }
+        requires range { TokenInRange token }
+        ensures gives { I.observable self.old.source.device → (d : Cursor)
+            → blanks d ≡ going (overrun_of token) (cursor I.Input self.old.source)
+            → StepGives I.Input
+            (taking self.old place (token_view self.old.text place token) d) self.new result }
+        ensures ready { ReadyAfter result self.new }
+        ensures stepped { Stepped I.Input StepResult.Item self.old self.new
+            meter.old meter.new result }
+    {
+        match token {
+            Token::Plain(body) => Ok(self.scalar(body, place, None)),
+            Token::String(start) => Ok(self.scalar(Body::String, place, start)),
+            Token::Operator => Ok(self.scalar(Body::Symbol(Symbol::Text), place, None)),
+            Token::Symbol(symbol, quoted) => self.symbol(symbol, quoted, place, meter),
+            Token::Begin(kind) => self.open(kind, place, meter),
+            Token::End(kind) => self.close_bare(kind, place, meter),
+            Token::NoNumber => Err(Fault::Refused(Reason::Float, place)),
+            _ => Err(Fault::Refused(Reason::BadToken, place)),
+        }
+    }
+
+    // Closes the innermost open container where a value may stand: behind a field's name and behind
+    // annotations a value has to come.
+    #[tactic(auto, unfolding(crate::specs::Reading::take))]
+    fn close_bare(
+        &mut self,
+        kind: Kind,
+        place: u64,
+        meter: &mut Meter<A>,
+    ) -> Result<StepResult, Fault>
+        requires can_step { CanStep self.old meter.old }
+        requires value { self.old.expected ≡ Expected.Value }
+        ensures gives { I.observable self.old.source.device → (d : Cursor)
+            → blanks d ≡ blanks (cursor I.Input self.old.source)
+            → StepGives I.Input (taking self.old place
+            (token_view self.old.text place (Token.End kind)) d) self.new result }
+        ensures ready { ReadyAfter result self.new }
+        ensures stepped { Stepped I.Input StepResult.Item self.old self.new
+            meter.old meter.new result }
+    {
+        if self.field.is_some() {
+            return Err(Fault::Refused(Reason::BadToken, place));
+        }
+        if self.is_annotated() {
+            return Err(Fault::Refused(Reason::BadToken, place));
+        }
+        self.close(kind, place, meter)
+    }
+
+    // Reads the token that so begins, and takes it.
+    fn part(&mut self, first: First, meter: &mut Meter<A>) -> Result<StepResult, Fault>
+        requires can_step { CanStep self.old meter.old }
+        requires there { width (first_of first) ≤ length (lent self.old.source) }
+        ensures gives { I.observable self.old.source.device → StepGives I.Input
+            (part_by I.Input self.old (first_of first)) self.new result }
+        ensures ready { ReadyAfter result self.new }
+        ensures further { OnOk result (left_to self.new < left_to self.old) }
+        ensures stepped { Stepped I.Input StepResult.Item self.old self.new
+            meter.old meter.new result }
+    {
+        let place = self.source.place();
+        if !may_come(self.expected, first) {
+            return Err(Fault::Refused(Reason::BadToken, place));
+        }
+        match next_token(&mut self.source, &mut self.text, first, self.limits, meter) {
+            Err(fault) => Err(fault),
+            Ok(token) => match self.expected {
+                Expected::Separator => self.take_separator(token, place, meter),
+                Expected::Field => self.take_field(token, place, meter),
+                Expected::Value => self.take_value(token, place, meter),
+            },
+        }
+    }
+
+    // The end of the input: the stream ends where nothing is open and a value may begin.
+    fn end(&self) -> Result<StepResult, Fault>
+        requires inside { IsInside self.now }
+        requires sized { IsSized self.now }
+        ensures gives { left I.rest self.now.source ≡ []
+            → StepGives I.Input (ending self.now self.now.source.place) self.now result }
+        ensures ready { ReadyAfter result self.now }
+        ensures ended { (t : StepResult) → result ≡ Ok t → t ≡ StepResult.Ended }
+        ensures stepped { (m : Counts) → held_by self.now ≤ m.held
+            → Stepped I.Input StepResult.Item self.now self.now m m result }
+    {
+        if self.is_inside() {
+            return Err(Fault::Refused(Reason::Truncated, self.source.place()));
+        }
+        if self.is_annotated() {
+            return Err(Fault::Refused(Reason::Truncated, self.source.place()));
+        }
+        match self.expected {
+            Expected::Value => Ok(StepResult::Ended),
+            _ => Err(Fault::Refused(Reason::Truncated, self.source.place())),
+        }
+    }
+
+    // One token, and what belongs to it: an item, a part of one, a comma, or the end of the stream.
+    fn step(&mut self, meter: &mut Meter<A>) -> Result<StepResult, Fault>
+        requires can_step { CanStep self.old meter.old }
+        ensures gives { I.observable self.old.source.device → StepGives I.Input
+            (to_come_in I.Input self.old) self.new result }
+        ensures ready { ReadyAfter result self.new }
+        ensures further { (t : StepResult) → result ≡ Ok t → t ≢ StepResult.Ended
+            → left_to self.new < left_to self.old }
+        ensures stepped { Stepped I.Input StepResult.Item self.old self.new
+            meter.old meter.new result }
+    {
+        match pass_blanks(&mut self.source) {
+            Err(fault) => return Err(fault),
+            Ok(Some(start)) => return Err(Fault::Refused(Reason::Truncated, start)),
+            Ok(None) => {}
+        }
+        let in_sexp = self.in_sexp();
+        match next_first(&mut self.source, in_sexp) {
+            Err(fault) => Err(fault),
+            Ok(None) => self.end(),
+            Ok(Some(first)) => self.part(first, meter),
+        }
+    }
+
+    // Gives back the field and the annotations of the item that was lent.
+    #[inline]
+    fn forget(&mut self, meter: &mut Meter<A>)
+        requires { held_by self.old ≤ meter.old.held }
+        ensures cleared { self.new ≡ record self.old {
+          field = None;
+          annotations = [];
+          texts = [];
+        } }
+        ensures cost { Shrinks meter.old meter.new
+            (16 * length self.old.annotations + length self.old.texts) }
+    {
+        self.field = None;
+        self.annotations.clear(meter);
+        self.texts.clear(meter);
+    }
+
+    // Takes the next item; false at the end of the stream.
+    fn advance(&mut self, meter: &mut Meter<A>) -> Result<bool, Fault>
+        requires can_advance { CanAdvance self.old meter.old }
+        ensures gives { I.observable self.old.source.device → result ≡ Ok true
+            → to_come_by I.Input self.old ≡ More (lent_by self.new) (to_come_by I.Input self.new) }
+        ensures ends { I.observable self.old.source.device → result ≡ Ok false
+            → (to_come_by I.Input self.old ≡ Finished) × (to_come_by I.Input self.new ≡ Finished) }
+        ensures refuses { I.observable self.old.source.device → (r : Reason) (p : ℕ)
+            → result ≡ Err (Refused r p) → to_come_by I.Input self.old ≡ Stopped r p }
+        ensures ready { OnOk result (IsReady self.new) }
+        ensures falls { result ≡ Ok true → left_to self.new < left_to self.old }
+        ensures stepped { Stepped I.Input true self.old self.new meter.old meter.new result }
+    {
+        match self.unfinished {
+            Some(start) => return Err(Fault::Refused(Reason::Truncated, start)),
+            None => {}
+        }
+        self.forget(meter);
+        loop {
+            match self.step(meter) {
+                Err(fault) => return Err(fault),
+                Ok(StepResult::Ended) => return Ok(false),
+                Ok(StepResult::Item) => return Ok(true),
+                Ok(StepResult::Passed) => {}
+            }
+        }
+    }
+
+    // What the item is that is lent.
+    #[inline]
+    fn head(&self) -> Head<'_>
+        ensures { raw_head result ≡ as_head self.now.text self.now.place self.now.what }
+    {
+        match self.what {
+            ItemKind::Begin(kind) => Head::Begin(kind),
+            ItemKind::End => Head::End,
+            ItemKind::Marker => Head::Marker,
+            ItemKind::Scalar(body) => match body {
+                Body::Null(ion_type) => Head::Null(ion_type),
+                Body::Bool(truth) => Head::Bool(truth),
+                Body::Int(int) => Head::Int(int),
+                Body::Decimal(decimal) => Head::Decimal(decimal),
+                Body::Timestamp(timestamp) => Head::Timestamp(timestamp),
+                Body::Symbol(symbol) => {
+                    Head::Symbol(lent_symbol(self.text.as_slice(), symbol, self.place))
+                }
+                Body::String => Head::String(self.text.as_slice()),
+                Body::Clob => Head::Clob(self.text.as_slice()),
+                Body::Blob => Head::Blob(self.text.as_slice()),
+            },
+        }
+    }
+}
+
+impl<I: Input, A: Allocator + Copy> RawReader<A> for TextReader<I, A> {
+    ghost observable = { λ s. I.observable s.source.device };
+
+    ghost reading = { to_come_by I.Input };
+
+    ghost lends = { λ s. Unit {0} };
+
+    ghost current = { lent_by };
+
+    ghost failed = { λ s. s.failed };
+
+    ghost ended = { λ s. s.done ≡ true };
+
+    ghost opened = { opened_in };
+
+    ghost depth = { λ s. s.limits.depth };
+
+    ghost own = { held_by };
+
+    ghost most = { share_of };
+
+    ghost failures = { λ s. I.failure_count s.source.device };
+
+    ghost exceeds = { λ s. Exceeds I.Input s.source };
+
+    ghost left = { left_to };
+
+    ghost sound = { λ s. IsSound s
+        × (s.done ≡ true → I.observable s.source.device → to_come_by I.Input s ≡ Finished) };
+
+    fn next(&mut self, meter: &mut Meter<A>) -> Result<bool, Fault> {
+        if let Some(fault) = self.failed {
+            return Err(fault);
+        }
+        if self.done {
+            return Ok(false);
+        }
+        let outcome = self.advance(meter);
+        match outcome {
+            Ok(more) => self.done = !more,
+            Err(fault) => self.failed = Some(fault),
+        }
+        outcome
+    }
+
+    #[inline(always)]
+    fn item(&self) -> Item<'_, NoNames> {
+        Item::new(
+            lent_field(self.name.as_slice(), self.field),
+            Annotations::new(self.annotations.as_slice(), self.texts.as_slice(), &NoNames),
+            self.head(),
+            self.place,
+            self.top,
+        )
+    }
+
+    ghost within = { λ s sound. sound-within s sound.0 };
+
+    ghost one_ending = { λ s sound done. sound.0.one_ending done };
+}

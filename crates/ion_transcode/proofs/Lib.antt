@@ -7,5 +7,5 @@ mod NoEnd
 mod Reached
 mod SpellsOnce
 mod Streams
-mod TextFormSound
 mod TextSound
+mod EmptySound

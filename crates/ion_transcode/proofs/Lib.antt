@@ -7,6 +7,6 @@ mod NoEnd
 mod Reached
 mod SpellsOnce
 mod Streams
-mod TextFormSound
 mod TextSound
+mod EmptySound
 mod UserPaths

@@ -5,29 +5,32 @@ use Rattle.ion_binary.specs.Laws.{OnePath, OneStream}
 use Rattle.ion_text_in.specs.Laws as text
 use Rattle.ion_text_in.proofs.Sound as text_sound
 use Rattle.ion_transcode.specs.declared.to.Form.TheVariants as form
-use Rattle.ion_transcode.specs.Forms.{binary_encoding, text_encoding, text_form}
+use Rattle.ion_transcode.specs.declared.to.Target.TheVariants as target
+use Rattle.ion_transcode.specs.Forms.{binary_encoding, text_encoding, empty_encoding}
 use Rattle.ion_transcode.specs.Laws.{OneSpelling, SpellsOnce}
 use Rattle.ion_transcode.proofs.BinarySound.{at-path}
 
-binary-once : OnePath → OneStream → SpellsOnce binary_encoding
+pub binary-once : OnePath → OneStream → SpellsOnce binary_encoding
 binary-once one_path one_stream = record {
   path = λ bytes a b s t at is. one_path bytes s.cursor.place t.cursor.place a b (at-path bytes a s at) (at-path bytes b t is);
   stream = λ bytes a b is other. one_stream bytes a b is other;
 }
 
-pub text-form-once : text.OnePath → text.OneStream → SpellsOnce text_form
-text-form-once one_path one_stream = record {
+pub text-once : text.OnePath → text.OneStream → SpellsOnce text_encoding
+text-once one_path one_stream = record {
   path = λ bytes a b s t at is.
       one_path bytes at.behind.place is.behind.place a b (text_sound.at-path bytes a s at) (text_sound.at-path bytes b t is);
   stream = λ bytes a b is other. one_stream bytes a b is other;
 }
 
-text-once : SpellsOnce text_encoding
-text-once = record {
+empty-once : SpellsOnce empty_encoding
+empty-once = record {
   path = λ bytes a b s t at is. inl ([], ap path_items (is.0 ∙ sym at.0) ∙ sym (append-nil (path_items a)));
   stream = λ bytes a b is other. is.0 ∙ sym other.0;
 }
 
-pub one_spelling : OnePath → OneStream → OneSpelling
-one_spelling one_path one_stream form.Binary = binary-once one_path one_stream
-one_spelling one_path one_stream form.Text = text-once
+pub one_spelling : SpellsOnce binary_encoding → SpellsOnce text_encoding → OneSpelling
+one_spelling binary_once text_once form.Binary t = binary_once
+one_spelling binary_once text_once form.Text target.Text = text_once
+one_spelling binary_once text_once form.Text target.Nothing = text_once
+one_spelling binary_once text_once form.Text target.Binary = empty-once

@@ -1,5 +1,6 @@
 //! Laws of the verdicts of streams, each the contract of a function that does nothing.
-ghost use Rattle.ion_transcode.specs.Laws.{BinaryIsComplete, BinaryIsSound, OneSpelling, OneVerdict, StreamsAreRead, TextHasOneVerdict, TextIsComplete, TextIsSound};
+ghost use Rattle.ion_transcode.specs.Forms.{binary_encoding, text_encoding};
+ghost use Rattle.ion_transcode.specs.Laws.{BinaryIsComplete, BinaryIsSound, OneSpelling, OneVerdict, SpellsOnce, StreamsAreRead, TextIsComplete, TextIsSound};
 ghost use Rattle.ion_transcode.specs.UserPaths.{FaultlessPathsAreRead, RefusedOutputIsPathText};
 
 use ion_binary::laws as binary;
@@ -44,15 +45,20 @@ pub fn text_is_complete()
     text::rightly_refused();
 }
 
-/// A text, which `run` does not read yet, is one stream at most in its encoding, and it has one
-/// verdict and one output, those that the reading of its items one by one has.
-pub fn text_has_one_verdict()
-    ensures { TextHasOneVerdict }
+/// Binary is one stream at most, and of two of its paths the items of one begin the other's.
+pub fn binary_is_spelled_once()
+    ensures { SpellsOnce binary_encoding }
 {
-    text_is_sound();
+    binary::one_path();
+    binary::one_stream();
+}
+
+/// So is text.
+pub fn text_is_spelled_once()
+    ensures { SpellsOnce text_encoding }
+{
     text::one_path();
     text::one_stream();
-    users_are_read();
 }
 
 /// In the encoding of each form an input is one stream at most, and of two of its paths the items of
@@ -60,8 +66,8 @@ pub fn text_has_one_verdict()
 pub fn one_spelling()
     ensures { OneSpelling }
 {
-    binary::one_path();
-    binary::one_stream();
+    binary_is_spelled_once();
+    text_is_spelled_once();
 }
 
 /// A stream has one verdict and one output at most.
@@ -77,6 +83,7 @@ pub fn streams_are_read()
     ensures { StreamsAreRead }
 {
     binary_is_sound();
+    text_is_sound();
     users_are_read();
     text_is_that_of_items();
 }
@@ -109,7 +116,8 @@ mod tests {
         text_is_sound();
         binary_is_complete();
         text_is_complete();
-        text_has_one_verdict();
+        binary_is_spelled_once();
+        text_is_spelled_once();
         one_spelling();
         one_verdict();
         streams_are_read();

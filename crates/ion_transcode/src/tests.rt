@@ -33,11 +33,11 @@ fn binary(values: u64) -> Result<Summary, Fault> {
     })
 }
 
-/// No value of the empty stream.
-fn empty() -> Result<Summary, Fault> {
+/// So many values of a text.
+fn text(values: u64) -> Result<Summary, Fault> {
     Ok(Summary {
         form: Form::Text,
-        values: 0,
+        values,
     })
 }
 
@@ -217,23 +217,72 @@ fn refused_streams(rt: HostRuntime) -> Result<(), Fail> {
     expect_rows(&rt, rt.alloc(), one, &rows)
 }
 
+/// Asserts the verdicts on texts, and what is written of them as text.
+fn expect_texts(rt: &impl Abort, alloc: Global, limits: Limits, rows: &[Row]) {
+    for (input, want, shown) in rows {
+        let input = input.as_bytes();
+        expect(rt, alloc, limits, To::Text, input, *want, shown);
+        expect(rt, alloc, limits, To::Nothing, input, *want, "");
+    }
+}
+
+#[test]
+fn texts(rt: HostRuntime) -> Result<(), Fail> {
+    let rows = [
+        ("[1/*x*/,2]", text(1), "[1,2]\n"),
+        ("a /*x*/ :: /*y*/ b", text(1), "a::b\n"),
+        ("$ion_1_0 a $ion_1_0", text(1), "a\n"),
+        ("[1/2]", refused(Reason::BadToken, 1), "["),
+        ("null.nul", refused(Reason::BadToken, 0), ""),
+        ("(1_ a)", refused(Reason::BadToken, 1), "("),
+        ("a::", refused(Reason::Truncated, 3), ""),
+        ("[1 \"a", refused(Reason::BadToken, 3), "[1"),
+        ("{nan:1}", refused(Reason::BadToken, 1), "{"),
+        ("2000-02-30T", refused(Reason::BadTimestamp, 0), ""),
+        // The item is given before the comment behind it is refused.
+        ("a /*", refused(Reason::Truncated, 2), "a\n"),
+        ("'''a''' '''b", refused(Reason::Truncated, 0), ""),
+        // Declarations are no values.
+        (
+            "$ion_symbol_table::{symbols:[\"a\"]} $10 $11",
+            refused(Reason::BadSymbol, 39),
+            "a\n",
+        ),
+    ];
+    expect_texts(&rt, rt.alloc(), LIMITS, &rows);
+    let one = Limits { depth: 1, ..LIMITS };
+    let rows = [("[[", refused(Reason::DepthLimit, 1), "[")];
+    expect_texts(&rt, rt.alloc(), one, &rows);
+    Ok(())
+}
+
+// An input of as many bytes as the limit is read.
+#[test]
+fn input_limits(rt: HostRuntime) -> Result<(), Fail> {
+    let five = Limits { input: 5, ..LIMITS };
+    expect_texts(&rt, rt.alloc(), five, &[("1 2 3", text(3), "1\n2\n3\n")]);
+    let one = Limits { input: 1, ..LIMITS };
+    expect_texts(&rt, rt.alloc(), one, &[("12", Err(Fault::InputLimit), "")]);
+    Ok(())
+}
+
 #[test]
 fn first_bytes(rt: HostRuntime) -> Result<(), Fail> {
     let alloc = rt.alloc();
+    // Binary is not written yet: of it the version marker is all, before a refusal too.
+    let bad = refused(Reason::BadToken, 0);
     let rows = [
-        ("", empty()),
-        ("35", refused(Reason::BadToken, 0)),
-        ("E1 01 00 EA", refused(Reason::BadToken, 0)),
+        ("", text(0), "", text(0)),
+        ("35", text(1), "5\n", bad),
+        ("E1 01 00 EA", bad, "", bad),
     ];
-    for (digits, want) in rows {
+    for (digits, want, shown, converted) in rows {
         let octets = octets(&rt, alloc, digits)?;
         let octets = octets.as_slice();
-        for to in [To::Text, To::Nothing] {
-            expect(&rt, alloc, LIMITS, to, octets, want, "");
-        }
-        // Of binary the version marker is written, before a refusal too.
+        expect(&rt, alloc, LIMITS, To::Text, octets, want, shown);
+        expect(&rt, alloc, LIMITS, To::Nothing, octets, want, "");
         for to in [To::Binary, To::Other] {
-            expect_bytes(&rt, alloc, LIMITS, to, octets, want, &MARKER);
+            expect_bytes(&rt, alloc, LIMITS, to, octets, converted, &MARKER);
         }
     }
     let rows = [

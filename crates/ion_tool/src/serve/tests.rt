@@ -128,10 +128,10 @@ const ROWS: [Row; 8] = [
         count: "",
     },
     Row {
-        input: b"5",
+        input: b"5 [a,",
         status: 1,
-        out: "",
-        err: "refused BadToken at 0\n",
+        out: "5\n[a",
+        err: "refused Truncated at 5\n",
         count: "",
     },
 ];

@@ -1,5 +1,5 @@
-use Rattle.ion_transcode.proofs.TextFormSound.{text-form-complete}
+use Rattle.ion_transcode.proofs.TextSound.{text-complete}
 use Rattle.ion_transcode.proofs.laws.text_is_complete.Goals as goal
 
 pub returns : goal.returns
-returns c = text-form-complete c.what_is_spelled_is_read.ensures c.streams_are_read.ensures c.rightly_refused.ensures
+returns c = text-complete c.what_is_spelled_is_read.ensures c.streams_are_read.ensures c.rightly_refused.ensures

@@ -37,7 +37,7 @@ use Rattle.ion_text_in.specs.declared.first.First as code_first
 use Rattle.ion_text_in.specs.declared.first.First.TheVariants as firsts
 use Rattle.ion_text_in.specs.Firsts.{first_of, width}
 use Rattle.ion_text_in.specs.Overrun.{overrun}
-use Rattle.ion_text_in.specs.Reading.{step, step_of, part_at, part_behind, part_from, behind_colons, colons_at, colons_behind, symbol_given, value_or_version, coming, may_come, ended, take, size, given, closed, is_same, item_of, member_of, behind_member, is_marker, tells_version, top_of}
+use Rattle.ion_text_in.specs.Reading.{step, step_of, part_at, part_behind, part_from, behind_colons, colons_at, colons_behind, symbol_step, value_or_version, next_part, may_come, final_step, take, size, item_step, end_step, is_same, item_of, member_of, behind_member, is_marker, tells_version, top_of}
 use Rattle.ion_text_in.specs.Token as tokens
 use Rattle.ion_text_in.specs.Token.{First, Token, no_token, two_colons, first_at, token_of}
 use Rattle.ion_text_in.specs.Scanning.{moved_to}
@@ -80,7 +80,7 @@ module _ {I A : Type 0} (device : InputOf I) where
   -- an item was taken
   pub gives-given : (r new : TextReader I A) (what : ItemKind) (place : ℕ) (start : Option ℕ) (d : Cursor) → new ≡ given_by r what place start new.expected
       → wanted new.expected None [] ≡ behind_member (innermost (opened_in r)) → blanks d ≡ going start (cursor device r.source)
-      → next_reading (later r.limits) (given (opened_in r) r.top (field_in r) (annotations_in r) place (as_head r.text place what) (opened_in r) (behind_member (innermost (opened_in r))) d)
+      → next_reading (later r.limits) (item_step (opened_in r) r.top (field_in r) (annotations_in r) place (as_head r.text place what) (opened_in r) (behind_member (innermost (opened_in r))) d)
       ≡ More (lent_by new) (to_come_by device new)
   gives-given r new what place start d is behind blank =
       let T = top_of (opened_in r) r.top (annotations_in r) place in
@@ -232,11 +232,11 @@ pub step-part : (limits : Limits) (s : State) (c : Cursor) (first : First) → b
     → later limits s ≡ comes limits (part_from limits (moved_to c s) c first)
 step-part limits s c first blank some e = later-step limits s ∙ ap (next_reading (later limits)) (step-some limits s c first blank some e)
 
-step-none : (limits : Limits) (s : State) (c : Cursor) → blanks s.cursor ≡ Ok c → c.rest ≡ [] → step limits s ≡ step_of (ended s.kinds s.wants c.place)
+step-none : (limits : Limits) (s : State) (c : Cursor) → blanks s.cursor ≡ Ok c → c.rest ≡ [] → step limits s ≡ step_of (final_step s.kinds s.wants c.place)
 unfolding step part_at
 step-none limits s c blank none = rw (blank, none) refl
 
-pub step-ended : (limits : Limits) (s : State) (c : Cursor) → blanks s.cursor ≡ Ok c → c.rest ≡ [] → later limits s ≡ comes limits (ended s.kinds s.wants c.place)
+pub step-ended : (limits : Limits) (s : State) (c : Cursor) → blanks s.cursor ≡ Ok c → c.rest ≡ [] → later limits s ≡ comes limits (final_step s.kinds s.wants c.place)
 step-ended limits s c blank none = later-step limits s ∙ ap (next_reading (later limits)) (step-none limits s c blank none)
 
 pub step-unfinished : (limits : Limits) (s : State) (start : ℕ) → blanks s.cursor ≡ Err (Truncated, start) → later limits s ≡ Stopped Truncated start
@@ -249,18 +249,18 @@ no-blanks c none = rw none refl
 
 -- where a token so begins that may not come
 pub part-kind : (limits : Limits) (s : State) (c : Cursor) (first : First) → may_come s.wants first ≡ false → comes limits (part_from limits s c first) ≡ Stopped BadToken c.place
-part-kind limits s c first not_may = ap (λ (b : Bool). comes limits (coming limits s c first b)) not_may
+part-kind limits s c first not_may = ap (λ (b : Bool). comes limits (next_part limits s c first b)) not_may
 
 pub part-fault : (limits : Limits) (s : State) (c : Cursor) (first : First) (reason : Reason) → may_come s.wants first ≡ true → token_of (Some limits.scalar) first c ≡ Err reason
     → comes limits (part_from limits s c first) ≡ Stopped reason c.place
 part-fault limits s c first reason may e =
-    ap (λ (b : Bool). comes limits (coming limits s c first b)) may
+    ap (λ (b : Bool). comes limits (next_part limits s c first b)) may
     ∙ ap (λ (o : Result (Token × Cursor) Reason). comes limits (part c.place o >>= (λ t. take limits s.kinds s.top s.wants c.place t.0 t.1))) e
 
 pub part-token : (limits : Limits) (s : State) (c d : Cursor) (first : First) (token : Token) → may_come s.wants first ≡ true → token_of (Some limits.scalar) first c ≡ Ok (token, d)
     → comes limits (part_from limits s c first) ≡ comes limits (take limits s.kinds s.top s.wants c.place token d)
 part-token limits s c d first token may e =
-    ap (λ (b : Bool). comes limits (coming limits s c first b)) may
+    ap (λ (b : Bool). comes limits (next_part limits s c first b)) may
     ∙ ap (λ (o : Result (Token × Cursor) Reason). comes limits (part c.place o >>= (λ t. take limits s.kinds s.top s.wants c.place t.0 t.1))) e
 
 -- ---- containers
@@ -273,7 +273,7 @@ module _ {I A : Type 0} (device : InputOf I) where
       → let new = record r { kinds = left; what = kind.End; place = place; expected = e } in closing r k place d ≡ More (lent_by new) (to_come_by device new)
   gives-closed r j k left e place d opened same field none finished behind blank =
       let new = record r { kinds = left; what = kind.End; place = place; expected = e } in
-      ap (λ (l : List Kind). comes r.limits (part place (closed l r.top k place d))) opened
+      ap (λ (l : List Kind). comes r.limits (part place (end_step l r.top k place d))) opened
       ∙ (ap (λ (b : Bool). comes r.limits (part place (refuse (not b) BadToken
       >> Ok (Gives (item_of r.top None [] place value.end) (record { kinds = reverse left; top = r.top; wants = behind_member (innermost (reverse left)); cursor = d }))))) same
       ∙ rw (field, none, finished) (ap (More (item_of r.top None [] place value.end))
@@ -290,7 +290,7 @@ module _ {I A : Type 0} (device : InputOf I) where
       let new = record r { kinds = r.kinds ++ k ∷ []; top = T; what = kind.Begin k; place = place; expected = e } in
       let opened : reverse (r.kinds ++ k ∷ []) ≡ k ∷ reverse r.kinds = reverse-append r.kinds (k ∷ []) in
       ap (λ (b : Bool). comes r.limits (part place (refuse b DepthLimit
-      >> Ok (given (opened_in r) r.top (field_in r) (annotations_in r) place (value.begin k) (k ∷ opened_in r) (member_of k) d)))) few
+      >> Ok (item_step (opened_in r) r.top (field_in r) (annotations_in r) place (value.begin k) (k ∷ opened_in r) (member_of k) d)))) few
       ∙ rw finished (ap (More (lent_by new))
       (ap (λ (w : Wants). later r.limits (record { kinds = k ∷ opened_in r; top = T; wants = w; cursor = d })) (sym behind)
       ∙ (ap (λ (l : List Kind). later r.limits (record { kinds = l; top = T; wants = wanted e None []; cursor = d })) (sym opened)
@@ -299,7 +299,7 @@ module _ {I A : Type 0} (device : InputOf I) where
 -- ---- the end of the input
 
 ended-is : (limits : Limits) (kinds : List Kind) (e : Expected) (field : Option SymbolAt) (annotations : List SymbolAt) (place : ℕ) → kinds ≡ [] → e ≡ expected.Value → field ≡ None → annotations ≡ []
-    → comes limits (ended kinds (wanted e field annotations) place) ≡ Finished
+    → comes limits (final_step kinds (wanted e field annotations) place) ≡ Finished
 ended-is limits kinds e field annotations place top value none bare = rw (top, value, none, bare) refl
 
 no-field : (name : List ℕ) (field : Option FieldName) → is_some field ≡ false → as_field name field ≡ None
@@ -329,7 +329,7 @@ module _ {I A : Type 0} (device : InputOf I) where
       let k = opened_in r in
       ap (λ (b : Bool). comes r.limits (part place (value_or_version k r.top (field_in r) (annotations_in r) a d b))) told
       ∙ (ap (λ (b : Bool). comes r.limits (part place (refuse (not b) BadVersion
-      >> Ok (given k r.top (field_in r) (annotations_in r) place value.marker k (behind_member (innermost k)) d)))) marker
+      >> Ok (item_step k r.top (field_in r) (annotations_in r) place value.marker k (behind_member (innermost k)) d)))) marker
       ∙ gives-given device r new kind.Marker place start d is behind blank)
 
 -- ---- symbols
@@ -369,7 +369,7 @@ module _ {I A : Type 0} (device : InputOf I) where
   -- what a symbol makes of it, with two colons behind it and without
   symbol-taken : (r : TextReader I A) (s : CodeSymbol) (quoted : Bool) (place : ℕ) (d : Cursor) → r.expected ≡ expected.Value
       → taking r place (tokens.name quoted (as_symbol r.text s)) d
-      ≡ comes r.limits (part place (symbol_given r.limits (opened_in r) r.top (field_in r) (annotations_in r) quoted (at (as_symbol r.text s) place) d (behind_colons (in_sexp (innermost (opened_in r))) d)))
+      ≡ comes r.limits (part place (symbol_step r.limits (opened_in r) r.top (field_in r) (annotations_in r) quoted (at (as_symbol r.text s) place) d (behind_colons (in_sexp (innermost (opened_in r))) d)))
   unfolding take
   symbol-taken r s quoted place d value = rw value refl
 
@@ -377,13 +377,13 @@ module _ {I A : Type 0} (device : InputOf I) where
       → taking r place (tokens.name quoted (as_symbol r.text s)) d ≡ with_colons r s place b
   symbol-colons r s quoted place d b value is =
       symbol-taken r s quoted place d value
-      ∙ ap (λ (o : Option Cursor). comes r.limits (part place (symbol_given r.limits (opened_in r) r.top (field_in r) (annotations_in r) quoted (at (as_symbol r.text s) place) d o))) is
+      ∙ ap (λ (o : Option Cursor). comes r.limits (part place (symbol_step r.limits (opened_in r) r.top (field_in r) (annotations_in r) quoted (at (as_symbol r.text s) place) d o))) is
 
   pub symbol-alone : (r : TextReader I A) (s : CodeSymbol) (quoted : Bool) (place : ℕ) (d : Cursor) → r.expected ≡ expected.Value → behind_colons (in_sexp (innermost (opened_in r))) d ≡ None
       → taking r place (tokens.name quoted (as_symbol r.text s)) d ≡ without_colons r s quoted place d
   symbol-alone r s quoted place d value is =
       symbol-taken r s quoted place d value
-      ∙ ap (λ (o : Option Cursor). comes r.limits (part place (symbol_given r.limits (opened_in r) r.top (field_in r) (annotations_in r) quoted (at (as_symbol r.text s) place) d o))) is
+      ∙ ap (λ (o : Option Cursor). comes r.limits (part place (symbol_step r.limits (opened_in r) r.top (field_in r) (annotations_in r) quoted (at (as_symbol r.text s) place) d o))) is
 
 -- the innermost container was the last
 pub closed-opened : (kinds left : List Kind) (j : Kind) (popped : Option Kind) → innermost (reverse kinds) ≡ Some j

@@ -19,7 +19,7 @@ use Rattle.ion_text_in.specs.declared.expected.Expected.TheVariants as expected
 use Rattle.ion_text_in.specs.declared.reader.StepResult.TheVariants as step_result
 use Rattle.ion_text_in.specs.declared.reader.TextReader.{TextReader}
 use Rattle.ion_text_in.specs.Positions.{a_value, at}
-use Rattle.ion_text_in.specs.Reading.{cost, going_on}
+use Rattle.ion_text_in.specs.Reading.{cost, onward_step}
 use Rattle.ion_text_in.specs.Tokens.{as_symbol}
 use Rattle.ion_text_in.specs.Symbols.{as_annotations, kept_text, AreKept, GrowsBy, IsKept}
 use Rattle.ion_text_in.specs.Expecting.{wanted, MayExpect}
@@ -60,7 +60,7 @@ module _ {I A : Type 0} (device : InputOf I) where
       let all : annotations_in r ++ n ∷ [] ≡ as_annotations texts annotations = sym (ap (λ (l : List Annotation). as_annotations texts l) more ∙ told-kept r.annotations r.texts texts r.text s place a kept one) in
       let costs = costs-kept r.annotations r.texts r.text s place kept in
       let within : nat_lt r.limits.scalar (sum_by cost (annotations_in r ++ n ∷ [])) ≡ false = le-ltb r.limits.scalar (sum_by cost (annotations_in r ++ n ∷ [])) (omega (arith, costs, fits)) in
-      ap (λ (q : Bool). comes r.limits (part place (refuse q AnnotationLimit >> Ok (going_on k r.top (a_value f (annotations_in r ++ n ∷ [])) b)))) within
+      ap (λ (q : Bool). comes r.limits (part place (refuse q AnnotationLimit >> Ok (onward_step k r.top (a_value f (annotations_in r ++ n ∷ [])) b)))) within
       ∙ (ap (λ (l : List SymbolAt). later r.limits (record { kinds = k; top = r.top; wants = a_value f l; cursor = b })) all
       ∙ (ap (λ (c : Cursor). later r.limits (record { kinds = k; top = r.top; wants = a_value f (as_annotations texts annotations); cursor = c })) (sym here)
       ∙ ap (λ (e : Expected). later r.limits (record { kinds = k; top = r.top; wants = wanted e f (as_annotations texts annotations); cursor = cursor device source })) (sym value)))

@@ -26,7 +26,7 @@ use Rattle.ion_text_in.specs.declared.reader.StepResult.{StepResult}
 use Rattle.ion_text_in.specs.declared.reader.StepResult.TheVariants as step_result
 use Rattle.ion_text_in.specs.declared.reader.TextReader.{TextReader}
 use Rattle.ion_text_in.specs.Positions.{State, innermost, at}
-use Rattle.ion_text_in.specs.Reading.{step, step_of, size, take, annotated, begun, closed, ended, named, part_from, scalar_given, tells_version, top_of, value_or_version}
+use Rattle.ion_text_in.specs.Reading.{step, step_of, size, take, with_annotation, begin_step, end_step, final_step, field_step, part_from, scalar_step, tells_version, top_of, value_or_version}
 use Rattle.ion_text_in.specs.Token as tokens
 use Rattle.ion_text_in.specs.Tokens.{as_symbol, as_scalar}
 use Rattle.ion_text_in.specs.Symbols.{as_field, as_annotations, AreKept}
@@ -142,15 +142,15 @@ part_by device r first = comes r.limits (part_from r.limits (state_at (cursor de
 
 -- the end of the input
 abbrev pub ending : {I A : Type 0} → TextReader I A → ℕ → Reading
-ending r place = comes r.limits (ended (opened_in r) (wanted r.expected (field_in r) (annotations_in r)) place)
+ending r place = comes r.limits (final_step (opened_in r) (wanted r.expected (field_in r) (annotations_in r)) place)
 
 -- a scalar
 abbrev pub scalar_by : {I A : Type 0} → TextReader I A → Body → ℕ → Cursor → Reading
-scalar_by r body place c = comes r.limits (Ok (scalar_given (opened_in r) r.top (field_in r) (annotations_in r) place (as_scalar r.text place body) c))
+scalar_by r body place c = comes r.limits (Ok (scalar_step (opened_in r) r.top (field_in r) (annotations_in r) place (as_scalar r.text place body) c))
 
 -- a symbol with two colons before the cursor, and one without
 abbrev pub with_colons : {I A : Type 0} → TextReader I A → Symbol → ℕ → Cursor → Reading
-with_colons r symbol place c = comes r.limits (part place (annotated r.limits (opened_in r) r.top (field_in r) (annotations_in r) (at (as_symbol r.text symbol) place) c))
+with_colons r symbol place c = comes r.limits (part place (with_annotation r.limits (opened_in r) r.top (field_in r) (annotations_in r) (at (as_symbol r.text symbol) place) c))
 
 abbrev pub without_colons : {I A : Type 0} → TextReader I A → Symbol → Bool → ℕ → Cursor → Reading
 without_colons r symbol quoted place c =
@@ -159,13 +159,13 @@ without_colons r symbol quoted place c =
 
 -- a field's name, a closing bracket and an opening one
 abbrev pub naming : {I A : Type 0} → TextReader I A → Symbol → ℕ → Cursor → Reading
-naming r symbol place c = comes r.limits (named (opened_in r) r.top (at (as_symbol r.text symbol) place) c)
+naming r symbol place c = comes r.limits (field_step (opened_in r) r.top (at (as_symbol r.text symbol) place) c)
 
 abbrev pub closing : {I A : Type 0} → TextReader I A → Kind → ℕ → Cursor → Reading
-closing r k place c = comes r.limits (part place (closed (opened_in r) r.top k place c))
+closing r k place c = comes r.limits (part place (end_step (opened_in r) r.top k place c))
 
 abbrev pub opening : {I A : Type 0} → TextReader I A → Kind → ℕ → Cursor → Reading
-opening r k place c = comes r.limits (part place (begun r.limits (opened_in r) r.top (field_in r) (annotations_in r) k place c))
+opening r k place c = comes r.limits (part place (begin_step r.limits (opened_in r) r.top (field_in r) (annotations_in r) k place c))
 
 -- ---- a step
 

@@ -70,13 +70,13 @@ module _ (users_read : UsersAreRead) (open_users_read : OpenUsersAreRead) where
   pub faultless_paths_are_read : FaultlessPathsAreRead
   faultless_paths_are_read form target catalog limits bytes path mine s u faultless =
       users-along catalog limits.symbols path mine
-      (faultless-users (encoding_of form) (outputs_of target) catalog limits bytes (path_items path) s u mine faultless Finished)
+      (faultless-users (encoding_of form target) (outputs_of target) catalog limits bytes (path_items path) s u mine faultless Finished)
 
 -- ---- what is refused
 
 module _ (read : FaultlessPathsAreRead) (texts : PathTextIsThatOfItems) (form : Form) (catalog : List Shared) (limits : Limits) (bytes : List ℕ) where
   abbrev e : Encoding
-  e = encoding_of form
+  e = encoding_of form target.Text
 
   refused-behind : (path : Path SymbolAt ℕ) (mine : List PlacedItem) (s : e.State) (u : users.State) (reason : Reason) (place : ℕ)
       → e.At bytes path s → Faultless e to_text catalog limits bytes (path_items path) s u mine
@@ -112,4 +112,4 @@ module _ (read : FaultlessPathsAreRead) (texts : PathTextIsThatOfItems) (form : 
 pub refused_output_is_path_text : FaultlessPathsAreRead → PathTextIsThatOfItems → RefusedOutputIsPathText
 refused_output_is_path_text read texts catalog limits to bytes reason place out is has =
     refused-as read texts (form_of bytes) catalog limits bytes (Rejected reason place) out
-    (subst (λ r. HasVerdictAs r (encoding_of (form_of bytes)) catalog limits bytes (Rejected reason place) out) is has)
+    (subst (λ r. HasVerdictAs r (form_of bytes) catalog limits bytes (Rejected reason place) out) is has)

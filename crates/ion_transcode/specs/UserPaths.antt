@@ -44,8 +44,8 @@ pub record UsersAlong (catalog : List Shared) (path : Path SymbolAt ℕ) (mine :
 abbrev pub FaultlessPathsAreRead : Type 0
 FaultlessPathsAreRead =
     (form : Form) (target : Target) (catalog : List Shared) (limits : Limits) (bytes : List ℕ) (path : Path SymbolAt ℕ) (mine : List PlacedItem)
-    (s : (encoding_of form).State) (u : users.State)
-    → Faultless (encoding_of form) (outputs_of target) catalog limits bytes (path_items path) s u mine → UsersAlong catalog path mine
+    (s : (encoding_of form target).State) (u : users.State)
+    → Faultless (encoding_of form target) (outputs_of target) catalog limits bytes (path_items path) s u mine → UsersAlong catalog path mine
 
 -- ---- what is refused
 
@@ -74,4 +74,4 @@ abbrev pub RefusedOutputIsPathText : Type 0
 RefusedOutputIsPathText =
     (catalog : List Shared) (limits : Limits) (to : To) (bytes : List ℕ) (reason : Reason) (place : ℕ) (out : List ℕ)
     → resolved (form_of bytes) to ≡ Some target.Text → HasVerdict catalog limits to bytes (Rejected reason place) out
-    → IsRefusedText (encoding_of (form_of bytes)) catalog limits bytes reason place out
+    → IsRefusedText (encoding_of (form_of bytes) target.Text) catalog limits bytes reason place out

@@ -21,9 +21,11 @@ mod SpelledMembers
 mod Complete
 mod WritingRows
 mod KnownIds
+mod GivenIds
 mod WholeValues
 mod ClosedSize
 mod PlacedHeaders
+mod HeldMoves
 mod WrittenSpelled
 mod WrittenDeclarations
 mod WrittenStream

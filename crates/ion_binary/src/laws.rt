@@ -1,7 +1,8 @@
 //! Laws of the grammar and the reading of the binary form, each the contract of a function that
 //! does nothing.
 ghost use Rattle.ion_binary.specs.Laws.{Bodies, Complete, EachStepFalls, EachStepFollows, ExactLimits, Narrow, NoStreamBegins, OnePath, OneStream, RightlyRefused, Sound, Stable, StreamsAreRead};
-ghost use Rattle.ion_binary.specs.WritingLaws.{ClosedSizeIsThatOfTheClosing, ItemsAddTheirOctets, ItemsPutTheForm, RefusedItemsAddNothing};
+ghost use Rattle.ion_binary.specs.WritingLaws.{ClosedSizeIsThatOfTheClosing, IdsAreGiven, ItemsAddTheirOctets, ItemsPutTheForm, RefusedItemsAddNothing};
+ghost use Rattle.ion_binary.specs.Held.{WhatIsHeldMoves};
 ghost use Rattle.ion_binary.specs.Places.{ClosedSizeByCounts, ClosedSizeByPlaces};
 ghost use Rattle.ion_binary.specs.Spelling.{DeclarationsAreRead, TheFormIsRead, ValuesAreSpelled};
 
@@ -91,6 +92,12 @@ pub fn refused_items_add_nothing()
     ensures { RefusedItemsAddNothing }
 {}
 
+/// The symbol table of an output gives a text its id in the canonical form, or none where the texts
+/// would then cost more than the limit.
+pub fn ids_are_given()
+    ensures { IdsAreGiven }
+{}
+
 /// The closed size of a path with an item is the length of its last value, all containers that are
 /// open behind the item being closed there.
 pub fn closed_size_is_that_of_the_closing()
@@ -107,6 +114,13 @@ pub fn closed_size_by_places()
 /// one.
 pub fn closed_size_by_counts()
     ensures { ClosedSizeByCounts }
+{}
+
+/// The octets of the open value without the headers of its open containers, with the places where
+/// these go in and the texts that have ids, say what each item puts, what is held behind it, and
+/// the closed size.
+pub fn what_is_held_moves()
+    ensures { WhatIsHeldMoves }
 {}
 
 /// What is written of a value spells that value in the grammar, from any place on and whatever ids
@@ -148,9 +162,11 @@ mod tests {
         items_put_the_form();
         items_add_their_octets();
         refused_items_add_nothing();
+        ids_are_given();
         closed_size_is_that_of_the_closing();
         closed_size_by_places();
         closed_size_by_counts();
+        what_is_held_moves();
         values_are_spelled();
         declarations_are_read();
         the_form_is_read();

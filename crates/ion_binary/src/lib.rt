@@ -6,6 +6,8 @@
 
 mod body;
 mod descriptor;
+mod entry;
+mod header;
 pub mod laws;
 mod octets;
 pub mod reader;

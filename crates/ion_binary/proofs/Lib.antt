@@ -24,6 +24,7 @@ mod KnownIds
 mod WholeValues
 mod ClosedSize
 mod PlacedHeaders
+mod ShortestHeaders
 mod WrittenSpelled
 mod WrittenDeclarations
 mod WrittenStream

@@ -146,7 +146,8 @@ abbrev pub refused_by : ℕ → ℕ → ℕ → Option ℕ → Option (Reason ×
 refused_by limit size top (Some place) = Some (SymbolLimit, place)
 refused_by limit size top None = too_long limit size top
 
--- an item is refused at the symbol that passes the one limit, or else at its value where the other is passed
+-- an item is refused at the first of its symbols with which the texts cost more than their limit; or else, where its value at top level
+-- would be longer than the limit on values, at the first byte of that value
 abbrev pub refused_at : Limits → Written → PlacedItem → Option (Reason × ℕ)
 refused_at limits w item =
     refused_by limits.value (closed_size limits.symbols w (user_item item)) item.top

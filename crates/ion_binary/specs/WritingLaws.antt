@@ -13,6 +13,12 @@ use Rattle.ion_binary.specs.Writing.{after_all, at_begin, binary_adds, binary_pu
 abbrev pub ItemsPutTheForm : Type 0
 ItemsPutTheForm = (limit : ℕ) (tops : List (Top UserSymbol ℕ)) → (after_all limit at_begin (top_items tops)).octets ≡ binary limit tops
 
+-- behind them the items of a value that is open put nothing, no version marker that is due either
+abbrev pub OpenItemsPutWhatIsWhole : Type 0
+OpenItemsPutWhatIsWhole =
+    (limit : ℕ) (tops : List (Top UserSymbol ℕ)) (first : ℕ) (nest : Nest UserSymbol ℕ)
+    → (after_all limit at_begin (path_items (opened tops first nest))).octets ≡ binary limit tops
+
 -- an item that is not refused adds what it puts, and one that is refused nothing
 abbrev pub ItemsAddTheirOctets : Type 0
 ItemsAddTheirOctets =

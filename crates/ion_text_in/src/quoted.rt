@@ -1,7 +1,7 @@
 //! Quotes, and the plain bytes between them (Ion specification, "Strings", "Symbols" and "Clobs").
 ghost use Rattle.std.specs.Prelude.{◌≡◌, ◌<◌, ◌≤◌, ◌↔◌, true, false, Some, length, take, drop, IsTrue, IsUtf8};
 ghost use Rattle.ion_value.specs.Digits.{first_is, all_are};
-ghost use Rattle.ion_text_in.specs.Quotes.{quote_of, mark_of, one_mark, IsWithin};
+ghost use Rattle.ion_text_in.specs.Quotes.{quote_of, mark_of, one_mark, IsWithin, StopsBefore};
 ghost use Rattle.ion_text_in.specs.Quoted.{text_at};
 ghost use Rattle.ion_text_in.specs.Scanners.{Shows};
 ghost use Rattle.ion_text_in.specs.Scanning.{is_plain_byte};
@@ -71,6 +71,8 @@ pub fn scan_text(quote: Quote, limit: u64, bytes: &[u8]) -> Scanned<usize>
     ensures shows { Shows (λ n. take n bytes.now) bytes.now result
         (λ c. text_at (quote_of quote) (Some limit) c) }
     ensures within { IsWithin limit result }
+    ensures known { result ≡ Scanned.Cut → (quote_of quote).is_long ≡ false
+        → StopsBefore quote bytes.now }
 {
     let plain = plain_length(quote, bytes);
     if quote.is_long() || plain == bytes.len() || bytes[plain] != quote.mark() {

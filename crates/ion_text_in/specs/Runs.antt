@@ -51,6 +51,12 @@ opens_comment None = false
 abbrev pub IsOpen : Run → List ℕ → Type 0
 IsOpen run rest = (rest ≡ []) ⊎ ((has_slashes run ≡ true) × (rest ≡ 47 ∷ []))
 
+-- all that stands behind the first byte of a token goes on with it, or all up to a slash that may begin a comment
+pub record StaysOpen (run : Run) (bytes : List ℕ) : Type 0 where
+  pub count : ℕ
+  pub goes : GoOn (goes_on run) (drop 1 bytes) count
+  pub ends : IsOpen run (drop count (drop 1 bytes))
+
 -- so many bytes at the front of some go on
 abbrev pub GoesOver : (List ℕ → Bool) → List ℕ → ℕ → Type 0
 GoesOver test bytes n = run_of test bytes ≡ (take n bytes ++ (run_of test (drop n bytes)).0, (run_of test (drop n bytes)).1)

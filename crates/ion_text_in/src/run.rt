@@ -1,10 +1,10 @@
 //! How far numbers, timestamps, words and operators go (Ion specification, "Text Encoding").
-ghost use Rattle.std.specs.Prelude.{◌≡◌, ◌<◌, ◌≤◌, ℕ, List, ◌++◌, true, false, not, length, drop, IfSome, MatchOption};
+ghost use Rattle.std.specs.Prelude.{◌≡◌, ◌<◌, ◌≤◌, ℕ, List, ◌++◌, true, false, not, length, drop, None, IfSome, MatchOption};
 ghost use Rattle.ion_value.specs.Digits.{first_is};
 ghost use Rattle.ion_value.specs.Name.{is_identifier_byte, is_operator_byte};
 ghost use Rattle.ion_text_in.specs.Token.{bytes_of};
 ghost use Rattle.ion_text_in.specs.Views.{AreShown};
-ghost use Rattle.ion_text_in.specs.Runs.{goes_on, stays, has_slashes, GoOn, EndBehind, IsOpen};
+ghost use Rattle.ion_text_in.specs.Runs.{goes_on, stays, has_slashes, GoOn, EndBehind, IsOpen, StaysOpen};
 
 /// A token that goes on byte by byte.
 #[derive(Clone, Copy, Debug, PartialEq, Eq)]
@@ -61,7 +61,8 @@ fn so_far(len: usize, ended: bool) -> Extent
 /// How many bytes the token has that begins at the front of a slice, where the slice shows it.
 #[inline(always)]
 pub fn token_extent(run: Run, bytes: &[u8]) -> Option<usize>
-    ensures { IfSome result (AreShown (bytes_of (goes_on run)) bytes.now) }
+    ensures shown { IfSome result (AreShown (bytes_of (goes_on run)) bytes.now) }
+    ensures known { result ≡ None → StaysOpen run bytes.now }
 {
     let [_, others @ ..] = bytes else {
         return None;

@@ -50,5 +50,7 @@ pub mod FirstTokens
 pub mod TypedWords
 pub mod Held
 pub mod LobTurns
+pub mod RunCuts
+mod Written
 mod Rows
 mod QuotedRows

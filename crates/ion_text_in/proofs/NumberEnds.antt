@@ -3,12 +3,10 @@ use Rattle.std.proofs.Common.{◌≡◌, ◌≢◌, ℕ, ◌⊎◌, inl, inr, Bo
 use Rattle.std.proofs.lemmas.Bool.{cases_Bool, and_parts, or_cases, not-false, eqb-true, eq-eqb, false≢true}
 use Rattle.std.proofs.lemmas.Bool.Decides.{nat_tests}
 use Rattle.ion_value.specs.Name.{is_one_of}
-use Rattle.ion_text_in.specs.Places.{run_of}
 use Rattle.ion_text_in.specs.Blanks as blanks
 use Rattle.ion_text_in.specs.Blanks.{is_white, is_comment, begins_comment, blank_at}
 use Rattle.ion_text_in.specs.Token.{in_run}
-use Rattle.ion_text_in.specs.Beginnings.{IsOneOf, BeginsComment, EndsNumber, IsRun, NumbersEnd, NumbersAreCut}
-use Rattle.ion_text_in.proofs.Meaning.{run-more, run-none}
+use Rattle.ion_text_in.specs.Beginnings.{IsOneOf, BeginsComment, EndsNumber, NumbersEnd}
 
 -- ---- one of some characters
 
@@ -85,53 +83,3 @@ number-ended _ (EndsNumber.comment comment) = comment-ends comment
 
 pub numbers-end : NumbersEnd
 numbers-end bytes = (ends-number bytes, number-ended bytes)
-
--- ---- runs
-
-abbrev GoesOn : List ℕ → List ℕ → Type 0
-GoesOn run behind = (xs ys : List ℕ) → run ≡ xs ++ ys → ys ≢ [] → EndsNumber (ys ++ behind) → ⊥
-
-nothing-goes : (behind : List ℕ) → GoesOn [] behind
-nothing-goes behind [] [] e some _ = some refl
-nothing-goes behind [] (y ∷ ys) e some _ = absurd (cc e)
-nothing-goes behind (x ∷ xs) ys e some _ = absurd (cc e)
-
-more-goes : (b : ℕ) (run behind : List ℕ) → in_run (b ∷ (run ++ behind)) ≡ true → GoesOn run behind → GoesOn (b ∷ run) behind
-more-goes b run behind on goes [] ys e some ends =
-    false≢true (sym (number-ended (b ∷ (run ++ behind)) (subst (λ (ys : List ℕ). EndsNumber (ys ++ behind)) (sym e) ends)) ∙ on)
-more-goes b run behind on goes (x ∷ xs) ys e some ends = let others : run ≡ xs ++ ys = cc e in goes xs ys others some ends
-
-run-by : (b : ℕ) (bytes : List ℕ) (t : Bool) → in_run (b ∷ bytes) ≡ t → IsRun bytes (run_of in_run bytes).0 (run_of in_run bytes).1
-    → IsRun (b ∷ bytes) (run_of in_run (b ∷ bytes)).0 (run_of in_run (b ∷ bytes)).1
-run-by b bytes true on later =
-    let whole = later.whole in
-    subst (λ (z : List ℕ × List ℕ). IsRun (b ∷ bytes) z.0 z.1) (sym (run-more in_run b bytes on))
-    (record {
-      whole = ap (λ (bytes : List ℕ). b ∷ bytes) whole;
-      ended = later.ended;
-      goes_on = more-goes b (run_of in_run bytes).0 (run_of in_run bytes).1 (subst (λ (bytes : List ℕ). in_run (b ∷ bytes) ≡ true) whole on) later.goes_on;
-    })
-run-by b bytes false off later =
-    subst (λ (z : List ℕ × List ℕ). IsRun (b ∷ bytes) z.0 z.1) (sym (run-none in_run (b ∷ bytes) off))
-    (record { whole = refl; ended = ends-number (b ∷ bytes) off; goes_on = nothing-goes (b ∷ bytes) })
-
-run-is : (bytes : List ℕ) → IsRun bytes (run_of in_run bytes).0 (run_of in_run bytes).1
-unfolding run_of
-run-is [] = record { whole = refl; ended = EndsNumber.end; goes_on = nothing-goes [] }
-run-is (b ∷ bytes) = run-by b bytes (in_run (b ∷ bytes)) refl (run-is bytes)
-
-run-cut : (run behind : List ℕ) → EndsNumber behind → GoesOn run behind → run_of in_run (run ++ behind) ≡ (run, behind)
-run-cut [] behind ends goes = run-none in_run behind (number-ended behind ends)
-run-cut (b ∷ run) behind ends goes =
-    run-more in_run b (run ++ behind) (on (cases_Bool (in_run (b ∷ (run ++ behind)))))
-    ∙ ap (λ (z : List ℕ × List ℕ). (b ∷ z.0, z.1)) (run-cut run behind ends (λ xs ys e some ends. goes (b ∷ xs) ys (ap (λ (run : List ℕ). b ∷ run) e) some ends))
-  where
-    on : (in_run (b ∷ (run ++ behind)) ≡ true) ⊎ (in_run (b ∷ (run ++ behind)) ≡ false) → in_run (b ∷ (run ++ behind)) ≡ true
-    on (inl goes_on) = goes_on
-    on (inr off) = absurd (goes [] (b ∷ run) refl (λ e. absurd (cc e)) (ends-number (b ∷ (run ++ behind)) off))
-
-pub numbers-are-cut : NumbersAreCut
-numbers-are-cut bytes run behind = (
-  λ e. subst (λ (z : List ℕ × List ℕ). IsRun bytes z.0 z.1) e (run-is bytes),
-  λ is. ap (λ (bytes : List ℕ). run_of in_run bytes) is.whole ∙ run-cut run behind is.ended is.goes_on,
-)

@@ -51,18 +51,18 @@ pub data EndsNumber : List ℕ → Type 0 where
   character : {b : ℕ} {bytes : List ℕ} → IsStopCharacter b → EndsNumber (b ∷ bytes)
   comment : {bytes : List ℕ} → BeginsComment bytes → EndsNumber bytes
 
--- some bytes go on up to such an end, and no further: the bytes of a number or timestamp behind its first, and what follows
-pub record IsRun (bytes run behind : List ℕ) : Type 0 where
+-- some bytes go on up to an end, and no further: the bytes of a token behind its first, and what follows
+pub record IsRun (Ends : List ℕ → Type 0) (bytes run behind : List ℕ) : Type 0 where
   pub whole : bytes ≡ run ++ behind
-  pub ended : EndsNumber behind
-  pub goes_on : (xs ys : List ℕ) → run ≡ xs ++ ys → ys ≢ [] → EndsNumber (ys ++ behind) → ⊥
+  pub ended : Ends behind
+  pub goes_on : (xs ys : List ℕ) → run ≡ xs ++ ys → ys ≢ [] → Ends (ys ++ behind) → ⊥
 
 abbrev pub NumbersEnd : Type 0
 NumbersEnd = (bytes : List ℕ) → (in_run bytes ≡ false) ↔ EndsNumber bytes
 
 -- and no other bytes are such a run
 abbrev pub NumbersAreCut : Type 0
-NumbersAreCut = (bytes run behind : List ℕ) → (run_of in_run bytes ≡ (run, behind)) ↔ IsRun bytes run behind
+NumbersAreCut = (bytes run behind : List ℕ) → (run_of in_run bytes ≡ (run, behind)) ↔ IsRun EndsNumber bytes run behind
 
 -- ---- what ends an identifier or an operator
 
@@ -74,6 +74,9 @@ pub data EndsIdentifier : List ℕ → Type 0 where
 abbrev pub IdentifiersEnd : Type 0
 IdentifiersEnd = (bytes : List ℕ) → (in_word bytes ≡ false) ↔ EndsIdentifier bytes
 
+abbrev pub IdentifiersAreCut : Type 0
+IdentifiersAreCut = (bytes run behind : List ℕ) → (run_of in_word bytes ≡ (run, behind)) ↔ IsRun EndsIdentifier bytes run behind
+
 -- nothing, a byte that is in no operator, or a comment
 pub data EndsOperator : List ℕ → Type 0 where
   end : EndsOperator []
@@ -82,6 +85,9 @@ pub data EndsOperator : List ℕ → Type 0 where
 
 abbrev pub OperatorsEnd : Type 0
 OperatorsEnd = (bytes : List ℕ) → (in_operator bytes ≡ false) ↔ EndsOperator bytes
+
+abbrev pub OperatorsAreCut : Type 0
+OperatorsAreCut = (bytes run behind : List ℕ) → (run_of in_operator bytes ≡ (run, behind)) ↔ IsRun EndsOperator bytes run behind
 
 -- ---- what begins
 

@@ -1,5 +1,6 @@
 -- What a token means: the text of a scalar is read as that scalar, whatever stands behind it that ends it, and the characters of a blob are the base64 of its bytes.
-use Rattle.std.specs.Prelude.{◌≡◌, ◌≢◌, ℕ, ◌+◌, ◌*◌, ◌<◌, ◌≤◌, Bool, true, false, not, List, [], ◌∷◌, ◌++◌, All, length, filter, codes, Option, Some, None, Ok}
+use Rattle.std.specs.Prelude.{◌≡◌, ◌≢◌, ℕ, ◌+◌, ◌*◌, ◌<◌, ◌≤◌, ◌⊎◌, Bool, true, false, not, if◌then◌else◌, List, [], ◌∷◌, ◌++◌, All, length, filter, codes, Option, Some, None, Ok}
+use Rattle.std.specs.List.{flat_map}
 use Rattle.std.specs.Str.{is_utf8}
 use Rattle.base64.specs.Engines.{standard}
 use Rattle.base64.specs.GeneralPurpose.{encode_of}
@@ -14,7 +15,9 @@ use Rattle.ion_value.specs.Digits.{is_hex_digit, digit_value, all_are}
 use Rattle.ion_value.specs.Int.{IsInt, int_text}
 use Rattle.ion_value.specs.Name.{null_text, bool_text, is_plain}
 use Rattle.ion_value.specs.Timestamp.{IsTimestamp, timestamp_text}
-use Rattle.ion_value.specs.Value.{Text, null, bool, int, decimal, timestamp, clob, blob}
+use Rattle.ion_value.specs.Value.{Text, Known, null, bool, int, decimal, timestamp, string, clob, blob}
+use Rattle.ion_text_out.specs.Escape.{byte_text}
+use Rattle.ion_text_out.specs.Text.{scalar_text, symbol_text}
 use Rattle.ion_text_in.specs.Blanks.{is_white}
 use Rattle.ion_text_in.specs.Beginnings.{BeginsNot, EndsIdentifier, EndsNumber}
 use Rattle.ion_text_in.specs.Token as tokens
@@ -161,3 +164,32 @@ ClobTextIsRead =
     → all_are is_white prefix ≡ true → Chars 34 true chars bytes → all_are is_white back ≡ true
     → Means (length bytes) Anything (codes "{{" ++ (prefix ++ (quoted 34 chars ++ (back ++ codes "}}"))))
     (plain (clob bytes))
+
+-- ---- texts as they are written
+
+-- the least byte that is written by its code, in a clob and elsewhere
+abbrev pub top_of : Bool → ℕ
+top_of in_clob = if in_clob then 128 else 256
+
+-- octets are written between quotes by characters that mean them
+abbrev pub WrittenBytesAreChars : Type 0
+WrittenBytesAreChars =
+    (quote : ℕ) (in_clob : Bool) (bytes : List ℕ) → (quote ≡ 34) ⊎ (quote ≡ 39) → All (λ octet. octet < 256) bytes
+    → Chars quote in_clob (flat_map (byte_text quote (top_of in_clob)) bytes) bytes
+
+-- so what is written of a string is a token that means it
+abbrev pub WrittenStringIsRead : Type 0
+WrittenStringIsRead =
+    (bytes : List ℕ) → All (λ octet. octet < 256) bytes → is_utf8 bytes ≡ true
+    → Means (length bytes) Anything (scalar_text (string bytes)) (tokens.text bytes)
+
+-- and of a clob
+abbrev pub WrittenClobIsRead : Type 0
+WrittenClobIsRead =
+    (bytes : List ℕ) → All (λ octet. octet < 256) bytes → Means (length bytes) Anything (scalar_text (clob bytes)) (plain (clob bytes))
+
+-- and of a symbol that is written in quotes
+abbrev pub WrittenSymbolIsRead : Type 0
+WrittenSymbolIsRead =
+    (bytes : List ℕ) → All (λ octet. octet < 256) bytes → is_utf8 bytes ≡ true → is_plain bytes ≡ false
+    → Means (length bytes) (EndsSymbol bytes) (symbol_text (Known bytes)) (tokens.name true (Text bytes))

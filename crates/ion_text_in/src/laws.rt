@@ -1,7 +1,7 @@
 //! Laws of the grammar and the reading of the text form, each the contract of a function that does
 //! nothing.
-ghost use Rattle.ion_text_in.specs.Beginnings.{IdentifiersEnd, NumbersAreCut, NumbersEnd, OneBegins, OperatorsEnd, WhatBegins, WhereNoneBegins};
-ghost use Rattle.ion_text_in.specs.Meaning.{Base64IsRead, BlobsAreBase64, BoolTextIsRead, ClobTextIsRead, DecimalTextIsRead, IntTextIsRead, NullTextIsRead, PlainSymbolIsRead, QuotedSymbolIsRead, StringTextIsRead, TimestampTextIsRead};
+ghost use Rattle.ion_text_in.specs.Beginnings.{IdentifiersAreCut, IdentifiersEnd, NumbersAreCut, NumbersEnd, OneBegins, OperatorsAreCut, OperatorsEnd, WhatBegins, WhereNoneBegins};
+ghost use Rattle.ion_text_in.specs.Meaning.{Base64IsRead, BlobsAreBase64, BoolTextIsRead, ClobTextIsRead, DecimalTextIsRead, IntTextIsRead, NullTextIsRead, PlainSymbolIsRead, QuotedSymbolIsRead, StringTextIsRead, TimestampTextIsRead, WrittenBytesAreChars, WrittenClobIsRead, WrittenStringIsRead, WrittenSymbolIsRead};
 ghost use Rattle.ion_text_in.specs.Scanning.{BlanksChangeNoStep, EachPieceTakes, GroupsInTurn, PiecesInTurn, PlainBytesAreSpelled, SegmentsInTurn};
 ghost use Rattle.ion_text_in.specs.Laws.{Complete, EachStepFalls, EachStepFollows, Narrow, OnePath, OneStream, RightlyRefused, Sound, StreamsAreRead};
 
@@ -108,6 +108,15 @@ pub fn clob_text_is_read()
     ensures { ClobTextIsRead }
 {}
 
+/// What is written between quotes is read again: each octet by characters that mean it, and so a
+/// string, a symbol that stands in quotes, and a clob by a token that means the same.
+pub fn written_texts_are_read()
+    ensures characters { WrittenBytesAreChars }
+    ensures strings { WrittenStringIsRead }
+    ensures symbols { WrittenSymbolIsRead }
+    ensures clobs { WrittenClobIsRead }
+{}
+
 /// An identifier that means nothing else is a token that means the symbol of its bytes.
 pub fn plain_symbol_is_read()
     ensures { PlainSymbolIsRead }
@@ -120,11 +129,13 @@ pub fn what_ends_a_number()
     ensures cut { NumbersAreCut }
 {}
 
-/// An identifier goes on up to a byte that is in none, and an operator up to a byte that is in none or
-/// a comment.
+/// An identifier goes on up to a byte that is in none, an operator up to a byte that is in none or a
+/// comment, and either up to the input's end, and no further.
 pub fn what_ends_a_symbol()
     ensures identifiers { IdentifiersEnd }
+    ensures words_cut { IdentifiersAreCut }
     ensures operators { OperatorsEnd }
+    ensures operators_cut { OperatorsAreCut }
 {}
 
 /// The kind of token that is read at a place is the one that begins there by its first bytes; no two
@@ -180,6 +191,7 @@ mod tests {
         string_text_is_read();
         quoted_symbol_is_read();
         clob_text_is_read();
+        written_texts_are_read();
         plain_symbol_is_read();
         what_ends_a_number();
         what_ends_a_symbol();

@@ -111,7 +111,7 @@ fn read_by<A: Allocator + Copy>(
 fn expect(rt: &impl Abort, alloc: Global, row: Row) -> Result<(), Fail> {
     let (_, _, _, _, growths) = row;
     let mut last = None;
-    let mut refused = 0;
+    let mut refused = 0usize;
     for more in 0..64usize {
         let heap = LocalHeap::new(alloc, 4096 + 8 * more)?;
         let count = read_by(rt, &heap, row)?;
@@ -122,7 +122,7 @@ fn expect(rt: &impl Abort, alloc: Global, row: Row) -> Result<(), Fail> {
         if last != count {
             assert!(rt; last < count);
             last = count;
-            refused += 1;
+            refused = refused.saturating_add(1);
         }
     }
     panic!(rt; "each heap was too small")

@@ -19,6 +19,8 @@ ion="$crate/out/ion_speed"
 if [ ! -x "$ion" ]; then
     mkdir -p "$crate/src" "$crate/proofs/sum"
     cp -r crates/ion_meter crates/ion_value crates/ion_text_in "$work/repository/crates/"
+    # The calls for tokens are private: they are opened in the copy.
+    sed -i 's/pub(crate)/pub/; s/^mod /pub mod /' "$work"/repository/crates/ion_text_in/src/*.rt
     cp docs/speed/tokens.rattle "$crate/src/main.rt"
     cat > "$crate/proofs/sum/Invariants.antt" <<'ANTT'
 use Rattle.std.proofs.Common.{◌≡◌, ◌≤◌, ◌^◌, ◌+◌, length}

@@ -9,10 +9,11 @@ use Rattle.ion_value.specs.Path as path
 use Rattle.ion_value.specs.Standing.{Fits, is_marker}
 use Rattle.ion_binary.specs.Grammar.{type_code}
 use Rattle.ion_binary.specs.Canonical.{binary, field_symbols, headed, id_in, is_over, marker_octets, member_octets, members_octets, members_symbols, texts_kept, value_octets, with_symbols}
-use Rattle.ion_binary.specs.Writing.{Unclosed, Written, after_all, all_closed, at_begin, closed_size, item_symbols, numbered, opened_with, own_octets}
-use Rattle.ion_binary.specs.WritingLaws.{ClosedSizeIsThatOfTheClosing, last_size, size_behind, top_size}
-use Rattle.ion_binary.proofs.KnownIds.{Extends, extends_trans, extends_all}
-use Rattle.ion_binary.proofs.WholeValues.{written, after_members, after_all_tops, after_tops, forgotten, nothing_open, opens_top, same_opened, texts_behind}
+use Rattle.ion_binary.specs.Writing.{Unclosed, Written, after_all, all_closed, at_begin, closed_size, item_symbols, with_ids_given, opened_with, own_octets}
+use Rattle.ion_binary.specs.WritingLaws.{ClosedSizeIsThatOfTheClosing, OpenItemsPutWhatIsWhole, last_size, size_behind, top_size}
+use Rattle.ion_binary.specs.Refusals.{texts_behind}
+use Rattle.ion_binary.proofs.KnownIds.{Extends, extends_same, extends_trans, extends_all}
+use Rattle.ion_binary.proofs.WholeValues.{written, after_members, after_all_tops, after_tops, forgotten, nothing_open, opens_top, same_opened}
 
 abbrev UserItem : Type 0
 UserItem = Item UserSymbol ℕ
@@ -23,18 +24,18 @@ UserMembers = Members UserSymbol ℕ
 -- ---- the open containers of a path
 
 -- the innermost open container, and those around it
-abbrev innermost : (UserSymbol → ℕ) → Nest UserSymbol ℕ → Unclosed
+abbrev pub innermost : (UserSymbol → ℕ) → Nest UserSymbol ℕ → Unclosed
 innermost ids (outermost annotations p k ms) = opened_with ids None annotations k (members_octets ids ms)
 innermost ids (inner around f annotations p k ms) = opened_with ids f annotations k (members_octets ids ms)
 
-abbrev around_it : (UserSymbol → ℕ) → Nest UserSymbol ℕ → List Unclosed
+abbrev pub around_it : (UserSymbol → ℕ) → Nest UserSymbol ℕ → List Unclosed
 around_it ids (outermost annotations p k ms) = []
 around_it ids (inner around f annotations p k ms) = innermost ids around ∷ around_it ids around
 
 abbrev own_texts : List (List ℕ) → Option UserSymbol → List UserSymbol → UserMembers → List (List ℕ)
 own_texts t f annotations ms = with_symbols (with_symbols t (field_symbols f ++ (annotations ++ []))) (members_symbols ms)
 
-abbrev nest_texts : List (List ℕ) → Nest UserSymbol ℕ → List (List ℕ)
+abbrev pub nest_texts : List (List ℕ) → Nest UserSymbol ℕ → List (List ℕ)
 nest_texts t (outermost annotations p k ms) = own_texts t None annotations ms
 nest_texts t (inner around f annotations p k ms) = own_texts (nest_texts t around) f annotations ms
 
@@ -77,9 +78,28 @@ after_nest m t u out top (inner around f annotations p k ms) rest e =
     ∙ (after_nest m t u out top around (begin_item top f annotations p k ∷ (member_items top ms ++ rest)) (extends_trans a (own_texts a f annotations ms) u (own-extends a f annotations ms) e)
     ∙ after_opened m a u (length kept) over (innermost (id_in u) around) (around_it (id_in u) around) out top p f annotations k ms rest e)
 
+-- values at top level, and open containers behind them
+pub after_open_path : (m : ℕ) (u : List (List ℕ)) (tops : List (Top UserSymbol ℕ)) (first : ℕ) (nest : Nest UserSymbol ℕ)
+    → (let t = texts_behind m [] tops in
+    let kept = texts_kept (is_over m t) t in
+    Extends (nest_texts kept nest) u
+    → after_all m at_begin (path_items (opened tops first nest))
+    ≡ written (nest_texts kept nest) (length kept) (is_over m t) (innermost (id_in u) nest ∷ around_it (id_in u) nest) (binary m tops))
+after_open_path m u tops first nest e =
+    ap (λ (is : List UserItem). after_all m at_begin (top_items tops ++ is)) (sym (append-nil (nest_items first nest)))
+    ∙ (after_tops m [] marker_octets tops (nest_items first nest ++ [])
+    ∙ after_nest m (texts_behind m [] tops) u (binary m tops) first nest [] e)
+
+-- what has been put there
+pub open_items_put : OpenItemsPutWhatIsWhole
+open_items_put limit tops first nest =
+    let t : List (List ℕ) = texts_behind limit [] tops in
+    let inside : List (List ℕ) = nest_texts (texts_kept (is_over limit t) t) nest in
+    ap (λ (w : Written). w.octets) (after_open_path limit inside tops first nest (extends_same inside))
+
 -- ---- the closing
 
-last-size : (ids : UserSymbol → ℕ) (n : ℕ) (ts : List (Top UserSymbol ℕ)) (t : Top UserSymbol ℕ) → size_behind ids n (ts ++ t ∷ []) ≡ top_size ids t
+pub last-size : (ids : UserSymbol → ℕ) (n : ℕ) (ts : List (Top UserSymbol ℕ)) (t : Top UserSymbol ℕ) → size_behind ids n (ts ++ t ∷ []) ≡ top_size ids t
 last-size ids n [] t = refl
 last-size ids n (first ∷ ts) t = last-size ids (top_size ids first) ts t
 
@@ -142,7 +162,7 @@ closed-top over depth last t out tops f annotations p top value.end fits none = 
 closed-top over depth last t out tops f annotations p top value.marker fits none = absurd (cc none)
 
 -- where containers are open
-closed-inside : (m last : ℕ) (t : List (List ℕ)) (n : ℕ) (due : Bool) (out : List ℕ) (tops : List (Top UserSymbol ℕ)) (first : ℕ) (nest : Nest UserSymbol ℕ)
+pub closed-inside : (m last : ℕ) (t : List (List ℕ)) (n : ℕ) (due : Bool) (out : List ℕ) (tops : List (Top UserSymbol ℕ)) (first : ℕ) (nest : Nest UserSymbol ℕ)
     (f : Option UserSymbol) (annotations : List UserSymbol) (p top : ℕ) (h : Head UserSymbol) → is_marker h ≡ false
     → (let u = with_symbols t (item_symbols (an_item f annotations p top h)) in
     SizeIs last tops (opened tops first nest) (an_item f annotations p top h) (written t n due (innermost (id_in u) nest ∷ around_it (id_in u) nest) out))
@@ -157,7 +177,7 @@ closed-inside m last t n due out tops first nest f annotations p top value.marke
 
 -- the same of a state that items lead to
 abbrev SizeBehind : ℕ → ℕ → Path UserSymbol ℕ → UserItem → Written → Type 0
-SizeBehind limit last behind i w = closed_size limit w i ≡ last_size (id_in (numbered limit w i).texts) (closing last (with_item behind i))
+SizeBehind limit last behind i w = closed_size limit w i ≡ last_size (id_in (with_ids_given limit w i).texts) (closing last (with_item behind i))
 
 size-at-top : (limit depth last : ℕ) (t : List (List ℕ)) (out : List ℕ) (tops : List (Top UserSymbol ℕ)) (i : UserItem) → Fits depth [] i → is_marker i.head ≡ false
     → SizeBehind limit last (closed tops) i (nothing_open t out)
@@ -176,11 +196,6 @@ closed_size_is limit depth last (opened tops first nest) i fits none =
     let kept : List (List ℕ) = texts_kept over t in
     let inside : List (List ℕ) = nest_texts kept nest in
     let u : List (List ℕ) = with_symbols inside (item_symbols i) in
-    let w : Written = written inside (length kept) over (innermost (id_in u) nest ∷ around_it (id_in u) nest) (binary limit tops) in
     let P : Written → Type 0 = λ x. SizeBehind limit last (opened tops first nest) i x in
-    let reached : after_all limit at_begin (top_items tops ++ nest_items first nest) ≡ w =
-    ap (λ (is : List UserItem). after_all limit at_begin (top_items tops ++ is)) (sym (append-nil (nest_items first nest)))
-    ∙ (after_tops limit [] marker_octets tops (nest_items first nest ++ [])
-    ∙ after_nest limit t u (binary limit tops) first nest [] (extends_all inside (item_symbols i)))
-    in
-    subst P (sym reached) (closed-inside limit last inside (length kept) over (binary limit tops) tops first nest i.field i.annotations i.place i.top i.head none)
+    subst P (sym (after_open_path limit u tops first nest (extends_all inside (item_symbols i))))
+    (closed-inside limit last inside (length kept) over (binary limit tops) tops first nest i.field i.annotations i.place i.top i.head none)

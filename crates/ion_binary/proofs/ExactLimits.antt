@@ -24,7 +24,8 @@ use Rattle.ion_binary.specs.Grammar.{Descriptor, Ids, Header, type_code, Tops}
 use Rattle.ion_binary.specs.Paths.{Spells, At, Follows}
 use Rattle.ion_value.specs.ReadingLaws.{IsLimit}
 use Rattle.ion_binary.specs.Laws.{Bodies, StandAt, Passes, ExactLimits}
-use Rattle.ion_binary.proofs.Free.{Blames, bind_blames, then_blames, refuse_blames, blames_more, part_blames, if_blames, Free, free, refuse_free, octet_at-free, var_uint_at-free, length_at-free, scalar_of_body-free}
+use Rattle.ion_value.proofs.Faults.{Blames, bind_blames, then_blames, refuse_blames, blames_more, part_blames, if_blames, Free, free, refuse_free}
+use Rattle.ion_binary.proofs.Free.{octet_at-free, var_uint_at-free, length_at-free, scalar_of_body-free}
 use Rattle.ion_binary.proofs.Taken.{part_ok, Took, Took-then, octet_at-taken, var_uint_at-taken, length_at-taken}
 use Rattle.ion_binary.proofs.TypedValueSound.{IsShape, shape_of-is}
 use Rattle.ion_binary.proofs.WrapperSound.{wrapper_at-taken, ids_at-taken, field_at-taken}

@@ -125,7 +125,7 @@ known_right texts (s ∷ ss) rest h = known_right texts ss rest h.1
 
 -- ---- their octets stay
 
-id_octets-same : (t u : List (List ℕ)) (ss : List UserSymbol) → Extends t u → AreKnown t ss → id_octets (id_in u) ss ≡ id_octets (id_in t) ss
+pub id_octets-same : (t u : List (List ℕ)) (ss : List UserSymbol) → Extends t u → AreKnown t ss → id_octets (id_in u) ss ≡ id_octets (id_in t) ss
 id_octets-same t u [] e h = refl
 id_octets-same t u (s ∷ ss) e h =
     ap (λ n. var_uint_octets n ++ id_octets (id_in u) ss) (id_ext t u s e h.0)

@@ -104,20 +104,20 @@ closed_size_by_places cs x =
 -- ---- by counts
 
 -- the sizes of k headers, and how many of each count are among them
-abbrev sizes_of : List ℕ → ℕ → ℕ
+abbrev pub sizes_of : List ℕ → ℕ → ℕ
 sizes_of ns zero = 0
 sizes_of ns (suc k) = sizes_of ns k + counted_size ns k
 
-abbrev among : List ℕ → ℕ → ℕ
+abbrev pub among : List ℕ → ℕ → ℕ
 among [] k = 0
 among (n ∷ ns) k = among ns k + min n k
 
 -- each header is as long as the counts say
-abbrev AreCounted : List ℕ → ℕ → List ℕ → ℕ → Type 0
-AreCounted ns n [] m = ⊤
-AreCounted ns n (p ∷ ps) m = (header_size (n - p + m) ≡ counted_size ns (length ps)) × AreCounted ns n ps (m + counted_size ns (length ps))
+abbrev pub AreSizesCounted : List ℕ → ℕ → List ℕ → ℕ → Type 0
+AreSizesCounted ns n [] m = ⊤
+AreSizesCounted ns n (p ∷ ps) m = (header_size (n - p + m) ≡ counted_size ns (length ps)) × AreSizesCounted ns n ps (m + counted_size ns (length ps))
 
-missing-counted : (ns ps : List ℕ) (n m : ℕ) → AreCounted ns n ps m → missing n ps m ≡ m + sizes_of ns (length ps)
+pub missing-counted : (ns ps : List ℕ) (n m : ℕ) → AreSizesCounted ns n ps m → missing n ps m ≡ m + sizes_of ns (length ps)
 missing-counted ns [] n m h = omega arith
 missing-counted ns (p ∷ ps) n m h =
     let r : missing n ps (m + counted_size ns (length ps)) ≡ m + counted_size ns (length ps) + sizes_of ns (length ps) = missing-counted ns ps n (m + counted_size ns (length ps)) h.1 in
@@ -138,7 +138,7 @@ among-none : (ns : List ℕ) → among ns 0 ≡ 0
 among-none [] = refl
 among-none (n ∷ ns) = let r = among-none ns in omega (arith, r)
 
-sizes-among : (ns : List ℕ) (k : ℕ) → sizes_of ns k ≡ k + among ns k
+pub sizes-among : (ns : List ℕ) (k : ℕ) → sizes_of ns k ≡ k + among ns k
 sizes-among ns zero = let r = among-none ns in omega (arith, r)
 sizes-among ns (suc k) = let r = sizes-among ns k in let s = among-suc ns k in omega (arith, r, s)
 
@@ -149,7 +149,7 @@ among-within (n ∷ ns) k =
     let s : sum (n ∷ ns) ≡ n + sum ns = sum_by-cons (λ i. i) n ns in
     omega (arith, r, s)
 
-among-all : (ns ts xs : List ℕ) → AreSettled ns ts xs → among ns (length xs) ≡ sum ns
+pub among-all : (ns ts xs : List ℕ) → AreSettled ns ts xs → among ns (length xs) ≡ sum ns
 among-all [] [] xs h = refl
 among-all [] (t ∷ ts) xs h = absurd h
 among-all (n ∷ ns) [] xs h = absurd h
@@ -161,12 +161,12 @@ among-all (n ∷ ns) (t ∷ ts) xs h =
 -- ---- what is true at the two places where a count ends is true of all
 
 -- each number is at most those behind it
-abbrev Ascend : List ℕ → Type 0
+abbrev pub Ascend : List ℕ → Type 0
 Ascend [] = ⊤
 Ascend (x ∷ xs) = AllByRecursion (λ y. x ≤ y) xs × Ascend xs
 
 -- each that is counted reaches the threshold, and no other
-abbrev IsCountOf : ℕ → ℕ → List ℕ → Type 0
+abbrev pub IsCountOf : ℕ → ℕ → List ℕ → Type 0
 IsCountOf n t [] = ⊤
 IsCountOf n t (x ∷ xs) = ((length xs < n → t ≤ x) × (n ≤ length xs → x < t)) × IsCountOf n t xs
 
@@ -194,7 +194,7 @@ all-counted b n t (x ∷ xs) a u s f =
     below-by h (inr few) = let e : length xs ≡ n = omega (arith, h, few) in s.1.0 e
 
 -- every threshold
-abbrev AreCountsOf : List ℕ → List ℕ → List ℕ → Type 0
+abbrev pub AreCountsOf : List ℕ → List ℕ → List ℕ → Type 0
 AreCountsOf [] [] xs = ⊤
 AreCountsOf (n ∷ ns) (t ∷ ts) xs = IsCountOf n t xs × AreCountsOf ns ts xs
 AreCountsOf _ _ xs = ⊥
@@ -203,7 +203,7 @@ none-above : (xs : List ℕ) → AllByRecursion (λ y. 0 ≤ y) xs
 none-above [] = tt
 none-above (x ∷ xs) = (omega arith, none-above xs)
 
-counts-of : (ns ts xs : List ℕ) → Ascend xs → AreSettled ns ts xs → AreCountsOf ns ts xs
+pub counts-of : (ns ts xs : List ℕ) → Ascend xs → AreSettled ns ts xs → AreCountsOf ns ts xs
 counts-of [] [] xs u h = tt
 counts-of [] (t ∷ ts) xs u h = absurd h
 counts-of (n ∷ ns) [] xs u h = absurd h
@@ -306,11 +306,11 @@ size-reached x h =
 
 -- ---- the places of headers descend
 
-abbrev Descend : List ℕ → Type 0
+abbrev pub Descend : List ℕ → Type 0
 Descend [] = ⊤
 Descend (p ∷ ps) = AllByRecursion (λ q. q ≤ p) ps × Descend ps
 
-all-below : (b c : ℕ) (ps : List ℕ) → b ≤ c → AllByRecursion (λ q. q ≤ b) ps → AllByRecursion (λ q. q ≤ c) ps
+pub all-below : (b c : ℕ) (ps : List ℕ) → b ≤ c → AllByRecursion (λ q. q ≤ b) ps → AllByRecursion (λ q. q ≤ c) ps
 all-below b c [] e h = tt
 all-below b c (p ∷ ps) e h = (omega (arith, h.0, e), all-below b c ps e h.1)
 
@@ -342,18 +342,18 @@ above : (ns : List ℕ) (n p m b k : ℕ) (ps : List ℕ) → b ≤ n - p + m �
 above ns n p m b k [] e f h = tt
 above ns n p m b k (q ∷ ps) e f h = (omega (arith, e, f, h.0), above ns n p m b (k + counted_size ns (length ps)) ps e (omega (arith, f)) h.1)
 
-contents-ascend : (ns : List ℕ) (n m : ℕ) (ps : List ℕ) → Descend ps → Ascend (contents ns n ps m)
+pub contents-ascend : (ns : List ℕ) (n m : ℕ) (ps : List ℕ) → Descend ps → Ascend (contents ns n ps m)
 contents-ascend ns n m [] h = tt
 contents-ascend ns n m (p ∷ ps) h =
     (above ns n p m (n - p + m) (m + counted_size ns (length ps)) ps (omega arith) (omega arith) h.0, contents-ascend ns n (m + counted_size ns (length ps)) ps h.1)
 
-contents-length : (ns : List ℕ) (n m : ℕ) (ps : List ℕ) → length (contents ns n ps m) ≡ length ps
+pub contents-length : (ns : List ℕ) (n m : ℕ) (ps : List ℕ) → length (contents ns n ps m) ≡ length ps
 contents-length ns n m [] = refl
 contents-length ns n m (p ∷ ps) = ap suc (contents-length ns n (m + counted_size ns (length ps)) ps)
 
 -- ---- so headers are as long as the counts say
 
-are-counted : (ns : List ℕ) (n m : ℕ) (ps : List ℕ) → AreCountsOf ns thresholds (contents ns n ps m) → n + (m + sizes_of ns (length ps)) < 2 ^ 35 → AreCounted ns n ps m
+pub are-counted : (ns : List ℕ) (n m : ℕ) (ps : List ℕ) → AreCountsOf ns thresholds (contents ns n ps m) → n + (m + sizes_of ns (length ps)) < 2 ^ 35 → AreSizesCounted ns n ps m
 are-counted ns n m [] h small = tt
 are-counted ns n m (p ∷ ps) h small =
     let s : ℕ = counted_size ns (length ps) in
@@ -372,6 +372,6 @@ closed_size_by_counts cs x counts settled small =
     let all : among counts (length xs) ≡ sum counts = among-all counts thresholds xs settled in
     let sizes : sizes_of counts (length ps) ≡ length ps + among counts (length ps) = sizes-among counts (length ps) in
     let same : among counts (length ps) ≡ sum counts = ap (among counts) (sym long) ∙ all in
-    let h : AreCounted counts n ps 0 = are-counted counts n 0 ps (counts-of counts thresholds xs (contents-ascend counts n 0 ps (places-descend cs)) settled) (omega (arith, small, sizes, same)) in
+    let h : AreSizesCounted counts n ps 0 = are-counted counts n 0 ps (counts-of counts thresholds xs (contents-ascend counts n 0 ps (places-descend cs)) settled) (omega (arith, small, sizes, same)) in
     let m : missing n ps 0 ≡ 0 + sizes_of counts (length ps) = missing-counted counts ps n 0 h in
     sym (closed_size_by_places cs x) ∙ omega (arith, m, sizes, same)

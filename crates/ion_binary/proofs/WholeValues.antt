@@ -7,6 +7,7 @@ use Rattle.ion_binary.specs.Grammar.{type_code}
 use Rattle.ion_binary.specs.Canonical.{annotation_octets, binary, declaration, field_octets, field_symbols, headed, id_in, is_over, marker_if, marker_octets, member_octets, members_octets, members_symbols, octets_behind, scalar_octets, scalar_symbols, texts_kept, tree_octets, value_octets, value_symbols, with_symbols, wrapped}
 use Rattle.ion_binary.specs.Writing.{Unclosed, Written, after_all, at_begin, forgetting, opened_with, with_head}
 use Rattle.ion_binary.specs.WritingLaws.{ItemsPutTheForm}
+use Rattle.ion_binary.specs.Refusals.{texts_behind}
 use Rattle.ion_binary.proofs.KnownIds.{Extends, extends_same, extends_trans, extends_all, with_symbols-append, AreKnown, all_known, known_left, known_right, annotation_octets-same, field_octets-same, scalar_octets-same}
 
 abbrev pub written : List (List ℕ) → ℕ → Bool → List Unclosed → List ℕ → Written
@@ -160,12 +161,6 @@ after_top m t out top p annotations (container k ms last) rest =
     ∙ (after_members m t1 all (length kept) over (opened_with (id_in all) None annotations k []) [] out top ms (end ∷ rest) (extends_right kept all own (members_symbols ms) (extends_same all))
     ∙ ap (λ (w : List (List ℕ)). after_all m (behind_tree over kept w out (member_octets (id_in all) None annotations (headed (type_code k) x))) rest)
     (sym (with_symbols-append kept own (members_symbols ms))))))
-
--- the texts behind values at top level
-abbrev pub texts_behind : ℕ → List (List ℕ) → List (Top UserSymbol ℕ) → List (List ℕ)
-texts_behind m t [] = t
-texts_behind m t (version place ∷ ts) = texts_behind m t ts
-texts_behind m t (tree first annotations place v ∷ ts) = texts_behind m (with_symbols (texts_kept (is_over m t) t) (value_symbols None annotations v)) ts
 
 abbrev pub nothing_open : List (List ℕ) → List ℕ → Written
 nothing_open t out = written t (length t) false [] out

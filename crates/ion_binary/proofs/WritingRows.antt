@@ -11,8 +11,8 @@ use Rattle.ion_value.specs.Number.{digits_within}
 use Rattle.ion_value.specs.Decimal.{decimal_body}
 use Rattle.ion_value.specs.Timestamp.{fields, timestamp_body, utc_of}
 use Rattle.ion_value.specs.Value as value
-use Rattle.ion_value.specs.Value.{Text, SymbolAt, UserSymbol, Known, Unknown, Scalar, Value, Members, scalar, container, nothing, member, Top, tree, Head, whole, begin, end, PlacedItem, top_items}
-use Rattle.ion_binary.specs.Canonical.{binary, declaration, id_in, is_over, marker_octets, with_symbol}
+use Rattle.ion_value.specs.Value.{Text, Id, SymbolAt, UserSymbol, Known, Unknown, Scalar, Value, Members, scalar, container, nothing, member, Top, tree, Head, whole, begin, end, PlacedItem, top_items}
+use Rattle.ion_binary.specs.Canonical.{binary, declaration, id_in, is_over, marker_octets, member_octets, value_octets, with_symbol}
 use Rattle.ion_binary.specs.Writing.{after_all, at_begin, binary_adds, binary_puts, binary_refusal}
 
 abbrev int : Bool → ℕ → Value UserSymbol ℕ
@@ -292,6 +292,32 @@ thirteen : octets (list (one (list (trues 13)))) ≡ behind_marker (0xBE ∷ 0x8
 unfolding form
 thirteen = refl
 
+-- lengths of one octet and of two, and ids
+length_of_127 : octets (string (seventeens 127)) ≡ behind_marker (0x8E ∷ 0xFF ∷ seventeens 127)
+unfolding form
+length_of_127 = refl
+
+length_of_128 : octets (string (seventeens 128)) ≡ behind_marker (0x8E ∷ 0x01 ∷ 0x80 ∷ seventeens 128)
+unfolding form
+length_of_128 = refl
+
+-- `a:b::c`, where each symbol has this id
+unfoldable with_ids : ℕ → List ℕ
+unfolding digits_within
+with_ids id = member_octets (λ s. id) (Some (Known (codes "a"))) (Known (codes "b") ∷ []) (value_octets (λ s. id) (name (codes "c")))
+
+ids_of_127 : with_ids 127 ≡ 0xFF ∷ 0xE4 ∷ 0x81 ∷ 0xFF ∷ 0x71 ∷ 0x7F ∷ []
+unfolding with_ids
+ids_of_127 = refl
+
+ids_of_128 : with_ids 128 ≡ 0x01 ∷ 0x80 ∷ 0xE5 ∷ 0x82 ∷ 0x01 ∷ 0x80 ∷ 0x71 ∷ 0x80 ∷ []
+unfolding with_ids
+ids_of_128 = refl
+
+ids_of_256 : with_ids 256 ≡ 0x02 ∷ 0x80 ∷ 0xE6 ∷ 0x82 ∷ 0x02 ∷ 0x80 ∷ 0x72 ∷ 0x01 ∷ 0x00 ∷ []
+unfolding with_ids
+ids_of_256 = refl
+
 -- ---- refusals
 
 abbrev limits : ℕ → ℕ → Limits
@@ -369,3 +395,57 @@ refused_adds_nothing = refl
 no_marker_behind_the_last : puts 17 100 (named 0 0 (codes "a") ∷ []) ≡ behind_marker (0xEA ∷ 0x81 ∷ 0x83 ∷ 0xD7 ∷ 0x86 ∷ 0x71 ∷ 0x03 ∷ 0x87 ∷ 0xB2 ∷ 0x81 ∷ 0x61 ∷ 0x71 ∷ 0x0A ∷ [])
 unfolding puts
 no_marker_behind_the_last = refl
+
+-- `a [b`, where a version marker is due before the list
+open_puts_nothing : puts 17 100 (named 0 0 (codes "a") ∷ at 2 2 (begin kind.List) ∷ named 3 2 (codes "b") ∷ [])
+    ≡ behind_marker (0xEA ∷ 0x81 ∷ 0x83 ∷ 0xD7 ∷ 0x86 ∷ 0x71 ∷ 0x03 ∷ 0x87 ∷ 0xB2 ∷ 0x81 ∷ 0x61 ∷ 0x71 ∷ 0x0A ∷ [])
+unfolding puts
+open_puts_nothing = refl
+
+-- `5 [[["x"`
+abbrev behind_five : List PlacedItem
+behind_five = at 0 0 (whole (value.int (record { negative = false; magnitude = 5 }))) ∷ at 2 2 (begin kind.List) ∷ at 3 2 (begin kind.List) ∷ at 4 2 (begin kind.List) ∷ []
+
+too_long_at_its_own : refusal 100 4 behind_five (text_at 5 2 (codes "x")) ≡ Some (ValueLimit, 2)
+unfolding refusal
+too_long_at_its_own = refl
+
+abbrev symbol_at : ℕ → List ℕ → SymbolAt
+symbol_at place t = record { symbol = Text t; place = place }
+
+-- `a::b`
+abbrev annotated_symbol : PlacedItem
+annotated_symbol = record (named 3 0 (codes "b")) { annotations = symbol_at 0 (codes "a") ∷ [] }
+
+at_the_annotation : refusal 16 100 [] annotated_symbol ≡ Some (SymbolLimit, 0)
+unfolding refusal
+at_the_annotation = refl
+
+at_the_symbol : refusal 33 100 [] annotated_symbol ≡ Some (SymbolLimit, 3)
+unfolding refusal
+at_the_symbol = refl
+
+-- `{a:b::c`
+abbrev field_of_symbol : PlacedItem
+field_of_symbol = record (named 6 0 (codes "c")) { field = Some (symbol_at 1 (codes "a")); annotations = symbol_at 3 (codes "b") ∷ [] }
+
+abbrev in_struct : ℕ → Option (Reason × ℕ)
+in_struct symbols = refusal symbols 100 (at 0 0 (begin kind.Struct) ∷ []) field_of_symbol
+
+at_each_symbol : in_struct 16 ∷ in_struct 33 ∷ in_struct 50 ∷ in_struct 51 ∷ [] ≡ Some (SymbolLimit, 1) ∷ Some (SymbolLimit, 3) ∷ Some (SymbolLimit, 6) ∷ None ∷ []
+unfolding refusal
+at_each_symbol = refl
+
+-- `[a,a`
+one_text_twice : refusal 17 100 a_in_list (named 3 0 (codes "a")) ≡ None
+unfolding refusal
+one_text_twice = refl
+
+-- `[$0,name`
+without_cost : refusal 0 100 (at 0 0 (begin kind.List) ∷ at 1 0 (whole (value.symbol (record { symbol = Id 0; place = 1 }))) ∷ []) (named 4 0 (codes "name")) ≡ None
+unfolding refusal
+without_cost = refl
+
+unknown_without_cost : refusal 0 100 (at 0 0 (begin kind.List) ∷ []) (at 1 0 (whole (value.symbol (record { symbol = Id 0; place = 1 })))) ≡ None
+unfolding refusal
+unknown_without_cost = refl

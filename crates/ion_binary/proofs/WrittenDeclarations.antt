@@ -1,5 +1,5 @@
 -- The octets of a declaration are a declaration, which adds its texts to the table before it.
-use Rattle.std.proofs.Common.{◌≡◌, ℕ, suc, ◌+◌, ◌^◌, ◌<◌, Bool, true, false, List, [], ◌∷◌, ◌++◌, length, map, Option, Some, None, option_map, unwrap_or, if◌then◌else◌, IsUtf8, refl, ap, ap₂, sym, ◌∙◌, append_assoc, append-nil, arith, codes}
+use Rattle.std.proofs.Common.{◌≡◌, ℕ, suc, ◌+◌, ◌^◌, ◌<◌, Bool, true, false, inl, inr, List, [], ◌∷◌, ◌++◌, length, map, Result, Ok, Err, Option, Some, None, option_map, unwrap_or, if◌then◌else◌, IsUtf8, refl, ap, ap₂, sym, ◌∙◌, subst, append_assoc, append-nil, length-append, arith, codes}
 use Rattle.std.specs.Bool.{⊤}
 use Rattle.std.specs.List.{AllByRecursion}
 use Rattle.ion_value.specs.declared.ion_type.Kind.{Kind}
@@ -7,10 +7,15 @@ use Rattle.ion_value.specs.declared.ion_type.Kind.TheVariants as kind
 use Rattle.ion_value.specs.Value as value
 use Rattle.ion_value.specs.Value.{Symbol, Id, SymbolAt, UserSymbol, Known, Unknown, Scalar, Value, Members, scalar, container, nothing, member, map_scalar, map_value, map_members}
 use Rattle.ion_symbols.specs.Output.{position, system_texts, or_given}
-use Rattle.ion_symbols.specs.Table.{Shared, Slots, Table, text_at}
-use Rattle.ion_symbols.specs.Tree.{declares_table, element, elements, next_table}
+use Rattle.ion_symbols.specs.Declaration.{Ground}
+use Rattle.ion_symbols.specs.Laws.{IsCostly, IsDoubled, SomeAbove}
+use Rattle.ion_symbols.specs.Table.{Shared, Slots, Table, text_at, slots_cost}
+use Rattle.ion_symbols.specs.Tree.{declared, declares_table, element, elements, next_table}
+use Rattle.ion_meter.specs.declared.fault.Reason.{Reason}
+use Rattle.ion_symbols.proofs.DeclarationMeaning.{what_is_said, why_it_is_refused}
+use Rattle.ion_symbols.proofs.Keeping.{cost_append}
 use Rattle.ion_binary.specs.Canonical.{declaration, declaring, id_in, string_members}
-use Rattle.ion_binary.specs.Spelling.{AreWritable, IsWritable, IsSpelledAt, DeclarationsAreRead, bare_symbol, no_place, with_id, with_texts}
+use Rattle.ion_binary.specs.Spelling.{AreWritable, IsWritable, IsSpelledAt, DeclarationsAreAccepted, WrittenDeclarationsAreRead, HasRoom, bare_symbol, no_place, with_id, with_texts}
 use Rattle.ion_binary.proofs.WrittenSpelled.{value-spelled}
 
 -- ---- ids are small
@@ -169,6 +174,7 @@ record IsMember (before : Members Symbol ⊤) (id : ℕ) (inner : Value Symbol �
   pub place : ℕ
   pub held : Value SymbolAt ℕ
   pub is : ms ≡ member others (Some name) annotations place held
+  pub bare_annotations : map bare_symbol annotations ≡ []
   pub others_are : bare_members others ≡ before
   pub name_is : name.symbol ≡ Id id
   pub held_is : bare held ≡ inner
@@ -184,7 +190,8 @@ a_member before id inner (member others (Some s) annotations place x) e =
     let names : Some s.symbol ≡ Some (Id id) = cc f in
     let a : bare_members others ≡ before = cc f in
     let b : bare x ≡ inner = cc f in
-    record { others = others; name = s; annotations = annotations; place = place; held = x; is = refl; others_are = a; name_is = cc names; held_is = b }
+    let n : map bare_symbol annotations ≡ [] = cc f in
+    record { others = others; name = s; annotations = annotations; place = place; held = x; is = refl; bare_annotations = n; others_are = a; name_is = cc names; held_is = b }
 
 no_member : (ms : Members SymbolAt ℕ) → bare_members ms ≡ nothing → ms ≡ nothing
 no_member nothing e = refl
@@ -233,10 +240,105 @@ leaves-strings catalog old imports table symbols a b p q last strings i t s =
     (raw_members (marked_at x imports.place) a p (marked_at y table.place) (marked_at z symbols.place) b q strings last) in
     ap (λ (x : Symbol). left x table.symbol symbols.symbol) i ∙ (ap (λ (y : Symbol). left (Id 6) y symbols.symbol) t ∙ ap (λ (z : Symbol). left (Id 6) (Id 3) z) s)
 
+-- ---- it is not refused
+
+-- members that are strings without annotations
+abbrev AreStrings : {S P : Type 0} → Members S P → Type 0
+AreStrings nothing = ⊤
+AreStrings (member before None [] place (scalar (value.string t))) = AreStrings before
+AreStrings _ = ⊥
+
+are-strings : (before : Members UserSymbol ⊤) (texts : List (List ℕ)) → AreStrings (map_members (with_id (id_in [])) no_place before)
+    → AreStrings (map_members (with_id (id_in [])) no_place (string_members before texts))
+are-strings before [] h = h
+are-strings before (t ∷ ts) h = are-strings (member before None [] tt (scalar (value.string t))) ts h
+
+-- they have no symbol above a table
+none-above : (old : Table) (ms : Members SymbolAt ℕ) → AreStrings (bare_members ms) → SomeAbove old ms → ⊥
+none-above old nothing h above = above
+none-above old (member before (Some s) annotations place x) h above = absurd h
+none-above old (member before None (s ∷ ss) place x) h above = absurd h
+none-above old (member before None [] place (container k inner last)) h above = absurd h
+none-above old (member before None [] place (scalar (value.null t))) h above = absurd h
+none-above old (member before None [] place (scalar (value.bool truth))) h above = absurd h
+none-above old (member before None [] place (scalar (value.int number))) h above = absurd h
+none-above old (member before None [] place (scalar (value.decimal number))) h above = absurd h
+none-above old (member before None [] place (scalar (value.timestamp moment))) h above = absurd h
+none-above old (member before None [] place (scalar (value.symbol s))) h above = absurd h
+none-above old (member before None [] place (scalar (value.clob b))) h above = absurd h
+none-above old (member before None [] place (scalar (value.blob b))) h above = absurd h
+none-above old (member before None [] place (scalar (value.string b))) h above =
+    elim above [
+      | inl x ↦ none-above old before h x
+      | inr rest ↦ elim rest [ inl x ↦ x | inr more ↦ elim more [ inl x ↦ x | inr x ↦ x ] ]
+    ]
+
+-- a declaration with nothing to be refused for leaves what it says
+left-by : (g : Ground) (top : ℕ) (ms : Members SymbolAt ℕ) (u : Table) (r : Result Table (Reason × ℕ)) → declared g top ms ≡ r
+    → next_table g.catalog (text_at g.old) g.old ms ≡ Some u → (SomeAbove g.old ms → ⊥) → (IsCostly g ms → ⊥) → (IsDoubled (text_at g.old) ms → ⊥)
+    → declared g top ms ≡ Ok u
+left-by g top ms u (Ok t) e says above costly doubled =
+    let same : Some u ≡ Some t = sym says ∙ what_is_said g top ms t e in
+    let v : t ≡ u = cc same in
+    let left : Table → Result Table (Reason × ℕ) = λ x. Ok x in
+    e ∙ ap left v
+left-by g top ms u (Err why) e says above costly doubled =
+    elim (why_it_is_refused g top ms why.0 why.1 e) [
+      | inl a ↦ absurd (above a.1)
+      | inr rest ↦ elim rest [
+        | inl c ↦ absurd (costly c.1)
+        | inr table ↦ elim table.1 [ inl d ↦ absurd (doubled d) | inr none ↦ absurd (cc (sym none ∙ says)) ]
+      ]
+    ]
+
+abbrev plain_members : ℕ → ℕ → ℕ → ℕ → ℕ → Members SymbolAt ℕ → ℕ → Members SymbolAt ℕ
+plain_members i p t s q strings last = raw_members (marked_at (Id 6) i) [] p (marked_at (Id 3) t) (marked_at (Id 7) s) [] q strings last
+
+abbrev with_locals : Table → Slots → Table
+with_locals old more = record { imports = old.imports; locals = old.locals ++ more }
+
+plain-accepted : (g : Ground) (top i p t s q last : ℕ) (strings : Members SymbolAt ℕ) → AreStrings (bare_members strings)
+    → HasRoom g (with_locals g.old (elements strings)) → declared g top (plain_members i p t s q strings last) ≡ Ok (with_locals g.old (elements strings))
+plain-accepted g top i p t s q last strings h room =
+    let ms : Members SymbolAt ℕ = plain_members i p t s q strings last in
+    let cost : slots_cost (g.old.locals ++ elements strings) ≡ slots_cost g.old.locals + slots_cost (elements strings) = cost_append g.old.locals (elements strings) in
+    let long : length (g.old.locals ++ elements strings) ≡ length g.old.locals + length (elements strings) = length-append g.old.locals (elements strings) in
+    let above : SomeAbove g.old ms → ⊥ = λ some. elim some [
+      | inl first ↦ elim first [ inl x ↦ x | inr rest ↦ elim rest [ inl x ↦ x | inr more ↦ elim more [ inl x ↦ x | inr x ↦ x ] ] ]
+      | inr rest ↦ elim rest [ inl x ↦ x | inr more ↦ elim more [ inl x ↦ x | inr x ↦ none-above g.old strings h x ] ]
+    ] in
+    let costly : IsCostly g ms → ⊥ = λ some. elim some [ inl x ↦ omega (arith, x, cost, room.cost) | inr x ↦ omega (arith, x, long, room.count) ] in
+    let doubled : IsDoubled (text_at g.old) ms → ⊥ = λ some. elim some [
+      | inl x ↦ omega (arith, x)
+      | inr rest ↦ elim rest [ inl x ↦ omega (arith, x) | inr x ↦ x ]
+    ] in
+    left-by g top ms (with_locals g.old (elements strings)) (declared g top ms) refl refl above costly doubled
+
+no-symbols : (ss : List SymbolAt) → map bare_symbol ss ≡ [] → ss ≡ []
+no-symbols [] e = refl
+no-symbols (s ∷ ss) e = absurd (cc e)
+
+raw-accepted : (g : Ground) (top : ℕ) (imports table symbols : SymbolAt) (a b : List SymbolAt) (p q last : ℕ) (strings : Members SymbolAt ℕ)
+    → imports.symbol ≡ Id 6 → table.symbol ≡ Id 3 → symbols.symbol ≡ Id 7 → a ≡ [] → b ≡ [] → AreStrings (bare_members strings)
+    → HasRoom g (with_locals g.old (elements strings)) → declared g top (raw_members imports a p table symbols b q strings last) ≡ Ok (with_locals g.old (elements strings))
+raw-accepted g top imports table symbols a b p q last strings i t s na nb h room =
+    let left : Symbol → Symbol → Symbol → List SymbolAt → List SymbolAt → Result Table (Reason × ℕ) = λ x y z c d. declared g top
+    (raw_members (marked_at x imports.place) c p (marked_at y table.place) (marked_at z symbols.place) d q strings last) in
+    ap (λ (x : Symbol). left x table.symbol symbols.symbol a b) i
+    ∙ (ap (λ (y : Symbol). left (Id 6) y symbols.symbol a b) t
+    ∙ (ap (λ (z : Symbol). left (Id 6) (Id 3) z a b) s
+    ∙ (ap (λ (c : List SymbolAt). left (Id 6) (Id 3) (Id 7) c b) na
+    ∙ (ap (λ (d : List SymbolAt). left (Id 6) (Id 3) (Id 7) [] d) nb
+    ∙ plain-accepted g top imports.place p table.place symbols.place q last strings h room))))
+
+-- ---- what is said
+
 record Said (catalog : List Shared) (old : Table) (texts : List (List ℕ)) (own : List SymbolAt) (raw : Value SymbolAt ℕ) : Type 0 where
   pub members : Members SymbolAt ℕ
   pub is_declaration : declares_table old own raw ≡ Some members
   pub leaves : next_table catalog (text_at old) old members ≡ Some (with_texts old texts)
+  pub accepted : (limit top : ℕ) → HasRoom (record { catalog = catalog; limit = limit; old = old }) (with_texts old texts)
+      → declared (record { catalog = catalog; limit = limit; old = old }) top members ≡ Ok (with_texts old texts)
 
 declares-struct : (old : Table) (s : SymbolAt) (ss : List SymbolAt) (members : Members SymbolAt ℕ) (last : ℕ) → s.symbol ≡ Id 3
     → declares_table old (s ∷ ss) (container kind.Struct members last) ≡ Some members
@@ -269,6 +371,16 @@ what-is-said catalog old texts (s ∷ ss) raw n e =
       is_declaration = ap (declares_table old (s ∷ ss)) raw_is ∙ declares-struct old s ss made whole.last (first-own s ss 3 n);
       leaves = leaves-strings catalog old first.name table.name second.name first.annotations second.annotations first.place second.place list.last list.members first.name_is table.name_is second.name_is
           ∙ ap (λ (l : Slots). Some (record { imports = old.imports; locals = old.locals ++ l })) (elements-are texts list.members list.inside_is);
+      accepted = λ limit top room.
+          (let g : Ground = record { catalog = catalog; limit = limit; old = old } in
+          let Room : Slots → Type 0 = λ l. HasRoom g (with_locals old l) in
+          let Strings : Members Symbol ⊤ → Type 0 = λ l. AreStrings l in
+          let left : Slots → Result Table (Reason × ℕ) = λ l. Ok (with_locals old l) in
+          let are : elements list.members ≡ map (λ t. Some t) texts = elements-are texts list.members list.inside_is in
+          raw-accepted g top first.name table.name second.name first.annotations second.annotations first.place second.place list.last list.members first.name_is table.name_is second.name_is
+          (no-symbols first.annotations first.bare_annotations) (no-symbols second.annotations second.bare_annotations)
+          (subst Strings (sym list.inside_is) (are-strings nothing texts tt)) (subst Room (sym are) room)
+          ∙ ap left are);
     }
 
 -- what is written of a declaration
@@ -278,9 +390,9 @@ unfolding declaration
 declaration-spelled q t ts h short =
     value-spelled (id_in []) q (Known (codes "$ion_symbol_table") ∷ []) (declaring (t ∷ ts)) (λ s. omega (arith, id_in-lt [] s)) (declaring-writable (t ∷ ts) h) short
 
-pub declarations_are_read : DeclarationsAreRead
-declarations_are_read catalog old q [] some h short = absurd (omega (arith, some))
-declarations_are_read catalog old q (t ∷ ts) some h short =
+pub written_declarations_are_read : WrittenDeclarationsAreRead
+written_declarations_are_read catalog old q [] some h short = absurd (omega (arith, some))
+written_declarations_are_read catalog old q (t ∷ ts) some h short =
     let d = declaration-spelled q t ts h short in
     let s = what-is-said catalog old (t ∷ ts) d.own d.raw (d.annotations_are ∙ ap (λ (n : ℕ). Id n ∷ []) table-id) (d.value_is ∙ said-is (t ∷ ts)) in
     record {
@@ -291,4 +403,19 @@ declarations_are_read catalog old q (t ∷ ts) some h short =
       spells = d.spells;
       is_declaration = s.is_declaration;
       leaves = s.leaves;
+    }
+
+pub declarations_are_accepted : DeclarationsAreAccepted
+declarations_are_accepted g q [] some h short room = absurd (omega (arith, some))
+declarations_are_accepted g q (t ∷ ts) some h short room =
+    let d = declaration-spelled q t ts h short in
+    let s = what-is-said g.catalog g.old (t ∷ ts) d.own d.raw (d.annotations_are ∙ ap (λ (n : ℕ). Id n ∷ []) table-id) (d.value_is ∙ said-is (t ∷ ts)) in
+    record {
+      own = d.own;
+      place = d.place;
+      raw = d.raw;
+      members = s.members;
+      spells = d.spells;
+      is_declaration = s.is_declaration;
+      leaves = λ top. s.accepted g.limit top room;
     }

@@ -68,7 +68,7 @@ marked-some [] = omega arith
 marked-some (d ∷ []) = omega arith
 marked-some (d ∷ e ∷ ds) = omega arith
 
-var_uint-some : (n : ℕ) → 0 < length (var_uint_octets n)
+pub var_uint-some : (n : ℕ) → 0 < length (var_uint_octets n)
 var_uint-some n = marked-some (digits_in 128 n)
 
 raw-id : (n : ℕ) → n < 2 ^ 31 → raw_id n ≡ n

@@ -21,7 +21,7 @@ use Rattle.ion_binary.specs.Canonical.{declaration, id_in, is_over, marker_if, m
 use Rattle.ion_binary.specs.Spelling.{AreShort, IsText, IsUser, IsDeclared, TheFormIsRead, bare_symbol, is_declaring, no_place, unplaced_top, with_id, with_texts}
 use Rattle.ion_binary.proofs.KnownIds.{AreKnown, IsKnown, all_known, known_left}
 use Rattle.ion_binary.proofs.WrittenSpelled.{value-spelled}
-use Rattle.ion_binary.proofs.WrittenDeclarations.{declarations_are_read, id_in-lt, position-lt}
+use Rattle.ion_binary.proofs.WrittenDeclarations.{written_declarations_are_read, id_in-lt, position-lt}
 
 -- ---- the table of texts, in which their ids stand for them
 
@@ -326,7 +326,7 @@ with-news : (catalog : List Shared) (kept new : List (List ℕ)) (b : List ℕ) 
 with-news catalog kept [] b done h short s =
     moved catalog _ _ _ _ _ _ (ap table_of (sym (append-nil kept))) (sym (append-nil b) ∙ ap (λ x. b ++ x) (sym no-declaration)) refl s
 with-news catalog kept (t ∷ ts) b done h short s =
-    let d = declarations_are_read catalog (table_of kept) (length b) (t ∷ ts) (omega arith) h short in
+    let d = written_declarations_are_read catalog (table_of kept) (length b) (t ∷ ts) (omega arith) h short in
     moved catalog _ _ _ _ _ _ (table-more kept (t ∷ ts)) refl refl (with-declaration catalog (table_of kept) b done (t ∷ ts) d s)
 
 -- a value that is no declaration is read as none

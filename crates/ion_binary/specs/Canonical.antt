@@ -65,7 +65,7 @@ abbrev mutual
 
 -- ---- ids
 
--- the id of a symbol by the texts that were given ids, which is 0 where its text is unknown
+-- the id of a symbol by the texts that were given ids, which is 0 where its text is unknown or has none
 unfoldable pub id_in : List (List ℕ) → UserSymbol → ℕ
 id_in texts (Known t) = unwrap_or (known_id texts t) 0
 id_in texts Unknown = 0
@@ -144,7 +144,8 @@ abbrev pub texts_kept : Bool → List (List ℕ) → List (List ℕ)
 texts_kept true texts = []
 texts_kept false texts = texts
 
--- a value at top level, where these texts have been declared and those are all that are by then
+-- a value at top level, behind a version marker where the texts were forgotten before it, and behind the declaration of those of all its
+-- texts that are not among the ones kept
 abbrev pub tree_octets : {P : Type 0} → Bool → List (List ℕ) → List (List ℕ) → List UserSymbol → Value UserSymbol P → List ℕ
 tree_octets emptied kept all annotations x =
     marker_if emptied ++ (declaration (drop (length kept) all) ++ member_octets (id_in all) None annotations (value_octets (id_in all) x))

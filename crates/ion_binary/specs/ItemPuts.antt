@@ -7,7 +7,7 @@ use Rattle.ion_value.specs.Standing.{is_marker}
 use Rattle.ion_value.specs.Value as value
 use Rattle.ion_value.specs.Value.{UserSymbol, Head, Item, PlacedItem, user_item, user_items}
 use Rattle.ion_binary.specs.Canonical.{id_in, is_over}
-use Rattle.ion_binary.specs.Writing.{Unclosed, Written, after, after_all, at_begin, binary_adds, binary_puts, binary_refusal, closed_with, end_puts, forgetting, head_puts, item_puts, numbered, unless_refused, value_puts, with_end, with_head, with_value, written_behind}
+use Rattle.ion_binary.specs.Writing.{Unclosed, Written, after, after_all, at_begin, binary_adds, binary_puts, binary_refusal, closed_with, end_puts, forgetting, head_puts, item_puts, with_ids_given, unless_refused, value_puts, with_end, with_head, with_value, written_behind}
 
 value-octets : (w : Written) (cs : List Unclosed) (x : List ℕ) → (with_value w cs x).octets ≡ w.octets ++ value_puts w cs x
 value-octets w [] x = refl
@@ -32,11 +32,11 @@ forgetting-octets w (c ∷ cs) over = refl
 -- an item adds what it puts
 after-octets : (limit : ℕ) (w : Written) (i : Item UserSymbol ℕ) → (after limit w i).octets ≡ w.octets ++ item_puts limit w i
 after-octets limit w i =
-    let n : Written = numbered limit w i in
+    let n : Written = with_ids_given limit w i in
     head-octets n (id_in n.texts) i.field i.annotations i.head
     ∙ ap (λ (o : List ℕ). o ++ item_puts limit w i) (forgetting-octets w w.open_containers (not (is_marker i.head) && is_over limit w.texts))
 
-after_all-last : (limit : ℕ) (w : Written) (path : List PlacedItem) (item : PlacedItem)
+pub after_all-last : (limit : ℕ) (w : Written) (path : List PlacedItem) (item : PlacedItem)
     → after_all limit w (user_items (path ++ item ∷ [])) ≡ after limit (after_all limit w (user_items path)) (user_item item)
 after_all-last limit w [] item = refl
 after_all-last limit w (i ∷ path) item = after_all-last limit (after limit w (user_item i)) path item

@@ -1,16 +1,17 @@
 -- What is written can be read: the octets of values as the grammar has them.
-use Rattle.std.specs.Prelude.{◌≡◌, ℕ, ◌^◌, ◌<◌, ◌≤◌, Bool, false, List, [], ◌∷◌, ◌++◌, length, drop, map, Some, None, is_some, IsUtf8, ⊤}
+use Rattle.std.specs.Prelude.{◌≡◌, ℕ, ◌^◌, ◌<◌, ◌≤◌, Bool, false, List, [], ◌∷◌, ◌++◌, length, drop, map, Some, None, Ok, is_some, IsUtf8, ⊤}
 use Rattle.std.specs.List.{AllByRecursion}
 use Rattle.ion_value.specs.declared.ion_type.Kind.{Kind}
 use Rattle.ion_value.specs.declared.ion_type.Kind.TheVariants as kind
 use Rattle.ion_value.specs.Standing.{InRange, in_struct}
 use Rattle.ion_value.specs.Value as value
 use Rattle.ion_value.specs.Value.{Symbol, Id, SymbolAt, UserSymbol, Known, Unknown, Scalar, Value, Members, scalar, container, nothing, member, Top, version, tree, map_value}
-use Rattle.ion_binary.specs.Grammar.{Bin, Stream}
-use Rattle.ion_symbols.specs.Table.{Shared, Table, system, text_at, word_of}
-use Rattle.ion_symbols.specs.Tree.{declares_table, next_table, user_tops}
+use Rattle.ion_binary.specs.Grammar.{Bin, Descriptor, Stream}
+use Rattle.ion_symbols.specs.Declaration.{Ground}
+use Rattle.ion_symbols.specs.Table.{Shared, Table, system, text_at, word_of, table_cost, count_of, most_slots}
+use Rattle.ion_symbols.specs.Tree.{declared, declares_table, next_table, user_tops}
 use Rattle.ion_symbols.specs.Users.{is_declaration}
-use Rattle.ion_binary.specs.Canonical.{binary, declaration, id_in, is_over, member_octets, texts_kept, value_octets, value_symbols, with_symbols}
+use Rattle.ion_binary.specs.Canonical.{binary, declaration, header, id_in, is_over, member_octets, texts_kept, value_octets, value_symbols, with_symbols}
 
 -- ---- which values are written
 
@@ -36,6 +37,10 @@ abbrev mutual
   AreWritable kind (member before f annotations place x) = AreWritable kind before × ((is_some f ≡ in_struct (kind ∷ [])) × IsWritable x)
 
 -- ---- what they are in the grammar
+
+-- no descriptor with the same type code and length has fewer octets than the header
+abbrev pub HeadersAreShortest : Type 0
+HeadersAreShortest = (t n : ℕ) (head : List ℕ) → Descriptor t n head → length (header t n) ≤ length head
 
 abbrev pub bare_symbol : SymbolAt → Symbol
 bare_symbol s = s.symbol
@@ -77,10 +82,31 @@ pub record IsDeclared (catalog : List Shared) (old : Table) (q : ℕ) (texts : L
   pub is_declaration : declares_table old own raw ≡ Some members
   pub leaves : next_table catalog (text_at old) old members ≡ Some (with_texts old texts)
 
-abbrev pub DeclarationsAreRead : Type 0
-DeclarationsAreRead =
+abbrev pub WrittenDeclarationsAreRead : Type 0
+WrittenDeclarationsAreRead =
     (catalog : List Shared) (old : Table) (q : ℕ) (texts : List (List ℕ)) → 0 < length texts → AllByRecursion IsUtf8 texts
     → length (declaration texts) < 2 ^ 62 → IsDeclared catalog old q texts
+
+-- a table is within the limits of a declaration
+pub record HasRoom (g : Ground) (t : Table) : Type 0 where
+  pub cost : table_cost t ≤ g.limit
+  pub count : count_of t ≤ most_slots
+
+-- from a place on the octets of a declaration spell one that is accepted behind a table, and leaves that table with the texts
+pub record IsAccepted (g : Ground) (q : ℕ) (texts : List (List ℕ)) : Type 0 where
+  pub own : List SymbolAt
+  pub place : ℕ
+  pub raw : Value SymbolAt ℕ
+  pub members : Members SymbolAt ℕ
+  pub spells : Bin q own place raw (declaration texts)
+  pub is_declaration : declares_table g.old own raw ≡ Some members
+  pub leaves : (top : ℕ) → declared g top members ≡ Ok (with_texts g.old texts)
+
+-- where the table with the texts is within the limits, the declaration is not refused
+abbrev pub DeclarationsAreAccepted : Type 0
+DeclarationsAreAccepted =
+    (g : Ground) (q : ℕ) (texts : List (List ℕ)) → 0 < length texts → AllByRecursion IsUtf8 texts → length (declaration texts) < 2 ^ 62
+    → HasRoom g (with_texts g.old texts) → IsAccepted g q texts
 
 -- ---- streams
 

@@ -100,14 +100,14 @@ with_head w ids f annotations value.end = with_end w w.open_containers
 with_head w ids f annotations value.marker = w
 
 -- the texts of an item are given ids first
-abbrev pub numbered : {P : Type 0} → ℕ → Written → Item UserSymbol P → Written
-numbered limit w i =
+abbrev pub with_ids_given : {P : Type 0} → ℕ → Written → Item UserSymbol P → Written
+with_ids_given limit w i =
     let b = begun limit w i.head in
     record b { texts = with_symbols b.texts (item_symbols i) }
 
 abbrev pub after : {P : Type 0} → ℕ → Written → Item UserSymbol P → Written
 after limit w i =
-    let n = numbered limit w i in
+    let n = with_ids_given limit w i in
     with_head n (id_in n.texts) i.field i.annotations i.head
 
 abbrev pub after_all : {P : Type 0} → ℕ → Written → List (Item UserSymbol P) → Written
@@ -121,13 +121,13 @@ at_begin = record { texts = []; declared = 0; due = false; open_containers = [];
 -- what an item puts
 abbrev pub item_puts : {P : Type 0} → ℕ → Written → Item UserSymbol P → List ℕ
 item_puts limit w i =
-    let n = numbered limit w i in
+    let n = with_ids_given limit w i in
     head_puts n (id_in n.texts) i.field i.annotations i.head
 
 -- the length of the open value with an item, where all containers are closed behind it
 abbrev pub closed_size : {P : Type 0} → ℕ → Written → Item UserSymbol P → ℕ
 closed_size limit w i =
-    let n = numbered limit w i in
+    let n = with_ids_given limit w i in
     length (all_closed n.open_containers (own_octets (id_in n.texts) i.field i.annotations i.head))
 
 -- ---- with limits
@@ -146,7 +146,8 @@ abbrev pub refused_by : ℕ → ℕ → ℕ → Option ℕ → Option (Reason ×
 refused_by limit size top (Some place) = Some (SymbolLimit, place)
 refused_by limit size top None = too_long limit size top
 
--- an item is refused at the symbol that passes the one limit, or else at its value where the other is passed
+-- an item is refused at the first of its symbols with which the texts cost more than their limit; or else, where its value at top level
+-- would be longer than the limit on values, at the first byte of that value
 abbrev pub refused_at : Limits → Written → PlacedItem → Option (Reason × ℕ)
 refused_at limits w item =
     refused_by limits.value (closed_size limits.symbols w (user_item item)) item.top

@@ -1,6 +1,6 @@
 //! Descriptor octets (binary encoding, "Typed Value Formats").
 ghost use Rattle.std.specs.Prelude.{◌≡◌, ◌<◌, ◌/◌, ◌%◌, slice_index_or};
-ghost use Rattle.ion_binary.specs.Descriptor.{shape_of, shape_by, null_shapes, sized_shapes, bool_shape, struct_shape, wrapper_shape, illegal};
+ghost use Rattle.ion_binary.specs.Descriptor.{shape_of, shape_by, null_shapes, sized_shapes, bool_shape, struct_shape, wrapper_shape, body, illegal};
 ghost use Rattle.ion_binary.specs.Shapes.{as_shape};
 
 use ion_value::ion_type::{IonType, Kind};
@@ -81,44 +81,30 @@ impl Shape {
         match type_code {
             0 => Shape::NopPad(length_code),
             1 => Shape::bool(length_code),
-            2 => Shape::Body {
-                type_code: 2,
-                length_code,
-            },
-            3 => Shape::Body {
-                type_code: 3,
-                length_code,
-            },
+            2 => Shape::body(2, length_code),
+            3 => Shape::body(3, length_code),
             4 => Shape::Float,
-            5 => Shape::Body {
-                type_code: 5,
-                length_code,
-            },
-            6 => Shape::Body {
-                type_code: 6,
-                length_code,
-            },
-            7 => Shape::Body {
-                type_code: 7,
-                length_code,
-            },
-            8 => Shape::Body {
-                type_code: 8,
-                length_code,
-            },
-            9 => Shape::Body {
-                type_code: 9,
-                length_code,
-            },
-            10 => Shape::Body {
-                type_code: 10,
-                length_code,
-            },
+            5 => Shape::body(5, length_code),
+            6 => Shape::body(6, length_code),
+            7 => Shape::body(7, length_code),
+            8 => Shape::body(8, length_code),
+            9 => Shape::body(9, length_code),
+            10 => Shape::body(10, length_code),
             11 => Shape::Container(Kind::List, length_code),
             12 => Shape::Container(Kind::Sexp, length_code),
             13 => Shape::structure(length_code),
             14 => Shape::wrapper(length_code),
             _ => Shape::Illegal,
+        }
+    }
+
+    #[inline]
+    fn body(type_code: u8, length_code: u8) -> Shape
+        ensures { as_shape result ≡ body type_code length_code }
+    {
+        Shape::Body {
+            type_code,
+            length_code,
         }
     }
 

@@ -1,9 +1,11 @@
 //! Laws of the grammar and the reading of the binary form, each the contract of a function that
 //! does nothing.
 ghost use Rattle.ion_binary.specs.Laws.{Bodies, Complete, EachStepFalls, EachStepFollows, ExactLimits, Narrow, NoStreamBegins, OnePath, OneStream, RightlyRefused, Sound, Stable, StreamsAreRead};
-ghost use Rattle.ion_binary.specs.WritingLaws.{ClosedSizeIsThatOfTheClosing, ItemsAddTheirOctets, ItemsPutTheForm, RefusedItemsAddNothing};
+ghost use Rattle.ion_binary.specs.WritingLaws.{ClosedSizeIsThatOfTheClosing, IdsAreGiven, ItemsAddTheirOctets, ItemsPutTheForm, OpenItemsPutWhatIsWhole, RefusedItemsAddNothing};
+ghost use Rattle.ion_binary.specs.Refusals.{ItemsAreRefusedAsInTrees, NoneIsRefusedWithin};
+ghost use Rattle.ion_binary.specs.Held.{WhatIsHeldMoves};
 ghost use Rattle.ion_binary.specs.Places.{ClosedSizeByCounts, ClosedSizeByPlaces};
-ghost use Rattle.ion_binary.specs.Spelling.{DeclarationsAreRead, TheFormIsRead, ValuesAreSpelled};
+ghost use Rattle.ion_binary.specs.Spelling.{DeclarationsAreAccepted, WrittenDeclarationsAreRead, HeadersAreShortest, TheFormIsRead, ValuesAreSpelled};
 
 /// Every body of a scalar that the grammar has is read to its value, and no other body is read.
 pub fn bodies_are_read()
@@ -81,6 +83,12 @@ pub fn items_put_the_form()
     ensures { ItemsPutTheForm }
 {}
 
+/// The items of a value at top level that is open put nothing, no version marker that is due
+/// either: what has been put is the canonical form of the whole values before it.
+pub fn open_items_put_what_is_whole()
+    ensures { OpenItemsPutWhatIsWhole }
+{}
+
 /// An item that is not refused adds its octets to those of the items before it.
 pub fn items_add_their_octets()
     ensures { ItemsAddTheirOctets }
@@ -91,10 +99,31 @@ pub fn refused_items_add_nothing()
     ensures { RefusedItemsAddNothing }
 {}
 
+/// The symbol table of an output gives a text its id in the canonical form, or none where the texts
+/// would then cost more than the limit.
+pub fn ids_are_given()
+    ensures { IdsAreGiven }
+{}
+
 /// The closed size of a path with an item is the length of its last value, all containers that are
-/// open behind the item being closed there.
+/// open behind the item being closed there, where the item may stand there and is no version
+/// marker.
 pub fn closed_size_is_that_of_the_closing()
     ensures { ClosedSizeIsThatOfTheClosing }
+{}
+
+/// An item is refused, behind the items of a path with which it makes another, as it is said over
+/// trees: at its first symbol with which the texts that have ids cost more than their limit, or else
+/// where its value at top level, closed there, is longer than the limit on values.
+pub fn items_are_refused_as_in_trees()
+    ensures { ItemsAreRefusedAsInTrees }
+{}
+
+/// The items of whole values are refused nowhere exactly where the texts of each value, with those
+/// that are kept before it, cost no more than their limit, and no value is longer than the limit on
+/// values.
+pub fn none_is_refused_within()
+    ensures { NoneIsRefusedWithin }
 {}
 
 /// The closed size is found from the places where the headers of open containers go in, and the
@@ -103,25 +132,46 @@ pub fn closed_size_by_places()
     ensures { ClosedSizeByPlaces }
 {}
 
-/// It is the sum of these octets, one for each header, and as many more as headers have more than
-/// one.
+/// It is the sum of these octets, one for each header, and one more for each header that is
+/// counted, where the counts are those of the headers and the sum is below 2^35.
 pub fn closed_size_by_counts()
     ensures { ClosedSizeByCounts }
 {}
 
+/// No descriptor of a type code and a length has fewer octets than the header that is written.
+pub fn headers_are_shortest()
+    ensures { HeadersAreShortest }
+{}
+
+/// The octets of the open value without the headers of its open containers, with the places where
+/// these go in and the texts that have ids, say what each item puts, what is held behind it, and
+/// the closed size.
+pub fn what_is_held_moves()
+    ensures { WhatIsHeldMoves }
+{}
+
 /// What is written of a value spells that value in the grammar, from any place on and whatever ids
-/// its symbols have.
+/// below 2^31 its symbols have, where its numbers are in range, its strings UTF-8, its fields in
+/// structs alone, and its octets fewer than 2^62.
 pub fn values_are_spelled()
     ensures { ValuesAreSpelled }
 {}
 
-/// What is written of a declaration is read as one, which leaves the table before it with the
-/// declared texts behind.
-pub fn declarations_are_read()
-    ensures { DeclarationsAreRead }
+/// What is written of a declaration of one text or more, in UTF-8 and of fewer than 2^62 octets, is
+/// spelled as one, which leaves the table before it with the declared texts behind.
+pub fn written_declarations_are_read()
+    ensures { WrittenDeclarationsAreRead }
 {}
 
-/// The canonical form of values is a stream, and they are its user values under every catalogue.
+/// Such a declaration is not refused, where the table that it leaves is within the limits.
+pub fn declarations_are_accepted()
+    ensures { DeclarationsAreAccepted }
+{}
+
+/// The canonical form of values is a stream, and they are its user values under every catalogue,
+/// where each value can be written, its texts are UTF-8, none is a struct that would be a
+/// declaration, each value and declaration is shorter than 2^62 octets, and at most 2^30 texts have
+/// ids at once.
 pub fn the_form_is_read()
     ensures { TheFormIsRead }
 {}
@@ -146,13 +196,20 @@ mod tests {
         no_stream_begins();
         limits_are_exact();
         items_put_the_form();
+        open_items_put_what_is_whole();
         items_add_their_octets();
         refused_items_add_nothing();
+        ids_are_given();
         closed_size_is_that_of_the_closing();
+        items_are_refused_as_in_trees();
+        none_is_refused_within();
         closed_size_by_places();
         closed_size_by_counts();
+        headers_are_shortest();
+        what_is_held_moves();
         values_are_spelled();
-        declarations_are_read();
+        written_declarations_are_read();
+        declarations_are_accepted();
         the_form_is_read();
     }
 }

@@ -1,16 +1,27 @@
 //! The binary encoding of Amazon Ion 1.0: its grammar, its reading, and `BinReader`, which reads a
 //! stream one item at a time. The laws tie the reading to the grammar.
 //!
-//! The definition of its canonical form and the laws of it are here too; no code writes it yet.
+//! `BinWriter` writes the canonical form, one item at a time. The definition of that form and its
+//! laws are here too.
 #![tactic(auto)]
 
 mod body;
+mod declaration;
 mod descriptor;
+mod front;
+mod header;
+mod headers;
 pub mod laws;
 mod octets;
+mod open_value;
+mod opening;
+mod put;
 pub mod reader;
+mod scalar;
 #[cfg(test)]
 mod tests;
 mod typed_value;
 mod value;
+mod waiting;
 mod wrapper;
+pub mod writer;

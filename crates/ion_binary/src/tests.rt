@@ -2,8 +2,10 @@
 
 mod containers;
 mod declarations;
+mod declarations_written;
 mod drawn;
 mod endings;
+mod fronts;
 mod hex;
 mod imports;
 mod long;
@@ -13,12 +15,14 @@ mod narrowing;
 mod one_declaration;
 mod pieces;
 mod reading;
+mod scalar_octets;
 mod scalars;
 mod streams;
 mod telling;
 mod user_endings;
 mod users;
 mod wrappers;
+mod written;
 
 use ion_meter::limits::Limits;
 

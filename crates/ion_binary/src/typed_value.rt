@@ -292,15 +292,15 @@ fn read_by_descriptor<I: Input, A: Allocator + Copy>(
     match shape {
         Shape::Null(kind) => bare(source, body, Body::Null(kind), around, place),
         Shape::Bool(truth) => bare(source, body, Body::Bool(truth), around, place),
-        Shape::NopPad(length_code) => match next_nop_pad(source, length_code, around, place) {
-            Err(fault) => Err(fault),
-            Ok(()) => Ok(TypedValue::NopPad),
-        },
+        Shape::NopPad(length_code) => {
+            next_nop_pad(source, length_code, around, place)?;
+            Ok(TypedValue::NopPad)
+        }
         Shape::Body {
             type_code,
             length_code,
         } => {
-            match next_scalar(
+            next_scalar(
                 source,
                 text,
                 body,
@@ -310,25 +310,21 @@ fn read_by_descriptor<I: Input, A: Allocator + Copy>(
                 limits,
                 place,
                 meter,
-            ) {
-                Err(fault) => Err(fault),
-                Ok(()) => Ok(TypedValue::Scalar),
-            }
+            )?;
+            Ok(TypedValue::Scalar)
         }
         Shape::Container(kind, length_code) => {
-            match next_container(source, kind, length_code, around, limits, place) {
-                Err(fault) => Err(fault),
-                Ok(end) => Ok(TypedValue::Container(kind, end)),
-            }
+            let end = next_container(source, kind, length_code, around, limits, place)?;
+            Ok(TypedValue::Container(kind, end))
         }
-        Shape::Sorted => match next_sorted(source, around, limits, place) {
-            Err(fault) => Err(fault),
-            Ok(end) => Ok(TypedValue::Container(Kind::Struct, end)),
-        },
-        Shape::Marker => match next_marker(source, around.region, place) {
-            Err(fault) => Err(fault),
-            Ok(()) => Ok(TypedValue::Marker),
-        },
+        Shape::Sorted => {
+            let end = next_sorted(source, around, limits, place)?;
+            Ok(TypedValue::Container(Kind::Struct, end))
+        }
+        Shape::Marker => {
+            next_marker(source, around.region, place)?;
+            Ok(TypedValue::Marker)
+        }
         Shape::Float => Err(Fault::Refused(Reason::Float, place)),
         Shape::Wrapper(_) => Err(Fault::Refused(Reason::BadAnnotation, place)),
         Shape::Illegal => Err(Fault::Refused(Reason::BadDescriptor, place)),

@@ -107,7 +107,7 @@ each_costs [] = omega arith
 each_costs (s ∷ ss) = let r : 32 * length ss ≤ catalog_cost ss = each_costs ss in omega (arith, r)
 
 -- what a catalogue costs with one table more
-cost_behind : (ss : List Shared) (s : Shared) → catalog_cost (ss ++ s ∷ []) ≡ catalog_cost ss + (32 + shared_cost s)
+pub cost_behind : (ss : List Shared) (s : Shared) → catalog_cost (ss ++ s ∷ []) ≡ catalog_cost ss + (32 + shared_cost s)
 cost_behind [] s = omega arith
 cost_behind (t ∷ ss) s = let r : catalog_cost (ss ++ s ∷ []) ≡ catalog_cost ss + (32 + shared_cost s) = cost_behind ss s in omega (arith, r)
 

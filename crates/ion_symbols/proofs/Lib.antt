@@ -1,7 +1,7 @@
 mod Rows
 mod TableRows
 mod Listed
-mod Keeping
+pub mod Keeping
 mod Catalogued
 mod Importing
 mod Moving
@@ -15,7 +15,7 @@ mod UserTurns
 mod DeclarationReadings
 mod Yields
 mod DeclarationLists
-mod DeclarationMeaning
+pub mod DeclarationMeaning
 mod StandingSymbols
 mod IdsAbove
 mod Accepted
@@ -31,3 +31,9 @@ mod OutputTexts
 mod Orders
 mod Adding
 mod Finding
+mod CatalogRows
+mod CatalogReadings
+mod CatalogViews
+mod CatalogCosts
+mod CatalogSteps
+mod CatalogMeaning

@@ -11,3 +11,7 @@ pub mod Buffer
 pub mod Steps
 pub mod User
 pub mod Ordered
+pub mod CatalogItems
+pub mod CatalogTrees
+pub mod CatalogLaws
+pub mod Building

@@ -52,7 +52,7 @@ pub record Output : Type 0 where
 
 -- a text can be added, where memory and the limit allow it
 pub record CanAdd (texts : List (List ℕ)) (meter : Counts) : Type 0 where
-  pub room : meter.held ≤ 2 ^ 62
+  pub room : meter.held ≤ 2 ^ 62 + 2 ^ 31
   pub held : texts_cost texts ≤ meter.held
   pub countable : meter.refused < 2 ^ 64 - 1
 

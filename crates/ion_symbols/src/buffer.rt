@@ -31,7 +31,7 @@ use ion_value::reader::RawReader;
 use std::alloc::Allocator;
 
 /// The cost of a slot besides its text, in counted bytes.
-const SLOT_COST: u64 = 16;
+pub(crate) const SLOT_COST: u64 = 16;
 
 /// The import that is being read, but for its name.
 #[derive(Clone, Copy, Debug, PartialEq, Eq)]

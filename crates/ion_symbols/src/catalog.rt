@@ -20,10 +20,10 @@ use std::alloc::Allocator;
 use std::marker::Model;
 
 /// The cost of a table in a catalogue besides its own, in counted bytes.
-const TABLE_COST: u64 = 32;
+pub(crate) const TABLE_COST: u64 = 32;
 
 /// The greatest version that a table may have.
-const MAX_VERSION: u32 = 2_147_483_647;
+pub(crate) const MAX_VERSION: u32 = 2_147_483_647;
 
 // What an import found.
 #[derive(Clone, Copy, Debug, PartialEq, Eq)]

@@ -1,4 +1,5 @@
 //! Laws of the definitions of symbol tables, each the contract of a function that does nothing.
+ghost use Rattle.ion_symbols.specs.CatalogLaws.{CatalogsAreRead, CatalogsAreTables};
 ghost use Rattle.ion_symbols.specs.Laws.{DeclarationsAreRead, OpenUsersAreRead, SymbolsStand, UsersAreRead, WhatIsAccepted, WhatIsDeclared, WhyRefused, WhyUsersStop};
 
 /// The streaming and the tree definitions of a declaration agree: its items give the table that its
@@ -49,6 +50,18 @@ pub fn why_users_stop()
     ensures { WhyUsersStop }
 {}
 
+/// The items of whole user values lead to the same catalogue as their trees, or to the same reason
+/// and place.
+pub fn catalogs_are_read()
+    ensures { CatalogsAreRead }
+{}
+
+/// What they lead to without a fault are the tables of the values, in order, and they cost no more
+/// than the limit.
+pub fn catalogs_are_tables()
+    ensures { CatalogsAreTables }
+{}
+
 #[cfg(test)]
 mod tests {
     use super::*;
@@ -63,5 +76,7 @@ mod tests {
         open_users_are_read();
         symbols_stand();
         why_users_stop();
+        catalogs_are_read();
+        catalogs_are_tables();
     }
 }

@@ -23,7 +23,8 @@ const ENTRY_COST: u64 = 8;
 /// The first id behind the system table's.
 const FIRST_ID: u32 = 10;
 
-/// The texts of an output that have been given ids, from 10 on, each once.
+/// The texts of an output that have been given ids, from 10 on, each once since all of them were
+/// last taken away.
 ///
 /// It holds 16 counted bytes a text and the text's length, and never more than the limit on symbol
 /// tables. A clause sees the texts in order of id, the limit, and the probes of the last search.
@@ -92,7 +93,7 @@ impl<A: Allocator + Copy> OutSymbols<A> {
     ///
     /// Where memory is refused, it answers `Memory` and the texts stay as they were.
     pub fn id_of(&mut self, meter: &mut Meter<A>, text: &[u8]) -> Result<Option<u32>, Fault>
-        requires room { meter.old.held ≤ 2 ^ 62 }
+        requires room { meter.old.held ≤ 2 ^ 62 + 2 ^ 31 }
         requires held { texts_cost self.old.texts ≤ meter.old.held }
         requires countable { meter.old.refused < 2 ^ 64 - 1 }
         ensures gives { IfOk result
@@ -210,7 +211,7 @@ impl<A: Allocator + Copy> OutSymbols<A> {
         self.bytes.clear(meter);
         self.places.clear(meter);
         self.order.clear(meter);
-        self.probes = 0;
+        self.probes = 0; // No search of these texts is left.
     }
 
     /// Gives all back.

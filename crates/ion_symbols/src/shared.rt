@@ -5,6 +5,7 @@ ghost use Rattle.ion_meter.specs.Counts.{Grows, Shrinks};
 ghost use Rattle.ion_value.specs.Items.{is_none_left};
 ghost use Rattle.ion_symbols.specs.Table.{shared_cost, text_length};
 ghost use Rattle.ion_symbols.specs.Kept.{IsUndone, Renames, text_in};
+ghost use Rattle.ion_symbols.specs.CatalogItems.{blank};
 
 use crate::slots::Slots;
 use ion_meter::buf::Buf;
@@ -53,6 +54,17 @@ impl<A: Allocator + Copy> SharedTable<A> {
         })
     }
 
+    /// A table without a name, with version 1 and without slots. It takes no memory.
+    pub(crate) fn blank(meter: &Meter<A>) -> SharedTable<A>
+        ensures { result ≡ blank }
+    {
+        SharedTable {
+            name: Buf::new(meter),
+            version: 1,
+            slots: Slots::new(meter),
+        }
+    }
+
     /// Adds a slot with this text, or without one. Where memory is refused, the table stays as it was.
     pub fn push(&mut self, meter: &mut Meter<A>, text: Option<&str>) -> Result<(), Fault>
         requires room { meter.old.held
@@ -70,7 +82,33 @@ impl<A: Allocator + Copy> SharedTable<A> {
             (16 + text_length (option_map (λ t. t.now) text.entry))) }
     {
         match text {
-            Some(text) => self.slots.push_text(meter, text.as_bytes()),
+            Some(text) => self.push_bytes(meter, Some(text.as_bytes())),
+            None => self.push_bytes(meter, None),
+        }
+    }
+
+    /// The same, the text's bytes being in UTF-8.
+    pub(crate) fn push_bytes(
+        &mut self,
+        meter: &mut Meter<A>,
+        text: Option<&[u8]>,
+    ) -> Result<(), Fault>
+        requires room { meter.old.held
+            + (16 + text_length (option_map (λ t. t.now) text)) < 2 ^ 63 }
+        requires held { shared_cost self.old ≤ meter.old.held }
+        requires countable { meter.old.refused < 2 ^ 64 - 1 }
+        ensures ok { OnOk result (self.new ≡ record self.old {
+          slots = self.old.slots ++ option_map (λ t. t.now) text.entry ∷ [];
+        }) }
+        ensures cost { OnOk result (Grows meter.old meter.new
+            (16 + text_length (option_map (λ t. t.now) text.entry))) }
+        ensures memory { IfErr result (λ fault. fault ≡ Memory) }
+        ensures err { OnErr result (self.new ≡ self.old) }
+        ensures undone { OnErr result (IsUndone meter.old meter.new
+            (16 + text_length (option_map (λ t. t.now) text.entry))) }
+    {
+        match text {
+            Some(text) => self.slots.push_text(meter, text),
             None => self.slots.push_none(meter),
         }
     }
@@ -89,7 +127,22 @@ impl<A: Allocator + Copy> SharedTable<A> {
         ensures undone { OnErr result
             (IsUndone meter.old meter.new (length name.now - length self.old.name)) }
     {
-        let bytes = name.as_bytes();
+        self.put_name(meter, name.as_bytes())
+    }
+
+    /// The same, the name's bytes being in UTF-8.
+    pub(crate) fn put_name(&mut self, meter: &mut Meter<A>, bytes: &[u8]) -> Result<(), Fault>
+        requires room { meter.old.held + length bytes.now < 2 ^ 63 }
+        requires held { shared_cost self.old ≤ meter.old.held }
+        requires countable { meter.old.refused < 2 ^ 64 - 1 }
+        ensures ok { OnOk result (self.new ≡ record self.old { name = bytes.now }) }
+        ensures cost { OnOk result
+            (Renames meter.old meter.new (length self.old.name) (length bytes.now)) }
+        ensures memory { IfErr result (λ fault. fault ≡ Memory) }
+        ensures err { OnErr result (self.new ≡ self.old) }
+        ensures undone { OnErr result
+            (IsUndone meter.old meter.new (length bytes.now - length self.old.name)) }
+    {
         let had = self.name.as_slice().len();
         if had < bytes.len() {
             self.name.extend(meter, &bytes[had..])?;

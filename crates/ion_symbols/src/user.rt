@@ -270,6 +270,13 @@ impl<'c, R: RawReader<A>, A: Allocator + Copy> UserReader<'c, R, A> {
         outcome
     }
 
+    /// Whether the next call of `next` may have to wait for the device, as `RawReader::may_wait` says
+    /// it.
+    #[inline(always)]
+    pub fn may_wait(&self) -> bool {
+        self.raw.may_wait()
+    }
+
     /// Gives the symbol table back, and hands the raw reader out.
     pub fn release(self, meter: &mut Meter<A>) -> R
         requires { table_cost (table_of self) ≤ meter.old.held }

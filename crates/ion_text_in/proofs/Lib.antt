@@ -16,6 +16,8 @@ mod Blobs
 mod Strings
 mod Narrow
 mod Refused
+mod TokenFaults
+mod ExactLimits
 pub mod Behind
 pub mod NumberEnds
 pub mod TokenBegins

@@ -1,12 +1,13 @@
 -- A text without escapes that a slice shows.
-use Rattle.std.proofs.Common.{◌≡◌, ℕ, suc, ◌+◌, ◌<◌, ◌≤◌, true, false, ◌||◌, List, [], ◌∷◌, ◌++◌, length, take, drop, slice_index, Some, Ok, Err, refl, sym, ap, ◌∙◌, arith}
+use Rattle.std.proofs.Common.{◌≡◌, ℕ, zero, suc, ◌+◌, ◌<◌, ◌≤◌, true, false, ◌||◌, List, [], ◌∷◌, ◌++◌, length, take, drop, ◌==◌, slice_index, Some, Ok, Err, refl, sym, ap, ◌∙◌, arith}
 use Rattle.std.proofs.lemmas.List.{take-append-le, drop-append-le, drop-drop, length-append, length-take-le}
 use Rattle.std.proofs.lemmas.Bool.{lt-ltb, le-ltb}
+use Rattle.std.proofs.lemmas.Bool.Decides.{nat_tests}
 use Rattle.std.proofs.Math.Seq.{drop-cons}
 use Rattle.std.specs.Str.{is_utf8}
 use Rattle.ion_meter.specs.declared.fault.Reason.TheVariants.{BadText, ScalarLimit}
 use Rattle.ion_meter.specs.Sources.{Cursor, skip}
-use Rattle.ion_value.specs.Digits.{all_are}
+use Rattle.ion_value.specs.Digits.{first_is, all_are}
 use Rattle.ion_text_in.specs.declared.quoted.Quote.{Quote as CodeQuote}
 use Rattle.ion_text_in.specs.declared.quoted.Quote.TheVariants as code
 use Rattle.ion_text_in.specs.declared.piece.Piece.TheVariants as code_piece
@@ -91,3 +92,20 @@ text-over q limit place n bytes more short plain le over =
     ∙ segment-err (quote_of q) limit [] c ScalarLimit
     (onward-over (quote_of q) limit [] c n (quote_of-is q) (ap (λ (l : List ℕ). all_are (is_plain_byte (quote_of q)) l) (sym same) ∙ plain) (omega arith)
     (lt-ltb limit (0 + length (take n (bytes ++ more))) (omega (arith, over, count))))
+
+-- ---- no mark stands behind plain bytes
+
+no-mark : (mark : ℕ) (bytes : List ℕ) (n : ℕ) → length bytes ≤ n → first_is (λ b. b == mark) (drop n bytes) ≡ false
+no-mark mark [] zero le = refl
+no-mark mark [] (suc n) le = refl
+no-mark mark (b ∷ bytes) zero le = absurd (omega (arith, le))
+no-mark mark (b ∷ bytes) (suc n) le = no-mark mark bytes n (omega (arith, le))
+
+other-byte : (b mark : ℕ) → (b ≡ mark → ⊥) → (b == mark) ≡ false
+other-byte b mark other = grind (arith, nat_tests, other)
+
+pub ends-unclosed : (mark : ℕ) (bytes : List ℕ) (n : ℕ) → n ≡ length bytes → first_is (λ b. b == mark) (drop n bytes) ≡ false
+ends-unclosed mark bytes n e = no-mark mark bytes n (omega (arith, e))
+
+pub stops-unclosed : (mark : ℕ) (bytes : List ℕ) (n : ℕ) → n < length bytes → (slice_index bytes n ≡ mark → ⊥) → first_is (λ b. b == mark) (drop n bytes) ≡ false
+stops-unclosed mark bytes n there other = rw (drop-cons bytes n 0 there) (other-byte (slice_index bytes n) mark other)

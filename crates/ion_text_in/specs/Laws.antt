@@ -78,6 +78,20 @@ Narrow =
     (limits wide : Limits) (bytes : List ℕ) → AreWithin limits wide
     → (reading limits bytes ≡ reading wide bytes) ⊎ IsCut limits wide bytes
 
+-- a reading stops behind a path and the front of an item, since a limit is passed there
+pub record StopsAtLimit (limits : Limits) (bytes : List ℕ) (reason : Reason) (place : ℕ) : Type 0 where
+  pub path : Path SymbolAt ℕ
+  pub state : State
+  pub stands : At bytes path state
+  pub passes : Passes limits state place reason
+  pub read : reading limits bytes ≡ behind (path_items path) (Stopped reason place)
+
+-- a reading stops at a limit only where it is passed
+abbrev pub ExactLimits : Type 0
+ExactLimits =
+    (limits : Limits) (bytes : List ℕ) (reason : Reason) (place : ℕ)
+    → ending_of (reading limits bytes) ≡ Stopped reason place → IsLimit reason → StopsAtLimit limits bytes reason place
+
 -- where a reading stops, and not at a limit, the bytes are no stream
 abbrev pub RightlyRefused : Type 0
 RightlyRefused =

@@ -26,3 +26,4 @@ pub mod Tokens
 pub mod Symbols
 pub mod Expecting
 pub mod Steps
+pub mod Waiting

@@ -1,10 +1,12 @@
 -- Quotes and pieces as the code has them.
-use Rattle.std.specs.Prelude.{ℕ, ◌<◌, ◌≤◌, Bool, true, false, [], ◌∷◌}
+use Rattle.std.specs.Prelude.{◌≡◌, ℕ, ◌<◌, ◌≤◌, Bool, true, false, ◌==◌, List, [], ◌∷◌, take, drop}
+use Rattle.ion_value.specs.Digits.{first_is, all_are}
 use Rattle.ion_text_in.specs.declared.quoted.Quote.{Quote as CodeQuote}
 use Rattle.ion_text_in.specs.declared.quoted.Quote.TheVariants as code
 use Rattle.ion_text_in.specs.declared.scanned.Scanned.{Scanned}
 use Rattle.ion_text_in.specs.declared.scanned.Scanned.TheVariants.{Whole, Fault, Cut}
 use Rattle.ion_text_in.specs.Quoted.{Quote, symbol_quote, short_quote, long_quote}
+use Rattle.ion_text_in.specs.Scanning.{is_plain_byte}
 
 -- ---- quotes
 
@@ -32,3 +34,10 @@ abbrev pub IsWithin : ℕ → Scanned ℕ → Type 0
 IsWithin limit (Whole plain taken) = (plain ≤ limit) × (plain < taken)
 IsWithin limit (Fault reason) = Unit {0}
 IsWithin limit Cut = Unit {0}
+
+-- plain bytes end in a slice, or at a byte in it, before the quote stands there
+pub record StopsBefore (quote : CodeQuote) (bytes : List ℕ) : Type 0 where
+  pub count : ℕ
+  pub plain : all_are (is_plain_byte (quote_of quote)) (take count bytes) ≡ true
+  pub ends : first_is (is_plain_byte (quote_of quote)) (drop count bytes) ≡ false
+  pub unclosed : first_is (λ b. b == mark_of quote) (drop count bytes) ≡ false

@@ -30,7 +30,7 @@ pub(crate) enum Comment {
 /// It stops at the first byte where none begins, or at the input's end. `Some` is the place where
 /// a comment begins that no `*/` ends: then all of the input was passed over.
 #[inline(always)]
-pub fn pass_blanks<I: Input, A: Allocator + Copy>(
+pub(crate) fn pass_blanks<I: Input, A: Allocator + Copy>(
     source: &mut Source<I, A>,
 ) -> Result<Option<u64>, Fault>
     requires stands { Stands source.old }
@@ -87,7 +87,9 @@ fn pass_comments<I: Input, A: Allocator + Copy>(
 
 /// Passes over white space, up to the first byte that is none or to the input's end.
 #[inline]
-pub fn pass_white<I: Input, A: Allocator + Copy>(source: &mut Source<I, A>) -> Result<(), Fault>
+pub(crate) fn pass_white<I: Input, A: Allocator + Copy>(
+    source: &mut Source<I, A>,
+) -> Result<(), Fault>
     requires stands { Stands source.old }
     ensures behind { I.observable source.old.device → OnOk result (cursor I.Input source.new
         ≡ behind_run (first_is is_white) (cursor I.Input source.old)) }
@@ -301,7 +303,7 @@ fn white_run(bytes: &[u8]) -> usize
 
 /// Whether a byte is white space: space, tab, LF, VT, FF or CR.
 #[inline(always)]
-pub fn is_white(byte: u8) -> bool
+pub(crate) fn is_white(byte: u8) -> bool
     ensures { result ≡ is_white byte }
 {
     byte == b' ' || (9..=13).contains(&byte)

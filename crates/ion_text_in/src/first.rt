@@ -16,7 +16,7 @@ use std::alloc::Allocator;
 
 /// A kind of token.
 #[derive(Clone, Copy, Debug, PartialEq, Eq)]
-pub enum First {
+pub(crate) enum First {
     /// A number or a timestamp: a digit, or a minus and a digit.
     Number,
     /// A word: a letter, `_` or `$`.
@@ -51,7 +51,7 @@ pub enum First {
 /// has five bytes.
 #[tactic(auto, unfolding(crate::specs::Token::first_at))]
 #[inline(always)]
-pub fn scan_first(in_sexp: bool, bytes: &[u8]) -> Option<First>
+pub(crate) fn scan_first(in_sexp: bool, bytes: &[u8]) -> Option<First>
     ensures shows { IfSome result (λ f. (more : List ℕ)
         → first_at in_sexp (bytes.now ++ more) ≡ first_of f) }
     ensures wide { IfSome result (λ f. width (first_of f) ≤ length bytes.now) }
@@ -76,7 +76,7 @@ pub fn scan_first(in_sexp: bool, bytes: &[u8]) -> Option<First>
 ///
 /// No byte is waited for but those that tell it, and they stand in the window then.
 #[inline(always)]
-pub fn next_first<I: Input, A: Allocator + Copy>(
+pub(crate) fn next_first<I: Input, A: Allocator + Copy>(
     source: &mut Source<I, A>,
     in_sexp: bool,
 ) -> Result<Option<First>, Fault>

@@ -21,7 +21,7 @@ use std::alloc::Allocator;
 /// them.
 ///
 /// Answers `ScalarLimit` where the text would then have more bytes than the limit, and adds none.
-pub fn append<I: Input, A: Allocator + Copy>(
+pub(crate) fn append<I: Input, A: Allocator + Copy>(
     source: &mut Source<I, A>,
     text: &mut Buf<A>,
     count: usize,
@@ -50,7 +50,7 @@ pub fn append<I: Input, A: Allocator + Copy>(
 
 /// Makes so many bytes of the window the text, and passes over them.
 #[inline(always)]
-pub fn copy<I: Input, A: Allocator + Copy>(
+pub(crate) fn copy<I: Input, A: Allocator + Copy>(
     source: &mut Source<I, A>,
     text: &mut Buf<A>,
     count: usize,
@@ -134,7 +134,7 @@ fn opens_comment(next: Option<u8>) -> bool
 /// Adds the bytes that go on with a token that begins at a place to its text.
 ///
 /// Answers `ScalarLimit` where the text would have more bytes than the limit.
-pub fn gather<I: Input, A: Allocator + Copy>(
+pub(crate) fn gather<I: Input, A: Allocator + Copy>(
     source: &mut Source<I, A>,
     text: &mut Buf<A>,
     run: Run,
@@ -165,7 +165,7 @@ pub fn gather<I: Input, A: Allocator + Copy>(
 /// Answers `ScalarLimit` where it has more bytes than the limit.
 #[cold]
 #[inline(never)]
-pub fn gather_token<I: Input, A: Allocator + Copy>(
+pub(crate) fn gather_token<I: Input, A: Allocator + Copy>(
     source: &mut Source<I, A>,
     text: &mut Buf<A>,
     run: Run,

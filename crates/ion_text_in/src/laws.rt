@@ -3,7 +3,7 @@
 ghost use Rattle.ion_text_in.specs.Beginnings.{IdentifiersAreCut, IdentifiersEnd, NumbersAreCut, NumbersEnd, OneBegins, OperatorsAreCut, OperatorsEnd, WhatBegins, WhereNoneBegins};
 ghost use Rattle.ion_text_in.specs.Meaning.{Base64IsRead, BlobsAreBase64, BoolTextIsRead, ClobTextIsRead, DecimalTextIsRead, IntTextIsRead, NullTextIsRead, PlainSymbolIsRead, QuotedSymbolIsRead, StringTextIsRead, TimestampTextIsRead};
 ghost use Rattle.ion_text_in.specs.Scanning.{BlanksChangeNoStep, EachPieceTakes, GroupsInTurn, PiecesInTurn, PlainBytesAreSpelled, SegmentsInTurn};
-ghost use Rattle.ion_text_in.specs.Laws.{Complete, EachStepFalls, EachStepFollows, Narrow, OnePath, OneStream, RightlyRefused, Sound, StreamsAreRead};
+ghost use Rattle.ion_text_in.specs.Laws.{Complete, EachStepFalls, EachStepFollows, ExactLimits, Narrow, OnePath, OneStream, RightlyRefused, Sound, StreamsAreRead};
 
 /// What is read is a path of the grammar, and where the reading finishes, the whole input is a
 /// stream.
@@ -42,6 +42,12 @@ pub fn limits_only_cut_short()
 /// Where a reading stops, and not at a limit, the input is no stream of the grammar.
 pub fn rightly_refused()
     ensures { RightlyRefused }
+{}
+
+/// A reading stops at a limit only where the limit is passed: at a token that counts more bytes, at a
+/// container where so many are open, or at the annotation that passes it.
+pub fn limits_are_exact()
+    ensures { ExactLimits }
 {}
 
 /// Of two paths of one input, the items of one begin the other's.
@@ -170,6 +176,7 @@ mod tests {
         streams_are_read();
         limits_only_cut_short();
         rightly_refused();
+        limits_are_exact();
         one_path();
         one_stream();
         null_text_is_read();

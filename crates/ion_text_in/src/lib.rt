@@ -2,25 +2,26 @@
 //! text one item at a time. The laws tie the reading to the grammar.
 #![tactic(auto)]
 
-pub mod blank;
+mod blank;
 mod expected;
-pub mod first;
-pub mod gather;
+mod first;
+mod gather;
 pub mod laws;
-pub mod lob;
-pub mod number;
-pub mod operator;
-pub mod piece;
-pub mod quick;
-pub mod quoted;
+mod lob;
+mod number;
+mod operator;
+mod piece;
+mod quick;
+mod quoted;
 pub mod reader;
-pub mod run;
-pub mod scanned;
-pub mod segment;
+mod run;
+mod scanned;
+mod segment;
 mod symbol;
 #[cfg(test)]
 mod tests;
-pub mod text;
-pub mod token;
-pub mod version;
-pub mod word;
+mod text;
+mod token;
+mod version;
+mod waiting;
+mod word;

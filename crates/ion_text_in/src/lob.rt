@@ -25,7 +25,7 @@ use std::alloc::Allocator;
 
 /// A kind of lob.
 #[derive(Clone, Copy, Debug, PartialEq, Eq)]
-pub enum Lob {
+pub(crate) enum Lob {
     /// A clob.
     Clob,
     /// A blob.
@@ -48,7 +48,7 @@ pub(crate) enum Opening {
 /// Faults stand at the first brace: `Truncated` where the input ends before the lob does,
 /// `ScalarLimit` before `text` grows above `Limits::scalar`, and `BadLob` for what may not stand in
 /// a lob.
-pub fn next_lob<I: Input, A: Allocator + Copy>(
+pub(crate) fn next_lob<I: Input, A: Allocator + Copy>(
     source: &mut Source<I, A>,
     text: &mut Buf<A>,
     limits: Limits,

@@ -26,7 +26,7 @@ use std::alloc::Allocator;
 
 /// A number or a timestamp.
 #[derive(Clone, Copy, Debug, PartialEq, Eq)]
-pub enum Number {
+pub(crate) enum Number {
     /// An int.
     Int(Int),
     /// A decimal.
@@ -40,7 +40,7 @@ pub enum Number {
 /// Answers `ScalarLimit` where it has more bytes than the limit, and then what is wrong in it:
 /// `BadToken`, `Float`, `Range` or `BadTimestamp`.
 #[inline(always)]
-pub fn scan_number(limit: u64, bytes: &[u8]) -> Scanned<Number>
+pub(crate) fn scan_number(limit: u64, bytes: &[u8]) -> Scanned<Number>
     ensures shows { Shows number_token bytes.now result (token_of (Some limit) a_run) }
     ensures range { IfWhole result (λ x. InRange (as_number x)) }
 {
@@ -68,7 +68,7 @@ pub fn scan_number(limit: u64, bytes: &[u8]) -> Scanned<Number>
 /// bytes than the limit, and then what is wrong in it: `BadToken`, `Float`, `Range` or
 /// `BadTimestamp`, each at the place of its first byte.
 #[inline(always)]
-pub fn next_number<I: Input, A: Allocator + Copy>(
+pub(crate) fn next_number<I: Input, A: Allocator + Copy>(
     source: &mut Source<I, A>,
     text: &mut Buf<A>,
     limits: Limits,

@@ -25,7 +25,7 @@ use std::alloc::Allocator;
 /// Its bytes are those at the front of the slice. Answers `ScalarLimit` where it has more than the
 /// limit.
 #[inline(always)]
-pub fn scan_operator(limit: u64, bytes: &[u8]) -> Scanned<()>
+pub(crate) fn scan_operator(limit: u64, bytes: &[u8]) -> Scanned<()>
     ensures shows { Shows (λ _. tokens.operator (shown_text bytes.now result)) bytes.now result
         (token_of (Some limit) an_operator) }
     ensures within { IsWithin limit result }
@@ -43,7 +43,7 @@ pub fn scan_operator(limit: u64, bytes: &[u8]) -> Scanned<()>
 ///
 /// Answers `ScalarLimit` where it has more bytes than the limit.
 #[inline(always)]
-pub fn next_operator<I: Input, A: Allocator + Copy>(
+pub(crate) fn next_operator<I: Input, A: Allocator + Copy>(
     source: &mut Source<I, A>,
     text: &mut Buf<A>,
     limits: Limits,
@@ -69,7 +69,7 @@ pub fn next_operator<I: Input, A: Allocator + Copy>(
 /// Answers `ScalarLimit` where the limit is below 4.
 #[tactic(auto, unfolding(crate::specs::Token::token_of))]
 #[inline]
-pub fn next_infinity<I: Input, A: Allocator + Copy>(
+pub(crate) fn next_infinity<I: Input, A: Allocator + Copy>(
     source: &mut Source<I, A>,
     limits: Limits,
 ) -> Result<(), Fault>
@@ -90,7 +90,7 @@ pub fn next_infinity<I: Input, A: Allocator + Copy>(
 /// Passes over a bracket, a brace, a parenthesis, a comma or a colon, which stands in the window.
 #[tactic(auto, unfolding(crate::specs::Token::token_of))]
 #[inline(always)]
-pub fn pass_mark<I: Input, A: Allocator + Copy>(source: &mut Source<I, A>)
+pub(crate) fn pass_mark<I: Input, A: Allocator + Copy>(source: &mut Source<I, A>)
     requires stands { Stands source.old }
     requires there { 1 ≤ length (lent source.old) }
     ensures begin { (limit : Option ℕ) (kind : Kind)
@@ -111,7 +111,7 @@ pub fn pass_mark<I: Input, A: Allocator + Copy>(source: &mut Source<I, A>)
 /// Passes over two colons, which stand in the window.
 #[tactic(auto, unfolding(crate::specs::Token::token_of))]
 #[inline(always)]
-pub fn pass_colons<I: Input, A: Allocator + Copy>(source: &mut Source<I, A>)
+pub(crate) fn pass_colons<I: Input, A: Allocator + Copy>(source: &mut Source<I, A>)
     requires stands { Stands source.old }
     requires there { 2 ≤ length (lent source.old) }
     ensures colons { (limit : Option ℕ)

@@ -12,7 +12,7 @@ use crate::quoted::Quote;
 
 /// What stands at a place between quotes, with how many bytes it has.
 #[derive(Clone, Copy, Debug, PartialEq, Eq)]
-pub enum Piece {
+pub(crate) enum Piece {
     /// A character, by its code.
     Char(char, usize),
     /// A byte.
@@ -41,7 +41,7 @@ enum HexDigits {
 /// The piece at the front of some bytes that more may follow, or `Cut` where what follows may
 /// change it.
 #[inline]
-pub fn scan_piece(quote: Quote, bytes: &[u8]) -> Piece
+pub(crate) fn scan_piece(quote: Quote, bytes: &[u8]) -> Piece
     ensures shows { ShowsPiece (quote_of quote) bytes.now result }
     ensures there { taken_of result ≤ length bytes.now }
     ensures some { TakesSome result }
@@ -69,7 +69,7 @@ fn may_go_on(quote: Quote, bytes: &[u8]) -> bool
 /// The piece at the front of some bytes that no more follow.
 #[tactic(auto, unfolding(crate::specs::Quoted::piece_at))]
 #[inline]
-pub fn last_piece(quote: Quote, bytes: &[u8]) -> Piece
+pub(crate) fn last_piece(quote: Quote, bytes: &[u8]) -> Piece
     ensures { piece_of result ≡ piece_at (quote_of quote) bytes.now }
 {
     if closes(quote, bytes) {

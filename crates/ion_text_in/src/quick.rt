@@ -18,7 +18,7 @@ use ion_value::int::Int;
 /// where 64 bits hold the number that they spell, and where punctuation, a quote or white space
 /// ends it within the bytes.
 #[inline(always)]
-pub fn quick_number(bytes: &[u8]) -> Option<(Number, usize)>
+pub(crate) fn quick_number(bytes: &[u8]) -> Option<(Number, usize)>
     ensures shown { IfSome result (λ x. AreShown (bytes_of in_run) bytes.now x.1) }
     ensures gives { IfSome result (λ x. run_token (take x.1 bytes.now) ≡ Ok (number_token x.0)) }
     ensures range { IfSome result (λ x. InRange (as_number x.0)) }

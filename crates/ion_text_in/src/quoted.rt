@@ -2,7 +2,7 @@
 ghost use Rattle.std.specs.Prelude.{◌≡◌, ◌<◌, ◌≤◌, ◌↔◌, ◌&&◌, ◌||◌, ◌==◌, nat_le, not, [], ◌∷◌, true, false, Some, length, take, drop, IsTrue, IsUtf8};
 ghost use Rattle.ion_value.specs.Name.{is_one_of};
 ghost use Rattle.ion_value.specs.Digits.{first_is, all_are};
-ghost use Rattle.ion_text_in.specs.Quotes.{quote_of, mark_of, one_mark, IsWithin};
+ghost use Rattle.ion_text_in.specs.Quotes.{quote_of, mark_of, one_mark, IsWithin, StopsBefore};
 ghost use Rattle.ion_text_in.specs.Quoted.{text_at};
 ghost use Rattle.ion_text_in.specs.Scanners.{Shows};
 ghost use Rattle.ion_text_in.specs.Scanning.{is_plain_byte};
@@ -12,7 +12,7 @@ use ion_meter::fault::Reason;
 
 /// The quotes that a text stands between.
 #[derive(Clone, Copy, Debug, PartialEq, Eq)]
-pub enum Quote {
+pub(crate) enum Quote {
     /// `'`, around a symbol.
     Symbol,
     /// `"`, around a string.
@@ -68,10 +68,12 @@ impl Quote {
 /// Answers `ScalarLimit` for more bytes than the limit allows, and then `BadText` for bytes that
 /// are no UTF-8, but in a clob.
 #[inline(always)]
-pub fn scan_text(quote: Quote, limit: u64, bytes: &[u8]) -> Scanned<usize>
+pub(crate) fn scan_text(quote: Quote, limit: u64, bytes: &[u8]) -> Scanned<usize>
     ensures shows { Shows (λ n. take n bytes.now) bytes.now result
         (λ c. text_at (quote_of quote) (Some limit) c) }
     ensures within { IsWithin limit result }
+    ensures known { result ≡ Scanned.Cut → (quote_of quote).is_long ≡ false
+        → StopsBefore quote bytes.now }
 {
     let plain = plain_length(quote, bytes);
     if quote.is_long() || plain == bytes.len() || bytes[plain] != quote.mark() {
@@ -101,7 +103,7 @@ const BLOCK: usize = 32;
 /// How many bytes at the front of these stand for themselves between the quotes, whatever follows
 /// them.
 #[inline(always)]
-pub fn plain_length(quote: Quote, bytes: &[u8]) -> usize
+pub(crate) fn plain_length(quote: Quote, bytes: &[u8]) -> usize
     ensures within { result ≤ length bytes.now }
     ensures plain { all_are (is_plain_byte (quote_of quote)) (take result bytes.now) ≡ true }
     ensures ends { first_is (is_plain_byte (quote_of quote)) (drop result bytes.now) ≡ false }

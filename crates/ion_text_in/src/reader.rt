@@ -27,6 +27,7 @@ use crate::operator::{pass_colons, pass_mark};
 use crate::symbol::{FieldName, annotation_place, keep_text, lent_field, lent_symbol};
 use crate::token::{Body, Symbol, Token, next_token};
 use crate::version::{is_version, is_version_word};
+use crate::waiting::shows_item;
 use ion_meter::buf::Buf;
 use ion_meter::device::Input;
 use ion_meter::fault::{Fault, Reason};
@@ -762,6 +763,11 @@ impl<I: Input, A: Allocator + Copy> RawReader<A> for TextReader<I, A> {
             self.place,
             self.top,
         )
+    }
+
+    #[inline(always)]
+    fn may_wait(&self) -> bool {
+        self.source.is_short() && !shows_item(self.innermost(), self.source.buffer())
     }
 
     ghost within = { λ s sound. sound-within s sound.0 };

@@ -9,7 +9,7 @@ ghost use Rattle.ion_text_in.specs.Runs.{goes_on, stays, has_slashes, GoOn, EndB
 
 /// A token that goes on byte by byte.
 #[derive(Clone, Copy, Debug, PartialEq, Eq)]
-pub enum Run {
+pub(crate) enum Run {
     /// A number or a timestamp, which goes on up to punctuation, a quote, white space or a comment.
     Number,
     /// A word, which has letters, digits, `_` and `$`.
@@ -20,17 +20,17 @@ pub enum Run {
 
 /// How far a token goes on in a slice.
 #[derive(Clone, Copy, Debug, PartialEq, Eq)]
-pub struct Extent {
+pub(crate) struct Extent {
     /// How many bytes at the front of the slice go on with it.
-    pub len: usize,
+    pub(crate) len: usize,
     /// Whether the slice shows that no more do. A slash as its last byte does not show it, where a
     /// comment may begin with that.
-    pub ended: bool,
+    pub(crate) ended: bool,
 }
 
 /// How far a token goes on in a slice that begins behind the first byte of the token.
 #[inline(always)]
-pub fn run_extent(run: Run, bytes: &[u8]) -> Extent
+pub(crate) fn run_extent(run: Run, bytes: &[u8]) -> Extent
     ensures within { result.len ≤ length bytes.now }
     ensures behind { result.ended ≡ true → result.len < length bytes.now }
     ensures goes { GoOn (goes_on run) bytes.now result.len }
@@ -61,7 +61,7 @@ fn so_far(len: usize, ended: bool) -> Extent
 
 /// How many bytes the token has that begins at the front of a slice, where the slice shows it.
 #[inline(always)]
-pub fn token_extent(run: Run, bytes: &[u8]) -> Option<usize>
+pub(crate) fn token_extent(run: Run, bytes: &[u8]) -> Option<usize>
     ensures { IfSome result (AreShown (bytes_of (goes_on run)) bytes.now) }
 {
     let [_, others @ ..] = bytes else {

@@ -5,7 +5,7 @@ use ion_meter::fault::Reason;
 
 /// What the bytes of a slice show of what begins at the front of them, whatever bytes follow.
 #[derive(Clone, Copy, Debug, PartialEq, Eq)]
-pub enum Scanned<T> {
+pub(crate) enum Scanned<T> {
     /// All of it: what it means, and how many bytes it has.
     Whole(T, usize),
     /// A fault in it.

@@ -29,7 +29,7 @@ use std::alloc::Allocator;
 /// `ScalarLimit` before `text` grows above `Limits::scalar`, `BadText`, or `BadLob` in a clob, for
 /// what may not stand in a text, and `BadText` for a segment that is no UTF-8, but in a clob.
 #[inline(never)]
-pub fn next_segment<I: Input, A: Allocator + Copy>(
+pub(crate) fn next_segment<I: Input, A: Allocator + Copy>(
     source: &mut Source<I, A>,
     text: &mut Buf<A>,
     quote: Quote,

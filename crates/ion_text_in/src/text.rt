@@ -30,7 +30,7 @@ use std::alloc::Allocator;
 ///
 /// Faults stand at the quote: `Truncated`, `ScalarLimit` and `BadText`.
 #[inline(always)]
-pub fn next_quoted_symbol<I: Input, A: Allocator + Copy>(
+pub(crate) fn next_quoted_symbol<I: Input, A: Allocator + Copy>(
     source: &mut Source<I, A>,
     text: &mut Buf<A>,
     limits: Limits,
@@ -55,7 +55,7 @@ pub fn next_quoted_symbol<I: Input, A: Allocator + Copy>(
 ///
 /// Faults stand at the quote: `Truncated`, `ScalarLimit` and `BadText`.
 #[inline(always)]
-pub fn next_short_string<I: Input, A: Allocator + Copy>(
+pub(crate) fn next_short_string<I: Input, A: Allocator + Copy>(
     source: &mut Source<I, A>,
     text: &mut Buf<A>,
     limits: Limits,
@@ -81,7 +81,7 @@ pub fn next_short_string<I: Input, A: Allocator + Copy>(
 ///
 /// `Some` is the place where a comment behind the string begins that does not end. Faults stand at
 /// the first quote: `Truncated`, `ScalarLimit` and `BadText`.
-pub fn next_long_string<I: Input, A: Allocator + Copy>(
+pub(crate) fn next_long_string<I: Input, A: Allocator + Copy>(
     source: &mut Source<I, A>,
     text: &mut Buf<A>,
     limits: Limits,
@@ -106,7 +106,7 @@ pub fn next_long_string<I: Input, A: Allocator + Copy>(
 ///
 /// Faults stand at `place`: `Truncated`, `ScalarLimit`, and `BadText` or `BadLob`.
 #[inline(always)]
-pub fn next_short_text<I: Input, A: Allocator + Copy>(
+pub(crate) fn next_short_text<I: Input, A: Allocator + Copy>(
     source: &mut Source<I, A>,
     text: &mut Buf<A>,
     quote: Quote,
@@ -142,7 +142,7 @@ pub fn next_short_text<I: Input, A: Allocator + Copy>(
 ///
 /// `Some` is the place where a comment behind the text begins that does not end. Faults stand at
 /// `place`: `Truncated`, `ScalarLimit`, and `BadText` or `BadLob`.
-pub fn next_long_text<I: Input, A: Allocator + Copy>(
+pub(crate) fn next_long_text<I: Input, A: Allocator + Copy>(
     source: &mut Source<I, A>,
     text: &mut Buf<A>,
     quote: Quote,

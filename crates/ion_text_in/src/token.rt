@@ -31,7 +31,7 @@ use std::alloc::Allocator;
 
 /// A symbol. The bytes of a text stand beside it.
 #[derive(Clone, Copy, Debug, PartialEq, Eq)]
-pub enum Symbol {
+pub(crate) enum Symbol {
     /// A text.
     Text,
     /// An id, where 2^31 stands for every id above 2^31 - 1.
@@ -40,7 +40,7 @@ pub enum Symbol {
 
 /// A scalar. The bytes of a symbol's text, a string, a clob or a blob stand beside it.
 #[derive(Clone, Copy, Debug, PartialEq, Eq)]
-pub enum Body {
+pub(crate) enum Body {
     /// The null of a type.
     Null(IonType),
     /// A truth value.
@@ -63,7 +63,7 @@ pub enum Body {
 
 /// A token. The bytes of a symbol's text, a string, a lob or an operator stand beside it.
 #[derive(Clone, Copy, Debug, PartialEq, Eq)]
-pub enum Token {
+pub(crate) enum Token {
     /// A scalar that is neither a symbol nor a string.
     Plain(Body),
     /// A symbol, and whether it stands in quotes.
@@ -91,7 +91,7 @@ pub enum Token {
 /// a text, a lob or an operator are copied to `text`.
 ///
 /// Each fault stands at the token's first byte.
-pub fn next_token<I: Input, A: Allocator + Copy>(
+pub(crate) fn next_token<I: Input, A: Allocator + Copy>(
     source: &mut Source<I, A>,
     text: &mut Buf<A>,
     first: First,

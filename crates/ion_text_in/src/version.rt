@@ -6,7 +6,7 @@ ghost use Rattle.ion_value.specs.Name.{is_number, is_version, version_word};
 
 /// Whether a word is that of the one version that is read.
 #[inline]
-pub fn is_version_word(word: &[u8]) -> bool
+pub(crate) fn is_version_word(word: &[u8]) -> bool
     ensures { result ≡ bytes_eq version_word word.now }
 {
     word == b"$ion_1_0".as_slice()
@@ -14,7 +14,7 @@ pub fn is_version_word(word: &[u8]) -> bool
 
 /// Whether a word is that of a version: `$ion_`, digits, `_` and digits.
 #[inline]
-pub fn is_version(word: &[u8]) -> bool
+pub(crate) fn is_version(word: &[u8]) -> bool
     ensures { result ≡ is_version word.now }
 {
     match word {

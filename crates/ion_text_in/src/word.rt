@@ -24,7 +24,7 @@ use std::alloc::Allocator;
 
 /// A word. The bytes of a symbol stand beside it.
 #[derive(Clone, Copy, Debug, PartialEq, Eq)]
-pub enum Word {
+pub(crate) enum Word {
     /// The null of a type.
     Null(IonType),
     /// A truth value.
@@ -42,7 +42,7 @@ pub enum Word {
 /// Its bytes are those at the front of the slice. Answers `ScalarLimit` where it has more than the
 /// limit, and then `BadToken` where no type's name stands behind `null.`.
 #[inline(always)]
-pub fn scan_word(limit: u64, bytes: &[u8]) -> Scanned<Word>
+pub(crate) fn scan_word(limit: u64, bytes: &[u8]) -> Scanned<Word>
     ensures shows { Shows (word_token_of (shown_text bytes.now result)) bytes.now result
         (token_of (Some limit) a_word) }
     ensures within { IsWithin limit result }
@@ -64,7 +64,7 @@ pub fn scan_word(limit: u64, bytes: &[u8]) -> Scanned<Word>
 /// Answers `ScalarLimit` where it has more bytes than the limit, and then `BadToken` where no type's
 /// name stands behind `null.`, each at the place of its first byte.
 #[inline(always)]
-pub fn next_word<I: Input, A: Allocator + Copy>(
+pub(crate) fn next_word<I: Input, A: Allocator + Copy>(
     source: &mut Source<I, A>,
     text: &mut Buf<A>,
     limits: Limits,

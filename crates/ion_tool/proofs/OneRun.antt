@@ -4,7 +4,7 @@ use Rattle.std.specs.Prelude.{option_map}
 use Rattle.clap.specs.Words.{Row, Text}
 use Rattle.ion_meter.specs.declared.limits.Limits.{Limits}
 use Rattle.ion_tool.specs.declared.words.Action.{Action}
-use Rattle.ion_tool.specs.declared.words.Action.TheVariants.{Show, Check}
+use Rattle.ion_tool.specs.declared.words.Action.TheVariants.{Show, Check, Convert}
 use Rattle.ion_tool.specs.Words.{action_name, file_in, limits_in, IsRun, Names}
 
 some_is : {T : Type 0} {x y : T} → Some x ≡ Some y → x ≡ y
@@ -15,6 +15,11 @@ name_is Show Show e = refl
 name_is Show Check e = absurd (cc e)
 name_is Check Show e = absurd (cc e)
 name_is Check Check e = refl
+name_is Show Convert e = absurd (cc e)
+name_is Check Convert e = absurd (cc e)
+name_is Convert Show e = absurd (cc e)
+name_is Convert Check e = absurd (cc e)
+name_is Convert Convert e = refl
 
 -- no words name nothing
 names_nothing : (b : Action) (m : Limits) (h : Option Text) → Names [] b m h → ⊥

@@ -5,7 +5,7 @@ use Rattle.clap.specs.Words.{Text, fault_of}
 use Rattle.clap.specs.declared.error.kind.ErrorKind.TheVariants.{ValueValidation}
 use Rattle.ion_meter.specs.declared.limits.Limits.{Limits}
 use Rattle.ion_tool.specs.Words.{default_limits, ion_app, limits_in, Names}
-use Rattle.ion_tool.specs.declared.words.Action.TheVariants.{Show, Check}
+use Rattle.ion_tool.specs.declared.words.Action.TheVariants.{Show, Check, Convert}
 
 -- without options the limits are the usual ones
 pub usual_limits : limits_in [] ≡ Some default_limits
@@ -26,6 +26,11 @@ limits = record default_limits { depth = 65535; scalar = 0 }
 pub check_is_named : Names words Check limits (Some (codes "data.10n"))
 unfolding clap_on_literals
 check_is_named = record { rows = _; faultless = refl; named = refl; limited = refl; filed = refl }
+
+-- the word `convert` is the third action
+pub convert_is_named : Names (codes "convert" ∷ codes "data.ion" ∷ []) Convert default_limits (Some (codes "data.ion"))
+unfolding clap_on_literals
+convert_is_named = record { rows = _; faultless = refl; named = refl; limited = refl; filed = refl }
 
 -- a number past its limit is a fault
 pub past_limit : fault_of ion_app (codes "show" ∷ codes "--depth" ∷ codes "65536" ∷ []) ≡ ValueValidation ∷ []

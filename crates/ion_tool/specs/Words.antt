@@ -12,7 +12,7 @@ use Rattle.clap.specs.declared.error.kind.ErrorKind.TheVariants.{DisplayHelp, Di
 use Rattle.ion_meter.specs.Limits.{AreChecked}
 use Rattle.ion_meter.specs.declared.limits.Limits.{Limits}
 use Rattle.ion_tool.specs.declared.words.Action.{Action}
-use Rattle.ion_tool.specs.declared.words.Action.TheVariants.{Show, Check}
+use Rattle.ion_tool.specs.declared.words.Action.TheVariants.{Show, Check, Convert}
 use Rattle.ion_tool.specs.declared.words.Request.{Request}
 use Rattle.ion_tool.specs.declared.words.Request.TheVariants.{Run, Help, Usage}
 
@@ -34,14 +34,17 @@ action_app name =
 abbrev pub bare_app : App
 bare_app = let a = new_app (codes "ion") in record a { top = record a.top { no_binary_name = true; subcommand_required = true } }
 
--- `ion show`, `ion check`
+-- `ion show`, `ion check`, `ion convert`
 abbrev pub ion_app : App
-ion_app = with_subcommand (with_subcommand bare_app (action_app (codes "show")).top) (action_app (codes "check")).top
+ion_app =
+    with_subcommand (with_subcommand (with_subcommand bare_app (action_app (codes "show")).top) (action_app (codes "check")).top)
+    (action_app (codes "convert")).top
 
 -- the subcommand for an action
 abbrev pub action_name : Action → Text
 action_name Show = codes "show"
 action_name Check = codes "check"
+action_name Convert = codes "convert"
 
 -- the limits of a run where the words give none
 abbrev pub default_limits : Limits

@@ -18,6 +18,8 @@ pub enum Action {
     Show,
     /// It is read, and the number of its values is written.
     Check,
+    /// It is written in the other form: text as binary, and binary as text.
+    Convert,
 }
 
 /// One run of the program.
@@ -58,8 +60,8 @@ const DEFAULT_LIMITS: Limits = Limits {
 };
 
 const ABOUT: &str =
-    "Reads a stream of binary Amazon Ion 1.0, a data format like JSON with more types, and writes its values
-as canonical Ion text, a line each.
+    "Reads a stream of Amazon Ion 1.0, text or binary, a data format like JSON with more types, and writes
+its values as canonical Ion text, a line each. A stream that begins with the byte E0 is binary.
 
 Memory stays small and bounded. A stream that is not valid, or that passes a limit, is refused: standard
 error then says why and where, as the number of bytes before the place.";
@@ -76,8 +78,9 @@ Exit status:
   3  memory ran out, or reading or writing failed
 
 Examples:
-  ion show data.10n
-  ion check < data.10n";
+  ion show data.ion
+  ion check < data.10n
+  ion convert data.ion > data.10n";
 
 /// An option `--NAME N`, where N is at most this number.
 fn limit_arg<'a>(alloc: Global, name: &'a str, most: u64, help: &'a str) -> Arg<'a>
@@ -137,7 +140,7 @@ fn command<'a>(alloc: Global) -> Result<Command<'a>, AllocError>
         alloc,
         "show",
         "Writes the stream's values to standard output as canonical Ion text, a line each",
-        "Example: ion show data.10n",
+        "Example: ion show data.ion",
     )?;
     let check = action_command(
         alloc,
@@ -145,9 +148,16 @@ fn command<'a>(alloc: Global) -> Result<Command<'a>, AllocError>
         "Reads the whole stream and says how many values it has, as in: ok 6 values",
         "Example: ion check < data.10n",
     )?;
+    let convert = action_command(
+        alloc,
+        "convert",
+        "Writes the stream's values to standard output in the other form: text as binary, binary as text",
+        "Example: ion convert data.ion > data.10n",
+    )?;
     top_command(alloc)
         .subcommand(show)?
         .subcommand(check)?
+        .subcommand(convert)?
         .bin_name("ion")
 }
 
@@ -226,6 +236,7 @@ fn action_of(name: &str) -> Option<Action>
     match name {
         "show" => Some(Action::Show),
         "check" => Some(Action::Check),
+        "convert" => Some(Action::Convert),
         _ => None,
     }
 }

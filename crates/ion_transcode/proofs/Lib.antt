@@ -3,10 +3,13 @@ mod BinarySound
 mod VerdictUnique
 mod Counting
 mod Faultless
+mod ItemByItem
 mod NoEnd
 mod Reached
 mod SpellsOnce
 mod Streams
 mod TextSound
-mod EmptySound
 mod UserPaths
+mod Loading
+mod Following
+mod LoadParts

@@ -1,12 +1,9 @@
 -- The bytes of a stream spell one path and one stream at most, in the encoding of each form.
-use Rattle.std.proofs.Common.{[], inl, ap, sym, ◌∙◌, append-nil}
-use Rattle.ion_value.specs.Path.{path_items}
 use Rattle.ion_binary.specs.Laws.{OnePath, OneStream}
 use Rattle.ion_text_in.specs.Laws as text
 use Rattle.ion_text_in.proofs.Sound as text_sound
 use Rattle.ion_transcode.specs.declared.to.Form.TheVariants as form
-use Rattle.ion_transcode.specs.declared.to.Target.TheVariants as target
-use Rattle.ion_transcode.specs.Forms.{binary_encoding, text_encoding, empty_encoding}
+use Rattle.ion_transcode.specs.Forms.{binary_encoding, text_encoding}
 use Rattle.ion_transcode.specs.Laws.{OneSpelling, SpellsOnce}
 use Rattle.ion_transcode.proofs.BinarySound.{at-path}
 
@@ -23,14 +20,6 @@ text-once one_path one_stream = record {
   stream = λ bytes a b is other. one_stream bytes a b is other;
 }
 
-empty-once : SpellsOnce empty_encoding
-empty-once = record {
-  path = λ bytes a b s t at is. inl ([], ap path_items (is.0 ∙ sym at.0) ∙ sym (append-nil (path_items a)));
-  stream = λ bytes a b is other. is.0 ∙ sym other.0;
-}
-
 pub one_spelling : SpellsOnce binary_encoding → SpellsOnce text_encoding → OneSpelling
-one_spelling binary_once text_once form.Binary t = binary_once
-one_spelling binary_once text_once form.Text target.Text = text_once
-one_spelling binary_once text_once form.Text target.Nothing = text_once
-one_spelling binary_once text_once form.Text target.Binary = empty-once
+one_spelling binary_once text_once form.Binary = binary_once
+one_spelling binary_once text_once form.Text = text_once

@@ -1,4 +1,4 @@
--- The user items of a faultless path are those of its path of user values, so that what is written of a refused stream is the text of such a path.
+-- The user items of a faultless path are those of its path of user values, so that what is written of a refused stream is what such a path has.
 use Rattle.std.specs.Prelude.{⊤}
 use Rattle.std.proofs.Common.{◌≡◌, ℕ, List, [], ◌∷◌, Option, Some, None, refl, ap, sym, ◌∙◌, subst}
 use Rattle.ion_meter.specs.declared.fault.Reason.{Reason}
@@ -12,15 +12,19 @@ use Rattle.ion_symbols.specs.Users as users
 use Rattle.ion_symbols.specs.Users.{at_start, by_step}
 use Rattle.ion_symbols.specs.Tree.{user_at, user_tops}
 use Rattle.ion_symbols.specs.Laws.{UsersAreRead, OpenUsersAreRead, table_behind, map_nest, open_declaration}
+use Rattle.ion_binary.specs.Canonical.{binary}
+use Rattle.ion_binary.specs.Refusals.{refused_behind}
 use Rattle.ion_text_out.specs.Laws.{PathTextIsThatOfItems}
 use Rattle.ion_text_out.specs.Text.{items_text}
 use Rattle.ion_transcode.specs.declared.to.Form.{Form}
+use Rattle.ion_transcode.specs.declared.to.Target.{Target}
 use Rattle.ion_transcode.specs.declared.to.Target.TheVariants as target
 use Rattle.ion_transcode.specs.Encoding.{Encoding}
-use Rattle.ion_transcode.specs.Outputs.{Outputs, outputs_of, to_text}
+use Rattle.ion_transcode.specs.Outputs.{Outputs, outputs_of, whole_tops}
 use Rattle.ion_transcode.specs.Forms.{form_of, encoding_of}
 use Rattle.ion_transcode.specs.Verdict.{Faultless, nothing, goes_on, taken_in, user, HasVerdictFrom, whole, own_fault, symbol_fault, writer_fault, HasVerdictAs}
-use Rattle.ion_transcode.specs.UserPaths.{none_open, value_open, declaration_open, UsersAlong, FaultlessPathsAreRead, IsFaultBehind, IsRefusedText, RefusedOutputIsPathText}
+use Rattle.ion_transcode.specs.UserPaths.{none_open, value_open, declaration_open, UsersAlong, FaultlessPathsAreRead, IsFaultBehind, IsRefusedOutput, RefusedOutputIsThatOfAPath, path_output, path_refusal}
+use Rattle.ion_transcode.proofs.Agreeing.{path-is}
 use Rattle.ion_transcode.proofs.Faultless.{behind_append}
 
 -- what is read of users in items that are faultless, whatever stands behind them
@@ -58,7 +62,7 @@ users-open catalog tops us t first nest mine says behind_is value declaration (S
 
 module _ (users_read : UsersAreRead) (open_users_read : OpenUsersAreRead) where
   -- what is read of users along a path, to its end
-  users-along : (catalog : List Shared) (limit : ℕ) (path : Path SymbolAt ℕ) (mine : List PlacedItem)
+  pub users-along : (catalog : List Shared) (limit : ℕ) (path : Path SymbolAt ℕ) (mine : List PlacedItem)
       → users.users catalog limit at_start (behind (path_items path) Finished) ≡ behind mine Finished → UsersAlong catalog path mine
   users-along catalog limit (closed tops) mine e =
       let r = users_read catalog limit tops mine e in
@@ -70,19 +74,34 @@ module _ (users_read : UsersAreRead) (open_users_read : OpenUsersAreRead) where
   pub faultless_paths_are_read : FaultlessPathsAreRead
   faultless_paths_are_read form target catalog limits bytes path mine s u faultless =
       users-along catalog limits.symbols path mine
-      (faultless-users (encoding_of form target) (outputs_of target) catalog limits bytes (path_items path) s u mine faultless Finished)
+      (faultless-users (encoding_of form) (outputs_of target limits) catalog limits bytes (path_items path) s u mine faultless Finished)
 
 -- ---- what is refused
 
-module _ (read : FaultlessPathsAreRead) (texts : PathTextIsThatOfItems) (form : Form) (catalog : List Shared) (limits : Limits) (bytes : List ℕ) where
-  abbrev e : Encoding
-  e = encoding_of form target.Text
+-- what is written of user items, and refused behind them, is that of their path
+output-is : PathTextIsThatOfItems → (to : Target) (limits : Limits) (path : Path UserSymbol ℕ) (mine : List PlacedItem) → user_items mine ≡ path_items path
+    → (outputs_of to limits).open_output mine ≡ path_output to limits path
+output-is texts target.Text limits path mine e = ap (items_text []) e ∙ texts path
+output-is texts target.Binary limits path mine e = ap (λ (p : Path UserSymbol ℕ). binary limits.symbols (whole_tops p)) (path-is path mine e)
+output-is texts target.Nothing limits path mine e = refl
 
+refusal-is : (to : Target) (limits : Limits) (path : Path UserSymbol ℕ) (mine : List PlacedItem) (own : PlacedItem) → user_items mine ≡ path_items path
+    → path_refusal to limits path own ≡ (outputs_of to limits).refusal mine own
+refusal-is target.Text limits path mine own e = refl
+refusal-is target.Binary limits path mine own e = ap (λ (p : Path UserSymbol ℕ). refused_behind limits p own) (sym (path-is path mine e))
+refusal-is target.Nothing limits path mine own e = refl
+
+module _ (read : FaultlessPathsAreRead) (texts : PathTextIsThatOfItems) (form : Form) (to : Target) (catalog : List Shared) (limits : Limits) (bytes : List ℕ) where
+  abbrev e : Encoding
+  e = encoding_of form
+
+  -- what there is behind a path that is faultless
   refused-behind : (path : Path SymbolAt ℕ) (mine : List PlacedItem) (s : e.State) (u : users.State) (reason : Reason) (place : ℕ)
-      → e.At bytes path s → Faultless e to_text catalog limits bytes (path_items path) s u mine
-      → IsFaultBehind e catalog limits s u reason place → IsRefusedText e catalog limits bytes reason place (to_text.open_output mine)
+      → e.At bytes path s → Faultless e (outputs_of to limits) catalog limits bytes (path_items path) s u mine
+      → ((user_path : Path UserSymbol ℕ) → user_items mine ≡ path_items user_path → IsFaultBehind e (path_refusal to limits user_path) catalog limits s u reason place)
+      → IsRefusedOutput e to catalog limits bytes reason place ((outputs_of to limits).open_output mine)
   refused-behind path mine s u reason place at faultless why =
-      let along = read form target.Text catalog limits bytes path mine s u faultless in
+      let along = read form to catalog limits bytes path mine s u faultless in
       record {
         path = path;
         user_path = along.user_path;
@@ -91,25 +110,27 @@ module _ (read : FaultlessPathsAreRead) (texts : PathTextIsThatOfItems) (form : 
         user_state = u;
         spelled = at;
         faultless = faultless;
-        fault = why;
+        fault = why along.user_path along.items;
         is_user_path = along.is_user_path;
-        output = ap (items_text []) along.items ∙ texts along.user_path;
+        output = output-is texts to limits along.user_path mine along.items;
       }
 
   -- of the verdicts of a stream those that refuse
   abbrev RefusedAs : Verdict → List ℕ → Type 0
   RefusedAs (Accepted count) out = ⊤
-  RefusedAs (Rejected reason place) out = IsRefusedText e catalog limits bytes reason place out
+  RefusedAs (Rejected reason place) out = IsRefusedOutput e to catalog limits bytes reason place out
 
-  refused-as : (v : Verdict) (out : List ℕ) → HasVerdictFrom e to_text catalog limits bytes v out → RefusedAs v out
+  refused-as : (v : Verdict) (out : List ℕ) → HasVerdictFrom e (outputs_of to limits) catalog limits bytes v out → RefusedAs v out
   refused-as _ _ (whole tops us mine s u stream faultless ends told) = tt
   refused-as _ _ (own_fault path mine s u reason place at faultless stops) =
-      refused-behind path mine s u reason place at faultless (IsFaultBehind.own stops)
+      refused-behind path mine s u reason place at faultless (λ user_path items. IsFaultBehind.own stops)
   refused-as _ _ (symbol_fault path mine item s t u reason place at faultless gives stops) =
-      refused-behind path mine s u reason place at faultless (IsFaultBehind.symbol item t gives stops)
-  refused-as _ _ (writer_fault path mine item own s t u v reason place at faultless gives told refused) = absurd (cc refused)
+      refused-behind path mine s u reason place at faultless (λ user_path items. IsFaultBehind.symbol item t gives stops)
+  refused-as _ _ (writer_fault path mine item own s t u v reason place at faultless gives told refused) =
+      refused-behind path mine s u reason place at faultless
+      (λ user_path items. IsFaultBehind.writer item own t v gives told (refusal-is to limits user_path mine own items ∙ refused))
 
-pub refused_output_is_path_text : FaultlessPathsAreRead → PathTextIsThatOfItems → RefusedOutputIsPathText
-refused_output_is_path_text read texts catalog limits to bytes reason place out is has =
-    refused-as read texts (form_of bytes) catalog limits bytes (Rejected reason place) out
+pub refused_output_is_that_of_a_path : FaultlessPathsAreRead → PathTextIsThatOfItems → RefusedOutputIsThatOfAPath
+refused_output_is_that_of_a_path read texts catalog limits to bytes target reason place out is has =
+    refused-as read texts (form_of bytes) target catalog limits bytes (Rejected reason place) out
     (subst (λ r. HasVerdictAs r (form_of bytes) catalog limits bytes (Rejected reason place) out) is has)

@@ -122,13 +122,18 @@ pub record IsEmpty {O : Type 0} (sink : Outgoing O) : Type 0 where
 
 -- ---- what a call keeps
 
+-- a writer behind all items
+pub record StaysSound {W O A : Type 0} (writer : WriterOf W O A) (before after : W) : Type 0 where
+  pub sound : writer.sound after
+  pub limits : writer.limits after ≡ writer.limits before
+  pub most : writer.most after ≡ writer.most before
+
 -- a reader, a writer and a sink behind all items
 pub record Joined {R W O A T : Type 0} (reader : ReaderOf R A) (writer : WriterOf W O A) (old new : UserReader R A) (before after : W) (answer : Result T Fault) (fault : Option Fault) : Type 0 where
   pub ready : IsReady reader.sound reader.opened reader.failed reader.ended new
   pub limits : new.limits ≡ old.limits
   pub reader_most : reader.most new.raw ≡ reader.most old.raw
-  pub sound : writer.sound after
-  pub writer_most : writer.most after ≡ writer.most before
+  pub stays : StaysSound writer before after
   pub well : StaysWell answer fault
 
 -- the meter behind a stream whose windows are made: that on the input is given back, and no more was held than the share of the form

@@ -7,6 +7,7 @@ pub mod Verdict
 pub mod Bound
 -- What is proved of that, and what the calls below `run` say to each other.
 pub mod ByItem
+pub mod Catalogues
 pub mod Laws
 pub mod UserPaths
 pub mod Calls

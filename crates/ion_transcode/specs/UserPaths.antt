@@ -1,5 +1,5 @@
 -- The paths of user values that paths of raw items mean, and what is proved of the output of a stream that is refused: laws that contracts cite.
-use Rattle.std.specs.Prelude.{◌≡◌, ℕ, List, Some, None}
+use Rattle.std.specs.Prelude.{◌≡◌, ℕ, List, [], Option, Some, None}
 use Rattle.ion_meter.specs.declared.fault.Reason.{Reason}
 use Rattle.ion_meter.specs.declared.limits.Limits.{Limits}
 use Rattle.ion_value.specs.Value.{SymbolAt, UserSymbol, Members, Top, PlacedItem, user_items}
@@ -11,13 +11,15 @@ use Rattle.ion_symbols.specs.Users as users
 use Rattle.ion_symbols.specs.Users.{user_step}
 use Rattle.ion_symbols.specs.Tree.{user_at, user_tops}
 use Rattle.ion_symbols.specs.Laws.{table_behind, map_nest, open_declaration}
+use Rattle.ion_binary.specs.Canonical.{binary}
+use Rattle.ion_binary.specs.Refusals.{refused_behind}
 use Rattle.ion_text_out.specs.Text.{path_text}
 use Rattle.ion_transcode.specs.declared.to.Form.{Form}
 use Rattle.ion_transcode.specs.declared.to.To.{To}
 use Rattle.ion_transcode.specs.declared.to.Target.{Target}
 use Rattle.ion_transcode.specs.declared.to.Target.TheVariants as target
 use Rattle.ion_transcode.specs.Encoding.{Encoding}
-use Rattle.ion_transcode.specs.Outputs.{outputs_of, resolved}
+use Rattle.ion_transcode.specs.Outputs.{outputs_of, resolved, whole_tops}
 use Rattle.ion_transcode.specs.Forms.{form_of, encoding_of}
 use Rattle.ion_transcode.specs.Verdict.{Faultless, HasVerdict}
 
@@ -44,34 +46,47 @@ pub record UsersAlong (catalog : List Shared) (path : Path SymbolAt ℕ) (mine :
 abbrev pub FaultlessPathsAreRead : Type 0
 FaultlessPathsAreRead =
     (form : Form) (target : Target) (catalog : List Shared) (limits : Limits) (bytes : List ℕ) (path : Path SymbolAt ℕ) (mine : List PlacedItem)
-    (s : (encoding_of form target).State) (u : users.State)
-    → Faultless (encoding_of form target) (outputs_of target) catalog limits bytes (path_items path) s u mine → UsersAlong catalog path mine
+    (s : (encoding_of form).State) (u : users.State)
+    → Faultless (encoding_of form) (outputs_of target limits) catalog limits bytes (path_items path) s u mine → UsersAlong catalog path mine
 
 -- ---- what is refused
 
--- a fault stands behind a path, by itself or in the item behind it
-pub data IsFaultBehind (e : Encoding) (catalog : List Shared) (limits : Limits) (s : e.State) (u : users.State) (reason : Reason) (place : ℕ) : Type 0 where
-  own : e.step limits s ≡ Stops reason place → IsFaultBehind e catalog limits s u reason place
-  symbol : (item : PlacedItem) (t : e.State) → e.step limits s ≡ Gives item t → user_step catalog limits.symbols u item ≡ Stops reason place
-      → IsFaultBehind e catalog limits s u reason place
+-- what is written of a path of user values, and whether an item behind it is refused by its writer
+abbrev pub path_output : Target → Limits → Path UserSymbol ℕ → List ℕ
+path_output target.Text limits path = path_text path
+path_output target.Binary limits path = binary limits.symbols (whole_tops path)
+path_output target.Nothing limits path = []
 
--- the output of a stream that is refused is the text of the user values of a path that its bytes spell, which is faultless, and behind which
--- the fault stands
-pub record IsRefusedText (e : Encoding) (catalog : List Shared) (limits : Limits) (bytes : List ℕ) (reason : Reason) (place : ℕ) (out : List ℕ) : Type 0 where
+abbrev pub path_refusal : Target → Limits → Path UserSymbol ℕ → PlacedItem → Option (Reason × ℕ)
+path_refusal target.Text limits path item = None
+path_refusal target.Binary limits path item = refused_behind limits path item
+path_refusal target.Nothing limits path item = None
+
+-- a fault stands behind a path, by itself or in the item behind it: in one of its parts, in its symbols, or as its writer refuses it
+pub data IsFaultBehind (e : Encoding) (refusal : PlacedItem → Option (Reason × ℕ)) (catalog : List Shared) (limits : Limits) (s : e.State) (u : users.State) (reason : Reason) (place : ℕ) : Type 0 where
+  own : e.step limits s ≡ Stops reason place → IsFaultBehind e refusal catalog limits s u reason place
+  symbol : (item : PlacedItem) (t : e.State) → e.step limits s ≡ Gives item t → user_step catalog limits.symbols u item ≡ Stops reason place
+      → IsFaultBehind e refusal catalog limits s u reason place
+  writer : (item user : PlacedItem) (t : e.State) (v : users.State) → e.step limits s ≡ Gives item t → user_step catalog limits.symbols u item ≡ Gives user v
+      → refusal user ≡ Some (reason, place) → IsFaultBehind e refusal catalog limits s u reason place
+
+-- the output of a stream that is refused is that of the user values of a path that its bytes spell, which is faultless, and behind which the
+-- fault stands
+pub record IsRefusedOutput (e : Encoding) (to : Target) (catalog : List Shared) (limits : Limits) (bytes : List ℕ) (reason : Reason) (place : ℕ) (out : List ℕ) : Type 0 where
   pub path : Path SymbolAt ℕ
   pub user_path : Path UserSymbol ℕ
   pub mine : List PlacedItem
   pub state : e.State
   pub user_state : users.State
   pub spelled : e.At bytes path state
-  pub faultless : Faultless e (outputs_of target.Text) catalog limits bytes (path_items path) state user_state mine
-  pub fault : IsFaultBehind e catalog limits state user_state reason place
+  pub faultless : Faultless e (outputs_of to limits) catalog limits bytes (path_items path) state user_state mine
+  pub fault : IsFaultBehind e (path_refusal to limits user_path) catalog limits state user_state reason place
   pub is_user_path : IsUserPath catalog path user_path
-  pub output : out ≡ path_text user_path
+  pub output : out ≡ path_output to limits user_path
 
--- so it is with every stream that is refused where text is written
-abbrev pub RefusedOutputIsPathText : Type 0
-RefusedOutputIsPathText =
-    (catalog : List Shared) (limits : Limits) (to : To) (bytes : List ℕ) (reason : Reason) (place : ℕ) (out : List ℕ)
-    → resolved (form_of bytes) to ≡ Some target.Text → HasVerdict catalog limits to bytes (Rejected reason place) out
-    → IsRefusedText (encoding_of (form_of bytes) target.Text) catalog limits bytes reason place out
+-- so it is with every stream that is refused, whatever is written of it
+abbrev pub RefusedOutputIsThatOfAPath : Type 0
+RefusedOutputIsThatOfAPath =
+    (catalog : List Shared) (limits : Limits) (to : To) (bytes : List ℕ) (target : Target) (reason : Reason) (place : ℕ) (out : List ℕ)
+    → resolved (form_of bytes) to ≡ Some target → HasVerdict catalog limits to bytes (Rejected reason place) out
+    → IsRefusedOutput (encoding_of (form_of bytes)) target catalog limits bytes reason place out

@@ -1,9 +1,10 @@
 //! The reader of user values and any writer, joined by their laws alone.
-ghost use Rattle.std.specs.Prelude.{◌≡◌, ◌↔◌, ℕ, ◌+◌, ◌-◌, ◌^◌, ◌<◌, ◌≤◌, List, [], length};
-ghost use Rattle.ion_meter.specs.Windows.{so_far};
+ghost use Rattle.std.specs.Prelude.{◌≡◌, ◌↔◌, ℕ, ◌+◌, ◌-◌, ◌^◌, ◌<◌, ◌≤◌, List, [], length, None, OnOk, IfErr};
+ghost use Rattle.ion_meter.specs.Windows.{so_far, write_failures_in, Puts};
 ghost use Rattle.ion_value.specs.declared.ion_type.Kind.{Kind};
 ghost use Rattle.ion_value.specs.Items.{raw_head};
 ghost use Rattle.ion_value.specs.Standing.{open_after};
+ghost use Rattle.ion_value.specs.Reading.{items_of};
 ghost use Rattle.ion_value.specs.Shares.{Charges};
 ghost use Rattle.ion_value.specs.Outcome.{one_if_closed, verdict_behind, output_behind};
 ghost use Rattle.ion_symbols.specs.User.{coming_to, owned_by, share_of};
@@ -44,7 +45,40 @@ fn values_behind(values: u64, level: u32) -> u64
     if level == 0 { values + 1 } else { values }
 }
 
+// Writes all that was put, where a value has ended behind which the reader may have to wait. It
+// answers whether one has that is not written yet.
+#[inline]
+fn flush_ended<R: RawReader<A>, O: Output, A: Allocator + Copy>(
+    unflushed: bool,
+    level: u32,
+    reader: &UserReader<'_, R, A>,
+    sink: &mut Sink<O, A>,
+) -> Result<bool, Fault>
+    requires well { sink.old.fault ≡ None }
+    ensures puts { Puts O.written O.observable sink.old sink.new [] }
+    ensures same { OnOk result (O.observable sink.old.device
+        → so_far O.written sink.new ≡ so_far O.written sink.old) }
+    ensures well { OnOk result (sink.new.fault ≡ None) }
+    ensures cause { IfErr result (λ f. f ≡ Fault.WriteFault) }
+    ensures count { O.failure_count sink.new.device
+        ≡ O.failure_count sink.old.device + write_failures_in None result }
+{
+    if !unflushed && level > 0 {
+        return Ok(false);
+    }
+    if !reader.may_wait() {
+        return Ok(true);
+    }
+    match sink.flush() {
+        Err(fault) => Err(fault),
+        Ok(()) => Ok(false),
+    }
+}
+
 /// Puts each item of the user values that are read, and counts the values at top level.
+///
+/// Where the reader may have to wait for its device, what was put is written first, if a value at top
+/// level has ended since it was written last.
 pub fn copy_items<R: RawReader<A>, W: ValueWriter<O, A>, O: Output, A: Allocator + Copy>(
     meter: &mut Meter<A>,
     reader: &mut UserReader<'_, R, A>,
@@ -62,6 +96,8 @@ pub fn copy_items<R: RawReader<A>, W: ValueWriter<O, A>, O: Output, A: Allocator
         (W.refusal (W.limits writer.old)) [] (coming_to R.reading reader.old)) result
         (so_far O.written sink.old) (so_far O.written sink.new)
         (O.written sink.new.device) }
+    ensures stands { R.observable reader.old.raw → OnOk result
+        (W.stands writer.new (items_of (coming_to R.reading reader.old))) }
     ensures causes { Causes result meter.old meter.new
         (R.failures reader.old.raw) (R.failures reader.new.raw) (R.exceeds reader.old.raw)
         O.Output sink.old.device sink.new.device }
@@ -76,6 +112,8 @@ pub fn copy_items<R: RawReader<A>, W: ValueWriter<O, A>, O: Output, A: Allocator
     writer.begin(sink)?;
     let mut values: u64 = 0;
     let mut level: u32 = 0;
+    // Whether a value has ended since all that was put was written.
+    let mut unflushed = false;
     'items: while reader.next(meter)? {
         let item = reader.item();
         let head = item.head();
@@ -84,6 +122,10 @@ pub fn copy_items<R: RawReader<A>, W: ValueWriter<O, A>, O: Output, A: Allocator
         }
         level = level_behind(level, &head);
         values = values_behind(values, level);
+        match flush_ended(unflushed, level, reader, sink) {
+            Err(fault) => return Err(fault),
+            Ok(left) => unflushed = left,
+        }
     }
     Ok(values)
 }

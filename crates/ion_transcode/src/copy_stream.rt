@@ -1,12 +1,13 @@
 //! A raw reader's user values, put by a writer and flushed.
-ghost use Rattle.std.specs.Prelude.{◌≡◌, ◌≢◌, ◌⊎◌, ◌↔◌, ℕ, ◌+◌, ◌*◌, ◌^◌, List, [], Err};
+ghost use Rattle.std.specs.Prelude.{◌≡◌, ◌≢◌, ◌⊎◌, ◌↔◌, ℕ, ◌+◌, ◌*◌, ◌^◌, List, [], Err, OnOk};
 ghost use Rattle.ion_meter.specs.declared.fault.Fault.TheVariants.{WriteFault};
 ghost use Rattle.ion_meter.specs.Windows.{so_far, HasPrefix};
+ghost use Rattle.ion_value.specs.Reading.{items_of};
 ghost use Rattle.ion_value.specs.Shares.{Charges};
 ghost use Rattle.ion_value.specs.Outcome.{verdict_behind, output_behind};
 ghost use Rattle.ion_symbols.specs.Users.{at_start, users};
 ghost use Rattle.ion_transcode.specs.Calls.{Causes, HasRoom, IsFresh, MayWrite, PassesOn};
-ghost use Rattle.ion_transcode.specs.Calls.{PutsOutput, SaysVerdict, StaysWell, WritesOutput};
+ghost use Rattle.ion_transcode.specs.Calls.{PutsOutput, SaysVerdict, StaysSound, StaysWell, WritesOutput};
 
 use crate::copy_items::copy_items;
 use ion_meter::device::Output;
@@ -77,7 +78,9 @@ pub fn copy_stream<R: RawReader<A>, W: ValueWriter<O, A>, O: Output, A: Allocato
     ensures causes { Causes result.0 meter.old meter.new (R.failures raw) (R.failures result.1)
         (R.exceeds raw) O.Output sink.old.device sink.new.device }
     ensures input { R.observable result.1 ↔ R.observable raw }
-    ensures sound { W.sound writer.new }
+    ensures stands { R.observable raw → OnOk result.0 (W.stands writer.new
+        (items_of (users catalog.now limits.symbols at_start (R.reading raw)))) }
+    ensures writer { StaysSound W.ValueWriter writer.old writer.new }
     ensures charges { Charges meter.old meter.new (R.own raw + W.own writer.old)
         (R.own result.1 + W.own writer.new)
         (R.most raw + 2 * limits.symbols + W.most writer.old) }

@@ -1,10 +1,13 @@
 //! Laws of the verdicts of streams, each the contract of a function that does nothing.
+ghost use Rattle.ion_transcode.specs.Catalogues.{CatalogVerdictsAreRead, CatalogsAreLoaded, OneCatalogVerdict};
 ghost use Rattle.ion_transcode.specs.Forms.{binary_encoding, text_encoding};
 ghost use Rattle.ion_transcode.specs.Laws.{BinaryIsComplete, BinaryIsSound, OneSpelling, OneVerdict, SpellsOnce, StreamsAreRead, TextIsComplete, TextIsSound};
-ghost use Rattle.ion_transcode.specs.UserPaths.{FaultlessPathsAreRead, RefusedOutputIsPathText};
+ghost use Rattle.ion_transcode.specs.UserPaths.{FaultlessPathsAreRead, RefusedOutputIsThatOfAPath};
 
 use ion_binary::laws as binary;
-use ion_symbols::laws::{open_users_are_read, users_are_read};
+use ion_symbols::laws::{
+    catalogs_are_read, catalogs_are_tables, open_users_are_read, users_are_read,
+};
 use ion_text_in::laws as text;
 use ion_text_out::laws::{path_text_is_that_of_items, text_is_that_of_items};
 
@@ -85,7 +88,11 @@ pub fn streams_are_read()
     binary_is_sound();
     text_is_sound();
     users_are_read();
+    open_users_are_read();
     text_is_that_of_items();
+    binary::items_put_the_form();
+    binary::open_items_put_what_is_whole();
+    binary::items_are_refused_as_in_trees();
 }
 
 /// The user items of a path that is faultless are those of its path of user values: whole values, and
@@ -97,13 +104,41 @@ pub fn faultless_paths_are_read()
     open_users_are_read();
 }
 
-/// Where text is written of a stream that is refused, it is the text of the user values of a path
-/// that the stream's bytes spell, behind which the first fault stands.
-pub fn refused_output_is_path_text()
-    ensures { RefusedOutputIsPathText }
+/// What is written of a stream that is refused is that of the user values of a path that the
+/// stream's bytes spell, behind which the first fault stands: text with its brackets open, or the
+/// whole values in binary.
+pub fn refused_output_is_that_of_a_path()
+    ensures { RefusedOutputIsThatOfAPath }
 {
     faultless_paths_are_read();
     path_text_is_that_of_items();
+}
+
+/// What reading item by item says of a stream is its verdict as a catalogue.
+pub fn catalog_verdicts_are_read()
+    ensures { CatalogVerdictsAreRead }
+{
+    binary_is_sound();
+    text_is_sound();
+    users_are_read();
+}
+
+/// It loads the tables of the stream's user values.
+pub fn catalogs_are_loaded()
+    ensures { CatalogsAreLoaded }
+{
+    binary_is_sound();
+    text_is_sound();
+    users_are_read();
+    catalogs_are_read();
+    catalogs_are_tables();
+}
+
+/// A stream has one verdict as a catalogue at most.
+pub fn one_catalog_verdict()
+    ensures { OneCatalogVerdict }
+{
+    users_are_read();
 }
 
 #[cfg(test)]
@@ -122,6 +157,9 @@ mod tests {
         one_verdict();
         streams_are_read();
         faultless_paths_are_read();
-        refused_output_is_path_text();
+        refused_output_is_that_of_a_path();
+        catalog_verdicts_are_read();
+        catalogs_are_loaded();
+        one_catalog_verdict();
     }
 }

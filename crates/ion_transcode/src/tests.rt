@@ -1,15 +1,19 @@
 //! What runs write of worked streams, in whatever pieces they come, and how they end.
 
+mod catalogs;
 mod devices;
 mod hex;
+mod refusing;
+mod to_binary;
 
 use crate::run::bound;
 use crate::to::{Form, Summary, To};
-use devices::{Giving, Taking, answer};
+use devices::{Giving, Taking, Telling, Waiting, answer};
 use hex::{behind_marker, octets};
 use ion_meter::fault::{Fault, Reason};
 use ion_meter::limits::Limits;
 use std::alloc::Global;
+use std::cell::Cell;
 use std::process::Abort;
 use std::test::Fail;
 
@@ -46,9 +50,6 @@ fn refused(reason: Reason, place: u64) -> Result<Summary, Fault> {
     Err(Fault::Refused(reason, place))
 }
 
-/// The version marker of binary.
-const MARKER: [u8; 4] = [0xE0, 0x01, 0x00, 0xEA];
-
 /// Asserts the verdict on a stream, in one piece or a byte a read, and that this text is written of
 /// it, at once or a byte a call.
 fn expect(
@@ -76,13 +77,7 @@ fn expect_bytes(
     let (outcome, out) = answer(rt, alloc, limits, to, octets, Vec::new(alloc));
     assert_eq!(rt; outcome, want, "{octets:?}");
     assert_eq!(rt; out.as_slice(), output, "{octets:?}");
-    let reader = Giving {
-        left: octets,
-        again: &[],
-        times: 0,
-        most: 1,
-        fails: false,
-    };
+    let reader = Giving::all(octets, 1);
     let writer = Taking {
         taken: Vec::new(alloc),
         room: output.len(),
@@ -217,12 +212,30 @@ fn refused_streams(rt: HostRuntime) -> Result<(), Fail> {
     expect_rows(&rt, rt.alloc(), one, &rows)
 }
 
+/// Asserts the verdict on a text and what is written of it, in whichever two pieces it comes.
+fn expect_cut(
+    rt: &impl Abort,
+    alloc: Global,
+    limits: Limits,
+    input: &[u8],
+    want: Result<Summary, Fault>,
+    shown: &str,
+) {
+    for at in 0..input.len() {
+        let reader = Giving::cut(input, at);
+        let (outcome, out) = answer(rt, alloc, limits, To::Text, reader, Vec::new(alloc));
+        assert_eq!(rt; outcome, want, "cut at {at}: {input:?}");
+        assert_eq!(rt; out.as_slice(), shown.as_bytes(), "cut at {at}: {input:?}");
+    }
+}
+
 /// Asserts the verdicts on texts, and what is written of them as text.
 fn expect_texts(rt: &impl Abort, alloc: Global, limits: Limits, rows: &[Row]) {
     for (input, want, shown) in rows {
         let input = input.as_bytes();
         expect(rt, alloc, limits, To::Text, input, *want, shown);
         expect(rt, alloc, limits, To::Nothing, input, *want, "");
+        expect_cut(rt, alloc, limits, input, *want, shown);
     }
 }
 
@@ -256,6 +269,66 @@ fn texts(rt: HostRuntime) -> Result<(), Fail> {
     Ok(())
 }
 
+// Tokens, and what they mean.
+#[test]
+fn tokens_of_texts(rt: HostRuntime) -> Result<(), Fail> {
+    let rows = [
+        ("'''a''' /*x*/ '''b'''", text(1), "\"ab\"\n"),
+        ("(--1 a.b -2 /*c*/ +)", text(1), "('--' 1 a '.' b -2 '+')\n"),
+        ("-0.", text(1), "-0.\n"),
+        ("15d-1 1.50 5d-3", text(3), "1.5\n1.50\n0.005\n"),
+        (
+            "340282366920938463463374607431768211455",
+            text(1),
+            "340282366920938463463374607431768211455\n",
+        ),
+        (
+            "340282366920938463463374607431768211456",
+            refused(Reason::Range, 0),
+            "",
+        ),
+        ("1e0", refused(Reason::Float, 0), ""),
+        ("{{aGVsbG8=}}", text(1), "{{aGVsbG8=}}\n"),
+        // Bits of the last character that belong to no byte have to be zero.
+        ("{{aGVsbG9=}}", refused(Reason::BadLob, 0), ""),
+        ("{{}}", text(1), "{{}}\n"),
+        ("\"\\xe9\"", text(1), "\"\u{E9}\"\n"),
+        ("\"\\uD83D\\uDE00\"", text(1), "\"\u{1F600}\"\n"),
+        ("\"\\uD83D\"", refused(Reason::BadText, 0), ""),
+        ("\"ab ", refused(Reason::Truncated, 0), ""),
+        ("2007T 2007-01-02T", text(2), "2007T\n2007-01-02\n"),
+        ("2007-13T", refused(Reason::BadTimestamp, 0), ""),
+        // A byte-order mark, and octets of the binary form without its marker.
+        ("\u{FEFF}5", refused(Reason::BadToken, 0), ""),
+        ("!\u{5}", refused(Reason::BadToken, 0), ""),
+    ];
+    expect_texts(&rt, rt.alloc(), LIMITS, &rows);
+    Ok(())
+}
+
+// Items, in the order of their faults.
+#[test]
+fn items_of_texts(rt: HostRuntime) -> Result<(), Fail> {
+    let rows = [
+        ("[1,{a:", refused(Reason::Truncated, 6), "[1,{"),
+        ("[1,]", text(1), "[1]\n"),
+        ("[1 2]", refused(Reason::BadToken, 3), "[1"),
+        ("[,]", refused(Reason::BadToken, 1), "["),
+        ("{a::1}", refused(Reason::BadToken, 2), "{"),
+        // A token of the item is refused before one of its symbols.
+        ("{$99:1}", refused(Reason::BadSymbol, 1), "{"),
+        ("{$99:1_}", refused(Reason::BadToken, 5), "{"),
+        ("$ion_1_1 5", refused(Reason::BadVersion, 0), ""),
+        // In quotes it is a symbol as any other.
+        ("'$ion_1_0'", text(1), "'$ion_1_0'\n"),
+    ];
+    expect_texts(&rt, rt.alloc(), LIMITS, &rows);
+    let one = Limits { depth: 1, ..LIMITS };
+    let rows = [("[[]]", refused(Reason::DepthLimit, 1), "[")];
+    expect_texts(&rt, rt.alloc(), one, &rows);
+    Ok(())
+}
+
 // An input of as many bytes as the limit is read.
 #[test]
 fn input_limits(rt: HostRuntime) -> Result<(), Fail> {
@@ -269,20 +342,19 @@ fn input_limits(rt: HostRuntime) -> Result<(), Fail> {
 #[test]
 fn first_bytes(rt: HostRuntime) -> Result<(), Fail> {
     let alloc = rt.alloc();
-    // Binary is not written yet: of it the version marker is all, before a refusal too.
-    let bad = refused(Reason::BadToken, 0);
     let rows = [
-        ("", text(0), "", text(0)),
-        ("35", text(1), "5\n", bad),
-        ("E1 01 00 EA", bad, "", bad),
+        ("", text(0), "", ""),
+        ("35", text(1), "5\n", "21 05"),
+        ("E1 01 00 EA", refused(Reason::BadToken, 0), "", ""),
     ];
     for (digits, want, shown, converted) in rows {
         let octets = octets(&rt, alloc, digits)?;
         let octets = octets.as_slice();
         expect(&rt, alloc, LIMITS, To::Text, octets, want, shown);
         expect(&rt, alloc, LIMITS, To::Nothing, octets, want, "");
+        let converted = behind_marker(&rt, alloc, converted)?;
         for to in [To::Binary, To::Other] {
-            expect_bytes(&rt, alloc, LIMITS, to, octets, converted, &MARKER);
+            expect_bytes(&rt, alloc, LIMITS, to, octets, want, converted.as_slice());
         }
     }
     let rows = [
@@ -307,11 +379,8 @@ fn faults(rt: HostRuntime) -> Result<(), Fail> {
     let short = Limits { input: 3, ..LIMITS };
     expect_read(&rt, alloc, short, octets, Err(Fault::InputLimit), "");
     let reader = Giving {
-        left: octets,
-        again: &[],
-        times: 0,
-        most: 2,
         fails: true,
+        ..Giving::all(octets, 2)
     };
     let (outcome, out) = answer(&rt, alloc, LIMITS, To::Text, reader, Vec::new(alloc));
     assert_eq!(rt; outcome, Err(Fault::ReadFault));
@@ -363,11 +432,9 @@ fn what_is_ignored_is_not_held(rt: HostRuntime) -> Result<(), Fail> {
         "EE 02 00 00 8D 81 83 DE 02 00 00 86 84 BE 02 00 00 80",
     )?;
     let reader = Giving {
-        left: first.as_slice(),
         again: &ZEROS,
         times: 1_024,
-        most: 4_096,
-        fails: false,
+        ..Giving::all(first.as_slice(), 4_096)
     };
     let limits = Limits {
         depth: 4,
@@ -380,5 +447,160 @@ fn what_is_ignored_is_not_held(rt: HostRuntime) -> Result<(), Fail> {
     let (outcome, out) = answer(&rt, alloc, limits, To::Nothing, reader, Vec::new(alloc));
     assert_eq!(rt; outcome, binary(0));
     assert!(rt; out.is_empty());
+    Ok(())
+}
+
+// The same in text.
+#[test]
+fn what_text_ignores_is_not_held(rt: HostRuntime) -> Result<(), Fail> {
+    let alloc = rt.alloc();
+    let mut fives = Vec::new(alloc);
+    for _ in 0..2_048 {
+        fives.extend_from_slice(b"5,")?;
+    }
+    let reader = Giving {
+        again: fives.as_slice(),
+        times: 2_048,
+        last: b"],symbols:[\"a\"]} $10",
+        ..Giving::all(b"$ion_symbol_table::{name:[", 4_096)
+    };
+    let limits = Limits {
+        depth: 4,
+        scalar: 64,
+        symbols: 1_024,
+        value: 0,
+        ..LIMITS
+    };
+    let (outcome, out) = answer(&rt, alloc, limits, To::Nothing, reader, Vec::new(alloc));
+    assert_eq!(rt; outcome, text(1));
+    assert!(rt; out.is_empty());
+    Ok(())
+}
+
+/// Asserts that of a stream whose pieces come one by one just so much is written before each of them, and
+/// this text in all.
+fn expect_live(
+    rt: &impl Abort,
+    alloc: Global,
+    pieces: &[(&[u8], usize)],
+    want: Result<Summary, Fault>,
+    shown: &str,
+) {
+    let written = Cell::new(0);
+    let reader = Waiting {
+        pieces,
+        written: &written,
+    };
+    let writer = Telling {
+        taken: Vec::new(alloc),
+        written: &written,
+    };
+    let (outcome, writer) = answer(rt, alloc, LIMITS, To::Text, reader, writer);
+    assert_eq!(rt; writer.taken.as_slice(), shown.as_bytes());
+    assert_eq!(rt; outcome, want, "before {shown}");
+}
+
+// Values that are whole are written before a read that may have to wait.
+#[test]
+fn texts_are_written_as_they_come(rt: HostRuntime) -> Result<(), Fail> {
+    let rows: [(&[(&[u8], usize)], u64, &str); 8] = [
+        (
+            &[
+                (b"1 ", 0),
+                (b"2 ", 2),
+                (b"\"a\"", 4),
+                (b"[2]", 8),
+                (b"", 12),
+            ],
+            4,
+            "1\n2\n\"a\"\n[2]\n",
+        ),
+        // Behind a symbol two colons may come.
+        (
+            &[(b"1 a", 0), (b"::", 2), (b"b ", 2), (b"4 ", 2), (b"", 9)],
+            3,
+            "1\na::b\n4\n",
+        ),
+        // A number may go on, and so may a long string.
+        (&[(b"1 2", 0), (b"3 ", 2), (b"", 5)], 2, "1\n23\n"),
+        (
+            &[(b"1 '''a''' ", 0), (b"'''b''' 2 ", 2), (b"", 9)],
+            3,
+            "1\n\"ab\"\n2\n",
+        ),
+        // What is whole of an open value is written with the value before it.
+        (
+            &[(b"5 [1,", 0), (b"{a", 4), (b":2}] ", 4), (b"", 12)],
+            2,
+            "5\n[1,{a:2}]\n",
+        ),
+        (&[(b"1 /* ", 0), (b"*/ 2 ", 2), (b"", 4)], 2, "1\n2\n"),
+        (
+            &[(b"1 {{aGVsbG8", 0), (b"=}", 2), (b"} ", 2), (b"", 15)],
+            2,
+            "1\n{{aGVsbG8=}}\n",
+        ),
+        // A declaration is no value, and is read with the value behind it.
+        (
+            &[
+                (b"1 $ion_symbol_table::{symbols:[", 0),
+                (b"\"a\"]} ", 2),
+                (b"$10 2 ", 2),
+                (b"", 6),
+            ],
+            3,
+            "1\na\n2\n",
+        ),
+    ];
+    for (pieces, values, shown) in rows {
+        expect_live(&rt, rt.alloc(), pieces, text(values), shown);
+    }
+    Ok(())
+}
+
+#[test]
+fn octets_are_written_as_they_come(rt: HostRuntime) -> Result<(), Fail> {
+    let rows: [(&[(&[u8], usize)], u64, &str); 3] = [
+        (
+            &[
+                (b"\xE0\x01\x00\xEA\x21\x05", 0),
+                (b"\x21\x06\x21", 2),
+                (b"\x07\xB2\x21", 4),
+                (b"\x08", 7),
+                (b"\x82\x61", 10),
+                (b"\x62", 10),
+                (b"\xE0\x01\x00\xEA", 15),
+                (b"", 15),
+            ],
+            5,
+            "5\n6\n7\n[8]\n\"ab\"\n",
+        ),
+        // A field, and a value with an annotation.
+        (
+            &[
+                (b"\xE0\x01\x00\xEA\x11\xD3\x84", 0),
+                (b"\x21", 6),
+                (b"\x05\xE4\x81\x84", 6),
+                (b"\x21\x05", 14),
+                (b"", 22),
+            ],
+            3,
+            "true\n{name:5}\nname::5\n",
+        ),
+        // A declaration, which is read with the value behind it.
+        (
+            &[
+                (b"\xE0\x01\x00\xEA\x11\xE7\x81\x83\xD4", 0),
+                (b"\x87\xB2\x81\x61", 5),
+                (b"\x71\x0A", 5),
+                (b"", 7),
+            ],
+            2,
+            "true\na\n",
+        ),
+    ];
+    for (pieces, values, shown) in rows {
+        expect_live(&rt, rt.alloc(), pieces, binary(values), shown);
+    }
     Ok(())
 }

@@ -23,6 +23,7 @@ pub mod TextKinds
 pub mod Rows
 pub mod Readings
 pub mod ReadingLaws
+pub mod Faults
 pub mod Paths
 pub mod Items
 pub mod Outcomes

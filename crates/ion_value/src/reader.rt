@@ -119,6 +119,12 @@ pub trait RawReader<A: Allocator + Copy> {
         requires { lends self.now }
         ensures { raw_item result ≡ current self.now };
 
+    /// Whether the next call of `next` may read from a device that gave less than was asked for, and
+    /// so may have to wait. What was put of the items so far is best written before that.
+    ///
+    /// It may be true of a call that reads nothing. Nothing is proved of the answer.
+    fn may_wait(&self) -> bool;
+
     /// What holds of the memory, the depth and the items to come of every reader.
     ghost within: { (s : Self) → sound s
         → ReadsWithin (own s) (most s) (depth s) (length (opened s)) (left s) };

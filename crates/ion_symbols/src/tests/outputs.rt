@@ -129,6 +129,19 @@ fn cleared_texts_begin_at_10_again(rt: HostRuntime) -> Result<(), Fail> {
     Ok(())
 }
 
+#[test]
+fn cleared_texts_cost_nothing(rt: HostRuntime) -> Result<(), Fail> {
+    let mut texting = start(&rt, rt.alloc(), 17);
+    texting.texts.clear(&mut texting.meter);
+    texting.expect_ids(&rt, &[("a", Some(10)), ("b", None)])?;
+    texting.texts.clear(&mut texting.meter);
+    same(&rt, texting.texts.cost(), 0);
+    texting.expect_since(&rt, 10, &[]);
+    texting.expect_ids(&rt, &[("b", Some(10))])?;
+    texting.finish(&rt);
+    Ok(())
+}
+
 const SYSTEM: [(&str, Option<u32>); 9] = [
     ("$ion", Some(1)),
     ("$ion_1_0", Some(2)),

@@ -77,6 +77,14 @@ struct Row {
     count: &'static str,
 }
 
+/// A stream, and what `convert` answers.
+struct Converted {
+    input: &'static [u8],
+    status: u8,
+    out: &'static [u8],
+    err: &'static str,
+}
+
 const ROWS: [Row; 8] = [
     Row {
         input: b"",
@@ -153,6 +161,57 @@ fn shows_and_checks(rt: HostRuntime) -> Result<(), Fail> {
     Ok(())
 }
 
+// Streams, and what they are converted to: what is not whole at top level is not written as binary.
+const CONVERTED: [Converted; 6] = [
+    Converted {
+        input: b"",
+        status: 0,
+        out: b"\xE0\x01\x00\xEA",
+        err: "",
+    },
+    Converted {
+        input: b"{name: [1, -1.50]}",
+        status: 0,
+        out: b"\xE0\x01\x00\xEA\xD8\x84\xB6\x21\x01\x53\xC2\x80\x96",
+        err: "",
+    },
+    Converted {
+        input: b"a a",
+        status: 0,
+        out: b"\xE0\x01\x00\xEA\xEA\x81\x83\xD7\x86\x71\x03\x87\xB2\x81\x61\x71\x0A\x71\x0A",
+        err: "",
+    },
+    Converted {
+        input: b"5 [6, x",
+        status: 1,
+        out: b"\xE0\x01\x00\xEA\x21\x05",
+        err: "refused Truncated at 7\n",
+    },
+    Converted {
+        input: b"\xE0\x01\x00\xEA\x71\x04\x21\x05",
+        status: 0,
+        out: b"name\n5\n",
+        err: "",
+    },
+    Converted {
+        input: b"\xE0\x01\x00\xEA\xB3\x21\x05\x40",
+        status: 1,
+        out: b"[5",
+        err: "refused Float at 7\n",
+    },
+];
+
+#[test]
+fn converts_to_the_other_form(rt: HostRuntime) -> Result<(), Fail> {
+    for row in &CONVERTED {
+        let answer = served(rt.alloc(), &["convert"], row.input)?;
+        assert_eq!(rt; answer.status, row.status);
+        assert_eq!(rt; answer.out.as_slice(), row.out);
+        assert_eq!(rt; answer.err.as_slice(), row.err.as_bytes());
+    }
+    Ok(())
+}
+
 // Decimals behind a version marker, and how they are shown: with a point where the exponent is from
 // 0 down to -38.
 const DECIMALS: [(&[u8], &str); 9] = [
@@ -221,16 +280,24 @@ fn takes_files_and_limits(rt: HostRuntime) -> Result<(), Fail> {
 
 #[test]
 fn reads_words(rt: HostRuntime) -> Result<(), Fail> {
-    for words in [
-        ["--help"].as_slice(),
-        &["-h"],
-        &["show", "--help"],
-        &["help", "show"],
-        &["check", "--help"],
-    ] {
+    let show = b"ion show data.ion".as_slice();
+    let check = b"ion check < data.10n".as_slice();
+    let convert = b"ion convert data.ion > data.10n".as_slice();
+    let helped: [(&'static [&'static str], &[u8]); 8] = [
+        (&["--help"], show),
+        (&["--help"], check),
+        (&["--help"], convert),
+        (&["-h"], show),
+        (&["show", "--help"], show),
+        (&["help", "show"], show),
+        (&["check", "--help"], check),
+        (&["convert", "--help"], convert),
+    ];
+    for (words, example) in helped {
         let answer = served(rt.alloc(), words, b"")?;
         assert_eq!(rt; answer.status, 0);
         assert!(rt; contains(answer.out.as_slice(), b"Usage: ion"));
+        assert!(rt; contains(answer.out.as_slice(), example));
         assert!(rt; answer.err.is_empty());
     }
     for words in [
@@ -238,7 +305,7 @@ fn reads_words(rt: HostRuntime) -> Result<(), Fail> {
         &["show", "a", "b"],
         &["show", "--depth", "65536"],
         &["show", "--scalar", "x"],
-        &["convert"],
+        &["write"],
         &["--depth", "3"],
         &["--"],
         &["help", "x"],

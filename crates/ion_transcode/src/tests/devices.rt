@@ -1,4 +1,5 @@
 //! Devices in memory, and runs over them.
+ghost use Rattle.std.specs.Prelude.{◌≤◌, length};
 
 use crate::run::{bound, run};
 use crate::to::{Form, Summary, To};
@@ -8,12 +9,13 @@ use ion_meter::meter::Meter;
 use ion_meter::stream::{FromRead, ToWrite};
 use ion_symbols::catalog::Catalog;
 use std::alloc::Global;
+use std::cell::Cell;
 use std::io;
 use std::io::{Read, Write};
 use std::process::Abort;
 
-/// A reader that gives its first bytes, then others so many times, at most so many bytes a read,
-/// and that then ends or fails.
+/// A reader that gives its first bytes, then others so many times, then its last ones, at most so
+/// many bytes a read, and that then ends or fails.
 #[derive(Clone, Copy, Drop)]
 pub struct Giving<'a> {
     /// The bytes that it has not given.
@@ -22,6 +24,8 @@ pub struct Giving<'a> {
     pub again: &'a [u8],
     /// How often it gives them.
     pub times: u32,
+    /// The bytes that it gives behind all of these.
+    pub last: &'a [u8],
     /// The most that it gives a read.
     pub most: usize,
     /// Whether it fails where its bytes end.
@@ -34,6 +38,10 @@ impl Read for Giving<'_> {
             self.times -= 1;
             self.left = self.again;
         }
+        if self.left.is_empty() {
+            self.left = self.last;
+            self.last = &[];
+        }
         if self.left.is_empty() && self.fails {
             return Err(io::ErrorKind::Other.into());
         }
@@ -41,6 +49,78 @@ impl Read for Giving<'_> {
         into[..n].copy_from_slice(&self.left[..n]);
         self.left = &self.left[n..];
         Ok(n)
+    }
+}
+
+impl<'a> Giving<'a> {
+    /// A reader that gives these bytes, at most so many a read.
+    pub fn all(left: &'a [u8], most: usize) -> Giving<'a> {
+        Giving {
+            left,
+            again: &[],
+            times: 0,
+            last: &[],
+            most,
+            fails: false,
+        }
+    }
+
+    /// A reader that gives these bytes in two pieces, of which the first has so many.
+    pub fn cut(bytes: &'a [u8], at: usize) -> Giving<'a>
+        requires { at ≤ length bytes.now }
+    {
+        Giving {
+            last: &bytes[at..],
+            ..Giving::all(&bytes[..at], bytes.len())
+        }
+    }
+}
+
+/// A reader that gives a piece a read, and fails where not just so many bytes were written before it
+/// as stand beside the piece. It ends behind them.
+#[derive(Drop)]
+pub struct Waiting<'a> {
+    /// The pieces that it has not given.
+    pub pieces: &'a [(&'a [u8], usize)],
+    /// How many bytes were written.
+    pub written: &'a Cell<usize>,
+}
+
+impl Read for Waiting<'_> {
+    fn read(&mut self, into: &mut [u8]) -> io::Result<usize> {
+        let [(piece, written), others @ ..] = self.pieces else {
+            return Ok(0);
+        };
+        if self.written.get() != *written {
+            return Err(io::ErrorKind::Other.into());
+        }
+        let n = piece.len().min(into.len());
+        into[..n].copy_from_slice(&piece[..n]);
+        self.pieces = others;
+        Ok(n)
+    }
+}
+
+/// A writer that keeps the bytes that it takes, and tells a reader how many they are.
+#[derive(Drop)]
+pub struct Telling<'a> {
+    /// The bytes that it has taken.
+    pub taken: Vec<u8>,
+    /// How many they are.
+    pub written: &'a Cell<usize>,
+}
+
+impl Write for Telling<'_> {
+    fn write(&mut self, bytes: &[u8]) -> io::Result<usize> {
+        if self.taken.extend_from_slice(bytes).is_err() {
+            return Err(io::ErrorKind::Other.into());
+        }
+        self.written.set(self.taken.len());
+        Ok(bytes.len())
+    }
+
+    fn flush(&mut self) -> io::Result<()> {
+        Ok(())
     }
 }
 
@@ -85,6 +165,7 @@ pub fn answer<R: Read + Drop, W: Write + Drop>(
     let output = ToWrite::new(writer);
     let (outcome, _input, output) = run(&mut meter, &catalog, limits, to, input, output);
     assert_eq!(rt; meter.held(), 0);
-    assert!(rt; meter.peak() <= bound(limits, Form::Binary, to));
+    let form = outcome.map_or(Form::Text, |summary| summary.form);
+    assert!(rt; meter.peak() <= bound(limits, form, to));
     (outcome, output.into_inner())
 }

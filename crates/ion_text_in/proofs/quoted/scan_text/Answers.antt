@@ -1,14 +1,32 @@
 use Rattle.std.proofs.Common.{◌≡◌, ◌<◌, ◌∙◌, ◌||◌, Bool, true, false, length, take, refl, sym, arith}
 use Rattle.std.specs.Str.{is_utf8}
-use Rattle.ion_text_in.specs.Quotes.{quote_of}
-use Rattle.ion_text_in.proofs.ScannedTexts.{text-shown, text-bad, text-over}
+use Rattle.ion_text_in.specs.Quotes.{quote_of, mark_of}
+use Rattle.ion_text_in.proofs.ScannedTexts.{text-shown, text-bad, text-over, ends-unclosed, stops-unclosed}
 use Rattle.ion_text_in.proofs.Utf8.{is_utf8-test}
-use Rattle.ion_text_in.proofs.quoted.scan_text.Goals.{else-not-in_clob-via-then-not-in_clob+else-not-is_text, else-not-in_clob-via-else-not-in_clob}
+use Rattle.ion_text_in.proofs.quoted.scan_text.Goals.{then-is_long-via-then-is_long, then-is_long-via-else-is_long+then-plain-bytes, then-is_long-via-else-is_long+else-plain-bytes+then-bytes-plain, else-not-in_clob-via-then-not-in_clob+else-not-is_text, else-not-in_clob-via-else-not-in_clob}
 use Rattle.ion_text_in.proofs.quoted.scan_text.Goals as goal
 
 either : (a b : Bool) → b ≡ true → (a || b) ≡ true
 either true b e = refl
 either false b e = e
+
+pub returns-then-is_long-clause-known : goal.returns-then-is_long-clause-known
+returns-then-is_long-clause-known c = λ _ short.
+    let mark = mark_of c.args.quote in
+    let bytes = c.args.bytes.now in
+    let n = c.plain_length-plain.result in
+    record {
+      count = n;
+      plain = c.plain_length-plain.ensures.plain;
+      ends = c.plain_length-plain.ensures.ends;
+      unclosed = elim c.then-is_long.branch [
+        | then-is_long-via-then-is_long w ↦ absurd (cc (short, c.is_long.ensures, w.if-is_long.true))
+        | then-is_long-via-else-is_long+then-plain-bytes w ↦ ends-unclosed mark bytes n w.if-plain-bytes.true
+        | then-is_long-via-else-is_long+else-plain-bytes+then-bytes-plain w ↦
+            let there : n < length bytes = omega (arith, c.plain_length-plain.ensures.within, w.if-plain-bytes.false) in
+            stops-unclosed mark bytes n there (λ e. w.if-bytes-plain.true (e ∙ sym w.mark.ensures))
+      ];
+    }
 
 pub returns-then-limit-plain-clause-shows : goal.returns-then-limit-plain-clause-shows
 returns-then-limit-plain-clause-shows c = λ place more.

@@ -35,6 +35,24 @@ returns-clause-ran g c action limits run =
       })
     ]
 
+pub returns-clause-file : goal.returns-clause-file
+returns-clause-file g c action limits name run =
+    elim c.match-read_words.branch [
+      | in-Ok-Help w ↦ let asks = rw (w.in-Ok-Help.field-0-is, c.as_slice.ensures.value) at w.in-Ok-Help.ensures.asks in elim (asks.0 (action, limits, Some name, run)) [ ]
+      | in-Ok-Usage w ↦ let asks = rw (w.in-Ok-Usage.field-0-is, c.as_slice.ensures.value) at w.in-Ok-Usage.ensures.asks in elim (asks.0 (action, limits, Some name, run)) [ ]
+      | in-Err w ↦ (
+        search rules,
+        inr (record {
+          some_words = rw c.as_slice.ensures.value at w.in-Err.ensures.some_words;
+          status_is = search rules;
+          memory = search rules;
+          input = search rules;
+          output = search rules;
+          said = search rules;
+        }),
+      )
+    ]
+
 pub returns-clause-other : goal.returns-clause-other
 returns-clause-other g c none =
     elim c.match-read_words.branch [

@@ -3,6 +3,7 @@ use Rattle.ion_meter.specs.Windows.{so_far, HasPrefix}
 use Rattle.ion_value.specs.Shares.{Charges}
 use Rattle.ion_value.proofs.Outcomes.{Walk}
 use Rattle.ion_symbols.specs.User.{IsReady, coming_to, owned_by, share_of}
+use Rattle.ion_transcode.proofs.Following.{Followed}
 use Rattle.ion_transcode.proofs.copy_items.copy_items.Given as goal
 
 abbrev pub invariant-items : goal.invariant-items
@@ -14,6 +15,7 @@ invariant-items g l =
     record {
       walk : Walk (w.stands l.writer) (w.puts limits) (w.refusal limits) (r.observable l.fn.reader.raw) (o.observable l.fn.sink.device) (r.opened l.reader.raw) l.values
           (coming_to r.reading l.fn.reader) (coming_to r.reading l.reader) (so_far o.written l.fn.sink) (so_far o.written l.sink);
+      followed : Followed (w.stands l.writer) (r.observable l.fn.reader.raw) (r.opened l.reader.raw) (coming_to r.reading l.fn.reader) (coming_to r.reading l.reader);
       read : r.observable l.reader.raw ↔ r.observable l.fn.reader.raw;
       written : o.observable l.sink.device ↔ o.observable l.fn.sink.device;
       prefix : o.observable l.fn.sink.device → HasPrefix (so_far o.written l.sink) (o.written l.sink.device);

@@ -1,0 +1,239 @@
+-- The headers that are missing stay right as one goes in, and as containers begin and values come.
+use Rattle.std.proofs.Common.{◌≡◌, ℕ, suc, ◌+◌, ◌-◌, ◌*◌, ◌^◌, ◌<◌, ◌≤◌, inl, inr, Bool, if◌then◌else◌, List, [], ◌∷◌, ◌++◌, length, map, take, drop, get_or, Option, None, refl, ap, sym, subst, ◌∙◌, arith, append_assoc, length-append, ne_eqb, suc-mul, lit<}
+use Rattle.std.specs.List.{AllByRecursion}
+use Rattle.std.proofs.lemmas.Bool.{cases_lt}
+use Rattle.std.proofs.lemmas.List.{length-take-le, length-drop}
+use Rattle.ion_meter.specs.Counts.{Counts, Grows, Shrinks}
+use Rattle.ion_meter.specs.Limits.{AreChecked}
+use Rattle.ion_meter.specs.declared.fault.Fault.{Fault}
+use Rattle.ion_meter.specs.declared.limits.Limits.{Limits}
+use Rattle.ion_value.specs.Number.{var_uint_octets}
+use Rattle.ion_value.specs.Shares.{Charges}
+use Rattle.ion_binary.specs.declared.headers.HeaderPlace.{HeaderPlace}
+use Rattle.ion_binary.specs.declared.open_value.OpenValue.{OpenValue}
+use Rattle.ion_binary.specs.Canonical.{header, headed, wrapped}
+use Rattle.ion_binary.specs.Counting.{ArePlaced, AreReached, IsCounted, beyond, counted_length, cut, place_of_header}
+use Rattle.ion_binary.specs.Held.{begun_at, counted_ids, headed_at, header_at, whole_at, wrapper_headers}
+use Rattle.ion_binary.specs.ItemOctets.{opening}
+use Rattle.ion_binary.specs.Opening.{CanStep, IsOpen, IsOpenTo, Stepped, wrapper_octets}
+use Rattle.ion_binary.specs.Places.{closed_length, header_size}
+use Rattle.ion_binary.proofs.CountedHeaders.{closed-counted, cut-counted, cut-length, reached-inner, reached-more}
+use Rattle.ion_binary.proofs.HeldMoves.{counted-some, wrapper-headers-some}
+
+pub placed-more : (n m : ℕ) (hs : List HeaderPlace) → n ≤ m → ArePlaced n hs → ArePlaced m hs
+placed-more n m [] le p = tt
+placed-more n m (h ∷ hs) le p = (omega (arith, p.0, le), p.1)
+
+pub put-length : (h : HeaderPlace) (octets : List ℕ) → h.place ≤ length octets → length (headed_at h octets) ≡ length octets + header_size (length octets - h.place)
+put-length h octets le =
+    let x : List ℕ = header h.code (length octets - h.place) in
+    let a : length (headed_at h octets) ≡ length (take h.place octets) + length (x ++ drop h.place octets) = length-append (take h.place octets) (x ++ drop h.place octets) in
+    let b : length (x ++ drop h.place octets) ≡ length x + length (drop h.place octets) = length-append x (drop h.place octets) in
+    let t : length (take h.place octets) ≡ h.place = length-take-le h.place octets le in
+    let d : length (drop h.place octets) ≡ length octets - h.place = length-drop h.place octets in
+    omega (arith, a, b, t, d, le)
+
+-- a header goes in, and is counted no more
+record IsPut (limits : Limits) (ns octets : List ℕ) (hs : List HeaderPlace) : Type 0 where
+  placed : ArePlaced (length octets) hs
+  counted : IsCounted ns (length octets) hs
+  fits : counted_length ns (length octets) hs ≤ limits.value
+
+is-put : (limits : Limits) (ns octets : List ℕ) (h : HeaderPlace) (hs : List HeaderPlace) → AreChecked limits
+    → ArePlaced (length octets) (h ∷ hs) → IsCounted ns (length octets) (h ∷ hs) → counted_length ns (length octets) (h ∷ hs) ≤ limits.value
+    → IsPut limits (cut (length hs) ns) (headed_at h octets) hs
+is-put limits ns octets h hs checked p i fits =
+    let small : counted_length ns (length octets) (h ∷ hs) < 2 ^ 35 = let v = checked.value in omega (arith, fits, v) in
+    let l = put-length h octets p.0 in
+    let P : ℕ → Type 0 = λ n. IsCounted (cut (length hs) ns) n hs in
+    let same = cut-length ns (length octets) h hs i p small in
+    record {
+      placed = placed-more h.place (length (headed_at h octets)) hs (omega (arith, l, p.0)) p.1;
+      counted = subst P (sym l) (cut-counted ns (length octets) h hs i p small);
+      fits = omega (arith, same, fits, l);
+    }
+
+pub innermost-open : {A : Type 0} (limits : Limits) (v w : OpenValue A) (h : HeaderPlace) (hs : List HeaderPlace) → AreChecked limits → IsOpen limits v
+    → v.headers ≡ h ∷ hs → w.headers ≡ hs → w.octets ≡ headed_at h v.octets → w.counts ≡ cut (length hs) v.counts → IsOpen limits w
+innermost-open limits v w h hs checked o eh ehs eo ec =
+    let A : List HeaderPlace → Type 0 = λ gs. ArePlaced (length v.octets) gs in
+    let B : List HeaderPlace → Type 0 = λ gs. IsCounted v.counts (length v.octets) gs in
+    let C : List HeaderPlace → Type 0 = λ gs. counted_length v.counts (length v.octets) gs ≤ limits.value in
+    let D : List HeaderPlace → Type 0 = λ gs. AllByRecursion (λ g. g.code < 16) gs in
+    let put = is-put limits v.counts v.octets h hs checked (subst A eh o.placed) (subst B eh o.counted) (subst C eh o.fits) in
+    let P : List HeaderPlace → Type 0 = λ gs. IsPut limits (cut (length hs) v.counts) (headed_at h v.octets) gs in
+    let Q : List ℕ → Type 0 = λ os. IsPut limits (cut (length hs) v.counts) os w.headers in
+    let R : List ℕ → Type 0 = λ ns. IsPut limits ns w.octets w.headers in
+    let here = subst R (sym ec) (subst Q (sym eo) (subst P (sym ehs) put)) in
+    let codes = subst D eh o.codes in
+    record { placed = here.placed; codes = subst D (sym ehs) codes.1; counted = here.counted; fits = here.fits }
+
+-- a step may follow another
+pub can-step-again : {A : Type 0} (limits : Limits) (v w : OpenValue A) (before after : Counts) → CanStep limits v before → Stepped limits v w before after None → CanStep limits w after
+can-step-again limits v w before after c s = record {
+  checked = c.checked;
+  within = s.within;
+  room = let h = s.charges.held in let r = c.room in omega (arith, h, r);
+  held = let h = s.charges.held in let r = c.held in omega (arith, h, r);
+  countable = let e = s.memory.counted (λ e. absurd (Prim.cc e)) in let r = c.countable in omega (arith, e, r);
+}
+
+-- two steps, one after the other
+pub stepped-then : {A : Type 0} (limits : Limits) (u v w : OpenValue A) (m n o : Counts) (fault : Option Fault)
+    → CanStep limits u m → Stepped limits u v m n None → Stepped limits v w n o fault → Stepped limits u w m o fault
+stepped-then limits u v w m n o fault c s t =
+    let same : n.refused ≡ m.refused = s.memory.counted (λ e. absurd (Prim.cc e)) in
+    record {
+      within = t.within;
+      memory = record {
+        memory = λ e. let r = t.memory.memory e in omega (arith, r, same);
+        counted = λ e. let r = t.memory.counted e in omega (arith, r, same);
+      };
+      alone = t.alone;
+      charges = record {
+        held = let a = s.charges.held in let b = t.charges.held in omega (arith, a, b);
+        share = t.charges.share;
+        peak =
+            let a = s.charges.peak in
+            let b = t.charges.peak in
+            let h = s.charges.held in
+            let r = c.held in
+            omega (arith, a, b, h, r);
+        rises = let a = s.charges.rises in let b = t.charges.rises in omega (arith, a, b);
+      };
+    }
+
+-- something is given back, and then something grows
+pub shrink-grow : (m n o : Counts) (less more before after most : ℕ) → Shrinks m n less → Grows n o more → before + more ≡ after + less → before ≤ m.held → after ≤ most
+    → Charges m o before after most
+shrink-grow m n o less more before after most s g e held share =
+    let sh = s.held in
+    let sp = s.peak in
+    let gh = g.held in
+    let gp = g.peak in
+    record { held = omega (arith, sh, gh, e, held); share = share; peak = omega (arith, sh, sp, gh, gp, e, held, share); rises = omega (arith, sp, gp) }
+
+-- ---- the closed size
+
+beyond-few : (ns : List ℕ) (k total : ℕ) → ((c : ℕ) → get_or ns c 0 ≤ total) → beyond ns k ≤ length ns * total
+beyond-few [] k total h = omega arith
+beyond-few (n ∷ ns) k total h =
+    let r = beyond-few ns k total (λ c. h (suc c)) in
+    let f : n ≤ total = h 0 in
+    omega (arith, r, f, suc-mul (length ns) total)
+
+counted-small : (ns : List ℕ) (n : ℕ) (hs : List HeaderPlace) → AreReached ns n hs → length hs ≤ 2 ^ 20 → n ≤ 2 ^ 32 → counted_length ns n hs < 2 ^ 35
+counted-small ns n hs r few short =
+    let b = beyond-few ns 0 (length hs) r.within in
+    let five : length ns * length hs ≡ 5 * length hs = ap (λ k. k * length hs) r.five in
+    omega (arith, b, five, few, short)
+
+pub size-counted : (ns : List ℕ) (n : ℕ) (hs : List HeaderPlace) → IsCounted ns n hs → ArePlaced n hs → length hs ≤ 2 ^ 20 → n ≤ 2 ^ 32
+    → closed_length n (map place_of_header hs) ≡ counted_length ns n hs
+size-counted ns n hs i p few short = closed-counted ns n hs i p (counted-small ns n hs i.reached few short)
+
+pub more-closed : (n : ℕ) (hs : List HeaderPlace) → n ≤ closed_length n (map place_of_header hs)
+more-closed n hs = omega arith
+
+-- ---- a scalar comes
+
+wrapped-some : (xs x : List ℕ) → 0 < length xs → wrapped xs x ≡ headed 14 (xs ++ x)
+wrapped-some [] x some = absurd (omega (arith, some))
+wrapped-some (a ∷ xs) x some = refl
+
+wrapper-around : (d x : List ℕ) → wrapper_octets (length d) (length x) ++ (d ++ x) ≡ wrapped (counted_ids d) x
+wrapper-around [] x = refl
+wrapper-around (a ∷ m) x =
+    let d : List ℕ = a ∷ m in
+    let v : List ℕ = var_uint_octets (length d) in
+    let long : length ((v ++ d) ++ x) ≡ length v + (length d + length x) = let p = length-append (v ++ d) x in let q = length-append v d in omega (arith, p, q) in
+    let some : 0 < length (v ++ d) = let q = length-append v d in omega (arith, q) in
+    ap (λ (b : Bool). (if b then [] else opening 14 v (length d + length x)) ++ (d ++ x)) (ne_eqb (length d) 0 (λ e. absurd (omega (arith, e))))
+    ∙ (append_assoc (header 14 (length v + (length d + length x))) v (d ++ x)
+    ∙ (ap (λ (y : List ℕ). header 14 (length v + (length d + length x)) ++ y) (sym (append_assoc v d x))
+    ∙ (ap (λ n. header 14 n ++ ((v ++ d) ++ x)) (sym long) ∙ sym (wrapped-some (v ++ d) x some))))
+
+pub whole-octets : (place : ℕ) (o x : List ℕ) → place ≤ length o
+    → (take place o ++ (wrapper_octets (length o - place) (length x) ++ drop place o)) ++ x ≡ whole_at place o x
+whole-octets place o x le =
+    let w : List ℕ = wrapper_octets (length o - place) (length x) in
+    append_assoc (take place o) (w ++ drop place o) x
+    ∙ (ap (λ (y : List ℕ). take place o ++ y) (append_assoc w (drop place o) x)
+    ∙ (ap (λ n. take place o ++ (wrapper_octets n (length x) ++ (drop place o ++ x))) (sym (length-drop place o))
+    ∙ ap (λ (y : List ℕ). take place o ++ y) (wrapper-around (drop place o) x)))
+
+pub whole-length : (place : ℕ) (o x : List ℕ) → place ≤ length o
+    → length (whole_at place o x) ≡ length o + length (wrapper_octets (length o - place) (length x)) + length x
+whole-length place o x le =
+    let w : List ℕ = wrapper_octets (length o - place) (length x) in
+    let e : length ((take place o ++ (w ++ drop place o)) ++ x) ≡ length (whole_at place o x) = ap (λ (y : List ℕ). length y) (whole-octets place o x le) in
+    let a = length-append (take place o ++ (w ++ drop place o)) x in
+    let b = length-append (take place o) (w ++ drop place o) in
+    let d = length-append w (drop place o) in
+    let t : length (take place o) ≡ place = length-take-le place o le in
+    let r : length (drop place o) ≡ length o - place = length-drop place o in
+    omega (arith, e, a, b, d, t, r, le)
+
+-- the headers are right where more octets are there, and the counts with them
+pub opened : {A : Type 0} (limits : Limits) (v w : OpenValue A) (place n : ℕ) → IsOpenTo v place → place ≤ n → length w.octets ≡ n → w.headers ≡ v.headers
+    → IsCounted w.counts n w.headers → counted_length w.counts n w.headers ≤ limits.value → IsOpen limits w
+opened limits v w place n o le long same i fits =
+    let A : List HeaderPlace → Type 0 = λ hs. ArePlaced n hs in
+    let B : List HeaderPlace → Type 0 = λ hs. AllByRecursion (λ h. h.code < 16) hs in
+    let P : ℕ → Type 0 = λ m. ArePlaced m w.headers in
+    let Q : ℕ → Type 0 = λ m. IsCounted w.counts m w.headers in
+    record {
+      placed = subst P (sym long) (subst A (sym same) (placed-more place n v.headers le o.placed));
+      codes = subst B (sym same) o.codes;
+      counted = subst Q (sym long) i;
+      fits = omega (arith, long, fits);
+    }
+
+-- ---- a container begins
+
+pub begun-octets : (place : ℕ) (o : List ℕ) → place < length o → begun_at place o ≡ take place o ++ (var_uint_octets (length o - place) ++ drop place o)
+begun-octets place o less =
+    let r : length (drop place o) ≡ length o - place = length-drop place o in
+    ap (λ (y : List ℕ). take place o ++ y) (counted-some (drop place o) (omega (arith, r, less)) ∙ ap (λ n. var_uint_octets n ++ drop place o) r)
+
+pub begun-length : (place : ℕ) (o : List ℕ) → place < length o → length (begun_at place o) ≡ length o + length (var_uint_octets (length o - place))
+begun-length place o less =
+    let v : List ℕ = var_uint_octets (length o - place) in
+    let e : length (begun_at place o) ≡ length (take place o ++ (v ++ drop place o)) = ap (λ (y : List ℕ). length y) (begun-octets place o less) in
+    let b = length-append (take place o) (v ++ drop place o) in
+    let d = length-append v (drop place o) in
+    let t : length (take place o) ≡ place = length-take-le place o (omega (arith, less)) in
+    let r : length (drop place o) ≡ length o - place = length-drop place o in
+    omega (arith, e, b, d, t, r, less)
+
+pub wrapper-begun : (place : ℕ) (o : List ℕ) → place < length o → wrapper_headers (drop place o) place ≡ header_at place 14 ∷ []
+wrapper-begun place o less = let r : length (drop place o) ≡ length o - place = length-drop place o in wrapper-headers-some (drop place o) place (omega (arith, r, less))
+
+-- a wrapper's header, and its own
+pub begun-reached : (ns d : List ℕ) (place n : ℕ) (h : HeaderPlace) (hs : List HeaderPlace) → AreReached ns place hs → place ≤ n → AreReached ns n (h ∷ (wrapper_headers d place ++ hs))
+begun-reached ns [] place n h hs r le = reached-inner ns n h hs (reached-more ns place n hs le r)
+begun-reached ns (a ∷ d) place n h hs r le = reached-inner ns n h (header_at place 14 ∷ hs) (reached-inner ns n (header_at place 14) hs (reached-more ns place n hs le r))
+
+pub begun-placed : (d : List ℕ) (place n : ℕ) (h : HeaderPlace) (hs : List HeaderPlace) → ArePlaced place hs → h.place ≤ n → place ≤ h.place → ArePlaced n (h ∷ (wrapper_headers d place ++ hs))
+begun-placed [] place n h hs p le more = (le, placed-more place h.place hs more p)
+begun-placed (a ∷ d) place n h hs p le more = (le, (more, p))
+
+pub begun-few : (d : List ℕ) (place : ℕ) (hs : List HeaderPlace) → length (wrapper_headers d place ++ hs) ≤ suc (length hs)
+begun-few [] place hs = omega arith
+begun-few (a ∷ d) place hs = omega arith
+
+pub begun-codes : (d : List ℕ) (place : ℕ) (h : HeaderPlace) (hs : List HeaderPlace) → h.code < 16 → AllByRecursion (λ g. g.code < 16) hs
+    → AllByRecursion (λ g. g.code < 16) (h ∷ (wrapper_headers d place ++ hs))
+begun-codes [] place h hs small codes = (small, codes)
+begun-codes (a ∷ d) place h hs small codes = (small, (lit< tt, codes))
+
+-- no octet goes away as a container begins
+pub begun-more : (place : ℕ) (o : List ℕ) → place ≤ length o → length o ≤ length (begun_at place o)
+begun-more place o le =
+    elim (cases_lt place (length o)) [
+      | inl less ↦ let l = begun-length place o less in omega (arith, l)
+      | inr all ↦
+          let a : length (begun_at place o) ≡ length (take place o) + length (counted_ids (drop place o)) = length-append (take place o) (counted_ids (drop place o)) in
+          let t : length (take place o) ≡ place = length-take-le place o le in
+          omega (arith, a, t, all)
+    ]

@@ -1,0 +1,64 @@
+use Rattle.std.proofs.Common.{◌≡◌, ◌<◌, ◌≤◌, ◌++◌, ◌∷◌, ℕ, List, length, drop, sym, ap, subst, ◌∙◌, arith, rules}
+use Rattle.ion_binary.specs.declared.headers.HeaderPlace.{HeaderPlace}
+use Rattle.ion_binary.specs.Counting.{AreReached, IsCounted, counted_length}
+use Rattle.ion_binary.specs.Grammar.{type_code}
+use Rattle.ion_binary.specs.Held.{begun_at, begun_headers, header_at, wrapper_headers}
+use Rattle.ion_binary.proofs.OpenSteps.{begun-few, begun-more, begun-placed, begun-reached, size-counted}
+use Rattle.ion_binary.proofs.open_value.OpenValue.begin.Goals as goal
+
+pub closed_size-requires-clause-reached : goal.closed_size-requires-clause-reached
+closed_size-requires-clause-reached g c =
+    let o : List ℕ = c.args.self.now.octets in
+    let place : ℕ = c.args.place in
+    let hs : List HeaderPlace = c.args.self.now.headers in
+    let within = c.requires.open.within in
+    let octets : c.begin_wrapper.new.self.octets ≡ begun_at place o = search rules in
+    let counts : c.begin_wrapper.new.self.counts ≡ c.args.self.now.counts = search rules in
+    let n : length (begun_at place o) ≡ length c.as_slice-2.result.now = ap (λ (os : List ℕ). length os) (sym (c.as_slice-2.ensures ∙ octets)) in
+    let pushed : c.push.new.self ≡ header_at (length c.as_slice.result.now) c.type_code.result ∷ c.begin_wrapper.new.self.headers = search rules in
+    let wrapped : c.begin_wrapper.new.self.headers ≡ wrapper_headers (drop place o) place ++ hs = search rules in
+    let h : HeaderPlace = header_at (length c.as_slice.result.now) c.type_code.result in
+    let headers : c.push.new.self ≡ h ∷ (wrapper_headers (drop place o) place ++ hs) = pushed ∙ ap (λ (gs : List HeaderPlace). h ∷ gs) wrapped in
+    let more = begun-more place o within in
+    let r = begun-reached c.args.self.now.counts (drop place o) place (length c.as_slice-2.result.now) h hs c.requires.open.reached (omega (arith, within, more, n)) in
+    let P : List ℕ → Type 0 = λ ns. AreReached ns (length c.as_slice-2.result.now) c.push.new.self in
+    let Q : List HeaderPlace → Type 0 = λ gs. AreReached c.args.self.now.counts (length c.as_slice-2.result.now) gs in
+    subst P (sym counts) (subst Q (sym headers) r)
+
+pub returns-then-closed_size-limits-clause-over : goal.returns-then-closed_size-limits-clause-over
+returns-then-closed_size-limits-clause-over g c is =
+    let o : List ℕ = c.args.self.now.octets in
+    let place : ℕ = c.args.place in
+    let hs : List HeaderPlace = c.args.self.now.headers in
+    let within = c.requires.open.within in
+    let octets : c.begin_wrapper.new.self.octets ≡ begun_at place o = search rules in
+    let n : length c.as_slice-2.result.now ≡ length (begun_at place o) = ap (λ (os : List ℕ). length os) (c.as_slice-2.ensures ∙ octets) in
+    let m : length c.as_slice.result.now ≡ length (begun_at place o) = ap (λ (os : List ℕ). length os) (c.as_slice.ensures ∙ octets) in
+    let pushed : c.push.new.self ≡ header_at (length c.as_slice.result.now) c.type_code.result ∷ c.begin_wrapper.new.self.headers = search rules in
+    let wrapped : c.begin_wrapper.new.self.headers ≡ wrapper_headers (drop place o) place ++ hs = search rules in
+    let headers : c.push.new.self ≡ begun_headers place o c.args.kind hs =
+    pushed
+    ∙ (ap (λ (gs : List HeaderPlace). header_at (length c.as_slice.result.now) c.type_code.result ∷ gs) wrapped
+    ∙ (ap (λ k. header_at k c.type_code.result ∷ (wrapper_headers (drop place o) place ++ hs)) m
+    ∙ ap (λ k. header_at (length (begun_at place o)) k ∷ (wrapper_headers (drop place o) place ++ hs)) c.type_code.ensures)) in
+    let more = begun-more place o within in
+    let ns : List ℕ = c.closed_size.new.self.counts in
+    let same : c.closed_size.new.self.headers ≡ begun_headers place o c.args.kind hs = c.closed_size.ensures.headers ∙ headers in
+    let P : List HeaderPlace → Type 0 = λ gs. IsCounted ns (length c.as_slice-2.result.now) gs in
+    let Q : ℕ → Type 0 = λ k. IsCounted ns k (begun_headers place o c.args.kind hs) in
+    let i : IsCounted ns (length (begun_at place o)) (begun_headers place o c.args.kind hs) = subst Q n (subst P same c.closed_size.ensures.counted) in
+    let p = begun-placed (drop place o) place (length (begun_at place o)) (header_at (length (begun_at place o)) (type_code c.args.kind)) hs c.requires.open.placed (omega arith) (omega (arith, within, more)) in
+    let few = begun-few (drop place o) place hs in
+    let deep = c.requires.deep in
+    let depth = c.requires.can_step.checked.depth in
+    let value = c.requires.can_step.checked.value in
+    let short : length (begun_at place o) ≤ c.args.limits.value =
+    let b : length c.begin_wrapper.new.self.octets ≡ length (begun_at place o) = ap (λ (os : List ℕ). length os) octets in
+    let w = c.begin_wrapper.ensures.stepped.within.octets in
+    omega (arith, b, w) in
+    let s = size-counted ns (length (begun_at place o)) (begun_headers place o c.args.kind hs) i p (omega (arith, few, deep, depth)) (omega (arith, short, value)) in
+    let t : c.args.limits.value < c.closed_size.result = c.if-closed_size-limits.true in
+    let size = c.closed_size.ensures.size in
+    let sized : counted_length ns (length c.as_slice-2.result.now) c.closed_size.new.self.headers ≡ counted_length ns (length (begun_at place o)) (begun_headers place o c.args.kind hs) =
+    ap (counted_length ns (length c.as_slice-2.result.now)) same ∙ ap (λ k. counted_length ns k (begun_headers place o c.args.kind hs)) n in
+    omega (arith, t, size, sized, s)

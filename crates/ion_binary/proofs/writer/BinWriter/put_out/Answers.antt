@@ -1,0 +1,59 @@
+use Rattle.std.proofs.Common.{◌≡◌, ◌≤◌, ◌<◌, ◌^◌, ℕ, List, length, refl, ap, arith, rules}
+use Rattle.ion_binary.specs.Writer.{held_in}
+use Rattle.ion_binary.proofs.DeclarationOctets.{few-texts}
+use Rattle.ion_binary.proofs.WriterSteps.{none-open, puts-nothing}
+use Rattle.ion_binary.proofs.writer.BinWriter.put_out.Goals as goal
+
+pub returns-then-is_open-clause-puts : goal.returns-then-is_open-clause-puts
+returns-then-is_open-clause-puts g c =
+    let e = c.len-is_open.ensures in
+    let t : 0 < c.len-is_open.result = c.if-is_open.true in
+    puts-nothing g.O.Output c.args.sink.now tt (held_in c.args.self.now) c.args.self.now.open_value.headers c.args.self.now.open_value.octets (omega (arith, e, t))
+
+pub put_value-requires-clause-whole : goal.put_value-requires-clause-whole
+put_value-requires-clause-whole g c =
+    let e = c.len-is_open.ensures in
+    let t : c.len-is_open.result ≤ 0 = c.if-is_open.false in
+    none-open c.args.self.now.open_value.headers (omega (arith, e, t))
+
+pub overflow_cast-self : goal.overflow_cast-self
+overflow_cast-self g c =
+    let e = c.len.ensures in
+    let t : length c.new_since.result ≡ length c.args.self.now.symbols.texts = ap (λ (ts : List (List ℕ)). length ts) c.new_since.ensures in
+    let few = few-texts c.args.self.now.symbols.texts in
+    let share = c.requires.can_put.sound.share in
+    let symbols = c.requires.can_put.sound.checked.symbols in
+    let small : c.len.result < 2 ^ 32 = omega (arith, e, t, few, share, symbols) in
+    search (rules, small)
+
+pub returns-clause-taken : goal.returns-clause-taken
+returns-clause-taken g c =
+    let e = c.len.ensures in
+    let t : length c.new_since.result ≡ length c.args.self.now.symbols.texts = ap (λ (ts : List (List ℕ)). length ts) c.new_since.ensures in
+    let few = few-texts c.args.self.now.symbols.texts in
+    let sound = c.requires.can_put.sound in
+    let share = sound.share in
+    let symbols = sound.checked.symbols in
+    let b : length c.clear.new.self ≡ 0 = ap (λ (os : List ℕ). length os) c.clear.ensures.bytes in
+    let held = c.requires.can_put.held in
+    let ch = c.clear.ensures.cost.held in
+    let cp = c.clear.ensures.cost.peak in
+    let headers = sound.within.headers in
+    record {
+      sound = record {
+        checked = sound.checked;
+        within = record { octets = omega (arith, b); headers = headers };
+        limit = sound.limit;
+        share = share;
+        few = omega (arith, e, t, few, share, symbols);
+      };
+      limits = refl;
+      failed = refl;
+      memory = record { memory = λ x. absurd (Prim.cc x); counted = λ x. c.clear.ensures.cost.refused };
+      charges = record {
+        held = omega (arith, ch, b, held);
+        share = omega (arith, b, share, headers);
+        peak = omega (arith, cp);
+        rises = omega (arith, cp);
+      };
+    }

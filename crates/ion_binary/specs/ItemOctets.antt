@@ -1,0 +1,61 @@
+-- What contracts see of the scalars and the declarations that are written.
+use Rattle.std.specs.Prelude.{ℕ, ◌+◌, List, [], ◌∷◌, ◌++◌, length, Option, Some, None, ⊤}
+use Rattle.std.specs.List.{flat_map}
+use Rattle.ion_value.specs.declared.item.Head.{Head as CodeHead}
+use Rattle.ion_value.specs.Items.{raw_head}
+use Rattle.ion_value.specs.Standing.{InRange}
+use Rattle.ion_value.specs.Value as value
+use Rattle.ion_value.specs.Value.{UserSymbol, user_symbol_at, Scalar, Head, map_head}
+use Rattle.ion_binary.specs.Canonical.{header, headed, scalar_octets}
+
+-- ---- scalars
+
+-- the head of an item as a user knows it
+abbrev pub user_head : CodeHead → Head UserSymbol
+user_head head = map_head user_symbol_at (raw_head head)
+
+-- the octets of a scalar, and none of other heads
+abbrev pub head_octets : (UserSymbol → ℕ) → Head UserSymbol → List ℕ
+head_octets ids (value.whole body) = scalar_octets ids body
+head_octets ids (value.begin kind) = []
+head_octets ids value.end = []
+head_octets ids value.marker = []
+
+-- the id of a symbol value, and 0 of other heads
+abbrev pub scalar_name : (UserSymbol → ℕ) → Scalar UserSymbol → ℕ
+scalar_name ids (value.symbol s) = ids s
+scalar_name ids body = 0
+
+abbrev pub head_name : (UserSymbol → ℕ) → Head UserSymbol → ℕ
+head_name ids (value.whole body) = scalar_name ids body
+head_name ids (value.begin kind) = 0
+head_name ids value.end = 0
+head_name ids value.marker = 0
+
+-- a scalar's numbers are those of this library
+abbrev pub HeadInRange : {S : Type 0} → Head S → Type 0
+HeadInRange (value.whole body) = InRange body
+HeadInRange (value.begin kind) = ⊤
+HeadInRange value.end = ⊤
+HeadInRange value.marker = ⊤
+
+-- ---- what a body begins with
+
+-- the header of a body that begins with these octets and has so many more, and these octets
+abbrev pub opening : ℕ → List ℕ → ℕ → List ℕ
+opening code inside more = header code (length inside + more) ++ inside
+
+-- ---- declarations
+
+-- the strings of the texts that are declared
+abbrev pub strings_octets : List (List ℕ) → List ℕ
+strings_octets texts = flat_map (λ t. headed 8 t) texts
+
+abbrev pub next_string : Option (List ℕ) → List ℕ
+next_string None = []
+next_string (Some t) = headed 8 t
+
+-- what stands before strings of so many octets: the annotation `$ion_symbol_table`, the field `imports` with that symbol, and the field
+-- `symbols`, each behind its header
+abbrev pub declaration_front : ℕ → List ℕ
+declaration_front n = opening 14 (129 ∷ 131 ∷ opening 13 (134 ∷ 113 ∷ 3 ∷ 135 ∷ opening 11 [] n) n) n

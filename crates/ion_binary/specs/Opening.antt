@@ -1,0 +1,80 @@
+-- What contracts see of the value at top level that a writer has open.
+use Rattle.std.specs.Prelude.{◌≡◌, ℕ, List, [], ◌++◌, nat_eq, if◌then◌else◌, None, ◌+◌, ◌-◌, ◌*◌, ◌^◌, ◌<◌, ◌≤◌, length, Option, Some}
+use Rattle.std.specs.List.{AllByRecursion}
+use Rattle.ion_meter.specs.Counts.{Counts}
+use Rattle.ion_meter.specs.Limits.{AreChecked}
+use Rattle.ion_meter.specs.declared.fault.Fault.{Fault}
+use Rattle.ion_meter.specs.declared.fault.Fault.TheVariants.{Memory}
+use Rattle.ion_meter.specs.declared.limits.Limits.{Limits}
+use Rattle.ion_value.specs.Shares.{Charges, MemoryCauses}
+use Rattle.ion_binary.specs.declared.open_value.OpenValue.{OpenValue}
+use Rattle.ion_value.specs.Number.{var_uint_octets}
+use Rattle.ion_value.specs.Standing.{InRange}
+use Rattle.ion_value.specs.Value as value
+use Rattle.ion_value.specs.Value.{Head, Item}
+use Rattle.ion_binary.specs.declared.scalar.Spelled.{Spelled}
+use Rattle.ion_binary.specs.ItemOctets.{opening}
+use Rattle.ion_binary.specs.Counting.{ArePlaced, AreReached, IsCounted, counted_length}
+
+-- the counted bytes that it holds, and the most that it may
+abbrev pub open_cost : {A : Type 0} → OpenValue A → ℕ
+open_cost v = 8 * length v.headers + length v.octets
+
+abbrev pub open_most : Limits → ℕ
+open_most limits = 16 * limits.depth + limits.value
+
+-- it stays within its limits
+pub record IsWithin {A : Type 0} (limits : Limits) (v : OpenValue A) : Type 0 where
+  pub octets : length v.octets ≤ limits.value
+  pub headers : length v.headers ≤ 2 * limits.depth
+
+-- the headers that are missing are right, and the counts of them
+pub record IsOpen {A : Type 0} (limits : Limits) (v : OpenValue A) : Type 0 where
+  pub placed : ArePlaced (length v.octets) v.headers
+  pub codes : AllByRecursion (λ h. h.code < 16) v.headers
+  pub counted : IsCounted v.counts (length v.octets) v.headers
+  pub fits : counted_length v.counts (length v.octets) v.headers ≤ limits.value
+
+-- the same before a place behind which there are more octets
+pub record IsOpenTo {A : Type 0} (v : OpenValue A) (place : ℕ) : Type 0 where
+  pub within : place ≤ length v.octets
+  pub placed : ArePlaced place v.headers
+  pub codes : AllByRecursion (λ h. h.code < 16) v.headers
+  pub reached : AreReached v.counts place v.headers
+
+-- a call may change it
+pub record CanStep {A : Type 0} (limits : Limits) (v : OpenValue A) (meter : Counts) : Type 0 where
+  pub checked : AreChecked limits
+  pub within : IsWithin limits v
+  pub room : meter.held ≤ 2 ^ 62 + 2 ^ 32 + open_cost v
+  pub held : open_cost v ≤ meter.held
+  pub countable : meter.refused < 2 ^ 64 - 1
+
+-- what a call keeps and moves whatever it answers; its one fault is Memory
+pub record Stepped {A : Type 0} (limits : Limits) (old new : OpenValue A) (before after : Counts) (fault : Option Fault) : Type 0 where
+  pub within : IsWithin limits new
+  pub memory : MemoryCauses fault before after
+  pub alone : (f : Fault) → fault ≡ Some f → f ≡ Memory
+  pub charges : Charges before after (open_cost old) (open_cost new) (open_most limits)
+
+-- the octets of a scalar, some of which are lent
+abbrev pub spelled_octets : Spelled → List ℕ
+spelled_octets s = s.front.items ++ s.lent.now
+
+-- what stands before the ids of annotations, and a value of so many octets behind them
+abbrev pub wrapper_octets : ℕ → ℕ → List ℕ
+wrapper_octets ids value = if nat_eq ids 0 then [] else opening 14 (var_uint_octets ids) (ids + value)
+
+-- an item may come behind these octets
+abbrev pub MayAdd : {A S P : Type 0} → Limits → OpenValue A → Head S → Item S P → Type 0
+MayAdd limits v (value.whole body) i = InRange body
+MayAdd limits v (value.begin kind) i = length v.headers + 2 ≤ 2 * limits.depth
+MayAdd limits v value.end i = (i.field ≡ None) × (i.annotations ≡ [])
+MayAdd limits v value.marker i = ⊥
+
+-- a head may come where what stands before it is there up to a place
+abbrev pub MayFollow : {A S : Type 0} → Limits → OpenValue A → ℕ → Head S → Type 0
+MayFollow limits v place (value.whole body) = IsOpenTo v place × InRange body
+MayFollow limits v place (value.begin kind) = IsOpenTo v place × (length v.headers + 2 ≤ 2 * limits.depth)
+MayFollow limits v place value.end = IsOpen limits v
+MayFollow limits v place value.marker = ⊥

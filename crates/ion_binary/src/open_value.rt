@@ -1,0 +1,352 @@
+//! The value at top level that is being written.
+ghost use Rattle.std.specs.Prelude.{◌≡◌, ◌+◌, ◌-◌, ◌*◌, ◌^◌, ◌<◌, ◌≤◌, ℕ, true, false, [], ◌++◌, length, drop, Ok, OnOk};
+ghost use Rattle.ion_meter.specs.Counts.{Shrinks};
+ghost use Rattle.ion_meter.specs.declared.limits.Limits.{Limits};
+ghost use Rattle.ion_value.specs.Items.{raw_head};
+ghost use Rattle.ion_value.specs.Shares.{fault_of};
+ghost use Rattle.ion_value.specs.Value.{UserSymbol};
+ghost use Rattle.ion_binary.specs.Counting.{IsCounted, IsCountedTo, AreReached, content_around, counted_length, cut, sizes_from};
+ghost use Rattle.ion_binary.specs.Grammar.{type_code};
+ghost use Rattle.ion_binary.specs.Held.{begun_at, begun_headers, closed_in, headers_around, innermost_in, moved_headers, moved_octets, size_of, whole_at, wrapper_headers};
+ghost use Rattle.ion_binary.specs.ItemOctets.{head_name, user_head};
+ghost use Rattle.ion_binary.specs.Opening.{CanStep, IsOpen, IsOpenTo, MayFollow, Stepped, open_cost, spelled_octets, wrapper_octets};
+
+use crate::front::Front;
+use crate::header::header;
+use crate::headers::{HeaderPlace, Headers};
+use crate::opening::{LONGEST, opening};
+use crate::scalar::{Spelled, spell};
+use arrayvec::ArrayVec;
+use ion_meter::buf::Buf;
+use ion_meter::fault::Fault;
+use ion_meter::limits::Limits;
+use ion_meter::meter::Meter;
+use ion_value::ion_type::Kind;
+use ion_value::item::Head;
+use ion_value::var::var_uint_write;
+use std::alloc::Allocator;
+
+/// From so many octets on a header has two octets, three, four, five and six.
+const THRESHOLDS: [u64; 5] = [14, 128, 16_384, 2_097_152, 268_435_456];
+
+/// The type code of annotations.
+const WRAPPER: u8 = 14;
+
+/// The value at top level that is open: its octets without the headers of its open containers, and
+/// these headers.
+///
+/// A header is of all that stands behind its place, so the outermost are the longest: it is enough
+/// to count how many of them have two octets or more, three or more, and so on.
+#[derive(Drop)]
+pub(crate) struct OpenValue<A: Allocator + Copy> {
+    pub octets: Buf<A>,
+    pub headers: Headers<A>,
+    pub counts: [u32; 5],
+}
+
+impl<A: Allocator + Copy> OpenValue<A> {
+    /// Nothing is open. It takes no memory.
+    pub fn new(meter: &Meter<A>) -> OpenValue<A>
+        ensures nothing { (result.octets ≡ []) × (result.headers ≡ []) }
+        ensures open { (limits : Limits) → IsOpen limits result }
+    {
+        OpenValue {
+            octets: Buf::new(meter),
+            headers: Headers::new(meter),
+            counts: [0; 5],
+        }
+    }
+
+    /// Gives all back.
+    pub fn release(self, meter: &mut Meter<A>)
+        requires { open_cost self ≤ meter.old.held }
+        ensures { Shrinks meter.old meter.new (open_cost self) }
+    {
+        let OpenValue {
+            octets,
+            headers,
+            counts: _,
+        } = self;
+        octets.release(meter);
+        headers.release(meter);
+    }
+
+    // The octets of the headers that `k` or more others are around.
+    fn sizes_from(&self, k: usize) -> u64
+        requires few { length self.now.headers ≤ 2 ^ 31 }
+        ensures sizes { result ≡ sizes_from self.now.counts (length self.now.headers) k }
+        ensures small { result ≤ 2 ^ 35 }
+    {
+        let mut sizes = self.headers.len().saturating_sub(k) as u64;
+        for count in &self.counts {
+            sizes += (*count as usize).saturating_sub(k) as u64;
+        }
+        sizes
+    }
+
+    // The number of octets that the header is of that `k` others are around, where `n` octets are
+    // there.
+    fn content(&self, k: usize, n: u64) -> u64
+        requires few { length self.now.headers ≤ 2 ^ 31 }
+        requires some { k < length self.now.headers }
+        requires short { n ≤ 2 ^ 32 }
+        ensures { result ≡ content_around self.now.counts n self.now.headers k }
+    {
+        n.saturating_sub(self.headers.place(k) as u64) + self.sizes_from(k + 1)
+    }
+
+    // Counts the headers that reach a threshold where `n` octets are there.
+    fn raise(&mut self, level: usize, n: u64)
+        requires level { level < 5 }
+        requires counted { IsCountedTo level self.old.counts n self.old.headers }
+        requires few { length self.old.headers ≤ 2 ^ 31 }
+        requires short { n ≤ 2 ^ 32 }
+        ensures counted { IsCountedTo (level + 1) self.new.counts n self.new.headers }
+        ensures headers { self.new.headers ≡ self.old.headers }
+        ensures octets { self.new.octets ≡ self.old.octets }
+    {
+        let most = match level.checked_sub(1) {
+            None => self.headers.len() as u32,
+            Some(before) => self.counts[before],
+        };
+        'raising: while self.counts[level] < most {
+            if self.content(self.counts[level] as usize, n) < THRESHOLDS[level] {
+                return;
+            }
+            self.counts[level] += 1;
+        }
+    }
+
+    // The closed size where `n` octets are there, by which headers may be longer.
+    fn closed_size(&mut self, n: u64) -> u64
+        requires reached { AreReached self.old.counts n self.old.headers }
+        requires few { length self.old.headers ≤ 2 ^ 31 }
+        requires short { n ≤ 2 ^ 32 }
+        ensures counted { IsCounted self.new.counts n self.new.headers }
+        ensures size { result ≡ counted_length self.new.counts n self.new.headers }
+        ensures headers { self.new.headers ≡ self.old.headers }
+        ensures octets { self.new.octets ≡ self.old.octets }
+    {
+        for level in 0..5 {
+            self.raise(level, n);
+        }
+        n + self.sizes_from(0)
+    }
+
+    // No more headers are counted than there are.
+    fn cut(&mut self)
+        requires few { length self.old.headers ≤ 2 ^ 31 }
+        ensures counts { self.new.counts ≡ cut (length self.old.headers) self.old.counts }
+        ensures headers { self.new.headers ≡ self.old.headers }
+        ensures octets { self.new.octets ≡ self.old.octets }
+    {
+        let total = self.headers.len() as u32;
+        for count in &mut self.counts {
+            *count = (*count).min(total);
+        }
+    }
+
+    // Puts the innermost header in, if any is missing.
+    fn put_innermost(&mut self, meter: &mut Meter<A>, limits: Limits) -> Result<(), Fault>
+        requires can_step { CanStep limits self.old meter.old }
+        requires open { IsOpen limits self.old }
+        ensures octets { OnOk result
+            (self.new.octets ≡ innermost_in self.old.octets self.old.headers) }
+        ensures headers { OnOk result (self.new.headers ≡ drop 1 self.old.headers) }
+        ensures open { OnOk result (IsOpen limits self.new) }
+        ensures stepped { Stepped limits self.old self.new meter.old meter.new (fault_of result) }
+    {
+        let Some(innermost) = self.headers.pop(meter) else {
+            return Ok(());
+        };
+        let place = innermost.place as usize;
+        let octets = header(
+            innermost.code,
+            (self.octets.as_slice().len() - place) as u64,
+        );
+        self.octets.insert_slice(meter, place, octets.as_slice())?;
+        self.cut();
+        Ok(())
+    }
+
+    /// Closes the innermost container: its header goes in, and its wrapper's.
+    pub fn end(&mut self, meter: &mut Meter<A>, limits: Limits) -> Result<(), Fault>
+        requires can_step { CanStep limits self.old meter.old }
+        requires open { IsOpen limits self.old }
+        ensures octets { OnOk result (self.new.octets ≡ closed_in self.old.octets self.old.headers) }
+        ensures headers { OnOk result (self.new.headers ≡ headers_around self.old.headers) }
+        ensures open { OnOk result (IsOpen limits self.new) }
+        ensures stepped { Stepped limits self.old self.new meter.old meter.new (fault_of result) }
+    {
+        if let Err(fault) = self.put_innermost(meter, limits) {
+            return Err(fault);
+        }
+        match self.headers.innermost() {
+            Some(header) if header.code == WRAPPER => self.put_innermost(meter, limits),
+            _ => Ok(()),
+        }
+    }
+
+    /// Puts a scalar behind what comes first of its item, the ids of whose annotations begin at a
+    /// place. It answers false where the value would be too long.
+    pub fn whole(
+        &mut self,
+        meter: &mut Meter<A>,
+        limits: Limits,
+        place: usize,
+        scalar: &Spelled<'_>,
+    ) -> Result<bool, Fault>
+        requires can_step { CanStep limits self.old meter.old }
+        requires open { IsOpenTo self.old place }
+        ensures octets { result ≡ Ok true
+            → self.new.octets ≡ whole_at place self.old.octets (spelled_octets scalar.now) }
+        ensures headers { self.new.headers ≡ self.old.headers }
+        ensures open { result ≡ Ok true → IsOpen limits self.new }
+        ensures over { result ≡ Ok false → limits.value
+            < size_of (whole_at place self.old.octets (spelled_octets scalar.now)) self.old.headers }
+        ensures stepped { Stepped limits self.old self.new meter.old meter.new (fault_of result) }
+    {
+        let length = scalar.len();
+        if length > limits.value {
+            return Ok(false);
+        }
+        let octets = self.octets.as_slice().len();
+        let front = wrapper((octets - place) as u64, length);
+        if self.closed_size(octets as u64 + front.len() as u64 + length) > limits.value {
+            return Ok(false);
+        }
+        self.octets.insert_slice(meter, place, front.as_slice())?;
+        self.octets.extend(meter, scalar.front.as_slice())?;
+        self.octets.extend(meter, scalar.lent)?;
+        Ok(true)
+    }
+
+    /// Begins a container behind what comes first of its item, the ids of whose annotations begin at
+    /// a place. It answers false where the value would be too long.
+    pub fn begin(
+        &mut self,
+        meter: &mut Meter<A>,
+        limits: Limits,
+        place: usize,
+        kind: Kind,
+    ) -> Result<bool, Fault>
+        requires can_step { CanStep limits self.old meter.old }
+        requires open { IsOpenTo self.old place }
+        requires deep { length self.old.headers + 2 ≤ 2 * limits.depth }
+        ensures octets { result ≡ Ok true → self.new.octets ≡ begun_at place self.old.octets }
+        ensures headers { result ≡ Ok true
+            → self.new.headers ≡ begun_headers place self.old.octets kind self.old.headers }
+        ensures open { result ≡ Ok true → IsOpen limits self.new }
+        ensures over { result ≡ Ok false → limits.value
+            < size_of (begun_at place self.old.octets)
+            (begun_headers place self.old.octets kind self.old.headers) }
+        ensures stepped { Stepped limits self.old self.new meter.old meter.new (fault_of result) }
+    {
+        if !self.begin_wrapper(meter, limits, place)? {
+            return Ok(false);
+        }
+        let header = HeaderPlace {
+            place: self.octets.as_slice().len() as u32,
+            code: type_code(kind),
+        };
+        self.headers.push(meter, header)?;
+        let octets = self.octets.as_slice().len() as u64;
+        if self.closed_size(octets) > limits.value {
+            return Ok(false);
+        }
+        Ok(true)
+    }
+
+    /// Puts what is left of an item behind what comes first of it. It answers false where the value
+    /// would be too long.
+    pub fn take(
+        &mut self,
+        meter: &mut Meter<A>,
+        limits: Limits,
+        front: Front,
+        head: Head<'_>,
+    ) -> Result<bool, Fault>
+        requires can_step { CanStep limits self.old meter.old }
+        requires may_follow { MayFollow limits self.old front.ids (raw_head head) }
+        ensures octets { (ids : UserSymbol → ℕ) → front.name ≡ head_name ids (user_head head.entry)
+            → result ≡ Ok true → self.new.octets ≡ moved_octets front.ids self.old.octets
+            self.old.headers ids (user_head head.entry) }
+        ensures headers { result ≡ Ok true → self.new.headers
+            ≡ moved_headers front.ids self.old.octets self.old.headers (user_head head.entry) }
+        ensures open { result ≡ Ok true → IsOpen limits self.new }
+        ensures over { (ids : UserSymbol → ℕ) → front.name ≡ head_name ids (user_head head.entry)
+            → result ≡ Ok false → limits.value < size_of
+            (moved_octets front.ids self.old.octets self.old.headers ids (user_head head.entry))
+            (moved_headers front.ids self.old.octets self.old.headers (user_head head.entry)) }
+        ensures stepped { Stepped limits self.old self.new meter.old meter.new (fault_of result) }
+    {
+        match head {
+            Head::Begin(kind) => self.begin(meter, limits, front.ids, kind),
+            Head::End => match self.end(meter, limits) {
+                Ok(()) => Ok(true),
+                Err(fault) => Err(fault),
+            },
+            Head::Marker => Ok(true),
+            scalar => self.whole(meter, limits, front.ids, &spell(scalar, front.name)),
+        }
+    }
+
+    // Puts the length of annotations before their ids, where there are any, which begin at a place.
+    fn begin_wrapper(
+        &mut self,
+        meter: &mut Meter<A>,
+        limits: Limits,
+        place: usize,
+    ) -> Result<bool, Fault>
+        requires can_step { CanStep limits self.old meter.old }
+        requires open { IsOpenTo self.old place }
+        requires deep { length self.old.headers + 2 ≤ 2 * limits.depth }
+        ensures octets { result ≡ Ok true → self.new.octets ≡ begun_at place self.old.octets }
+        ensures headers { result ≡ Ok true → self.new.headers
+            ≡ wrapper_headers (drop place self.old.octets) place ++ self.old.headers }
+        ensures counts { self.new.counts ≡ self.old.counts }
+        ensures over { result ≡ Ok false → limits.value < length (begun_at place self.old.octets) }
+        ensures stepped { Stepped limits self.old self.new meter.old meter.new (fault_of result) }
+    {
+        let octets = self.octets.as_slice().len();
+        if octets == place {
+            return Ok(true);
+        }
+        let length = var_uint_write((octets - place) as u64);
+        if octets as u64 + length.len() as u64 > limits.value {
+            return Ok(false);
+        }
+        let header = HeaderPlace {
+            place: place as u32,
+            code: WRAPPER,
+        };
+        self.octets.insert_slice(meter, place, length.as_slice())?;
+        self.headers.push(meter, header)?;
+        Ok(true)
+    }
+}
+
+// What stands before the ids of annotations of so many octets and a value of so many: the header of
+// all of it, and the length of the ids. Where there are none, nothing does.
+fn wrapper(ids: u64, value: u64) -> ArrayVec<u8, LONGEST>
+    requires ids { ids ≤ 2 ^ 32 }
+    requires value { value ≤ 2 ^ 32 }
+    ensures octets { result.items ≡ wrapper_octets ids value }
+    ensures few { length result.items ≤ 20 }
+{
+    if ids == 0 {
+        return ArrayVec::new();
+    }
+    opening(WRAPPER, var_uint_write(ids).as_slice(), ids + value)
+}
+
+// The type code of a container.
+fn type_code(kind: Kind) -> u8
+    ensures { result ≡ type_code kind }
+{
+    match kind {
+        Kind::List => 11,
+        Kind::Sexp => 12,
+        Kind::Struct => 13,
+    }
+}

@@ -1,0 +1,37 @@
+use Rattle.std.proofs.Common.{rules, ◌≡◌, ◌+◌, ◌≤◌, true, false, nat_le, Ok, ap, sym, ◌∙◌}
+use Rattle.ion_symbols.specs.Table.{text_length}
+use Rattle.ion_symbols.specs.Declaration.{string_in}
+use Rattle.ion_symbols.specs.declared.catalog_builder.Stage.TheVariants as stage
+use Rattle.ion_symbols.specs.CatalogItems.{at, counted, passed, with_text}
+use Rattle.ion_symbols.specs.Building.{draft_of, loading_of, view_of}
+use Rattle.ion_symbols.proofs.CatalogCosts.{counted-text, element-refused, element-taken}
+use Rattle.ion_symbols.proofs.catalog_builder.CatalogBuilder.element.Goals as goal
+
+pub returns-then-not-fits-clause-gives : goal.returns-then-not-fits-clause-gives
+returns-then-not-fits-clause-gives g c =
+    let b = c.args.self.now in
+    let t = view_of c.args.entry.now in
+    let passes : nat_le (counted (draft_of b) + (16 + text_length (string_in t.what))) b.limits.symbols ≡ false = search rules in
+    element-refused b.limits.symbols t (draft_of b) passes
+
+pub returns-clause-gives : goal.returns-clause-gives
+returns-clause-gives g c =
+    let b = c.args.self.now in
+    let t = view_of c.args.entry.now in
+    let fits : nat_le (counted (draft_of b) + (16 + text_length (string_in t.what))) b.limits.symbols ≡ true = search rules in
+    let now : loading_of c.pass.new.self ≡ passed t.what (at stage.Symbols (with_text (string_in t.what) (draft_of b))) = search rules in
+    element-taken b.limits.symbols t (draft_of b) fits ∙ ap (λ s. Ok s) (sym now)
+
+pub returns-clause-built : goal.returns-clause-built
+returns-clause-built g c =
+    let b = c.args.self.now in
+    let t = view_of c.args.entry.now in
+    let more = counted-text (string_in t.what) (draft_of b) in
+    let fits : counted (draft_of b) + (16 + text_length (string_in t.what)) ≤ b.limits.symbols = search rules in
+    record {
+      building = record { checked = search rules; exact = search rules; cheap = search rules };
+      limits = search rules;
+      failed = search rules;
+      causes = search rules;
+      charges = search rules;
+    }

@@ -1,0 +1,20 @@
+use Rattle.std.proofs.Common.{rules, ◌≡◌, true}
+use Rattle.ion_symbols.specs.Table.{may_stand}
+use Rattle.ion_symbols.specs.Building.{draft_of}
+use Rattle.ion_symbols.proofs.CatalogCosts.{counted-ended, held-ended}
+use Rattle.ion_symbols.proofs.catalog_builder.CatalogBuilder.end_table.Goals as goal
+
+pub returns-clause-built : goal.returns-clause-built
+returns-clause-built g c =
+    let b = c.args.self.now in
+    let d = draft_of b in
+    let stands : may_stand d.tables d.table ≡ true = search rules in
+    let same = counted-ended d stands in
+    let held = held-ended d in
+    record {
+      building = record { checked = search rules; exact = search rules; cheap = search rules };
+      limits = search rules;
+      failed = search rules;
+      causes = search rules;
+      charges = search rules;
+    }

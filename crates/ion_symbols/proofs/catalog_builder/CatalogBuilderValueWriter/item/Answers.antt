@@ -1,0 +1,34 @@
+use Rattle.std.proofs.Common.{rules, ◌≡◌, Err, subst, arith}
+use Rattle.ion_value.specs.Value.{user_item}
+use Rattle.ion_value.specs.Items.{item_of}
+use Rattle.ion_symbols.specs.CatalogItems.{EntryView, entry_view, load_step}
+use Rattle.ion_symbols.specs.Building.{loading_of, StepAs}
+use Rattle.ion_symbols.proofs.CatalogSteps.{few-inside, puts-nothing, read-answered, read-refused}
+use Rattle.ion_symbols.proofs.catalog_builder.CatalogBuilderValueWriter.item.Goals as goal
+
+pub take-outcome-requires-clause-inside : goal.take-outcome-requires-clause-inside
+take-outcome-requires-clause-inside g c =
+    let at = c.requires.path c.in_default.is in
+    let few = few-inside c.args.self.now at.0 at.1 in
+    omega (arith, few, c.requires.sound.checked.depth)
+
+pub returns-in-Err-clause-part : goal.returns-in-Err-clause-part
+returns-in-Err-clause-part g c fault path stands may = puts-nothing g.O.Output.written g.O.Output.observable c.args._sink.now
+
+pub returns-in_default-outcome-clause-part : goal.returns-in_default-outcome-clause-part
+returns-in_default-outcome-clause-part g c fault path stands may = puts-nothing g.O.Output.written g.O.Output.observable c.args._sink.now
+
+pub returns-in-Err-clause-refuses : goal.returns-in-Err-clause-refuses
+returns-in-Err-clause-refuses g c well fault path stands may reason place e =
+    let b = c.args.self.now in
+    let item = item_of g.N.Names.text c.args.item.now in
+    let step : load_step b.limits.symbols (loading_of b) (entry_view (user_item item)) ≡ Err (reason, place) = search rules in
+    read-refused b path item (reason, place) stands step
+
+pub returns-in_default-outcome-clause-stands : goal.returns-in_default-outcome-clause-stands
+returns-in_default-outcome-clause-stands g c path stands may =
+    let b = c.args.self.now in
+    let item = item_of g.N.Names.text c.args.item.now in
+    let step : StepAs (load_step b.limits.symbols (loading_of b) (entry_view (user_item item))) c.take-outcome.result (loading_of c.take-outcome.new.self) =
+    subst (λ (e : EntryView). StepAs (load_step b.limits.symbols (loading_of b) e) c.take-outcome.result (loading_of c.take-outcome.new.self)) c.view.ensures c.take-outcome.ensures.gives in
+    read-answered b c.take-outcome.new.self path item c.take-outcome.result stands may step (search rules) (search rules)

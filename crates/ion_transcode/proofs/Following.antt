@@ -1,0 +1,33 @@
+-- The items that a writer took are those in front of what is to come.
+use Rattle.std.proofs.Common.{◌≡◌, ℕ, List, [], ◌∷◌, ◌++◌, refl, ap, sym, subst, ◌∙◌, append-nil}
+use Rattle.std.specs.Prelude.{Result, OnOk}
+use Rattle.ion_value.specs.declared.ion_type.Kind.{Kind}
+use Rattle.ion_value.specs.Value.{PlacedItem}
+use Rattle.ion_value.specs.Reading.{Reading, Finished, More, items_of, behind}
+use Rattle.ion_value.specs.Standing.{open_after, open_behind}
+use Rattle.ion_value.proofs.Outcomes.{open_behind-append}
+use Rattle.ion_value.proofs.Readings.{behind-append, items_of-behind}
+
+-- a writer stands behind items, and the rest of a reading does
+pub record Followed (stands : List PlacedItem → Type 0) (reads : Type 0) (kinds : List Kind) (all rest : Reading) : Type 0 where
+  pub path : List PlacedItem
+  pub stands_at : stands path
+  pub kinds_at : open_behind [] path ≡ kinds
+  pub all_is : reads → all ≡ behind path rest
+
+-- an item more
+pub followed-more : {stands later : List PlacedItem → Type 0} {reads : Type 0} {kinds : List Kind} {all rest : Reading} (f : Followed stands reads kinds all rest)
+    (item : PlacedItem) (more : Reading) (kinds_then : List Kind) → (reads → rest ≡ More item more) → later (f.path ++ item ∷ []) → kinds_then ≡ open_after kinds item.head
+    → Followed later reads kinds_then all more
+followed-more f item more kinds_then is stands opens = record {
+  path = f.path ++ item ∷ [];
+  stands_at = stands;
+  kinds_at = open_behind-append [] f.path item ∙ (ap (λ k. open_after k item.head) f.kinds_at ∙ sym opens);
+  all_is = λ r. f.all_is r ∙ (ap (behind f.path) (is r) ∙ sym (behind-append f.path (item ∷ []) more));
+}
+
+-- at the end these are all items
+pub followed-all : {stands : List PlacedItem → Type 0} {reads : Type 0} {kinds : List Kind} {all rest : Reading} (f : Followed stands reads kinds all rest)
+    → reads → rest ≡ Finished → stands (items_of all)
+followed-all {stands = stands} f r ends =
+    subst stands (sym (ap items_of (f.all_is r ∙ ap (behind f.path) ends) ∙ (items_of-behind f.path Finished ∙ append-nil f.path))) f.stands_at

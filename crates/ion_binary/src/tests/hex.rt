@@ -1,43 +1,26 @@
 //! Octets as the tables write them.
-ghost use Rattle.std.specs.Prelude.{◌<◌};
 
 use std::alloc::Global;
 use std::process::Abort;
 use std::test::Fail;
 
-// The value of a hexadecimal digit.
-fn digit(rt: &impl Abort, digit: u8) -> u8
-    ensures { result < 16 }
-{
-    match digit {
-        b'0'..=b'9' => digit - b'0',
-        b'A'..=b'F' => digit - b'A' + 10,
-        _ => panic!(rt; "no hexadecimal digit"),
-    }
-}
-
-// The octet of two digits.
-fn octet(rt: &impl Abort, digits: &str) -> u8 {
-    match digits.as_bytes() {
-        [high, low] => digit(rt, *high) * 16 + digit(rt, *low),
-        _ => panic!(rt; "not two digits"),
-    }
-}
-
 /// The octets of a text: two hexadecimal digits each, with spaces between them.
 pub fn octets(rt: &impl Abort, alloc: Global, text: &str) -> Result<Vec<u8>, Fail> {
-    let mut octets = Vec::new(alloc);
-    for digits in text.split_whitespace() {
-        octets.push(octet(rt, digits))?;
-    }
-    Ok(octets)
+    octets_behind(rt, Vec::new(alloc), text)
 }
 
 /// The octets of a text behind a version marker.
 pub fn behind_marker(rt: &impl Abort, alloc: Global, text: &str) -> Result<Vec<u8>, Fail> {
-    let mut octets = Vec::from_slice(alloc, b"\xE0\x01\x00\xEA")?;
+    octets_behind(rt, Vec::from_slice(alloc, b"\xE0\x01\x00\xEA")?, text)
+}
+
+// The octets of a text behind some others.
+fn octets_behind(rt: &impl Abort, mut octets: Vec<u8>, text: &str) -> Result<Vec<u8>, Fail> {
     for digits in text.split_whitespace() {
-        octets.push(octet(rt, digits))?;
+        let Ok(octet) = u8::from_str_radix(digits, 16) else {
+            panic!(rt; "no octet: {digits}")
+        };
+        octets.push(octet)?;
     }
     Ok(octets)
 }

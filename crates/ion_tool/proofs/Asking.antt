@@ -22,9 +22,10 @@ some_kind [] k is none = is
 some_kind (x ∷ xs) k is none = cc none
 
 -- words at which a fault is found ask for no run
-no_run : (words : List Text) → words ≢ [] → fault_of ion_app words ≢ [] → (action : Action) (limits : Limits) (file : Option Text) → IsRun words action limits file → ⊥
-no_run words some fault action limits file (inl none) = some none.0
-no_run words some fault action limits file (inr names) = fault names.faultless
+no_run : (words : List Text) → words ≢ [] → fault_of ion_app words ≢ [] → (action : Action) (limits : Limits) (catalog file : Option Text)
+    → IsRun words action limits catalog file → ⊥
+no_run words some fault action limits catalog file (inl none) = some none.0
+no_run words some fault action limits catalog file (inr names) = fault names.faultless
 
 help_kind : (k : ErrorKind) → (k ≡ DisplayHelp) ⊎ (k ≡ DisplayVersion) → k ≢ OutOfMemory
 help_kind k (inl help) memory = cc (sym help ∙ memory)
@@ -35,16 +36,16 @@ help_among k kinds (inl help) is = inl (subst (λ (x : ErrorKind). IsAmong x kin
 help_among k kinds (inr version) is = inr (subst (λ (x : ErrorKind). IsAmong x kinds) version is)
 
 pub asks_error : (words : List Text) (e : Error) → words ≢ [] → HasKind (fault_of ion_app words) e → (r : Request) → AnswersError (kind_of e) r → Asks words r
-asks_error words e some has (Run job) a = absurd a
+asks_error words e some has (Run catalog job) a = absurd a
 asks_error words e some has (Help text) a =
     let is = among (fault_of ion_app words) e has (help_kind (kind_of e) a.0) in (
-      λ (asks : AsksRun words). no_run words some (some_kind (fault_of ion_app words) (kind_of e) is) asks.0 asks.1 asks.2 asks.3,
+      λ (asks : AsksRun words). no_run words some (some_kind (fault_of ion_app words) (kind_of e) is) asks.0 asks.1 asks.2 asks.3 asks.4,
       help_among (kind_of e) (fault_of ion_app words) a.0 is,
       a.1,
     )
 asks_error words e some has (Usage text) a =
     let is = among (fault_of ion_app words) e has a.0 in (
-      λ (asks : AsksRun words). no_run words some (some_kind (fault_of ion_app words) (kind_of e) is) asks.0 asks.1 asks.2 asks.3,
+      λ (asks : AsksRun words). no_run words some (some_kind (fault_of ion_app words) (kind_of e) is) asks.0 asks.1 asks.2 asks.3 asks.4,
       inr (kind_of e, is, a.1, a.2),
       a.3,
     )

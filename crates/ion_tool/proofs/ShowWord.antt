@@ -2,7 +2,7 @@
 use Rattle.std.proofs.Common.{refl, [], ◌∷◌, codes, ◌≡◌, Some, None, List}
 use Rattle.clap.proofs.OnLiterals.{clap_on_literals}
 use Rattle.clap.specs.Words.{Text, fault_of}
-use Rattle.clap.specs.declared.error.kind.ErrorKind.TheVariants.{ValueValidation}
+use Rattle.clap.specs.declared.error.kind.ErrorKind.TheVariants.{DisplayVersion, ValueValidation}
 use Rattle.ion_meter.specs.declared.limits.Limits.{Limits}
 use Rattle.ion_tool.specs.Words.{default_limits, ion_app, limits_in, Names}
 use Rattle.ion_tool.specs.declared.words.Action.TheVariants.{Show, Check, Convert}
@@ -12,9 +12,9 @@ pub usual_limits : limits_in [] ≡ Some default_limits
 usual_limits = refl
 
 -- the one word `show` names what no words ask for
-pub show_is_named : Names (codes "show" ∷ []) Show default_limits None
+pub show_is_named : Names (codes "show" ∷ []) Show default_limits None None
 unfolding clap_on_literals
-show_is_named = record { rows = _; faultless = refl; named = refl; limited = refl; filed = refl }
+show_is_named = record { rows = _; faultless = refl; named = refl; limited = refl; catalogued = refl; filed = refl }
 
 abbrev words : List Text
 words = codes "check" ∷ codes "--depth" ∷ codes "65535" ∷ codes "--scalar=0" ∷ codes "data.10n" ∷ []
@@ -23,14 +23,29 @@ abbrev limits : Limits
 limits = record default_limits { depth = 65535; scalar = 0 }
 
 -- options change their limits, and a word more is the file
-pub check_is_named : Names words Check limits (Some (codes "data.10n"))
+pub check_is_named : Names words Check limits None (Some (codes "data.10n"))
 unfolding clap_on_literals
-check_is_named = record { rows = _; faultless = refl; named = refl; limited = refl; filed = refl }
+check_is_named = record { rows = _; faultless = refl; named = refl; limited = refl; catalogued = refl; filed = refl }
 
 -- the word `convert` is the third action
-pub convert_is_named : Names (codes "convert" ∷ codes "data.ion" ∷ []) Convert default_limits (Some (codes "data.ion"))
+pub convert_is_named : Names (codes "convert" ∷ codes "data.ion" ∷ []) Convert default_limits None (Some (codes "data.ion"))
 unfolding clap_on_literals
-convert_is_named = record { rows = _; faultless = refl; named = refl; limited = refl; filed = refl }
+convert_is_named = record { rows = _; faultless = refl; named = refl; limited = refl; catalogued = refl; filed = refl }
+
+-- the catalogue has its option, and the word `-` names no file
+pub catalog_is_named : Names (codes "show" ∷ codes "--catalog" ∷ codes "tables.ion" ∷ codes "-" ∷ []) Show default_limits (Some (codes "tables.ion")) None
+unfolding clap_on_literals
+catalog_is_named = record { rows = _; faultless = refl; named = refl; limited = refl; catalogued = refl; filed = refl }
+
+-- behind that option `-` is a name as any other
+pub dash_is_named : Names (codes "show" ∷ codes "--catalog" ∷ codes "-" ∷ []) Show default_limits (Some (codes "-")) None
+unfolding clap_on_literals
+dash_is_named = record { rows = _; faultless = refl; named = refl; limited = refl; catalogued = refl; filed = refl }
+
+-- the version is asked for before any subcommand
+pub version_is_asked : fault_of ion_app (codes "--version" ∷ []) ≡ DisplayVersion ∷ []
+unfolding clap_on_literals
+version_is_asked = refl
 
 -- a number past its limit is a fault
 pub past_limit : fault_of ion_app (codes "show" ∷ codes "--depth" ∷ codes "65536" ∷ []) ≡ ValueValidation ∷ []

@@ -1,6 +1,6 @@
 -- The words after the program's name, as `clap` reads them.
 use Rattle.std.specs.Prelude.{◌≡◌, ◌≢◌, ◌⊎◌, ℕ, List, [], Option, Some, None, true, false, codes, string_bytes, if◌then◌else◌}
-use Rattle.std.specs.Prelude.{option_map, option_and_then}
+use Rattle.std.specs.Prelude.{option_map, option_and_then, bytes_eq}
 use Rattle.std.specs.Option.{option_map_or}
 use Rattle.std.specs.Str.Parse.{digits_value, without_leading_plus}
 use Rattle.clap.specs.ValueTests.{accepts}
@@ -20,19 +20,24 @@ use Rattle.ion_tool.specs.declared.words.Request.TheVariants.{Run, Help, Usage}
 abbrev pub limit_rule : Text → ℕ → Rule
 limit_rule name most = record (new_rule name) { long = Some name; parser = Some (Unsigned 0 most); value_names = 1 }
 
--- a subcommand: `NAME [--depth N] [--scalar N] [--symbols N] [--value N] [FILE]`
+-- `--catalog FILE`
+abbrev pub catalog_rule : Rule
+catalog_rule = record (new_rule (codes "catalog")) { long = Some (codes "catalog"); value_names = 1 }
+
+-- a subcommand: `NAME [--catalog FILE] [--depth N] [--scalar N] [--symbols N] [--value N] [FILE]`
 abbrev pub action_app : Text → App
 action_app name =
-    with_rule (with_rule (with_rule (with_rule (with_rule (new_app name)
+    with_rule (with_rule (with_rule (with_rule (with_rule (with_rule (new_app name)
+    catalog_rule)
     (limit_rule (codes "depth") 65535))
     (limit_rule (codes "scalar") 1073741824))
     (limit_rule (codes "symbols") 1073741824))
     (limit_rule (codes "value") 1073741824))
     (new_rule (codes "FILE"))
 
--- the program's name, before its subcommands; one of them has to be named
+-- the program's name, before its subcommands, of which one has to be named; it has a version
 abbrev pub bare_app : App
-bare_app = let a = new_app (codes "ion") in record a { top = record a.top { no_binary_name = true; subcommand_required = true } }
+bare_app = let a = new_app (codes "ion") in record a { top = record a.top { no_binary_name = true; subcommand_required = true; has_version = true } }
 
 -- `ion show`, `ion check`, `ion convert`
 abbrev pub ion_app : App
@@ -68,26 +73,36 @@ limits_in rows =
     (limit_in (codes "scalar") 1073741824 default_limits.scalar rows))
     (limit_in (codes "depth") 65535 default_limits.depth rows)
 
+-- the name of the file with the catalogue, where a subcommand is given one
+abbrev pub catalog_in : List Row → Option Text
+catalog_in rows = first_of (codes "catalog") rows
+
+-- the file for a word: the word `-` names none, but standard input
+abbrev pub file_for : Option Text → Option Text
+file_for None = None
+file_for (Some word) = if bytes_eq word (codes "-") then None else Some word
+
 -- the name of the file that a subcommand is given
 abbrev pub file_in : List Row → Option Text
-file_in rows = first_of (codes "FILE") rows
+file_in rows = file_for (first_of (codes "FILE") rows)
 
--- `clap` finds no fault in the words, and they name the subcommand for the action, with these limits and this file
-pub record Names (words : List Text) (action : Action) (limits : Limits) (file : Option Text) : Type 0 where
+-- `clap` finds no fault in the words, and they name the subcommand for the action, with these limits, this catalogue and this file
+pub record Names (words : List Text) (action : Action) (limits : Limits) (catalog file : Option Text) : Type 0 where
   pub rows : List Row
   pub faultless : fault_of ion_app words ≡ []
   pub named : subcommand_of ion_app words ≡ Some (action_name action, rows)
   pub limited : limits_in rows ≡ Some limits
+  pub catalogued : catalog_in rows ≡ catalog
   pub filed : file_in rows ≡ file
 
--- the words ask for this run: there are none, for standard input to be shown with the usual limits, or they name it
-abbrev pub IsRun : List Text → Action → Limits → Option Text → Type 0
-IsRun words action limits file =
-    ((words ≡ []) × (action ≡ Show) × (limits ≡ default_limits) × (file ≡ None)) ⊎ Names words action limits file
+-- the words ask for this run: there are none, for standard input to be shown with the usual limits and no tables, or they name it
+abbrev pub IsRun : List Text → Action → Limits → Option Text → Option Text → Type 0
+IsRun words action limits catalog file =
+    ((words ≡ []) × (action ≡ Show) × (limits ≡ default_limits) × (catalog ≡ None) × (file ≡ None)) ⊎ Names words action limits catalog file
 
 -- the words ask for some run
 abbrev pub AsksRun : List Text → Type 0
-AsksRun words = (action : Action) × (limits : Limits) × (file : Option Text) × IsRun words action limits file
+AsksRun words = (action : Action) × (limits : Limits) × (catalog : Option Text) × (file : Option Text) × IsRun words action limits catalog file
 
 -- the words may ask `clap` for its help or its version
 abbrev pub IsHelp : List Text → Type 0
@@ -100,12 +115,20 @@ IsUsage words =
 
 -- what the words ask for
 abbrev pub Asks : List Text → Request → Type 0
-Asks words (Run job) = IsRun words job.action job.limits (option_map string_bytes job.file) × AreChecked job.limits
+Asks words (Run catalog job) =
+    IsRun words job.action job.limits (option_map string_bytes catalog) (option_map string_bytes job.file) × AreChecked job.limits
 Asks words (Help text) = (¬ AsksRun words) × IsHelp words × (string_bytes text ≢ [])
 Asks words (Usage text) = (¬ AsksRun words) × IsUsage words × (string_bytes text ≢ [])
 
 -- what is answered for an error of `clap`, by its kind
 abbrev pub AnswersError : ErrorKind → Request → Type 0
-AnswersError kind (Run job) = ⊥
+AnswersError kind (Run catalog job) = ⊥
 AnswersError kind (Help text) = ((kind ≡ DisplayHelp) ⊎ (kind ≡ DisplayVersion)) × (string_bytes text ≢ [])
 AnswersError kind (Usage text) = (kind ≢ OutOfMemory) × (kind ≢ DisplayHelp) × (kind ≢ DisplayVersion) × (string_bytes text ≢ [])
+
+-- a request for the run with this action, these limits, this catalogue and this file
+abbrev pub IsRequestFor : Action → Limits → Option Text → Option Text → Request → Type 0
+IsRequestFor action limits catalog file (Run own job) =
+    (job.action ≡ action) × (job.limits ≡ limits) × (option_map string_bytes own ≡ catalog) × (option_map string_bytes job.file ≡ file)
+IsRequestFor action limits catalog file (Help text) = ⊥
+IsRequestFor action limits catalog file (Usage text) = ⊥

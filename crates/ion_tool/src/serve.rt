@@ -1,12 +1,13 @@
 //! A run of the program over given devices.
 ghost use Rattle.std.specs.Prelude.{◌≡◌, ◌+◌, ◌-◌, ◌^◌, ◌<◌, ◌≤◌, ◌⊎◌, ◌++◌};
-ghost use Rattle.std.specs.Prelude.{List, [], ℕ, Option, None, Some, length, map, option_map, string_bytes};
+ghost use Rattle.std.specs.Prelude.{List, [], ℕ, Option, None, Some, Err, length, map, option_map, string_bytes};
 ghost use Rattle.ion_meter.specs.declared.fault.Fault.{Fault};
 ghost use Rattle.ion_meter.specs.declared.limits.Limits.{Limits};
 ghost use Rattle.ion_meter.specs.Limits.{AreChecked};
 ghost use Rattle.ion_transcode.specs.Calls.{HasRoom};
-ghost use Rattle.ion_tool.specs.Serving.{status_of, line_of, closed_line, fault_line, refusal_text};
-ghost use Rattle.ion_tool.specs.Serving.{Gets, IsServed, IsFileServed, IsUnread, IsHelped, IsUsageError};
+ghost use Rattle.ion_tool.specs.Serving.{status_of, line_of, catalog_line, closed_line, fault_line};
+ghost use Rattle.ion_tool.specs.Serving.{refusal_text, Gets, IsServed, IsFileServed, IsJobServed};
+ghost use Rattle.ion_tool.specs.Serving.{IsCatalogServed, IsUnread, IsHelped, IsUsageError};
 ghost use Rattle.ion_tool.specs.Words.{default_limits, AsksRun, IsRun};
 ghost use Rattle.ion_tool.specs.declared.words.Action.{Action};
 
@@ -18,6 +19,8 @@ use ion_meter::fault::Fault;
 use ion_meter::limits::Limits;
 use ion_meter::meter::Meter;
 use ion_meter::stream::FromRead;
+use ion_symbols::catalog::Catalog;
+use ion_transcode::load::load_catalog;
 use ion_transcode::to::Summary;
 use itoa::Buffer;
 use std::alloc::{AllocError, Global};
@@ -73,7 +76,8 @@ fn phrase(words: &str) -> ArrayString<80>
 
 /// The line on a fault.
 fn line_on(fault: Fault) -> ArrayString<80>
-    ensures { result.bytes ≡ fault_line fault }
+    ensures text { result.bytes ≡ fault_line fault }
+    ensures short { length result.bytes ≤ 69 }
 {
     let mut line = match fault {
         Fault::Refused(reason, place) => refusal(reason.name(), place),
@@ -84,6 +88,21 @@ fn line_on(fault: Fault) -> ArrayString<80>
     };
     line.push_str("\n");
     line
+}
+
+/// The line on a catalogue that is not loaded.
+fn catalog_line(fault: Fault) -> ArrayString<80>
+    ensures { result.bytes ≡ catalog_line fault }
+{
+    match fault {
+        Fault::Refused(_, _) => {
+            let mut text = ArrayString::new();
+            text.push_str("catalog ");
+            text.push_str(line_on(fault).as_str());
+            text
+        }
+        Fault::InputLimit | Fault::Memory | Fault::ReadFault | Fault::WriteFault => line_on(fault),
+    }
 }
 
 /// The status of an answer.
@@ -107,6 +126,16 @@ pub fn report<E: Output>(answer: Result<Summary, Fault>, err: &mut E) -> u8
         say(err, line_on(fault).as_str().as_bytes());
     }
     status_after(answer)
+}
+
+/// Says on standard error why there is no catalogue, and gives the status.
+fn report_catalog<E: Output>(fault: Fault, err: &mut E) -> u8
+    requires { E.failure_count err.old < 2 ^ 64 - 1 }
+    ensures status { result ≡ status_of (Err fault) }
+    ensures said { Gets E.Output (catalog_line fault) err.old err.new }
+{
+    say(err, catalog_line(fault).as_str().as_bytes());
+    status_after(Err(fault))
 }
 
 /// Gives the text that was asked for, and the status.
@@ -139,6 +168,7 @@ pub fn give_usage<E: Output>(text: &[u8], err: &mut E) -> u8
 /// Runs over the input, and says on standard error how it failed, if it did.
 fn serve_input<I: Input, O: Output, E: Output>(
     meter: &mut Meter<Global>,
+    catalog: &Catalog<Global>,
     action: Action,
     limits: Limits,
     input: I,
@@ -151,11 +181,11 @@ fn serve_input<I: Input, O: Output, E: Output>(
     requires out_failures { O.failure_count out < 2 ^ 64 - 1 }
     requires err_failures { E.failure_count err < 2 ^ 64 - 1 }
     requires checked { AreChecked limits }
-    ensures served { IsServed I.Input O.Output E.Output [] action limits meter.old meter.new
-        input result.1 out result.2 err result.3 result.0 }
+    ensures served { IsServed I.Input O.Output E.Output catalog.now action limits
+        meter.old meter.new input result.1 out result.2 err result.3 result.0 }
     ensures status { (result.0 ≡ 0) ⊎ ((result.0 ≡ 1) ⊎ (result.0 ≡ 3)) }
 {
-    let (answer, input, out) = act(meter, action, limits, input, out);
+    let (answer, input, out) = act(meter, catalog, action, limits, input, out);
     let status = report(answer, &mut err);
     (status, input, out, err)
 }
@@ -177,6 +207,7 @@ fn say_closed<E: Output>(name: &str, err: &mut E)
 /// Runs over a file, and says on standard error how it failed, if it did.
 fn serve_file<F: FileSource, O: Output, E: Output>(
     meter: &mut Meter<Global>,
+    catalog: &Catalog<Global>,
     action: Action,
     limits: Limits,
     files: &mut F,
@@ -189,21 +220,23 @@ fn serve_file<F: FileSource, O: Output, E: Output>(
     requires out_failures { O.failure_count out < 2 ^ 64 - 1 }
     requires err_failures { E.failure_count err < 2 ^ 64 - 1 }
     requires checked { AreChecked limits }
-    ensures served { IsFileServed (F.gives files.old) F.File.remaining O.Output E.Output []
-        action limits name.now meter.old meter.new out result.1 err result.2 result.0 }
+    ensures served { IsFileServed (F.gives files.old) F.File.remaining O.Output E.Output
+        catalog.now action limits name.now meter.old meter.new out result.1 err result.2 result.0 }
     ensures status { (result.0 ≡ 0) ⊎ ((result.0 ≡ 1) ⊎ (result.0 ≡ 3)) }
 {
     let Some(file) = files.open_named(name) else {
         say_closed(name, &mut err);
         return (3, out, err);
     };
-    let (status, _, out, err) = serve_input(meter, action, limits, FromRead::new(file), out, err);
+    let input = FromRead::new(file);
+    let (status, _, out, err) = serve_input(meter, catalog, action, limits, input, out, err);
     (status, out, err)
 }
 
 /// Runs over the file that was named, or over the input.
 fn serve_job<F: FileSource, I: Input, O: Output, E: Output>(
     meter: &mut Meter<Global>,
+    catalog: &Catalog<Global>,
     job: Job,
     files: &mut F,
     input: I,
@@ -215,12 +248,9 @@ fn serve_job<F: FileSource, I: Input, O: Output, E: Output>(
     requires out_failures { O.failure_count out < 2 ^ 64 - 1 }
     requires err_failures { E.failure_count err < 2 ^ 64 - 1 }
     requires checked { AreChecked job.limits }
-    ensures input { job.file ≡ None → IsServed I.Input O.Output E.Output [] job.action job.limits
+    ensures served { IsJobServed (F.gives files.old) F.File.remaining I.Input O.Output E.Output
+        catalog.now job.action job.limits (option_map string_bytes job.file)
         meter.old meter.new input result.1 out result.2 err result.3 result.0 }
-    ensures file { (name : List ℕ) → option_map string_bytes job.file ≡ Some name
-        → (result.1 ≡ input)
-        × IsFileServed (F.gives files.old) F.File.remaining O.Output E.Output []
-        job.action job.limits name meter.old meter.new out result.2 err result.3 result.0 }
     ensures status { (result.0 ≡ 0) ⊎ ((result.0 ≡ 1) ⊎ (result.0 ≡ 3)) }
 {
     let Job {
@@ -229,10 +259,82 @@ fn serve_job<F: FileSource, I: Input, O: Output, E: Output>(
         file,
     } = job;
     let Some(name) = file else {
-        return serve_input(meter, action, limits, input, out, err);
+        return serve_input(meter, catalog, action, limits, input, out, err);
     };
-    let (status, out, err) = serve_file(meter, action, limits, files, name.as_str(), out, err);
+    let name = name.as_str();
+    let (status, out, err) = serve_file(meter, catalog, action, limits, files, name, out, err);
     (status, input, out, err)
+}
+
+/// Loads the catalogue of this name, with a meter of its own, and runs with its tables.
+fn serve_named<F: FileSource, I: Input, O: Output, E: Output>(
+    alloc: Global,
+    meter: &mut Meter<Global>,
+    tables: &str,
+    job: Job,
+    files: &mut F,
+    input: I,
+    out: O,
+    mut err: E,
+) -> (u8, I, O, E)
+    requires room { HasRoom (2 ^ 48) 0 meter.old }
+    requires in_failures { I.failure_count input < 2 ^ 64 - 1 }
+    requires out_failures { O.failure_count out < 2 ^ 64 - 1 }
+    requires err_failures { E.failure_count err < 2 ^ 64 - 1 }
+    requires checked { AreChecked job.limits }
+    ensures served { IsCatalogServed F.gives files.old F.File.remaining
+        I.Input O.Output E.Output job.action job.limits tables.now
+        (option_map string_bytes job.file) meter.old meter.new
+        input result.1 out result.2 err result.3 result.0 }
+    ensures status { (result.0 ≡ 0) ⊎ ((result.0 ≡ 1) ⊎ (result.0 ≡ 3)) }
+{
+    let Some(file) = files.open_named(tables) else {
+        say_closed(tables, &mut err);
+        return (3, input, out, err);
+    };
+    let mut own = Meter::new(alloc);
+    let (loaded, _) = load_catalog(&mut own, job.limits, FromRead::new(file));
+    match loaded {
+        Ok(catalog) => {
+            let served = serve_job(meter, &catalog, job, files, input, out, err);
+            catalog.release(&mut own);
+            served
+        }
+        Err(fault) => (report_catalog(fault, &mut err), input, out, err),
+    }
+}
+
+/// Runs with the tables of the catalogue that was named, or with none.
+fn serve_run<F: FileSource, I: Input, O: Output, E: Output>(
+    alloc: Global,
+    meter: &mut Meter<Global>,
+    tables: Option<String>,
+    job: Job,
+    files: &mut F,
+    input: I,
+    out: O,
+    err: E,
+) -> (u8, I, O, E)
+    requires room { HasRoom (2 ^ 48) 0 meter.old }
+    requires in_failures { I.failure_count input < 2 ^ 64 - 1 }
+    requires out_failures { O.failure_count out < 2 ^ 64 - 1 }
+    requires err_failures { E.failure_count err < 2 ^ 64 - 1 }
+    requires checked { AreChecked job.limits }
+    ensures plain { tables ≡ None
+        → IsJobServed (F.gives files.old) F.File.remaining I.Input O.Output E.Output
+        [] job.action job.limits (option_map string_bytes job.file)
+        meter.old meter.new input result.1 out result.2 err result.3 result.0 }
+    ensures catalog { (name : List ℕ) → option_map string_bytes tables ≡ Some name
+        → IsCatalogServed F.gives files.old F.File.remaining I.Input O.Output E.Output
+        job.action job.limits name (option_map string_bytes job.file)
+        meter.old meter.new input result.1 out result.2 err result.3 result.0 }
+    ensures status { (result.0 ≡ 0) ⊎ ((result.0 ≡ 1) ⊎ (result.0 ≡ 3)) }
+{
+    let Some(name) = tables else {
+        let none = Catalog::new(meter);
+        return serve_job(meter, &none, job, files, input, out, err);
+    };
+    serve_named(alloc, meter, name.as_str(), job, files, input, out, err)
 }
 
 /// Runs the program: does what the words after its name ask for, over these devices.
@@ -257,7 +359,7 @@ pub fn serve<F: FileSource, I: Input + Drop, O: Output + Drop, E: Output + Drop>
     // Words that ask for a run over the input: the status, both outputs, the failures and the
     // memory are those of some answer of that run. Or the words could not be read.
     ensures ran { (action : Action) (limits : Limits)
-        → IsRun (map string_bytes words.items) action limits None
+        → IsRun (map string_bytes words.items) action limits None None
         → IsServed I.Input O.Output E.Output [] action limits meter.old meter.new
         input result.1 out result.2 err result.3 result.0
         ⊎ IsUnread E.Output (map string_bytes words.items) meter.old meter.new
@@ -266,11 +368,23 @@ pub fn serve<F: FileSource, I: Input + Drop, O: Output + Drop, E: Output + Drop>
     // Words that name a file: the input is not read, and the same is said of what the name opens
     // to.
     ensures file { (action : Action) (limits : Limits) (name : List ℕ)
-        → IsRun (map string_bytes words.items) action limits (Some name) → (result.1 ≡ input)
+        → IsRun (map string_bytes words.items) action limits None (Some name)
+        → (result.1 ≡ input)
         × (IsFileServed (F.gives files.old) F.File.remaining O.Output E.Output []
         action limits name meter.old meter.new out result.2 err result.3 result.0
         ⊎ IsUnread E.Output (map string_bytes words.items) meter.old meter.new
         input result.1 out result.2 err result.3 result.0) }
+
+    // Words that name a catalogue: by what its name opens to, a run is served with its tables, over
+    // the input or over the file that is named too, or a line says why there are none, and nothing
+    // else is done.
+    ensures catalog { (action : Action) (limits : Limits) (name : List ℕ) (file : Option (List ℕ))
+        → IsRun (map string_bytes words.items) action limits (Some name) file
+        → IsCatalogServed F.gives files.old F.File.remaining I.Input O.Output E.Output
+        action limits name file meter.old meter.new
+        input result.1 out result.2 err result.3 result.0
+        ⊎ IsUnread E.Output (map string_bytes words.items) meter.old meter.new
+        input result.1 out result.2 err result.3 result.0 }
 
     // Other words: help on standard output, or on standard error why there is nothing to do, or
     // that the words could not be read.
@@ -286,7 +400,9 @@ pub fn serve<F: FileSource, I: Input + Drop, O: Output + Drop, E: Output + Drop>
         × IsUsageError E.Output (map string_bytes words.items) out result.2 err result.3 result.0 }
 {
     let status = match read_words(alloc, words.as_slice()) {
-        Ok(Request::Run(job)) => return serve_job(meter, job, files, input, out, err),
+        Ok(Request::Run(tables, job)) => {
+            return serve_run(alloc, meter, tables, job, files, input, out, err);
+        }
         Ok(Request::Help(text)) => give_help(text.as_bytes(), &mut out, &mut err),
         Ok(Request::Usage(text)) => give_usage(text.as_bytes(), &mut err),
         Err(AllocError) => report(Err(Fault::Memory), &mut err),

@@ -3,7 +3,7 @@ ghost use Rattle.std.specs.Prelude.{◌≡◌, ◌≢◌, ◌≤◌, false, IfOk
 ghost use Rattle.clap.specs.Words.{Row, app_of, found_of, kind_of, rows_of, rule_of, fault_of, FailsBy, subcommand_of, subcommand_rows_of};
 ghost use Rattle.clap.specs.declared.builder.command.Command.TheViews.{out-Command};
 ghost use Rattle.ion_meter.specs.Limits.{AreChecked};
-ghost use Rattle.ion_tool.specs.Words.{action_app, action_name, bare_app, file_in, ion_app, limit_in, limit_rule, limits_in, Asks, AnswersError};
+ghost use Rattle.ion_tool.specs.Words.{action_app, action_name, bare_app, catalog_in, catalog_rule, file_for, file_in, ion_app, limit_in, limit_rule, limits_in, Asks, AnswersError, IsRequestFor};
 
 use clap::builder::ValueParser;
 use clap::error::ErrorKind;
@@ -34,8 +34,8 @@ pub struct Job {
 /// What the words ask for.
 #[derive(Debug, Drop)]
 pub enum Request {
-    /// A run.
-    Run(Job),
+    /// A run, with the catalogue of shared tables in the file of this name, if there is one.
+    Run(Option<String>, Job),
     /// This text, on standard output.
     Help(String),
     /// Nothing that there is: this text, for standard error, says why.
@@ -47,6 +47,7 @@ pub enum Request {
 struct Asked<'a> {
     action: Action,
     limits: Limits,
+    catalog: Option<&'a str>,
     file: Option<&'a str>,
 }
 
@@ -73,14 +74,15 @@ const AFTER: &str = "Without a command, ion shows standard input with the defaul
 
 Exit status:
   0  the stream is accepted
-  1  it is refused
+  1  it is refused, or the catalogue is
   2  the command line is not understood
   3  memory ran out, or reading or writing failed
 
 Examples:
   ion show data.ion
   ion check < data.10n
-  ion convert data.ion > data.10n";
+  ion convert data.ion > data.10n
+  ion show --catalog tables.ion data.10n";
 
 /// An option `--NAME N`, where N is at most this number.
 fn limit_arg<'a>(alloc: Global, name: &'a str, most: u64, help: &'a str) -> Arg<'a>
@@ -92,6 +94,19 @@ fn limit_arg<'a>(alloc: Global, name: &'a str, most: u64, help: &'a str) -> Arg<
         .value_name("N")
         .value_parser(ValueParser::unsigned(0, most))
         .help(help)
+}
+
+/// The option `--catalog FILE`.
+fn catalog_arg<'a>(alloc: Global) -> Arg<'a>
+    ensures rule { rule_of result ≡ catalog_rule }
+    ensures own { result.global ≡ false }
+{
+    Arg::new(alloc, "catalog")
+        .long("catalog")
+        .value_name("FILE")
+        .help(
+            "File of shared symbol tables, text or binary, that imports may name [default: no tables]",
+        )
 }
 
 /// A subcommand with its options.
@@ -109,10 +124,13 @@ fn action_command<'a>(
     let symbols = "Most bytes in one symbol table, 0 to 1073741824 [default: 1048576]";
     let value =
         "Most bytes in one value written as binary, 0 to 1073741824 [default: 16777216]; show and check write none";
-    let file = Arg::new(alloc, "FILE").help("File to read [default: standard input]");
+    let file = Arg::new(alloc, "FILE").help(
+        "File to read; - is standard input [default: standard input]",
+    );
     Command::new(alloc, name)
         .about(about)
         .after_help(example)
+        .arg(catalog_arg(alloc))?
         .arg(limit_arg(alloc, "depth", 65_535, depth))?
         .arg(limit_arg(alloc, "scalar", 1_073_741_824, scalar))?
         .arg(limit_arg(alloc, "symbols", 1_073_741_824, symbols))?
@@ -127,6 +145,7 @@ fn top_command<'a>(alloc: Global) -> Command<'a>
     Command::new(alloc, "ion")
         .no_binary_name(true)
         .subcommand_required(true)
+        .version("0.1.0")
         .override_usage("ion [COMMAND]")
         .about(ABOUT)
         .after_help(AFTER)
@@ -241,11 +260,23 @@ fn action_of(name: &str) -> Option<Action>
     }
 }
 
+/// The file that this word names: `-` names none, but standard input.
+fn file_of<'a>(word: Option<&'a str>) -> Option<&'a str>
+    ensures { option_map (λ s. s.now) result ≡ file_for (option_map (λ s. s.now) word.entry) }
+{
+    let name = word?;
+    if name == "-" {
+        return None;
+    }
+    Some(name)
+}
+
 /// The run that the matches name.
 fn asked_by<'a>(matches: &ArgMatches<'a>) -> Option<Asked<'a>>
     ensures some { IfSome result (λ a. (rows : List Row)
         × (subcommand_rows_of matches.now ≡ Some (action_name a.action, rows))
         × (limits_in rows ≡ Some a.limits) × AreChecked a.limits
+        × (catalog_in rows ≡ option_map (λ s. s.now) a.catalog)
         × (file_in rows ≡ option_map (λ s. s.now) a.file)) }
     ensures none { result ≡ None → (action : Action) (rows : List Row)
         → subcommand_rows_of matches.now ≡ Some (action_name action, rows)
@@ -254,29 +285,41 @@ fn asked_by<'a>(matches: &ArgMatches<'a>) -> Option<Asked<'a>>
     let (name, options) = matches.subcommand()?;
     let action = action_of(name)?;
     let limits = limits_of(options)?;
-    let file = options.get_str("FILE");
+    let catalog = options.get_str("catalog");
+    let file = file_of(options.get_str("FILE"));
     Some(Asked {
         action,
         limits,
+        catalog,
         file,
     })
 }
 
-/// A run that needs its words no more.
-fn job_of(alloc: Global, asked: Asked<'_>) -> Result<Job, AllocError>
-    ensures { IfOk result (λ job. (job.action ≡ asked.entry.action)
-        × (job.limits ≡ asked.entry.limits)
-        × (option_map string_bytes job.file ≡ option_map (λ s. s.now) asked.entry.file)) }
+/// A copy of a name, which needs its words no more.
+fn owned(alloc: Global, name: Option<&str>) -> Result<Option<String>, AllocError>
+    ensures { IfOk result
+        (λ own. option_map string_bytes own ≡ option_map (λ s. s.now) name.entry) }
 {
-    let file = match asked.file {
-        Some(name) => Some(String::from_str(alloc, name)?),
-        None => None,
-    };
-    Ok(Job {
+    match name {
+        Some(name) => Ok(Some(String::from_str(alloc, name)?)),
+        None => Ok(None),
+    }
+}
+
+/// The request for a run, which needs its words no more.
+fn request_for(alloc: Global, asked: Asked<'_>) -> Result<Request, AllocError>
+    ensures { IfOk result (IsRequestFor asked.entry.action asked.entry.limits
+        (option_map (λ s. s.now) asked.entry.catalog)
+        (option_map (λ s. s.now) asked.entry.file)) }
+{
+    let catalog = owned(alloc, asked.catalog)?;
+    let file = owned(alloc, asked.file)?;
+    let job = Job {
         action: asked.action,
         limits: asked.limits,
         file,
-    })
+    };
+    Ok(Request::Run(catalog, job))
 }
 
 /// Reads the words after the program's name. It fails only where it is out of memory.
@@ -285,18 +328,19 @@ pub fn read_words(alloc: Global, words: &[String]) -> Result<Request, AllocError
     ensures some_words { OnErr result (map string_bytes words.now ≢ []) }
 {
     if words.is_empty() {
-        return Ok(Request::Run(Job {
+        let job = Job {
             action: Action::Show,
             limits: DEFAULT_LIMITS,
             file: None,
-        }));
+        };
+        return Ok(Request::Run(None, job));
     }
     let matches = match matches_of(alloc, words) {
         Ok(matches) => matches,
         Err(error) => return request_of(alloc, &error),
     };
     match asked_by(&matches) {
-        Some(asked) => Ok(Request::Run(job_of(alloc, asked)?)),
+        Some(asked) => request_for(alloc, asked),
         // No words lead here: `clap` answers its own subcommand, `help`, by an error, and so numbers
         // that are past a limit.
         None => Ok(Request::Usage(String::from_str(alloc, WRONG)?)),

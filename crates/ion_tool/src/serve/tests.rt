@@ -7,23 +7,23 @@ use ion_meter::stream::{FromRead, ToWrite};
 use std::fs;
 use std::test::Fail;
 
-/// One file in memory.
+/// Two files in memory, by the names `file` and `c`.
 #[derive(Drop)]
-struct OneFile {
-    name: &'static str,
-    bytes: &'static [u8],
+struct TwoFiles {
+    file: &'static [u8],
+    catalog: &'static [u8],
 }
 
-impl FileSource for OneFile {
+impl FileSource for TwoFiles {
     type File = &'static [u8];
 
     ghost gives = { λ files name found. ⊤ };
 
     fn open_named(&mut self, name: &str) -> Option<&'static [u8]> {
-        if name == self.name {
-            Some(self.bytes)
-        } else {
-            None
+        match name {
+            "file" => Some(self.file),
+            "c" => Some(self.catalog),
+            _ => None,
         }
     }
 }
@@ -59,13 +59,23 @@ fn served_from<F: FileSource>(
     })
 }
 
-/// The same over one file in memory.
-fn served(alloc: Global, words: &[&'static str], input: &[u8]) -> Result<Answer, AllocError> {
-    let mut files = OneFile {
-        name: "file",
-        bytes: b"\xE0\x01\x00\xEA\xB3\xB2\x21\x05",
+/// The same over two files in memory, of which one has this catalogue.
+fn served_with(
+    alloc: Global,
+    words: &[&'static str],
+    catalog: &'static [u8],
+    input: &[u8],
+) -> Result<Answer, AllocError> {
+    let mut files = TwoFiles {
+        file: b"\xE0\x01\x00\xEA\xB3\xB2\x21\x05",
+        catalog,
     };
     served_from(alloc, words, &mut files, input)
+}
+
+/// The same where no words name the catalogue.
+fn served(alloc: Global, words: &[&'static str], input: &[u8]) -> Result<Answer, AllocError> {
+    served_with(alloc, words, b"", input)
 }
 
 /// A stream's answer to `show`, and its number of values where it is accepted.
@@ -274,6 +284,105 @@ fn takes_files_and_limits(rt: HostRuntime) -> Result<(), Fail> {
         assert_eq!(rt; answer.status, status);
         assert_eq!(rt; answer.out.as_slice(), out.as_bytes());
         assert_eq!(rt; answer.err.as_slice(), err.as_bytes());
+    }
+    Ok(())
+}
+
+/// Words, and what they answer over a catalogue and an input.
+struct Asked {
+    words: &'static [&'static str],
+    catalog: &'static [u8],
+    input: &'static [u8],
+    status: u8,
+    out: &'static str,
+    err: &'static str,
+}
+
+/// One shared table.
+const TABLES: &[u8] = b"$ion_shared_symbol_table::{name:\"x\",version:1,symbols:[\"p\",\"q\"]}";
+
+/// The same name and version twice.
+const TWICE: &[u8] =
+    b"$ion_shared_symbol_table::{name:\"x\",version:1} $ion_shared_symbol_table::{name:\"x\"}";
+
+/// A stream that imports the table.
+const IMPORTS: &[u8] =
+    b"$ion_symbol_table::{imports:[{name:\"x\",version:1,max_id:2}],symbols:[\"a\"]} $12 $10";
+
+const ASKED: [Asked; 8] = [
+    Asked {
+        words: &["show", "--catalog", "c"],
+        catalog: TABLES,
+        input: IMPORTS,
+        status: 0,
+        out: "a\np\n",
+        err: "",
+    },
+    Asked {
+        words: &["check", "--catalog", "c", "-"],
+        catalog: TABLES,
+        input: IMPORTS,
+        status: 0,
+        out: "ok 2 values\n",
+        err: "",
+    },
+    Asked {
+        words: &["show", "--catalog", "c", "file"],
+        catalog: TABLES,
+        input: IMPORTS,
+        status: 0,
+        out: "[[5]]\n",
+        err: "",
+    },
+    Asked {
+        words: &["show"],
+        catalog: TABLES,
+        input: IMPORTS,
+        status: 1,
+        out: "a\n",
+        err: "refused UnknownSymbol at 79\n",
+    },
+    Asked {
+        words: &["show", "--catalog", "c", "file"],
+        catalog: TWICE,
+        input: IMPORTS,
+        status: 1,
+        out: "",
+        err: "catalog refused CatalogEntry at 47\n",
+    },
+    Asked {
+        words: &["show", "--catalog", "d", "file"],
+        catalog: TABLES,
+        input: IMPORTS,
+        status: 3,
+        out: "",
+        err: "cannot open d\n",
+    },
+    Asked {
+        words: &["show", "--catalog", "c", "other"],
+        catalog: TABLES,
+        input: IMPORTS,
+        status: 3,
+        out: "",
+        err: "cannot open other\n",
+    },
+    Asked {
+        words: &["--version"],
+        catalog: TABLES,
+        input: IMPORTS,
+        status: 0,
+        out: "ion 0.1.0\n",
+        err: "",
+    },
+];
+
+#[test]
+fn takes_catalogues(rt: HostRuntime) -> Result<(), Fail> {
+    for row in &ASKED {
+        let answer = served_with(rt.alloc(), row.words, row.catalog, row.input)?;
+        assert_eq!(rt; answer.status, row.status);
+        assert_eq!(rt; answer.out.as_slice(), row.out.as_bytes());
+        assert_eq!(rt; answer.err.as_slice(), row.err.as_bytes());
     }
     Ok(())
 }

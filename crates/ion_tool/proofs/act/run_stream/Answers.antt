@@ -1,22 +1,19 @@
-use Rattle.std.proofs.Common.{[], List, subst}
-use Rattle.ion_symbols.specs.Table.{Shared}
+use Rattle.std.proofs.Common.{subst}
 use Rattle.ion_transcode.specs.declared.to.To.{To}
 use Rattle.ion_tool.specs.Serving.{Transcoded}
 use Rattle.ion_tool.proofs.act.run_stream.Goals as goal
 
 pub returns-clause-transcoded : goal.returns-clause-transcoded
 returns-clause-transcoded g c i =
-    let run = c.run-answer.ensures in
+    let run = c.run.ensures in
     let bytes = g.I.Input.rest c.args.input in
     let observable = g.O.Output.observable c.args.out in
     let before = g.O.Output.written c.args.out in
-    let after = g.O.Output.written c.run-answer.result.2 in
-    let asked : Transcoded c.new-catalog.result c.args.limits c.to_for.result bytes observable before after c.run-answer.result.0 = record {
+    let after = g.O.Output.written c.run.result.2 in
+    let asked : Transcoded c.args.catalog.now c.args.limits c.to_for.result bytes observable before after c.run.result.0 = record {
       accepted = λ s e. run.accepted i s e;
       refused = λ r p e. run.refused i r p e;
       prefix = λ o v output has_verdict. run.prefix i o v output has_verdict;
       limit = λ e. run.limit i e;
     } in
-    let none : Transcoded [] c.args.limits c.to_for.result bytes observable before after c.run-answer.result.0 =
-    subst (λ (catalog : List Shared). Transcoded catalog c.args.limits c.to_for.result bytes observable before after c.run-answer.result.0) c.new-catalog.ensures asked in
-    subst (λ (to : To). Transcoded [] c.args.limits to bytes observable before after c.run-answer.result.0) c.to_for.ensures none
+    subst (λ (to : To). Transcoded c.args.catalog.now c.args.limits to bytes observable before after c.run.result.0) c.to_for.ensures asked

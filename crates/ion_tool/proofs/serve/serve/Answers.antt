@@ -8,23 +8,35 @@ use Rattle.ion_tool.proofs.serve.serve.Goals as goal
 pub returns-in-Ok-Run-clause-ran : goal.returns-in-Ok-Run-clause-ran
 returns-in-Ok-Run-clause-ran g c action limits run =
     let job = c.in-Ok-Run.job in
+    let tables = c.in-Ok-Run.tables in
     let asks = rw (c.in-Ok-Run.field-0-is, c.as_slice.ensures.value) at c.in-Ok-Run.ensures.asks in
-    let same = one_run _ action job.action limits job.limits None (option_map string_bytes job.file) run asks.0 in
-    inl (rw (same.0, same.1) (c.serve_job.ensures.input (no_file string_bytes job.file same.2)))
+    let same = one_run _ action job.action limits job.limits None (option_map string_bytes tables) None (option_map string_bytes job.file) run asks.0 in
+    let served = c.serve_run.ensures.plain (no_file string_bytes tables same.2) in
+    inl (rw (same.0, same.1) (rw (← same.3) at served))
 
 pub returns-in-Ok-Run-clause-file : goal.returns-in-Ok-Run-clause-file
 returns-in-Ok-Run-clause-file g c action limits name run =
     let job = c.in-Ok-Run.job in
+    let tables = c.in-Ok-Run.tables in
     let asks = rw (c.in-Ok-Run.field-0-is, c.as_slice.ensures.value) at c.in-Ok-Run.ensures.asks in
-    let same = one_run _ action job.action limits job.limits (Some name) (option_map string_bytes job.file) run asks.0 in
-    let served = c.serve_job.ensures.file name (sym same.2) in
-    (served.0, inl (rw (same.0, same.1) served.1))
+    let same = one_run _ action job.action limits job.limits None (option_map string_bytes tables) (Some name) (option_map string_bytes job.file) run asks.0 in
+    let served = c.serve_run.ensures.plain (no_file string_bytes tables same.2) in
+    let named = rw (← same.3) at served in
+    (named.0, inl (rw (same.0, same.1) named.1))
+
+pub returns-in-Ok-Run-clause-catalog : goal.returns-in-Ok-Run-clause-catalog
+returns-in-Ok-Run-clause-catalog g c action limits name file run =
+    let job = c.in-Ok-Run.job in
+    let tables = c.in-Ok-Run.tables in
+    let asks = rw (c.in-Ok-Run.field-0-is, c.as_slice.ensures.value) at c.in-Ok-Run.ensures.asks in
+    let same = one_run _ action job.action limits job.limits (Some name) (option_map string_bytes tables) file (option_map string_bytes job.file) run asks.0 in
+    inl (rw (same.0, same.1, same.3) (c.serve_run.ensures.catalog name (sym same.2)))
 
 pub returns-clause-ran : goal.returns-clause-ran
 returns-clause-ran g c action limits run =
     elim c.match-read_words.branch [
-      | in-Ok-Help w ↦ let asks = rw (w.in-Ok-Help.field-0-is, c.as_slice.ensures.value) at w.in-Ok-Help.ensures.asks in elim (asks.0 (action, limits, None, run)) [ ]
-      | in-Ok-Usage w ↦ let asks = rw (w.in-Ok-Usage.field-0-is, c.as_slice.ensures.value) at w.in-Ok-Usage.ensures.asks in elim (asks.0 (action, limits, None, run)) [ ]
+      | in-Ok-Help w ↦ let asks = rw (w.in-Ok-Help.field-0-is, c.as_slice.ensures.value) at w.in-Ok-Help.ensures.asks in elim (asks.0 (action, limits, None, None, run)) [ ]
+      | in-Ok-Usage w ↦ let asks = rw (w.in-Ok-Usage.field-0-is, c.as_slice.ensures.value) at w.in-Ok-Usage.ensures.asks in elim (asks.0 (action, limits, None, None, run)) [ ]
       | in-Err w ↦ inr (record {
         some_words = rw c.as_slice.ensures.value at w.in-Err.ensures.some_words;
         status_is = search rules;
@@ -38,8 +50,8 @@ returns-clause-ran g c action limits run =
 pub returns-clause-file : goal.returns-clause-file
 returns-clause-file g c action limits name run =
     elim c.match-read_words.branch [
-      | in-Ok-Help w ↦ let asks = rw (w.in-Ok-Help.field-0-is, c.as_slice.ensures.value) at w.in-Ok-Help.ensures.asks in elim (asks.0 (action, limits, Some name, run)) [ ]
-      | in-Ok-Usage w ↦ let asks = rw (w.in-Ok-Usage.field-0-is, c.as_slice.ensures.value) at w.in-Ok-Usage.ensures.asks in elim (asks.0 (action, limits, Some name, run)) [ ]
+      | in-Ok-Help w ↦ let asks = rw (w.in-Ok-Help.field-0-is, c.as_slice.ensures.value) at w.in-Ok-Help.ensures.asks in elim (asks.0 (action, limits, None, Some name, run)) [ ]
+      | in-Ok-Usage w ↦ let asks = rw (w.in-Ok-Usage.field-0-is, c.as_slice.ensures.value) at w.in-Ok-Usage.ensures.asks in elim (asks.0 (action, limits, None, Some name, run)) [ ]
       | in-Err w ↦ (
         search rules,
         inr (record {
@@ -51,6 +63,21 @@ returns-clause-file g c action limits name run =
           said = search rules;
         }),
       )
+    ]
+
+pub returns-clause-catalog : goal.returns-clause-catalog
+returns-clause-catalog g c action limits name file run =
+    elim c.match-read_words.branch [
+      | in-Ok-Help w ↦ let asks = rw (w.in-Ok-Help.field-0-is, c.as_slice.ensures.value) at w.in-Ok-Help.ensures.asks in elim (asks.0 (action, limits, Some name, file, run)) [ ]
+      | in-Ok-Usage w ↦ let asks = rw (w.in-Ok-Usage.field-0-is, c.as_slice.ensures.value) at w.in-Ok-Usage.ensures.asks in elim (asks.0 (action, limits, Some name, file, run)) [ ]
+      | in-Err w ↦ inr (record {
+        some_words = rw c.as_slice.ensures.value at w.in-Err.ensures.some_words;
+        status_is = search rules;
+        memory = search rules;
+        input = search rules;
+        output = search rules;
+        said = search rules;
+      })
     ]
 
 pub returns-clause-other : goal.returns-clause-other

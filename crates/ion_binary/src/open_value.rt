@@ -173,7 +173,8 @@ impl<A: Allocator + Copy> OpenValue<A> {
     pub fn end(&mut self, meter: &mut Meter<A>, limits: Limits) -> Result<(), Fault>
         requires can_step { CanStep limits self.old meter.old }
         requires open { IsOpen limits self.old }
-        ensures octets { OnOk result (self.new.octets ≡ closed_in self.old.octets self.old.headers) }
+        ensures octets { OnOk result
+            (self.new.octets ≡ closed_in self.old.octets self.old.headers) }
         ensures headers { OnOk result (self.new.headers ≡ headers_around self.old.headers) }
         ensures open { OnOk result (IsOpen limits self.new) }
         ensures stepped { Stepped limits self.old self.new meter.old meter.new (fault_of result) }
@@ -203,7 +204,8 @@ impl<A: Allocator + Copy> OpenValue<A> {
         ensures headers { self.new.headers ≡ self.old.headers }
         ensures open { result ≡ Ok true → IsOpen limits self.new }
         ensures over { result ≡ Ok false → limits.value
-            < size_of (whole_at place self.old.octets (spelled_octets scalar.now)) self.old.headers }
+            < size_of (whole_at place self.old.octets (spelled_octets scalar.now))
+            self.old.headers }
         ensures stepped { Stepped limits self.old self.new meter.old meter.new (fault_of result) }
     {
         let length = scalar.len();

@@ -1,9 +1,8 @@
 -- What contracts see of the scalars and the declarations that are written.
-use Rattle.std.specs.Prelude.{ℕ, ◌+◌, List, [], ◌∷◌, ◌++◌, length, Option, Some, None, ⊤}
+use Rattle.std.specs.Prelude.{ℕ, ◌+◌, List, [], ◌∷◌, ◌++◌, length, Option, Some, None}
 use Rattle.std.specs.List.{flat_map}
 use Rattle.ion_value.specs.declared.item.Head.{Head as CodeHead}
 use Rattle.ion_value.specs.Items.{raw_head}
-use Rattle.ion_value.specs.Standing.{InRange}
 use Rattle.ion_value.specs.Value as value
 use Rattle.ion_value.specs.Value.{UserSymbol, user_symbol_at, Scalar, Head, map_head}
 use Rattle.ion_binary.specs.Canonical.{header, headed, scalar_octets}
@@ -31,13 +30,6 @@ head_name ids (value.whole body) = scalar_name ids body
 head_name ids (value.begin kind) = 0
 head_name ids value.end = 0
 head_name ids value.marker = 0
-
--- a scalar's numbers are those of this library
-abbrev pub HeadInRange : {S : Type 0} → Head S → Type 0
-HeadInRange (value.whole body) = InRange body
-HeadInRange (value.begin kind) = ⊤
-HeadInRange value.end = ⊤
-HeadInRange value.marker = ⊤
 
 -- ---- what a body begins with
 

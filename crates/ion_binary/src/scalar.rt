@@ -5,9 +5,10 @@ ghost use Rattle.ion_value.specs.Items.{raw_head};
 ghost use Rattle.ion_value.specs.Number.{uint_octets};
 ghost use Rattle.ion_value.specs.Scalar.{type_code};
 ghost use Rattle.ion_value.specs.Value.{UserSymbol};
+ghost use Rattle.ion_value.specs.Standing.{HeadInRange};
 ghost use Rattle.ion_binary.specs.Canonical.{headed};
 ghost use Rattle.ion_binary.specs.Opening.{spelled_octets};
-ghost use Rattle.ion_binary.specs.ItemOctets.{HeadInRange, head_name, head_octets, user_head};
+ghost use Rattle.ion_binary.specs.ItemOctets.{head_name, head_octets, user_head};
 
 use crate::opening::{LONGEST, opening};
 use arrayvec::ArrayVec;

@@ -364,16 +364,10 @@ impl<A: Allocator + Copy> SymbolBuffer<A> {
                     return Err(Fault::Refused(Reason::BadTable, item_view.field_place));
                 }
                 self.entry.has_name = true;
-                match item_view.what {
-                    FieldValue::Text(text) => return self.take_name(
-                        meter,
-                        limit,
-                        symbols,
-                        text,
-                        item_view.place,
-                    ),
-                    _ => self.pass(item_view.what),
+                if let FieldValue::Text(text) = item_view.what {
+                    return self.take_name(meter, limit, symbols, text, item_view.place);
                 }
+                self.pass(item_view.what);
             }
             Word::Version => {
                 if self.entry.has_version {

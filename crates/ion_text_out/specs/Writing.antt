@@ -7,7 +7,6 @@ use Rattle.ion_meter.specs.Limits.{AreChecked}
 use Rattle.ion_value.specs.declared.ion_type.Kind.{Kind}
 use Rattle.ion_value.specs.Value as v
 use Rattle.ion_value.specs.Value.{SymbolAt, UserSymbol, user_symbol_at, user_item, user_items, map_head, Head, PlacedItem}
-use Rattle.ion_value.specs.Standing.{InRange}
 use Rattle.ion_text_out.specs.Text.{Open, annotation_text, before_item, behind_value, closer, field_text, item_text, items_text, open_behind, opener, scalar_text}
 
 -- what is put for items, what an item behind them adds, and that none is refused
@@ -89,13 +88,6 @@ value_text field annotations head = name_text field ++ (annotations_text annotat
 
 abbrev pub middle_text : PlacedItem → List ℕ
 middle_text item = where_value (is_value item.head) (value_text item.field item.annotations item.head)
-
--- a value's numbers are those of this library
-abbrev pub HeadInRange : {S : Type 0} → Head S → Type 0
-HeadInRange (v.whole body) = InRange body
-HeadInRange (v.begin kind) = ⊤
-HeadInRange v.end = ⊤
-HeadInRange v.marker = ⊤
 
 -- ---- the writer
 

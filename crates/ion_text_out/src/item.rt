@@ -5,8 +5,9 @@ ghost use Rattle.ion_value.specs.Value.{user_symbol};
 ghost use Rattle.ion_value.specs.Items.{raw_head, raw_field, symbol_of, item_of, annotations_of};
 ghost use Rattle.ion_text_out.specs.Text.{symbol_text, item_text};
 ghost use Rattle.ion_meter.specs.Sinks.{IsPut};
-ghost use Rattle.ion_text_out.specs.Writing.{first_text, is_value, last_text, middle_text, name_text, next_annotation_text, annotations_text, shown, value_text, HeadInRange};
+ghost use Rattle.ion_text_out.specs.Writing.{first_text, is_value, last_text, middle_text, name_text, next_annotation_text, annotations_text, shown, value_text};
 ghost use Rattle.ion_value.specs.Value.{user_item};
+ghost use Rattle.ion_value.specs.Standing.{HeadInRange};
 
 use crate::between::{before, behind, behind_end, closing};
 use crate::put::put;

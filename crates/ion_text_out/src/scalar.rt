@@ -11,8 +11,9 @@ ghost use Rattle.ion_value.specs.Items.{symbol_of, raw_head};
 ghost use Rattle.ion_text_out.specs.Escape.{between_quotes};
 ghost use Rattle.ion_text_out.specs.Text.{symbol_text};
 ghost use Rattle.ion_meter.specs.Sinks.{IsPut};
-ghost use Rattle.ion_text_out.specs.Writing.{body_text, HeadInRange};
+ghost use Rattle.ion_text_out.specs.Writing.{body_text};
 ghost use Rattle.ion_value.specs.Value.{user_symbol_at};
+ghost use Rattle.ion_value.specs.Standing.{HeadInRange};
 
 use crate::between::opener;
 use crate::blob::put_base64;

@@ -1,9 +1,8 @@
 //! What the writer puts for items, whole and as long as containers are open.
 ghost use Rattle.std.specs.Prelude.{◌≡◌, ◌+◌, ◌^◌, ◌<◌, List, [], true, false, OnOk, IfSome};
 ghost use Rattle.ion_value.specs.Items.{item_of, raw_head};
-ghost use Rattle.ion_value.specs.Standing.{open_after, open_behind, is_marker, Fits};
+ghost use Rattle.ion_value.specs.Standing.{open_after, open_behind, is_marker, Fits, HeadInRange};
 ghost use Rattle.ion_value.specs.Value.{PlacedItem};
-ghost use Rattle.ion_text_out.specs.Writing.{HeadInRange};
 
 use crate::writer::TextWriter;
 use ion_meter::device::Output;

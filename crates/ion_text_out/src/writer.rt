@@ -8,8 +8,9 @@ ghost use Rattle.ion_value.specs.Value.{map_head};
 ghost use Rattle.ion_value.specs.Items.{raw_head, item_of};
 ghost use Rattle.ion_value.specs.Shares.{MemoryCauses, WriteCauses, fault_of};
 ghost use Rattle.ion_text_out.specs.Text.{open_after};
-ghost use Rattle.ion_text_out.specs.Writing.{text_puts, text_adds, text_refusal, HeadInRange, IsReady, Shows};
+ghost use Rattle.ion_text_out.specs.Writing.{text_puts, text_adds, text_refusal, IsReady, Shows};
 ghost use Rattle.ion_value.specs.Value.{user_symbol_at};
+ghost use Rattle.ion_value.specs.Standing.{HeadInRange};
 ghost use Rattle.ion_text_out.specs.Steps.{held_by, opened_in, share_of, text_of, CanStep, HasRoomFor, PutsText, Stepped};
 ghost use Rattle.ion_text_out.specs.Written.{text_grows, text-within};
 

@@ -32,6 +32,13 @@ InRange (string bytes) = ⊤
 InRange (clob bytes) = ⊤
 InRange (blob bytes) = ⊤
 
+-- so are those of an item
+abbrev pub HeadInRange : {S : Type 0} → Head S → Type 0
+HeadInRange (whole body) = InRange body
+HeadInRange (begin kind) = ⊤
+HeadInRange end = ⊤
+HeadInRange marker = ⊤
+
 -- so many containers may be open, and of these kinds there are some: none ends that did not begin, and a version marker stands at top level
 abbrev pub HasPlace : {S : Type 0} → ℕ → List Kind → Head S → Type 0
 HasPlace depth kinds (whole body) = InRange body

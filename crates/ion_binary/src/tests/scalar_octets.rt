@@ -1,6 +1,6 @@
 //! The octets of scalars that are written.
 ghost use Rattle.ion_value.specs.Items.{raw_head};
-ghost use Rattle.ion_binary.specs.ItemOctets.{HeadInRange};
+ghost use Rattle.ion_value.specs.Standing.{HeadInRange};
 
 use super::hex::octets;
 use crate::scalar::spell;

@@ -2,9 +2,8 @@
 ghost use Rattle.std.specs.Prelude.{◌≡◌, ◌+◌, ◌^◌, ◌<◌, ◌≤◌, List, [], true, false, OnOk, IfSome};
 ghost use Rattle.ion_meter.specs.Limits.{AreChecked};
 ghost use Rattle.ion_value.specs.Items.{item_of, raw_head};
-ghost use Rattle.ion_value.specs.Standing.{open_after, open_behind, is_marker, Fits};
+ghost use Rattle.ion_value.specs.Standing.{open_after, open_behind, is_marker, Fits, HeadInRange};
 ghost use Rattle.ion_value.specs.Value.{PlacedItem};
-ghost use Rattle.ion_binary.specs.ItemOctets.{HeadInRange};
 
 use super::LIMITS;
 use super::hex::octets;

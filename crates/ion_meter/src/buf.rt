@@ -114,11 +114,13 @@ impl<A: Allocator + Copy> Buf<A> {
         ensures err { OnErr result (self.new ≡ self.old) }
         ensures refused { OnErr result (IsRefused meter.old meter.new) }
     {
+        let (end, behind) = (self.bytes.len(), place + bytes.len());
         if self.bytes.extend_from_slice(bytes).is_err() {
             meter.refuse();
             return Err(Fault::Memory);
         }
-        self.bytes[place..].rotate_right(bytes.len());
+        self.bytes.copy_within(place..end, behind);
+        self.bytes[place..behind].copy_from_slice(bytes);
         meter.add(bytes.len() as u64);
         Ok(())
     }

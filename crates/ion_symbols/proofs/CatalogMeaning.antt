@@ -15,7 +15,6 @@ use Rattle.ion_symbols.specs.Declaration.{FieldValue, begins, ends, other, strin
 use Rattle.ion_symbols.specs.Tree.{same_word, or_later}
 use Rattle.ion_symbols.specs.CatalogItems.{user_field, is_shared, Draft, Drafted, behind_tables, counted, within, with_name, with_text, name_met, version_met, symbols_met, table_ended}
 use Rattle.ion_symbols.specs.CatalogTrees.{seen, value_of, times, fields_fit, text_or_none, name_in, version_of, elements, slots_of, shared_in, shared_of, add_table, and_tables, tables_behind, tables_of, and_draft, elements_drafted, symbols_drafted, field_drafted, fields_drafted, top_drafted, tops_drafted, drafted_tables, catalog_of}
-use Rattle.ion_symbols.specs.CatalogLaws.{CatalogsAreTables}
 use Rattle.ion_symbols.proofs.CatalogCosts.{counted-ended}
 
 -- ---- what is without a fault
@@ -52,16 +51,16 @@ within-ok limit place d e is =
     let both = if-ok (nat_le (counted d) limit) d e (SymbolLimit, place) is in
     (both.1, leb-true (counted d) limit both.0)
 
-both-true : (a b : Bool) → (a && b) ≡ true → (a ≡ true) × (b ≡ true)
+pub both-true : (a b : Bool) → (a && b) ≡ true → (a ≡ true) × (b ≡ true)
 both-true true b e = (refl, e)
 both-true false b e = cc
 
 -- ---- the slots
 
-abbrev with_slots : Slots → Draft → Draft
+abbrev pub with_slots : Slots → Draft → Draft
 with_slots slots d = record d { table = record d.table { slots = slots } }
 
-elements-drawn : (limit : ℕ) (members : Members UserSymbol ℕ) (d e : Draft) → counted d ≤ limit → elements_drafted limit members d ≡ Ok e
+pub elements-drawn : (limit : ℕ) (members : Members UserSymbol ℕ) (d e : Draft) → counted d ≤ limit → elements_drafted limit members d ≡ Ok e
     → (e ≡ with_slots (d.table.slots ++ elements members) d) × (counted e ≤ limit)
 elements-drawn limit nothing d e cheap is =
     let same = ok-same d e is in
@@ -77,26 +76,26 @@ elements-drawn limit (member before field annotations place x) d e cheap is =
 
 -- ---- the fields
 
-abbrev Met : Type 0
+abbrev pub Met : Type 0
 Met = Option (Value UserSymbol ℕ)
 
 -- a draft by the fields that were met
-abbrev meant : List Shared → Met → Met → Met → Draft
+abbrev pub meant : List Shared → Met → Met → Met → Draft
 meant tables name version symbols =
     record { tables = tables; has_version = is_some version; has_symbols = is_some symbols; table = record { name = name_in name; version = version_of version; slots = slots_of symbols } }
 
 -- a draft is that of the fields, within the limit, and each stood once at most
-record Drawn (limit : ℕ) (tables : List Shared) (name version symbols : Met) (n v s i : ℕ) (e : Draft) : Type 0 where
-  is : e ≡ meant tables name version symbols
-  cheap : counted (meant tables name version symbols) ≤ limit
-  nameless : is_none_left (name_in name) ≡ true → name ≡ None
-  no_name : name ≡ None → n ≡ 0
-  no_version : version ≡ None → v ≡ 0
-  no_symbols : symbols ≡ None → s ≡ 0
-  name_once : n ≤ 1
-  version_once : v ≤ 1
-  symbols_once : s ≤ 1
-  no_imports : i ≤ 0
+pub record Drawn (limit : ℕ) (tables : List Shared) (name version symbols : Met) (n v s i : ℕ) (e : Draft) : Type 0 where
+  pub is : e ≡ meant tables name version symbols
+  pub cheap : counted (meant tables name version symbols) ≤ limit
+  pub nameless : is_none_left (name_in name) ≡ true → name ≡ None
+  pub no_name : name ≡ None → n ≡ 0
+  pub no_version : version ≡ None → v ≡ 0
+  pub no_symbols : symbols ≡ None → s ≡ 0
+  pub name_once : n ≤ 1
+  pub version_once : v ≤ 1
+  pub symbols_once : s ≤ 1
+  pub no_imports : i ≤ 0
 
 keep : (o : Met) → o ≡ or_later o None
 keep None = refl
@@ -242,10 +241,10 @@ nothing-drawn limit tables name version symbols n v s i d e f is =
     })
 
 -- one that may
-abbrev if_met : Word → Word → Value UserSymbol ℕ → Met
+abbrev pub if_met : Word → Word → Value UserSymbol ℕ → Met
 if_met w v x = if same_word w v then Some x else None
 
-abbrev once_if : Word → Word → ℕ
+abbrev pub once_if : Word → Word → ℕ
 once_if w v = if same_word w v then 1 else 0
 
 field-drawn : (limit top place : ℕ) (tables : List Shared) (x : Value UserSymbol ℕ) (name version symbols : Met) (n v s i : ℕ) (d e : Draft) (w : Word)
@@ -278,7 +277,7 @@ FieldsDrawn limit tables members e =
     Drawn limit tables (value_of word.Name members) (value_of word.Version members) (value_of word.Symbols members)
     (times word.Name members) (times word.Version members) (times word.Symbols members) (times word.Imports members) e
 
-fields-drawn : (limit top : ℕ) (tables : List Shared) (members : Members UserSymbol ℕ) (e : Draft) → catalog_cost tables ≤ limit
+pub fields-drawn : (limit top : ℕ) (tables : List Shared) (members : Members UserSymbol ℕ) (e : Draft) → catalog_cost tables ≤ limit
     → fields_drafted limit top members (behind_tables tables) ≡ Ok e → FieldsDrawn limit tables members e
 fields-drawn limit top tables nothing e cheap is = record {
   is = ok-same (behind_tables tables) e is;
@@ -309,11 +308,11 @@ fit limit tables members e d =
     ∙ le-leb (times word.Imports members) 0 d.no_imports))
 
 -- a table was added behind others
-record Added (limit : ℕ) (tables : List Shared) (s : Option Shared) (e : Draft) : Type 0 where
-  more : List Shared
-  added : add_table tables s ≡ Some more
-  is : e ≡ behind_tables more
-  cheap : catalog_cost more ≤ limit
+pub record Added (limit : ℕ) (tables : List Shared) (s : Option Shared) (e : Draft) : Type 0 where
+  pub more : List Shared
+  pub added : add_table tables s ≡ Some more
+  pub is : e ≡ behind_tables more
+  pub cheap : catalog_cost more ≤ limit
 
 struct-added : (limit first : ℕ) (tables : List Shared) (members : Members UserSymbol ℕ) (e : Draft) → catalog_cost tables ≤ limit
     → and_draft (fields_drafted limit first members (behind_tables tables)) (λ d. table_ended first d) ≡ Ok e
@@ -344,7 +343,7 @@ shared-added limit first last tables annotations members e true shared cheap is 
     subst (λ b. Added limit tables (if b then Some (shared_in members) else None) e) (sym yes) both.1
 shared-added limit first last tables annotations members e false shared cheap is = cc
 
-top-added : (limit : ℕ) (tables : List Shared) (u : Top UserSymbol ℕ) (e : Draft) → catalog_cost tables ≤ limit → top_drafted limit u (behind_tables tables) ≡ Ok e
+pub top-added : (limit : ℕ) (tables : List Shared) (u : Top UserSymbol ℕ) (e : Draft) → catalog_cost tables ≤ limit → top_drafted limit u (behind_tables tables) ≡ Ok e
     → Added limit tables (shared_of u) e
 top-added limit tables (tree first annotations place (container kind.Struct members last)) e cheap is =
     shared-added limit first last tables annotations members e (is_shared annotations) refl cheap is
@@ -353,7 +352,7 @@ top-added limit tables (tree first annotations place (container kind.Sexp member
 top-added limit tables (tree first annotations place (scalar body)) e cheap is = cc
 top-added limit tables (value.version place) e cheap is = cc
 
-tops-added : (limit : ℕ) (tables : List Shared) (us : List (Top UserSymbol ℕ)) (e : Draft) → catalog_cost tables ≤ limit → tops_drafted limit us (behind_tables tables) ≡ Ok e
+pub tops-added : (limit : ℕ) (tables : List Shared) (us : List (Top UserSymbol ℕ)) (e : Draft) → catalog_cost tables ≤ limit → tops_drafted limit us (behind_tables tables) ≡ Ok e
     → (all : List Shared) × (tables_behind tables us ≡ Some all) × (e ≡ behind_tables all) × (catalog_cost all ≤ limit)
 tops-added limit tables [] e cheap is = (tables, refl, ok-same (behind_tables tables) e is, cheap)
 tops-added limit tables (u ∷ us) e cheap is =
@@ -362,10 +361,10 @@ tops-added limit tables (u ∷ us) e cheap is =
     let rest = tops-added limit one.more us e one.cheap (subst (λ d. tops_drafted limit us d ≡ Ok e) one.is two.2) in
     (rest.0, ap (λ o. and_tables o (λ more. tables_behind more us)) one.added ∙ rest.1, rest.2, rest.3)
 
-abbrev Tables : Type 0
+abbrev pub Tables : Type 0
 Tables = Result (List Shared) (Reason × ℕ)
 
-abbrev GivesTables : Tables → List Shared → Type 0
+abbrev pub GivesTables : Tables → List Shared → Type 0
 GivesTables r tables = r ≡ Ok tables
 
 abbrev tables_or : List Shared → Tables → List Shared
@@ -383,5 +382,6 @@ of-drafted limit us tables (Ok d) e is =
     (all.1 ∙ ap (λ t. Some t) same, subst (λ t. catalog_cost t ≤ limit) same all.3)
 of-drafted limit us tables (Err why) e is = cc
 
-pub catalogs_are_tables : CatalogsAreTables
-catalogs_are_tables limit us tables is = of-drafted limit us tables (tops_drafted limit us (behind_tables [])) refl is
+pub catalogs-tables : (limit : ℕ) (us : List (Top UserSymbol ℕ)) (tables : List Shared) → catalog_of limit us ≡ Ok tables
+    → (tables_of us ≡ Some tables) × (catalog_cost tables ≤ limit)
+catalogs-tables limit us tables is = of-drafted limit us tables (tops_drafted limit us (behind_tables [])) refl is

@@ -123,6 +123,14 @@ a_version_below_one_and_slots_without_text = refl
 imports_are_refused : catalog_of 1048576 (shared 0 (field (field nothing (codes "name") 32 (string (codes "x"))) (codes "imports") 44 null) 48 ∷ []) ≡ Err (reasons.CatalogEntry, 0)
 imports_are_refused = refl
 
+-- of two faults the first is named: $ion_shared_symbol_table::{name:"x",imports:null}
+the_limit_before_imports : catalog_of 32 (shared 0 (field (field nothing (codes "name") 32 (string (codes "x"))) (codes "imports") 44 null) 48 ∷ []) ≡ Err (reasons.SymbolLimit, 32)
+the_limit_before_imports = refl
+
+-- $ion_shared_symbol_table::{imports:null,name:"x"}
+imports_before_the_limit : catalog_of 32 (shared 0 (field (field nothing (codes "imports") 35 null) (codes "name") 45 (string (codes "x"))) 48 ∷ []) ≡ Err (reasons.CatalogEntry, 0)
+imports_before_the_limit = refl
+
 -- $ion_shared_symbol_table::{version:1}
 no_name : catalog_of 1048576 (shared 0 (field nothing (codes "version") 35 (number 1)) 36 ∷ []) ≡ Err (reasons.CatalogEntry, 0)
 no_name = refl

@@ -37,3 +37,4 @@ mod CatalogViews
 mod CatalogCosts
 mod CatalogSteps
 mod CatalogMeaning
+mod CatalogRefusals

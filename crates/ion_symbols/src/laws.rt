@@ -1,5 +1,5 @@
 //! Laws of the definitions of symbol tables, each the contract of a function that does nothing.
-ghost use Rattle.ion_symbols.specs.CatalogLaws.{CatalogsAreRead, CatalogsAreTables};
+ghost use Rattle.ion_symbols.specs.CatalogLaws.{CatalogsAreRead, CatalogsAreTables, WhyCatalogsAreRefused};
 ghost use Rattle.ion_symbols.specs.Laws.{DeclarationsAreRead, OpenUsersAreRead, SymbolsStand, UsersAreRead, WhatIsAccepted, WhatIsDeclared, WhyRefused, WhyUsersStop};
 
 /// The streaming and the tree definitions of a declaration agree: its items give the table that its
@@ -57,9 +57,16 @@ pub fn catalogs_are_read()
 {}
 
 /// What they lead to without a fault are the tables of the values, in order, and they cost no more
-/// than the limit.
+/// than the limit; and values that are such tables lead to them.
 pub fn catalogs_are_tables()
     ensures { CatalogsAreTables }
+{}
+
+/// Values are refused for one of them, behind others that are tables within the limit: for
+/// `CatalogEntry`, at its first byte, where it is no table or its table may not stand there; for
+/// `SymbolLimit` where its name and slots cost more than the limit with the tables before it.
+pub fn why_catalogs_are_refused()
+    ensures { WhyCatalogsAreRefused }
 {}
 
 #[cfg(test)]
@@ -78,5 +85,6 @@ mod tests {
         why_users_stop();
         catalogs_are_read();
         catalogs_are_tables();
+        why_catalogs_are_refused();
     }
 }

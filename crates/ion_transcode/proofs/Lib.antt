@@ -13,3 +13,4 @@ mod UserPaths
 mod Loading
 mod Following
 mod LoadParts
+mod TableStreams

@@ -12,8 +12,8 @@ use Rattle.ion_symbols.specs.Users.{at_start, users}
 use Rattle.ion_symbols.specs.CatalogItems.{Loading, loaded, catalog_refusal}
 use Rattle.ion_transcode.specs.declared.to.Form.{Form}
 use Rattle.ion_transcode.specs.declared.to.Form.TheVariants as form
-use Rattle.ion_transcode.specs.Forms.{form_of, reading_of}
-use Rattle.ion_transcode.specs.Catalogues.{form_by_first, Loads, SaysCatalog, catalog_reading, catalog_verdict}
+use Rattle.ion_transcode.specs.Forms.{form_by_first, form_of, reading_of}
+use Rattle.ion_transcode.specs.Catalogues.{Loads, SaysCatalog, catalog_reading, catalog_verdict}
 
 -- the verdict by a catalogue that is empty, and by limits that are the same
 pub verdict-by : (limits given : Limits) (raw : Reading) (empty : List Shared) (v : Verdict) → given ≡ limits → empty ≡ []

@@ -18,7 +18,7 @@ use Rattle.ion_text_in.specs.Reading as text
 use Rattle.ion_transcode.specs.declared.to.Form.{Form}
 use Rattle.ion_transcode.specs.declared.to.Form.TheVariants as form
 use Rattle.ion_transcode.specs.Encoding.{Encoding, IsSound}
-use Rattle.ion_transcode.specs.Outputs.{Agrees}
+use Rattle.ion_transcode.specs.Outputs.{Outputs, Agrees}
 use Rattle.ion_transcode.specs.Forms.{IsBinary, form_of, text_encoding, encoding_of, reading_of}
 use Rattle.ion_transcode.specs.Verdict.{Faultless, HasVerdictFrom, whole, own_fault, symbol_fault, writer_fault}
 use Rattle.ion_transcode.specs.Laws.{BinaryIsSound, TextIsSound}
@@ -44,22 +44,22 @@ nothing_written refusal path (More item rest) = output_with-nothing (refusal pat
 -- ---- the tables of what was read
 
 -- of a stream that is accepted
-record WholeOf (e : Encoding) (limits : Limits) (bytes : List ℕ) : Type 0 where
-  tops : List (Top SymbolAt ℕ)
-  mine : List PlacedItem
-  s : e.State
-  u : users.State
-  spelled : e.Stream bytes tops
-  faultless : Faultless e (as_catalog limits) [] limits bytes (top_items tops) s u mine
-  ends : e.step limits s ≡ Ends
+pub record WholeOf (e : Encoding) (target : Outputs) (limits : Limits) (bytes : List ℕ) : Type 0 where
+  pub tops : List (Top SymbolAt ℕ)
+  pub mine : List PlacedItem
+  pub s : e.State
+  pub u : users.State
+  pub spelled : e.Stream bytes tops
+  pub faultless : Faultless e target [] limits bytes (top_items tops) s u mine
+  pub ends : e.step limits s ≡ Ends
 
-whole-of : (e : Encoding) (limits : Limits) (bytes : List ℕ) (v : Verdict) (out : List ℕ) (n : ℕ) → HasVerdictFrom e (as_catalog limits) [] limits bytes v out → v ≡ Accepted n
-    → WholeOf e limits bytes
-whole-of e limits bytes _ _ n (whole tops us mine s u spelled faultless ends users_are) is =
+pub whole-of : (e : Encoding) (target : Outputs) (limits : Limits) (bytes : List ℕ) (v : Verdict) (out : List ℕ) (n : ℕ) → HasVerdictFrom e target [] limits bytes v out → v ≡ Accepted n
+    → WholeOf e target limits bytes
+whole-of e target limits bytes _ _ n (whole tops us mine s u spelled faultless ends users_are) is =
     record { tops = tops; mine = mine; s = s; u = u; spelled = spelled; faultless = faultless; ends = ends }
-whole-of e limits bytes _ _ n (own_fault path mine s u reason place at_path faultless stops) is = cc
-whole-of e limits bytes _ _ n (symbol_fault path mine item s t u reason place at_path faultless gives stops) is = cc
-whole-of e limits bytes _ _ n (writer_fault path mine item own s t u v reason place at_path faultless gives user refused) is = cc
+whole-of e target limits bytes _ _ n (own_fault path mine s u reason place at_path faultless stops) is = cc
+whole-of e target limits bytes _ _ n (symbol_fault path mine item s t u reason place at_path faultless gives stops) is = cc
+whole-of e target limits bytes _ _ n (writer_fault path mine item own s t u v reason place at_path faultless gives user refused) is = cc
 
 abbrev loading_or : Loading → Loaded → Loading
 loading_or s (Ok t) = t
@@ -77,7 +77,7 @@ drafted (Err why) left is = cc
 values-meant : CatalogsAreRead → CatalogsAreTables → (limit : ℕ) (mine : List PlacedItem) (us : List (Top UserSymbol ℕ)) (left : Loading) → user_items mine ≡ top_items us
     → Leads (loaded limit (user_items mine)) left → (tables_of us ≡ Some left.draft.tables) × (catalog_cost left.draft.tables ≤ limit)
 values-meant read meant limit mine us left same is =
-    meant limit us left.draft.tables (drafted (tops_drafted limit us (behind_tables [])) left (sym (read limit us) ∙ (sym (ap (loaded limit) same) ∙ is)))
+    (meant limit us left.draft.tables).0 (drafted (tops_drafted limit us (behind_tables [])) left (sym (read limit us) ∙ (sym (ap (loaded limit) same) ∙ is)))
 
 module _ (users_read : UsersAreRead) (e : Encoding) (IsOf : List ℕ → Type 0) (reading : Limits → List ℕ → Reading) (sound : IsSound e IsOf reading)
     (limits : Limits) (bytes : List ℕ) (is_of : IsOf bytes) where
@@ -89,7 +89,7 @@ module _ (users_read : UsersAreRead) (e : Encoding) (IsOf : List ℕ → Type 0)
       (reading-reached users_read e IsOf reading sound (as_catalog limits) (agrees limits) [] limits bytes is_of)
 
   -- where it is accepted its user items are those of the stream
-  all_mine : (w : WholeOf e limits bytes) → items_of (catalog_users limits (reading limits bytes)) ≡ w.mine
+  all_mine : (w : WholeOf e (as_catalog limits) limits bytes) → items_of (catalog_users limits (reading limits bytes)) ≡ w.mine
   all_mine w =
       let prefix = faultless-prefixes e (as_catalog limits) [] limits bytes (top_items w.tops) w.s w.u w.mine w.faultless in
       let fuel = suc (sound.size (e.start bytes)) in
@@ -99,7 +99,7 @@ module _ (users_read : UsersAreRead) (e : Encoding) (IsOf : List ℕ → Type 0)
       ap (catalog_users limits) enough ∙ (prefix.own fuel ∙ ap (behind w.mine) (user-step e (as_catalog limits) [] limits (sound.size (e.start bytes)) w.s w.u Ends w.ends)) in
       ap items_of all ∙ (items_of-behind w.mine Finished ∙ append-nil w.mine)
 
-  of-whole : CatalogsAreRead → CatalogsAreTables → (tables : List Shared) → Loads limits (reading limits bytes) tables → WholeOf e limits bytes → IsCatalogIn e limits bytes tables
+  of-whole : CatalogsAreRead → CatalogsAreTables → (tables : List Shared) → Loads limits (reading limits bytes) tables → WholeOf e (as_catalog limits) limits bytes → IsCatalogIn e limits bytes tables
   of-whole read meant tables loads w =
       let prefix = faultless-prefixes e (as_catalog limits) [] limits bytes (top_items w.tops) w.s w.u w.mine w.faultless in
       let values = faultless-tops e (as_catalog limits) [] limits users_read bytes w.tops w.s w.u w.mine prefix w.ends in
@@ -117,7 +117,7 @@ module _ (users_read : UsersAreRead) (e : Encoding) (IsOf : List ℕ → Type 0)
 
   -- and its tables
   pub catalog-loaded : CatalogsAreRead → CatalogsAreTables → (tables : List Shared) → Loads limits (reading limits bytes) tables → IsCatalogIn e limits bytes tables
-  catalog-loaded read meant tables loads = of-whole read meant tables loads (whole-of e limits bytes _ [] loads.count reached loads.accepted)
+  catalog-loaded read meant tables loads = of-whole read meant tables loads (whole-of e (as_catalog limits) limits bytes _ [] loads.count reached loads.accepted)
 
 -- ---- by the form of the stream
 

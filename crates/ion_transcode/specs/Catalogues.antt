@@ -1,5 +1,5 @@
 -- What is read of a catalogue: a stream of shared tables, and nothing else.
-use Rattle.std.specs.Prelude.{◌≡◌, ◌≢◌, ℕ, ◌+◌, ◌<◌, ◌≤◌, nat_eq, List, [], length, Option, Some, None, Result, Ok, Err}
+use Rattle.std.specs.Prelude.{◌≡◌, ◌≢◌, ℕ, ◌+◌, ◌<◌, ◌≤◌, List, [], length, Some, Result, Ok, Err}
 use Rattle.ion_meter.specs.Counts.{Counts}
 use Rattle.ion_meter.specs.declared.fault.Fault.{Fault}
 use Rattle.ion_meter.specs.declared.fault.Fault.TheVariants.{Refused, Memory, ReadFault, WriteFault, InputLimit}
@@ -14,13 +14,12 @@ use Rattle.ion_symbols.specs.Users.{at_start, users}
 use Rattle.ion_symbols.specs.CatalogItems.{Loading, loaded, catalog_refusal}
 use Rattle.ion_symbols.specs.CatalogTrees.{tables_of}
 use Rattle.ion_transcode.specs.declared.to.To.TheVariants as to
-use Rattle.ion_transcode.specs.declared.to.Form.{Form}
 use Rattle.ion_transcode.specs.declared.to.Form.TheVariants as form
 use Rattle.ion_transcode.specs.Bound.{bound}
 use Rattle.ion_transcode.specs.Encoding.{Encoding}
 use Rattle.ion_transcode.specs.Outputs.{Outputs}
-use Rattle.ion_transcode.specs.Forms.{form_by, form_of, encoding_of, reading_of}
-use Rattle.ion_transcode.specs.Verdict.{HasVerdictFrom}
+use Rattle.ion_transcode.specs.Forms.{form_of, encoding_of, reading_of}
+use Rattle.ion_transcode.specs.Verdict.{HasVerdictFrom, HasVerdict}
 use Rattle.ion_transcode.specs.ByItem.{verdict}
 
 -- nothing is written, and what is no shared table, or costs more than the limit with those before it, is refused at its item
@@ -45,11 +44,6 @@ abbrev pub IsCatalog : Limits → List ℕ → List Shared → Type 0
 IsCatalog limits bytes tables = IsCatalogIn (encoding_of (form_of bytes)) limits bytes tables
 
 -- ---- as it is read item by item
-
--- the form of a stream by its first byte
-abbrev pub form_by_first : Option ℕ → Form
-form_by_first None = form.Text
-form_by_first (Some b) = form_by (nat_eq b 224)
 
 abbrev pub catalog_reading : Limits → List ℕ → Reading
 catalog_reading limits bytes = reading_of (form_of bytes) limits bytes
@@ -105,6 +99,18 @@ CatalogVerdictsAreRead = (limits : Limits) (bytes : List ℕ) → HasCatalogVerd
 abbrev pub CatalogsAreLoaded : Type 0
 CatalogsAreLoaded = (limits : Limits) (bytes : List ℕ) (tables : List Shared) → Loads limits (catalog_reading limits bytes) tables → IsCatalog limits bytes tables
 
+-- where a run to nothing under the empty catalogue accepts a stream, and its user values are tables within the limit, it is their catalogue
+abbrev pub TablesAreCatalogs : Type 0
+TablesAreCatalogs =
+    (limits : Limits) (bytes : List ℕ) (tops : List (Top SymbolAt ℕ)) (us : List (Top UserSymbol ℕ)) (tables : List Shared) (count : ℕ) (out : List ℕ)
+    → HasVerdict [] limits to.Nothing bytes (Accepted count) out
+    → (encoding_of (form_of bytes)).Stream bytes tops → user_tops [] system tops ≡ Some us → tables_of us ≡ Some tables → catalog_cost tables ≤ limits.symbols
+    → IsCatalog limits bytes tables
+
 -- a stream has one verdict as a catalogue at most
 abbrev pub OneCatalogVerdict : Type 0
 OneCatalogVerdict = (limits : Limits) (bytes : List ℕ) (v w : Verdict) → HasCatalogVerdict limits bytes v → HasCatalogVerdict limits bytes w → v ≡ w
+
+-- and one catalogue at most
+abbrev pub OneCatalog : Type 0
+OneCatalog = (limits : Limits) (bytes : List ℕ) (s t : List Shared) → IsCatalog limits bytes s → IsCatalog limits bytes t → s ≡ t

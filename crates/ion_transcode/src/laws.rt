@@ -1,5 +1,5 @@
 //! Laws of the verdicts of streams, each the contract of a function that does nothing.
-ghost use Rattle.ion_transcode.specs.Catalogues.{CatalogVerdictsAreRead, CatalogsAreLoaded, OneCatalogVerdict};
+ghost use Rattle.ion_transcode.specs.Catalogues.{CatalogVerdictsAreRead, CatalogsAreLoaded, OneCatalog, OneCatalogVerdict, TablesAreCatalogs};
 ghost use Rattle.ion_transcode.specs.Forms.{binary_encoding, text_encoding};
 ghost use Rattle.ion_transcode.specs.Laws.{BinaryIsComplete, BinaryIsSound, OneSpelling, OneVerdict, SpellsOnce, StreamsAreRead, TextIsComplete, TextIsSound};
 ghost use Rattle.ion_transcode.specs.UserPaths.{FaultlessPathsAreRead, RefusedOutputIsThatOfAPath};
@@ -134,11 +134,29 @@ pub fn catalogs_are_loaded()
     catalogs_are_tables();
 }
 
+/// Where a run to nothing accepts a stream under the empty catalogue, and its user values are
+/// tables within the limit, it is their catalogue: so `load_catalog` does not refuse it.
+pub fn tables_are_catalogs()
+    ensures { TablesAreCatalogs }
+{
+    one_spelling();
+    users_are_read();
+    catalogs_are_read();
+    catalogs_are_tables();
+}
+
 /// A stream has one verdict as a catalogue at most.
 pub fn one_catalog_verdict()
     ensures { OneCatalogVerdict }
 {
     users_are_read();
+}
+
+/// It has one catalogue at most.
+pub fn one_catalog()
+    ensures { OneCatalog }
+{
+    one_spelling();
 }
 
 #[cfg(test)]
@@ -160,6 +178,8 @@ mod tests {
         refused_output_is_that_of_a_path();
         catalog_verdicts_are_read();
         catalogs_are_loaded();
+        tables_are_catalogs();
         one_catalog_verdict();
+        one_catalog();
     }
 }

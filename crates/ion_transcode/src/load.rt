@@ -11,11 +11,11 @@ ghost use Rattle.ion_transcode.specs.declared.to.Form.TheVariants as form;
 ghost use Rattle.ion_transcode.specs.declared.to.To.TheVariants as to;
 ghost use Rattle.ion_transcode.specs.Bound.{share};
 ghost use Rattle.ion_transcode.specs.Calls.{Begins, HasRoom, IsFresh};
-ghost use Rattle.ion_transcode.specs.Catalogues.{HasCatalogVerdict, IsCatalog, LoadCauses, SaysCatalog, catalog_reading, form_by_first, kept_in, load_bound};
+ghost use Rattle.ion_transcode.specs.Catalogues.{HasCatalogVerdict, IsCatalog, LoadCauses, SaysCatalog, catalog_reading, kept_in, load_bound};
 
 use crate::copy_stream::copy_stream;
 use crate::laws::{catalog_verdicts_are_read, catalogs_are_loaded};
-use crate::to::Form;
+use crate::to::{Form, form_by_first};
 use ion_binary::reader::BinReader;
 use ion_meter::device::{Broken, Input, Output};
 use ion_meter::fault::Fault;
@@ -78,16 +78,6 @@ fn build<R: RawReader<A>, A: Allocator + Copy>(
             builder.release(meter);
             (Err(fault), raw)
         }
-    }
-}
-
-/// The form of a stream by its first byte, if there is one.
-fn form_by_first(first: Option<u8>) -> Form
-    ensures { result ≡ form_by_first first }
-{
-    match first {
-        Some(224) => Form::Binary,
-        _ => Form::Text,
     }
 }
 

@@ -1,4 +1,4 @@
-use Rattle.ion_symbols.proofs.CatalogMeaning.{catalogs_are_tables}
+use Rattle.ion_symbols.proofs.CatalogRefusals.{catalogs_are_tables}
 use Rattle.ion_symbols.proofs.laws.catalogs_are_tables.Goals as goal
 
 pub returns : goal.returns

@@ -15,6 +15,7 @@ mod narrowing;
 mod one_declaration;
 mod pieces;
 mod reading;
+mod refusing;
 mod scalar_octets;
 mod scalars;
 mod streams;
@@ -23,6 +24,8 @@ mod user_endings;
 mod users;
 mod wrappers;
 mod written;
+mod written_again;
+mod written_rows;
 
 use ion_meter::limits::Limits;
 

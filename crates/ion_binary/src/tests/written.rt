@@ -21,7 +21,7 @@ use ion_value::item::{Annotation, Annotations, Head, Item, Sym, SymAt};
 use ion_value::names::{Names, NoNames};
 use ion_value::timestamp::timestamp_from_text;
 use ion_value::writer::ValueWriter;
-use std::alloc::Global;
+use std::alloc::{Allocator, Global};
 use std::process::Abort;
 use std::test::Fail;
 
@@ -134,7 +134,7 @@ fn go_on(rt: &impl Abort, kinds: &mut Vec<Kind>, head: &Head<'_>)
 }
 
 /// Asserts that little is counted.
-fn expect_little(rt: &impl Abort, meter: &Meter<Global>)
+pub fn expect_little<A: Allocator + Copy>(rt: &impl Abort, meter: &Meter<A>)
     ensures held { meter.now.held < 2 ^ 32 }
     ensures refused { meter.now.refused < 2 ^ 32 }
 {

@@ -59,6 +59,7 @@ pub mod ReaderTokens
 pub mod ShownFurther
 pub mod ReaderSymbols
 pub mod ReaderTakes
+pub mod ReaderLanes
 pub mod LobTurns
 mod RunCuts
 mod Rows

@@ -18,14 +18,14 @@ ghost use Rattle.ion_text_in.specs.Symbols.{is_annotated, kept_text};
 ghost use Rattle.ion_text_in.specs.Expecting.{wanted, MayExpect};
 ghost use Rattle.ion_text_in.specs.Steps.{annotations_in, as_head, closing, ending, given_by, held_by, left_to, lent_by, naming, opened_in, opening, part_by, scalar_by, share_of, sound-within, taking, to_come_by, to_come_in, with_colons, without_colons, CanAdvance, CanStep, IsInside, IsReady, IsSized, IsSound, ReadyAfter, StepGives, Stepped};
 
+mod lanes;
+
 use crate::blank::pass_blanks;
-use crate::expected::{
-    Expected, at_member, behind_comma, behind_member, is_colons, is_same, may_come,
-};
+use crate::expected::{Expected, at_member, behind_comma, behind_member, is_colons, is_same};
 use crate::first::{First, next_first};
 use crate::operator::{pass_colons, pass_mark};
 use crate::symbol::{FieldName, annotation_place, keep_text, lent_field, lent_symbol};
-use crate::token::{Body, Symbol, Token, next_token};
+use crate::token::{Body, Symbol, Token};
 use crate::version::{is_version, is_version_word};
 use crate::waiting::shows_item;
 use ion_meter::buf::Buf;
@@ -454,6 +454,7 @@ impl<I: Input, A: Allocator + Copy> TextReader<I, A> {
 
     // Takes the token that was read behind a member.
     #[tactic(auto, unfolding(crate::specs::Reading::take))]
+    #[inline(always)]
     fn take_separator(
         &mut self,
         token: Token,
@@ -482,6 +483,7 @@ impl<I: Input, A: Allocator + Copy> TextReader<I, A> {
 
     // Takes the token that was read where a field may begin.
     #[tactic(auto, unfolding(crate::specs::Reading::take))]
+    #[inline(always)]
     fn take_field(
         &mut self,
         token: Token,
@@ -509,6 +511,7 @@ impl<I: Input, A: Allocator + Copy> TextReader<I, A> {
 
     // Takes the token that was read where a value may stand.
     #[tactic(auto, unfolding(crate::specs::Reading::take))]
+    #[inline(always)]
     fn take_value(
         &mut self,
         token: Token,
@@ -564,31 +567,6 @@ impl<I: Input, A: Allocator + Copy> TextReader<I, A> {
             return Err(Fault::Refused(Reason::BadToken, place));
         }
         self.close(kind, place, meter)
-    }
-
-    // Reads the token that so begins, and takes it.
-    fn part(&mut self, first: First, meter: &mut Meter<A>) -> Result<StepResult, Fault>
-        requires can_step { CanStep self.old meter.old }
-        requires there { width (first_of first) ≤ length (lent self.old.source) }
-        ensures gives { I.observable self.old.source.device → StepGives I.Input
-            (part_by I.Input self.old (first_of first)) self.new result }
-        ensures ready { ReadyAfter result self.new }
-        ensures further { OnOk result (left_to self.new < left_to self.old) }
-        ensures stepped { Stepped I.Input StepResult.Item self.old self.new
-            meter.old meter.new result }
-    {
-        let place = self.source.place();
-        if !may_come(self.expected, first) {
-            return Err(Fault::Refused(Reason::BadToken, place));
-        }
-        match next_token(&mut self.source, &mut self.text, first, self.limits, meter) {
-            Err(fault) => Err(fault),
-            Ok(token) => match self.expected {
-                Expected::Separator => self.take_separator(token, place, meter),
-                Expected::Field => self.take_field(token, place, meter),
-                Expected::Value => self.take_value(token, place, meter),
-            },
-        }
     }
 
     // The end of the input: the stream ends where nothing is open and a value may begin.

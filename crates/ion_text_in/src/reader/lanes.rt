@@ -1,0 +1,311 @@
+//! Each frequent kind of token on a lane of its own: what was read is taken at once, and no token is
+//! built that is copied and told apart again.
+ghost use Rattle.std.specs.Prelude.{◌≡◌, ◌<◌, ◌≤◌, length, OnOk};
+ghost use Rattle.ion_meter.specs.Sources.{Cursor, cursor};
+ghost use Rattle.ion_meter.specs.Windows.{lent};
+ghost use Rattle.ion_text_in.specs.Blanks.{blanks};
+ghost use Rattle.ion_text_in.specs.Firsts.{first_of, width};
+ghost use Rattle.ion_text_in.specs.Token as tokens;
+ghost use Rattle.ion_text_in.specs.Tokens.{going, overrun_of, token_view, TokenInRange};
+ghost use Rattle.ion_text_in.specs.Views.{word_token_of};
+ghost use Rattle.ion_text_in.specs.Steps.{left_to, part_by, taking, CanStep, ReadyAfter, StepGives, Stepped};
+
+use super::{StepResult, TextReader};
+use crate::expected::{Expected, may_come};
+use crate::first::First;
+use crate::number::next_number;
+use crate::operator::pass_mark;
+use crate::text::{next_quoted_symbol, next_short_string};
+use crate::token::{Body, Symbol, Token, next_token, number_body};
+use crate::word::{Word, next_word};
+use ion_meter::device::Input;
+use ion_meter::fault::{Fault, Reason};
+use ion_meter::meter::Meter;
+use ion_value::ion_type::Kind;
+use std::alloc::Allocator;
+
+impl<I: Input, A: Allocator + Copy> TextReader<I, A> {
+    // Reads the token that so begins, and takes it: a frequent kind on its own lane.
+    #[inline(always)]
+    pub(super) fn part(&mut self, first: First, meter: &mut Meter<A>) -> Result<StepResult, Fault>
+        requires can_step { CanStep self.old meter.old }
+        requires there { width (first_of first) ≤ length (lent self.old.source) }
+        ensures gives { I.observable self.old.source.device → StepGives I.Input
+            (part_by I.Input self.old (first_of first)) self.new result }
+        ensures ready { ReadyAfter result self.new }
+        ensures further { OnOk result (left_to self.new < left_to self.old) }
+        ensures stepped { Stepped I.Input StepResult.Item self.old self.new
+            meter.old meter.new result }
+    {
+        match first {
+            First::Word => self.word(meter),
+            First::Number => self.number(meter),
+            First::String => self.string(meter),
+            First::QuotedSymbol => self.quoted(meter),
+            First::Comma => self.comma(meter),
+            First::Begin(kind) => self.begin(kind, meter),
+            First::End(kind) => self.finish(kind, meter),
+            _ => self.other(first, meter),
+        }
+    }
+
+    // The same by way of a token.
+    #[inline(never)]
+    fn other(&mut self, first: First, meter: &mut Meter<A>) -> Result<StepResult, Fault>
+        requires can_step { CanStep self.old meter.old }
+        requires there { width (first_of first) ≤ length (lent self.old.source) }
+        ensures gives { I.observable self.old.source.device → StepGives I.Input
+            (part_by I.Input self.old (first_of first)) self.new result }
+        ensures ready { ReadyAfter result self.new }
+        ensures further { OnOk result (left_to self.new < left_to self.old) }
+        ensures stepped { Stepped I.Input StepResult.Item self.old self.new
+            meter.old meter.new result }
+    {
+        let place = self.source.place();
+        if !may_come(self.expected, first) {
+            return Err(Fault::Refused(Reason::BadToken, place));
+        }
+        match next_token(&mut self.source, &mut self.text, first, self.limits, meter) {
+            Err(fault) => Err(fault),
+            Ok(token) => self.take(token, place, meter),
+        }
+    }
+
+    // Reads the word that begins here, and takes it.
+    #[inline(never)]
+    fn word(&mut self, meter: &mut Meter<A>) -> Result<StepResult, Fault>
+        requires can_step { CanStep self.old meter.old }
+        requires there { 1 ≤ length (lent self.old.source) }
+        ensures gives { I.observable self.old.source.device → StepGives I.Input
+            (part_by I.Input self.old tokens.a_word) self.new result }
+        ensures ready { ReadyAfter result self.new }
+        ensures further { OnOk result (left_to self.new < left_to self.old) }
+        ensures stepped { Stepped I.Input StepResult.Item self.old self.new
+            meter.old meter.new result }
+    {
+        let place = self.source.place();
+        if !may_come(self.expected, First::Word) {
+            return Err(Fault::Refused(Reason::BadToken, place));
+        }
+        match next_word(&mut self.source, &mut self.text, self.limits, meter) {
+            Err(fault) => Err(fault),
+            Ok(word) => self.take_word(word, place, meter),
+        }
+    }
+
+    // The same of a number or a timestamp.
+    #[inline(never)]
+    fn number(&mut self, meter: &mut Meter<A>) -> Result<StepResult, Fault>
+        requires can_step { CanStep self.old meter.old }
+        requires there { 1 ≤ length (lent self.old.source) }
+        ensures gives { I.observable self.old.source.device → StepGives I.Input
+            (part_by I.Input self.old tokens.a_run) self.new result }
+        ensures ready { ReadyAfter result self.new }
+        ensures further { OnOk result (left_to self.new < left_to self.old) }
+        ensures stepped { Stepped I.Input StepResult.Item self.old self.new
+            meter.old meter.new result }
+    {
+        let place = self.source.place();
+        if !may_come(self.expected, First::Number) {
+            return Err(Fault::Refused(Reason::BadToken, place));
+        }
+        match next_number(&mut self.source, &mut self.text, self.limits, meter) {
+            Err(fault) => Err(fault),
+            Ok(number) => self.take(Token::Plain(number_body(number)), place, meter),
+        }
+    }
+
+    // The same of a string.
+    #[inline(never)]
+    fn string(&mut self, meter: &mut Meter<A>) -> Result<StepResult, Fault>
+        requires can_step { CanStep self.old meter.old }
+        requires there { 1 ≤ length (lent self.old.source) }
+        ensures gives { I.observable self.old.source.device → StepGives I.Input
+            (part_by I.Input self.old tokens.a_short) self.new result }
+        ensures ready { ReadyAfter result self.new }
+        ensures further { OnOk result (left_to self.new < left_to self.old) }
+        ensures stepped { Stepped I.Input StepResult.Item self.old self.new
+            meter.old meter.new result }
+    {
+        let place = self.source.place();
+        if !may_come(self.expected, First::String) {
+            return Err(Fault::Refused(Reason::BadToken, place));
+        }
+        match next_short_string(&mut self.source, &mut self.text, self.limits, meter) {
+            Err(fault) => Err(fault),
+            Ok(()) => self.take(Token::String(None), place, meter),
+        }
+    }
+
+    // The same of a symbol in quotes.
+    #[inline(never)]
+    fn quoted(&mut self, meter: &mut Meter<A>) -> Result<StepResult, Fault>
+        requires can_step { CanStep self.old meter.old }
+        requires there { 1 ≤ length (lent self.old.source) }
+        ensures gives { I.observable self.old.source.device → StepGives I.Input
+            (part_by I.Input self.old tokens.a_quoted) self.new result }
+        ensures ready { ReadyAfter result self.new }
+        ensures further { OnOk result (left_to self.new < left_to self.old) }
+        ensures stepped { Stepped I.Input StepResult.Item self.old self.new
+            meter.old meter.new result }
+    {
+        let place = self.source.place();
+        if !may_come(self.expected, First::QuotedSymbol) {
+            return Err(Fault::Refused(Reason::BadToken, place));
+        }
+        match next_quoted_symbol(&mut self.source, &mut self.text, self.limits, meter) {
+            Err(fault) => Err(fault),
+            Ok(()) => self.take(Token::Symbol(Symbol::Text, true), place, meter),
+        }
+    }
+
+    // Passes over the comma that stands here, and takes it.
+    #[inline(always)]
+    fn comma(&mut self, meter: &mut Meter<A>) -> Result<StepResult, Fault>
+        requires can_step { CanStep self.old meter.old }
+        requires there { 1 ≤ length (lent self.old.source) }
+        ensures gives { I.observable self.old.source.device → StepGives I.Input
+            (part_by I.Input self.old tokens.a_comma) self.new result }
+        ensures ready { ReadyAfter result self.new }
+        ensures further { OnOk result (left_to self.new < left_to self.old) }
+        ensures stepped { Stepped I.Input StepResult.Item self.old self.new
+            meter.old meter.new result }
+    {
+        let place = self.source.place();
+        pass_mark(&mut self.source);
+        self.take(Token::Comma, place, meter)
+    }
+
+    // The same of a container's beginning.
+    #[inline(always)]
+    fn begin(&mut self, kind: Kind, meter: &mut Meter<A>) -> Result<StepResult, Fault>
+        requires can_step { CanStep self.old meter.old }
+        requires there { 1 ≤ length (lent self.old.source) }
+        ensures gives { I.observable self.old.source.device → StepGives I.Input
+            (part_by I.Input self.old (tokens.a_begin kind)) self.new result }
+        ensures ready { ReadyAfter result self.new }
+        ensures further { OnOk result (left_to self.new < left_to self.old) }
+        ensures stepped { Stepped I.Input StepResult.Item self.old self.new
+            meter.old meter.new result }
+    {
+        let place = self.source.place();
+        pass_mark(&mut self.source);
+        self.take(Token::Begin(kind), place, meter)
+    }
+
+    // The same of a container's end.
+    #[inline(always)]
+    fn finish(&mut self, kind: Kind, meter: &mut Meter<A>) -> Result<StepResult, Fault>
+        requires can_step { CanStep self.old meter.old }
+        requires there { 1 ≤ length (lent self.old.source) }
+        ensures gives { I.observable self.old.source.device → StepGives I.Input
+            (part_by I.Input self.old (tokens.an_end kind)) self.new result }
+        ensures ready { ReadyAfter result self.new }
+        ensures further { OnOk result (left_to self.new < left_to self.old) }
+        ensures stepped { Stepped I.Input StepResult.Item self.old self.new
+            meter.old meter.new result }
+    {
+        let place = self.source.place();
+        pass_mark(&mut self.source);
+        self.take(Token::End(kind), place, meter)
+    }
+
+    // Takes the word that was read.
+    #[tactic(auto, unfolding(crate::specs::Reading::take))]
+    #[inline(always)]
+    fn take_word(
+        &mut self,
+        word: Word,
+        place: u64,
+        meter: &mut Meter<A>,
+    ) -> Result<StepResult, Fault>
+        requires can_step { CanStep self.old meter.old }
+        ensures gives { I.observable self.old.source.device → (d : Cursor)
+            → blanks d ≡ blanks (cursor I.Input self.old.source)
+            → StepGives I.Input
+            (taking self.old place (word_token_of self.old.text word) d) self.new result }
+        ensures ready { ReadyAfter result self.new }
+        ensures stepped { Stepped I.Input StepResult.Item self.old self.new
+            meter.old meter.new result }
+    {
+        match self.expected {
+            Expected::Separator => Err(Fault::Refused(Reason::BadToken, place)),
+            Expected::Field => self.word_field(word, place, meter),
+            Expected::Value => self.word_value(word, place, meter),
+        }
+    }
+
+    // Takes the word that was read where a field may begin.
+    #[tactic(auto, unfolding(crate::specs::Reading::take))]
+    #[inline(always)]
+    fn word_field(
+        &mut self,
+        word: Word,
+        place: u64,
+        meter: &mut Meter<A>,
+    ) -> Result<StepResult, Fault>
+        requires can_step { CanStep self.old meter.old }
+        requires field { self.old.expected ≡ Expected.Field }
+        ensures gives { I.observable self.old.source.device → (d : Cursor)
+            → blanks d ≡ blanks (cursor I.Input self.old.source)
+            → StepGives I.Input
+            (taking self.old place (word_token_of self.old.text word) d) self.new result }
+        ensures ready { ReadyAfter result self.new }
+        ensures stepped { Stepped I.Input StepResult.Item self.old self.new
+            meter.old meter.new result }
+    {
+        match word {
+            Word::Name => self.named(Symbol::Text, place),
+            Word::Id(id) => self.named(Symbol::Id(id), place),
+            _ => Err(Fault::Refused(Reason::BadToken, place)),
+        }
+    }
+
+    // Takes the word that was read where a value may stand.
+    #[tactic(auto, unfolding(crate::specs::Reading::take))]
+    #[inline(always)]
+    fn word_value(
+        &mut self,
+        word: Word,
+        place: u64,
+        meter: &mut Meter<A>,
+    ) -> Result<StepResult, Fault>
+        requires can_step { CanStep self.old meter.old }
+        requires value { self.old.expected ≡ Expected.Value }
+        ensures gives { I.observable self.old.source.device → (d : Cursor)
+            → blanks d ≡ blanks (cursor I.Input self.old.source)
+            → StepGives I.Input
+            (taking self.old place (word_token_of self.old.text word) d) self.new result }
+        ensures ready { ReadyAfter result self.new }
+        ensures stepped { Stepped I.Input StepResult.Item self.old self.new
+            meter.old meter.new result }
+    {
+        match word {
+            Word::Name => self.symbol(Symbol::Text, false, place, meter),
+            Word::Id(id) => self.symbol(Symbol::Id(id), false, place, meter),
+            Word::Null(ion_type) => Ok(self.scalar(Body::Null(ion_type), place, None)),
+            Word::Bool(truth) => Ok(self.scalar(Body::Bool(truth), place, None)),
+            Word::NoNumber => Err(Fault::Refused(Reason::Float, place)),
+        }
+    }
+
+    // Takes the token that was read.
+    #[inline(always)]
+    fn take(&mut self, token: Token, place: u64, meter: &mut Meter<A>) -> Result<StepResult, Fault>
+        requires can_step { CanStep self.old meter.old }
+        requires range { TokenInRange token }
+        ensures gives { I.observable self.old.source.device → (d : Cursor)
+            → blanks d ≡ going (overrun_of token) (cursor I.Input self.old.source)
+            → StepGives I.Input
+            (taking self.old place (token_view self.old.text place token) d) self.new result }
+        ensures ready { ReadyAfter result self.new }
+        ensures stepped { Stepped I.Input StepResult.Item self.old self.new
+            meter.old meter.new result }
+    {
+        match self.expected {
+            Expected::Separator => self.take_separator(token, place, meter),
+            Expected::Field => self.take_field(token, place, meter),
+            Expected::Value => self.take_value(token, place, meter),
+        }
+    }
+}

@@ -9,14 +9,13 @@ ghost use Rattle.ion_meter.specs.Windows.{left, lent};
 ghost use Rattle.ion_value.specs.Items.{raw_head};
 ghost use Rattle.ion_value.specs.Reading.{Finished, More, Stopped};
 ghost use Rattle.ion_text_in.specs.Blanks.{blanks};
-ghost use Rattle.ion_text_in.specs.Firsts.{first_of, width};
 ghost use Rattle.ion_text_in.specs.Positions.{at, innermost, in_sexp};
 ghost use Rattle.ion_text_in.specs.Reading as reading;
 ghost use Rattle.ion_text_in.specs.Reading.{reading};
 ghost use Rattle.ion_text_in.specs.Tokens.{as_symbol, going, overrun_of, token_view, BodyInRange, TokenInRange};
 ghost use Rattle.ion_text_in.specs.Symbols.{is_annotated, kept_text};
 ghost use Rattle.ion_text_in.specs.Expecting.{wanted, MayExpect};
-ghost use Rattle.ion_text_in.specs.Steps.{annotations_in, as_head, closing, ending, given_by, held_by, left_to, lent_by, naming, opened_in, opening, part_by, scalar_by, share_of, sound-within, taking, to_come_by, to_come_in, with_colons, without_colons, CanAdvance, CanStep, IsInside, IsReady, IsSized, IsSound, ReadyAfter, StepGives, Stepped};
+ghost use Rattle.ion_text_in.specs.Steps.{annotations_in, as_head, closing, ending, given_by, held_by, left_to, lent_by, naming, opened_in, opening, scalar_by, share_of, sound-within, taking, to_come_by, to_come_in, with_colons, without_colons, CanAdvance, CanStep, IsInside, IsReady, IsSized, IsSound, ReadyAfter, StepGives, Stepped};
 
 mod lanes;
 

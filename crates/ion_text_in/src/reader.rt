@@ -208,7 +208,7 @@ impl<I: Input, A: Allocator + Copy> TextReader<I, A> {
     }
 
     // Lends an item whose head begins at a place, behind what was read of it.
-    #[inline]
+    #[inline(always)]
     fn give(&mut self, what: ItemKind, place: u64, unfinished: Option<u64>)
         ensures given { self.new
             ≡ given_by self.old what place unfinished self.new.expected }
@@ -224,7 +224,7 @@ impl<I: Input, A: Allocator + Copy> TextReader<I, A> {
     }
 
     // Takes a scalar that no annotation goes before that was not read.
-    #[inline]
+    #[inline(always)]
     fn scalar(&mut self, body: Body, place: u64, unfinished: Option<u64>) -> StepResult
         requires value { self.old.expected ≡ Expected.Value }
         requires inside { IsInside self.old }

@@ -1,20 +1,24 @@
 //! Each frequent kind of token on a lane of its own: what was read is taken at once, and no token is
 //! built that is copied and told apart again.
-ghost use Rattle.std.specs.Prelude.{◌≡◌, ◌<◌, ◌≤◌, length, OnOk};
+ghost use Rattle.std.specs.Prelude.{◌≡◌, ◌<◌, ◌≤◌, length, Ok, OnOk};
+ghost use Rattle.ion_meter.specs.Counts.{Counts};
 ghost use Rattle.ion_meter.specs.Sources.{Cursor, cursor};
 ghost use Rattle.ion_meter.specs.Windows.{lent};
+ghost use Rattle.ion_value.specs.Standing.{InRange};
 ghost use Rattle.ion_text_in.specs.Blanks.{blanks};
 ghost use Rattle.ion_text_in.specs.Firsts.{first_of, width};
+ghost use Rattle.ion_text_in.specs.Quick.{as_quick};
 ghost use Rattle.ion_text_in.specs.Token as tokens;
 ghost use Rattle.ion_text_in.specs.Tokens.{going, overrun_of, token_view, TokenInRange};
-ghost use Rattle.ion_text_in.specs.Views.{word_token_of};
-ghost use Rattle.ion_text_in.specs.Steps.{left_to, part_by, taking, CanStep, ReadyAfter, StepGives, Stepped};
+ghost use Rattle.ion_text_in.specs.Views.{as_number, number_token, word_token_of};
+ghost use Rattle.ion_text_in.specs.Steps.{held_by, left_to, part_by, taking, CanStep, IsInside, IsSized, ReadyAfter, StepGives, Stepped};
 
 use super::{StepResult, TextReader};
 use crate::expected::{Expected, may_come};
 use crate::first::First;
 use crate::number::next_number;
 use crate::operator::pass_mark;
+use crate::quick::{Quick, pointed, scan_quick, signed_int};
 use crate::text::{next_quoted_symbol, next_short_string};
 use crate::token::{Body, Symbol, Token, next_token, number_body};
 use crate::word::{Word, next_word};
@@ -93,9 +97,56 @@ impl<I: Input, A: Allocator + Copy> TextReader<I, A> {
         }
     }
 
-    // The same of a number or a timestamp.
+    // The same of a number or a timestamp: a plain int or decimal is read in one pass.
     #[inline(never)]
     fn number(&mut self, meter: &mut Meter<A>) -> Result<StepResult, Fault>
+        requires can_step { CanStep self.old meter.old }
+        requires there { 1 ≤ length (lent self.old.source) }
+        ensures gives { I.observable self.old.source.device → StepGives I.Input
+            (part_by I.Input self.old tokens.a_run) self.new result }
+        ensures ready { ReadyAfter result self.new }
+        ensures further { OnOk result (left_to self.new < left_to self.old) }
+        ensures stepped { Stepped I.Input StepResult.Item self.old self.new
+            meter.old meter.new result }
+    {
+        match self.expected {
+            Expected::Value => {}
+            _ => return self.any_number(meter),
+        }
+        let Some(quick) = scan_quick(self.limits.scalar, self.source.buffer()) else {
+            return self.any_number(meter);
+        };
+        let place = self.source.place();
+        self.source.consume(quick.count);
+        Ok(self.quick(quick, place))
+    }
+
+    // Takes a number that was read in one pass.
+    #[inline(always)]
+    fn quick(&mut self, quick: Quick, place: u64) -> StepResult
+        requires value { self.old.expected ≡ Expected.Value }
+        requires inside { IsInside self.old }
+        requires sized { IsSized self.old }
+        requires few { quick.places ≤ 128 }
+        requires range { InRange (as_number (as_quick quick)) }
+        ensures gives { I.observable self.old.source.device → StepGives I.Input
+            (taking self.old place (number_token (as_quick quick)) (cursor I.Input self.old.source))
+            self.new (Ok result) }
+        ensures ready { ReadyAfter (Ok result) self.new }
+        ensures stepped { (m : Counts) → held_by self.old ≤ m.held
+            → Stepped I.Input StepResult.Item self.old self.new m m (Ok result) }
+    {
+        if quick.places > 0 {
+            let decimal = pointed(quick.negative, quick.number, quick.places);
+            return self.scalar(Body::Decimal(decimal), place, None);
+        }
+        let int = signed_int(quick.negative, quick.number);
+        self.scalar(Body::Int(int), place, None)
+    }
+
+    // Any number or timestamp, by way of a token.
+    #[inline(never)]
+    fn any_number(&mut self, meter: &mut Meter<A>) -> Result<StepResult, Fault>
         requires can_step { CanStep self.old meter.old }
         requires there { 1 ≤ length (lent self.old.source) }
         ensures gives { I.observable self.old.source.device → StepGives I.Input

@@ -21,7 +21,7 @@ mod lanes;
 
 use crate::blank::pass_blanks;
 use crate::expected::{Expected, at_member, behind_comma, behind_member, is_colons, is_same};
-use crate::first::{First, next_first};
+use crate::first::{First, next_first, told_first};
 use crate::operator::{pass_colons, pass_mark};
 use crate::symbol::{FieldName, annotation_place, keep_text, lent_field, lent_symbol};
 use crate::token::{Body, Symbol, Token};
@@ -606,6 +606,10 @@ impl<I: Input, A: Allocator + Copy> TextReader<I, A> {
             Err(fault) => return Err(fault),
             Ok(Some(start)) => return Err(Fault::Refused(Reason::Truncated, start)),
             Ok(None) => {}
+        }
+        let told = told_first(self.source.buffer());
+        if told > 0 {
+            return self.told(told, meter);
         }
         let in_sexp = self.in_sexp();
         match next_first(&mut self.source, in_sexp) {

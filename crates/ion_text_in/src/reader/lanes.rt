@@ -6,7 +6,7 @@ ghost use Rattle.ion_meter.specs.Sources.{Cursor, cursor};
 ghost use Rattle.ion_meter.specs.Windows.{lent};
 ghost use Rattle.ion_value.specs.Standing.{InRange};
 ghost use Rattle.ion_text_in.specs.Blanks.{blanks};
-ghost use Rattle.ion_text_in.specs.Firsts.{first_of, width};
+ghost use Rattle.ion_text_in.specs.Firsts.{first_of, numbered, width};
 ghost use Rattle.ion_text_in.specs.Quick.{as_quick};
 ghost use Rattle.ion_text_in.specs.Token as tokens;
 ghost use Rattle.ion_text_in.specs.Tokens.{going, overrun_of, token_view, TokenInRange};
@@ -29,8 +29,33 @@ use ion_value::ion_type::Kind;
 use std::alloc::Allocator;
 
 impl<I: Input, A: Allocator + Copy> TextReader<I, A> {
-    // Reads the token that so begins, and takes it: a frequent kind on its own lane.
+    // Reads the token of a kind that its first byte told alone, and takes it.
     #[inline(always)]
+    pub(super) fn told(&mut self, told: u8, meter: &mut Meter<A>) -> Result<StepResult, Fault>
+        requires can_step { CanStep self.old meter.old }
+        requires there { 1 ≤ length (lent self.old.source) }
+        ensures gives { I.observable self.old.source.device → StepGives I.Input
+            (part_by I.Input self.old (numbered told)) self.new result }
+        ensures ready { ReadyAfter result self.new }
+        ensures further { OnOk result (left_to self.new < left_to self.old) }
+        ensures stepped { Stepped I.Input StepResult.Item self.old self.new
+            meter.old meter.new result }
+    {
+        match told {
+            1 => self.word(meter),
+            2 => self.number(meter),
+            3 => self.string(meter),
+            4 => self.comma(meter),
+            5 => self.begin(Kind::List, meter),
+            6 => self.begin(Kind::Sexp, meter),
+            7 => self.finish(Kind::Struct, meter),
+            8 => self.finish(Kind::List, meter),
+            _ => self.finish(Kind::Sexp, meter),
+        }
+    }
+
+    // Reads the token that so begins, and takes it: a frequent kind on its own lane.
+    #[inline(never)]
     pub(super) fn part(&mut self, first: First, meter: &mut Meter<A>) -> Result<StepResult, Fault>
         requires can_step { CanStep self.old meter.old }
         requires there { width (first_of first) ≤ length (lent self.old.source) }

@@ -1,11 +1,13 @@
 //! Which kind of token begins at a place (Ion specification, "Text Encoding").
-ghost use Rattle.std.specs.Prelude.{◌≡◌, ℕ, List, [], ◌+◌, ◌++◌, ◌∷◌, ◌<◌, ◌≤◌, length, slice_index, Bool, true, Err, ◌⊎◌, if◌then◌else◌, IfOk, IfSome, IsSome, MatchOption};
+ghost use Rattle.std.specs.Prelude.{◌≡◌, ℕ, List, [], ◌+◌, ◌++◌, ◌∷◌, ◌<◌, ◌≤◌, length, slice_index, Bool, true, false, Ok, Err, ◌⊎◌, if◌then◌else◌, IfOk, IfSome, IsSome, MatchOption};
 ghost use Rattle.ion_meter.specs.Sources.{Stands};
 ghost use Rattle.ion_meter.specs.Windows.{left, lent, Extends};
 ghost use Rattle.ion_value.specs.Calls.{Reads};
 ghost use Rattle.ion_value.specs.Digits.{first_is, is_digit};
 ghost use Rattle.ion_text_in.specs.Firsts.{first_of, is_inf, is_told_alone, numbered, width};
-ghost use Rattle.ion_text_in.specs.Token.{first_at};
+ghost use Rattle.ion_text_in.specs.Blanks.{blanks};
+ghost use Rattle.ion_text_in.specs.Meaning.{at};
+ghost use Rattle.ion_text_in.specs.Token.{a_colon, first_at};
 
 use crate::run::{is_identifier_byte, is_operator_byte};
 use ion_meter::device::Input;
@@ -82,6 +84,22 @@ pub(crate) fn told_first(bytes: &[u8]) -> u8
     match bytes {
         [] => 0,
         [byte, ..] => FIRST_BYTES[*byte as usize],
+    }
+}
+
+/// Whether a colon stands at the front of these bytes, and one more byte that is none.
+#[tactic(auto, unfolding(crate::specs::Token::first_at, crate::specs::Blanks::blanks_at))]
+#[inline(always)]
+pub(crate) fn shows_colon(bytes: &[u8]) -> bool
+    ensures some { result ≡ true → 1 ≤ length bytes.now }
+    ensures bare { result ≡ true → (place : ℕ) (more : List ℕ)
+        → blanks (at place (bytes.now ++ more)) ≡ Ok (at place (bytes.now ++ more)) }
+    ensures first { result ≡ true → (more : List ℕ)
+        → first_at false (bytes.now ++ more) ≡ a_colon }
+{
+    match bytes {
+        [b':', next, ..] => *next != b':',
+        _ => false,
     }
 }
 

@@ -11,11 +11,11 @@ ghost use Rattle.ion_text_in.specs.Quick.{as_quick};
 ghost use Rattle.ion_text_in.specs.Token as tokens;
 ghost use Rattle.ion_text_in.specs.Tokens.{going, overrun_of, token_view, TokenInRange};
 ghost use Rattle.ion_text_in.specs.Views.{as_number, number_token, word_token_of};
-ghost use Rattle.ion_text_in.specs.Steps.{held_by, left_to, part_by, taking, CanStep, IsInside, IsSized, ReadyAfter, StepGives, Stepped};
+ghost use Rattle.ion_text_in.specs.Steps.{held_by, left_to, naming, part_by, taking, CanStep, IsInside, IsSized, ReadyAfter, StepGives, Stepped};
 
 use super::{StepResult, TextReader};
 use crate::expected::{Expected, may_come};
-use crate::first::First;
+use crate::first::{First, shows_colon};
 use crate::number::next_number;
 use crate::operator::pass_mark;
 use crate::quick::{Quick, pointed, scan_quick, signed_int};
@@ -112,14 +112,96 @@ impl<I: Input, A: Allocator + Copy> TextReader<I, A> {
         ensures stepped { Stepped I.Input StepResult.Item self.old self.new
             meter.old meter.new result }
     {
-        let place = self.source.place();
-        if !may_come(self.expected, First::Word) {
-            return Err(Fault::Refused(Reason::BadToken, place));
+        match self.expected {
+            Expected::Separator => self.other(First::Word, meter),
+            Expected::Field => self.name(meter),
+            Expected::Value => self.value_word(meter),
         }
+    }
+
+    // The same where a value may stand.
+    #[inline(always)]
+    fn value_word(&mut self, meter: &mut Meter<A>) -> Result<StepResult, Fault>
+        requires can_step { CanStep self.old meter.old }
+        requires there { 1 ≤ length (lent self.old.source) }
+        requires value { self.old.expected ≡ Expected.Value }
+        ensures gives { I.observable self.old.source.device → StepGives I.Input
+            (part_by I.Input self.old tokens.a_word) self.new result }
+        ensures ready { ReadyAfter result self.new }
+        ensures further { OnOk result (left_to self.new < left_to self.old) }
+        ensures stepped { Stepped I.Input StepResult.Item self.old self.new
+            meter.old meter.new result }
+    {
+        let place = self.source.place();
         match next_word(&mut self.source, &mut self.text, self.limits, meter) {
             Err(fault) => Err(fault),
-            Ok(word) => self.take_word(word, place, meter),
+            Ok(word) => self.word_value(word, place, meter),
         }
+    }
+
+    // The same where a field may begin: the word is read into the field's name.
+    #[inline(always)]
+    fn name(&mut self, meter: &mut Meter<A>) -> Result<StepResult, Fault>
+        requires can_step { CanStep self.old meter.old }
+        requires there { 1 ≤ length (lent self.old.source) }
+        requires field { self.old.expected ≡ Expected.Field }
+        ensures gives { I.observable self.old.source.device → StepGives I.Input
+            (part_by I.Input self.old tokens.a_word) self.new result }
+        ensures ready { ReadyAfter result self.new }
+        ensures further { OnOk result (left_to self.new < left_to self.old) }
+        ensures stepped { Stepped I.Input StepResult.Item self.old self.new
+            meter.old meter.new result }
+    {
+        let place = self.source.place();
+        match next_word(&mut self.source, &mut self.name, self.limits, meter) {
+            Err(fault) => Err(fault),
+            Ok(word) => self.word_field(word, place, meter),
+        }
+    }
+
+    // Takes the word that was read into a field's name.
+    #[tactic(auto, unfolding(crate::specs::Reading::take))]
+    #[inline(always)]
+    fn word_field(
+        &mut self,
+        word: Word,
+        place: u64,
+        meter: &mut Meter<A>,
+    ) -> Result<StepResult, Fault>
+        requires can_step { CanStep self.old meter.old }
+        requires field { self.old.expected ≡ Expected.Field }
+        ensures gives { I.observable self.old.source.device → (d : Cursor)
+            → blanks d ≡ blanks (cursor I.Input self.old.source)
+            → StepGives I.Input
+            (taking self.old place (word_token_of self.old.name word) d) self.new result }
+        ensures ready { ReadyAfter result self.new }
+        ensures stepped { Stepped I.Input StepResult.Item self.old self.new
+            meter.old meter.new result }
+    {
+        match word {
+            Word::Name => self.ends_name(Symbol::Text, place),
+            Word::Id(id) => self.ends_name(Symbol::Id(id), place),
+            _ => Err(Fault::Refused(Reason::BadToken, place)),
+        }
+    }
+
+    // Passes over the colon behind the name of a field: mostly it stands there at once.
+    #[inline(always)]
+    fn ends_name(&mut self, symbol: Symbol, place: u64) -> Result<StepResult, Fault>
+        requires value { self.old.expected ≡ Expected.Field }
+        requires inside { IsInside self.old }
+        requires sized { IsSized self.old }
+        ensures gives { I.observable self.old.source.device → (d : Cursor)
+            → blanks d ≡ blanks (cursor I.Input self.old.source)
+            → StepGives I.Input (naming self.old self.old.name symbol place d) self.new result }
+        ensures ready { ReadyAfter result self.new }
+        ensures stepped { (m : Counts) → held_by self.old ≤ m.held
+            → Stepped I.Input StepResult.Item self.old self.new m m result }
+    {
+        if shows_colon(self.source.buffer()) {
+            return self.at_colon(symbol, place);
+        }
+        self.behind_name(symbol, place)
     }
 
     // The same of a number or a timestamp: a plain int or decimal is read in one pass.
@@ -284,57 +366,6 @@ impl<I: Input, A: Allocator + Copy> TextReader<I, A> {
         let place = self.source.place();
         pass_mark(&mut self.source);
         self.take(Token::End(kind), place, meter)
-    }
-
-    // Takes the word that was read.
-    #[tactic(auto, unfolding(crate::specs::Reading::take))]
-    #[inline(always)]
-    fn take_word(
-        &mut self,
-        word: Word,
-        place: u64,
-        meter: &mut Meter<A>,
-    ) -> Result<StepResult, Fault>
-        requires can_step { CanStep self.old meter.old }
-        ensures gives { I.observable self.old.source.device → (d : Cursor)
-            → blanks d ≡ blanks (cursor I.Input self.old.source)
-            → StepGives I.Input
-            (taking self.old place (word_token_of self.old.text word) d) self.new result }
-        ensures ready { ReadyAfter result self.new }
-        ensures stepped { Stepped I.Input StepResult.Item self.old self.new
-            meter.old meter.new result }
-    {
-        match self.expected {
-            Expected::Separator => Err(Fault::Refused(Reason::BadToken, place)),
-            Expected::Field => self.word_field(word, place, meter),
-            Expected::Value => self.word_value(word, place, meter),
-        }
-    }
-
-    // Takes the word that was read where a field may begin.
-    #[tactic(auto, unfolding(crate::specs::Reading::take))]
-    #[inline(always)]
-    fn word_field(
-        &mut self,
-        word: Word,
-        place: u64,
-        meter: &mut Meter<A>,
-    ) -> Result<StepResult, Fault>
-        requires can_step { CanStep self.old meter.old }
-        requires field { self.old.expected ≡ Expected.Field }
-        ensures gives { I.observable self.old.source.device → (d : Cursor)
-            → blanks d ≡ blanks (cursor I.Input self.old.source)
-            → StepGives I.Input
-            (taking self.old place (word_token_of self.old.text word) d) self.new result }
-        ensures ready { ReadyAfter result self.new }
-        ensures stepped { Stepped I.Input StepResult.Item self.old self.new
-            meter.old meter.new result }
-    {
-        match word {
-            Word::Name => self.named(Symbol::Text, place),
-            Word::Id(id) => self.named(Symbol::Id(id), place),
-            _ => Err(Fault::Refused(Reason::BadToken, place)),
-        }
     }
 
     // Takes the word that was read where a value may stand.

@@ -1,6 +1,6 @@
 -- The kind of token that begins: at the input's end, and how many bytes tell it.
-use Rattle.std.proofs.Common.{◌≡◌, ℕ, zero, suc, inl, inr, ◌+◌, ◌-◌, min, ◌<◌, ◌≤◌, Bool, true, false, ◌&&◌, ◌||◌, ◌==◌, if◌then◌else◌, List, [], ◌∷◌, ◌++◌, length, take, drop, get_or, slice_get, nat_le, None, codes, refl, sym, ap, ◌∙◌, arith}
-use Rattle.std.proofs.lemmas.Bool.{agree_below_at, and_parts, eqb-true, or_cases, false≢true, leb-true, leb-false}
+use Rattle.std.proofs.Common.{◌≡◌, ℕ, zero, suc, inl, inr, ◌+◌, ◌-◌, min, ◌<◌, ◌≤◌, Bool, true, false, ◌&&◌, ◌||◌, ◌==◌, if◌then◌else◌, List, [], ◌∷◌, ◌++◌, length, take, drop, get_or, slice_get, nat_le, not, None, Ok, codes, refl, sym, ap, ◌∙◌, arith}
+use Rattle.std.proofs.lemmas.Bool.{agree_below_at, and_parts, eqb-false, eqb-true, or_cases, false≢true, leb-true, leb-false}
 use Rattle.std.proofs.lemmas.List.{take_rest, length-append, length-take, nil_from_length, append-nil, append_assoc}
 use Rattle.ion_meter.specs.Windows.{Incoming, lent, lent_by, Extends}
 use Rattle.ion_value.specs.Digits.{first_is}
@@ -10,6 +10,9 @@ use Rattle.ion_text_in.specs.declared.first.TheConstants.{FIRST_BYTES}
 use Rattle.ion_text_in.specs.Token as tokens
 use Rattle.ion_text_in.specs.Token.{First, first_at, begins_run, is_infinity, punctuation}
 use Rattle.ion_text_in.specs.Firsts.{numbered, width}
+use Rattle.ion_text_in.specs.Blanks.{blanks, is_white}
+use Rattle.ion_text_in.specs.Meaning.{at}
+use Rattle.ion_text_in.proofs.BlankTurns.{found-other}
 use Rattle.ion_text_in.proofs.Fuel.{begins-within}
 
 -- a list by its first byte
@@ -177,3 +180,30 @@ pub told-front : (bytes : List ℕ) → 1 ≤ length bytes → get_or bytes 0 0 
     → first_at sexp (bytes ++ more) ≡ numbered (get_or FIRST_BYTES (get_or bytes 0 0) 0)
 told-front [] some small told sexp more = absurd (omega (arith, some))
 told-front (b ∷ bytes) some small told sexp more = first-told b small told sexp (bytes ++ more)
+
+-- such a byte begins no blank
+begins-none : ℕ → Bool
+begins-none b = get_or FIRST_BYTES b 0 == 0 || (not (is_white b) && not (b == 47))
+
+all-begin : (b : ℕ) → b < 256 → begins-none b ≡ true
+unfolding begins-none
+all-begin b small = agree_below_at begins-none (λ _. true) 256 b refl small
+
+not-so : (x : Bool) → not x ≡ true → x ≡ false
+not-so true e = absurd (cc e)
+not-so false e = refl
+
+no-blank : (place b : ℕ) (rest : List ℕ) → is_white b ≡ false → (b == 47) ≡ false → blanks (at place (b ∷ rest)) ≡ Ok (at place (b ∷ rest))
+no-blank place b rest white slash = found-other place b (b ∷ rest) white refl (eqb-false b 47 slash)
+
+from-none : (b : ℕ) → 0 < get_or FIRST_BYTES b 0 → begins-none b ≡ true → (is_white b ≡ false) × ((b == 47) ≡ false)
+unfolding begins-none
+from-none b some e = elim (or_cases (get_or FIRST_BYTES b 0 == 0) (not (is_white b) && not (b == 47)) e) [
+  | inl is ↦ let none : get_or FIRST_BYTES b 0 ≡ 0 = eqb-true (get_or FIRST_BYTES b 0) 0 is in absurd (omega (arith, some, none))
+  | inr is ↦ let parts = and_parts (not (is_white b)) (not (b == 47)) is in (not-so (is_white b) parts.0, not-so (b == 47) parts.1)
+]
+
+pub told-bare : (bytes : List ℕ) → 1 ≤ length bytes → get_or bytes 0 0 < 256 → 0 < get_or FIRST_BYTES (get_or bytes 0 0) 0 → (place : ℕ) (more : List ℕ)
+    → blanks (at place (bytes ++ more)) ≡ Ok (at place (bytes ++ more))
+told-bare [] some small told place more = absurd (omega (arith, some))
+told-bare (b ∷ bytes) some small told place more = let none = from-none b told (all-begin b small) in no-blank place b (bytes ++ more) none.0 none.1

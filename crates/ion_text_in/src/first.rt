@@ -78,6 +78,8 @@ pub(crate) fn scan_first(in_sexp: bool, bytes: &[u8]) -> Option<First>
 #[inline(always)]
 pub(crate) fn told_first(bytes: &[u8]) -> u8
     ensures some { 0 < result → 1 ≤ length bytes.now }
+    ensures bare { 0 < result → (place : ℕ) (more : List ℕ)
+        → blanks (at place (bytes.now ++ more)) ≡ Ok (at place (bytes.now ++ more)) }
     ensures tells { 0 < result → (in_sexp : Bool) (more : List ℕ)
         → first_at in_sexp (bytes.now ++ more) ≡ numbered result }
 {

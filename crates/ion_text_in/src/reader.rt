@@ -632,6 +632,10 @@ impl<I: Input, A: Allocator + Copy> TextReader<I, A> {
         ensures stepped { Stepped I.Input StepResult.Item self.old self.new
             meter.old meter.new result }
     {
+        let shown = told_first(self.source.buffer());
+        if shown > 0 {
+            return self.told(shown, meter);
+        }
         match pass_blanks(&mut self.source) {
             Err(fault) => return Err(fault),
             Ok(Some(start)) => return Err(Fault::Refused(Reason::Truncated, start)),

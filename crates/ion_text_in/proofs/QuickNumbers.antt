@@ -6,7 +6,6 @@ use Rattle.std.proofs.lemmas.Int.{ints}
 use Rattle.std.proofs.lemmas.List.{take_more, drop_more, append_assoc, append-nil, length-take-le}
 use Rattle.std.proofs.Math.Seq.{take-add}
 use Rattle.ion_value.specs.declared.decimal.Decimal.{Decimal}
-use Rattle.ion_value.specs.declared.int.Int.{Int}
 use Rattle.ion_value.specs.Int.{IsInt, int_of_text}
 use Rattle.ion_value.specs.Decimal.{IsDecimal, decimal_in_range, decimal_of_text}
 use Rattle.ion_value.specs.Digits.{is_digit, digit_value, all_are, first_is, has_minus}

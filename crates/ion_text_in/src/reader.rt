@@ -21,7 +21,7 @@ mod lanes;
 
 use crate::blank::pass_blanks;
 use crate::expected::{Expected, at_member, behind_comma, behind_member, is_colons, is_same};
-use crate::first::{First, next_first, told_first};
+use crate::first::{First, next_first, pass_to_token, told_first};
 use crate::operator::{pass_colons, pass_mark};
 use crate::symbol::{FieldName, annotation_place, keep_text, lent_field, lent_symbol};
 use crate::token::{Body, Symbol, Token};
@@ -356,6 +356,9 @@ impl<I: Input, A: Allocator + Copy> TextReader<I, A> {
         ensures stepped { Stepped I.Input StepResult.Item self.old self.new
             meter.old meter.new result }
     {
+        if told_first(self.source.buffer()) > 0 {
+            return self.symbol_value(symbol, quoted, place, None);
+        }
         let unfinished = match pass_blanks(&mut self.source) {
             Err(fault) => return Err(fault),
             Ok(unfinished) => unfinished,
@@ -632,11 +635,7 @@ impl<I: Input, A: Allocator + Copy> TextReader<I, A> {
         ensures stepped { Stepped I.Input StepResult.Item self.old self.new
             meter.old meter.new result }
     {
-        let shown = told_first(self.source.buffer());
-        if shown > 0 {
-            return self.told(shown, meter);
-        }
-        match pass_blanks(&mut self.source) {
+        match pass_to_token(&mut self.source) {
             Err(fault) => return Err(fault),
             Ok(Some(start)) => return Err(Fault::Refused(Reason::Truncated, start)),
             Ok(None) => {}

@@ -1,6 +1,5 @@
 use Rattle.std.proofs.Common.{◌≡◌, ◌∙◌, ℕ, ◌≤◌, ◌++◌, List, Ok, length, sym, ap, subst, false}
 use Rattle.ion_meter.specs.Sources.{cursor}
-use Rattle.ion_meter.specs.Windows.{left, lent}
 use Rattle.ion_value.proofs.Passing.{lent-there}
 use Rattle.ion_text_in.specs.Blanks.{blanks}
 use Rattle.ion_text_in.specs.Meaning.{at}

@@ -1,12 +1,10 @@
-use Rattle.std.proofs.Common.{◌≡◌, ◌∙◌, ℕ, ◌<◌, ◌≤◌, Bool, List, [], ◌++◌, length, Ok, sym, ap, subst, arith}
+use Rattle.std.proofs.Common.{◌≡◌, ◌∙◌, ℕ, ◌<◌, ◌≤◌, Bool, List, [], ◌++◌, length, sym, ap, subst, arith}
 use Rattle.ion_meter.specs.Sources.{Cursor, cursor}
 use Rattle.ion_meter.specs.Windows.{left, lent}
 use Rattle.ion_value.proofs.Cursors.{cursor-extends}
 use Rattle.ion_value.proofs.Passing.{lent-there}
 use Rattle.ion_text_in.specs.declared.reader.StepResult.TheVariants as step_result
-use Rattle.ion_text_in.specs.Blanks.{blanks}
 use Rattle.ion_text_in.specs.Firsts.{first_of, numbered, width}
-use Rattle.ion_text_in.specs.Meaning.{at}
 use Rattle.ion_text_in.specs.Positions.{in_sexp, innermost}
 use Rattle.ion_text_in.specs.Reading.{part_from}
 use Rattle.ion_text_in.specs.Token.{first_at}
@@ -21,44 +19,27 @@ returns-in-Ok-Some-clause-gives g c = λ h.
     let r = c.args.self.now in
     step-unfinished r.limits (state_at (cursor g.I.Input r.source) r) c.in-Ok-Some.start (rw c.in-Ok-Some.field-0-is at (c.in-Ok-Some.ensures.gives h))
 
-pub returns-then-shown-gt0-clause-gives : goal.returns-then-shown-gt0-clause-gives
-returns-then-shown-gt0-clause-gives g c = λ h.
-    let device = g.I.Input in
-    let r = c.args.self.now in
-    let s = r.source in
-    let told = c.told_first-shown in
-    let sexp = in_sexp (innermost (opened_in r)) in
-    let some : 1 ≤ length (lent s) = subst (λ (l : List ℕ). 1 ≤ length l) c.buffer.ensures (told.ensures.some c.if-shown-gt0.true) in
-    let there : 1 ≤ length (left device.rest s) = lent-there device.rest s 1 some in
-    let bare = subst (λ (l : List ℕ). (place : ℕ) (more : List ℕ) → blanks (at place (l ++ more)) ≡ Ok (at place (l ++ more))) c.buffer.ensures (told.ensures.bare c.if-shown-gt0.true) in
-    let all = lent-left device.rest s in
-    let none : blanks (cursor device s) ≡ Ok (cursor device s) = subst (λ (l : List ℕ). blanks (at s.place l) ≡ Ok (at s.place l)) (sym all) (bare s.place _) in
-    let tells = subst (λ (l : List ℕ). (in_sexp : Bool) (more : List ℕ) → first_at in_sexp (l ++ more) ≡ numbered told.result) c.buffer.ensures (told.ensures.tells c.if-shown-gt0.true) in
-    gives-same device _ _ c.told.new.self c.told.result
-    (step-part r.limits (state_at (cursor device s) r) (cursor device s) (numbered told.result) none (omega (arith, there)) (ap (λ (l : List ℕ). first_at sexp l) all ∙ tells sexp _))
-    (c.told.ensures.gives h)
-
 pub returns-then-told-gt0-clause-gives : goal.returns-then-told-gt0-clause-gives
 returns-then-told-gt0-clause-gives g c = λ h.
     let device = g.I.Input in
     let r = c.args.self.now in
-    let s = c.pass_blanks.new.source in
+    let s = c.pass_to_token.new.source in
     let hs = c.in-Ok-None.ensures.reads.moves.still_observable.1 h in
     let told = c.told_first-told in
     let sexp = in_sexp (innermost (opened_in r)) in
-    let some : 1 ≤ length (lent s) = subst (λ (l : List ℕ). 1 ≤ length l) c.buffer-2.ensures (told.ensures.some c.if-told-gt0.true) in
+    let some : 1 ≤ length (lent s) = subst (λ (l : List ℕ). 1 ≤ length l) c.buffer.ensures (told.ensures.some c.if-told-gt0.true) in
     let there : 1 ≤ length (left device.rest s) = lent-there device.rest s 1 some in
-    let tells = subst (λ (l : List ℕ). (in_sexp : Bool) (more : List ℕ) → first_at in_sexp (l ++ more) ≡ numbered told.result) c.buffer-2.ensures (told.ensures.tells c.if-told-gt0.true) in
+    let tells = subst (λ (l : List ℕ). (in_sexp : Bool) (more : List ℕ) → first_at in_sexp (l ++ more) ≡ numbered told.result) c.buffer.ensures (told.ensures.tells c.if-told-gt0.true) in
     let found = ap (λ (l : List ℕ). first_at sexp l) (lent-left device.rest s) ∙ tells sexp _ in
-    gives-same device _ _ c.told-then-told-gt0.new.self c.told-then-told-gt0.result
+    gives-same device _ _ c.told.new.self c.told.result
     (step-part r.limits (state_at (cursor device r.source) r) (cursor device s) (numbered told.result) (rw c.in-Ok-None.field-0-is at (c.in-Ok-None.ensures.gives h)) (omega (arith, there)) found)
-    (c.told-then-told-gt0.ensures.gives hs)
+    (c.told.ensures.gives hs)
 
 pub returns-in-Ok-None-next_first-clause-gives : goal.returns-in-Ok-None-next_first-clause-gives
 returns-in-Ok-None-next_first-clause-gives g c = λ h.
     let device = g.I.Input in
     let r = c.args.self.now in
-    let s = c.pass_blanks.new.source in
+    let s = c.pass_to_token.new.source in
     let t = c.next_first.new.source in
     let hs = c.in-Ok-None.ensures.reads.moves.still_observable.1 h in
     let kept = c.in-Ok-None-next_first.ensures.kept in
@@ -75,7 +56,7 @@ pub returns-in-Ok-None-next_first-clause-stepped : goal.returns-in-Ok-None-next_
 returns-in-Ok-None-next_first-clause-stepped g c =
     let device = g.I.Input in
     let r = c.args.self.now in
-    let s = c.pass_blanks.new.source in
+    let s = c.pass_to_token.new.source in
     let t = c.next_first.new.source in
     let m = c.args.meter.now in
     let can = c.requires.can_step in
@@ -90,7 +71,7 @@ pub returns-in-Ok-Some-next_first-clause-gives : goal.returns-in-Ok-Some-next_fi
 returns-in-Ok-Some-next_first-clause-gives g c = λ h.
     let device = g.I.Input in
     let r = c.args.self.now in
-    let s = c.pass_blanks.new.source in
+    let s = c.pass_to_token.new.source in
     let t = c.next_first.new.source in
     let hs = c.in-Ok-None.ensures.reads.moves.still_observable.1 h in
     let first = c.in-Ok-Some-next_first.first in

@@ -204,7 +204,7 @@ impl<I: Input, A: Allocator + Copy> TextReader<I, A> {
         self.behind_name(symbol, place)
     }
 
-    // The same of a number or a timestamp: a plain int or decimal is read in one pass.
+    // Reads the number or timestamp that begins here, and takes it: a plain one in one pass.
     #[inline(never)]
     fn number(&mut self, meter: &mut Meter<A>) -> Result<StepResult, Fault>
         requires can_step { CanStep self.old meter.old }
@@ -251,7 +251,7 @@ impl<I: Input, A: Allocator + Copy> TextReader<I, A> {
         self.scalar(Body::Int(int), place, None)
     }
 
-    // Any number or timestamp, by way of a token.
+    // The same of any number or timestamp, by way of a token.
     #[inline(never)]
     fn any_number(&mut self, meter: &mut Meter<A>) -> Result<StepResult, Fault>
         requires can_step { CanStep self.old meter.old }
@@ -273,7 +273,7 @@ impl<I: Input, A: Allocator + Copy> TextReader<I, A> {
         }
     }
 
-    // The same of a string.
+    // Reads the string that begins here, and takes it.
     #[inline(never)]
     fn string(&mut self, meter: &mut Meter<A>) -> Result<StepResult, Fault>
         requires can_step { CanStep self.old meter.old }

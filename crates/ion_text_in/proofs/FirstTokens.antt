@@ -1,12 +1,20 @@
 -- The kind of token that begins: at the input's end, and how many bytes tell it.
-use Rattle.std.proofs.Common.{◌≡◌, ℕ, zero, suc, inl, inr, ◌+◌, ◌-◌, min, ◌<◌, ◌≤◌, Bool, true, false, ◌&&◌, ◌||◌, ◌==◌, if◌then◌else◌, List, [], ◌∷◌, ◌++◌, length, take, drop, get_or, slice_get, nat_le, None, codes, refl, sym, ap, ◌∙◌, arith}
-use Rattle.std.proofs.lemmas.Bool.{and_parts, or_cases, false≢true, leb-true, leb-false}
+use Rattle.std.proofs.Common.{◌≡◌, ℕ, zero, suc, inl, inr, ◌+◌, ◌-◌, min, ◌<◌, ◌≤◌, Bool, true, false, ◌&&◌, ◌||◌, ◌==◌, if◌then◌else◌, List, [], ◌∷◌, ◌++◌, length, take, drop, get_or, slice_get, nat_le, not, None, Ok, codes, refl, sym, ap, ◌∙◌, arith}
+use Rattle.std.proofs.lemmas.Bool.{agree_below_at, and_parts, eqb-false, eqb-true, or_cases, false≢true, leb-true, leb-false}
 use Rattle.std.proofs.lemmas.List.{take_rest, length-append, length-take, nil_from_length, append-nil, append_assoc}
 use Rattle.ion_meter.specs.Windows.{Incoming, lent, lent_by, Extends}
 use Rattle.ion_value.specs.Digits.{first_is}
 use Rattle.ion_value.specs.Name.{begins_with, is_identifier_start, is_operator_byte}
+use Rattle.ion_value.specs.declared.ion_type.Kind.TheVariants as kind
+use Rattle.ion_text_in.specs.declared.first.TheConstants.{FIRST_BYTES}
+use Rattle.ion_text_in.specs.Token as tokens
 use Rattle.ion_text_in.specs.Token.{First, first_at, begins_run, is_infinity, punctuation}
-use Rattle.ion_text_in.specs.Firsts.{width}
+use Rattle.ion_text_in.specs.Firsts.{numbered, width}
+use Rattle.ion_text_in.specs.Blanks.{blanks, is_white}
+use Rattle.ion_text_in.specs.Meaning.{at}
+use Rattle.ion_text_in.specs.Reading.{colons_at}
+use Rattle.ion_meter.specs.Sources.{Cursor}
+use Rattle.ion_text_in.proofs.BlankTurns.{found-other}
 use Rattle.ion_text_in.proofs.Fuel.{begins-within}
 
 -- a list by its first byte
@@ -107,3 +115,107 @@ fewer n none = below (nat_le 5 n) refl
     below : (many : Bool) → nat_le 5 n ≡ many → n < 5
     below true e = absurd (false≢true (none (leb-true 5 n e)))
     below false e = leb-false 5 n e
+
+-- ---- kinds that a byte tells alone
+
+number_of : First → ℕ
+number_of tokens.a_word = 1
+number_of tokens.a_run = 2
+number_of tokens.a_short = 3
+number_of tokens.a_comma = 4
+number_of (tokens.a_begin kind.List) = 5
+number_of (tokens.a_begin kind.Sexp) = 6
+number_of (tokens.an_end kind.Struct) = 7
+number_of (tokens.an_end kind.List) = 8
+number_of (tokens.an_end kind.Sexp) = 9
+number_of (tokens.a_begin kind.Struct) = 0
+number_of tokens.a_quoted = 0
+number_of tokens.a_long = 0
+number_of tokens.a_lob = 0
+number_of tokens.an_operator = 0
+number_of tokens.an_infinity = 0
+number_of tokens.a_colon = 0
+number_of tokens.two_colons = 0
+number_of tokens.no_token = 0
+
+numbered-of : (f : First) → 0 < number_of f → numbered (number_of f) ≡ f
+unfolding number_of
+numbered-of tokens.a_word some = refl
+numbered-of tokens.a_run some = refl
+numbered-of tokens.a_short some = refl
+numbered-of tokens.a_comma some = refl
+numbered-of (tokens.a_begin kind.List) some = refl
+numbered-of (tokens.a_begin kind.Sexp) some = refl
+numbered-of (tokens.an_end kind.Struct) some = refl
+numbered-of (tokens.an_end kind.List) some = refl
+numbered-of (tokens.an_end kind.Sexp) some = refl
+numbered-of (tokens.a_begin kind.Struct) some = absurd (omega (arith, some))
+numbered-of tokens.a_quoted some = absurd (omega (arith, some))
+numbered-of tokens.a_long some = absurd (omega (arith, some))
+numbered-of tokens.a_lob some = absurd (omega (arith, some))
+numbered-of tokens.an_operator some = absurd (omega (arith, some))
+numbered-of tokens.an_infinity some = absurd (omega (arith, some))
+numbered-of tokens.a_colon some = absurd (omega (arith, some))
+numbered-of tokens.two_colons some = absurd (omega (arith, some))
+numbered-of tokens.no_token some = absurd (omega (arith, some))
+
+-- the table has 0 for a byte, or the number of what begins with it
+agrees : Bool → List ℕ → ℕ → Bool
+agrees sexp more b = get_or FIRST_BYTES b 0 == 0 || number_of (first_at sexp (b ∷ more)) == get_or FIRST_BYTES b 0
+
+all-agree : (sexp : Bool) (more : List ℕ) (b : ℕ) → b < 256 → agrees sexp more b ≡ true
+unfolding first_at agrees number_of
+all-agree true more b small = agree_below_at (agrees true more) (λ _. true) 256 b refl small
+all-agree false more b small = agree_below_at (agrees false more) (λ _. true) 256 b refl small
+
+from-number : (f : First) (n : ℕ) → 0 < n → (n == 0 || number_of f == n) ≡ true → f ≡ numbered n
+from-number f n some e = elim (or_cases (n == 0) (number_of f == n) e) [
+  | inl is ↦ let none : n ≡ 0 = eqb-true n 0 is in absurd (omega (arith, some, none))
+  | inr is ↦ let same : number_of f ≡ n = eqb-true (number_of f) n is in sym (numbered-of f (omega (arith, same, some))) ∙ ap numbered same
+]
+
+first-told : (b : ℕ) → b < 256 → 0 < get_or FIRST_BYTES b 0 → (sexp : Bool) (more : List ℕ) → first_at sexp (b ∷ more) ≡ numbered (get_or FIRST_BYTES b 0)
+unfolding agrees
+first-told b small some sexp more = from-number (first_at sexp (b ∷ more)) (get_or FIRST_BYTES b 0) some (all-agree sexp more b small)
+
+pub told-front : (bytes : List ℕ) → 1 ≤ length bytes → get_or bytes 0 0 < 256 → 0 < get_or FIRST_BYTES (get_or bytes 0 0) 0 → (sexp : Bool) (more : List ℕ)
+    → first_at sexp (bytes ++ more) ≡ numbered (get_or FIRST_BYTES (get_or bytes 0 0) 0)
+told-front [] some small told sexp more = absurd (omega (arith, some))
+told-front (b ∷ bytes) some small told sexp more = first-told b small told sexp (bytes ++ more)
+
+-- such a byte begins no blank
+begins-none : ℕ → Bool
+begins-none b = get_or FIRST_BYTES b 0 == 0 || (not (is_white b) && not (b == 47))
+
+all-begin : (b : ℕ) → b < 256 → begins-none b ≡ true
+unfolding begins-none
+all-begin b small = agree_below_at begins-none (λ _. true) 256 b refl small
+
+not-so : (x : Bool) → not x ≡ true → x ≡ false
+not-so true e = absurd (cc e)
+not-so false e = refl
+
+no-blank : (place b : ℕ) (rest : List ℕ) → is_white b ≡ false → (b == 47) ≡ false → blanks (at place (b ∷ rest)) ≡ Ok (at place (b ∷ rest))
+no-blank place b rest white slash = found-other place b (b ∷ rest) white refl (eqb-false b 47 slash)
+
+from-none : (b : ℕ) → 0 < get_or FIRST_BYTES b 0 → begins-none b ≡ true → (is_white b ≡ false) × ((b == 47) ≡ false)
+unfolding begins-none
+from-none b some e = elim (or_cases (get_or FIRST_BYTES b 0 == 0) (not (is_white b) && not (b == 47)) e) [
+  | inl is ↦ let none : get_or FIRST_BYTES b 0 ≡ 0 = eqb-true (get_or FIRST_BYTES b 0) 0 is in absurd (omega (arith, some, none))
+  | inr is ↦ let parts = and_parts (not (is_white b)) (not (b == 47)) is in (not-so (is_white b) parts.0, not-so (b == 47) parts.1)
+]
+
+pub told-bare : (bytes : List ℕ) → 1 ≤ length bytes → get_or bytes 0 0 < 256 → 0 < get_or FIRST_BYTES (get_or bytes 0 0) 0 → (place : ℕ) (more : List ℕ)
+    → blanks (at place (bytes ++ more)) ≡ Ok (at place (bytes ++ more))
+told-bare [] some small told place more = absurd (omega (arith, some))
+told-bare (b ∷ bytes) some small told place more = let none = from-none b told (all-begin b small) in no-blank place b (bytes ++ more) none.0 none.1
+
+-- and it is no colon
+no-colons-if : (b : Bool) (f g : First) (c : Cursor) → colons_at f c ≡ None → colons_at g c ≡ None → colons_at (if b then f else g) c ≡ None
+no-colons-if true f g c one other = one
+no-colons-if false f g c one other = other
+
+pub no-colons : (n : ℕ) (c : Cursor) → colons_at (numbered n) c ≡ None
+no-colons n c =
+    no-colons-if (n == 1) _ _ c refl (no-colons-if (n == 2) _ _ c refl (no-colons-if (n == 3) _ _ c refl (no-colons-if (n == 4) _ _ c refl
+    (no-colons-if (n == 5) _ _ c refl (no-colons-if (n == 6) _ _ c refl (no-colons-if (n == 7) _ _ c refl (no-colons-if (n == 8) _ _ c refl refl)))))))

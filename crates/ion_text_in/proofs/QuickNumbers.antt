@@ -6,7 +6,6 @@ use Rattle.std.proofs.lemmas.Int.{ints}
 use Rattle.std.proofs.lemmas.List.{take_more, drop_more, append_assoc, append-nil, length-take-le}
 use Rattle.std.proofs.Math.Seq.{take-add}
 use Rattle.ion_value.specs.declared.decimal.Decimal.{Decimal}
-use Rattle.ion_value.specs.declared.int.Int.{Int}
 use Rattle.ion_value.specs.Int.{IsInt, int_of_text}
 use Rattle.ion_value.specs.Decimal.{IsDecimal, decimal_in_range, decimal_of_text}
 use Rattle.ion_value.specs.Digits.{is_digit, digit_value, all_are, first_is, has_minus}
@@ -15,13 +14,15 @@ use Rattle.ion_value.specs.Name.{is_one_of}
 use Rattle.ion_value.proofs.LeadingDigits.{all_are-append}
 use Rattle.ion_value.proofs.TextDigits.{ten, zero_first, int-text, int-whole}
 use Rattle.ion_value.proofs.TextDecimals.{sign-read, decimal-text, mantissa-pointed, behind-nothing, decimal-in_range, one-shape}
+use Rattle.ion_text_in.specs.declared.number.Number.{Number}
 use Rattle.ion_text_in.specs.declared.number.Number.TheVariants as numbers
 use Rattle.ion_text_in.specs.declared.run.Run.TheVariants as run
 use Rattle.ion_text_in.specs.Blanks.{is_white, begins_comment}
-use Rattle.ion_text_in.specs.Quick.{AreDigits, IsWhole, IsQuick, signed_int, signed_text}
+use Rattle.ion_value.specs.Standing.{InRange}
+use Rattle.ion_text_in.specs.Quick.{number_by, pointed, signed_int, signed_text, AreDigits, IsWhole, IsQuick}
 use Rattle.ion_text_in.specs.Runs.{EndBehind, stays}
 use Rattle.ion_text_in.specs.Token.{bytes_of, in_run, run_token}
-use Rattle.ion_text_in.specs.Views.{AreShown, number_token}
+use Rattle.ion_text_in.specs.Views.{as_number, number_token, AreShown}
 use Rattle.ion_text_in.proofs.Meaning.{run-more, run-none}
 use Rattle.ion_text_in.proofs.RunEnds.{stays-on, token-shown}
 use Rattle.ion_text_in.proofs.RunTokens.{int-token, decimal-token}
@@ -170,10 +171,13 @@ int-valid negative n small = record { positive_zero = λ h. positive negative n 
     positive true (suc n) h = omega arith
     positive false n h = absurd (cc h)
 
-pub quick-int : (negative : Bool) (bytes : List ℕ) (n k : ℕ) → IsWhole bytes n k → stops (get_or bytes k 0) ≡ true → n < 2 ^ 128 → IsQuick negative bytes (numbers.Int (signed_int negative n)) k
+pub quick-int : (negative : Bool) (bytes : List ℕ) (n k : ℕ) → IsWhole bytes n k → stops (get_or bytes k 0) ≡ true → n < 2 ^ 128
+    → IsQuick negative bytes (record { negative = negative; number = n; places = 0; count = k })
 quick-int negative bytes n k so stop small = record {
+  sign = refl;
   some = so.some;
   within = so.within;
+  few = omega arith;
   goes = all-stay (take k bytes) so.read.digits;
   ends = stop-ends bytes k so.within stop;
   gives = int-token (signed_text negative (take k bytes)) (signed_int negative n) (int-text-read negative bytes n k so small);
@@ -220,44 +224,37 @@ decimal-alone text d e = elim (one-shape text) [
   | inr none ↦ absurd (cc (none, e))
 ]
 
--- a decimal of so many digits behind the point
-pub record IsPointed (negative : Bool) (m j : ℕ) (d : Decimal) : Type 0 where
-  pub is_negative : d.negative ≡ negative
-  pub is_coefficient : d.coefficient ≡ m
-  pub is_exponent : d.exponent ≡ pos 0 -ℤ pos j
-  pub small : m < 2 ^ 128
-  pub few : j ≤ 128
+pointed-valid : (negative : Bool) (m j : ℕ) → m < 2 ^ 128 → j ≤ 128 → IsDecimal (pointed negative m j)
+pointed-valid negative m j small few = decimal-valid (pointed negative m j) j small refl few
 
-pointed-valid : (negative : Bool) (m j : ℕ) (d : Decimal) → IsPointed negative m j d → IsDecimal d
-pointed-valid negative m j d is = decimal-valid d j (omega (arith, is.is_coefficient, is.small)) is.is_exponent is.few
-
-pointed-within : (negative : Bool) (m j : ℕ) (d : Decimal) → IsPointed negative m j d → decimal_in_range negative m (pos 0 -ℤ pos j) ≡ Ok d
-pointed-within negative m j d is =
-    ap (λ (b : Bool). decimal_in_range b m (pos 0 -ℤ pos j)) (sym is.is_negative)
-    ∙ ap (λ (n : ℕ). decimal_in_range d.negative n (pos 0 -ℤ pos j)) (sym is.is_coefficient)
-    ∙ ap (decimal_in_range d.negative d.coefficient) (sym is.is_exponent)
-    ∙ decimal-in_range d (pointed-valid negative m j d is)
-
-decimal-gives : (negative : Bool) (bytes : List ℕ) (n k m j : ℕ) (d : Decimal) → IsWhole bytes n k → AreDigits n (drop (k + 1) bytes) m j → 0 < j → IsPointed negative m j d
-    → run_token (signed_text negative (take k bytes ++ (46 ∷ take j (drop (k + 1) bytes)))) ≡ Ok (number_token (numbers.Decimal d))
-decimal-gives negative bytes n k m j d whole behind some is =
+decimal-gives : (negative : Bool) (bytes : List ℕ) (n k m j : ℕ) → IsWhole bytes n k → AreDigits n (drop (k + 1) bytes) m j → 0 < j → m < 2 ^ 128 → j ≤ 128
+    → run_token (signed_text negative (take k bytes ++ (46 ∷ take j (drop (k + 1) bytes)))) ≡ Ok (number_token (numbers.Decimal (pointed negative m j)))
+decimal-gives negative bytes n k m j whole behind some small few =
+    let d : Decimal = pointed negative m j in
     let read = decimal-read negative (take k bytes) (take j (drop (k + 1) bytes)) n k m j d (taken-some bytes k whole.some whole.read.within) whole.read.digits
     (read-front bytes (46 ∷ take j (drop (k + 1) bytes)) n k whole refl ∙ read-point n k (take j (drop (k + 1) bytes)))
     (fraction-is n (drop (k + 1) bytes) m j behind some)
-    (pointed-within negative m j d is) in
+    (decimal-in_range d (pointed-valid negative m j small few)) in
     decimal-alone (signed_text negative (take k bytes ++ (46 ∷ take j (drop (k + 1) bytes)))) d read
 
-pub quick-decimal : (negative : Bool) (bytes : List ℕ) (n k m j : ℕ) (d : Decimal) → IsWhole bytes n k → get_or bytes k 0 ≡ 46 → AreDigits n (drop (k + 1) bytes) m j → 0 < j
-    → k + 1 + j < length bytes → stops (get_or bytes (k + 1 + j) 0) ≡ true → IsPointed negative m j d → IsQuick negative bytes (numbers.Decimal d) (k + 1 + j)
-quick-decimal negative bytes n k m j d whole point behind some within stop is =
+by-places : (negative : Bool) (m j : ℕ) → 0 < j → number_by negative m j ≡ numbers.Decimal (pointed negative m j)
+by-places negative m j some = rw (lt-ltb 0 j some) refl
+
+pub quick-decimal : (negative : Bool) (bytes : List ℕ) (n k m j : ℕ) → IsWhole bytes n k → get_or bytes k 0 ≡ 46 → AreDigits n (drop (k + 1) bytes) m j → 0 < j
+    → k + 1 + j < length bytes → stops (get_or bytes (k + 1 + j) 0) ≡ true → m < 2 ^ 128 → j ≤ 128
+    → IsQuick negative bytes (record { negative = negative; number = m; places = j; count = k + 1 + j })
+quick-decimal negative bytes n k m j whole point behind some within stop small few =
     let text = split-text bytes k j whole.within point in
+    let is = by-places negative m j some in
     record {
+      sign = refl;
       some = omega (arith, some);
       within = within;
+      few = few;
       goes = ap (all_are (stays run.Number)) text
           ∙ all_are-append (stays run.Number) (take k bytes) (46 ∷ take j (drop (k + 1) bytes))
           ∙ rw (all-stay (take k bytes) whole.read.digits) (all-stay (take j (drop (k + 1) bytes)) behind.digits);
       ends = stop-ends bytes (k + 1 + j) within stop;
-      gives = ap (λ (l : List ℕ). run_token (signed_text negative l)) text ∙ decimal-gives negative bytes n k m j d whole behind some is;
-      range = pointed-valid negative m j d is;
+      gives = ap (λ (l : List ℕ). run_token (signed_text negative l)) text ∙ decimal-gives negative bytes n k m j whole behind some small few ∙ ap (λ (x : Number). Ok (number_token x)) (sym is);
+      range = subst (λ (x : Number). InRange (as_number x)) (sym is) (pointed-valid negative m j small few);
     }

@@ -1,5 +1,6 @@
 -- What is seen of the kinds of tokens of the code.
-use Rattle.std.specs.Prelude.{ℕ, Bool, not, ◌&&◌, ◌==◌, List, drop, codes}
+use Rattle.std.specs.Prelude.{ℕ, Bool, not, ◌&&◌, ◌==◌, if◌then◌else◌, List, drop, codes}
+use Rattle.ion_value.specs.declared.ion_type.Kind.TheVariants as kinds
 use Rattle.ion_value.specs.Digits.{first_is, is_digit}
 use Rattle.ion_value.specs.Name.{begins_with, is_identifier_byte, is_identifier_start}
 use Rattle.ion_text_in.specs.declared.first.First as code
@@ -21,6 +22,19 @@ first_of kind.Comma = tokens.a_comma
 first_of kind.Colon = tokens.a_colon
 first_of kind.Colons = tokens.two_colons
 first_of kind.Nothing = tokens.no_token
+
+-- the kinds that a byte tells alone, by their numbers in the table of such bytes
+abbrev pub numbered : ℕ → tokens.First
+numbered n =
+    if n == 1 then tokens.a_word
+    else (if n == 2 then tokens.a_run
+    else (if n == 3 then tokens.a_short
+    else (if n == 4 then tokens.a_comma
+    else (if n == 5 then tokens.a_begin kinds.List
+    else (if n == 6 then tokens.a_begin kinds.Sexp
+    else (if n == 7 then tokens.an_end kinds.Struct
+    else (if n == 8 then tokens.an_end kinds.List
+    else tokens.an_end kinds.Sexp)))))))
 
 -- how many bytes of a token tell its kind
 abbrev pub width : tokens.First → ℕ

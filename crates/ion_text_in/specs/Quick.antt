@@ -1,10 +1,13 @@
 -- Ints and decimals that are read in one pass.
-use Rattle.std.specs.Prelude.{◌≡◌, ℕ, ◌<◌, ◌≤◌, Bool, true, false, ◌&&◌, ◌||◌, ◌==◌, nat_lt, if◌then◌else◌, List, [], ◌∷◌, ◌++◌, length, take, drop, Ok}
+use Rattle.std.specs.Prelude.{◌≡◌, ℕ, ◌<◌, ◌≤◌, pos, ◌-ℤ◌, Bool, true, false, ◌&&◌, ◌||◌, ◌==◌, nat_lt, if◌then◌else◌, List, [], ◌∷◌, ◌++◌, length, take, drop, Ok}
+use Rattle.ion_value.specs.declared.decimal.Decimal.{Decimal}
 use Rattle.ion_value.specs.declared.int.Int.{Int}
 use Rattle.ion_value.specs.Digits.{is_digit, all_are, first_is}
 use Rattle.ion_value.specs.DigitReading.{read_digits}
 use Rattle.ion_value.specs.Standing.{InRange}
 use Rattle.ion_text_in.specs.declared.number.Number.{Number}
+use Rattle.ion_text_in.specs.declared.number.Number.TheVariants as numbers
+use Rattle.ion_text_in.specs.declared.quick.Quick.{Quick}
 use Rattle.ion_text_in.specs.declared.run.Run.TheVariants as run
 use Rattle.ion_text_in.specs.Runs.{stays}
 use Rattle.ion_text_in.specs.Token.{in_run, run_token}
@@ -17,6 +20,17 @@ signed_text negative text = (if negative then 45 ∷ [] else []) ++ text
 -- the int of a sign and a magnitude, of which zero has no sign
 abbrev pub signed_int : Bool → ℕ → Int
 signed_int negative n = record { negative = negative && nat_lt 0 n; magnitude = n }
+
+-- the decimal of a sign and digits, of which so many stand behind the point
+abbrev pub pointed : Bool → ℕ → ℕ → Decimal
+pointed negative n places = record { negative = negative; coefficient = n; exponent = pos 0 -ℤ pos places }
+
+-- the number of a sign and digits, with a point before the last of them or none
+abbrev pub number_by : Bool → ℕ → ℕ → Number
+number_by negative n places = if nat_lt 0 places then numbers.Decimal (pointed negative n places) else numbers.Int (signed_int negative n)
+
+abbrev pub as_quick : Quick → Number
+as_quick x = number_by x.negative x.number x.places
 
 -- so many bytes in front are digits, and behind a number they spell another, whatever follows them
 pub record AreDigits (start : ℕ) (bytes : List ℕ) (number count : ℕ) : Type 0 where
@@ -32,10 +46,12 @@ pub record IsWhole (bytes : List ℕ) (number count : ℕ) : Type 0 where
   pub no_zeros : (first_is (λ b. b == 48) bytes && first_is (λ b. is_digit b || b == 95) (drop 1 bytes)) ≡ false
 
 -- so many bytes behind a sign are a number, and a byte that stops it stands behind them
-pub record IsQuick (negative : Bool) (bytes : List ℕ) (number : Number) (count : ℕ) : Type 0 where
-  pub some : 0 < count
-  pub within : count < length bytes
-  pub goes : all_are (stays run.Number) (take count bytes) ≡ true
-  pub ends : (more : List ℕ) → in_run (drop count bytes ++ more) ≡ false
-  pub gives : run_token (signed_text negative (take count bytes)) ≡ Ok (number_token number)
-  pub range : InRange (as_number number)
+pub record IsQuick (negative : Bool) (bytes : List ℕ) (x : Quick) : Type 0 where
+  pub sign : x.negative ≡ negative
+  pub some : 0 < x.count
+  pub within : x.count < length bytes
+  pub few : x.places ≤ 128
+  pub goes : all_are (stays run.Number) (take x.count bytes) ≡ true
+  pub ends : (more : List ℕ) → in_run (drop x.count bytes ++ more) ≡ false
+  pub gives : run_token (signed_text negative (take x.count bytes)) ≡ Ok (number_token (as_quick x))
+  pub range : InRange (as_number (as_quick x))

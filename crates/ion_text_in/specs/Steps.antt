@@ -1,5 +1,5 @@
 -- What is seen of the reader, and what one step of it asks for, gives, keeps and moves.
-use Rattle.std.specs.Prelude.{◌≡◌, ◌≢◌, ℕ, ◌+◌, ◌*◌, ◌-◌, ◌^◌, ◌<◌, ◌≤◌, Bool, true, false, List, [], length, reverse, Option, Some, None, Result, Ok, Err}
+use Rattle.std.specs.Prelude.{◌≡◌, ◌≢◌, ℕ, ◌+◌, ◌*◌, ◌-◌, ◌^◌, ◌<◌, ◌≤◌, Bool, true, List, [], length, reverse, Option, Some, None, Result, Ok, Err}
 use Rattle.std.proofs.Common.{arith}
 use Rattle.std.proofs.lemmas.List.{length-reverse}
 use Rattle.ion_meter.specs.Counts.{Counts}
@@ -26,7 +26,7 @@ use Rattle.ion_text_in.specs.declared.reader.StepResult.{StepResult}
 use Rattle.ion_text_in.specs.declared.reader.StepResult.TheVariants as step_result
 use Rattle.ion_text_in.specs.declared.reader.TextReader.{TextReader}
 use Rattle.ion_text_in.specs.Positions.{State, innermost, at}
-use Rattle.ion_text_in.specs.Reading.{step, step_of, size, take, with_annotation, begin_step, end_step, final_step, field_step, part_from, scalar_step, tells_version, top_of, value_or_version}
+use Rattle.ion_text_in.specs.Reading.{step, step_of, size, take, with_annotation, begin_step, colon_of, end_step, final_step, field_step, part_from, scalar_step, tells_version, top_of, value_or_version}
 use Rattle.ion_text_in.specs.Token as tokens
 use Rattle.ion_text_in.specs.Tokens.{as_symbol, as_scalar}
 use Rattle.ion_text_in.specs.Symbols.{as_field, as_annotations, AreKept}
@@ -158,8 +158,12 @@ without_colons r symbol quoted place c =
     (tells_version (innermost (opened_in r)) (annotations_in r) quoted (as_symbol r.text symbol))))
 
 -- a field's name, a closing bracket and an opening one
-abbrev pub naming : {I A : Type 0} → TextReader I A → Symbol → ℕ → Cursor → Reading
-naming r symbol place c = comes r.limits (field_step (opened_in r) r.top (at (as_symbol r.text symbol) place) c)
+abbrev pub naming : {I A : Type 0} → TextReader I A → List ℕ → Symbol → ℕ → Cursor → Reading
+naming r text symbol place c = comes r.limits (field_step (opened_in r) r.top (at (as_symbol text symbol) place) c)
+
+-- the same at the colon, the name's text being kept
+abbrev pub naming_here : {I A : Type 0} → TextReader I A → Symbol → ℕ → Cursor → Reading
+naming_here r symbol place c = comes r.limits (colon_of (opened_in r) r.top (at (as_symbol r.name symbol) place) c tokens.a_colon)
 
 abbrev pub closing : {I A : Type 0} → TextReader I A → Kind → ℕ → Cursor → Reading
 closing r k place c = comes r.limits (part place (end_step (opened_in r) r.top k place c))

@@ -1,12 +1,16 @@
 //! Which kind of token begins at a place (Ion specification, "Text Encoding").
-ghost use Rattle.std.specs.Prelude.{◌≡◌, ℕ, List, [], ◌+◌, ◌++◌, ◌∷◌, ◌<◌, ◌≤◌, length, slice_index, Bool, true, Err, ◌⊎◌, if◌then◌else◌, IfOk, IfSome, IsSome, MatchOption};
-ghost use Rattle.ion_meter.specs.Sources.{Stands};
+ghost use Rattle.std.specs.Prelude.{◌≡◌, ◌≢◌, ℕ, List, [], ◌+◌, ◌++◌, ◌∷◌, ◌<◌, ◌≤◌, length, slice_index, Bool, true, false, Ok, Err, ◌⊎◌, if◌then◌else◌, IfOk, IfSome, IsSome, MatchOption};
+ghost use Rattle.ion_meter.specs.Sources.{cursor, Stands};
 ghost use Rattle.ion_meter.specs.Windows.{left, lent, Extends};
 ghost use Rattle.ion_value.specs.Calls.{Reads};
 ghost use Rattle.ion_value.specs.Digits.{first_is, is_digit};
-ghost use Rattle.ion_text_in.specs.Firsts.{first_of, is_inf, is_told_alone, width};
-ghost use Rattle.ion_text_in.specs.Token.{first_at};
+ghost use Rattle.ion_text_in.specs.Firsts.{first_of, is_inf, is_told_alone, numbered, width};
+ghost use Rattle.ion_text_in.specs.Blanks.{blanks};
+ghost use Rattle.ion_text_in.specs.Meaning.{at};
+ghost use Rattle.ion_text_in.specs.Overrun.{overrun};
+ghost use Rattle.ion_text_in.specs.Token.{a_colon, first_at};
 
+use crate::blank::pass_blanks;
 use crate::run::{is_identifier_byte, is_operator_byte};
 use ion_meter::device::Input;
 use ion_meter::fault::{Fault, Reason};
@@ -71,6 +75,70 @@ pub(crate) fn scan_first(in_sexp: bool, bytes: &[u8]) -> Option<First>
         },
     }
 }
+
+/// The number of the kind of token that the first of these bytes tells alone, or 0.
+#[inline(always)]
+pub(crate) fn told_first(bytes: &[u8]) -> u8
+    ensures some { 0 < result → 1 ≤ length bytes.now }
+    ensures bare { 0 < result → (place : ℕ) (more : List ℕ)
+        → blanks (at place (bytes.now ++ more)) ≡ Ok (at place (bytes.now ++ more)) }
+    ensures tells { 0 < result → (in_sexp : Bool) (more : List ℕ)
+        → first_at in_sexp (bytes.now ++ more) ≡ numbered result }
+{
+    match bytes {
+        [] => 0,
+        [byte, ..] => FIRST_BYTES[*byte as usize],
+    }
+}
+
+/// Passes over blanks. Mostly a byte that tells its token alone shows that there are none.
+#[inline(always)]
+pub(crate) fn pass_to_token<I: Input, A: Allocator + Copy>(
+    source: &mut Source<I, A>,
+) -> Result<Option<u64>, Fault>
+    requires stands { Stands source.old }
+    ensures gives { I.observable source.old.device → IfOk result (λ start.
+        blanks (cursor I.Input source.old) ≡ overrun start (cursor I.Input source.new)) }
+    ensures used_up { I.observable source.old.device → IfOk result (λ start.
+        IfSome start (λ _. left I.rest source.new ≡ [])) }
+    ensures plain { (r : Reason) (p : ℕ) → result ≢ Err (Fault.Refused r p) }
+    ensures reads { Reads I.Input source.old source.new result }
+{
+    if told_first(source.buffer()) > 0 {
+        return Ok(None);
+    }
+    pass_blanks(source)
+}
+
+/// Whether a colon stands at the front of these bytes, and one more byte that is none.
+#[tactic(auto, unfolding(crate::specs::Token::first_at, crate::specs::Blanks::blanks_at))]
+#[inline(always)]
+pub(crate) fn shows_colon(bytes: &[u8]) -> bool
+    ensures some { result ≡ true → 1 ≤ length bytes.now }
+    ensures bare { result ≡ true → (place : ℕ) (more : List ℕ)
+        → blanks (at place (bytes.now ++ more)) ≡ Ok (at place (bytes.now ++ more)) }
+    ensures first { result ≡ true → (more : List ℕ)
+        → first_at false (bytes.now ++ more) ≡ a_colon }
+{
+    match bytes {
+        [b':', next, ..] => *next != b':',
+        _ => false,
+    }
+}
+
+// The numbers of the kinds that bytes tell alone: 1 for a word, 2 for a number, 3 for a string, 4 for
+// a comma, 5 and 6 for the beginnings of a list and a sexp, 7 to 9 for the ends of a struct, a list
+// and a sexp.
+static FIRST_BYTES: [u8; 256] = [
+    0, 0, 0, 0, 0, 0, 0, 0, 0, 0, 0, 0, 0, 0, 0, 0, 0, 0, 0, 0, 0, 0, 0, 0, 0, 0, 0, 0, 0, 0, 0, 0,
+    0, 0, 3, 0, 1, 0, 0, 0, 6, 9, 0, 0, 4, 0, 0, 0, 2, 2, 2, 2, 2, 2, 2, 2, 2, 2, 0, 0, 0, 0, 0, 0,
+    0, 1, 1, 1, 1, 1, 1, 1, 1, 1, 1, 1, 1, 1, 1, 1, 1, 1, 1, 1, 1, 1, 1, 1, 1, 1, 1, 5, 0, 8, 0, 1,
+    0, 1, 1, 1, 1, 1, 1, 1, 1, 1, 1, 1, 1, 1, 1, 1, 1, 1, 1, 1, 1, 1, 1, 1, 1, 1, 1, 0, 0, 7, 0, 0,
+    0, 0, 0, 0, 0, 0, 0, 0, 0, 0, 0, 0, 0, 0, 0, 0, 0, 0, 0, 0, 0, 0, 0, 0, 0, 0, 0, 0, 0, 0, 0, 0,
+    0, 0, 0, 0, 0, 0, 0, 0, 0, 0, 0, 0, 0, 0, 0, 0, 0, 0, 0, 0, 0, 0, 0, 0, 0, 0, 0, 0, 0, 0, 0, 0,
+    0, 0, 0, 0, 0, 0, 0, 0, 0, 0, 0, 0, 0, 0, 0, 0, 0, 0, 0, 0, 0, 0, 0, 0, 0, 0, 0, 0, 0, 0, 0, 0,
+    0, 0, 0, 0, 0, 0, 0, 0, 0, 0, 0, 0, 0, 0, 0, 0, 0, 0, 0, 0, 0, 0, 0, 0, 0, 0, 0, 0, 0, 0, 0, 0,
+];
 
 /// Which kind of token begins here, or none where the input ends; nothing is passed over.
 ///

@@ -10,7 +10,6 @@ ghost use Rattle.ion_text_in.specs.Token.{a_run, run_token, token_of};
 ghost use Rattle.ion_text_in.specs.Views.{IfWhole, as_number, number_token};
 
 use crate::gather::gather_token;
-use crate::quick::quick_number;
 use crate::run::{Run, token_extent};
 use crate::scanned::Scanned;
 use ion_meter::buf::Buf;
@@ -44,12 +43,6 @@ pub(crate) fn scan_number(limit: u64, bytes: &[u8]) -> Scanned<Number>
     ensures shows { Shows number_token bytes.now result (token_of (Some limit) a_run) }
     ensures range { IfWhole result (λ x. InRange (as_number x)) }
 {
-    if let Some((number, count)) = quick_number(bytes) {
-        if limit < count as u64 {
-            return Scanned::Fault(Reason::ScalarLimit);
-        }
-        return Scanned::Whole(number, count);
-    }
     let Some(count) = token_extent(Run::Number, bytes) else {
         return Scanned::Cut;
     };

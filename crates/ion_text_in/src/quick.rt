@@ -3,31 +3,73 @@
 ghost use Rattle.std.specs.Prelude.{◌≡◌, ◌≤◌, ◌&&◌, ◌||◌, ◌==◌, pos, ◌-ℤ◌, Ok, drop, take, get_or, IfSome};
 ghost use Rattle.ion_value.specs.Digits.{first_is, is_digit};
 ghost use Rattle.ion_value.specs.Standing.{InRange};
-ghost use Rattle.ion_text_in.specs.Quick.{AreDigits, IsQuick, IsWhole, signed_int, signed_text};
-ghost use Rattle.ion_text_in.specs.Token.{bytes_of, in_run, run_token};
+ghost use Rattle.ion_text_in.specs.Quick.{as_quick, signed_int, signed_text, AreDigits, IsQuick, IsWhole};
+ghost use Rattle.ion_text_in.specs.declared.scanned.Scanned.TheVariants.{Whole};
+ghost use Rattle.ion_text_in.specs.Scanners.{Shows};
+ghost use Rattle.ion_text_in.specs.Token.{a_run, bytes_of, in_run, run_token, token_of};
 ghost use Rattle.ion_text_in.specs.Views.{AreShown, as_number, number_token};
 
-use crate::number::Number;
 use crate::run::stops_number;
 use ion_value::decimal::Decimal;
 use ion_value::int::Int;
 
-/// The int or decimal at the front of these bytes, and how many bytes it has.
+/// An int or a decimal by its sign and digits.
+#[derive(Clone, Copy, Debug, PartialEq, Eq)]
+pub(crate) struct Quick {
+    /// Whether there is a minus in front.
+    pub(crate) negative: bool,
+    /// What the digits spell.
+    pub(crate) number: u64,
+    /// How many of them stand behind a point; 0 for an int.
+    pub(crate) places: usize,
+    /// How many bytes it has.
+    pub(crate) count: usize,
+}
+
+/// The int or decimal at the front of these bytes, where it has no more than the limit.
 ///
 /// There is an answer where it is a minus or none and digits, which may have one point among them,
 /// where 64 bits hold the number that they spell, and where punctuation, a quote or white space
 /// ends it within the bytes.
 #[inline(always)]
-pub(crate) fn quick_number(bytes: &[u8]) -> Option<(Number, usize)>
-    ensures shown { IfSome result (λ x. AreShown (bytes_of in_run) bytes.now x.1) }
-    ensures gives { IfSome result (λ x. run_token (take x.1 bytes.now) ≡ Ok (number_token x.0)) }
-    ensures range { IfSome result (λ x. InRange (as_number x.0)) }
+pub(crate) fn scan_quick(limit: u64, bytes: &[u8]) -> Option<Quick>
+    ensures shows { IfSome result (λ x. Shows number_token bytes.now
+        (Whole (as_quick x) x.count) (token_of (Some limit) a_run)) }
+    ensures few { IfSome result (λ x. x.places ≤ 128) }
+    ensures range { IfSome result (λ x. InRange (as_number (as_quick x))) }
 {
-    let (negative, digits) = sign(bytes);
-    let Some((number, count)) = quick_digits(negative, digits) else {
+    let Some(quick) = quick_number(bytes) else {
         return None;
     };
-    Some((number, if negative { count + 1 } else { count }))
+    if limit < quick.count as u64 {
+        return None;
+    }
+    Some(quick)
+}
+
+// The same whatever the limit.
+#[inline(always)]
+fn quick_number(bytes: &[u8]) -> Option<Quick>
+    ensures shown { IfSome result (λ x. AreShown (bytes_of in_run) bytes.now x.count) }
+    ensures gives { IfSome result (λ x. run_token (take x.count bytes.now)
+        ≡ Ok (number_token (as_quick x))) }
+    ensures few { IfSome result (λ x. x.places ≤ 128) }
+    ensures range { IfSome result (λ x. InRange (as_number (as_quick x))) }
+{
+    let (negative, digits) = sign(bytes);
+    let Some(quick) = quick_digits(negative, digits) else {
+        return None;
+    };
+    Some(Quick {
+        negative,
+        number: quick.number,
+        places: quick.places,
+        count: if negative {
+            quick.count + 1
+        } else {
+            quick.count
+        },
+    })
 }
 
 // Whether there is a minus in front, and what stands behind it.
@@ -43,8 +85,8 @@ fn sign(bytes: &[u8]) -> (bool, &[u8])
 
 // The same behind the sign.
 #[inline(always)]
-fn quick_digits(negative: bool, digits: &[u8]) -> Option<(Number, usize)>
-    ensures { IfSome result (λ x. IsQuick negative digits.now x.0 x.1) }
+fn quick_digits(negative: bool, digits: &[u8]) -> Option<Quick>
+    ensures { IfSome result (λ x. IsQuick negative digits.now x) }
 {
     let (whole, count) = digits_behind(0, digits);
     if count == 0 || count >= digits.len() || begins_zeros(digits) {
@@ -57,12 +99,17 @@ fn quick_digits(negative: bool, digits: &[u8]) -> Option<(Number, usize)>
     if !stops_number(next) {
         return None;
     }
-    Some((Number::Int(signed_int(negative, whole)), count))
+    Some(Quick {
+        negative,
+        number: whole,
+        places: 0,
+        count,
+    })
 }
 
-// The int of a sign and digits, of which zero has no sign.
+/// The int of a sign and digits, of which zero has no sign.
 #[inline(always)]
-fn signed_int(negative: bool, magnitude: u64) -> Int
+pub(crate) fn signed_int(negative: bool, magnitude: u64) -> Int
     ensures { result ≡ signed_int negative magnitude }
 {
     Int {
@@ -85,22 +132,27 @@ const MOST_PLACES: usize = 128;
 
 // The decimal of so many digits with a point behind them.
 #[inline(always)]
-fn quick_decimal(negative: bool, whole: u64, count: usize, digits: &[u8]) -> Option<(Number, usize)>
+fn quick_decimal(negative: bool, whole: u64, count: usize, digits: &[u8]) -> Option<Quick>
     requires whole { IsWhole digits.now whole count }
     requires point { get_or digits.now count 0 ≡ 46 }
-    ensures { IfSome result (λ x. IsQuick negative digits.now x.0 x.1) }
+    ensures { IfSome result (λ x. IsQuick negative digits.now x) }
 {
     let (coefficient, places) = digits_behind(whole, &digits[count + 1..]);
     let end = count + 1 + places;
     if places == 0 || places > MOST_PLACES || end >= digits.len() || !stops_number(digits[end]) {
         return None;
     }
-    Some((Number::Decimal(pointed(negative, coefficient, places)), end))
+    Some(Quick {
+        negative,
+        number: coefficient,
+        places,
+        count: end,
+    })
 }
 
-// The decimal of a sign and digits, of which so many stand behind the point.
+/// The decimal of a sign and digits, of which so many stand behind the point.
 #[inline(always)]
-fn pointed(negative: bool, coefficient: u64, places: usize) -> Decimal
+pub(crate) fn pointed(negative: bool, coefficient: u64, places: usize) -> Decimal
     requires few { places ≤ 128 }
     ensures negative { result.negative ≡ negative }
     ensures coefficient { result.coefficient ≡ coefficient }

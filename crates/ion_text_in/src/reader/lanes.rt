@@ -1,20 +1,24 @@
 //! Each frequent kind of token on a lane of its own: what was read is taken at once, and no token is
 //! built that is copied and told apart again.
-ghost use Rattle.std.specs.Prelude.{◌≡◌, ◌<◌, ◌≤◌, length, OnOk};
+ghost use Rattle.std.specs.Prelude.{◌≡◌, ◌<◌, ◌≤◌, length, Ok, OnOk};
+ghost use Rattle.ion_meter.specs.Counts.{Counts};
 ghost use Rattle.ion_meter.specs.Sources.{Cursor, cursor};
 ghost use Rattle.ion_meter.specs.Windows.{lent};
+ghost use Rattle.ion_value.specs.Standing.{InRange};
 ghost use Rattle.ion_text_in.specs.Blanks.{blanks};
-ghost use Rattle.ion_text_in.specs.Firsts.{first_of, width};
+ghost use Rattle.ion_text_in.specs.Firsts.{first_of, numbered, width};
+ghost use Rattle.ion_text_in.specs.Quick.{as_quick};
 ghost use Rattle.ion_text_in.specs.Token as tokens;
 ghost use Rattle.ion_text_in.specs.Tokens.{going, overrun_of, token_view, TokenInRange};
-ghost use Rattle.ion_text_in.specs.Views.{word_token_of};
-ghost use Rattle.ion_text_in.specs.Steps.{left_to, part_by, taking, CanStep, ReadyAfter, StepGives, Stepped};
+ghost use Rattle.ion_text_in.specs.Views.{as_number, number_token, word_token_of};
+ghost use Rattle.ion_text_in.specs.Steps.{held_by, left_to, naming, part_by, taking, CanStep, IsInside, IsSized, ReadyAfter, StepGives, Stepped};
 
 use super::{StepResult, TextReader};
 use crate::expected::{Expected, may_come};
-use crate::first::First;
+use crate::first::{First, shows_colon};
 use crate::number::next_number;
 use crate::operator::pass_mark;
+use crate::quick::{Quick, pointed, scan_quick, signed_int};
 use crate::text::{next_quoted_symbol, next_short_string};
 use crate::token::{Body, Symbol, Token, next_token, number_body};
 use crate::word::{Word, next_word};
@@ -25,8 +29,33 @@ use ion_value::ion_type::Kind;
 use std::alloc::Allocator;
 
 impl<I: Input, A: Allocator + Copy> TextReader<I, A> {
-    // Reads the token that so begins, and takes it: a frequent kind on its own lane.
+    // Reads the token of a kind that its first byte told alone, and takes it.
     #[inline(always)]
+    pub(super) fn told(&mut self, told: u8, meter: &mut Meter<A>) -> Result<StepResult, Fault>
+        requires can_step { CanStep self.old meter.old }
+        requires there { 1 ≤ length (lent self.old.source) }
+        ensures gives { I.observable self.old.source.device → StepGives I.Input
+            (part_by I.Input self.old (numbered told)) self.new result }
+        ensures ready { ReadyAfter result self.new }
+        ensures further { OnOk result (left_to self.new < left_to self.old) }
+        ensures stepped { Stepped I.Input StepResult.Item self.old self.new
+            meter.old meter.new result }
+    {
+        match told {
+            1 => self.word(meter),
+            2 => self.number(meter),
+            3 => self.string(meter),
+            4 => self.comma(meter),
+            5 => self.begin(Kind::List, meter),
+            6 => self.begin(Kind::Sexp, meter),
+            7 => self.finish(Kind::Struct, meter),
+            8 => self.finish(Kind::List, meter),
+            _ => self.finish(Kind::Sexp, meter),
+        }
+    }
+
+    // Reads the token that so begins, and takes it: a frequent kind on its own lane.
+    #[inline(never)]
     pub(super) fn part(&mut self, first: First, meter: &mut Meter<A>) -> Result<StepResult, Fault>
         requires can_step { CanStep self.old meter.old }
         requires there { width (first_of first) ≤ length (lent self.old.source) }
@@ -83,19 +112,148 @@ impl<I: Input, A: Allocator + Copy> TextReader<I, A> {
         ensures stepped { Stepped I.Input StepResult.Item self.old self.new
             meter.old meter.new result }
     {
-        let place = self.source.place();
-        if !may_come(self.expected, First::Word) {
-            return Err(Fault::Refused(Reason::BadToken, place));
-        }
-        match next_word(&mut self.source, &mut self.text, self.limits, meter) {
-            Err(fault) => Err(fault),
-            Ok(word) => self.take_word(word, place, meter),
+        match self.expected {
+            Expected::Separator => self.other(First::Word, meter),
+            Expected::Field => self.name(meter),
+            Expected::Value => self.value_word(meter),
         }
     }
 
-    // The same of a number or a timestamp.
+    // The same where a value may stand.
+    #[inline(always)]
+    fn value_word(&mut self, meter: &mut Meter<A>) -> Result<StepResult, Fault>
+        requires can_step { CanStep self.old meter.old }
+        requires there { 1 ≤ length (lent self.old.source) }
+        requires value { self.old.expected ≡ Expected.Value }
+        ensures gives { I.observable self.old.source.device → StepGives I.Input
+            (part_by I.Input self.old tokens.a_word) self.new result }
+        ensures ready { ReadyAfter result self.new }
+        ensures further { OnOk result (left_to self.new < left_to self.old) }
+        ensures stepped { Stepped I.Input StepResult.Item self.old self.new
+            meter.old meter.new result }
+    {
+        let place = self.source.place();
+        match next_word(&mut self.source, &mut self.text, self.limits, meter) {
+            Err(fault) => Err(fault),
+            Ok(word) => self.word_value(word, place, meter),
+        }
+    }
+
+    // The same where a field may begin: the word is read into the field's name.
+    #[inline(always)]
+    fn name(&mut self, meter: &mut Meter<A>) -> Result<StepResult, Fault>
+        requires can_step { CanStep self.old meter.old }
+        requires there { 1 ≤ length (lent self.old.source) }
+        requires field { self.old.expected ≡ Expected.Field }
+        ensures gives { I.observable self.old.source.device → StepGives I.Input
+            (part_by I.Input self.old tokens.a_word) self.new result }
+        ensures ready { ReadyAfter result self.new }
+        ensures further { OnOk result (left_to self.new < left_to self.old) }
+        ensures stepped { Stepped I.Input StepResult.Item self.old self.new
+            meter.old meter.new result }
+    {
+        let place = self.source.place();
+        match next_word(&mut self.source, &mut self.name, self.limits, meter) {
+            Err(fault) => Err(fault),
+            Ok(word) => self.word_field(word, place, meter),
+        }
+    }
+
+    // Takes the word that was read into a field's name.
+    #[tactic(auto, unfolding(crate::specs::Reading::take))]
+    #[inline(always)]
+    fn word_field(
+        &mut self,
+        word: Word,
+        place: u64,
+        meter: &mut Meter<A>,
+    ) -> Result<StepResult, Fault>
+        requires can_step { CanStep self.old meter.old }
+        requires field { self.old.expected ≡ Expected.Field }
+        ensures gives { I.observable self.old.source.device → (d : Cursor)
+            → blanks d ≡ blanks (cursor I.Input self.old.source)
+            → StepGives I.Input
+            (taking self.old place (word_token_of self.old.name word) d) self.new result }
+        ensures ready { ReadyAfter result self.new }
+        ensures stepped { Stepped I.Input StepResult.Item self.old self.new
+            meter.old meter.new result }
+    {
+        match word {
+            Word::Name => self.ends_name(Symbol::Text, place),
+            Word::Id(id) => self.ends_name(Symbol::Id(id), place),
+            _ => Err(Fault::Refused(Reason::BadToken, place)),
+        }
+    }
+
+    // Passes over the colon behind the name of a field: mostly it stands there at once.
+    #[inline(always)]
+    fn ends_name(&mut self, symbol: Symbol, place: u64) -> Result<StepResult, Fault>
+        requires value { self.old.expected ≡ Expected.Field }
+        requires inside { IsInside self.old }
+        requires sized { IsSized self.old }
+        ensures gives { I.observable self.old.source.device → (d : Cursor)
+            → blanks d ≡ blanks (cursor I.Input self.old.source)
+            → StepGives I.Input (naming self.old self.old.name symbol place d) self.new result }
+        ensures ready { ReadyAfter result self.new }
+        ensures stepped { (m : Counts) → held_by self.old ≤ m.held
+            → Stepped I.Input StepResult.Item self.old self.new m m result }
+    {
+        if shows_colon(self.source.buffer()) {
+            return self.at_colon(symbol, place);
+        }
+        self.behind_name(symbol, place)
+    }
+
+    // Reads the number or timestamp that begins here, and takes it: a plain one in one pass.
     #[inline(never)]
     fn number(&mut self, meter: &mut Meter<A>) -> Result<StepResult, Fault>
+        requires can_step { CanStep self.old meter.old }
+        requires there { 1 ≤ length (lent self.old.source) }
+        ensures gives { I.observable self.old.source.device → StepGives I.Input
+            (part_by I.Input self.old tokens.a_run) self.new result }
+        ensures ready { ReadyAfter result self.new }
+        ensures further { OnOk result (left_to self.new < left_to self.old) }
+        ensures stepped { Stepped I.Input StepResult.Item self.old self.new
+            meter.old meter.new result }
+    {
+        match self.expected {
+            Expected::Value => {}
+            _ => return self.any_number(meter),
+        }
+        let Some(quick) = scan_quick(self.limits.scalar, self.source.buffer()) else {
+            return self.any_number(meter);
+        };
+        let place = self.source.place();
+        self.source.consume(quick.count);
+        Ok(self.quick(quick, place))
+    }
+
+    // Takes a number that was read in one pass.
+    #[inline(always)]
+    fn quick(&mut self, quick: Quick, place: u64) -> StepResult
+        requires value { self.old.expected ≡ Expected.Value }
+        requires inside { IsInside self.old }
+        requires sized { IsSized self.old }
+        requires few { quick.places ≤ 128 }
+        requires range { InRange (as_number (as_quick quick)) }
+        ensures gives { I.observable self.old.source.device → StepGives I.Input
+            (taking self.old place (number_token (as_quick quick)) (cursor I.Input self.old.source))
+            self.new (Ok result) }
+        ensures ready { ReadyAfter (Ok result) self.new }
+        ensures stepped { (m : Counts) → held_by self.old ≤ m.held
+            → Stepped I.Input StepResult.Item self.old self.new m m (Ok result) }
+    {
+        if quick.places > 0 {
+            let decimal = pointed(quick.negative, quick.number, quick.places);
+            return self.scalar(Body::Decimal(decimal), place, None);
+        }
+        let int = signed_int(quick.negative, quick.number);
+        self.scalar(Body::Int(int), place, None)
+    }
+
+    // The same of any number or timestamp, by way of a token.
+    #[inline(never)]
+    fn any_number(&mut self, meter: &mut Meter<A>) -> Result<StepResult, Fault>
         requires can_step { CanStep self.old meter.old }
         requires there { 1 ≤ length (lent self.old.source) }
         ensures gives { I.observable self.old.source.device → StepGives I.Input
@@ -115,7 +273,7 @@ impl<I: Input, A: Allocator + Copy> TextReader<I, A> {
         }
     }
 
-    // The same of a string.
+    // Reads the string that begins here, and takes it.
     #[inline(never)]
     fn string(&mut self, meter: &mut Meter<A>) -> Result<StepResult, Fault>
         requires can_step { CanStep self.old meter.old }
@@ -208,57 +366,6 @@ impl<I: Input, A: Allocator + Copy> TextReader<I, A> {
         let place = self.source.place();
         pass_mark(&mut self.source);
         self.take(Token::End(kind), place, meter)
-    }
-
-    // Takes the word that was read.
-    #[tactic(auto, unfolding(crate::specs::Reading::take))]
-    #[inline(always)]
-    fn take_word(
-        &mut self,
-        word: Word,
-        place: u64,
-        meter: &mut Meter<A>,
-    ) -> Result<StepResult, Fault>
-        requires can_step { CanStep self.old meter.old }
-        ensures gives { I.observable self.old.source.device → (d : Cursor)
-            → blanks d ≡ blanks (cursor I.Input self.old.source)
-            → StepGives I.Input
-            (taking self.old place (word_token_of self.old.text word) d) self.new result }
-        ensures ready { ReadyAfter result self.new }
-        ensures stepped { Stepped I.Input StepResult.Item self.old self.new
-            meter.old meter.new result }
-    {
-        match self.expected {
-            Expected::Separator => Err(Fault::Refused(Reason::BadToken, place)),
-            Expected::Field => self.word_field(word, place, meter),
-            Expected::Value => self.word_value(word, place, meter),
-        }
-    }
-
-    // Takes the word that was read where a field may begin.
-    #[tactic(auto, unfolding(crate::specs::Reading::take))]
-    #[inline(always)]
-    fn word_field(
-        &mut self,
-        word: Word,
-        place: u64,
-        meter: &mut Meter<A>,
-    ) -> Result<StepResult, Fault>
-        requires can_step { CanStep self.old meter.old }
-        requires field { self.old.expected ≡ Expected.Field }
-        ensures gives { I.observable self.old.source.device → (d : Cursor)
-            → blanks d ≡ blanks (cursor I.Input self.old.source)
-            → StepGives I.Input
-            (taking self.old place (word_token_of self.old.text word) d) self.new result }
-        ensures ready { ReadyAfter result self.new }
-        ensures stepped { Stepped I.Input StepResult.Item self.old self.new
-            meter.old meter.new result }
-    {
-        match word {
-            Word::Name => self.named(Symbol::Text, place),
-            Word::Id(id) => self.named(Symbol::Id(id), place),
-            _ => Err(Fault::Refused(Reason::BadToken, place)),
-        }
     }
 
     // Takes the word that was read where a value may stand.

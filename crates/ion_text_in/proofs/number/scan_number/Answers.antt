@@ -3,20 +3,13 @@ use Rattle.ion_text_in.proofs.ShownTokens.{run-shown, run-bad, run-over}
 use Rattle.ion_text_in.proofs.number.scan_number.Goals as goal
 
 pub returns-then-limit-count-clause-shows : goal.returns-then-limit-count-clause-shows
-returns-then-limit-count-clause-shows c = run-over number_token c.args.limit c.in-Some.count c.args.bytes.now c.in-Some.ensures.shown c.if-limit-count.true
-
-pub returns-in-Some-clause-shows : goal.returns-in-Some-clause-shows
-returns-in-Some-clause-shows c =
-    run-shown number_token c.in-Some.number c.args.limit c.in-Some.count c.args.bytes.now c.in-Some.ensures.shown c.if-limit-count.false c.in-Some.ensures.gives
-
-pub returns-then-limit-count-2-clause-shows : goal.returns-then-limit-count-2-clause-shows
-returns-then-limit-count-2-clause-shows c =
-    run-over number_token c.args.limit c.in-Some-token_extent.count c.args.bytes.now c.in-Some-token_extent.ensures c.if-limit-count-2.true
+returns-then-limit-count-clause-shows c =
+    run-over number_token c.args.limit c.in-Some.count c.args.bytes.now c.in-Some.ensures c.if-limit-count.true
 
 pub returns-in-Ok-clause-shows : goal.returns-in-Ok-clause-shows
 returns-in-Ok-clause-shows c =
-    run-shown number_token c.in-Ok.number c.args.limit c.in-Some-token_extent.count c.args.bytes.now c.in-Some-token_extent.ensures c.if-limit-count-2.false c.in-Ok.ensures.gives
+    run-shown number_token c.in-Ok.number c.args.limit c.in-Some.count c.args.bytes.now c.in-Some.ensures c.if-limit-count.false c.in-Ok.ensures.gives
 
 pub returns-in-Err-clause-shows : goal.returns-in-Err-clause-shows
 returns-in-Err-clause-shows c =
-    run-bad number_token c.in-Err.reason c.args.limit c.in-Some-token_extent.count c.args.bytes.now c.in-Some-token_extent.ensures c.if-limit-count-2.false c.in-Err.ensures.gives
+    run-bad number_token c.in-Err.reason c.args.limit c.in-Some.count c.args.bytes.now c.in-Some.ensures c.if-limit-count.false c.in-Err.ensures.gives

@@ -10,11 +10,4 @@ returns c =
     let read = c.digits_behind-coefficient in
     let behind = rw (take_rest digits (count + 1)) at read.ensures in
     let stop = sym c.stops_number.ensures ∙ c.if-not-stops_number.false in
-    quick-decimal c.args.negative digits c.args.whole count read.result.0 read.result.1 c.pointed.result c.requires.whole c.requires.point behind (omega arith) (omega arith) stop
-    (record {
-      is_negative = c.pointed.ensures.negative;
-      is_coefficient = c.pointed.ensures.coefficient;
-      is_exponent = c.pointed.ensures.exponent;
-      small = omega arith;
-      few = omega arith;
-    })
+    quick-decimal c.args.negative digits c.args.whole count read.result.0 read.result.1 c.requires.whole c.requires.point behind (omega arith) (omega arith) stop (omega arith) (omega arith)

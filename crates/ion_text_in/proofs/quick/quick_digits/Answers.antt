@@ -1,7 +1,5 @@
-use Rattle.std.proofs.Common.{◌∙◌, sym, subst, arith}
-use Rattle.ion_value.specs.declared.int.Int.{Int}
-use Rattle.ion_text_in.specs.declared.number.Number.TheVariants as numbers
-use Rattle.ion_text_in.specs.Quick.{IsQuick, IsWhole}
+use Rattle.std.proofs.Common.{◌∙◌, sym, arith}
+use Rattle.ion_text_in.specs.Quick.{IsWhole}
 use Rattle.ion_text_in.proofs.QuickNumbers.{quick-int}
 use Rattle.ion_text_in.proofs.quick.quick_digits.Goals as goal
 
@@ -11,5 +9,4 @@ returns c =
     let read = c.digits_behind-whole in
     let stop = sym c.stops_number.ensures ∙ c.if-not-stops_number.false in
     let whole : IsWhole digits read.result.0 read.result.1 = record { read = read.ensures; some = omega arith; within = omega arith; no_zeros = sym c.begins_zeros.ensures ∙ c.if-begins_zeros.false } in
-    subst (λ (i : Int). IsQuick c.args.negative digits (numbers.Int i) read.result.1) (sym c.signed_int.ensures)
-    (quick-int c.args.negative digits read.result.0 read.result.1 whole stop (omega arith))
+    quick-int c.args.negative digits read.result.0 read.result.1 whole stop (omega arith)

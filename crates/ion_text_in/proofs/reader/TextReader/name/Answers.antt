@@ -1,0 +1,23 @@
+use Rattle.std.proofs.Common.{◌∙◌, refl}
+use Rattle.ion_meter.specs.Sources.{cursor}
+use Rattle.ion_text_in.specs.Token as tokens
+use Rattle.ion_text_in.specs.Views.{word_token_of}
+use Rattle.ion_text_in.proofs.ReaderLanes.{may-name, taking-named, token-failed}
+use Rattle.ion_text_in.proofs.ReaderSteps.{gives-same, part-taken}
+use Rattle.ion_text_in.proofs.reader.TextReader.name.Goals as goal
+
+pub returns-in-Ok-clause-gives : goal.returns-in-Ok-clause-gives
+returns-in-Ok-clause-gives g c = λ h.
+    let r = c.args.self.now in
+    let d = cursor g.I.Input c.next_word.new.source in
+    gives-same g.I.Input _ _ c.word_field.new.self c.word_field.result
+    (part-taken g.I.Input r tokens.a_word (word_token_of c.next_word.new.text c.in-Ok.word) c.place-place.result d
+    (may-name r c.requires.field) c.place-place.ensures (c.in-Ok.ensures.gives h)
+    ∙ taking-named r c.next_word.new.source c.next_word.new.text c.place-place.result (word_token_of c.next_word.new.text c.in-Ok.word) d c.requires.field)
+    (c.word_field.ensures.gives (c.in-Ok.ensures.reads.moves.still_observable.1 h) d refl)
+
+pub returns-in-Err-clause-gives : goal.returns-in-Err-clause-gives
+returns-in-Err-clause-gives g c = λ h.
+    let r = c.args.self.now in
+    token-failed g.I.Input r (record r { source = c.next_word.new.source; name = c.next_word.new.text }) tokens.a_word (word_token_of c.next_word.new.text) c.in-Err.fault (cursor g.I.Input c.next_word.new.source)
+    (may-name r c.requires.field) (c.in-Err.ensures.gives h)

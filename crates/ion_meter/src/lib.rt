@@ -16,5 +16,3 @@ pub mod source;
 pub mod stack;
 pub mod stream;
 pub mod table;
-#[cfg(test)]
-mod tests;

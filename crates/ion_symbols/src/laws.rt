@@ -68,23 +68,3 @@ pub fn catalogs_are_tables()
 pub fn why_catalogs_are_refused()
     ensures { WhyCatalogsAreRefused }
 {}
-
-#[cfg(test)]
-mod tests {
-    use super::*;
-
-    #[test]
-    fn states_laws() {
-        declarations_are_read();
-        what_is_declared();
-        why_refused();
-        what_is_accepted();
-        users_are_read();
-        open_users_are_read();
-        symbols_stand();
-        why_users_stop();
-        catalogs_are_read();
-        catalogs_are_tables();
-        why_catalogs_are_refused();
-    }
-}

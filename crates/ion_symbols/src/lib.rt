@@ -20,6 +20,4 @@ pub mod search;
 pub mod shared;
 mod slots;
 pub mod symbols;
-#[cfg(test)]
-mod tests;
 pub mod user;

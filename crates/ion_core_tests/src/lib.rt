@@ -1,0 +1,12 @@
+//! Tests of `ion_meter` and `ion_symbols` through their public calls.
+//!
+//! A crate with tests is proved once without and once with them, so these stand in a crate of their
+//! own, over the libraries that they test. It has nothing else.
+#![tactic(auto)]
+
+#[cfg(test)]
+mod meter;
+#[cfg(test)]
+mod same;
+#[cfg(test)]
+mod symbols;

@@ -1,0 +1,92 @@
+// What no contract says: that the calls succeed, also right after a refusal or beside a device that fails, and what they print.
+ghost use Rattle.std.specs.Prelude.{◌≡◌, ◌^◌, ◌<◌};
+
+use ion_meter::limits::Limits;
+use ion_meter::meter::Meter;
+use std::alloc::{Allocator, Global};
+use std::process::Abort;
+use std::test::Fail;
+
+mod devices;
+mod growing;
+mod heap;
+mod refusing;
+mod shapes;
+mod std_devices;
+mod windows;
+
+use refusing::Refusing;
+
+/// Limits that short texts keep.
+const LIMITS: Limits = Limits {
+    depth: 10,
+    scalar: 100,
+    symbols: 100,
+    value: 100,
+    input: 100,
+};
+
+/// Runs a script over an allocator that refuses its first allocation, then over one that refuses its second, and so on until
+/// a run meets no refusal. A script answers how often it was refused. The answer is how many runs met a refusal.
+fn refuse_each<F: Fn(&Refusing<Global>) -> Result<u64, Fail>>(
+    rt: &impl Abort,
+    alloc: Global,
+    script: F,
+) -> Result<u64, Fail>
+    requires { F.IsAlwaysCallable script }
+{
+    for nth in 1..1_000 {
+        let refusing = Refusing::new(alloc, nth);
+        let refused = script(&refusing)?;
+        if !refusing.has_refused() {
+            assert_eq!(rt; refused, 0);
+            return Ok(nth - 1);
+        }
+        assert_eq!(rt; refused, 1, "at allocation {nth}");
+    }
+    panic!(rt; "each run met a refusal")
+}
+
+/// What a meter counts.
+#[derive(Clone, Copy, Debug, PartialEq, Eq)]
+struct Counted {
+    held: u64,
+    peak: u64,
+    refused: u64,
+}
+
+/// What is counted. It is asserted to be little, which a call that grows requires.
+fn counts_of<A: Allocator + Copy>(rt: &impl Abort, meter: &Meter<A>) -> Counted
+    ensures held { meter.now.held < 2 ^ 32 }
+    ensures refused { meter.now.refused < 2 ^ 32 }
+    ensures same_refused { result.refused ≡ meter.now.refused }
+{
+    let counted = Counted {
+        held: meter.held(),
+        peak: meter.peak(),
+        refused: meter.refused(),
+    };
+    assert!(rt; counted.held < 1 << 32);
+    assert!(rt; counted.refused < 1 << 32);
+    counted
+}
+
+/// Asserts that a refusal was counted since then, and nothing else.
+fn is_refused<A: Allocator + Copy>(rt: &impl Abort, meter: &Meter<A>, before: Counted)
+    requires { before.refused < 2 ^ 32 }
+{
+    let after = Counted {
+        refused: before.refused + 1,
+        ..before
+    };
+    assert_eq!(rt; counts_of(rt, meter), after);
+}
+
+/// So many bytes, no two neighbours alike.
+fn many_bytes(alloc: Global, count: usize) -> Result<Vec<u8>, Fail> {
+    let mut bytes = Vec::new(alloc);
+    for at in 0..count {
+        bytes.push((at % 251) as u8)?;
+    }
+    Ok(bytes)
+}

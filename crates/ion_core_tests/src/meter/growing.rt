@@ -1,0 +1,224 @@
+// Calls that grow, each over an allocator that refuses it.
+ghost use Rattle.std.specs.Prelude.{◌≡◌, ◌<◌};
+
+use super::refusing::Refusing;
+use super::{counts_of, is_refused, refuse_each};
+use crate::same::same;
+use ion_meter::buf::Buf;
+use ion_meter::fault::Fault;
+use ion_meter::meter::Meter;
+use ion_meter::stack::Stack;
+use ion_meter::table::Table;
+use std::alloc::{Allocator, Global};
+use std::process::Abort;
+use std::test::Fail;
+
+/// A call that grows.
+#[derive(Clone, Copy)]
+enum Call<'a> {
+    Push(u8),
+    Extend(&'a [u8]),
+    Insert(usize, u8),
+}
+
+/// What grows.
+trait Growing<A: Allocator + Copy> {
+    fn contents(&self) -> &[u8];
+
+    /// Makes the call. An entry that is handed back has to be the one that was given.
+    fn make(&mut self, rt: &impl Abort, meter: &mut Meter<A>, call: Call) -> Result<(), Fault>;
+}
+
+impl<A: Allocator + Copy> Growing<A> for Buf<A> {
+    fn contents(&self) -> &[u8] {
+        self.as_slice()
+    }
+
+    fn make(&mut self, rt: &impl Abort, meter: &mut Meter<A>, call: Call) -> Result<(), Fault> {
+        counts_of(rt, meter);
+        match call {
+            Call::Push(byte) => self.push(meter, byte),
+            Call::Extend(bytes) => {
+                assert!(rt; bytes.len() < 1_000);
+                self.extend(meter, bytes)
+            }
+            Call::Insert(place, byte) => {
+                assert!(rt; place <= self.as_slice().len());
+                self.insert(meter, place, byte)
+            }
+        }
+    }
+}
+
+impl<A: Allocator + Copy> Growing<A> for Stack<u8, A> {
+    fn contents(&self) -> &[u8] {
+        self.as_slice()
+    }
+
+    fn make(&mut self, rt: &impl Abort, meter: &mut Meter<A>, call: Call) -> Result<(), Fault> {
+        counts_of(rt, meter);
+        match call {
+            Call::Push(entry) => handed_back(rt, self.push(meter, entry), entry),
+            Call::Extend(entries) => {
+                assert!(rt; entries.len() < 1_000);
+                self.extend(meter, entries)
+            }
+            Call::Insert(place, entry) => {
+                assert!(rt; place <= self.as_slice().len());
+                handed_back(rt, self.insert(meter, place, entry), entry)
+            }
+        }
+    }
+}
+
+/// A table with a known cost.
+#[derive(Drop)]
+struct Priced<A: Allocator + Copy> {
+    table: Table<u8, A>,
+    ghost cost: { table.cost ≡ 24 },
+}
+
+impl<A: Allocator + Copy> Growing<A> for Priced<A> {
+    fn contents(&self) -> &[u8] {
+        self.table.as_slice()
+    }
+
+    fn make(&mut self, rt: &impl Abort, meter: &mut Meter<A>, call: Call) -> Result<(), Fault> {
+        counts_of(rt, meter);
+        match call {
+            Call::Push(entry) => handed_back(rt, self.table.push(meter, entry), entry),
+            Call::Extend(entries) => {
+                assert!(rt; entries.len() < 1_000);
+                self.table.extend(meter, entries)
+            }
+            Call::Insert(place, entry) => {
+                assert!(rt; place <= self.table.as_slice().len());
+                handed_back(rt, self.table.insert(meter, place, entry), entry)
+            }
+        }
+    }
+}
+
+/// Bytes whose every growth is a slice that is put in.
+#[derive(Drop)]
+struct Spliced<A: Allocator + Copy> {
+    buf: Buf<A>,
+}
+
+impl<A: Allocator + Copy> Growing<A> for Spliced<A> {
+    fn contents(&self) -> &[u8] {
+        self.buf.as_slice()
+    }
+
+    fn make(&mut self, rt: &impl Abort, meter: &mut Meter<A>, call: Call) -> Result<(), Fault> {
+        counts_of(rt, meter);
+        let end = self.buf.as_slice().len();
+        match call {
+            Call::Push(byte) => self.buf.insert_slice(meter, end, &[byte]),
+            Call::Extend(bytes) => {
+                assert!(rt; bytes.len() < 1_000);
+                self.buf.insert_slice(meter, end, bytes)
+            }
+            Call::Insert(place, byte) => {
+                assert!(rt; place <= end);
+                self.buf.insert_slice(meter, place, &[byte])
+            }
+        }
+    }
+}
+
+/// The answer without the entry, which has to be this one.
+fn handed_back(rt: &impl Abort, answer: Result<(), (u8, Fault)>, entry: u8) -> Result<(), Fault> {
+    if let Err((back, fault)) = answer {
+        same(rt, back, entry);
+        return Err(fault);
+    }
+    Ok(())
+}
+
+/// Makes the call, and once more where it is refused. A refused call changes nothing but the count of refusals.
+fn grow<A: Allocator + Copy>(
+    rt: &impl Abort,
+    alloc: Global,
+    meter: &mut Meter<A>,
+    grown: &mut impl Growing<A>,
+    call: Call,
+) -> Result<(), Fail> {
+    let before = counts_of(rt, meter);
+    let contents = grown.contents().to_vec(alloc)?;
+    if let Err(fault) = grown.make(rt, meter, call) {
+        same(rt, fault, Fault::Memory);
+        same(rt, grown.contents(), contents.as_slice());
+        is_refused(rt, meter, before);
+        grown.make(rt, meter, call)?;
+    }
+    Ok(())
+}
+
+/// Pushes, extends and inserts, so that each is refused in some run. At the end this much is held.
+fn grow_often<A: Allocator + Copy>(
+    rt: &impl Abort,
+    alloc: Global,
+    meter: &mut Meter<A>,
+    grown: &mut impl Growing<A>,
+    held: u64,
+) -> Result<u64, Fail> {
+    for entry in 0..40 {
+        grow(rt, alloc, meter, grown, Call::Push(entry))?;
+    }
+    grow(rt, alloc, meter, grown, Call::Extend(&[7; 100]))?;
+    for place in 0..60 {
+        grow(rt, alloc, meter, grown, Call::Insert(place, 9))?;
+    }
+    same(rt, grown.contents().len(), 200);
+    same(rt, meter.held(), held);
+    same(rt, meter.peak(), held);
+    Ok(meter.refused())
+}
+
+/// Four of the pushes are refused, then the extension, then an insertion.
+const REFUSALS: u64 = 6;
+
+#[test]
+fn bytes_grow_past_each_refusal(rt: HostRuntime) -> Result<(), Fail> {
+    let runs = refuse_each(&rt, rt.alloc(), |refusing| {
+        let mut meter = Meter::new(refusing);
+        let mut buf = Buf::new(&meter);
+        grow_often(&rt, rt.alloc(), &mut meter, &mut buf, 200)
+    })?;
+    same(&rt, runs, REFUSALS);
+    Ok(())
+}
+
+#[test]
+fn spliced_bytes_grow_past_each_refusal(rt: HostRuntime) -> Result<(), Fail> {
+    let runs = refuse_each(&rt, rt.alloc(), |refusing| {
+        let mut meter = Meter::new(refusing);
+        let buf = Buf::new(&meter);
+        grow_often(&rt, rt.alloc(), &mut meter, &mut Spliced { buf }, 200)
+    })?;
+    same(&rt, runs, REFUSALS);
+    Ok(())
+}
+
+#[test]
+fn stacks_grow_past_each_refusal(rt: HostRuntime) -> Result<(), Fail> {
+    let runs = refuse_each(&rt, rt.alloc(), |refusing| {
+        let mut meter = Meter::new(refusing);
+        let mut stack = Stack::new(&meter);
+        grow_often(&rt, rt.alloc(), &mut meter, &mut stack, 3_200)
+    })?;
+    same(&rt, runs, REFUSALS);
+    Ok(())
+}
+
+#[test]
+fn tables_grow_past_each_refusal(rt: HostRuntime) -> Result<(), Fail> {
+    let runs = refuse_each(&rt, rt.alloc(), |refusing| {
+        let mut meter = Meter::new(refusing);
+        let table = Table::new(&meter, 24);
+        grow_often(&rt, rt.alloc(), &mut meter, &mut Priced { table }, 4_800)
+    })?;
+    same(&rt, runs, REFUSALS);
+    Ok(())
+}

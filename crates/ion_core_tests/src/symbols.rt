@@ -1,0 +1,7 @@
+//! What each call on a table leaves, and what it costs.
+
+mod catalogs;
+mod laws;
+mod outputs;
+mod shared_tables;
+mod system_table;

@@ -1,0 +1,22 @@
+//! The laws, stated where they are called.
+
+use ion_symbols::laws::{
+    catalogs_are_read, catalogs_are_tables, declarations_are_read, open_users_are_read,
+    symbols_stand, users_are_read, what_is_accepted, what_is_declared, why_catalogs_are_refused,
+    why_refused, why_users_stop,
+};
+
+#[test]
+fn states_laws() {
+    declarations_are_read();
+    what_is_declared();
+    why_refused();
+    what_is_accepted();
+    users_are_read();
+    open_users_are_read();
+    symbols_stand();
+    why_users_stop();
+    catalogs_are_read();
+    catalogs_are_tables();
+    why_catalogs_are_refused();
+}

@@ -1,4 +1,4 @@
-//! Tests of `ion_meter` and `ion_symbols` through their public calls.
+//! Tests of `ion_meter`, `ion_value` and `ion_symbols` through their public calls.
 //!
 //! A crate with tests is proved once without and once with them, so these stand in a crate of their
 //! own, over the libraries that they test. It has nothing else.
@@ -10,3 +10,5 @@ mod meter;
 mod same;
 #[cfg(test)]
 mod symbols;
+#[cfg(test)]
+mod value;

@@ -158,28 +158,3 @@ pub fn one_catalog()
 {
     one_spelling();
 }
-
-#[cfg(test)]
-mod tests {
-    use super::*;
-
-    #[test]
-    fn states_laws() {
-        binary_is_sound();
-        text_is_sound();
-        binary_is_complete();
-        text_is_complete();
-        binary_is_spelled_once();
-        text_is_spelled_once();
-        one_spelling();
-        one_verdict();
-        streams_are_read();
-        faultless_paths_are_read();
-        refused_output_is_that_of_a_path();
-        catalog_verdicts_are_read();
-        catalogs_are_loaded();
-        tables_are_catalogs();
-        one_catalog_verdict();
-        one_catalog();
-    }
-}

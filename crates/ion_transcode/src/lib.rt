@@ -10,7 +10,5 @@ pub mod laws;
 pub mod load;
 mod nothing;
 pub mod run;
-#[cfg(test)]
-mod tests;
 pub mod to;
 mod write;

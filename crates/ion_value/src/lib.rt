@@ -19,8 +19,6 @@ pub mod item;
 pub mod laws;
 pub mod names;
 pub mod reader;
-#[cfg(test)]
-mod tests;
 pub mod timestamp;
 mod timestamp_text;
 pub mod var;

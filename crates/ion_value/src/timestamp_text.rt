@@ -536,6 +536,3 @@ fn push_minutes(text: &mut ArrayString<64>, minutes: u16)
     push_byte(text, b':');
     push_two(text, (minutes % 60) as u8);
 }
-
-#[cfg(test)]
-mod tests;

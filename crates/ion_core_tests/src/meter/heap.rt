@@ -20,17 +20,17 @@ fn copy_window<I: Input, O: Output, A: Allocator + Copy>(
     source: &mut Source<I, A>,
     buf: &mut Buf<A>,
     sink: &mut Sink<O, A>,
-) -> Result<usize, Fail> {
+) -> usize {
     counts_of(rt, meter);
     let lent = source.buffer();
     let count = lent.len();
     assert!(rt; count <= 4_096);
-    buf.extend(meter, lent)?;
+    assert!(rt; buf.extend(meter, lent).is_ok());
     source.consume(count);
-    sink.put(buf.as_slice())?;
+    assert!(rt; sink.put(buf.as_slice()).is_ok());
     assert!(rt; buf.as_slice().len() as u64 <= meter.held());
     buf.clear(meter);
-    Ok(count)
+    count
 }
 
 #[test]
@@ -50,12 +50,12 @@ fn a_run_fits_into_a_heap(rt: HostRuntime) -> Result<(), Fail> {
     };
     let mut buf = Buf::new(&meter);
     for length in [4_096, 4_096, 1_808] {
-        assert!(rt; source.peek(0)?.is_some());
-        let count = copy_window(&rt, &mut meter, &mut source, &mut buf, &mut sink)?;
+        assert!(rt; matches!(source.peek(0), Ok(Some(_))));
+        let count = copy_window(&rt, &mut meter, &mut source, &mut buf, &mut sink);
         same(&rt, count, length);
     }
-    same(&rt, source.peek(0)?, None);
-    sink.flush()?;
+    same(&rt, source.peek(0), Ok(None));
+    same(&rt, sink.flush(), Ok(()));
     same(&rt, meter.peak(), 12_288);
     assert_eq!(rt; meter.held(), 8_192);
     assert!(rt; buf.as_slice().is_empty());

@@ -14,11 +14,11 @@ use std::process::Abort;
 use std::test::Fail;
 
 #[test]
-fn bytes_are_put_in_and_cut(rt: HostRuntime) -> Result<(), Fail> {
+fn bytes_are_put_in_and_cut(rt: HostRuntime) {
     let mut meter = Meter::new(rt.alloc());
     let mut buf = Buf::new(&meter);
-    buf.extend(&mut meter, b"abc")?;
-    buf.insert(&mut meter, 1, b'x')?;
+    assert!(rt; buf.extend(&mut meter, b"abc").is_ok());
+    assert!(rt; buf.insert(&mut meter, 1, b'x').is_ok());
     same(&rt, buf.as_slice(), b"axbc".as_slice());
     same(&rt, meter.held(), 4);
     buf.truncate(&mut meter, 2);
@@ -29,14 +29,13 @@ fn bytes_are_put_in_and_cut(rt: HostRuntime) -> Result<(), Fail> {
     same(&rt, meter.held(), 0);
     same(&rt, meter.peak(), 4);
     same(&rt, meter.refused(), 0);
-    Ok(())
 }
 
 #[test]
-fn bytes_are_written_over_and_taken_off(rt: HostRuntime) -> Result<(), Fail> {
+fn bytes_are_written_over_and_taken_off(rt: HostRuntime) {
     let mut meter = Meter::new(rt.alloc());
     let mut buf = Buf::new(&meter);
-    buf.extend(&mut meter, b"ab")?;
+    assert!(rt; buf.extend(&mut meter, b"ab").is_ok());
     buf.set(0, b'y');
     same(&rt, buf.as_slice(), b"yb".as_slice());
     same(&rt, meter.held(), 2);
@@ -47,28 +46,26 @@ fn bytes_are_written_over_and_taken_off(rt: HostRuntime) -> Result<(), Fail> {
     same(&rt, buf.as_slice(), b"".as_slice());
     same(&rt, meter.held(), 0);
     same(&rt, buf.pop(&mut meter), None);
-    Ok(())
 }
 
 #[test]
-fn a_slice_is_put_in(rt: HostRuntime) -> Result<(), Fail> {
+fn a_slice_is_put_in(rt: HostRuntime) {
     let mut meter = Meter::new(rt.alloc());
     let mut buf = Buf::new(&meter);
-    buf.push(&mut meter, b'a')?;
-    buf.push(&mut meter, b'b')?;
-    buf.insert_slice(&mut meter, 1, b"xy")?;
+    assert!(rt; buf.push(&mut meter, b'a').is_ok());
+    assert!(rt; buf.push(&mut meter, b'b').is_ok());
+    assert!(rt; buf.insert_slice(&mut meter, 1, b"xy").is_ok());
     same(&rt, buf.as_slice(), b"axyb".as_slice());
     same(&rt, meter.held(), 4);
     buf.release(&mut meter);
     same(&rt, meter.held(), 0);
-    Ok(())
 }
 
 #[test]
-fn an_entry_of_a_stack_costs_16(rt: HostRuntime) -> Result<(), Fail> {
+fn an_entry_of_a_stack_costs_16(rt: HostRuntime) {
     let mut meter = Meter::new(rt.alloc());
     let mut stack = Stack::new(&meter);
-    stack.extend(&mut meter, &[1_u32, 2])?;
+    assert!(rt; stack.extend(&mut meter, &[1_u32, 2]).is_ok());
     same(&rt, meter.held(), 32);
     stack.set(0, 7);
     same(&rt, stack.as_slice(), [7, 2].as_slice());
@@ -88,18 +85,17 @@ fn an_entry_of_a_stack_costs_16(rt: HostRuntime) -> Result<(), Fail> {
     stack.release(&mut meter);
     same(&rt, meter.held(), 0);
     same(&rt, meter.peak(), 48);
-    Ok(())
 }
 
 #[test]
-fn an_entry_of_a_table_has_its_cost(rt: HostRuntime) -> Result<(), Fail> {
+fn an_entry_of_a_table_has_its_cost(rt: HostRuntime) {
     let mut meter = Meter::new(rt.alloc());
     let mut table = Table::new(&meter, 24);
     assert_eq!(rt; table.push(&mut meter, 7_u32), Ok(()));
     same(&rt, meter.held(), 24);
     table.set(0, 8);
     same(&rt, table.as_slice(), [8].as_slice());
-    table.extend(&mut meter, &[1, 2])?;
+    assert!(rt; table.extend(&mut meter, &[1, 2]).is_ok());
     same(&rt, table.insert(&mut meter, 1, 5), Ok(()));
     same(&rt, table.as_slice(), [8, 5, 1, 2].as_slice());
     same(&rt, meter.held(), 96);
@@ -115,11 +111,10 @@ fn an_entry_of_a_table_has_its_cost(rt: HostRuntime) -> Result<(), Fail> {
     table.release(&mut meter);
     same(&rt, meter.held(), 0);
     same(&rt, meter.peak(), 96);
-    Ok(())
 }
 
 #[test]
-fn both_windows_cost_8_192(rt: HostRuntime) -> Result<(), Fail> {
+fn both_windows_cost_8_192(rt: HostRuntime) {
     let mut meter = Meter::new(rt.alloc());
     let Ok(source) = Source::new(&mut meter, LIMITS, FromRead::new(b"ab".as_slice())) else {
         panic!(rt; "no memory")
@@ -134,7 +129,6 @@ fn both_windows_cost_8_192(rt: HostRuntime) -> Result<(), Fail> {
     sink.release(&mut meter);
     same(&rt, meter.held(), 0);
     same(&rt, meter.peak(), 8_192);
-    Ok(())
 }
 
 /// The greatest limits: 65,535, then 2^30 three times, then 2^48.

@@ -40,10 +40,10 @@ use Rattle.ion_core_tests.proofs.meter.refusing.refuses.Symbol as c_sym
 use Rattle.ion_core_tests.proofs.meter.refusing.refuses.Met as c_met
 use Rattle.std.proofs.VecSteps.Shapes.{after}
 use Rattle.std.specs.contracts.cell.Cell as CE
-use Rattle.ion_meter.specs.contracts.tests.refusing.refuses as asks
-use Rattle.ion_meter.specs.contracts.tests.refusing.Refusing as wrapper
-use Rattle.ion_meter.specs.contracts.tests.refusing.RefusingAllocator.allocate as F
-use Rattle.ion_meter.specs.contracts.tests.refusing.RefusingAllocator.allocate.Key as key
+use Rattle.ion_core_tests.specs.contracts.meter.refusing.refuses as asks
+use Rattle.ion_core_tests.specs.contracts.meter.refusing.Refusing as wrapper
+use Rattle.ion_core_tests.specs.contracts.meter.refusing.RefusingAllocator.allocate as F
+use Rattle.ion_core_tests.specs.contracts.meter.refusing.RefusingAllocator.allocate.Key as key
 use Rattle.ion_core_tests.proofs.meter.refusing.RefusingAllocator.allocate.Statement as stated
 use Rattle.ion_core_tests.proofs.meter.refusing.RefusingAllocator.allocate.Code as code
 

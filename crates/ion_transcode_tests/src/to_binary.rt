@@ -2,11 +2,11 @@
 
 use super::devices::answer;
 use super::hex::behind_marker;
-use super::{LIMITS, expect_bytes, refused, text};
-use crate::run::bound;
-use crate::to::{Form, Summary, To};
+use super::runs::{LIMITS, expect_bytes, refused, text};
 use ion_meter::fault::{Fault, Reason};
 use ion_meter::limits::Limits;
+use ion_transcode::run::bound;
+use ion_transcode::to::{Form, Summary, To};
 use std::alloc::Global;
 use std::process::Abort;
 use std::test::Fail;

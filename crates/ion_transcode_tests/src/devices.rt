@@ -1,13 +1,13 @@
 //! Devices in memory, and runs over them.
 ghost use Rattle.std.specs.Prelude.{◌≤◌, length};
 
-use crate::run::{bound, run};
-use crate::to::{Form, Summary, To};
 use ion_meter::fault::Fault;
 use ion_meter::limits::Limits;
 use ion_meter::meter::Meter;
 use ion_meter::stream::{FromRead, ToWrite};
 use ion_symbols::catalog::Catalog;
+use ion_transcode::run::{bound, run};
+use ion_transcode::to::{Form, Summary, To};
 use std::alloc::Global;
 use std::cell::Cell;
 use std::io;

@@ -1,24 +1,18 @@
 //! What runs write of worked streams, in whatever pieces they come, and how they end.
 
-mod catalogs;
-mod devices;
-mod hex;
-mod refusing;
-mod to_binary;
-
-use crate::run::bound;
-use crate::to::{Form, Summary, To};
-use devices::{Giving, Taking, Telling, Waiting, answer};
-use hex::{behind_marker, octets};
+use super::devices::{Giving, Taking, Telling, Waiting, answer};
+use super::hex::{behind_marker, octets};
 use ion_meter::fault::{Fault, Reason};
 use ion_meter::limits::Limits;
+use ion_transcode::run::bound;
+use ion_transcode::to::{Form, Summary, To};
 use std::alloc::Global;
 use std::cell::Cell;
 use std::process::Abort;
 use std::test::Fail;
 
 /// The limits of a run where nothing else is said.
-const LIMITS: Limits = Limits {
+pub const LIMITS: Limits = Limits {
     depth: 64,
     scalar: 1_048_576,
     symbols: 1_048_576,
@@ -38,7 +32,7 @@ fn binary(values: u64) -> Result<Summary, Fault> {
 }
 
 /// So many values of a text.
-fn text(values: u64) -> Result<Summary, Fault> {
+pub fn text(values: u64) -> Result<Summary, Fault> {
     Ok(Summary {
         form: Form::Text,
         values,
@@ -46,7 +40,7 @@ fn text(values: u64) -> Result<Summary, Fault> {
 }
 
 /// A refusal.
-fn refused(reason: Reason, place: u64) -> Result<Summary, Fault> {
+pub fn refused(reason: Reason, place: u64) -> Result<Summary, Fault> {
     Err(Fault::Refused(reason, place))
 }
 
@@ -65,7 +59,7 @@ fn expect(
 }
 
 /// The same of any bytes.
-fn expect_bytes(
+pub fn expect_bytes(
     rt: &impl Abort,
     alloc: Global,
     limits: Limits,
@@ -117,59 +111,65 @@ fn expect_rows(rt: &impl Abort, alloc: Global, limits: Limits, rows: &[Row]) -> 
     Ok(())
 }
 
+/// Octets behind a version marker, how many values they have, and what is written of them as text.
+const BINARY_STREAMS: &[(&str, u64, &str)] = &[
+    ("", 0, ""),
+    (
+        "0F 11 21 05 31 07 2F 10",
+        6,
+        "null\ntrue\n5\n-7\nnull.int\nfalse\n",
+    ),
+    ("21 00", 1, "0\n"),
+    ("52 80 80", 1, "-0.\n"),
+    ("52 C1 0F", 1, "1.5\n"),
+    ("52 C3 05", 1, "0.005\n"),
+    ("51 C2", 1, "0.00\n"),
+    ("52 81 0F", 1, "15d1\n"),
+    ("52 E7 01", 1, "1d-39\n"),
+    (
+        "5E 92 E6 00 FF FF FF FF FF FF FF FF FF FF FF FF FF FF FF FF",
+        1,
+        "3.40282366920938463463374607431768211455\n",
+    ),
+    ("C8 52 80 0F 52 80 80 71 04", 1, "(15. -0. name)\n"),
+    ("70", 1, "$0\n"),
+    ("69 80 0F D0 81 81 80 80 80 80", 1, "2000-01-01T00:00:00Z\n"),
+    (
+        "69 80 0F D0 81 81 80 80 80 C1",
+        1,
+        "2000-01-01T00:00:00.0Z\n",
+    ),
+    // A field id before a NOP pad names nothing.
+    ("D5 80 01 FF 84 11", 1, "{name:true}\n"),
+    ("D5 FE 01 FF 84 11", 1, "{name:true}\n"),
+    // Declarations are no values.
+    (
+        "EA 81 83 D7 87 B2 81 61 86 71 03 EA 81 83 D7 87 B2 81 62 86 71 03 71 0A 71 0B",
+        2,
+        "a\nb\n",
+    ),
+    (
+        "B5 21 05 B2 11 10 E4 81 84 21 05",
+        2,
+        "[5,[true,false]]\nname::5\n",
+    ),
+    // Version markers are no values, wherever they stand at top level.
+    ("E0 01 00 EA", 0, ""),
+    ("21 05 E0 01 00 EA E0 01 00 EA 11", 2, "5\ntrue\n"),
+    ("B1 11 E0 01 00 EA", 1, "[true]\n"),
+];
+
 #[test]
 fn binary_streams(rt: HostRuntime) -> Result<(), Fail> {
-    let rows = [
-        ("", binary(0), ""),
-        (
-            "0F 11 21 05 31 07 2F 10",
-            binary(6),
-            "null\ntrue\n5\n-7\nnull.int\nfalse\n",
-        ),
-        ("21 00", binary(1), "0\n"),
-        ("52 80 80", binary(1), "-0.\n"),
-        ("52 C1 0F", binary(1), "1.5\n"),
-        ("52 C3 05", binary(1), "0.005\n"),
-        ("51 C2", binary(1), "0.00\n"),
-        ("52 81 0F", binary(1), "15d1\n"),
-        ("52 E7 01", binary(1), "1d-39\n"),
-        (
-            "5E 92 E6 00 FF FF FF FF FF FF FF FF FF FF FF FF FF FF FF FF",
-            binary(1),
-            "3.40282366920938463463374607431768211455\n",
-        ),
-        ("C8 52 80 0F 52 80 80 71 04", binary(1), "(15. -0. name)\n"),
-        ("70", binary(1), "$0\n"),
-        (
-            "69 80 0F D0 81 81 80 80 80 80",
-            binary(1),
-            "2000-01-01T00:00:00Z\n",
-        ),
-        (
-            "69 80 0F D0 81 81 80 80 80 C1",
-            binary(1),
-            "2000-01-01T00:00:00.0Z\n",
-        ),
-        // A field id before a NOP pad names nothing.
-        ("D5 80 01 FF 84 11", binary(1), "{name:true}\n"),
-        ("D5 FE 01 FF 84 11", binary(1), "{name:true}\n"),
-        // Declarations are no values.
-        (
-            "EA 81 83 D7 87 B2 81 61 86 71 03 EA 81 83 D7 87 B2 81 62 86 71 03 71 0A 71 0B",
-            binary(2),
-            "a\nb\n",
-        ),
-        (
-            "B5 21 05 B2 11 10 E4 81 84 21 05",
-            binary(2),
-            "[5,[true,false]]\nname::5\n",
-        ),
-        // Version markers are no values, wherever they stand at top level.
-        ("E0 01 00 EA", binary(0), ""),
-        ("21 05 E0 01 00 EA E0 01 00 EA 11", binary(2), "5\ntrue\n"),
-        ("B1 11 E0 01 00 EA", binary(1), "[true]\n"),
-    ];
-    expect_rows(&rt, rt.alloc(), LIMITS, &rows)
+    for (digits, values, text) in BINARY_STREAMS {
+        expect_rows(
+            &rt,
+            rt.alloc(),
+            LIMITS,
+            &[(*digits, binary(*values), *text)],
+        )?;
+    }
+    Ok(())
 }
 
 #[test]
@@ -500,107 +500,113 @@ fn expect_live(
     assert_eq!(rt; outcome, want, "before {shown}");
 }
 
+/// Pieces of a text, each with how many bytes are written before it is read; how many values there are;
+/// and what is written in all.
+const LIVE_TEXTS: &[(&[(&[u8], usize)], u64, &str)] = &[
+    (
+        &[
+            (b"1 ", 0),
+            (b"2 ", 2),
+            (b"\"a\"", 4),
+            (b"[2]", 8),
+            (b"", 12),
+        ],
+        4,
+        "1\n2\n\"a\"\n[2]\n",
+    ),
+    // Behind a symbol two colons may come.
+    (
+        &[(b"1 a", 0), (b"::", 2), (b"b ", 2), (b"4 ", 2), (b"", 9)],
+        3,
+        "1\na::b\n4\n",
+    ),
+    // A number may go on, and so may a long string.
+    (&[(b"1 2", 0), (b"3 ", 2), (b"", 5)], 2, "1\n23\n"),
+    (
+        &[(b"1 '''a''' ", 0), (b"'''b''' 2 ", 2), (b"", 9)],
+        3,
+        "1\n\"ab\"\n2\n",
+    ),
+    // What is whole of an open value is written with the value before it.
+    (
+        &[(b"5 [1,", 0), (b"{a", 4), (b":2}] ", 4), (b"", 12)],
+        2,
+        "5\n[1,{a:2}]\n",
+    ),
+    (&[(b"1 /* ", 0), (b"*/ 2 ", 2), (b"", 4)], 2, "1\n2\n"),
+    (
+        &[(b"1 {{aGVsbG8", 0), (b"=}", 2), (b"} ", 2), (b"", 15)],
+        2,
+        "1\n{{aGVsbG8=}}\n",
+    ),
+    // A declaration is no value, and is read with the value behind it.
+    (
+        &[
+            (b"1 $ion_symbol_table::{symbols:[", 0),
+            (b"\"a\"]} ", 2),
+            (b"$10 2 ", 2),
+            (b"", 6),
+        ],
+        3,
+        "1\na\n2\n",
+    ),
+];
+
 // Values that are whole are written before a read that may have to wait.
 #[test]
 fn texts_are_written_as_they_come(rt: HostRuntime) -> Result<(), Fail> {
-    let rows: [(&[(&[u8], usize)], u64, &str); 8] = [
-        (
-            &[
-                (b"1 ", 0),
-                (b"2 ", 2),
-                (b"\"a\"", 4),
-                (b"[2]", 8),
-                (b"", 12),
-            ],
-            4,
-            "1\n2\n\"a\"\n[2]\n",
-        ),
-        // Behind a symbol two colons may come.
-        (
-            &[(b"1 a", 0), (b"::", 2), (b"b ", 2), (b"4 ", 2), (b"", 9)],
-            3,
-            "1\na::b\n4\n",
-        ),
-        // A number may go on, and so may a long string.
-        (&[(b"1 2", 0), (b"3 ", 2), (b"", 5)], 2, "1\n23\n"),
-        (
-            &[(b"1 '''a''' ", 0), (b"'''b''' 2 ", 2), (b"", 9)],
-            3,
-            "1\n\"ab\"\n2\n",
-        ),
-        // What is whole of an open value is written with the value before it.
-        (
-            &[(b"5 [1,", 0), (b"{a", 4), (b":2}] ", 4), (b"", 12)],
-            2,
-            "5\n[1,{a:2}]\n",
-        ),
-        (&[(b"1 /* ", 0), (b"*/ 2 ", 2), (b"", 4)], 2, "1\n2\n"),
-        (
-            &[(b"1 {{aGVsbG8", 0), (b"=}", 2), (b"} ", 2), (b"", 15)],
-            2,
-            "1\n{{aGVsbG8=}}\n",
-        ),
-        // A declaration is no value, and is read with the value behind it.
-        (
-            &[
-                (b"1 $ion_symbol_table::{symbols:[", 0),
-                (b"\"a\"]} ", 2),
-                (b"$10 2 ", 2),
-                (b"", 6),
-            ],
-            3,
-            "1\na\n2\n",
-        ),
-    ];
-    for (pieces, values, shown) in rows {
-        expect_live(&rt, rt.alloc(), pieces, text(values), shown);
+    for (pieces, values, shown) in LIVE_TEXTS {
+        expect_live(&rt, rt.alloc(), pieces, text(*values), shown);
     }
     Ok(())
 }
 
+/// Pieces of a binary stream, each with how many bytes are written before it is read; how many values there are;
+/// and what is written in all.
+const LIVE_OCTETS: &[(&[(&[u8], usize)], u64, &str)] = &[
+    (
+        &[
+            (b"\xE0\x01\x00\xEA\x21\x05", 0),
+            (b"\x21\x06\x21", 2),
+            (b"\x07\xB2\x21", 4),
+            (b"\x08", 7),
+            (b"\x82\x61", 10),
+            (b"\x62", 10),
+            (b"\xE0\x01\x00\xEA", 15),
+            (b"", 15),
+        ],
+        5,
+        "5\n6\n7\n[8]\n\"ab\"\n",
+    ),
+    // A field, and a value with an annotation.
+    (
+        &[
+            (b"\xE0\x01\x00\xEA\x11\xD3\x84", 0),
+            (b"\x21", 6),
+            (b"\x05\xE4\x81\x84", 6),
+            (b"\x21\x05", 14),
+            (b"", 22),
+        ],
+        3,
+        "true\n{name:5}\nname::5\n",
+    ),
+    // A declaration, which is read with the value behind it.
+    (
+        &[
+            (b"\xE0\x01\x00\xEA\x11\xE7\x81\x83\xD4", 0),
+            (b"\x87\xB2\x81\x61", 5),
+            (b"\x71\x0A", 5),
+            (b"", 7),
+        ],
+        2,
+        "true\na\n",
+    ),
+];
+
 #[test]
 fn octets_are_written_as_they_come(rt: HostRuntime) -> Result<(), Fail> {
-    let rows: [(&[(&[u8], usize)], u64, &str); 3] = [
-        (
-            &[
-                (b"\xE0\x01\x00\xEA\x21\x05", 0),
-                (b"\x21\x06\x21", 2),
-                (b"\x07\xB2\x21", 4),
-                (b"\x08", 7),
-                (b"\x82\x61", 10),
-                (b"\x62", 10),
-                (b"\xE0\x01\x00\xEA", 15),
-                (b"", 15),
-            ],
-            5,
-            "5\n6\n7\n[8]\n\"ab\"\n",
-        ),
-        // A field, and a value with an annotation.
-        (
-            &[
-                (b"\xE0\x01\x00\xEA\x11\xD3\x84", 0),
-                (b"\x21", 6),
-                (b"\x05\xE4\x81\x84", 6),
-                (b"\x21\x05", 14),
-                (b"", 22),
-            ],
-            3,
-            "true\n{name:5}\nname::5\n",
-        ),
-        // A declaration, which is read with the value behind it.
-        (
-            &[
-                (b"\xE0\x01\x00\xEA\x11\xE7\x81\x83\xD4", 0),
-                (b"\x87\xB2\x81\x61", 5),
-                (b"\x71\x0A", 5),
-                (b"", 7),
-            ],
-            2,
-            "true\na\n",
-        ),
-    ];
-    for (pieces, values, shown) in rows {
-        expect_live(&rt, rt.alloc(), pieces, binary(values), shown);
+    for (pieces, values, shown) in LIVE_OCTETS {
+        expect_live(&rt, rt.alloc(), pieces, binary(*values), shown);
     }
     Ok(())
 }

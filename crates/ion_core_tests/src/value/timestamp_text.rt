@@ -1,5 +1,8 @@
-use super::*;
-use crate::tests::same;
+//! Timestamps that texts spell, and as text.
+
+use crate::same::same;
+use ion_meter::fault::Reason;
+use ion_value::timestamp::{Precision, Timestamp, timestamp_from_text, timestamp_to_text};
 
 fn date(precision: Precision, year: u16, month: u8, day: u8) -> Timestamp {
     Timestamp {

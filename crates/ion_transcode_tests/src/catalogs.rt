@@ -1,16 +1,16 @@
 //! Which catalogues are loaded, in whatever pieces they come, and which are refused.
 
-use super::LIMITS;
 use super::devices::Giving;
 use super::hex::behind_marker;
 use super::refusing::Refusing;
-use crate::load::load_catalog;
-use crate::run::bound;
-use crate::to::{Form, To};
+use super::runs::LIMITS;
 use ion_meter::fault::{Fault, Reason};
 use ion_meter::limits::Limits;
 use ion_meter::meter::Meter;
 use ion_meter::stream::FromRead;
+use ion_transcode::load::load_catalog;
+use ion_transcode::run::bound;
+use ion_transcode::to::{Form, To};
 use std::alloc::Global;
 use std::io::Read;
 use std::process::Abort;
@@ -112,50 +112,58 @@ fn no_tables(rt: HostRuntime) -> Result<(), Fail> {
     Ok(())
 }
 
+/// Texts, and why and where they are refused.
+const REFUSED: &[(&str, Reason, u64)] = &[
+    ("5", Reason::CatalogEntry, 0),
+    ("{name:\"x\"}", Reason::CatalogEntry, 0),
+    ("b::$9::{name:\"x\"}", Reason::CatalogEntry, 0),
+    ("$9::null.struct", Reason::CatalogEntry, 0),
+    (" $9::[]", Reason::CatalogEntry, 1),
+    ("$9::{}", Reason::CatalogEntry, 0),
+    // Found at the field, before what is behind it is read.
+    ("$9::{name:\"\",\"", Reason::CatalogEntry, 0),
+    ("$9::{name:\"$ion\",\"", Reason::CatalogEntry, 0),
+    ("$9::{name:x,\"", Reason::CatalogEntry, 0),
+    ("$9::{name:\"x\",name:\"x\",\"", Reason::CatalogEntry, 0),
+    (
+        "$9::{name:\"x\",version:2147483648,\"",
+        Reason::CatalogEntry,
+        0,
+    ),
+    ("$9::{version:null,version:1,\"", Reason::CatalogEntry, 0),
+    ("$9::{symbols:5,symbols:[\"", Reason::CatalogEntry, 0),
+    ("$9::{imports:[\"", Reason::CatalogEntry, 0),
+    (
+        "$ion_shared_symbol_table::{name:\"x\",version:1} $ion_shared_symbol_table::{name:\"x\"}",
+        Reason::CatalogEntry,
+        47,
+    ),
+    (
+        "$9::{name:\"x\",version:2147483647} []",
+        Reason::CatalogEntry,
+        34,
+    ),
+    // All else is refused as by a run.
+    ("$9::{name:\"x\"", Reason::Truncated, 13),
+    ("$9::{name:\"x\",$10:1}", Reason::BadSymbol, 14),
+    (
+        "$ion_symbol_table::{imports:[{name:\"x\"}]}",
+        Reason::BadTable,
+        29,
+    ),
+];
+
 #[test]
 fn refused_catalogues(rt: HostRuntime) -> Result<(), Fail> {
     let alloc = rt.alloc();
-    let rows = [
-        ("5", Reason::CatalogEntry, 0),
-        ("{name:\"x\"}", Reason::CatalogEntry, 0),
-        ("b::$9::{name:\"x\"}", Reason::CatalogEntry, 0),
-        ("$9::null.struct", Reason::CatalogEntry, 0),
-        (" $9::[]", Reason::CatalogEntry, 1),
-        ("$9::{}", Reason::CatalogEntry, 0),
-        // Found at the field, before what is behind it is read.
-        ("$9::{name:\"\",\"", Reason::CatalogEntry, 0),
-        ("$9::{name:\"$ion\",\"", Reason::CatalogEntry, 0),
-        ("$9::{name:x,\"", Reason::CatalogEntry, 0),
-        ("$9::{name:\"x\",name:\"x\",\"", Reason::CatalogEntry, 0),
-        (
-            "$9::{name:\"x\",version:2147483648,\"",
-            Reason::CatalogEntry,
-            0,
-        ),
-        ("$9::{version:null,version:1,\"", Reason::CatalogEntry, 0),
-        ("$9::{symbols:5,symbols:[\"", Reason::CatalogEntry, 0),
-        ("$9::{imports:[\"", Reason::CatalogEntry, 0),
-        (
-            "$ion_shared_symbol_table::{name:\"x\",version:1} $ion_shared_symbol_table::{name:\"x\"}",
-            Reason::CatalogEntry,
-            47,
-        ),
-        (
-            "$9::{name:\"x\",version:2147483647} []",
-            Reason::CatalogEntry,
-            34,
-        ),
-        // All else is refused as by a run.
-        ("$9::{name:\"x\"", Reason::Truncated, 13),
-        ("$9::{name:\"x\",$10:1}", Reason::BadSymbol, 14),
-        (
-            "$ion_symbol_table::{imports:[{name:\"x\"}]}",
-            Reason::BadTable,
-            29,
-        ),
-    ];
-    for (text, reason, place) in rows {
-        expect(&rt, alloc, LIMITS, text.as_bytes(), refused(reason, place));
+    for (text, reason, place) in REFUSED {
+        expect(
+            &rt,
+            alloc,
+            LIMITS,
+            text.as_bytes(),
+            refused(*reason, *place),
+        );
     }
     let octets = behind_marker(&rt, alloc, "21 05")?;
     let want = refused(Reason::CatalogEntry, 4);

@@ -36,16 +36,16 @@ use denote.RawPtr.{block_ptr}
 use denote.Builtin.{u64, bool, usize, RefOf}
 use denote.Triple.Call.{calls_at}
 use Rattle.std.proofs.alloc.Calls.{Al, α, seen, Answer, answer_val, Answer-typed, Answer-Ok, Answer-err, takes_key, Takes, at_takes, Answered, Takes-goes, Takes-gives, answers}
-use Rattle.ion_transcode.proofs.tests.refusing.refuses.Symbol as c_sym
-use Rattle.ion_transcode.proofs.tests.refusing.refuses.Met as c_met
+use Rattle.ion_transcode_tests.proofs.refusing.refuses.Symbol as c_sym
+use Rattle.ion_transcode_tests.proofs.refusing.refuses.Met as c_met
 use Rattle.std.proofs.VecSteps.Shapes.{after}
 use Rattle.std.specs.contracts.cell.Cell as CE
-use Rattle.ion_transcode.specs.contracts.tests.refusing.refuses as asks
-use Rattle.ion_transcode.specs.contracts.tests.refusing.Refusing as wrapper
-use Rattle.ion_transcode.specs.contracts.tests.refusing.RefusingAllocator.allocate as F
-use Rattle.ion_transcode.specs.contracts.tests.refusing.RefusingAllocator.allocate.Key as key
-use Rattle.ion_transcode.proofs.tests.refusing.RefusingAllocator.allocate.Statement as stated
-use Rattle.ion_transcode.proofs.tests.refusing.RefusingAllocator.allocate.Code as code
+use Rattle.ion_transcode_tests.specs.contracts.refusing.refuses as asks
+use Rattle.ion_transcode_tests.specs.contracts.refusing.Refusing as wrapper
+use Rattle.ion_transcode_tests.specs.contracts.refusing.RefusingAllocator.allocate as F
+use Rattle.ion_transcode_tests.specs.contracts.refusing.RefusingAllocator.allocate.Key as key
+use Rattle.ion_transcode_tests.proofs.refusing.RefusingAllocator.allocate.Statement as stated
+use Rattle.ion_transcode_tests.proofs.refusing.RefusingAllocator.allocate.Code as code
 
 -- ---- `refuses` at a call: what it is handed, and what a caller has of it
 abbrev Left : RattleType

@@ -1,0 +1,21 @@
+//! Tests of `ion_transcode` through its public calls: what runs write of worked streams, in whatever
+//! pieces they come, and how they end.
+//!
+//! A crate with tests is proved once without and once with them, so these stand in a crate of their
+//! own, over the library that they test. It has nothing else.
+#![tactic(auto)]
+
+#[cfg(test)]
+mod catalogs;
+#[cfg(test)]
+mod devices;
+#[cfg(test)]
+mod hex;
+#[cfg(test)]
+mod laws;
+#[cfg(test)]
+mod refusing;
+#[cfg(test)]
+mod runs;
+#[cfg(test)]
+mod to_binary;

@@ -61,7 +61,7 @@ impl Shelf {
     }
 
     // Adds such a table.
-    #[tactic(auto, using(ion_symbols::proofs::Catalogued::cost_without))]
+    #[tactic(auto, using(crate::proofs::Shelves::cost_without))]
     fn add(&mut self, rt: &impl Abort, name: &str, version: u32, texts: &[&str]) -> Result<(), Fail>
         requires held { catalog_cost self.old.catalog ≤ self.old.meter.held }
         ensures held { catalog_cost self.new.catalog ≤ self.new.meter.held }

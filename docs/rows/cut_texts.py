@@ -369,7 +369,6 @@ def items(text, limit, depth=8):
                 return bad
             if kind not in SYMBOLS + ('string',):
                 return words + [f'{told} at {place}']
-            digits = told.partition(' ')[2]
             field = symbol(told, place) + ': '
             wanted = 'colon'
         elif kind in SYMBOLS and i + 1 < len(tokens) and tokens[i + 1][1] == '::':

@@ -6,3 +6,5 @@
 
 #[cfg(test)]
 mod reading;
+#[cfg(test)]
+mod writing;

@@ -32,6 +32,9 @@ type Row = (u64, &'static [u8], &'static str);
 /// More items than any text here has.
 const MANY: u32 = 1_000;
 
+/// More bytes than any text here has.
+const WHOLE: usize = 1 << 20;
+
 /// The limits where nothing else is said.
 const LIMITS: Limits = Limits {
     depth: 8,
@@ -161,10 +164,10 @@ fn expect_rows(rt: &impl Abort, alloc: Global, rows: &[Row]) -> Result<(), Fail>
             scalar: *scalar,
             ..LIMITS
         };
-        expect_pieces(rt, alloc, limits, Pieces::whole(text), words)?;
-        expect_pieces(rt, alloc, limits, Pieces::of_size(text, 1), words)?;
+        expect_pieces(rt, alloc, limits, Pieces::new(text, 1, 1), words)?;
+        expect_pieces(rt, alloc, limits, Pieces::new(text, WHOLE, WHOLE), words)?;
         for place in 1..text.len() {
-            expect_pieces(rt, alloc, limits, Pieces::cut_at(text, place), words)?;
+            expect_pieces(rt, alloc, limits, Pieces::new(text, place, WHOLE), words)?;
         }
     }
     Ok(())

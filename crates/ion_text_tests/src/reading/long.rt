@@ -1,7 +1,7 @@
 //! Texts longer than a window, comments that end about its end, and faults of the device.
 
 use super::pieces::Pieces;
-use super::{LIMITS, expect_pieces};
+use super::{LIMITS, WHOLE, expect_pieces};
 use ion_meter::limits::Limits;
 use std::alloc::Global;
 use std::fmt::Write;
@@ -89,7 +89,7 @@ fn reads_long_texts(rt: HostRuntime) -> Result<(), Fail> {
         };
         let text = text_of(alloc, *text)?;
         let words = text_of(alloc, *words)?;
-        let pieces = Pieces::whole(text.as_bytes());
+        let pieces = Pieces::new(text.as_bytes(), WHOLE, WHOLE);
         let left = expect_pieces(&rt, alloc, limits, pieces, words.as_str())?;
         if let Some(held) = held {
             assert!(&rt; left == *held);
@@ -107,10 +107,10 @@ fn passes_long_comments(rt: HostRuntime) -> Result<(), Fail> {
         let text = text_of(alloc, ("/*", ".", count, "*/ // .\nx"))?;
         let mut words = String::new(alloc);
         write!(words, "{place}/{place} symbol 'x'@{place}; over")?;
-        let pieces = Pieces::whole(text.as_bytes());
+        let pieces = Pieces::new(text.as_bytes(), WHOLE, WHOLE);
         expect_pieces(&rt, alloc, LIMITS, pieces, words.as_str())?;
         let text = text_of(alloc, ("/*", ".", count, ""))?;
-        let pieces = Pieces::whole(text.as_bytes());
+        let pieces = Pieces::new(text.as_bytes(), WHOLE, WHOLE);
         expect_pieces(&rt, alloc, LIMITS, pieces, "Truncated at 0")?;
     }
     Ok(())
@@ -121,7 +121,8 @@ fn tells_faults_in_blanks(rt: HostRuntime) -> Result<(), Fail> {
     let alloc = rt.alloc();
     let text = b" /* . */ // .\nx";
     for reads in 0..text.len() as u32 {
-        let pieces = Pieces::of_size(text, 1).failing(reads);
+        let mut pieces = Pieces::new(text, 1, 1);
+        pieces.fails_at = Some(reads);
         expect_pieces(&rt, alloc, LIMITS, pieces, "read fault")?;
     }
     for input in 0..text.len() {
@@ -129,7 +130,7 @@ fn tells_faults_in_blanks(rt: HostRuntime) -> Result<(), Fail> {
             input: input as u64,
             ..LIMITS
         };
-        expect_pieces(&rt, alloc, limits, Pieces::of_size(text, 3), "input limit")?;
+        expect_pieces(&rt, alloc, limits, Pieces::new(text, 3, 3), "input limit")?;
     }
     Ok(())
 }

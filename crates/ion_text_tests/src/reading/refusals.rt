@@ -84,8 +84,8 @@ const TEXTS: &[Row] = &[
     ),
 ];
 
-/// Whether a text was read by a heap of so much more than a window; where a growth was refused, the
-/// items before it are the first of the text's.
+/// Whether a text was read to its end. Where it was not, a growth was refused once, and the items
+/// before that are the first of the text's.
 fn is_whole(rt: &impl Abort, told: &Told, words: &str) -> bool {
     if let Some(items) = told.words.as_str().strip_suffix("no memory") {
         assert!(rt; words.starts_with(items));
@@ -105,7 +105,7 @@ fn expect(rt: &impl Abort, alloc: Global, row: Row) -> Result<(), Fail> {
     let mut refused = 0usize;
     for more in 0..64usize {
         let heap = LocalHeap::new(alloc, 4096 + 8 * more)?;
-        let told = read_by(rt, &heap, LIMITS, Pieces::of_size(text, most), alloc)?;
+        let told = read_by(rt, &heap, LIMITS, Pieces::new(text, most, most), alloc)?;
         if is_whole(rt, &told, words) {
             assert_eq!(rt; refused, growths);
             return Ok(());

@@ -1,11 +1,11 @@
 #!/usr/bin/env python3
-"""Cuts texts into tokens, from the Ion specification alone, and writes them as rows of a test; see docs/TEXT_INPUT.md.
+"""Reads texts token by token, from the Ion specification alone, and writes rows of a test; see docs/TEXT_INPUT.md.
 
 usage: cut_texts.py [--choose N] [--longest N] [--each N] CASES.jsonl ..
 
 Each line of a file is one case: `words` (the command line) and `input` (hex). Of each input that is no binary, and of
-each catalogue, a row is printed, as those of `crates/ion_text_in/src/tests/drawn.rt`: the limit on scalars (1048576, or
-that of the words), the text, and its tokens. --choose takes N rows, half of them with faults, each fault in turn, that
+each catalogue, a row is printed, as those of `crates/ion_text_tests/src/reading/drawn.rt`: the limit on scalars (1048576, or
+that of the words), the text, and its items in words. --choose takes N rows, half of them with faults, each fault in turn, that
 show the most kinds of tokens and bytes behind one another, --longest texts of at most N bytes (400), --each puts N rows
 into one constant (40). Nothing of the crates is read or run.
 """
@@ -215,12 +215,10 @@ def number(run):
         raise Refused('BadTimestamp')
     if hour > 23 or minute > 59 or second > 59 or not in_years(year, month, day, 60 * hour + minute - (shift or 0)):
         raise Refused('BadTimestamp')
-    words = ['timestamp', ' '.join(map(str, told))]
-    if fraction:
-        words.append(f'{int(fraction)}/{len(fraction)}')
-    if len(told) > 3:
-        words.append('at ' + ('none' if shift is None else str(shift)))
-    return ' '.join(words)
+    names = ['year', 'month', 'day', 'hour', 'minute', 'second']
+    precision = f'fraction({len(fraction)})' if fraction else names[len(told) - 1]
+    fields = ' '.join(map(str, (year, month, day, hour, minute, second, int(fraction or 0))))
+    return f"timestamp {precision} {fields} {'none' if shift is None else shift}"
 
 
 def word(run):
@@ -308,9 +306,114 @@ def cut(text, limit):
         at = end
 
 
+SYMBOLS = ('name', 'symbol', 'id')
+BRACKETS = {'[': 'list', '(': 'sexp', '{': 'struct'}
+CLOSERS = {'[': ']', '(': ')', '{': '}'}
+
+
+def symbol(told, place):
+    """A symbol's words: its text, each byte as a letter of its own, or its id, and its place."""
+    kind, _, rest = told.partition(' ')
+    name = rest if kind == 'id' else "'" + bytes.fromhex(rest).decode('latin-1') + "'"
+    return f'{name}@{place}'
+
+
+def behind(opened):
+    """What is wanted behind a value where these containers are open."""
+    return 'comma' if opened[-1:] in (['['], ['{']) else 'value'
+
+
+def starts_name(text, at):
+    return text[at] in b'"\'' or (text[at] in NAME and not text[at:at + 1].isdigit())
+
+
+def items(text, limit, depth=8):
+    """The items of a text in words, each behind its place and that of its value at top level, and how they end.
+
+    A fault of a token is told where it may stand; else there is a bad token.
+    """
+    words, opened, wanted, field, annotations, cost, top = [], [], 'value', '', [], 0, 0
+    tokens = [told.split(' ', 1) for told in cut(text, limit)]
+    for i, (place, told) in enumerate(tokens):
+        place, kind = int(place), told.split(' ')[0]
+        here = opened[-1] if opened else ''
+        closes = here and told == CLOSERS[here] and not (annotations or field)
+
+        def give(head):
+            nonlocal field, annotations, cost, top
+            if not opened:
+                top = annotations[0][0] if annotations else place
+            notes = ''.join(note + ':: ' for _, note in annotations)
+            words.append(f'{place}/{top} {field}{notes}{head}')
+            field, annotations, cost = '', [], 0
+
+        if told == 'end':
+            return words + ['over' if not (opened or annotations or field) else f'Truncated at {place}']
+        if told == 'Truncated' and text[place:place + 2] == b'/*':
+            return words + [f'Truncated at {place}']
+        bad = words + [f'BadToken at {place}']
+        if closes:
+            words.append(f'{place}/{top} end')
+            opened.pop()
+            wanted = behind(opened)
+        elif wanted == 'colon':
+            if told != ':':
+                return bad
+            wanted = 'value'
+        elif wanted == 'comma':
+            if told != ',':
+                return bad
+            wanted = 'field' if here == '{' else 'value'
+        elif wanted == 'field':
+            if not starts_name(text, place) or kind in ('true', 'false', 'nan') or told.startswith('null.'):
+                return bad
+            if kind not in SYMBOLS + ('string',):
+                return words + [f'{told} at {place}']
+            field = symbol(told, place) + ': '
+            wanted = 'colon'
+        elif kind in SYMBOLS and i + 1 < len(tokens) and tokens[i + 1][1] == '::':
+            rest = told.partition(' ')[2]
+            cost += 16 + (0 if kind == 'id' else len(rest) // 2)
+            if cost > limit:
+                return words + [f'AnnotationLimit at {place}']
+            annotations.append((place, symbol(told, place)))
+            wanted = 'colons'
+        elif wanted == 'colons':
+            wanted = 'value'
+        elif kind in ('nan', 'inf'):
+            return words + [f'Float at {place}']
+        elif told in BRACKETS:
+            if len(opened) >= depth:
+                return words + [f'DepthLimit at {place}']
+            give('begin ' + BRACKETS[told])
+            opened.append(told)
+            wanted = 'field' if told == '{' else 'value'
+        elif kind in SYMBOLS + ('operator',):
+            version = kind == 'name' and not (opened or annotations) and re.match(
+                rb'\$ion_[0-9]+_[0-9]+\Z', bytes.fromhex(told[5:]))
+            if version and told[5:] != b'$ion_1_0'.hex():
+                return words + [f'BadVersion at {place}']
+            give('marker' if version else 'symbol ' + symbol(told, place))
+            wanted = behind(opened)
+        elif kind in ('int', 'decimal', 'timestamp', 'string', 'clob', 'blob', 'true', 'false') or told.startswith('null.'):
+            give(told)
+            wanted = behind(opened)
+        elif told in ('::', ':', ',', ']', ')', '}', 'no token'):
+            return bad
+        else:
+            return words + [f'{told} at {place}']
+
+
 def literal(text):
     shown = {9: '\\t', 10: '\\n', 13: '\\r', 34: '\\"', 92: '\\\\'}
     return 'b"' + ''.join(shown.get(b) or (chr(b) if 32 <= b < 127 else f'\\x{b:02x}') for b in text) + '"'
+
+
+def row_of(limit, text):
+    told = '; '.join(items(text, limit))
+    told = ''.join({34: '\\"', 92: '\\\\', 10: '\\n', 9: '\\t', 13: '\\r'}.get(ord(c)) or (
+        c if 32 <= ord(c) < 127 else f'\\u{{{ord(c):x}}}') for c in told)
+    return f'    ({limit}, {literal(text)}, "{told}"),'
 
 
 def ending(row):
@@ -361,7 +464,7 @@ def main(words):
                     texts[limit, text] = case['id']
     rows = [(limit, text, cut(text, limit)) for limit, text in texts]
     rows = choose(rows, options['--choose']) if options['--choose'] else rows
-    rows = [f'    ({limit}, {literal(text)}, "{"; ".join(told)}"),' for limit, text, told in rows]
+    rows = [row_of(limit, text) for limit, text, _ in rows]
     each = options['--each']
     for i in range(0, len(rows), each):
         print(f'pub const PART_{i // each}: &[Row] = &[\n' + '\n'.join(rows[i:i + each]) + '\n];\n')

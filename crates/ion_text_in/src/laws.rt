@@ -162,39 +162,3 @@ pub fn parts_follow_in_turn()
 pub fn plain_bytes_are_spelled()
     ensures { PlainBytesAreSpelled }
 {}
-
-#[cfg(test)]
-mod tests {
-    use super::*;
-
-    #[test]
-    fn states_laws() {
-        what_is_read_is_spelled();
-        each_step_follows();
-        each_step_falls();
-        what_is_spelled_is_read();
-        streams_are_read();
-        limits_only_cut_short();
-        rightly_refused();
-        limits_are_exact();
-        one_path();
-        one_stream();
-        null_text_is_read();
-        bool_text_is_read();
-        int_text_is_read();
-        decimal_text_is_read();
-        timestamp_text_is_read();
-        blobs_are_base64();
-        base64_is_read();
-        string_text_is_read();
-        quoted_symbol_is_read();
-        clob_text_is_read();
-        plain_symbol_is_read();
-        what_ends_a_number();
-        what_ends_a_symbol();
-        what_begins_a_token();
-        blanks_change_no_step();
-        parts_follow_in_turn();
-        plain_bytes_are_spelled();
-    }
-}

@@ -18,8 +18,6 @@ mod run;
 mod scanned;
 mod segment;
 mod symbol;
-#[cfg(test)]
-mod tests;
 mod text;
 mod token;
 mod version;

@@ -16,15 +16,3 @@ pub fn text_is_that_of_items()
 pub fn path_text_is_that_of_items()
     ensures { PathTextIsThatOfItems }
 {}
-
-#[cfg(test)]
-mod tests {
-    use super::*;
-
-    #[test]
-    fn states_laws() {
-        items_add_their_text();
-        text_is_that_of_items();
-        path_text_is_that_of_items();
-    }
-}

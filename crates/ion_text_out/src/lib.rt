@@ -9,7 +9,5 @@ pub mod laws;
 mod put;
 mod quote;
 mod scalar;
-#[cfg(test)]
-mod tests;
 mod word;
 pub mod writer;

@@ -1,14 +1,13 @@
 //! Values without members, each at top level.
 
-use super::{Part, expect_text};
+use super::Part;
 use ion_value::ion_type::IonType;
-use std::alloc::Global;
-use std::process::Abort;
 
 /// A value and its line.
 type Row = (Part<'static>, &'static [u8]);
 
-const NULLS_AND_BOOLS: &[Row] = &[
+/// Nulls and bools.
+pub const NULLS_AND_BOOLS: &[Row] = &[
     (Part::Null(IonType::Null), b"null\n"),
     (Part::Null(IonType::Bool), b"null.bool\n"),
     (Part::Null(IonType::Int), b"null.int\n"),
@@ -26,7 +25,8 @@ const NULLS_AND_BOOLS: &[Row] = &[
     (Part::Bool(false), b"false\n"),
 ];
 
-const NUMBERS: &[Row] = &[
+/// Ints and decimals.
+pub const NUMBERS: &[Row] = &[
     (Part::Int(b"0"), b"0\n"),
     (Part::Int(b"-0"), b"0\n"),
     (Part::Int(b"-7"), b"-7\n"),
@@ -41,7 +41,8 @@ const NUMBERS: &[Row] = &[
     (Part::Decimal(b"-1d5"), b"-1d5\n"),
 ];
 
-const TIMESTAMPS: &[Row] = &[
+/// Timestamps.
+pub const TIMESTAMPS: &[Row] = &[
     (Part::Timestamp(b"2001T"), b"2001T\n"),
     (Part::Timestamp(b"0001-02T"), b"0001-02T\n"),
     (Part::Timestamp(b"2001-02-03T"), b"2001-02-03\n"),
@@ -67,7 +68,8 @@ const TIMESTAMPS: &[Row] = &[
     ),
 ];
 
-const SYMBOLS: &[Row] = &[
+/// Symbols.
+pub const SYMBOLS: &[Row] = &[
     (Part::Symbol(b"abc"), b"abc\n"),
     (Part::Symbol(b"_a$1"), b"_a$1\n"),
     (Part::Symbol(b"nulls"), b"nulls\n"),
@@ -86,10 +88,12 @@ const SYMBOLS: &[Row] = &[
     (Part::Symbol(b"1a"), b"'1a'\n"),
     (Part::Symbol(b"it's"), b"'it\\'s'\n"),
     (Part::Symbol(b"\"\xc3\xa9\""), b"'\"\xc3\xa9\"'\n"),
+    (Part::Symbol(b"it's \"x\""), b"'it\\'s \"x\"'\n"),
     (Part::Unknown, b"$0\n"),
 ];
 
-const TEXTS_AND_LOBS: &[Row] = &[
+/// Strings.
+pub const TEXTS: &[Row] = &[
     (Part::Text(b""), b"\"\"\n"),
     (Part::Text(b"it's"), b"\"it's\"\n"),
     (Part::Text(b"a\"b\\"), b"\"a\\\"b\\\\\"\n"),
@@ -98,6 +102,26 @@ const TEXTS_AND_LOBS: &[Row] = &[
         b"\"\\n\\t\\x00\\x7f\\x1b\"\n",
     ),
     (Part::Text(b"\xc3\xa9"), b"\"\xc3\xa9\"\n"),
+    (Part::Text(b"it's one run"), b"\"it's one run\"\n"),
+    (Part::Text(b"a \"b\" c"), b"\"a \\\"b\\\" c\"\n"),
+    (Part::Text(b"\xc3\xa9\x7f"), b"\"\xc3\xa9\\x7f\"\n"),
+    (
+        Part::Text(b"\x07\x08\t\n\x0c\r\x0b\\\0\x1f"),
+        b"\"\\a\\b\\t\\n\\f\\r\\v\\\\\\x00\\x1f\"\n",
+    ),
+    (
+        Part::Text(b"0123456789abcdef0123456789abcdef\n0123456789abcdef0123456789abcdef0"),
+        b"\"0123456789abcdef0123456789abcdef\\n0123456789abcdef0123456789abcdef0\"\n",
+    ),
+    (
+        Part::Text(b"0123456789abcdef0123456789abcde\""),
+        b"\"0123456789abcdef0123456789abcde\\\"\"\n",
+    ),
+];
+
+/// Lobs.
+pub const LOBS: &[Row] = &[
+    (Part::Clob(b"\xc3\xa9~"), b"{{\"\\xc3\\xa9~\"}}\n"),
     (Part::Clob(b""), b"{{\"\"}}\n"),
     (
         Part::Clob(b"'\"\xff\x80\n~"),
@@ -109,24 +133,3 @@ const TEXTS_AND_LOBS: &[Row] = &[
     (Part::Blob(b"abc"), b"{{YWJj}}\n"),
     (Part::Blob(b"\xfb\xff\xbfa"), b"{{+/+/YQ==}}\n"),
 ];
-
-// Puts the value of each row, alone.
-fn expect_rows(rt: &impl Abort, alloc: Global, rows: &[Row]) {
-    for (part, line) in rows {
-        expect_text(rt, alloc, &[(None, &[], *part)], line);
-    }
-}
-
-#[test]
-fn puts_nulls_bools_and_numbers(rt: HostRuntime) {
-    for rows in [NULLS_AND_BOOLS, NUMBERS, TIMESTAMPS] {
-        expect_rows(&rt, rt.alloc(), rows);
-    }
-}
-
-#[test]
-fn puts_symbols_texts_and_lobs(rt: HostRuntime) {
-    for rows in [SYMBOLS, TEXTS_AND_LOBS] {
-        expect_rows(&rt, rt.alloc(), rows);
-    }
-}

@@ -4,13 +4,18 @@ ghost use Rattle.ion_value.specs.Items.{item_of, raw_head};
 ghost use Rattle.ion_value.specs.Standing.{open_after, open_behind, is_marker, Fits, HeadInRange};
 ghost use Rattle.ion_value.specs.Value.{PlacedItem};
 
-use crate::writer::TextWriter;
+mod containers;
+mod devices;
+mod laws;
+mod scalars;
+
 use ion_meter::device::Output;
 use ion_meter::fault::Fault;
 use ion_meter::limits::Limits;
 use ion_meter::meter::Meter;
 use ion_meter::sink::Sink;
 use ion_meter::stream::ToWrite;
+use ion_text_out::writer::TextWriter;
 use ion_value::decimal::decimal_from_text;
 use ion_value::int::int_from_text;
 use ion_value::ion_type::{IonType, Kind};
@@ -21,11 +26,6 @@ use ion_value::writer::ValueWriter;
 use std::alloc::Global;
 use std::io::Write;
 use std::process::Abort;
-use std::test::Fail;
-
-mod containers;
-mod devices;
-mod scalars;
 
 const LIMITS: Limits = Limits {
     depth: 3,
@@ -143,12 +143,14 @@ fn put_one<W: ValueWriter<O, Global>, O: Output, N: Names>(
     item: &Item<'_, N>,
 ) -> Result<(), Fault>
     requires sound { W.sound writer.old }
-    requires stands { (path : List PlacedItem) × W.stands writer.old path × (open_behind [] path ≡ kinds.old.items) }
+    requires stands { (path : List PlacedItem) × W.stands writer.old path
+        × (open_behind [] path ≡ kinds.old.items) }
     requires depth { (W.limits writer.old).depth ≡ 3 }
     requires held { meter.old.held ≡ 4096 + W.own writer.old }
     requires range { HeadInRange (item_of N.text item.now).head }
     ensures sound { W.sound writer.new }
-    ensures stands { OnOk result ((path : List PlacedItem) × W.stands writer.new path × (open_behind [] path ≡ kinds.new.items)) }
+    ensures stands { OnOk result ((path : List PlacedItem) × W.stands writer.new path
+        × (open_behind [] path ≡ kinds.new.items)) }
     ensures depth { (W.limits writer.new).depth ≡ 3 }
     ensures held { meter.new.held ≡ 4096 + W.own writer.new }
 {
@@ -228,4 +230,29 @@ fn put_to<D: Write + Drop>(
 fn expect_text(rt: &impl Abort, alloc: Global, steps: &[Step<'_>], want: &[u8]) {
     let out = put_to(rt, alloc, Vec::new(alloc), steps, Ok(()));
     assert_eq!(rt; out.as_slice(), want);
+}
+
+#[test]
+fn puts_rows(rt: HostRuntime) {
+    for rows in [
+        scalars::NULLS_AND_BOOLS,
+        scalars::NUMBERS,
+        scalars::TIMESTAMPS,
+        scalars::SYMBOLS,
+        scalars::TEXTS,
+        scalars::LOBS,
+    ] {
+        for (part, line) in rows {
+            expect_text(&rt, rt.alloc(), &[(None, &[], *part)], line);
+        }
+    }
+    for rows in [
+        containers::ANNOTATED,
+        containers::CONTAINERS,
+        containers::OPEN,
+    ] {
+        for (steps, text) in rows {
+            expect_text(&rt, rt.alloc(), steps, text);
+        }
+    }
 }

@@ -1,5 +1,5 @@
 use Rattle.std.proofs.Common.{◌≤◌}
-use Rattle.ion_text_in.proofs.tests.readers.Running.read.Given as goal
+use Rattle.ion_text_tests.proofs.reading.Running.read.Given as goal
 
 abbrev pub invariant-items : goal.invariant-items
 invariant-items g l =

@@ -7,40 +7,19 @@ use std::io::Read;
 /// one, and that fails once it has been read so often, where there is a count to that.
 #[derive(Clone, Copy, Drop)]
 pub struct Pieces<'a> {
-    /// The bytes that it has not given.
-    pub left: &'a [u8],
-    /// How often it was read.
-    pub reads: u32,
+    // The bytes that it has not given.
+    left: &'a [u8],
+    // How often it was read.
+    reads: u32,
     first: usize,
     later: usize,
-    fails_at: Option<u32>,
+    /// After how many reads it fails.
+    pub fails_at: Option<u32>,
 }
 
 impl<'a> Pieces<'a> {
-    /// The bytes in pieces of one size.
-    pub fn of_size(bytes: &'a [u8], size: usize) -> Pieces<'a> {
-        Pieces::new(bytes, size, size)
-    }
-
-    /// The bytes whole.
-    pub fn whole(bytes: &'a [u8]) -> Pieces<'a> {
-        Pieces::of_size(bytes, bytes.len())
-    }
-
-    /// The bytes in two pieces, the first of which has this length.
-    pub fn cut_at(bytes: &'a [u8], place: usize) -> Pieces<'a> {
-        Pieces::new(bytes, place, bytes.len())
-    }
-
-    /// The same bytes, where the read behind so many reads fails.
-    pub fn failing(self, reads: u32) -> Pieces<'a> {
-        Pieces {
-            fails_at: Some(reads),
-            ..self
-        }
-    }
-
-    fn new(left: &'a [u8], first: usize, later: usize) -> Pieces<'a> {
+    /// The bytes in pieces, the first of which has one length and the later ones another.
+    pub fn new(left: &'a [u8], first: usize, later: usize) -> Pieces<'a> {
         Pieces {
             left,
             reads: 0,

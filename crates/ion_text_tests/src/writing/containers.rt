@@ -1,6 +1,6 @@
 //! Containers, annotations and the lines of values.
 
-use super::{Part, Step, expect_text};
+use super::{Part, Step};
 use ion_value::ion_type::Kind;
 use ion_value::item::Annotation;
 
@@ -36,7 +36,8 @@ const A: Step<'static> = (None, &[], Part::Symbol(b"a"));
 /// Items and their text.
 type Row = (&'static [Step<'static>], &'static [u8]);
 
-const ANNOTATED: &[Row] = &[
+/// Values with annotations.
+pub const ANNOTATED: &[Row] = &[
     (&[(None, ANNOTATIONS, Part::Int(b"1"))], b"a::'b c'::1\n"),
     (&[(None, UNKNOWN, Part::Unknown)], b"$0::$0\n"),
     (
@@ -45,7 +46,8 @@ const ANNOTATED: &[Row] = &[
     ),
 ];
 
-const CONTAINERS: &[Row] = &[
+/// Containers and their members.
+pub const CONTAINERS: &[Row] = &[
     (&[LIST, END, SEXP, END, STRUCT, END], b"[]\n()\n{}\n"),
     (&[ONE, A], b"1\na\n"),
     (
@@ -76,7 +78,8 @@ const CONTAINERS: &[Row] = &[
     ),
 ];
 
-const OPEN: &[Row] = &[
+/// Containers that are open.
+pub const OPEN: &[Row] = &[
     (&[], b""),
     (&[LIST], b"["),
     (&[ONE, LIST, ONE, SEXP, ONE], b"1\n[1,(1"),
@@ -86,12 +89,3 @@ const OPEN: &[Row] = &[
         b"{a:(",
     ),
 ];
-
-#[test]
-fn puts_containers(rt: HostRuntime) {
-    for rows in [ANNOTATED, CONTAINERS, OPEN] {
-        for (steps, text) in rows {
-            expect_text(&rt, rt.alloc(), steps, text);
-        }
-    }
-}

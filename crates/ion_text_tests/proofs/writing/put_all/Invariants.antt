@@ -2,7 +2,7 @@ use Rattle.std.proofs.Common.{◌≡◌, ◌+◌, List}
 use Rattle.std.specs.Prelude.{[]}
 use Rattle.ion_value.specs.Standing.{open_behind}
 use Rattle.ion_value.specs.Value.{PlacedItem}
-use Rattle.ion_text_out.proofs.tests.put_all.Given as goal
+use Rattle.ion_text_tests.proofs.writing.put_all.Given as goal
 
 abbrev pub invariant-steps : goal.invariant-steps
 invariant-steps g l =

@@ -1,0 +1,10 @@
+//! The laws, stated where they are called.
+
+use ion_text_out::laws::{items_add_their_text, path_text_is_that_of_items, text_is_that_of_items};
+
+#[test]
+fn states_laws() {
+    items_add_their_text();
+    text_is_that_of_items();
+    path_text_is_that_of_items();
+}

@@ -24,7 +24,7 @@ use ion_value::timestamp::{Timestamp, timestamp_from_bytes};
 use std::alloc::Allocator;
 
 /// A scalar that was read. The bytes of a string, clob or blob stand in a buffer beside it.
-#[derive(Clone, Copy, Debug, PartialEq, Eq)]
+#[derive(Clone, Copy)]
 pub(crate) enum Body {
     /// The null of a type.
     Null(IonType),

@@ -6,7 +6,7 @@ ghost use Rattle.ion_binary.specs.Shapes.{as_shape};
 use ion_value::ion_type::{IonType, Kind};
 
 /// What a descriptor octet says: `length_code` is its low four bits, L, by which a length goes.
-#[derive(Clone, Copy, Debug, PartialEq, Eq)]
+#[derive(Clone, Copy)]
 pub(crate) enum Shape {
     /// The null of a type.
     Null(IonType),

@@ -13,7 +13,7 @@ use std::marker::Model;
 const ENTRY_COST: u64 = 8;
 
 /// Where a header goes in, which is one of all that stands behind the place, and its type code.
-#[derive(Clone, Copy, Debug, Drop)]
+#[derive(Clone, Copy, Drop)]
 pub(crate) struct HeaderPlace {
     pub place: u32,
     pub code: u8,

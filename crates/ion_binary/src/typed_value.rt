@@ -23,7 +23,7 @@ use ion_value::ion_type::Kind;
 use std::alloc::Allocator;
 
 /// Where a part stands.
-#[derive(Clone, Copy, Debug, PartialEq, Eq)]
+#[derive(Clone, Copy)]
 pub(crate) struct Around {
     /// Whether an annotation wrapper is around it.
     pub(crate) wrapped: bool,
@@ -34,7 +34,7 @@ pub(crate) struct Around {
 }
 
 /// What a part is. A scalar stands in a body beside it.
-#[derive(Clone, Copy, Debug, PartialEq, Eq)]
+#[derive(Clone, Copy)]
 pub(crate) enum TypedValue {
     /// A NOP pad: octets that are ignored.
     NopPad,

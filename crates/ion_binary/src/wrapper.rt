@@ -22,7 +22,7 @@ use ion_value::item::Annotation;
 use std::alloc::Allocator;
 
 /// An open container.
-#[derive(Clone, Copy, Debug, PartialEq, Eq)]
+#[derive(Clone, Copy)]
 pub(crate) struct Frame {
     /// Its kind.
     pub(crate) kind: Kind,
@@ -31,7 +31,7 @@ pub(crate) struct Frame {
 }
 
 /// The field of a struct's member.
-#[derive(Clone, Copy, Debug, PartialEq, Eq)]
+#[derive(Clone, Copy)]
 pub(crate) struct Field {
     /// Its id, where 2^31 stands for every id above 2^31 - 1.
     pub(crate) id: u32,
@@ -40,7 +40,7 @@ pub(crate) struct Field {
 }
 
 /// An annotation wrapper, known by two places.
-#[derive(Clone, Copy, Debug, PartialEq, Eq)]
+#[derive(Clone, Copy)]
 pub(crate) struct Wrapper {
     /// Where its annotations end and its value begins.
     pub(crate) ids: u64,

@@ -34,7 +34,7 @@ use std::alloc::Allocator;
 pub(crate) const SLOT_COST: u64 = 16;
 
 /// The import that is being read, but for its name.
-#[derive(Clone, Copy, Debug, PartialEq, Eq)]
+#[derive(Clone, Copy)]
 pub(crate) struct Entry {
     pub(crate) has_name: bool,
     pub(crate) has_version: bool,

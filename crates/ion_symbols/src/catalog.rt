@@ -26,7 +26,7 @@ pub(crate) const TABLE_COST: u64 = 32;
 pub(crate) const MAX_VERSION: u32 = 2_147_483_647;
 
 // What an import found.
-#[derive(Clone, Copy, Debug, PartialEq, Eq)]
+#[derive(Clone, Copy)]
 pub(crate) enum Import {
     // It is ignored.
     Ignored,

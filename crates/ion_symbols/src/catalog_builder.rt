@@ -31,7 +31,7 @@ use std::alloc::Allocator;
 use std::mem;
 
 /// What is being read of a catalogue.
-#[derive(Clone, Copy, Debug, PartialEq, Eq)]
+#[derive(Clone, Copy)]
 pub(crate) enum Stage {
     /// Nothing: no value is open.
     Outside,

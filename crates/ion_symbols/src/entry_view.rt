@@ -18,7 +18,7 @@ use ion_value::item::{Head, Item, Sym, SymAt};
 use ion_value::names::Names;
 
 /// What an item is to a catalogue.
-#[derive(Clone, Copy, Debug, PartialEq, Eq)]
+#[derive(Clone, Copy)]
 pub(crate) struct EntryView<'a> {
     /// Whether the first annotation is `$ion_shared_symbol_table`.
     pub(crate) shared: bool,

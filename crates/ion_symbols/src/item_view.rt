@@ -13,7 +13,7 @@ use ion_value::names::NoNames;
 use std::alloc::Allocator;
 
 /// What an item is to a declaration.
-#[derive(Clone, Copy, Debug, PartialEq, Eq)]
+#[derive(Clone, Copy)]
 pub(crate) enum FieldValue<'a> {
     /// The beginning of a container.
     Begins(Kind),
@@ -30,7 +30,7 @@ pub(crate) enum FieldValue<'a> {
 }
 
 /// What a declaration looks at in an item.
-#[derive(Clone, Copy, Debug, PartialEq, Eq)]
+#[derive(Clone, Copy)]
 pub(crate) struct ItemView<'a> {
     /// The field's name.
     pub(crate) field: Word,

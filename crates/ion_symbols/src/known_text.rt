@@ -3,7 +3,7 @@ ghost use Rattle.std.specs.Prelude.{◌≡◌};
 ghost use Rattle.ion_symbols.specs.Table.{word_of};
 
 /// A text that means something in a declaration.
-#[derive(Clone, Copy, Debug, PartialEq, Eq)]
+#[derive(Clone, Copy)]
 pub(crate) enum Word {
     /// `name`.
     Name,
@@ -22,7 +22,7 @@ pub(crate) enum Word {
 }
 
 /// What of a declaration is being read.
-#[derive(Clone, Copy, Debug, PartialEq, Eq)]
+#[derive(Clone, Copy)]
 pub(crate) enum Area {
     /// Its fields.
     Fields,

@@ -16,7 +16,7 @@ use std::marker::Model;
 pub(crate) const MOST_SLOTS: u64 = 2_147_483_638;
 
 /// Where a slot's text stands among bytes, and whether it has one.
-#[derive(Clone, Copy, Debug, PartialEq, Eq)]
+#[derive(Clone, Copy)]
 pub(crate) struct Part {
     /// Where its first byte stands.
     pub(crate) from: usize,

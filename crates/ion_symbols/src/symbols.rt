@@ -22,7 +22,7 @@ pub(crate) const IMPORT_COST: u64 = 32;
 
 /// An import: the place in the catalogue of the shared table that it found, its first slot behind
 /// the system ones, and its number of slots.
-#[derive(Clone, Copy, Debug, PartialEq, Eq)]
+#[derive(Clone, Copy)]
 pub(crate) struct FoundImport {
     /// Where the table stands, if one was found.
     pub(crate) table: Option<usize>,

@@ -45,7 +45,7 @@ pub struct UserReader<'c, R: RawReader<A>, A: Allocator + Copy> {
 }
 
 // What a raw item gave.
-#[derive(Clone, Copy, Debug, PartialEq, Eq)]
+#[derive(Clone, Copy)]
 enum StepResult {
     // The stream has ended.
     Ended,

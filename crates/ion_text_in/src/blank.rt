@@ -15,7 +15,7 @@ use ion_meter::source::Source;
 use std::alloc::Allocator;
 
 // Which comment begins at a place, if any.
-#[derive(Clone, Copy, Debug, PartialEq, Eq)]
+#[derive(Clone, Copy)]
 pub(crate) enum Comment {
     // None.
     None,

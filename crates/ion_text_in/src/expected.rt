@@ -11,7 +11,7 @@ use crate::first::First;
 use ion_value::ion_type::Kind;
 
 /// What must come next.
-#[derive(Clone, Copy, Debug, PartialEq, Eq)]
+#[derive(Clone, Copy)]
 pub(crate) enum Expected {
     /// A value, behind its field's name and annotations.
     Value,

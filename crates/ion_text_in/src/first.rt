@@ -19,7 +19,7 @@ use ion_value::ion_type::Kind;
 use std::alloc::Allocator;
 
 /// A kind of token.
-#[derive(Clone, Copy, Debug, PartialEq, Eq)]
+#[derive(Clone, Copy)]
 pub(crate) enum First {
     /// A number or a timestamp: a digit, or a minus and a digit.
     Number,

@@ -24,7 +24,7 @@ use ion_meter::source::Source;
 use std::alloc::Allocator;
 
 /// A kind of lob.
-#[derive(Clone, Copy, Debug, PartialEq, Eq)]
+#[derive(Clone, Copy)]
 pub(crate) enum Lob {
     /// A clob.
     Clob,
@@ -33,7 +33,7 @@ pub(crate) enum Lob {
 }
 
 // What opens the text of a clob.
-#[derive(Clone, Copy, Debug, PartialEq, Eq)]
+#[derive(Clone, Copy)]
 pub(crate) enum Opening {
     // A double quote.
     Short,

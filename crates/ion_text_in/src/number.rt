@@ -24,7 +24,7 @@ use ion_value::timestamp::{Timestamp, timestamp_from_text};
 use std::alloc::Allocator;
 
 /// A number or a timestamp.
-#[derive(Clone, Copy, Debug, PartialEq, Eq)]
+#[derive(Clone, Copy)]
 pub(crate) enum Number {
     /// An int.
     Int(Int),

@@ -11,7 +11,7 @@ ghost use Rattle.ion_text_in.specs.Pieces.{piece_of, HexIs, ShowsPiece, may_go_o
 use crate::quoted::Quote;
 
 /// What stands at a place between quotes, with how many bytes it has.
-#[derive(Clone, Copy, Debug, PartialEq, Eq)]
+#[derive(Clone, Copy)]
 pub(crate) enum Piece {
     /// A character, by its code.
     Char(char, usize),
@@ -28,7 +28,7 @@ pub(crate) enum Piece {
 }
 
 // Hex digits at the front of some bytes.
-#[derive(Clone, Copy, Debug, PartialEq, Eq)]
+#[derive(Clone, Copy)]
 enum HexDigits {
     // All of them, and their number.
     Number(u32),

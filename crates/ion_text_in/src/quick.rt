@@ -14,7 +14,7 @@ use ion_value::decimal::Decimal;
 use ion_value::int::Int;
 
 /// An int or a decimal by its sign and digits.
-#[derive(Clone, Copy, Debug, PartialEq, Eq)]
+#[derive(Clone, Copy)]
 pub(crate) struct Quick {
     /// Whether there is a minus in front.
     pub(crate) negative: bool,

@@ -11,7 +11,7 @@ use crate::scanned::Scanned;
 use ion_meter::fault::Reason;
 
 /// The quotes that a text stands between.
-#[derive(Clone, Copy, Debug, PartialEq, Eq)]
+#[derive(Clone, Copy)]
 pub(crate) enum Quote {
     /// `'`, around a symbol.
     Symbol,

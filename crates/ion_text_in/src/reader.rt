@@ -42,7 +42,7 @@ use std::alloc::Allocator;
 use std::mem;
 
 /// What the item is that is lent. The bytes of a text stand beside it.
-#[derive(Clone, Copy, Debug, PartialEq, Eq)]
+#[derive(Clone, Copy)]
 pub(crate) enum ItemKind {
     /// A scalar.
     Scalar(Body),
@@ -55,7 +55,7 @@ pub(crate) enum ItemKind {
 }
 
 /// What one step gave.
-#[derive(Clone, Copy, Debug, PartialEq, Eq)]
+#[derive(Clone, Copy)]
 pub(crate) enum StepResult {
     /// The stream has ended.
     Ended,

@@ -8,7 +8,7 @@ ghost use Rattle.ion_text_in.specs.Views.{AreShown};
 ghost use Rattle.ion_text_in.specs.Runs.{goes_on, stays, has_slashes, GoOn, EndBehind, IsOpen};
 
 /// A token that goes on byte by byte.
-#[derive(Clone, Copy, Debug, PartialEq, Eq)]
+#[derive(Clone, Copy)]
 pub(crate) enum Run {
     /// A number or a timestamp, which goes on up to punctuation, a quote, white space or a comment.
     Number,
@@ -19,7 +19,7 @@ pub(crate) enum Run {
 }
 
 /// How far a token goes on in a slice.
-#[derive(Clone, Copy, Debug, PartialEq, Eq)]
+#[derive(Clone, Copy)]
 pub(crate) struct Extent {
     /// How many bytes at the front of the slice go on with it.
     pub(crate) len: usize,

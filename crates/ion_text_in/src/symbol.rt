@@ -14,7 +14,7 @@ use ion_value::item::{Annotation, Sym, SymAt};
 use std::alloc::Allocator;
 
 /// The name of a field, whose bytes stand beside it, and the place of its first byte.
-#[derive(Clone, Copy, Debug, PartialEq, Eq)]
+#[derive(Clone, Copy)]
 pub(crate) struct FieldName {
     pub(crate) symbol: Symbol,
     pub(crate) place: u64,

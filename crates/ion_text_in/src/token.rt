@@ -30,7 +30,7 @@ use ion_value::timestamp::Timestamp;
 use std::alloc::Allocator;
 
 /// A symbol. The bytes of a text stand beside it.
-#[derive(Clone, Copy, Debug, PartialEq, Eq)]
+#[derive(Clone, Copy)]
 pub(crate) enum Symbol {
     /// A text.
     Text,
@@ -39,7 +39,7 @@ pub(crate) enum Symbol {
 }
 
 /// A scalar. The bytes of a symbol's text, a string, a clob or a blob stand beside it.
-#[derive(Clone, Copy, Debug, PartialEq, Eq)]
+#[derive(Clone, Copy)]
 pub(crate) enum Body {
     /// The null of a type.
     Null(IonType),
@@ -62,7 +62,7 @@ pub(crate) enum Body {
 }
 
 /// A token. The bytes of a symbol's text, a string, a lob or an operator stand beside it.
-#[derive(Clone, Copy, Debug, PartialEq, Eq)]
+#[derive(Clone, Copy)]
 pub(crate) enum Token {
     /// A scalar that is neither a symbol nor a string.
     Plain(Body),

@@ -12,7 +12,7 @@ use crate::word::{Word, scan_word};
 use ion_value::ion_type::Kind;
 
 /// What the front of some bytes shows of the next item.
-#[derive(Clone, Copy, Debug)]
+#[derive(Clone, Copy)]
 pub(crate) enum Part<'a> {
     /// The rest of it.
     Item,

@@ -23,7 +23,7 @@ use ion_value::ion_type::IonType;
 use std::alloc::Allocator;
 
 /// A word. The bytes of a symbol stand beside it.
-#[derive(Clone, Copy, Debug, PartialEq, Eq)]
+#[derive(Clone, Copy)]
 pub(crate) enum Word {
     /// The null of a type.
     Null(IonType),

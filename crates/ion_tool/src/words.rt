@@ -43,7 +43,7 @@ pub enum Request {
 }
 
 /// A run as `clap` has read it.
-#[derive(Clone, Copy, Debug)]
+#[derive(Clone, Copy)]
 struct Asked<'a> {
     action: Action,
     limits: Limits,

@@ -36,26 +36,35 @@ fn begin_struct<R: RawReader<Global>>(rt: &impl Abort, meter: &mut Meter<Global>
     };
 }
 
+// Reads a declaration of the text `a`.
+fn read_declaration<R: RawReader<Global>>(rt: &impl Abort, meter: &mut Meter<Global>, raw: &mut R)
+    requires sound { R.sound raw.old }
+    requires held { R.own raw.old ≤ meter.old.held }
+    requires level { R.opened raw.old ≡ [] }
+    ensures held { R.own raw.new ≤ meter.new.held }
+{
+    let catalog = Catalog::new(meter);
+    let mut symbols = Symbols::new(meter, &catalog);
+    begin_struct(rt, meter, raw);
+    expect_little(rt, meter);
+    let read = SymbolBuffer::read(meter, LIMITS, raw, &mut symbols);
+    assert_eq!(rt; read, Ok(true));
+    assert_eq!(rt; symbols.text(10), Slot::Known(b"a"));
+    assert_eq!(rt; symbols.text(11), Slot::Above);
+    symbols.release(meter);
+}
+
 #[test]
 fn a_declaration_is_read_by_itself(rt: HostRuntime) -> Result<(), Fail> {
-    let alloc = rt.alloc();
-    let octets = octets(&rt, alloc, b"", "E7 81 83 D4 87 B2 81 61")?;
+    let octets = octets(&rt, rt.alloc(), b"", "E7 81 83 D4 87 B2 81 61")?;
     assert!(rt; LIMITS.check());
-    let mut meter = Meter::new(alloc);
+    let mut meter = Meter::new(rt.alloc());
     let input = FromRead::new(whole(octets.as_slice()));
     let Ok(source) = Source::new(&mut meter, LIMITS, input) else {
         panic!(rt; "no memory for the window")
     };
     let mut raw = BinReader::new(&meter, LIMITS, source);
-    let catalog = Catalog::new(&meter);
-    let mut symbols = Symbols::new(&meter, &catalog);
-    begin_struct(&rt, &mut meter, &mut raw);
-    expect_little(&rt, &meter);
-    let read = SymbolBuffer::read(&mut meter, LIMITS, &mut raw, &mut symbols);
-    assert_eq!(rt; read, Ok(true));
-    assert_eq!(rt; symbols.text(10), Slot::Known(b"a"));
-    assert_eq!(rt; symbols.text(11), Slot::Above);
-    symbols.release(&mut meter);
+    read_declaration(&rt, &mut meter, &mut raw);
     let _device = raw.release(&mut meter);
     assert_eq!(rt; meter.held(), 0);
     Ok(())

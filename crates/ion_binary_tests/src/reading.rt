@@ -109,6 +109,11 @@ impl Outcome {
         }
     }
 
+    /// Whether this is a beginning of the other one, and ends by this fault.
+    pub fn is_cut_by(&self, fault: Fault, other: &Outcome) -> bool {
+        self.ending == Err(fault) && other.items.as_str().starts_with(self.items.as_str())
+    }
+
     /// Whether the other one has the same items and ending.
     pub fn is_same(&self, other: &Outcome) -> bool {
         self.items.as_str() == other.items.as_str() && self.ending == other.ending

@@ -2,8 +2,9 @@
 
 use crate::hex::{MARKER, octets};
 use crate::limits::LIMITS;
-use crate::reading::read_each_way;
+use crate::reading::{expect_little, read_each_way};
 use crate::{containers, declarations, imports, scalars, streams, wrappers};
+use ion_meter::fault::Fault;
 use ion_meter::limits::Limits;
 use ion_meter::meter::Meter;
 use ion_symbols::catalog::Catalog;
@@ -72,36 +73,38 @@ const OTHERS: [&[Table]; 6] = [
     imports::TABLES,
 ];
 
-// The versions of the shared table x.
-const VERSIONS: [(u32, &[&str]); 2] = [(1, &["p", "q"]), (3, &["r", "s", "t"])];
-
-// A version of the shared table x.
-fn shared_table(
-    rt: &impl Abort,
-    alloc: Global,
-    version: u32,
-    texts: &[&str],
-) -> SharedTable<Global> {
+// Version 1 of the shared table x, and version 3 of it.
+fn first_version(alloc: Global) -> Result<SharedTable<Global>, Fault> {
     let mut meter = Meter::new(alloc);
-    let Ok(mut table) = SharedTable::new(&mut meter, "x", version) else {
-        panic!(rt; "no memory")
-    };
-    for text in texts {
-        assert!(rt; meter.held() < 1 << 32);
-        assert!(rt; meter.refused() < 1 << 32);
-        assert!(rt; table.push(&mut meter, Some(text)).is_ok());
-    }
-    table
+    let mut table = SharedTable::new(&mut meter, "x", 1)?;
+    table.push(&mut meter, Some("p"))?;
+    table.push(&mut meter, Some("q"))?;
+    Ok(table)
+}
+
+fn third_version(alloc: Global) -> Result<SharedTable<Global>, Fault> {
+    let mut meter = Meter::new(alloc);
+    let mut table = SharedTable::new(&mut meter, "x", 3)?;
+    table.push(&mut meter, Some("r"))?;
+    table.push(&mut meter, Some("s"))?;
+    table.push(&mut meter, Some("t"))?;
+    Ok(table)
 }
 
 /// A catalogue of so many versions of the shared table x.
 pub fn catalog_of(rt: &impl Abort, alloc: Global, versions: usize) -> Catalog<Global> {
     let mut meter = Meter::new(alloc);
     let mut catalog = Catalog::new(&meter);
-    for (version, texts) in VERSIONS.iter().take(versions) {
-        let table = shared_table(rt, alloc, *version, texts);
-        assert!(rt; meter.held() < 1 << 32);
-        assert!(rt; meter.refused() < 1 << 32);
+    for make in 0..versions {
+        let made = if make == 0 {
+            first_version(alloc)
+        } else {
+            third_version(alloc)
+        };
+        let Ok(table) = made else {
+            panic!(rt; "no memory")
+        };
+        expect_little(rt, &meter);
         assert!(rt; catalog.add(&mut meter, table).is_ok());
     }
     catalog

@@ -74,15 +74,13 @@ fn a_read_that_fails_ends_a_declaration(rt: HostRuntime) -> Result<(), Fail> {
     for sound in 0..30u32 {
         let failing = Pieces { sound, ..input };
         let cut = read(&rt, rt.alloc(), LIMITS, Some(&catalog), failing);
-        assert_eq!(rt; cut.ending, Err(Fault::ReadFault), "after {sound}");
-        assert!(rt; all.items.as_str().starts_with(cut.items.as_str()));
+        assert!(rt; cut.is_cut_by(Fault::ReadFault, &all), "after {sound}");
         let limits = Limits {
             input: sound as u64,
             ..LIMITS
         };
         let cut = read(&rt, rt.alloc(), limits, Some(&catalog), input);
-        assert_eq!(rt; cut.ending, Err(Fault::InputLimit), "{sound} octets");
-        assert!(rt; all.items.as_str().starts_with(cut.items.as_str()));
+        assert!(rt; cut.is_cut_by(Fault::InputLimit, &all), "{sound} octets");
     }
     Ok(())
 }

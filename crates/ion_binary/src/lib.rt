@@ -18,8 +18,6 @@ mod opening;
 mod put;
 pub mod reader;
 mod scalar;
-#[cfg(test)]
-mod tests;
 mod typed_value;
 mod value;
 mod waiting;

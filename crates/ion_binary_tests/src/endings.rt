@@ -1,0 +1,92 @@
+//! What stands after an ending, and endings that are no fault of the stream.
+
+use crate::hex::{MARKER, octets};
+use crate::limits::LIMITS;
+use crate::pieces::{Pieces, in_pieces, whole};
+use crate::reading::{Outcome, read, read_to};
+use crate::tables::RAW;
+use ion_meter::fault::Fault;
+use ion_meter::limits::Limits;
+use std::alloc::Global;
+use std::process::Abort;
+use std::test::Fail;
+
+// Streams without a fault.
+const STREAMS: [&str; 6] = [
+    "",
+    "E0 01 00 EA",
+    "E0 01 00 EA D5 80 01 FF 84 11",
+    "E0 01 00 EA 6B 43 E0 0F DB 82 94 93 9E BB C3 64",
+    "E0 01 00 EA E7 81 84 B4 E3 81 85 11 0E 83 FF FF FF BE 83 82 C3 A9",
+    "E0 01 00 EA EC 81 83 D9 86 71 03 87 B4 83 61 20 62 71 0A",
+];
+
+// Reads these pieces to the end, and asserts that the ending is answered again and again when the
+// next item is asked for, and that the device is not read again.
+fn read_past_end(rt: &impl Abort, alloc: Global, limits: Limits, input: Pieces<'_>) -> Outcome {
+    let mut once = Outcome::new(alloc, 0, 0);
+    read_to(rt, alloc, limits, None, input, &mut once);
+    let again = read(rt, alloc, limits, None, input);
+    assert!(rt; again.is_same(&once));
+    assert_eq!(rt; again.left, once.left);
+    assert_eq!(rt; again.reads, once.reads);
+    again
+}
+
+#[test]
+fn an_ending_is_answered_from_then_on(rt: HostRuntime) -> Result<(), Fail> {
+    for rows in RAW {
+        for (digits, _) in rows {
+            let octets = octets(&rt, rt.alloc(), MARKER, digits)?;
+            let _told = read_past_end(&rt, rt.alloc(), LIMITS, in_pieces(octets.as_slice(), 1, 1));
+        }
+    }
+    Ok(())
+}
+
+#[test]
+fn a_read_that_fails_is_no_end(rt: HostRuntime) -> Result<(), Fail> {
+    for digits in STREAMS {
+        let octets = octets(&rt, rt.alloc(), b"", digits)?;
+        let input = in_pieces(octets.as_slice(), 1, 1);
+        let all = read_past_end(&rt, rt.alloc(), LIMITS, input);
+        assert_eq!(rt; all.ending, Ok(()));
+        for sound in 0..all.reads {
+            let cut = read_past_end(&rt, rt.alloc(), LIMITS, Pieces { sound, ..input });
+            assert!(rt; cut.is_cut_by(Fault::ReadFault, &all), "after {sound}");
+            assert_eq!(rt; cut.reads, sound.saturating_add(1));
+        }
+        let late = Pieces {
+            sound: all.reads,
+            ..input
+        };
+        assert!(rt; read_past_end(&rt, rt.alloc(), LIMITS, late).is_same(&all));
+    }
+    Ok(())
+}
+
+#[test]
+fn the_input_has_a_limit(rt: HostRuntime) -> Result<(), Fail> {
+    for digits in STREAMS {
+        let octets = octets(&rt, rt.alloc(), b"", digits)?;
+        let length = octets.len();
+        let all = read(&rt, rt.alloc(), LIMITS, None, whole(octets.as_slice()));
+        for size in 1..=length.max(1) {
+            for most in 0..=length {
+                let limits = Limits {
+                    input: most as u64,
+                    ..LIMITS
+                };
+                let input = in_pieces(octets.as_slice(), size, size);
+                let cut = read_past_end(&rt, rt.alloc(), limits, input);
+                let fits = if most < length {
+                    cut.is_cut_by(Fault::InputLimit, &all)
+                } else {
+                    cut.is_same(&all)
+                };
+                assert!(rt; fits, "{most} of {digits}");
+            }
+        }
+    }
+    Ok(())
+}

@@ -1,0 +1,234 @@
+//! Streams that are longer than a window, long declarations, and many of them.
+
+use crate::hex::{MARKER, octets};
+use crate::limits::LIMITS;
+use crate::pieces::{in_pieces, whole};
+use crate::reading::{Outcome, read, read_to};
+use crate::tables::catalog_of;
+use ion_meter::limits::Limits;
+use ion_value::var::var_uint_write;
+use std::alloc::Global;
+use std::fmt::Write;
+use std::process::Abort;
+use std::test::Fail;
+
+const SIZES: [usize; 6] = [1, 1_000, 4_095, 4_096, 4_097, 100_000];
+
+// Octets, octets that are repeated behind them so many times, those at the end, and what is read.
+type Long = (&'static str, &'static [u8], u32, &'static str, &'static str);
+
+// Bodies of 10,001 octets, most of which are zeros at the front of a number.
+const LONG_NUMBERS: [Long; 5] = [
+    (
+        "2E 4E 91",
+        b"\0",
+        10_000,
+        "07 11",
+        "0/0 marker; 4/4 int 7; 10008/10008 true; end",
+    ),
+    (
+        "3E 4E 91",
+        b"\0",
+        10_000,
+        "07 11",
+        "0/0 marker; 4/4 int -7; 10008/10008 true; end",
+    ),
+    (
+        "5E 4E 91 C1",
+        b"\0",
+        9_999,
+        "0F 11",
+        "0/0 marker; 4/4 decimal 15d-1; 10008/10008 true; end",
+    ),
+    (
+        "6E 4E 91 80 0F D0 81 81 80 80 80 C1",
+        b"\0",
+        9_991,
+        "05 11",
+        "0/0 marker; 4/4 timestamp fraction(1) 2000 1 1 0 0 0 5 0; 10008/10008 true; end",
+    ),
+    (
+        "7E 4E 91",
+        b"\0",
+        10_000,
+        "0A 11",
+        "0/0 marker; 4/4 symbol 10@4; 10008/10008 true; end",
+    ),
+];
+
+// A NOP pad of 8,388,608 octets.
+const NOP_PAD: Long = ("0E 04 00 00 80", b"\0", 8_388_608, "", "0/0 marker; end");
+
+// A declaration with a field without a meaning that is a list of 100,000 numbers, and a symbol.
+const IGNORED: Long = (
+    "EE 0C 1A CF 81 83 DE 0C 1A C9 84 BE 0C 1A C0",
+    b"\x21\x05",
+    100_000,
+    "87 B2 81 61 71 0A",
+    "200023/200023 symbol 'a'@200023; end",
+);
+
+// The octets behind a version marker.
+fn long_octets(rt: &impl Abort, alloc: Global, long: Long) -> Result<Vec<u8>, Fail> {
+    let (front, again, times, behind, _) = long;
+    let mut stream = octets(rt, alloc, MARKER, front)?;
+    for _ in 0..times {
+        stream.extend_from_slice(again)?;
+    }
+    octets(rt, alloc, stream.as_slice(), behind)
+}
+
+#[test]
+fn long_numbers_are_read(rt: HostRuntime) -> Result<(), Fail> {
+    for long in LONG_NUMBERS {
+        let stream = long_octets(&rt, rt.alloc(), long)?;
+        for size in SIZES {
+            let input = in_pieces(stream.as_slice(), size, size);
+            let words = read(&rt, rt.alloc(), LIMITS, None, input).words(rt.alloc())?;
+            assert_eq!(rt; words.as_str(), long.4, "in pieces of {size}");
+        }
+    }
+    Ok(())
+}
+
+#[test]
+fn what_is_passed_over_is_not_held(rt: HostRuntime) -> Result<(), Fail> {
+    let stream = long_octets(&rt, rt.alloc(), NOP_PAD)?;
+    let limits = Limits {
+        scalar: 1,
+        ..LIMITS
+    };
+    for size in [4_095, 10_000_000] {
+        let input = in_pieces(stream.as_slice(), size, size);
+        let told = read(&rt, rt.alloc(), limits, None, input);
+        assert_eq!(rt; told.words(rt.alloc())?.as_str(), NOP_PAD.4);
+        assert_eq!(rt; told.peak, 4_096);
+    }
+    let stream = long_octets(&rt, rt.alloc(), IGNORED)?;
+    let limits = Limits {
+        depth: 4,
+        scalar: 64,
+        symbols: 1_024,
+        value: 0,
+        ..LIMITS
+    };
+    let catalog = catalog_of(&rt, rt.alloc(), 0);
+    let input = whole(stream.as_slice());
+    let told = read(&rt, rt.alloc(), limits, Some(&catalog), input);
+    assert!(rt; told.peak <= 4_096 + 16 * 4 + 3 * 64 + 2 * 1_024);
+    assert_eq!(rt; told.words(rt.alloc())?.as_str(), IGNORED.4);
+    Ok(())
+}
+
+#[test]
+fn a_long_blob_is_read(rt: HostRuntime) -> Result<(), Fail> {
+    let mut stream = octets(&rt, rt.alloc(), MARKER, "AE 4E 90")?;
+    let mut wanted = format!(in rt.alloc(); "0/0 marker; 4/4 blob")?;
+    for octet in (0..=250u8).cycle().take(10_000) {
+        stream.push(octet)?;
+        write!(wanted, " {octet:02X}")?;
+    }
+    stream.push(0x11)?;
+    wanted.push_str("; 10007/10007 true; end")?;
+    for size in SIZES {
+        let input = in_pieces(stream.as_slice(), size, size);
+        let words = read(&rt, rt.alloc(), LIMITS, None, input).words(rt.alloc())?;
+        assert_eq!(rt; words.as_str(), wanted.as_str(), "in pieces of {size}");
+    }
+    Ok(())
+}
+
+// 64 lists, each of which has the next and nothing else.
+#[test]
+fn an_open_container_counts_16(rt: HostRuntime) -> Result<(), Fail> {
+    let mut stream = octets(&rt, rt.alloc(), MARKER, "")?;
+    let mut length = 192u8;
+    for _ in 0..64u32 {
+        length = length.saturating_sub(3);
+        stream.extend_from_slice(&[0xBE, u8::from(length >= 128), length | 0x80])?;
+    }
+    for (depth, ending) in [(65, "end"), (64, "end"), (63, "DepthLimit at 193")] {
+        let limits = Limits {
+            depth,
+            scalar: 0,
+            ..LIMITS
+        };
+        for size in [1, 200] {
+            let input = in_pieces(stream.as_slice(), size, size);
+            let told = read(&rt, rt.alloc(), limits, None, input);
+            assert!(rt; told.words(rt.alloc())?.ends_with(ending));
+            assert_eq!(rt; told.peak, 4_096 + 16 * depth.min(64) as u64);
+        }
+    }
+    Ok(())
+}
+
+// Streams whose parts are many.
+const DENSE: [&str; 7] = [
+    "E0 01 00 EA DA 00 00 00 00 00 00 00 00 84 11",
+    "E0 01 00 EA EE 00 92 83 04 84 8A D1 00 00 8A 84 2E 00 82 02 01 85 82 C3 A9 11",
+    "E0 01 00 EA 6B 43 E0 0F DB 82 94 93 9E BB C3 64 56 47 7F 7F 7F FF 01",
+    "E0 01 00 EA 0E 83 FF FF FF 8E 83 E2 82 AC 7A 00 00 00 00 00 00 00 00 00 0A",
+    "E0 01 00 EA EC 81 83 D9 86 71 03 87 B4 83 61 20 62 71 0A",
+    "E0 01 00 EA E6 81 84 E3 81 84 11",
+    "E0 01 00 EA D3 8A 82 C3",
+];
+
+const ZEROS: [u8; 4_089] = [0; 4_089];
+
+// A stream stands behind a version marker and a NOP pad, at each place of the first window's end.
+#[test]
+fn a_part_may_lie_in_two_windows(rt: HostRuntime) -> Result<(), Fail> {
+    for digits in DENSE {
+        let stream = octets(&rt, rt.alloc(), b"", digits)?;
+        let told = read(&rt, rt.alloc(), LIMITS, None, whole(stream.as_slice()));
+        let told = told.words(rt.alloc())?;
+        let told = told.as_str();
+        let wanted = format!(in rt.alloc(); "0/0 marker; {told}")?;
+        for before in 0..=stream.len() {
+            assert!(rt; before <= 1_000);
+            let zeros = &ZEROS[before..];
+            let mut late = octets(&rt, rt.alloc(), MARKER, "0E")?;
+            late.extend_from_slice(var_uint_write(zeros.len() as u64).as_slice())?;
+            late.extend_from_slice(zeros)?;
+            late.extend_from_slice(stream.as_slice())?;
+            for size in [1, 100_000] {
+                let mut told = Outcome::new(rt.alloc(), 7 + zeros.len() as u64, 2);
+                let input = in_pieces(late.as_slice(), size, size);
+                read_to(&rt, rt.alloc(), LIMITS, None, input, &mut told);
+                let words = told.words(rt.alloc())?;
+                assert_eq!(rt; words.as_str(), wanted.as_str(), "{before} octets before");
+            }
+        }
+    }
+    Ok(())
+}
+
+#[test]
+fn a_thousand_declarations_add_up(rt: HostRuntime) -> Result<(), Fail> {
+    let mut stream = octets(&rt, rt.alloc(), MARKER, "")?;
+    for hundreds in b"0123456789" {
+        for tens in b"0123456789" {
+            for ones in b"0123456789" {
+                stream.extend_from_slice(b"\xED\x81\x83\xDA\x87\xB5\x84t")?;
+                stream.extend_from_slice(&[*hundreds, *tens, *ones, 0x86, 0x71, 0x03])?;
+            }
+        }
+    }
+    let stream = octets(&rt, rt.alloc(), stream.as_slice(), "71 0A 72 03 F1")?;
+    // Each text costs 16 and its length.
+    let cost = 1_000 * (16 + 4);
+    let limits = Limits {
+        symbols: cost,
+        ..LIMITS
+    };
+    let catalog = catalog_of(&rt, rt.alloc(), 0);
+    let input = in_pieces(stream.as_slice(), 1_000, 1_000);
+    let told = read(&rt, rt.alloc(), limits, Some(&catalog), input);
+    assert_eq!(rt; told.held, told.raw_held.saturating_add(cost));
+    assert_eq!(rt;
+        told.words(rt.alloc())?.as_str(),
+        "14004/14004 symbol 't000'@14004; 14006/14006 symbol 't999'@14006; end"
+    );
+    Ok(())
+}

@@ -1,0 +1,112 @@
+//! Streams that are cut short or that have an octet replaced, and small limits.
+
+use crate::hex::{MARKER, octets};
+use crate::limits::LIMITS;
+use crate::pieces::whole;
+use crate::reading::{Outcome, read, read_each_way};
+use crate::streams;
+use crate::tables::RAW;
+use ion_meter::fault::{Fault, Reason};
+use ion_meter::limits::Limits;
+use std::alloc::Global;
+use std::process::Abort;
+use std::test::Fail;
+
+// Asserts that a prefix of a stream gives a prefix of its items, and ends well only between values
+// at top level. Where such a value begins it ends well; else it is cut, or has the fault of the
+// stream.
+fn expect_prefix(rt: &impl Abort, prefix: &Outcome, length: u64, all: &Outcome) {
+    assert!(rt;
+        all.items.as_str().starts_with(prefix.items.as_str()),
+        "{length}"
+    );
+    let begins = all.tops.as_slice().contains(&length);
+    match prefix.ending {
+        Ok(()) => {
+            assert_eq!(rt; prefix.open, 0);
+            if let Some(top) = all.tops.as_slice().get(prefix.tops.len()) {
+                assert!(rt; *top >= length, "{length}");
+            }
+        }
+        Err(Fault::Refused(Reason::Truncated, place)) => {
+            assert!(rt; !begins && place <= length, "{length}");
+        }
+        fault => {
+            assert!(rt; !begins && fault == all.ending, "{length}");
+        }
+    }
+}
+
+/// Reads each prefix of these octets, and them with one of them replaced, in whatever pieces they
+/// come.
+pub fn mangle(rt: &impl Abort, alloc: Global, limits: Limits, mut octets: Vec<u8>) {
+    let all = read(rt, alloc, limits, None, whole(octets.as_slice()));
+    for length in 0..octets.len() {
+        let prefix = read_each_way(rt, alloc, limits, None, &octets.as_slice()[..length]);
+        expect_prefix(rt, &prefix, length as u64, &all);
+    }
+    for place in 0..octets.len() {
+        let octet = octets[place];
+        for other in [0x00, 0x7F, 0x80, 0xFF] {
+            octets[place] = other;
+            let _read = read_each_way(rt, alloc, limits, None, octets.as_slice());
+        }
+        octets[place] = octet;
+    }
+}
+
+#[test]
+fn mangled_streams_are_read(rt: HostRuntime) -> Result<(), Fail> {
+    for rows in RAW {
+        for (digits, _) in rows {
+            mangle(
+                &rt,
+                rt.alloc(),
+                LIMITS,
+                octets(&rt, rt.alloc(), MARKER, digits)?,
+            );
+        }
+    }
+    for (digits, _) in streams::ROWS {
+        mangle(
+            &rt,
+            rt.alloc(),
+            LIMITS,
+            octets(&rt, rt.alloc(), b"", digits)?,
+        );
+    }
+    Ok(())
+}
+
+const DEPTHS_AND_SCALARS: [(u32, u64); 6] = [(0, 0), (0, 15), (1, 1), (1, 16), (2, 17), (2, 33)];
+
+// Asserts that small limits only cut the reading short.
+fn expect_narrower(rt: &impl Abort, narrow: &Outcome, all: &Outcome) {
+    assert!(rt; all.items.as_str().starts_with(narrow.items.as_str()));
+    match narrow.ending {
+        Err(
+            Fault::Refused(Reason::DepthLimit | Reason::ScalarLimit | Reason::AnnotationLimit, _),
+        ) => {}
+        _ => assert!(rt; narrow.is_same(all)),
+    }
+}
+
+#[test]
+fn small_limits_only_cut_short(rt: HostRuntime) -> Result<(), Fail> {
+    for rows in RAW {
+        for (digits, _) in rows {
+            let octets = octets(&rt, rt.alloc(), MARKER, digits)?;
+            let all = read(&rt, rt.alloc(), LIMITS, None, whole(octets.as_slice()));
+            for (depth, scalar) in DEPTHS_AND_SCALARS {
+                let limits = Limits {
+                    depth,
+                    scalar,
+                    ..LIMITS
+                };
+                let narrow = read_each_way(&rt, rt.alloc(), limits, None, octets.as_slice());
+                expect_narrower(&rt, &narrow, &all);
+            }
+        }
+    }
+    Ok(())
+}

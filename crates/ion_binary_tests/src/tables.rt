@@ -1,0 +1,144 @@
+//! Rows of octets and of what is read of them.
+
+use crate::hex::{MARKER, octets};
+use crate::limits::LIMITS;
+use crate::reading::{expect_little, read_each_way};
+use crate::{containers, declarations, imports, scalars, streams, wrappers};
+use ion_meter::fault::Fault;
+use ion_meter::limits::Limits;
+use ion_meter::meter::Meter;
+use ion_symbols::catalog::Catalog;
+use ion_symbols::shared::SharedTable;
+use std::alloc::Global;
+use std::process::Abort;
+use std::test::Fail;
+
+/// Octets, and what is read of them.
+pub type Row = (&'static str, &'static str);
+
+/// The octets before those of a row, the words before its words, and how many versions of a shared
+/// table there are, where user values are read.
+pub type Form = (&'static [u8], &'static str, Option<usize>);
+
+/// A form, the limits of depth, scalars and symbol tables, and rows.
+pub type Table = (Form, u32, u64, u64, &'static [Row]);
+
+/// Raw items of whole streams.
+pub const STREAMS: Form = (b"", "", None);
+
+/// Raw items behind a version marker.
+pub const ITEMS: Form = (MARKER, "0/0 marker; ", None);
+
+/// User values without shared tables.
+pub const USERS: Form = (MARKER, "", Some(0));
+
+/// User values where there is version 1 of the shared table x, with p and q.
+pub const FIRST: Form = (MARKER, "", Some(1));
+
+/// User values where there is also version 3 of it, with r, s and t.
+pub const BOTH: Form = (MARKER, "", Some(2));
+
+/// The limits where nothing else is said.
+pub const DEPTH: u32 = 64;
+
+pub const SCALAR: u64 = 1_048_576;
+
+pub const SYMBOLS: u64 = 1_048_576;
+
+/// The tables of raw items behind a version marker, under the usual limits.
+pub const RAW: [&[Row]; 14] = [
+    scalars::NULLS_AND_BOOLS,
+    scalars::INTS,
+    scalars::DECIMALS,
+    scalars::DATES,
+    scalars::TIMES,
+    scalars::FRACTIONS,
+    scalars::SYMBOLS,
+    scalars::TEXTS_AND_LOBS,
+    containers::LISTS,
+    containers::STRUCTS,
+    containers::NOP_PADS,
+    wrappers::ANNOTATED,
+    wrappers::HEADS,
+    wrappers::INSIDES,
+];
+
+// All others.
+const OTHERS: [&[Table]; 6] = [
+    scalars::TABLES,
+    containers::TABLES,
+    wrappers::TABLES,
+    streams::TABLES,
+    declarations::TABLES,
+    imports::TABLES,
+];
+
+// Version 1 of the shared table x, and version 3 of it.
+fn first_version(alloc: Global) -> Result<SharedTable<Global>, Fault> {
+    let mut meter = Meter::new(alloc);
+    let mut table = SharedTable::new(&mut meter, "x", 1)?;
+    table.push(&mut meter, Some("p"))?;
+    table.push(&mut meter, Some("q"))?;
+    Ok(table)
+}
+
+fn third_version(alloc: Global) -> Result<SharedTable<Global>, Fault> {
+    let mut meter = Meter::new(alloc);
+    let mut table = SharedTable::new(&mut meter, "x", 3)?;
+    table.push(&mut meter, Some("r"))?;
+    table.push(&mut meter, Some("s"))?;
+    table.push(&mut meter, Some("t"))?;
+    Ok(table)
+}
+
+/// A catalogue of so many versions of the shared table x.
+pub fn catalog_of(rt: &impl Abort, alloc: Global, versions: usize) -> Catalog<Global> {
+    let mut meter = Meter::new(alloc);
+    let mut catalog = Catalog::new(&meter);
+    for make in 0..versions {
+        let made = if make == 0 {
+            first_version(alloc)
+        } else {
+            third_version(alloc)
+        };
+        let Ok(table) = made else {
+            panic!(rt; "no memory")
+        };
+        expect_little(rt, &meter);
+        assert!(rt; catalog.add(&mut meter, table).is_ok());
+    }
+    catalog
+}
+
+// Asserts what is read of each row, in whatever pieces it comes.
+fn expect_rows(rt: &impl Abort, alloc: Global, table: Table) -> Result<(), Fail> {
+    let ((front, before, versions), depth, scalar, symbols, rows) = table;
+    let limits = Limits {
+        depth,
+        scalar,
+        symbols,
+        ..LIMITS
+    };
+    let catalog = versions.map(|n| catalog_of(rt, alloc, n));
+    for (digits, words) in rows {
+        let octets = octets(rt, alloc, front, digits)?;
+        let wanted = format!(in alloc; "{before}{words}")?;
+        let all = read_each_way(rt, alloc, limits, catalog.as_ref(), octets.as_slice());
+        let told = all.words(alloc)?;
+        assert_eq!(rt; told.as_str(), wanted.as_str(), "{digits}");
+    }
+    Ok(())
+}
+
+#[test]
+fn rows_are_read(rt: HostRuntime) -> Result<(), Fail> {
+    for rows in RAW {
+        expect_rows(&rt, rt.alloc(), (ITEMS, DEPTH, SCALAR, SYMBOLS, rows))?;
+    }
+    for tables in OTHERS {
+        for table in tables {
+            expect_rows(&rt, rt.alloc(), *table)?;
+        }
+    }
+    Ok(())
+}

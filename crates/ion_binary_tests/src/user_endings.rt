@@ -1,0 +1,129 @@
+//! How a reader of user values ends beside the raw one, and what it gives back then.
+
+use crate::declarations::{APPENDED, DECLARED, PLAIN, REFUSED};
+use crate::hex::{MARKER, octets};
+use crate::imports::{FOUND, NOT_FOUND};
+use crate::limits::LIMITS;
+use crate::pieces::{Pieces, in_pieces, whole};
+use crate::reading::{read, read_each_way};
+use crate::tables::{Row, catalog_of};
+use ion_meter::fault::Fault;
+use ion_meter::limits::Limits;
+use std::test::Fail;
+
+// Tables of rows, each with the number of shared tables that are there.
+const TABLES: [(&[Row], usize); 5] = [
+    (DECLARED, 0),
+    (PLAIN, 0),
+    (REFUSED, 0),
+    (NOT_FOUND, 0),
+    (FOUND, 1),
+];
+
+// A prefix of a stream gives a prefix of its items, and ends as the raw reader does unless it has the
+// fault of the whole.
+#[test]
+fn a_prefix_of_a_stream_gives_a_prefix_of_its_items(rt: HostRuntime) -> Result<(), Fail> {
+    for (rows, versions) in TABLES {
+        let catalog = catalog_of(&rt, rt.alloc(), versions);
+        for (digits, _) in rows {
+            let octets = octets(&rt, rt.alloc(), MARKER, digits)?;
+            let octets = octets.as_slice();
+            let all = read(&rt, rt.alloc(), LIMITS, Some(&catalog), whole(octets));
+            for length in 0..octets.len() {
+                let input = whole(&octets[..length]);
+                let prefix = read(&rt, rt.alloc(), LIMITS, Some(&catalog), input);
+                let raw = read(&rt, rt.alloc(), LIMITS, None, input);
+                assert!(rt;
+                    all.items.as_str().starts_with(prefix.items.as_str()),
+                    "{length}"
+                );
+                assert!(rt;
+                    prefix.ending == raw.ending || prefix.is_same(&all),
+                    "{length}"
+                );
+            }
+        }
+    }
+    Ok(())
+}
+
+// The raw reader's answer at each place of the stream is the only one that there is.
+#[test]
+fn a_cut_stream_ends_as_the_raw_one_does(rt: HostRuntime) -> Result<(), Fail> {
+    let catalog = catalog_of(&rt, rt.alloc(), 0);
+    let octets = octets(&rt, rt.alloc(), MARKER, APPENDED)?;
+    let octets = octets.as_slice();
+    for length in 0..octets.len() {
+        let octets = &octets[..length];
+        let prefix = read_each_way(&rt, rt.alloc(), LIMITS, Some(&catalog), octets);
+        let raw = read(&rt, rt.alloc(), LIMITS, None, whole(octets));
+        assert_eq!(rt; prefix.ending, raw.ending, "{length}");
+        let between = [0, 4, 15, 26, 28].as_slice().contains(&length);
+        assert_eq!(rt; prefix.ending.is_ok(), between, "{length}");
+    }
+    Ok(())
+}
+
+#[test]
+fn a_read_that_fails_ends_a_declaration(rt: HostRuntime) -> Result<(), Fail> {
+    let catalog = catalog_of(&rt, rt.alloc(), 0);
+    let octets = octets(&rt, rt.alloc(), MARKER, APPENDED)?;
+    let input = in_pieces(octets.as_slice(), 1, 1);
+    let all = read(&rt, rt.alloc(), LIMITS, Some(&catalog), input);
+    for sound in 0..30u32 {
+        let failing = Pieces { sound, ..input };
+        let cut = read(&rt, rt.alloc(), LIMITS, Some(&catalog), failing);
+        assert!(rt; cut.is_cut_by(Fault::ReadFault, &all), "after {sound}");
+        let limits = Limits {
+            input: sound as u64,
+            ..LIMITS
+        };
+        let cut = read(&rt, rt.alloc(), limits, Some(&catalog), input);
+        assert!(rt; cut.is_cut_by(Fault::InputLimit, &all), "{sound} octets");
+    }
+    Ok(())
+}
+
+// Octets, what their symbol table costs, and their words.
+const COSTS: [(&str, u64, &str); 7] = [
+    ("", 0, "end"),
+    ("71 04", 0, "4/4 symbol 'name'@4; end"),
+    (
+        APPENDED,
+        34,
+        "26/26 symbol 'a'@26; 28/28 symbol 'b'@28; end",
+    ),
+    (
+        "EE 94 81 83 DE 90 86 BA D9 84 81 78 85 21 01 88 21 02 87 B2 81 61",
+        49,
+        "end",
+    ),
+    ("E7 81 83 D4 87 B2 81 61 E0 01 00 EA", 0, "end"),
+    ("E7 81 83 D4 87 B2 81 61 E3 81 83 D0", 0, "end"),
+    // What is held of a declaration that is refused is given back at once.
+    (
+        "E7 81 83 D4 87 B2 81 61 EC 81 83 D9 87 B2 81 62 87 B2 81 63 20",
+        17,
+        "BadTable at 20",
+    ),
+];
+
+// The symbol table is given back, and then what the raw reader holds.
+#[test]
+fn a_reader_gives_its_table_back(rt: HostRuntime) -> Result<(), Fail> {
+    let catalog = catalog_of(&rt, rt.alloc(), 1);
+    for (digits, cost, words) in COSTS {
+        let octets = octets(&rt, rt.alloc(), MARKER, digits)?;
+        let input = whole(octets.as_slice());
+        let told = read(&rt, rt.alloc(), LIMITS, Some(&catalog), input);
+        assert_eq!(rt; told.held, told.raw_held.saturating_add(cost), "{digits}");
+        assert_eq!(rt; told.words(rt.alloc())?.as_str(), words);
+        let raw = read(&rt, rt.alloc(), LIMITS, None, input);
+        assert!(rt;
+            raw.raw_held == told.raw_held || told.ending.is_err(),
+            "{digits}"
+        );
+    }
+    Ok(())
+}

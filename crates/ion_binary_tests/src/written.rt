@@ -1,0 +1,232 @@
+//! Items that are put as binary, one after the other.
+ghost use Rattle.std.specs.Prelude.{◌≡◌, ◌+◌, List, [], true, false, OnOk, IfSome};
+ghost use Rattle.ion_meter.specs.Limits.{AreChecked};
+ghost use Rattle.ion_value.specs.Items.{item_of, raw_head};
+ghost use Rattle.ion_value.specs.Standing.{open_after, open_behind, is_marker, Fits, HeadInRange};
+ghost use Rattle.ion_value.specs.Value.{PlacedItem};
+
+use crate::reading::expect_little;
+use ion_binary::writer::BinWriter;
+use ion_meter::device::Output;
+use ion_meter::fault::Fault;
+use ion_meter::limits::Limits;
+use ion_meter::meter::Meter;
+use ion_meter::sink::Sink;
+use ion_meter::stream::ToWrite;
+use ion_value::decimal::decimal_from_text;
+use ion_value::int::int_from_text;
+use ion_value::ion_type::{IonType, Kind};
+use ion_value::item::{Annotation, Annotations, Head, Item, Sym, SymAt};
+use ion_value::names::{Names, NoNames};
+use ion_value::timestamp::timestamp_from_text;
+use ion_value::writer::ValueWriter;
+use std::alloc::Global;
+use std::io::Write;
+use std::process::Abort;
+
+/// The texts that the annotations of a test are ranges of.
+const TEXTS: &[u8] = b"nameversion";
+
+/// The place of a field is its item's and this.
+const FIELDS: u64 = 100;
+
+/// A head, of which a number or a timestamp is given as a text that spells it.
+#[derive(Clone, Copy)]
+pub enum Part<'a> {
+    /// A null.
+    Null(IonType),
+    /// A truth.
+    Bool(bool),
+    /// An int.
+    Int(&'a [u8]),
+    /// A decimal.
+    Decimal(&'a [u8]),
+    /// A timestamp.
+    Timestamp(&'a [u8]),
+    /// A symbol.
+    Symbol(&'a [u8]),
+    /// The symbol of this id.
+    Unknown(u32),
+    /// A string.
+    Text(&'a [u8]),
+    /// A clob.
+    Clob(&'a [u8]),
+    /// A blob.
+    Blob(&'a [u8]),
+    /// The begin of a container.
+    Begin(Kind),
+    /// Its end.
+    End,
+}
+
+/// A field's name, annotations and a head.
+pub type Step<'a> = (Option<&'a [u8]>, &'a [Annotation], Part<'a>);
+
+/// The head of a test, where there is one.
+fn head_of<'a>(part: Part<'a>, place: u64) -> Option<Head<'a>>
+    ensures { IfSome result (λ h. HeadInRange (raw_head h)) }
+{
+    Some(match part {
+        Part::Null(of) => Head::Null(of),
+        Part::Bool(truth) => Head::Bool(truth),
+        Part::Int(text) => Head::Int(int_from_text(text).ok()?),
+        Part::Decimal(text) => Head::Decimal(decimal_from_text(text).ok()?),
+        Part::Timestamp(text) => Head::Timestamp(timestamp_from_text(text).ok()?),
+        Part::Symbol(text) => Head::Symbol(symbol(text, place)),
+        Part::Unknown(id) => Head::Symbol(SymAt {
+            sym: Sym::Id(id),
+            place,
+        }),
+        Part::Text(text) => Head::String(text),
+        Part::Clob(octets) => Head::Clob(octets),
+        Part::Blob(octets) => Head::Blob(octets),
+        Part::Begin(kind) => Head::Begin(kind),
+        Part::End => Head::End,
+    })
+}
+
+/// A symbol of this text.
+fn symbol(text: &[u8], place: u64) -> SymAt<'_> {
+    SymAt {
+        sym: Sym::Text(text),
+        place,
+    }
+}
+
+/// Whether an item may stand where these containers are open, the innermost first.
+fn may_stand<N: Names>(depth: u32, kinds: &[Kind], item: &Item<'_, N>) -> bool
+    requires range { HeadInRange (item_of N.text item.now).head }
+    ensures fits { result ≡ true → Fits depth kinds.now (item_of N.text item.now) }
+    ensures value { result ≡ true → is_marker (item_of N.text item.now).head ≡ false }
+{
+    let field = item.field().is_some();
+    let in_struct = matches!(kinds, [Kind::Struct, ..]);
+    match item.head() {
+        Head::Marker => false,
+        Head::End => !kinds.is_empty() && !field && item.annotations().is_empty(),
+        Head::Begin(_) => kinds.len() < depth as usize && field == in_struct,
+        _ => field == in_struct,
+    }
+}
+
+/// Which containers are open behind a head.
+fn go_on(rt: &impl Abort, kinds: &mut Vec<Kind>, head: &Head<'_>)
+    ensures { kinds.new.items ≡ open_after kinds.old.items (raw_head head.now) }
+{
+    match *head {
+        Head::Begin(kind) => {
+            if kinds.insert(0, kind).is_err() {
+                panic!(rt; "no memory")
+            }
+        }
+        Head::End => {
+            if !kinds.is_empty() {
+                kinds.remove(0);
+            }
+        }
+        _ => {}
+    }
+}
+
+/// Puts an item. A fault has to be answered again.
+fn put_one<W: ValueWriter<O, Global>, O: Output, N: Names>(
+    rt: &impl Abort,
+    meter: &mut Meter<Global>,
+    sink: &mut Sink<O, Global>,
+    writer: &mut W,
+    kinds: &mut Vec<Kind>,
+    depth: u32,
+    item: &Item<'_, N>,
+) -> Result<(), Fault>
+    requires sound { W.sound writer.old }
+    requires stands { (path : List PlacedItem) × W.stands writer.old path × (open_behind [] path ≡ kinds.old.items) }
+    requires depth { (W.limits writer.old).depth ≡ depth }
+    requires held { meter.old.held ≡ 4096 + W.own writer.old }
+    requires range { HeadInRange (item_of N.text item.now).head }
+    ensures sound { W.sound writer.new }
+    ensures stands { OnOk result ((path : List PlacedItem) × W.stands writer.new path × (open_behind [] path ≡ kinds.new.items)) }
+    ensures depth { (W.limits writer.new).depth ≡ depth }
+    ensures held { meter.new.held ≡ 4096 + W.own writer.new }
+{
+    expect_little(rt, meter);
+    assert!(rt; may_stand(depth, kinds.as_slice(), item));
+    if let Err(fault) = writer.item(meter, sink, item) {
+        expect_little(rt, meter);
+        assert_eq!(rt; writer.item(meter, sink, item), Err(fault));
+        return Err(fault);
+    }
+    let head = item.head();
+    go_on(rt, kinds, &head);
+    Ok(())
+}
+
+/// Puts items, up to the first fault. An item's place is its number, and a value's that of its first
+/// item.
+fn put_all<W: ValueWriter<O, Global>, O: Output>(
+    rt: &impl Abort,
+    alloc: Global,
+    meter: &mut Meter<Global>,
+    sink: &mut Sink<O, Global>,
+    writer: &mut W,
+    depth: u32,
+    steps: &[Step<'_>],
+) -> Result<(), Fault>
+    requires sound { W.sound writer.old }
+    requires fresh { W.is_new writer.old }
+    requires depth { (W.limits writer.old).depth ≡ depth }
+    requires held { meter.old.held ≡ 4096 + W.own writer.old }
+    ensures held { meter.new.held ≡ 4096 + W.own writer.new }
+{
+    if let Err(fault) = writer.begin(sink) {
+        return Err(fault);
+    }
+    let mut kinds = Vec::new(alloc);
+    let mut top = 0;
+    'steps: for (place, (field, annotations, part)) in steps.iter().enumerate() {
+        let place = place as u64;
+        let Some(head) = head_of(*part, place) else {
+            panic!(rt; "no value")
+        };
+        let field = match field {
+            Some(text) => Some(symbol(text, place.saturating_add(FIELDS))),
+            None => None,
+        };
+        if kinds.is_empty() {
+            top = place;
+        }
+        let annotations = Annotations::new(annotations, TEXTS, &NoNames);
+        let item = Item::new(field, annotations, head, place, top);
+        if let Err(fault) = put_one(rt, meter, sink, writer, &mut kinds, depth, &item) {
+            return Err(fault);
+        }
+    }
+    Ok(())
+}
+
+/// Puts items to a device, which is handed out. The answer has to be this, the writer gives all
+/// memory back, and never held more than it may.
+pub fn put<D: Write + Drop>(
+    rt: &impl Abort,
+    alloc: Global,
+    limits: Limits,
+    steps: &[Step<'_>],
+    want: Result<(), Fault>,
+    device: D,
+) -> D {
+    assert!(rt; limits.check());
+    let mut meter = Meter::new(alloc);
+    let Ok(mut sink) = Sink::new(&mut meter, ToWrite::new(device)) else {
+        panic!(rt; "no window")
+    };
+    let mut writer = BinWriter::new(&meter, limits);
+    let depth = limits.depth;
+    let answer = put_all(rt, alloc, &mut meter, &mut sink, &mut writer, depth, steps);
+    assert_eq!(rt; answer, want);
+    assert_eq!(rt; sink.flush().is_ok(), want != Err(Fault::WriteFault));
+    writer.release(&mut meter);
+    let most = 4096 + 16 * limits.depth as u64 + limits.value + limits.symbols;
+    assert!(rt; meter.peak() <= most);
+    let device = sink.release(&mut meter).into_inner();
+    assert_eq!(rt; meter.held(), 0);
+    device
+}

@@ -9,7 +9,7 @@ use lib.Lanes.{chunk, mask_l}
 use lib.Count.{count_trailing_zeros}
 use Rattle.ion_value.specs.Digits.{first_is, all_are}
 
-not_not : (b : Bool) → b ≡ not (not b)
+pub not_not : (b : Bool) → b ≡ not (not b)
 not_not true = refl
 not_not false = refl
 

@@ -21,7 +21,7 @@ use ion_value::var::var_uint_write;
 use std::alloc::Allocator;
 
 /// What stands before an item's own octets.
-#[derive(Clone, Copy, Debug, PartialEq, Eq)]
+#[derive(Clone, Copy)]
 pub(crate) struct Front {
     /// Where the ids of its annotations begin among the octets that are held.
     pub(crate) ids: usize,

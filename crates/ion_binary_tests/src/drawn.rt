@@ -5,7 +5,6 @@ use crate::limits::LIMITS;
 use crate::mangling::mangle;
 use crate::reading::read_each_way;
 use ion_meter::limits::Limits;
-use std::test::Fail;
 
 // The limits of depth and of a scalar, a stream, and how it ends.
 type Row = (u32, u64, &'static str, &'static str);
@@ -263,7 +262,7 @@ const OTHERS: &[Row] = &[
 
 // In whatever pieces the stream comes, and mangled in each way.
 #[test]
-fn drawn_streams_are_refused(rt: HostRuntime) -> Result<(), Fail> {
+fn drawn_streams_are_refused(rt: HostRuntime) {
     for rows in [SOME, OTHERS] {
         for (depth, scalar, digits, ending) in rows {
             let limits = Limits {
@@ -271,12 +270,10 @@ fn drawn_streams_are_refused(rt: HostRuntime) -> Result<(), Fail> {
                 scalar: *scalar,
                 ..LIMITS
             };
-            let octets = octets(&rt, rt.alloc(), b"", digits)?;
+            let octets = octets(&rt, rt.alloc(), b"", digits);
             let all = read_each_way(&rt, rt.alloc(), limits, None, octets.as_slice());
-            let told = all.words(rt.alloc())?;
-            assert!(rt; told.ends_with(*ending), "{digits}");
+            all.expect_end(&rt, rt.alloc(), ending);
             mangle(&rt, rt.alloc(), limits, octets);
         }
     }
-    Ok(())
 }

@@ -9,7 +9,6 @@ use ion_meter::fault::Fault;
 use ion_meter::limits::Limits;
 use std::alloc::Global;
 use std::process::Abort;
-use std::test::Fail;
 
 // Streams without a fault.
 const STREAMS: [&str; 6] = [
@@ -34,20 +33,19 @@ fn read_past_end(rt: &impl Abort, alloc: Global, limits: Limits, input: Pieces<'
 }
 
 #[test]
-fn an_ending_is_answered_from_then_on(rt: HostRuntime) -> Result<(), Fail> {
+fn an_ending_is_answered_from_then_on(rt: HostRuntime) {
     for rows in RAW {
         for (digits, _) in rows {
-            let octets = octets(&rt, rt.alloc(), MARKER, digits)?;
+            let octets = octets(&rt, rt.alloc(), MARKER, digits);
             let _told = read_past_end(&rt, rt.alloc(), LIMITS, in_pieces(octets.as_slice(), 1, 1));
         }
     }
-    Ok(())
 }
 
 #[test]
-fn a_read_that_fails_is_no_end(rt: HostRuntime) -> Result<(), Fail> {
+fn a_read_that_fails_is_no_end(rt: HostRuntime) {
     for digits in STREAMS {
-        let octets = octets(&rt, rt.alloc(), b"", digits)?;
+        let octets = octets(&rt, rt.alloc(), b"", digits);
         let input = in_pieces(octets.as_slice(), 1, 1);
         let all = read_past_end(&rt, rt.alloc(), LIMITS, input);
         assert_eq!(rt; all.ending, Ok(()));
@@ -62,13 +60,12 @@ fn a_read_that_fails_is_no_end(rt: HostRuntime) -> Result<(), Fail> {
         };
         assert!(rt; read_past_end(&rt, rt.alloc(), LIMITS, late).is_same(&all));
     }
-    Ok(())
 }
 
 #[test]
-fn the_input_has_a_limit(rt: HostRuntime) -> Result<(), Fail> {
+fn the_input_has_a_limit(rt: HostRuntime) {
     for digits in STREAMS {
-        let octets = octets(&rt, rt.alloc(), b"", digits)?;
+        let octets = octets(&rt, rt.alloc(), b"", digits);
         let length = octets.len();
         let all = read(&rt, rt.alloc(), LIMITS, None, whole(octets.as_slice()));
         for size in 1..=length.max(1) {
@@ -88,5 +85,4 @@ fn the_input_has_a_limit(rt: HostRuntime) -> Result<(), Fail> {
             }
         }
     }
-    Ok(())
 }

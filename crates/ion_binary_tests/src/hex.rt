@@ -2,19 +2,24 @@
 
 use std::alloc::Global;
 use std::process::Abort;
-use std::test::Fail;
 
 /// A version marker.
 pub const MARKER: &[u8] = b"\xE0\x01\x00\xEA";
 
 /// The octets of a text behind some others: two hexadecimal digits each, with spaces between them.
-pub fn octets(rt: &impl Abort, alloc: Global, front: &[u8], text: &str) -> Result<Vec<u8>, Fail> {
-    let mut octets = Vec::from_slice(alloc, front)?;
+pub fn octets(rt: &impl Abort, alloc: Global, front: &[u8], text: &str) -> Vec<u8> {
+    let mut octets = Vec::new(alloc);
+    add(rt, &mut octets, front);
     for digits in text.split_whitespace() {
         let Ok(octet) = u8::from_str_radix(digits, 16) else {
             panic!(rt; "no octet: {digits}")
         };
-        octets.push(octet)?;
+        add(rt, &mut octets, &[octet]);
     }
-    Ok(octets)
+    octets
+}
+
+/// Adds octets.
+pub fn add(rt: &impl Abort, octets: &mut Vec<u8>, more: &[u8]) {
+    assert!(rt; octets.extend_from_slice(more).is_ok());
 }

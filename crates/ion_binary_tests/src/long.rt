@@ -1,6 +1,6 @@
 //! Streams that are longer than a window, long declarations, and many of them.
 
-use crate::hex::{MARKER, octets};
+use crate::hex::{MARKER, add, octets};
 use crate::limits::LIMITS;
 use crate::pieces::{in_pieces, whole};
 use crate::reading::{Outcome, read, read_to};
@@ -69,31 +69,34 @@ const IGNORED: Long = (
 );
 
 // The octets behind a version marker.
-fn long_octets(rt: &impl Abort, alloc: Global, long: Long) -> Result<Vec<u8>, Fail> {
+fn long_octets(rt: &impl Abort, alloc: Global, long: Long) -> Vec<u8> {
     let (front, again, times, behind, _) = long;
-    let mut stream = octets(rt, alloc, MARKER, front)?;
+    let mut stream = octets(rt, alloc, MARKER, front);
     for _ in 0..times {
-        stream.extend_from_slice(again)?;
+        add(rt, &mut stream, again);
     }
     octets(rt, alloc, stream.as_slice(), behind)
 }
 
-#[test]
-fn long_numbers_are_read(rt: HostRuntime) -> Result<(), Fail> {
-    for long in LONG_NUMBERS {
-        let stream = long_octets(&rt, rt.alloc(), long)?;
-        for size in SIZES {
-            let input = in_pieces(stream.as_slice(), size, size);
-            let words = read(&rt, rt.alloc(), LIMITS, None, input).words(rt.alloc())?;
-            assert_eq!(rt; words.as_str(), long.4, "in pieces of {size}");
-        }
+// Asserts what is read in pieces of each size.
+fn expect_sizes(rt: &impl Abort, alloc: Global, stream: &[u8], words: &str) {
+    for size in SIZES {
+        let input = in_pieces(stream, size, size);
+        read(rt, alloc, LIMITS, None, input).expect(rt, alloc, "", words);
     }
-    Ok(())
 }
 
 #[test]
-fn what_is_passed_over_is_not_held(rt: HostRuntime) -> Result<(), Fail> {
-    let stream = long_octets(&rt, rt.alloc(), NOP_PAD)?;
+fn long_numbers_are_read(rt: HostRuntime) {
+    for long in LONG_NUMBERS {
+        let stream = long_octets(&rt, rt.alloc(), long);
+        expect_sizes(&rt, rt.alloc(), stream.as_slice(), long.4);
+    }
+}
+
+#[test]
+fn a_nop_pad_is_not_held(rt: HostRuntime) {
+    let stream = long_octets(&rt, rt.alloc(), NOP_PAD);
     let limits = Limits {
         scalar: 1,
         ..LIMITS
@@ -101,10 +104,14 @@ fn what_is_passed_over_is_not_held(rt: HostRuntime) -> Result<(), Fail> {
     for size in [4_095, 10_000_000] {
         let input = in_pieces(stream.as_slice(), size, size);
         let told = read(&rt, rt.alloc(), limits, None, input);
-        assert_eq!(rt; told.words(rt.alloc())?.as_str(), NOP_PAD.4);
-        assert_eq!(rt; told.peak, 4_096);
+        told.expect(&rt, rt.alloc(), "", NOP_PAD.4);
+        assert!(rt; told.peak == 4_096);
     }
-    let stream = long_octets(&rt, rt.alloc(), IGNORED)?;
+}
+
+#[test]
+fn what_is_ignored_is_not_held(rt: HostRuntime) {
+    let stream = long_octets(&rt, rt.alloc(), IGNORED);
     let limits = Limits {
         depth: 4,
         scalar: 64,
@@ -115,39 +122,40 @@ fn what_is_passed_over_is_not_held(rt: HostRuntime) -> Result<(), Fail> {
     let catalog = catalog_of(&rt, rt.alloc(), 0);
     let input = whole(stream.as_slice());
     let told = read(&rt, rt.alloc(), limits, Some(&catalog), input);
+    told.expect(&rt, rt.alloc(), "", IGNORED.4);
     assert!(rt; told.peak <= 4_096 + 16 * 4 + 3 * 64 + 2 * 1_024);
-    assert_eq!(rt; told.words(rt.alloc())?.as_str(), IGNORED.4);
-    Ok(())
 }
 
 #[test]
 fn a_long_blob_is_read(rt: HostRuntime) -> Result<(), Fail> {
-    let mut stream = octets(&rt, rt.alloc(), MARKER, "AE 4E 90")?;
-    let mut wanted = format!(in rt.alloc(); "0/0 marker; 4/4 blob")?;
+    let mut stream = octets(&rt, rt.alloc(), MARKER, "AE 4E 90");
+    let mut words = String::new(rt.alloc());
+    words.push_str("0/0 marker; 4/4 blob")?;
     for octet in (0..=250u8).cycle().take(10_000) {
-        stream.push(octet)?;
-        write!(wanted, " {octet:02X}")?;
+        add(&rt, &mut stream, &[octet]);
+        write!(words, " {octet:02X}")?;
     }
-    stream.push(0x11)?;
-    wanted.push_str("; 10007/10007 true; end")?;
-    for size in SIZES {
-        let input = in_pieces(stream.as_slice(), size, size);
-        let words = read(&rt, rt.alloc(), LIMITS, None, input).words(rt.alloc())?;
-        assert_eq!(rt; words.as_str(), wanted.as_str(), "in pieces of {size}");
-    }
+    add(&rt, &mut stream, &[0x11]);
+    words.push_str("; 10007/10007 true; end")?;
+    expect_sizes(&rt, rt.alloc(), stream.as_slice(), words.as_str());
     Ok(())
 }
 
 // 64 lists, each of which has the next and nothing else.
 #[test]
-fn an_open_container_counts_16(rt: HostRuntime) -> Result<(), Fail> {
-    let mut stream = octets(&rt, rt.alloc(), MARKER, "")?;
+fn an_open_container_counts_16(rt: HostRuntime) {
+    let mut stream = octets(&rt, rt.alloc(), MARKER, "");
     let mut length = 192u8;
     for _ in 0..64u32 {
         length = length.saturating_sub(3);
-        stream.extend_from_slice(&[0xBE, u8::from(length >= 128), length | 0x80])?;
+        let header = [0xBE, u8::from(length >= 128), length | 0x80];
+        add(&rt, &mut stream, &header);
     }
-    for (depth, ending) in [(65, "end"), (64, "end"), (63, "DepthLimit at 193")] {
+    for (depth, peak, ending) in [
+        (65, 5_120, "end"),
+        (64, 5_120, "end"),
+        (63, 5_104, "DepthLimit at 193"),
+    ] {
         let limits = Limits {
             depth,
             scalar: 0,
@@ -156,11 +164,10 @@ fn an_open_container_counts_16(rt: HostRuntime) -> Result<(), Fail> {
         for size in [1, 200] {
             let input = in_pieces(stream.as_slice(), size, size);
             let told = read(&rt, rt.alloc(), limits, None, input);
-            assert!(rt; told.words(rt.alloc())?.ends_with(ending));
-            assert_eq!(rt; told.peak, 4_096 + 16 * depth.min(64) as u64);
+            told.expect_end(&rt, rt.alloc(), ending);
+            assert!(rt; told.peak == peak);
         }
     }
-    Ok(())
 }
 
 // Streams whose parts are many.
@@ -176,46 +183,54 @@ const DENSE: [&str; 7] = [
 
 const ZEROS: [u8; 4_089] = [0; 4_089];
 
-// A stream stands behind a version marker and a NOP pad, at each place of the first window's end.
+// Asserts that a stream is read to these words behind a version marker and a NOP pad of these octets
+// that lie before it.
+fn expect_late(rt: &impl Abort, alloc: Global, zeros: &[u8], stream: &[u8], words: &str) {
+    let mut late = octets(rt, alloc, MARKER, "0E");
+    add(rt, &mut late, var_uint_write(zeros.len() as u64).as_slice());
+    add(rt, &mut late, zeros);
+    let place = late.len() as u64;
+    add(rt, &mut late, stream);
+    for size in [1, 100_000] {
+        let mut told = Outcome::new(alloc, place, 2);
+        let input = in_pieces(late.as_slice(), size, size);
+        read_to(rt, alloc, LIMITS, None, input, &mut told);
+        told.expect(rt, alloc, "0/0 marker; ", words);
+    }
+}
+
+// A stream begins at each place of the first window's end.
 #[test]
 fn a_part_may_lie_in_two_windows(rt: HostRuntime) -> Result<(), Fail> {
     for digits in DENSE {
-        let stream = octets(&rt, rt.alloc(), b"", digits)?;
-        let told = read(&rt, rt.alloc(), LIMITS, None, whole(stream.as_slice()));
-        let told = told.words(rt.alloc())?;
-        let told = told.as_str();
-        let wanted = format!(in rt.alloc(); "0/0 marker; {told}")?;
+        let stream = octets(&rt, rt.alloc(), b"", digits);
+        let stream = stream.as_slice();
+        let words = read(&rt, rt.alloc(), LIMITS, None, whole(stream)).words(rt.alloc())?;
         for before in 0..=stream.len() {
             assert!(rt; before <= 1_000);
-            let zeros = &ZEROS[before..];
-            let mut late = octets(&rt, rt.alloc(), MARKER, "0E")?;
-            late.extend_from_slice(var_uint_write(zeros.len() as u64).as_slice())?;
-            late.extend_from_slice(zeros)?;
-            late.extend_from_slice(stream.as_slice())?;
-            for size in [1, 100_000] {
-                let mut told = Outcome::new(rt.alloc(), 7 + zeros.len() as u64, 2);
-                let input = in_pieces(late.as_slice(), size, size);
-                read_to(&rt, rt.alloc(), LIMITS, None, input, &mut told);
-                let words = told.words(rt.alloc())?;
-                assert_eq!(rt; words.as_str(), wanted.as_str(), "{before} octets before");
-            }
+            expect_late(&rt, rt.alloc(), &ZEROS[before..], stream, words.as_str());
         }
     }
     Ok(())
 }
 
-#[test]
-fn a_thousand_declarations_add_up(rt: HostRuntime) -> Result<(), Fail> {
-    let mut stream = octets(&rt, rt.alloc(), MARKER, "")?;
+// Adds the declarations of the texts t000 to t999, each of which keeps those before it.
+fn add_declarations(rt: &impl Abort, stream: &mut Vec<u8>) {
     for hundreds in b"0123456789" {
         for tens in b"0123456789" {
             for ones in b"0123456789" {
-                stream.extend_from_slice(b"\xED\x81\x83\xDA\x87\xB5\x84t")?;
-                stream.extend_from_slice(&[*hundreds, *tens, *ones, 0x86, 0x71, 0x03])?;
+                add(rt, stream, b"\xED\x81\x83\xDA\x87\xB5\x84t");
+                add(rt, stream, &[*hundreds, *tens, *ones, 0x86, 0x71, 0x03]);
             }
         }
     }
-    let stream = octets(&rt, rt.alloc(), stream.as_slice(), "71 0A 72 03 F1")?;
+}
+
+#[test]
+fn a_thousand_declarations_add_up(rt: HostRuntime) {
+    let mut stream = octets(&rt, rt.alloc(), MARKER, "");
+    add_declarations(&rt, &mut stream);
+    let stream = octets(&rt, rt.alloc(), stream.as_slice(), "71 0A 72 03 F1");
     // Each text costs 16 and its length.
     let cost = 1_000 * (16 + 4);
     let limits = Limits {
@@ -225,10 +240,7 @@ fn a_thousand_declarations_add_up(rt: HostRuntime) -> Result<(), Fail> {
     let catalog = catalog_of(&rt, rt.alloc(), 0);
     let input = in_pieces(stream.as_slice(), 1_000, 1_000);
     let told = read(&rt, rt.alloc(), limits, Some(&catalog), input);
-    assert_eq!(rt; told.held, told.raw_held.saturating_add(cost));
-    assert_eq!(rt;
-        told.words(rt.alloc())?.as_str(),
-        "14004/14004 symbol 't000'@14004; 14006/14006 symbol 't999'@14006; end"
-    );
-    Ok(())
+    assert!(rt; told.held == told.raw_held.saturating_add(cost));
+    let words = "14004/14004 symbol 't000'@14004; 14006/14006 symbol 't999'@14006; end";
+    told.expect(&rt, rt.alloc(), "", words);
 }

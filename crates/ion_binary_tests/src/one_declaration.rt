@@ -56,7 +56,7 @@ fn read_declaration<R: RawReader<Global>>(rt: &impl Abort, meter: &mut Meter<Glo
 
 #[test]
 fn a_declaration_is_read_by_itself(rt: HostRuntime) -> Result<(), Fail> {
-    let octets = octets(&rt, rt.alloc(), b"", "E7 81 83 D4 87 B2 81 61")?;
+    let octets = octets(&rt, rt.alloc(), b"", "E7 81 83 D4 87 B2 81 61");
     assert!(rt; LIMITS.check());
     let mut meter = Meter::new(rt.alloc());
     let input = FromRead::new(whole(octets.as_slice()));

@@ -109,6 +109,24 @@ impl Outcome {
         }
     }
 
+    /// Asserts the words, behind those before.
+    pub fn expect(&self, rt: &impl Abort, alloc: Global, before: &str, words: &str) {
+        let Ok(told) = self.words(alloc) else {
+            panic!(rt; "no memory")
+        };
+        let told = told.as_str();
+        assert!(rt; told.strip_prefix(before) == Some(words), "{told}");
+    }
+
+    /// Asserts the words at the end.
+    pub fn expect_end(&self, rt: &impl Abort, alloc: Global, ending: &str) {
+        let Ok(told) = self.words(alloc) else {
+            panic!(rt; "no memory")
+        };
+        let told = told.as_str();
+        assert!(rt; told.ends_with(ending), "{told}");
+    }
+
     /// Whether this is a beginning of the other one, and ends by this fault.
     pub fn is_cut_by(&self, fault: Fault, other: &Outcome) -> bool {
         self.ending == Err(fault) && other.items.as_str().starts_with(self.items.as_str())

@@ -5,11 +5,11 @@ use crate::hex::{MARKER, octets};
 use crate::imports::{FOUND, NOT_FOUND};
 use crate::limits::LIMITS;
 use crate::pieces::{Pieces, in_pieces, whole};
-use crate::reading::{read, read_each_way};
+use crate::reading::{Outcome, read, read_each_way};
 use crate::tables::{Row, catalog_of};
 use ion_meter::fault::Fault;
 use ion_meter::limits::Limits;
-use std::test::Fail;
+use std::process::Abort;
 
 // Tables of rows, each with the number of shared tables that are there.
 const TABLES: [(&[Row], usize); 5] = [
@@ -23,11 +23,11 @@ const TABLES: [(&[Row], usize); 5] = [
 // A prefix of a stream gives a prefix of its items, and ends as the raw reader does unless it has the
 // fault of the whole.
 #[test]
-fn a_prefix_of_a_stream_gives_a_prefix_of_its_items(rt: HostRuntime) -> Result<(), Fail> {
+fn a_prefix_of_a_stream_gives_a_prefix_of_its_items(rt: HostRuntime) {
     for (rows, versions) in TABLES {
         let catalog = catalog_of(&rt, rt.alloc(), versions);
         for (digits, _) in rows {
-            let octets = octets(&rt, rt.alloc(), MARKER, digits)?;
+            let octets = octets(&rt, rt.alloc(), MARKER, digits);
             let octets = octets.as_slice();
             let all = read(&rt, rt.alloc(), LIMITS, Some(&catalog), whole(octets));
             for length in 0..octets.len() {
@@ -45,14 +45,13 @@ fn a_prefix_of_a_stream_gives_a_prefix_of_its_items(rt: HostRuntime) -> Result<(
             }
         }
     }
-    Ok(())
 }
 
 // The raw reader's answer at each place of the stream is the only one that there is.
 #[test]
-fn a_cut_stream_ends_as_the_raw_one_does(rt: HostRuntime) -> Result<(), Fail> {
+fn a_cut_stream_ends_as_the_raw_one_does(rt: HostRuntime) {
     let catalog = catalog_of(&rt, rt.alloc(), 0);
-    let octets = octets(&rt, rt.alloc(), MARKER, APPENDED)?;
+    let octets = octets(&rt, rt.alloc(), MARKER, APPENDED);
     let octets = octets.as_slice();
     for length in 0..octets.len() {
         let octets = &octets[..length];
@@ -62,13 +61,12 @@ fn a_cut_stream_ends_as_the_raw_one_does(rt: HostRuntime) -> Result<(), Fail> {
         let between = [0, 4, 15, 26, 28].as_slice().contains(&length);
         assert_eq!(rt; prefix.ending.is_ok(), between, "{length}");
     }
-    Ok(())
 }
 
 #[test]
-fn a_read_that_fails_ends_a_declaration(rt: HostRuntime) -> Result<(), Fail> {
+fn a_read_that_fails_ends_a_declaration(rt: HostRuntime) {
     let catalog = catalog_of(&rt, rt.alloc(), 0);
-    let octets = octets(&rt, rt.alloc(), MARKER, APPENDED)?;
+    let octets = octets(&rt, rt.alloc(), MARKER, APPENDED);
     let input = in_pieces(octets.as_slice(), 1, 1);
     let all = read(&rt, rt.alloc(), LIMITS, Some(&catalog), input);
     for sound in 0..30u32 {
@@ -82,7 +80,12 @@ fn a_read_that_fails_ends_a_declaration(rt: HostRuntime) -> Result<(), Fail> {
         let cut = read(&rt, rt.alloc(), limits, Some(&catalog), input);
         assert!(rt; cut.is_cut_by(Fault::InputLimit, &all), "{sound} octets");
     }
-    Ok(())
+}
+
+// Asserts what a symbol table cost, and that the raw reader held what it holds alone.
+fn expect_costs(rt: &impl Abort, told: &Outcome, raw: &Outcome, cost: u64) {
+    assert!(rt; told.held == told.raw_held.saturating_add(cost));
+    assert!(rt; raw.raw_held == told.raw_held || told.ending.is_err());
 }
 
 // Octets, what their symbol table costs, and their words.
@@ -111,19 +114,14 @@ const COSTS: [(&str, u64, &str); 7] = [
 
 // The symbol table is given back, and then what the raw reader holds.
 #[test]
-fn a_reader_gives_its_table_back(rt: HostRuntime) -> Result<(), Fail> {
+fn a_reader_gives_its_table_back(rt: HostRuntime) {
     let catalog = catalog_of(&rt, rt.alloc(), 1);
     for (digits, cost, words) in COSTS {
-        let octets = octets(&rt, rt.alloc(), MARKER, digits)?;
+        let octets = octets(&rt, rt.alloc(), MARKER, digits);
         let input = whole(octets.as_slice());
         let told = read(&rt, rt.alloc(), LIMITS, Some(&catalog), input);
-        assert_eq!(rt; told.held, told.raw_held.saturating_add(cost), "{digits}");
-        assert_eq!(rt; told.words(rt.alloc())?.as_str(), words);
+        told.expect(&rt, rt.alloc(), "", words);
         let raw = read(&rt, rt.alloc(), LIMITS, None, input);
-        assert!(rt;
-            raw.raw_held == told.raw_held || told.ending.is_err(),
-            "{digits}"
-        );
+        expect_costs(&rt, &told, &raw, cost);
     }
-    Ok(())
 }

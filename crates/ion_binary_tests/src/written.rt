@@ -139,12 +139,14 @@ fn put_one<W: ValueWriter<O, Global>, O: Output, N: Names>(
     item: &Item<'_, N>,
 ) -> Result<(), Fault>
     requires sound { W.sound writer.old }
-    requires stands { (path : List PlacedItem) × W.stands writer.old path × (open_behind [] path ≡ kinds.old.items) }
+    requires stands { (path : List PlacedItem) × W.stands writer.old path
+        × (open_behind [] path ≡ kinds.old.items) }
     requires depth { (W.limits writer.old).depth ≡ depth }
     requires held { meter.old.held ≡ 4096 + W.own writer.old }
     requires range { HeadInRange (item_of N.text item.now).head }
     ensures sound { W.sound writer.new }
-    ensures stands { OnOk result ((path : List PlacedItem) × W.stands writer.new path × (open_behind [] path ≡ kinds.new.items)) }
+    ensures stands { OnOk result ((path : List PlacedItem) × W.stands writer.new path
+        × (open_behind [] path ≡ kinds.new.items)) }
     ensures depth { (W.limits writer.new).depth ≡ depth }
     ensures held { meter.new.held ≡ 4096 + W.own writer.new }
 {

@@ -9,6 +9,8 @@ use ion_meter::fault::{Fault, Reason};
 use ion_meter::limits::Limits;
 use ion_value::ion_type::{IonType, Kind};
 use ion_value::item::Annotation;
+use std::alloc::Global;
+use std::process::Abort;
 use std::test::Fail;
 
 /// The greatest length of a value where nothing else is said.
@@ -584,22 +586,26 @@ const ANEW: &[Row] = &[
     ),
 ];
 
+// Asserts what is written of a row.
+fn expect_row(rt: &impl Abort, alloc: Global, row: &Row) {
+    let (value, symbols, steps, want, text) = *row;
+    let limits = Limits {
+        value,
+        symbols,
+        ..LIMITS
+    };
+    let written = put(rt, alloc, limits, steps, want, Vec::new(alloc));
+    let text = octets(rt, alloc, b"", text);
+    assert_eq!(rt; written.as_slice(), text.as_slice());
+}
+
 #[test]
-fn items_are_written(rt: HostRuntime) -> Result<(), Fail> {
+fn items_are_written(rt: HostRuntime) {
     for rows in [SCALARS, SYMBOLIC, CONTAINERS, ANEW] {
-        for (value, symbols, steps, want, text) in rows {
-            let limits = Limits {
-                value: *value,
-                symbols: *symbols,
-                ..LIMITS
-            };
-            let device = Vec::new(rt.alloc());
-            let written = put(&rt, rt.alloc(), limits, steps, *want, device);
-            let text = octets(&rt, rt.alloc(), b"", text)?;
-            assert_eq!(rt; written.as_slice(), text.as_slice());
+        for row in rows {
+            expect_row(&rt, rt.alloc(), row);
         }
     }
-    Ok(())
 }
 
 // A text that is longer than a window, and a device that fails.
@@ -615,7 +621,7 @@ fn a_long_text_is_declared(rt: HostRuntime) -> Result<(), Fail> {
         Vec::new(rt.alloc()),
     );
     let front = "EE 27 97 81 83 DE 27 92 86 71 03 87 BE 27 8B 8E 27 88";
-    let mut want = octets(&rt, rt.alloc(), MARKER, front)?;
+    let mut want = octets(&rt, rt.alloc(), MARKER, front);
     want.extend_from_slice(&LONG)?;
     want.extend_from_slice(b"\x71\x0A")?;
     assert_eq!(rt; written.as_slice(), want.as_slice());

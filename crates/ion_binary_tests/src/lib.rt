@@ -32,6 +32,8 @@ mod pieces;
 #[cfg(test)]
 mod reading;
 #[cfg(test)]
+mod refusing;
+#[cfg(test)]
 mod scalars;
 #[cfg(test)]
 mod streams;

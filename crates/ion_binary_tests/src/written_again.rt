@@ -8,6 +8,7 @@ use crate::hex::{MARKER, add, octets};
 use crate::limits::LIMITS;
 use crate::pieces::{Pieces, in_pieces, whole};
 use crate::reading::{MANY, Outcome, expect_little};
+use crate::refusing::Refusing;
 use crate::tables::{Row, catalog_of};
 use crate::written_rows::{DRAWN, SPELLINGS, SYMBOLS, TIMESTAMPS, UNKNOWN};
 use ion_binary::reader::BinReader;
@@ -22,7 +23,6 @@ use ion_symbols::catalog::Catalog;
 use ion_symbols::user::UserReader;
 use ion_value::reader::RawReader;
 use ion_value::writer::ValueWriter;
-use linked_list_allocator::LocalHeap;
 use std::alloc::{Allocator, Global};
 use std::io;
 use std::io::{Read, Write};
@@ -281,45 +281,36 @@ fn a_device_that_fails_has_the_bytes_before(rt: HostRuntime) {
     }
 }
 
-/// Writes a stream again in a heap of this size. Where a growth is refused, the answer is what was
-/// held then.
-fn refused_in(rt: &impl Abort, alloc: Global, octets: &[u8], size: usize) -> Option<u64> {
-    let Ok(heap) = LocalHeap::new(alloc, size) else {
-        panic!(rt; "no memory")
-    };
-    let mut meter = Meter::new(&heap);
+/// Writes a stream again while its nth allocation is refused. The answer is whether that was met.
+fn is_refused(rt: &impl Abort, alloc: Global, octets: &[u8], nth: u64) -> bool {
+    let refusing = Refusing::new(alloc, nth);
+    let mut meter = Meter::new(&refusing);
     let catalog = Catalog::new(&meter);
     let output = Vec::new(alloc);
     let (told, output) = write_again(rt, alloc, &mut meter, &catalog, whole(octets), output);
     assert!(rt; octets.starts_with(output.as_slice()));
-    assert!(rt; meter.refused() == u64::from(told.ending.is_err()));
-    if told.ending.is_ok() {
+    let is_met = refusing.has_refused();
+    assert!(rt; meter.refused() == u64::from(is_met));
+    if is_met {
+        assert_eq!(rt; told.ending, Err(Fault::Memory), "growth {nth}");
+    } else {
+        assert_eq!(rt; told.ending, Ok(()));
         assert!(rt; output.len() == octets.len());
-        return None;
     }
-    assert_eq!(rt; told.ending, Err(Fault::Memory));
-    Some(meter.peak())
+    is_met
 }
 
-// In heaps that are greater each time, until all fits: each growth past what was held before is
-// refused.
+// The first growth is refused, then the second alone, and so on until none is.
 #[test]
-fn growths_are_refused(rt: HostRuntime) {
+fn each_growth_refused(rt: HostRuntime) {
     let octets = octets(&rt, rt.alloc(), MARKER, PLAIN);
-    let mut last = None;
-    let mut refused = 0u32;
-    for size in 0..1_000usize {
-        let held = refused_in(&rt, rt.alloc(), octets.as_slice(), 64 + 16 * size);
-        if held.is_none() {
-            assert!(rt; refused == 9);
+    for nth in 1..1_000 {
+        if !is_refused(&rt, rt.alloc(), octets.as_slice(), nth) {
+            assert!(rt; nth == 19);
             return;
         }
-        if last < held {
-            last = held;
-            refused = refused.saturating_add(1);
-        }
     }
-    panic!(rt; "each heap was too small")
+    panic!(rt; "each run met a refusal")
 }
 
 /// The parts of a stream, and what is written when each was read.

@@ -65,7 +65,3 @@ mod RunCuts
 mod Rows
 mod QuickNumbers
 mod QuotedRows
-mod Lanes
-mod Blocks
-mod WordRuns
-mod Stops

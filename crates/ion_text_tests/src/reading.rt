@@ -98,7 +98,8 @@ fn start<'a, A: Allocator + Copy>(
     input: Pieces<'a>,
 ) -> Running<PieceReader<'a, A>, A>
     ensures sound { ⟦<PieceReader<'a, A> as RawReader<A>>⟧.sound result.reader }
-    ensures held { ⟦<PieceReader<'a, A> as RawReader<A>>⟧.own result.reader ≤ result.meter.held }
+    ensures held { ⟦<PieceReader<'a, A> as RawReader<A>>⟧.own result.reader
+        ≤ result.meter.held }
 {
     assert!(rt; limits.check());
     let mut meter = Meter::new(alloc);

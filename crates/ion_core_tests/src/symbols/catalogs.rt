@@ -37,7 +37,8 @@ impl Shelf {
         texts: &[&str],
     ) -> Result<SharedTable<Global>, Fail>
         requires held { catalog_cost self.old.catalog ≤ self.old.meter.held }
-        ensures held { IfOk result (λ table. catalog_cost self.new.catalog + shared_cost table ≤ self.new.meter.held) }
+        ensures held { IfOk result (λ table.
+            catalog_cost self.new.catalog + shared_cost table ≤ self.new.meter.held) }
         ensures others { catalog_cost self.new.catalog ≤ self.new.meter.held }
     {
         self.expect_little(rt);

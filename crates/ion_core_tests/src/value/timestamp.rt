@@ -7,7 +7,8 @@ use ion_meter::fault::Reason;
 use ion_value::timestamp::{Precision, Timestamp, timestamp_from_bytes, timestamp_to_bytes};
 
 fn at(date: (u16, u8, u8), hour: u8, minute: u8, offset: Option<i16>) -> Timestamp
-    ensures date { (result.year ≡ date.0) × (result.month ≡ date.1) × (result.day ≡ date.2) }
+    ensures date { (result.year ≡ date.0) × (result.month ≡ date.1)
+        × (result.day ≡ date.2) }
     ensures time { (result.hour ≡ hour) × (result.minute ≡ minute) × (result.second ≡ 0) }
     ensures offset { result.offset ≡ offset }
 {

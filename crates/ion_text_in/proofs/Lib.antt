@@ -65,3 +65,7 @@ mod RunCuts
 mod Rows
 mod QuickNumbers
 mod QuotedRows
+mod Lanes
+mod Blocks
+mod WordRuns
+mod Stops

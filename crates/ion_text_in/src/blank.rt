@@ -1,6 +1,7 @@
 //! What stands between tokens and is passed over: white space and comments (Ion specification,
 //! "Text Encoding").
-ghost use Rattle.std.specs.Prelude.{◌≡◌, ◌≢◌, ◌+◌, ◌<◌, ◌≤◌, ℕ, [], true, false, Ok, Err, length, take, drop, slice_get, Some, OnOk, IfOk, IfSome};
+ghost use Rattle.std.specs.Prelude.{◌≡◌, ◌≢◌, ◌+◌, ◌<◌, ◌≤◌, ℕ, [], true, false, Ok, Err, not, map, length, take, drop, slice_get, Some, OnOk, IfOk, IfSome};
+ghost use Rattle.std.specs.Simd.Lanes.{mask_l};
 ghost use Rattle.ion_meter.specs.Windows.{left, IsGiven};
 ghost use Rattle.ion_meter.specs.Sources.{cursor, Stands};
 ghost use Rattle.ion_value.specs.Calls.{Reads};
@@ -13,6 +14,7 @@ use ion_meter::device::Input;
 use ion_meter::fault::{Fault, Reason};
 use ion_meter::source::Source;
 use std::alloc::Allocator;
+use std::simd::prelude::*;
 
 // Which comment begins at a place, if any.
 #[derive(Clone, Copy)]
@@ -237,8 +239,7 @@ fn pass_star<I: Input, A: Allocator + Copy>(source: &mut Source<I, A>) -> Result
     Ok(false)
 }
 
-// How many bytes are looked at together. A loop over so many is compiled to a few steps, each on
-// sixteen bytes.
+// How many bytes are looked at together.
 const BLOCK: usize = 32;
 
 // How many bytes at the front of these are neither of two.
@@ -250,25 +251,21 @@ fn run_without(first: u8, second: u8, bytes: &[u8]) -> usize
 {
     let mut at = 0;
     'skip: while bytes.len() - at >= BLOCK {
-        if !are_neither(first, second, &bytes[at..at + BLOCK]) {
-            break;
+        let found = found(first, second, u8x32::from_slice(&bytes[at..]));
+        if found != 0 {
+            return at + found.trailing_zeros() as usize;
         }
         at += BLOCK;
     }
     at + few_without(first, second, &bytes[at..])
 }
 
-// Whether all these bytes are neither of two. No byte ends the loop, so that it can look at many
-// of them at once.
+// Which of these bytes are one of two: a bit for each, the lowest for the first.
 #[inline(always)]
-fn are_neither(first: u8, second: u8, bytes: &[u8]) -> bool
-    ensures { result ≡ all_are (is_neither first second) bytes.now }
+fn found(first: u8, second: u8, bytes: u8x32) -> u64
+    ensures { result ≡ mask_l (map (λ b. not (is_neither first second b)) bytes) }
 {
-    let mut neither = true;
-    for byte in bytes {
-        neither &= *byte != first && *byte != second;
-    }
-    neither
+    (bytes.simd_eq(u8x32::splat(first)) | bytes.simd_eq(u8x32::splat(second))).to_bitmask()
 }
 
 // How many bytes at the front of these are neither of two, one after the other.

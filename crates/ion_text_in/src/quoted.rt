@@ -1,5 +1,6 @@
 //! Quotes, and the plain bytes between them (Ion specification, "Strings", "Symbols" and "Clobs").
-ghost use Rattle.std.specs.Prelude.{◌≡◌, ◌<◌, ◌≤◌, ◌↔◌, ◌&&◌, ◌||◌, ◌==◌, nat_le, not, [], ◌∷◌, true, false, Some, length, take, drop, IsTrue, IsUtf8};
+ghost use Rattle.std.specs.Prelude.{◌≡◌, ◌<◌, ◌≤◌, ◌↔◌, ◌&&◌, ◌||◌, ◌==◌, nat_le, not, [], ◌∷◌, true, false, Some, map, length, take, drop, IsTrue, IsUtf8};
+ghost use Rattle.std.specs.Simd.Lanes.{mask_l};
 ghost use Rattle.ion_value.specs.Name.{is_one_of};
 ghost use Rattle.ion_value.specs.Digits.{first_is, all_are};
 ghost use Rattle.ion_text_in.specs.Quotes.{quote_of, mark_of, one_mark, IsWithin, StopsBefore};
@@ -9,6 +10,7 @@ ghost use Rattle.ion_text_in.specs.Scanning.{is_plain_byte};
 
 use crate::scanned::Scanned;
 use ion_meter::fault::Reason;
+use std::simd::prelude::*;
 
 /// The quotes that a text stands between.
 #[derive(Clone, Copy)]
@@ -96,8 +98,7 @@ pub(crate) fn is_text(bytes: &[u8]) -> bool
     simdutf8::basic::from_utf8(bytes).is_ok()
 }
 
-// How many bytes are looked at together. A loop over so many is compiled to a few steps, each on
-// sixteen bytes; a shorter one is unrolled, and then goes byte by byte.
+// How many bytes are looked at together.
 const BLOCK: usize = 32;
 
 /// How many bytes at the front of these stand for themselves between the quotes, whatever follows
@@ -112,25 +113,28 @@ pub(crate) fn plain_length(quote: Quote, bytes: &[u8]) -> usize
     let in_clob = quote.in_clob();
     let mut at = 0;
     'skip: while bytes.len() - at >= BLOCK {
-        if !are_plain(mark, in_clob, &bytes[at..at + BLOCK]) {
-            break;
+        let stops = stops(mark, in_clob, u8x32::from_slice(&bytes[at..]));
+        if stops != 0 {
+            return at + stops.trailing_zeros() as usize;
         }
         at += BLOCK;
     }
     at + few_plain(mark, in_clob, &bytes[at..])
 }
 
-// Whether all these bytes are plain. No byte ends the loop, so that it can look at many of them at
-// once.
+// Which of these bytes do not stand for themselves: a bit for each, the lowest for the first.
 #[inline(always)]
-fn are_plain(mark: u8, in_clob: bool, bytes: &[u8]) -> bool
-    ensures { result ≡ all_are (is_plain_byte (one_mark mark in_clob)) bytes.now }
+fn stops(mark: u8, in_clob: bool, bytes: u8x32) -> u64
+    ensures { result ≡ mask_l (map (λ b. not (is_plain_byte (one_mark mark in_clob) b)) bytes) }
 {
-    let mut plain = true;
-    for byte in bytes {
-        plain &= is_plain(mark, in_clob, *byte);
-    }
-    plain
+    let greatest = if in_clob { 127 } else { 255 };
+    let is_control = bytes.simd_lt(u8x32::splat(b' '))
+        & bytes.simd_ne(u8x32::splat(9))
+        & (bytes.simd_lt(u8x32::splat(11)) | bytes.simd_gt(u8x32::splat(12)));
+    let is_other = bytes.simd_eq(u8x32::splat(b'\\'))
+        | bytes.simd_gt(u8x32::splat(greatest))
+        | is_control;
+    (u8x32::splat(mark).simd_eq(bytes) | is_other).to_bitmask()
 }
 
 // How many bytes at the front of these are plain, one after the other.
@@ -150,17 +154,6 @@ fn few_plain(mark: u8, in_clob: bool, bytes: &[u8]) -> usize
 }
 
 // Whether a byte stands for itself between such quotes, whatever follows it.
-#[inline(always)]
-fn is_plain(mark: u8, in_clob: bool, byte: u8) -> bool
-    ensures { result ≡ is_plain_byte (one_mark mark in_clob) byte }
-{
-    byte != mark
-        && byte != b'\\'
-        && (byte >= b' ' || byte == 9 || byte == 11 || byte == 12)
-        && (!in_clob || byte < 128)
-}
-
-// The same of a byte that is looked at alone, by a table.
 #[inline(always)]
 fn is_plain_alone(mark: u8, in_clob: bool, byte: u8) -> bool
     ensures { result ≡ is_plain_byte (one_mark mark in_clob) byte }

@@ -1,11 +1,14 @@
 //! How far numbers, timestamps, words and operators go (Ion specification, "Text Encoding").
-ghost use Rattle.std.specs.Prelude.{◌≡◌, ◌<◌, ◌≤◌, ℕ, List, ◌++◌, ◌||◌, true, false, not, codes, length, drop, IfSome, MatchOption};
+ghost use Rattle.std.specs.Prelude.{◌≡◌, ◌<◌, ◌≤◌, ℕ, List, ◌++◌, ◌||◌, true, false, not, codes, map, length, drop, IfSome, MatchOption};
+ghost use Rattle.std.specs.Simd.Lanes.{mask_l};
 ghost use Rattle.ion_value.specs.Digits.{first_is};
 ghost use Rattle.ion_value.specs.Name.{is_identifier_byte, is_one_of, is_operator_byte};
 ghost use Rattle.ion_text_in.specs.Blanks.{is_white};
 ghost use Rattle.ion_text_in.specs.Token.{bytes_of};
 ghost use Rattle.ion_text_in.specs.Views.{AreShown};
 ghost use Rattle.ion_text_in.specs.Runs.{goes_on, stays, has_slashes, GoOn, EndBehind, IsOpen};
+
+use std::simd::prelude::*;
 
 /// A token that goes on byte by byte.
 #[derive(Clone, Copy)]
@@ -48,6 +51,37 @@ pub(crate) fn run_extent(run: Run, bytes: &[u8]) -> Extent
         }
     }
     so_far(bytes.len(), false)
+}
+
+/// How far a word goes on in a slice that begins behind its first byte. Most words are so short that
+/// sixteen bytes, looked at together, show where they end.
+#[inline(always)]
+pub(crate) fn word_run(bytes: &[u8]) -> Extent
+    ensures within { result.len ≤ length bytes.now }
+    ensures behind { result.ended ≡ true → result.len < length bytes.now }
+    ensures goes { GoOn (goes_on Run.Word) bytes.now result.len }
+    ensures ends { result.ended ≡ true → EndBehind (goes_on Run.Word) bytes.now result.len }
+    ensures open { result.ended ≡ false → IsOpen Run.Word (drop result.len bytes.now) }
+{
+    if bytes.len() >= 16 {
+        let others = others(u8x16::from_slice(bytes));
+        if others != 0 {
+            return so_far(others.trailing_zeros() as usize, true);
+        }
+    }
+    run_extent(Run::Word, bytes)
+}
+
+// Which of these bytes cannot stand in an identifier: a bit for each, the lowest for the first.
+#[inline(always)]
+fn others(bytes: u8x16) -> u64
+    ensures { result ≡ mask_l (map (λ b. not (is_identifier_byte b)) bytes) }
+{
+    let lower = bytes | u8x16::splat(0x20);
+    let no_letter = lower.simd_lt(u8x16::splat(b'a')) | lower.simd_gt(u8x16::splat(b'z'));
+    let no_digit = bytes.simd_lt(u8x16::splat(b'0')) | bytes.simd_gt(u8x16::splat(b'9'));
+    let no_mark = bytes.simd_ne(u8x16::splat(b'_')) & bytes.simd_ne(u8x16::splat(b'$'));
+    (no_letter & no_digit & no_mark).to_bitmask()
 }
 
 // So many bytes go on, and no more, where that is known.

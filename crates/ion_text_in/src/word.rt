@@ -11,7 +11,7 @@ ghost use Rattle.ion_text_in.specs.Token.{a_word, token_of, word_of, word_token}
 ghost use Rattle.ion_text_in.specs.Views.{AreShown, IsWithin, id_in, is_point, may_be_keyword, shown_text, spelled, with_name, text_or_container, word_token_of};
 
 use crate::gather::{append, copy, gather, gather_token};
-use crate::run::{Run, run_extent};
+use crate::run::{Run, word_run};
 use crate::scanned::Scanned;
 use ion_meter::buf::Buf;
 use ion_meter::device::Input;
@@ -188,7 +188,7 @@ fn word_extent(bytes: &[u8]) -> Option<usize>
     let [_, others @ ..] = bytes else {
         return None;
     };
-    let extent = run_extent(Run::Word, others);
+    let extent = word_run(others);
     if !extent.ended {
         return None;
     }
@@ -196,7 +196,7 @@ fn word_extent(bytes: &[u8]) -> Option<usize>
     if !has_type(&bytes[..count], &bytes[count..]) {
         return Some(count);
     }
-    let name = run_extent(Run::Word, &bytes[count + 1..]);
+    let name = word_run(&bytes[count + 1..]);
     if !name.ended {
         return None;
     }

@@ -1,16 +1,15 @@
 -- Blanks that are passed over in parts: white space, the bytes that begin a comment, and runs within one.
-use Rattle.std.proofs.Common.{◌≡◌, ℕ, zero, suc, ◌+◌, ◌<◌, ◌≤◌, Bool, true, false, not, ◌&&◌, ◌||◌, ◌==◌, List, [], ◌∷◌, ◌++◌, length, take, drop, Option, Some, None, slice_get, Result, Ok, Err, refl, sym, ap, subst, ◌∙◌, inl, inr, arith}
+use Rattle.std.proofs.Common.{◌≡◌, ℕ, zero, suc, ◌+◌, ◌<◌, Bool, true, false, not, ◌||◌, ◌==◌, List, [], ◌∷◌, ◌++◌, length, take, drop, Some, None, slice_get, Err, refl, sym, ap, subst, ◌∙◌, inl, inr, arith}
 use Rattle.std.proofs.lemmas.Bool.{cases_Bool, and_parts, eqb-true, false≢true, not-true}
 use Rattle.ion_meter.specs.declared.fault.Reason.TheVariants.{Truncated}
 use Rattle.ion_meter.specs.Sources.{Cursor, skip}
 use Rattle.ion_value.specs.Digits.{first_is, all_are}
-use Rattle.ion_value.specs.Parts.{Placed}
-use Rattle.ion_text_in.specs.Blanks.{is_white, is_line_end, ends_block, here, blanks, blanks_at, in_line, opening, in_block, closing}
+use Rattle.ion_text_in.specs.Blanks.{is_white, is_line_end, here, blanks, blanks_at, in_line, opening, in_block, closing}
 use Rattle.ion_text_in.specs.Places.{run_of, behind_run}
 use Rattle.ion_text_in.specs.Meaning.{at}
 use Rattle.ion_text_in.specs.Overrun.{is_neither}
 use Rattle.ion_text_in.proofs.Meaning.{run-more, run-none}
-use Rattle.ion_text_in.proofs.Runs.{first-byte, second-byte, no-byte}
+use Rattle.ion_text_in.proofs.Runs.{second-byte, no-byte}
 use Rattle.ion_text_in.proofs.ShownBlanks.{white-over, line-over, block-over}
 
 -- ---- white space

@@ -1,5 +1,5 @@
 -- What calls one after the other hold and charge.
-use Rattle.std.proofs.Common.{◌≡◌, ℕ, ◌+◌, ◌-◌, ◌≤◌, max, Some, None, Result, Ok, Err, refl, ◌∙◌, arith}
+use Rattle.std.proofs.Common.{◌≡◌, ℕ, ◌+◌, ◌≤◌, Ok, Err, refl, ◌∙◌, arith}
 use Rattle.ion_meter.specs.Counts.{Counts, Grows, Shrinks}
 use Rattle.ion_meter.specs.declared.device.Input.{Ghosts as InputOf}
 use Rattle.ion_meter.specs.declared.fault.Fault.{Fault}
@@ -7,7 +7,7 @@ use Rattle.ion_meter.specs.Windows.{Incoming}
 use Rattle.ion_value.specs.Calls.{Reads, ReadsInto}
 use Rattle.ion_value.specs.Shares.{Charges}
 use Rattle.ion_value.proofs.Cursors.{moves-then}
-use Rattle.ion_text_in.proofs.Turns.{Gone, gone-then, gone-failed, exceeds-before}
+use Rattle.ion_text_in.proofs.Turns.{Gone, gone-then, exceeds-before}
 
 pub charges-not : (m : Counts) (held most : ℕ) → held ≤ most → Charges m m held held most
 charges-not m held most le = record { held = refl; share = le; peak = omega arith; rises = omega arith }

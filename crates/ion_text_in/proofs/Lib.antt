@@ -67,5 +67,5 @@ mod QuickNumbers
 mod QuotedRows
 mod Lanes
 mod Blocks
-mod WordRuns
+mod SureRuns
 mod Stops

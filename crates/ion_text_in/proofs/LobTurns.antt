@@ -1,6 +1,6 @@
 -- Groups of a blob that are read in parts: characters one by one, a group, and groups that stand in the window.
 use Rattle.std.proofs.Common.{◌≡◌, ℕ, zero, suc, ◌+◌, ◌-◌, ◌*◌, ◌/◌, ◌%◌, ◌<◌, ◌≤◌, Bool, true, false, not, ◌&&◌, ◌==◌, nat_lt, if◌then◌else◌, List, [], ◌∷◌, ◌++◌, All, length, take, drop, replicate, slice_index, slice_get, slice_set, Option, Some, None, Result, Ok, Err, IfOk, IfErr, IfSome, IfNone, refl, sym, ap, subst, ◌∙◌, inl, inr, append_assoc, append-nil, arith}
-use Rattle.std.proofs.lemmas.Bool.{cases_Bool, and_parts, not-true, ltb-false, le-ltb, lt-ltb, eqb-true, false≢true}
+use Rattle.std.proofs.lemmas.Bool.{cases_Bool, and_parts, not-true, ltb-false, le-ltb, lt-ltb, eqb-true}
 use Rattle.std.proofs.lemmas.List.{length-append, take-append-drop, take_all}
 use Rattle.std.proofs.Math.Seq.{take-suc-set}
 use Rattle.std.specs.Result.{result_ok}
@@ -9,7 +9,6 @@ use Rattle.base64.specs.GeneralPurpose.{IsBytes, IsDecodedInto, decode_of, decod
 use Rattle.base64.specs.Rfc4648.{encode_symbols, encode_group, padding_len}
 use Rattle.base64.specs.declared.decode.DecodeError.{DecodeError}
 use Rattle.base64.proofs.EngineFacts.{decode_of_strict, encode_of-append}
-use Rattle.base64.proofs.Streams.{decoded_of-ok}
 use Rattle.ion_meter.specs.declared.fault.Fault.{Fault}
 use Rattle.ion_meter.specs.declared.fault.Fault.TheVariants.{Refused, Memory, ReadFault, WriteFault, InputLimit}
 use Rattle.ion_meter.specs.declared.fault.Reason.{Reason}
@@ -27,8 +26,8 @@ use Rattle.ion_text_in.specs.Meaning.{at}
 use Rattle.ion_text_in.specs.Token.{Token, plain, a_lob, token_of}
 use Rattle.ion_text_in.specs.declared.lob.Lob.{Lob}
 use Rattle.ion_text_in.specs.declared.lob.Opening.{Opening}
-use Rattle.ion_text_in.specs.Scanning.{Spelled, groups, with_groups, with_front}
-use Rattle.ion_text_in.proofs.Blobs.{Octets, octets-IsBytes, octets-prefix, octets-behind, by_decoded, by-decoded, encode-nil, group-white, group-brace, group-char, group-decoded, length-encode_of}
+use Rattle.ion_text_in.specs.Scanning.{Spelled, groups, with_front}
+use Rattle.ion_text_in.proofs.Blobs.{Octets, octets-prefix, octets-behind, by_decoded, by-decoded, encode-nil, group-white, group-brace, group-char, group-decoded, length-encode_of}
 use Rattle.ion_text_in.proofs.BlankTurns.{behind_white, white-first, white-none}
 use Rattle.ion_text_in.proofs.Fuel.{groups-first}
 use Rattle.ion_text_in.proofs.Meaning.{all-append}

@@ -1,5 +1,5 @@
 -- The steps of the reader: what they give, and what they keep.
-use Rattle.std.proofs.Common.{◌≡◌, Bool, true, false, ℕ, ◌+◌, ◌<◌, ◌≤◌, ◌-◌, not, nat_le, List, [], ◌∷◌, ◌++◌, length, is_some, reverse, IfSome, MatchOption, Option, Some, None, Result, Ok, Err, refl, sym, ap, subst, ◌∙◌, arith}
+use Rattle.std.proofs.Common.{◌≡◌, Bool, true, false, ℕ, ◌<◌, ◌≤◌, not, nat_le, List, [], ◌∷◌, ◌++◌, length, is_some, reverse, IfSome, MatchOption, Option, Some, None, Result, Ok, Err, refl, sym, ap, subst, ◌∙◌, arith}
 use Rattle.std.proofs.lemmas.List.{reverse-append}
 use Rattle.std.specs.Str.{bytes_eq}
 use Rattle.ion_meter.specs.Counts.{Counts}

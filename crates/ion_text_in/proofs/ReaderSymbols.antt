@@ -1,5 +1,5 @@
 -- Symbols that the reader takes as annotations.
-use Rattle.std.proofs.Common.{◌≡◌, ℕ, ◌+◌, ◌*◌, ◌≤◌, ◌-◌, max, Bool, List, [], ◌∷◌, ◌++◌, length, nat_lt, false, sum_by, Option, Ok, refl, sym, ap, subst, ◌∙◌, arith, length-append}
+use Rattle.std.proofs.Common.{◌≡◌, ℕ, ◌+◌, ◌*◌, ◌≤◌, max, Bool, List, [], ◌∷◌, ◌++◌, length, nat_lt, false, sum_by, Option, Ok, refl, sym, ap, subst, ◌∙◌, arith, length-append}
 use Rattle.std.proofs.lemmas.Bool.{le-ltb}
 use Rattle.ion_meter.specs.Counts.{Counts, Grows}
 use Rattle.ion_meter.specs.declared.device.Input.{Ghosts as InputOf}
@@ -10,7 +10,7 @@ use Rattle.ion_value.specs.declared.ion_type.Kind.{Kind}
 use Rattle.ion_value.specs.declared.item.Annotation.{Annotation}
 use Rattle.ion_value.specs.Parts.{part, refuse, ◌>>◌}
 use Rattle.ion_value.specs.Value.{SymbolAt}
-use Rattle.ion_value.proofs.Passing.{Passed, Passed-lent}
+use Rattle.ion_value.proofs.Passing.{Passed-lent}
 use Rattle.ion_text_in.specs.declared.token.Symbol.{Symbol}
 use Rattle.ion_text_in.specs.declared.token.Symbol.TheVariants as symbol
 use Rattle.ion_text_in.specs.declared.symbol.FieldName.{FieldName}

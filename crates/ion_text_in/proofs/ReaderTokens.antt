@@ -7,7 +7,6 @@ use Rattle.ion_meter.specs.Sources.{Cursor}
 use Rattle.ion_meter.specs.Windows.{Incoming, lent, IsGiven}
 use Rattle.ion_meter.proofs.Lent.{lent-CanPass}
 use Rattle.ion_value.specs.Answers.{Answers}
-use Rattle.ion_text_in.specs.declared.token.Token.{Token}
 use Rattle.ion_text_in.specs.Blanks.{blanks}
 use Rattle.ion_text_in.specs.Gathered.{Overruns}
 use Rattle.ion_text_in.specs.Overrun.{overrun}

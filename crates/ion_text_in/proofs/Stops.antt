@@ -1,5 +1,5 @@
 -- Which bytes between quotes do not stand for themselves, as vectors test it.
-use Rattle.std.proofs.Common.{◌≡◌, ℕ, ◌<◌, Bool, true, false, not, cond, eqb, ltb, ◌==◌, ◌&&◌, ◌||◌, refl, sym, ap, ◌∙◌}
+use Rattle.std.proofs.Common.{◌≡◌, ℕ, ◌<◌, Bool, true, false, not, eqb, ltb, ◌==◌, ◌&&◌, ◌||◌, refl}
 use Rattle.std.proofs.lemmas.Bool.{agree_below_at}
 use Rattle.ion_text_in.specs.Scanning.{is_plain_byte}
 use Rattle.ion_text_in.specs.Quoted.{is_raw}

@@ -1,16 +1,14 @@
 -- Turns of a loop that passes over bytes in the window of a source, more of the device having been read.
-use Rattle.std.proofs.Common.{◌≡◌, ℕ, ◌+◌, ◌-◌, ◌<◌, ◌≤◌, ◌↔◌, ◌⊎◌, List, [], ◌∷◌, ◌++◌, length, take, drop, slice_get, Option, None, Some, Result, Ok, Err, IfErr, OnOk, arith, refl, sym, ap, subst, ◌∙◌}
+use Rattle.std.proofs.Common.{◌≡◌, ℕ, ◌+◌, ◌-◌, ◌≤◌, List, [], ◌++◌, length, take, drop, slice_get, None, Some, Ok, Err, arith, refl, sym, ap, subst, ◌∙◌}
 use Rattle.std.proofs.lemmas.List.{append_assoc, take-append-drop, length-take-le, drop-append-le, length-append, append-nil}
 use Rattle.ion_meter.specs.declared.device.Input.{Ghosts as InputOf}
 use Rattle.ion_meter.specs.declared.fault.Fault.{Fault}
-use Rattle.ion_meter.specs.declared.fault.Fault.TheVariants.{Memory, ReadFault, WriteFault, InputLimit}
 use Rattle.ion_meter.specs.Windows.{Incoming, left, lent, Extends, IsGiven, IsPassed}
-use Rattle.ion_meter.specs.Sources.{Cursor, cursor, Stands, Moves, Exceeds, Causes}
+use Rattle.ion_meter.specs.Sources.{Cursor, cursor, Stands, Moves, Exceeds}
 use Rattle.ion_meter.proofs.Lent.{lent-CanPass, lent-take, lent-IsGiven, IsPassed-left}
 use Rattle.ion_value.specs.Calls.{Reads}
-use Rattle.ion_value.specs.Shares.{fault_of}
 use Rattle.ion_value.proofs.Cursors.{moves-then}
-use Rattle.ion_value.proofs.Passing.{Passed, Passed-lent}
+use Rattle.ion_value.proofs.Passing.{Passed-lent}
 use Rattle.ion_text_in.specs.Meaning.{at}
 use Rattle.ion_text_in.proofs.Shown.{behind_lent, lent_by-all, lent-left}
 use Rattle.ion_text_in.proofs.Runs.{first-shown}

@@ -1,5 +1,5 @@
 -- What calls that pass over blanks answer: the runs of bytes that they take together, and what is left to pass over.
-use Rattle.std.specs.Prelude.{◌≡◌, ℕ, Bool, not, ◌||◌, ◌==◌, Option, None, Some, Ok, Err}
+use Rattle.std.specs.Prelude.{ℕ, Bool, not, ◌||◌, ◌==◌, Option, None, Some, Ok, Err}
 use Rattle.ion_meter.specs.declared.fault.Reason.TheVariants.{Truncated}
 use Rattle.ion_meter.specs.Sources.{Cursor}
 use Rattle.ion_value.specs.Parts.{Placed}

@@ -40,6 +40,22 @@ pub(crate) fn run_extent(run: Run, bytes: &[u8]) -> Extent
     ensures ends { result.ended ≡ true → EndBehind (goes_on run) bytes.now result.len }
     ensures open { result.ended ≡ false → IsOpen run (drop result.len bytes.now) }
 {
+    match run {
+        Run::Number => number_run(bytes),
+        Run::Word => word_run(bytes),
+        Run::Operator => run_by_byte(run, bytes),
+    }
+}
+
+// The same byte by byte.
+#[inline(always)]
+fn run_by_byte(run: Run, bytes: &[u8]) -> Extent
+    ensures within { result.len ≤ length bytes.now }
+    ensures behind { result.ended ≡ true → result.len < length bytes.now }
+    ensures goes { GoOn (goes_on run) bytes.now result.len }
+    ensures ends { result.ended ≡ true → EndBehind (goes_on run) bytes.now result.len }
+    ensures open { result.ended ≡ false → IsOpen run (drop result.len bytes.now) }
+{
     'bytes: for (i, byte) in bytes.iter().enumerate() {
         if stays(run, *byte) {
             continue;
@@ -69,7 +85,7 @@ pub(crate) fn word_run(bytes: &[u8]) -> Extent
             return so_far(others.trailing_zeros() as usize, true);
         }
     }
-    run_extent(Run::Word, bytes)
+    run_by_byte(Run::Word, bytes)
 }
 
 // Which of these bytes cannot stand in an identifier: a bit for each, the lowest for the first.
@@ -82,6 +98,43 @@ fn others(bytes: u8x16) -> u64
     let no_digit = bytes.simd_lt(u8x16::splat(b'0')) | bytes.simd_gt(u8x16::splat(b'9'));
     let no_mark = bytes.simd_ne(u8x16::splat(b'_')) & bytes.simd_ne(u8x16::splat(b'$'));
     (no_letter & no_digit & no_mark).to_bitmask()
+}
+
+/// How far a number or a timestamp goes on in a slice that begins behind its first byte. Most are so
+/// short that 32 bytes, looked at together, show where they end.
+#[inline(always)]
+fn number_run(bytes: &[u8]) -> Extent
+    ensures within { result.len ≤ length bytes.now }
+    ensures behind { result.ended ≡ true → result.len < length bytes.now }
+    ensures goes { GoOn (goes_on Run.Number) bytes.now result.len }
+    ensures ends { result.ended ≡ true → EndBehind (goes_on Run.Number) bytes.now result.len }
+    ensures open { result.ended ≡ false → IsOpen Run.Number (drop result.len bytes.now) }
+{
+    if bytes.len() >= 32 {
+        let stops = number_stops(u8x32::from_slice(bytes));
+        if stops != 0 {
+            let at = stops.trailing_zeros() as usize;
+            if stops_number(bytes[at]) {
+                return so_far(at, true);
+            }
+        }
+    }
+    run_by_byte(Run::Number, bytes)
+}
+
+// Which of these bytes end a number or a timestamp, or may: a bit for each, the lowest for the first.
+#[inline(always)]
+fn number_stops(bytes: u8x32) -> u64
+    ensures { result ≡ mask_l (map (λ b. not (stays Run.Number b)) bytes) }
+{
+    let lower = bytes | u8x32::splat(0x20);
+    let brackets = lower.simd_eq(u8x32::splat(b'{')) | lower.simd_eq(u8x32::splat(b'}'));
+    let parens = bytes.simd_eq(u8x32::splat(b'(')) | bytes.simd_eq(u8x32::splat(b')'));
+    let quotes = bytes.simd_eq(u8x32::splat(b'"')) | bytes.simd_eq(u8x32::splat(b'\''));
+    let marks = bytes.simd_eq(u8x32::splat(b',')) | bytes.simd_eq(u8x32::splat(b'/'));
+    let lines = bytes.simd_gt(u8x32::splat(8)) & bytes.simd_lt(u8x32::splat(14));
+    let white = bytes.simd_eq(u8x32::splat(b' ')) | lines;
+    ((brackets | parens) | (quotes | marks) | white).to_bitmask()
 }
 
 // So many bytes go on, and no more, where that is known.
@@ -132,6 +185,18 @@ static IDENTIFIER_BYTES: [u8; 256] = [
     0, 0, 0, 0, 0, 0, 0, 0, 0, 0, 0, 0, 0, 0, 0, 0, 0, 0, 0, 0, 0, 0, 0, 0, 0, 0, 0, 0, 0, 0, 0, 0,
 ];
 
+// Which bytes can stand in an operator.
+static OPERATOR_BYTES: [u8; 256] = [
+    0, 0, 0, 0, 0, 0, 0, 0, 0, 0, 0, 0, 0, 0, 0, 0, 0, 0, 0, 0, 0, 0, 0, 0, 0, 0, 0, 0, 0, 0, 0, 0,
+    0, 1, 0, 1, 0, 1, 1, 0, 0, 0, 1, 1, 0, 1, 1, 1, 0, 0, 0, 0, 0, 0, 0, 0, 0, 0, 0, 1, 1, 1, 1, 1,
+    1, 0, 0, 0, 0, 0, 0, 0, 0, 0, 0, 0, 0, 0, 0, 0, 0, 0, 0, 0, 0, 0, 0, 0, 0, 0, 0, 0, 0, 0, 1, 0,
+    1, 0, 0, 0, 0, 0, 0, 0, 0, 0, 0, 0, 0, 0, 0, 0, 0, 0, 0, 0, 0, 0, 0, 0, 0, 0, 0, 0, 1, 0, 1, 0,
+    0, 0, 0, 0, 0, 0, 0, 0, 0, 0, 0, 0, 0, 0, 0, 0, 0, 0, 0, 0, 0, 0, 0, 0, 0, 0, 0, 0, 0, 0, 0, 0,
+    0, 0, 0, 0, 0, 0, 0, 0, 0, 0, 0, 0, 0, 0, 0, 0, 0, 0, 0, 0, 0, 0, 0, 0, 0, 0, 0, 0, 0, 0, 0, 0,
+    0, 0, 0, 0, 0, 0, 0, 0, 0, 0, 0, 0, 0, 0, 0, 0, 0, 0, 0, 0, 0, 0, 0, 0, 0, 0, 0, 0, 0, 0, 0, 0,
+    0, 0, 0, 0, 0, 0, 0, 0, 0, 0, 0, 0, 0, 0, 0, 0, 0, 0, 0, 0, 0, 0, 0, 0, 0, 0, 0, 0, 0, 0, 0, 0,
+];
+
 // Whether a byte goes on with a number or a timestamp, whatever follows it.
 #[inline(always)]
 fn is_number_byte(byte: u8) -> bool
@@ -176,27 +241,7 @@ pub(crate) fn is_identifier_byte(byte: u8) -> bool
 pub(crate) fn is_operator_byte(byte: u8) -> bool
     ensures { result ≡ is_operator_byte byte }
 {
-    matches!(
-        byte,
-        b'!' | b'#'
-            | b'%'
-            | b'&'
-            | b'*'
-            | b'+'
-            | b'-'
-            | b'.'
-            | b'/'
-            | b';'
-            | b'<'
-            | b'='
-            | b'>'
-            | b'?'
-            | b'@'
-            | b'^'
-            | b'`'
-            | b'|'
-            | b'~'
-    )
+    OPERATOR_BYTES[byte as usize] > 0
 }
 
 // Whether a slash goes on with a token unless it begins a comment.

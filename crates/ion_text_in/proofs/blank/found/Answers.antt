@@ -1,4 +1,4 @@
-use Rattle.std.proofs.Common.{ℕ, not, eqb, ◌||◌, arith}
+use Rattle.std.proofs.Common.{not, eqb, ◌||◌, arith}
 use Rattle.ion_text_in.specs.Overrun.{is_neither}
 use Rattle.ion_text_in.proofs.Lanes.{either, to_all, mask_of}
 use Rattle.ion_text_in.proofs.Blocks.{not_not}

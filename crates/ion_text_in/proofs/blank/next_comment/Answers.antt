@@ -1,6 +1,6 @@
-use Rattle.std.proofs.Common.{◌≡◌, ℕ, ◌+◌, List, drop, Option, Some, slice_get, Ok, sym, ap, ◌∙◌}
+use Rattle.std.proofs.Common.{◌≡◌, ℕ, List, Some, slice_get, Ok, sym, ap, ◌∙◌}
 use Rattle.ion_meter.specs.Windows.{left}
-use Rattle.ion_meter.specs.Sources.{Cursor, cursor}
+use Rattle.ion_meter.specs.Sources.{Cursor}
 use Rattle.ion_value.proofs.Cursors.{cursor-extends}
 use Rattle.ion_text_in.specs.Blanks.{in_line, in_block}
 use Rattle.ion_text_in.proofs.BlankTurns.{found-none, found-other, slash-last, slash-other, slash-line, slash-block}

@@ -1,6 +1,5 @@
-use Rattle.std.proofs.Common.{◌≡◌, ℕ, ◌++◌, List, Some, Ok, take, drop, get_or, slice_get, refl, sym, ap, ◌∙◌, arith}
+use Rattle.std.proofs.Common.{◌≡◌, ℕ, List, Some, take, drop, get_or, slice_get, ap, ◌∙◌, arith}
 use Rattle.ion_meter.specs.Windows.{left}
-use Rattle.ion_meter.specs.Sources.{Cursor, cursor}
 use Rattle.ion_value.specs.Digits.{first_is}
 use Rattle.ion_text_in.specs.Blanks.{is_white, blanks}
 use Rattle.ion_text_in.proofs.BlankTurns.{found-other}

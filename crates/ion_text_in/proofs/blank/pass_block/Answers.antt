@@ -1,8 +1,7 @@
-use Rattle.std.proofs.Common.{◌≡◌, ℕ, true, length, subst, List, [], take, Ok, sym, ap, ◌∙◌, arith}
+use Rattle.std.proofs.Common.{◌≡◌, ℕ, true, length, subst, List, take, Ok, sym, ap, ◌∙◌, arith}
 use Rattle.ion_meter.specs.Windows.{left}
-use Rattle.ion_meter.specs.Sources.{Cursor, cursor}
 use Rattle.ion_value.specs.Digits.{all_are}
-use Rattle.ion_text_in.specs.Blanks.{blanks, in_block}
+use Rattle.ion_text_in.specs.Blanks.{in_block}
 use Rattle.ion_text_in.specs.Overrun.{is_neither}
 use Rattle.ion_text_in.proofs.BlankTurns.{block-cut, block-over-run, star-stands}
 use Rattle.ion_text_in.proofs.Runs.{no-byte}

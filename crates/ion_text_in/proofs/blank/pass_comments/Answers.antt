@@ -1,11 +1,11 @@
-use Rattle.std.proofs.Common.{◌≡◌, ℕ, false, List, [], Ok, Err, sym, ap, ◌∙◌}
+use Rattle.std.proofs.Common.{ℕ, Ok, Err, sym, ap, ◌∙◌}
 use Rattle.ion_meter.specs.declared.fault.Reason.TheVariants.{Truncated}
 use Rattle.ion_meter.specs.Windows.{left}
 use Rattle.ion_meter.specs.Sources.{Cursor, cursor}
 use Rattle.ion_value.specs.Digits.{first_is}
 use Rattle.ion_text_in.specs.Blanks.{is_white, blanks}
 use Rattle.ion_text_in.specs.Overrun.{within}
-use Rattle.ion_text_in.proofs.BlankTurns.{behind_white, white-blanks, white-ends}
+use Rattle.ion_text_in.proofs.BlankTurns.{white-blanks, white-ends}
 use Rattle.ion_text_in.proofs.Turns.{gone-then, reads-gone}
 use Rattle.ion_text_in.proofs.blank.pass_comments.Goals as goal
 

@@ -1,6 +1,6 @@
-use Rattle.std.proofs.Common.{◌≡◌, ℕ, ◌+◌, ◌≤◌, ◌<◌, List, drop, take, length, Option, Some, slice_get, Ok, sym, ap, ◌∙◌, arith}
+use Rattle.std.proofs.Common.{ℕ, ◌+◌, ◌≤◌, List, take, length, sym, ap, ◌∙◌, arith}
 use Rattle.ion_meter.specs.Windows.{left}
-use Rattle.ion_meter.specs.Sources.{Cursor, cursor}
+use Rattle.ion_meter.specs.Sources.{Cursor}
 use Rattle.ion_value.proofs.Cursors.{cursor-extends}
 use Rattle.ion_text_in.specs.Blanks.{blanks, blanks_at, in_line}
 use Rattle.ion_text_in.proofs.BlankTurns.{line-end, line-over-end, line-over-run}

@@ -1,6 +1,6 @@
-use Rattle.std.proofs.Common.{◌≡◌, ℕ, ◌+◌, ◌++◌, List, Option, Some, slice_get, sym, ap, ◌∙◌}
+use Rattle.std.proofs.Common.{◌≡◌, ℕ, List, Some, slice_get, sym, ap, ◌∙◌}
 use Rattle.ion_meter.specs.Windows.{left}
-use Rattle.ion_meter.specs.Sources.{Cursor, cursor}
+use Rattle.ion_meter.specs.Sources.{Cursor}
 use Rattle.ion_text_in.specs.Blanks.{blanks, in_block}
 use Rattle.ion_text_in.proofs.BlankTurns.{star-then, star-other}
 use Rattle.ion_text_in.proofs.Runs.{first-shown, found-is, found-not}

@@ -1,6 +1,5 @@
-use Rattle.std.proofs.Common.{◌≡◌, ℕ, ◌+◌, ◌≤◌, ◌<◌, false, List, drop, take, length, Option, Some, slice_get, Ok, refl, sym, ap, subst, ◌∙◌, arith}
+use Rattle.std.proofs.Common.{ℕ, List, take, sym, ap, ◌∙◌}
 use Rattle.ion_meter.specs.Windows.{left}
-use Rattle.ion_meter.specs.Sources.{Cursor, cursor}
 use Rattle.ion_value.proofs.Cursors.{cursor-extends}
 use Rattle.ion_value.specs.Digits.{first_is}
 use Rattle.ion_text_in.specs.Blanks.{is_white}

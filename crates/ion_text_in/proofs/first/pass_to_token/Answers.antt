@@ -1,5 +1,4 @@
 use Rattle.std.proofs.Common.{◌≡◌, ℕ, ◌++◌, List, Ok, sym, subst}
-use Rattle.ion_meter.specs.Sources.{cursor}
 use Rattle.ion_text_in.specs.Blanks.{blanks}
 use Rattle.ion_text_in.specs.Meaning.{at}
 use Rattle.ion_text_in.proofs.Shown.{lent-left}

@@ -1,4 +1,4 @@
-use Rattle.std.proofs.Common.{◌≡◌, ℕ, ◌<◌, All, take, List, Option, IfSome, IfNone, None, subst, sym, slice_index, arith}
+use Rattle.std.proofs.Common.{◌≡◌, ℕ, ◌<◌, All, take, Option, IfSome, IfNone, None, subst, sym, slice_index, arith}
 use Rattle.base64.specs.Engines.{standard}
 use Rattle.base64.specs.GeneralPurpose.{encode_of, decoded_of}
 use Rattle.ion_text_in.proofs.LobTurns.{decoded-encodes, decoded-octets, decoded-none}

@@ -1,11 +1,11 @@
-use Rattle.std.proofs.Common.{◌≡◌, ℕ, ◌+◌, ◌-◌, ◌≤◌, ◌++◌, false, List, Some, length, take, drop, slice_get, slice_set, sym, ap, ◌∙◌, arith}
+use Rattle.std.proofs.Common.{◌≡◌, ℕ, ◌+◌, ◌-◌, ◌++◌, List, take, drop, slice_set, sym, ap, ◌∙◌, arith}
 use Rattle.std.proofs.lemmas.List.{length-set}
 use Rattle.ion_meter.specs.Windows.{left}
 use Rattle.ion_meter.specs.Sources.{Cursor, cursor}
 use Rattle.ion_value.specs.Digits.{first_is}
 use Rattle.ion_text_in.specs.Blanks.{is_white}
 use Rattle.ion_text_in.specs.Lob.{group_of}
-use Rattle.ion_text_in.proofs.BlankTurns.{behind_white, white-ends}
+use Rattle.ion_text_in.proofs.BlankTurns.{white-ends}
 use Rattle.ion_text_in.proofs.LobTurns.{group-ends, group-closes, group-more, characters-end, characters-on, characters-all}
 use Rattle.ion_text_in.proofs.Turns.{gone-then, reads-gone, gone-passed, passed-cursor}
 use Rattle.ion_text_in.proofs.lob.next_characters.Goals as goal

@@ -1,5 +1,5 @@
-use Rattle.std.proofs.Common.{◌≡◌, ℕ, Some, ap, ◌∙◌, arith}
-use Rattle.ion_meter.specs.Sources.{Cursor, cursor}
+use Rattle.std.proofs.Common.{◌≡◌, Some, ap, ◌∙◌, arith}
+use Rattle.ion_meter.specs.Sources.{cursor}
 use Rattle.ion_text_in.specs.declared.lob.Opening.{Opening}
 use Rattle.ion_text_in.specs.declared.lob.Opening.TheVariants as opening
 use Rattle.ion_text_in.specs.Lob.{lob_in}

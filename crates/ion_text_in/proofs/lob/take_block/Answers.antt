@@ -1,13 +1,9 @@
-use Rattle.std.proofs.Common.{◌≡◌, ℕ, ◌+◌, ◌-◌, ◌≤◌, ◌<◌, ◌++◌, true, false, All, List, Some, None, length, take, drop, refl, sym, ap, subst, ◌∙◌, arith}
-use Rattle.std.proofs.lemmas.Bool.{lt-ltb, le-ltb}
+use Rattle.std.proofs.Common.{◌≡◌, ℕ, ◌+◌, ◌≤◌, ◌++◌, false, List, Some, length, take, sym, ap, subst, ◌∙◌, arith}
+use Rattle.std.proofs.lemmas.Bool.{le-ltb}
 use Rattle.std.proofs.lemmas.List.{length-take-le}
-use Rattle.ion_meter.specs.declared.fault.Reason.TheVariants.{BadLob, ScalarLimit}
-use Rattle.ion_meter.specs.Windows.{left, lent}
-use Rattle.ion_meter.specs.Sources.{Cursor, cursor}
-use Rattle.base64.specs.Engines.{standard}
-use Rattle.base64.specs.GeneralPurpose.{decoded_of, encode_of}
+use Rattle.ion_meter.specs.Windows.{left}
+use Rattle.ion_meter.specs.Sources.{cursor}
 use Rattle.ion_text_in.specs.Limit.{passes}
-use Rattle.ion_text_in.specs.Lob.{group_of, behind_to}
 use Rattle.ion_text_in.specs.Lobs.{with_groups_behind, is_padded}
 use Rattle.ion_text_in.proofs.LobTurns.{block-of}
 use Rattle.ion_text_in.proofs.Turns.{turn, turn-then, extends-not}

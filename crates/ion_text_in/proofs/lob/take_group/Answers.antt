@@ -1,13 +1,9 @@
-use Rattle.std.proofs.Common.{◌≡◌, ℕ, ◌+◌, ◌-◌, ◌≤◌, ◌<◌, ◌++◌, true, false, All, List, Some, None, Ok, nat_lt, length, take, drop, refl, sym, ap, subst, ◌∙◌, arith}
+use Rattle.std.proofs.Common.{◌≡◌, ℕ, ◌+◌, ◌≤◌, ◌<◌, ◌++◌, true, false, List, Some, Ok, nat_lt, length, take, refl, sym, ap, subst, ◌∙◌, arith}
 use Rattle.std.proofs.lemmas.Bool.{lt-ltb, le-ltb}
 use Rattle.std.proofs.lemmas.List.{length-take-le}
-use Rattle.ion_meter.specs.declared.fault.Reason.TheVariants.{BadLob, ScalarLimit}
-use Rattle.ion_meter.specs.Windows.{left, lent}
+use Rattle.ion_meter.specs.Windows.{left}
 use Rattle.ion_meter.specs.Sources.{Cursor, cursor}
-use Rattle.base64.specs.Engines.{standard}
-use Rattle.base64.specs.GeneralPurpose.{decoded_of, encode_of}
 use Rattle.ion_text_in.specs.Limit.{passes}
-use Rattle.ion_text_in.specs.Lob.{group_of, behind_to}
 use Rattle.ion_text_in.specs.Lobs.{with_groups_behind, closed_behind}
 use Rattle.ion_value.specs.Parts.{◌>>=◌}
 use Rattle.ion_text_in.proofs.LobTurns.{behind-cursor, taken-four, closes-continues, group-last, group-bad, group-late, group-over, group-given}

@@ -1,8 +1,8 @@
-use Rattle.std.proofs.Common.{◌≡◌, ℕ, ◌<◌, Bool, true, false, not, eqb, ltb, ◌&&◌, ◌||◌, subst, sym, ap, ◌∙◌, arith}
+use Rattle.std.proofs.Common.{not, eqb, ltb, ◌||◌, sym, ap, ◌∙◌, arith}
 use Rattle.ion_text_in.specs.Scanning.{is_plain_byte}
 use Rattle.ion_text_in.specs.Quotes.{one_mark}
 use Rattle.ion_text_in.proofs.Lanes.{either, both, to_all, from_all, mask_of}
-use Rattle.ion_text_in.proofs.Stops.{control, other, stops_text, stops_clob}
+use Rattle.ion_text_in.proofs.Stops.{other, stops_text, stops_clob}
 use Rattle.ion_text_in.proofs.quoted.stops.Goals as goal
 use Rattle.ion_text_in.proofs.quoted.stops.Goals.{then-in_clob, else-in_clob}
 

@@ -2,7 +2,7 @@ use Rattle.std.proofs.Common.{◌≡◌, ◌+◌, ◌∙◌, true, false, not, L
 use Rattle.std.proofs.lemmas.List.{take_rest, drop_more}
 use Rattle.ion_text_in.specs.Runs.{goes_on, EndBehind}
 use Rattle.ion_text_in.proofs.RunEnds.{go-more, go-end, stays-on}
-use Rattle.ion_text_in.proofs.run.run_extent.Goals as goal
+use Rattle.ion_text_in.proofs.run.run_by_byte.Goals as goal
 
 pub bytes-preserved : goal.bytes-preserved
 bytes-preserved c =

@@ -1,0 +1,59 @@
+-- Bytes that each go on with a token whatever follows them.
+use Rattle.std.proofs.Common.{◌≡◌, ℕ, zero, suc, ◌+◌, ◌<◌, ◌≤◌, Bool, true, false, not, ◌||◌, List, [], ◌∷◌, ◌++◌, get_or, codes, length, take, drop, map, refl, sym, subst, ap, ◌∙◌, arith}
+use Rattle.std.proofs.lemmas.Bool.{and_parts}
+use Rattle.std.proofs.lemmas.List.{drop_more}
+use Rattle.std.specs.List.{prefix_len}
+use lib.Lanes.{chunk, mask_l}
+use lib.Count.{count_trailing_zeros}
+use Rattle.ion_value.specs.Digits.{first_is, all_are}
+use Rattle.ion_value.specs.Name.{is_identifier_byte, is_one_of}
+use Rattle.ion_text_in.specs.Blanks.{is_white, begins_comment}
+use Rattle.ion_text_in.specs.Token.{in_run, in_word}
+use Rattle.ion_text_in.specs.Runs.{GoOn, EndBehind, goes_on, stays}
+use Rattle.ion_text_in.specs.declared.run.Run.{Run}
+use Rattle.ion_text_in.specs.declared.run.Run.TheVariants as run
+use Rattle.ion_text_in.proofs.Blocks.{run_passes, run_ends, run_at}
+use Rattle.ion_text_in.proofs.Meaning.{run-more}
+use Rattle.ion_text_in.proofs.RunEnds.{go-end, stays-on}
+
+module _ (kind : Run) where
+  all-go : (bytes : List ℕ) (n : ℕ) → n ≤ length bytes → all_are (stays kind) (take n bytes) ≡ true → GoOn (goes_on kind) bytes n
+  all-go bytes zero within e = λ more. refl
+  all-go [] (suc n) within e = let no : ⊥ = omega arith in absurd no
+  all-go (x ∷ bytes) (suc n) within e = λ more.
+      let parts = and_parts (stays kind x) (all_are (stays kind) (take n bytes)) e in
+      let later = all-go bytes n (omega (arith, within)) parts.1 more in
+      run-more (goes_on kind) x (bytes ++ more) (stays-on kind x (bytes ++ more) parts.0) ∙ ap (λ (r : List ℕ × List ℕ). (x ∷ r.0, r.1)) later
+
+  -- where the first stands that may not go on
+  pub stop-at : (bytes : List ℕ) (size bits : ℕ) → size ≤ length bytes → size ≤ 64 → bits ≡ mask_l (map (λ b. not (stays kind b)) (chunk 0 size bytes)) → 0 < bits
+      → (prefix_len (stays kind) bytes ≡ count_trailing_zeros 64 bits) × (count_trailing_zeros 64 bits < length bytes)
+  stop-at bytes size bits room short e some =
+      let found = run_at (stays kind) bytes 0 size (omega (arith, room)) short (omega (arith, e, some)) in
+      let same = ap (count_trailing_zeros 64) e in
+      (found.0 ∙ sym same, omega (arith, found.1, same, room))
+
+  -- all before it go on
+  pub go-to : (bytes : List ℕ) (n : ℕ) → (prefix_len (stays kind) bytes ≡ n) × (n < length bytes) → GoOn (goes_on kind) bytes n
+  go-to bytes n at =
+      let on : all_are (stays kind) (take n bytes) ≡ true = subst (λ k. all_are (stays kind) (take k bytes) ≡ true) at.0 (run_passes (stays kind) bytes) in
+      all-go bytes n (omega (arith, at.1)) on
+
+  pub off-at : (bytes : List ℕ) (n : ℕ) → (prefix_len (stays kind) bytes ≡ n) × (n < length bytes) → first_is (stays kind) (drop n bytes) ≡ false
+  off-at bytes n at = subst (λ k. first_is (stays kind) (drop k bytes) ≡ false) at.0 (run_ends (stays kind) bytes (omega (arith, at.0, at.1)))
+
+-- and no further, where a word has none of its bytes there
+word-off : (bytes : List ℕ) (n : ℕ) → n < length bytes → first_is is_identifier_byte (drop n bytes) ≡ false → (more : List ℕ) → in_word (drop n bytes ++ more) ≡ false
+word-off [] n within e more = let no : ⊥ = omega arith in absurd no
+word-off (x ∷ bytes) zero within e more = e
+word-off (x ∷ bytes) (suc n) within e more = word-off bytes n (omega (arith, within)) e more
+
+pub word-end : (bytes : List ℕ) (n : ℕ) → (prefix_len is_identifier_byte bytes ≡ n) × (n < length bytes) → EndBehind in_word bytes n
+word-end bytes n at = go-end in_word bytes n (go-to run.Word bytes n at) (word-off bytes n at.1 (off-at run.Word bytes n at))
+
+-- or a number what ends it
+pub number-end : (bytes : List ℕ) (n : ℕ) → (prefix_len (stays run.Number) bytes ≡ n) × (n < length bytes) → (is_one_of (codes "{}[](),\"'") (get_or bytes n 0) || is_white (get_or bytes n 0)) ≡ true → EndBehind in_run bytes n
+number-end bytes n at e =
+    go-end in_run bytes n (go-to run.Number bytes n at)
+    (λ more. subst (λ (l : List ℕ). in_run (l ++ more) ≡ false) (sym (drop_more bytes n 0 at.1))
+    (ap (λ (ends : Bool). not (ends || begins_comment (get_or bytes n 0 ∷ (drop (n + 1) bytes ++ more)))) e))

@@ -44,3 +44,4 @@ mod WrapperCode
 mod Annotations
 mod ValueParts
 mod ReaderParts
+mod ShortInts

@@ -1,5 +1,5 @@
 -- What contracts see of the value at top level that a writer has open.
-use Rattle.std.specs.Prelude.{◌≡◌, ℕ, List, [], ◌++◌, nat_eq, if◌then◌else◌, None, ◌+◌, ◌-◌, ◌*◌, ◌^◌, ◌<◌, ◌≤◌, length, Option, Some}
+use Rattle.std.specs.Prelude.{◌≡◌, ℕ, List, [], ◌++◌, nat_eq, if◌then◌else◌, None, ◌+◌, ◌-◌, ◌*◌, ◌^◌, ◌<◌, ◌≤◌, length, max, Option, Some, Bool, true, false, Result, Ok}
 use Rattle.std.specs.List.{AllByRecursion}
 use Rattle.ion_meter.specs.Counts.{Counts}
 use Rattle.ion_meter.specs.Limits.{AreChecked}
@@ -12,7 +12,9 @@ use Rattle.ion_value.specs.Number.{var_uint_octets}
 use Rattle.ion_value.specs.Standing.{InRange}
 use Rattle.ion_value.specs.Value as value
 use Rattle.ion_value.specs.Value.{Head, Item}
+use Rattle.ion_binary.specs.declared.scalar.Octets.{Octets}
 use Rattle.ion_binary.specs.declared.scalar.Spelled.{Spelled}
+use Rattle.ion_binary.specs.Held.{size_of, whole_at}
 use Rattle.ion_binary.specs.ItemOctets.{opening}
 use Rattle.ion_binary.specs.Counting.{ArePlaced, AreReached, IsCounted, counted_length}
 
@@ -50,12 +52,30 @@ pub record CanStep {A : Type 0} (limits : Limits) (v : OpenValue A) (meter : Cou
   pub held : open_cost v ≤ meter.held
   pub countable : meter.refused < 2 ^ 64 - 1
 
+-- the cost rises, if at all, and the peak is at most what is held then or what it was
+pub record Raises (old new : Counts) (cost : ℕ) : Type 0 where
+  pub held : new.held ≡ old.held + cost
+  pub peak : new.peak ≤ max old.peak new.held
+  pub rises : old.peak ≤ new.peak
+  pub refused : new.refused ≡ old.refused
+
 -- what a call keeps and moves whatever it answers; its one fault is Memory
 pub record Stepped {A : Type 0} (limits : Limits) (old new : OpenValue A) (before after : Counts) (fault : Option Fault) : Type 0 where
   pub within : IsWithin limits new
   pub memory : MemoryCauses fault before after
   pub alone : (f : Fault) → fault ≡ Some f → f ≡ Memory
   pub charges : Charges before after (open_cost old) (open_cost new) (open_most limits)
+
+-- a scalar of these octets is put behind what comes first of its item, unless the value would be too long
+pub record PutsScalar {A : Type 0} (limits : Limits) (place : ℕ) (scalar : List ℕ) (old new : OpenValue A) (result : Result Bool Fault) : Type 0 where
+  pub octets : result ≡ Ok true → new.octets ≡ whole_at place old.octets scalar
+  pub headers : new.headers ≡ old.headers
+  pub is_open : result ≡ Ok true → IsOpen limits new
+  pub over : result ≡ Ok false → limits.value < size_of (whole_at place old.octets scalar) old.headers
+
+-- both parts
+abbrev pub both_octets : Octets → List ℕ
+both_octets s = s.front.now ++ s.rest.now
 
 -- the octets of a scalar, some of which are lent
 abbrev pub spelled_octets : Spelled → List ℕ

@@ -31,8 +31,8 @@ pub(crate) struct Front {
     pub(crate) fits: bool,
 }
 
-/// Gives the symbols of an item their ids, and puts the field's and the annotations' behind the
-/// octets that are held, as long as these are at most so many.
+/// Gives the symbols of an item with such a head their ids, and puts the field's and the
+/// annotations' behind the octets that are held, as long as these are at most so many.
 ///
 /// It answers `SymbolLimit` at the symbol with which the texts cost too much.
 pub(crate) fn put_front<A: Allocator + Copy, N: Names>(
@@ -40,9 +40,11 @@ pub(crate) fn put_front<A: Allocator + Copy, N: Names>(
     buffer: &mut Buf<A>,
     meter: &mut Meter<A>,
     item: &Item<'_, N>,
+    head: Head<'_>,
     most: u64,
 ) -> Result<Front, Fault>
     requires can_number { CanNumber most (numbering symbols.old buffer.old meter.old) }
+    requires head { raw_head head ≡ (item_of N.text item.now).head }
     ensures numbers { Numbers most (numbering symbols.old buffer.old meter.old)
         (numbering symbols.new buffer.new meter.new) result
         (item_symbols (item_of N.text item.now)) }
@@ -61,7 +63,7 @@ pub(crate) fn put_front<A: Allocator + Copy, N: Names>(
         Ok(fits) => fits,
         Err(fault) => return Err(fault),
     };
-    let name = match name_of(symbols, meter, item.head()) {
+    let name = match name_of(symbols, meter, head) {
         Ok(name) => name,
         Err(fault) => return Err(fault),
     };

@@ -1,26 +1,30 @@
 //! The value at top level that is being written.
-ghost use Rattle.std.specs.Prelude.{◌≡◌, ◌+◌, ◌-◌, ◌*◌, ◌^◌, ◌<◌, ◌≤◌, ℕ, true, false, [], ◌++◌, length, drop, Ok, OnOk};
-ghost use Rattle.ion_meter.specs.Counts.{Shrinks};
+ghost use Rattle.std.specs.Prelude.{◌≡◌, ◌+◌, ◌-◌, ◌*◌, ◌^◌, ◌<◌, ◌≤◌, ℕ, true, false, [], ◌++◌, if◌then◌else◌, length, drop, take, Ok, OnOk, OnErr, IfErr};
+ghost use Rattle.ion_meter.specs.Counts.{IsRefused, Shrinks};
 ghost use Rattle.ion_meter.specs.declared.limits.Limits.{Limits};
 ghost use Rattle.ion_value.specs.Items.{raw_head};
 ghost use Rattle.ion_value.specs.Shares.{fault_of};
 ghost use Rattle.ion_value.specs.Value.{UserSymbol};
 ghost use Rattle.ion_binary.specs.Counting.{IsCounted, IsCountedTo, AreReached, content_around, counted_length, cut, sizes_from};
+ghost use Rattle.ion_value.specs.Int.{IsInt};
+ghost use Rattle.ion_value.specs.Number.{uint_octets};
+ghost use Rattle.ion_binary.specs.Canonical.{headed};
 ghost use Rattle.ion_binary.specs.Grammar.{type_code};
 ghost use Rattle.ion_binary.specs.Held.{begun_at, begun_headers, closed_in, headers_around, innermost_in, moved_headers, moved_octets, size_of, whole_at, wrapper_headers};
 ghost use Rattle.ion_binary.specs.ItemOctets.{head_name, user_head};
-ghost use Rattle.ion_binary.specs.Opening.{CanStep, IsOpen, IsOpenTo, MayFollow, Stepped, open_cost, spelled_octets, wrapper_octets};
+ghost use Rattle.ion_binary.specs.Opening.{CanStep, IsOpen, IsOpenTo, MayFollow, PutsScalar, Raises, Stepped, both_octets, open_cost, spelled_octets, wrapper_octets};
 
 use crate::front::Front;
 use crate::header::header;
 use crate::headers::{HeaderPlace, Headers};
 use crate::opening::{LONGEST, opening};
-use crate::scalar::{Spelled, spell};
+use crate::scalar::{Octets, Spelled, spell, spell_int, with_lent};
 use arrayvec::ArrayVec;
 use ion_meter::buf::Buf;
 use ion_meter::fault::Fault;
 use ion_meter::limits::Limits;
 use ion_meter::meter::Meter;
+use ion_value::int::Int;
 use ion_value::ion_type::Kind;
 use ion_value::item::Head;
 use ion_value::var::var_uint_write;
@@ -127,6 +131,9 @@ impl<A: Allocator + Copy> OpenValue<A> {
         ensures headers { self.new.headers ≡ self.old.headers }
         ensures octets { self.new.octets ≡ self.old.octets }
     {
+        if self.headers.len() == 0 {
+            return n;
+        }
         for level in 0..5 {
             self.raise(level, n);
         }
@@ -195,16 +202,16 @@ impl<A: Allocator + Copy> OpenValue<A> {
         meter: &mut Meter<A>,
         limits: Limits,
         place: usize,
-        scalar: &Spelled<'_>,
+        scalar: &Octets<'_>,
     ) -> Result<bool, Fault>
         requires can_step { CanStep limits self.old meter.old }
         requires open { IsOpenTo self.old place }
         ensures octets { result ≡ Ok true
-            → self.new.octets ≡ whole_at place self.old.octets (spelled_octets scalar.now) }
+            → self.new.octets ≡ whole_at place self.old.octets (both_octets scalar.now) }
         ensures headers { self.new.headers ≡ self.old.headers }
         ensures open { result ≡ Ok true → IsOpen limits self.new }
         ensures over { result ≡ Ok false → limits.value
-            < size_of (whole_at place self.old.octets (spelled_octets scalar.now))
+            < size_of (whole_at place self.old.octets (both_octets scalar.now))
             self.old.headers }
         ensures stepped { Stepped limits self.old self.new meter.old meter.new (fault_of result) }
     {
@@ -217,9 +224,9 @@ impl<A: Allocator + Copy> OpenValue<A> {
         if self.closed_size(octets as u64 + front.len() as u64 + length) > limits.value {
             return Ok(false);
         }
-        self.octets.insert_slice(meter, place, front.as_slice())?;
-        self.octets.extend(meter, scalar.front.as_slice())?;
-        self.octets.extend(meter, scalar.lent)?;
+        insert_some(&mut self.octets, meter, place, front.as_slice())?;
+        self.octets.extend(meter, scalar.front)?;
+        extend_some(&mut self.octets, meter, scalar.rest)?;
         Ok(true)
     }
 
@@ -289,8 +296,119 @@ impl<A: Allocator + Copy> OpenValue<A> {
                 Err(fault) => Err(fault),
             },
             Head::Marker => Ok(true),
-            scalar => self.whole(meter, limits, front.ids, &spell(scalar, front.name)),
+            Head::Int(int) => self.int(meter, limits, front.ids, int),
+            Head::Symbol(_) => self.number(meter, limits, front.ids, 7, u64::from(front.name)),
+            Head::String(text) => self.text(meter, limits, front.ids, text),
+            scalar => self.spelled(meter, limits, front.ids, &spell(scalar, front.name)),
         }
+    }
+
+    // Puts an int. One that 64 bits hold needs no room of its own for its octets.
+    fn int(
+        &mut self,
+        meter: &mut Meter<A>,
+        limits: Limits,
+        place: usize,
+        int: Int,
+    ) -> Result<bool, Fault>
+        requires can_step { CanStep limits self.old meter.old }
+        requires open { IsOpenTo self.old place }
+        requires range { IsInt int }
+        ensures puts { PutsScalar limits place
+            (headed (if int.negative then 3 else 2) (uint_octets int.magnitude))
+            self.old self.new result }
+        ensures stepped { Stepped limits self.old self.new meter.old meter.new (fault_of result) }
+    {
+        let code = if int.negative { 3 } else { 2 };
+        match u64::try_from(int.magnitude) {
+            Ok(n) => self.number(meter, limits, place, code, n),
+            Err(_) => self.spelled(meter, limits, place, &spell_int(int)),
+        }
+    }
+
+    // Puts a scalar whose body is a number of 64 bits.
+    fn number(
+        &mut self,
+        meter: &mut Meter<A>,
+        limits: Limits,
+        place: usize,
+        code: u8,
+        n: u64,
+    ) -> Result<bool, Fault>
+        requires can_step { CanStep limits self.old meter.old }
+        requires open { IsOpenTo self.old place }
+        requires code { code < 16 }
+        ensures puts { PutsScalar limits place (headed code (uint_octets n))
+            self.old self.new result }
+        ensures stepped { Stepped limits self.old self.new meter.old meter.new (fault_of result) }
+    {
+        let octets = n.to_be_bytes();
+        let zeros = n.leading_zeros() as usize / 8;
+        self.short(meter, limits, place, code, &octets[zeros..])
+    }
+
+    // Puts a string.
+    fn text(
+        &mut self,
+        meter: &mut Meter<A>,
+        limits: Limits,
+        place: usize,
+        text: &[u8],
+    ) -> Result<bool, Fault>
+        requires can_step { CanStep limits self.old meter.old }
+        requires open { IsOpenTo self.old place }
+        ensures puts { PutsScalar limits place (headed 8 text.now) self.old self.new result }
+        ensures stepped { Stepped limits self.old self.new meter.old meter.new (fault_of result) }
+    {
+        if text.len() < 14 {
+            return self.short(meter, limits, place, 8, text);
+        }
+        self.spelled(meter, limits, place, &with_lent(8, text))
+    }
+
+    // Puts a scalar whose body has fewer than fourteen octets: its header is one.
+    fn short(
+        &mut self,
+        meter: &mut Meter<A>,
+        limits: Limits,
+        place: usize,
+        code: u8,
+        body: &[u8],
+    ) -> Result<bool, Fault>
+        requires can_step { CanStep limits self.old meter.old }
+        requires open { IsOpenTo self.old place }
+        requires code { code < 16 }
+        requires short { length body.now < 14 }
+        ensures puts { PutsScalar limits place (headed code body.now) self.old self.new result }
+        ensures stepped { Stepped limits self.old self.new meter.old meter.new (fault_of result) }
+    {
+        let header = [16 * code + body.len() as u8];
+        let octets = Octets {
+            front: &header,
+            rest: body,
+        };
+        self.whole(meter, limits, place, &octets)
+    }
+
+    // Puts a scalar that is spelled.
+    fn spelled(
+        &mut self,
+        meter: &mut Meter<A>,
+        limits: Limits,
+        place: usize,
+        scalar: &Spelled<'_>,
+    ) -> Result<bool, Fault>
+        requires can_step { CanStep limits self.old meter.old }
+        requires open { IsOpenTo self.old place }
+        ensures puts { PutsScalar limits place (spelled_octets scalar.now)
+            self.old self.new result }
+        ensures stepped { Stepped limits self.old self.new meter.old meter.new (fault_of result) }
+    {
+        let octets = Octets {
+            front: scalar.front.as_slice(),
+            rest: scalar.lent,
+        };
+        self.whole(meter, limits, place, &octets)
     }
 
     // Puts the length of annotations before their ids, where there are any, which begin at a place.
@@ -326,6 +444,51 @@ impl<A: Allocator + Copy> OpenValue<A> {
         self.headers.push(meter, header)?;
         Ok(true)
     }
+}
+
+// Puts octets in at a place, of which there are mostly none.
+#[inline(always)]
+fn insert_some<A: Allocator + Copy>(
+    octets: &mut Buf<A>,
+    meter: &mut Meter<A>,
+    place: usize,
+    more: &[u8],
+) -> Result<(), Fault>
+    requires within { place ≤ length octets.old }
+    requires room { meter.old.held + length more.now < 2 ^ 63 }
+    requires countable { meter.old.refused < 2 ^ 64 - 1 }
+    ensures ok { OnOk result (octets.new
+        ≡ take place octets.old ++ (more.now ++ drop place octets.old)) }
+    ensures cost { OnOk result (Raises meter.old meter.new (length more.now)) }
+    ensures memory { IfErr result (λ e. e ≡ Fault.Memory) }
+    ensures err { OnErr result (octets.new ≡ octets.old) }
+    ensures refused { OnErr result (IsRefused meter.old meter.new) }
+{
+    if more.is_empty() {
+        return Ok(());
+    }
+    octets.insert_slice(meter, place, more)
+}
+
+// Puts octets behind others, of which there are mostly none.
+#[inline(always)]
+fn extend_some<A: Allocator + Copy>(
+    octets: &mut Buf<A>,
+    meter: &mut Meter<A>,
+    more: &[u8],
+) -> Result<(), Fault>
+    requires room { meter.old.held + length more.now < 2 ^ 63 }
+    requires countable { meter.old.refused < 2 ^ 64 - 1 }
+    ensures ok { OnOk result (octets.new ≡ octets.old ++ more.now) }
+    ensures cost { OnOk result (Raises meter.old meter.new (length more.now)) }
+    ensures memory { IfErr result (λ e. e ≡ Fault.Memory) }
+    ensures err { OnErr result (octets.new ≡ octets.old) }
+    ensures refused { OnErr result (IsRefused meter.old meter.new) }
+{
+    if more.is_empty() {
+        return Ok(());
+    }
+    octets.extend(meter, more)
 }
 
 // What stands before the ids of annotations of so many octets and a value of so many: the header of

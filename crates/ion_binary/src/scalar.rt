@@ -7,7 +7,7 @@ ghost use Rattle.ion_value.specs.Scalar.{type_code};
 ghost use Rattle.ion_value.specs.Value.{UserSymbol};
 ghost use Rattle.ion_value.specs.Standing.{HeadInRange};
 ghost use Rattle.ion_binary.specs.Canonical.{headed};
-ghost use Rattle.ion_binary.specs.Opening.{spelled_octets};
+ghost use Rattle.ion_binary.specs.Opening.{both_octets};
 ghost use Rattle.ion_binary.specs.ItemOctets.{head_name, head_octets, user_head};
 
 use crate::opening::{LONGEST, opening};
@@ -27,12 +27,21 @@ pub(crate) struct Spelled<'a> {
     pub(crate) lent: &'a [u8],
 }
 
-impl<'a> Spelled<'a> {
+/// Octets in two parts, as they are put.
+#[derive(Clone, Copy)]
+pub(crate) struct Octets<'a> {
+    /// The header, and perhaps a short body.
+    pub(crate) front: &'a [u8],
+    /// The rest of the body.
+    pub(crate) rest: &'a [u8],
+}
+
+impl<'a> Octets<'a> {
     /// How many octets there are.
     pub(crate) fn len(&self) -> u64
-        ensures { result ≡ length (spelled_octets self.now) }
+        ensures { result ≡ length (both_octets self.now) }
     {
-        self.front.len() as u64 + self.lent.len() as u64
+        self.front.len() as u64 + self.rest.len() as u64
     }
 }
 
@@ -106,9 +115,9 @@ fn with_body<'a>(code: u8, body: &[u8]) -> Spelled<'a>
     }
 }
 
-// A header, and a body that is lent.
+/// A header, and a body that is lent.
 #[inline]
-fn with_lent<'a>(code: u8, body: &'a [u8]) -> Spelled<'a>
+pub(crate) fn with_lent<'a>(code: u8, body: &'a [u8]) -> Spelled<'a>
     requires { code < 16 }
     ensures { result.front.items ++ result.lent.now ≡ headed code body.now }
 {
@@ -118,9 +127,9 @@ fn with_lent<'a>(code: u8, body: &'a [u8]) -> Spelled<'a>
     }
 }
 
-// An int, whose sign is in its type code.
+/// An int, whose sign is in its type code.
 #[inline]
-fn spell_int<'a>(int: Int) -> Spelled<'a>
+pub(crate) fn spell_int<'a>(int: Int) -> Spelled<'a>
     requires range { IsInt int }
     ensures { result.front.items ++ result.lent.now
         ≡ headed (if int.negative then 3 else 2) (uint_octets int.magnitude) }

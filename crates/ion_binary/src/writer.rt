@@ -127,11 +127,13 @@ impl<A: Allocator + Copy> BinWriter<A> {
         ensures no_device { (n : ℕ) → WriteCauses (fault_of result) n n }
         ensures taken { Taken self.old self.new meter.old meter.new (fault_of result) }
     {
+        let head = item.head();
         let front = match put_front(
             &mut self.symbols,
             &mut self.open_value.octets,
             meter,
             item,
+            head,
             self.limits.value,
         ) {
             Ok(front) => front,
@@ -140,7 +142,7 @@ impl<A: Allocator + Copy> BinWriter<A> {
         if !front.fits {
             return Err(Fault::Refused(Reason::ValueLimit, item.top()));
         }
-        match self.open_value.take(meter, self.limits, front, item.head()) {
+        match self.open_value.take(meter, self.limits, front, head) {
             Ok(true) => Ok(()),
             Ok(false) => Err(Fault::Refused(Reason::ValueLimit, item.top())),
             Err(fault) => Err(fault),

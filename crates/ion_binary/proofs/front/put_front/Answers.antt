@@ -19,24 +19,24 @@ returns-in-Err-name_of-clause-numbers g c =
     let i = item_of g.N.Names.text c.args.item.now in
     let field = field_symbols (raw_field c.field.result) in
     let annotations = annotations_of g.N.Names.text c.annotations-annotations.result in
-    let head = head_symbols (raw_head c.head.result) in
+    let head = head_symbols (raw_head c.args.head) in
     let both = numbers-then field annotations c.requires.can_number c.in-Ok.is c.put_field.ensures.numbers c.put_annotations.ensures.numbers in
     let can = can-then c.requires.can_number c.in-Ok-put_annotations.is both in
     let all = numbers-then (field ++ annotations) head c.requires.can_number c.in-Ok-put_annotations.is both (numbers-beside c.put_annotations.new.buffer can c.name_of.ensures.numbers) in
     numbers-as (numbers-err ((field ++ annotations) ++ head) c.in-Err-name_of.is all)
-    (append_assoc field annotations head ∙ item-symbols i (raw_field c.field.result) annotations (raw_head c.head.result) c.field.ensures c.annotations-annotations.ensures c.head.ensures)
+    (append_assoc field annotations head ∙ item-symbols i (raw_field c.field.result) annotations (raw_head c.args.head) c.field.ensures c.annotations-annotations.ensures c.requires.head)
 
 pub returns-clause-numbers : goal.returns-clause-numbers
 returns-clause-numbers g c =
     let i = item_of g.N.Names.text c.args.item.now in
     let field = field_symbols (raw_field c.field.result) in
     let annotations = annotations_of g.N.Names.text c.annotations-annotations.result in
-    let head = head_symbols (raw_head c.head.result) in
+    let head = head_symbols (raw_head c.args.head) in
     let both = numbers-then field annotations c.requires.can_number c.in-Ok.is c.put_field.ensures.numbers c.put_annotations.ensures.numbers in
     let can = can-then c.requires.can_number c.in-Ok-put_annotations.is both in
     let all = numbers-then (field ++ annotations) head c.requires.can_number c.in-Ok-put_annotations.is both (numbers-beside c.put_annotations.new.buffer can c.name_of.ensures.numbers) in
     numbers-as (numbers-ok _ c.in-Ok-name_of.is all)
-    (append_assoc field annotations head ∙ item-symbols i (raw_field c.field.result) annotations (raw_head c.head.result) c.field.ensures c.annotations-annotations.ensures c.head.ensures)
+    (append_assoc field annotations head ∙ item-symbols i (raw_field c.field.result) annotations (raw_head c.args.head) c.field.ensures c.annotations-annotations.ensures c.requires.head)
 
 pub returns-clause-texts : goal.returns-clause-texts
 returns-clause-texts g c =
@@ -47,8 +47,8 @@ returns-clause-texts g c =
 pub returns-clause-front : goal.returns-clause-front
 returns-clause-front g c =
     front-is c.args.most c.args.symbols.now.texts c.put_field.new.symbols.texts c.put_annotations.new.symbols.texts c.name_of.new.symbols.texts (item_of g.N.Names.text c.args.item.now)
-    (raw_field c.field.result) (annotations_of g.N.Names.text c.annotations-annotations.result) (raw_head c.head.result)
-    c.args.buffer.now c.put_field.new.buffer c.put_annotations.new.buffer c.in-Ok.there _ c.field.ensures c.annotations-annotations.ensures c.head.ensures
+    (raw_field c.field.result) (annotations_of g.N.Names.text c.annotations-annotations.result) (raw_head c.args.head)
+    c.args.buffer.now c.put_field.new.buffer c.put_annotations.new.buffer c.in-Ok.there _ c.field.ensures c.annotations-annotations.ensures c.requires.head
     record {
       field = c.in-Ok.ensures.numbers.texts;
       annotations_given = c.in-Ok-put_annotations.ensures.numbers.texts;

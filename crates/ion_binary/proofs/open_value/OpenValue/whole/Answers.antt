@@ -2,7 +2,7 @@ use Rattle.std.proofs.Common.{◌≡◌, ◌+◌, ◌-◌, ◌++◌, ℕ, List, 
 use Rattle.ion_binary.specs.declared.headers.HeaderPlace.{HeaderPlace}
 use Rattle.ion_binary.specs.Counting.{IsCounted, counted_length, place_of_header}
 use Rattle.ion_binary.specs.Held.{whole_at}
-use Rattle.ion_binary.specs.Opening.{spelled_octets, wrapper_octets}
+use Rattle.ion_binary.specs.Opening.{both_octets, wrapper_octets}
 use Rattle.ion_binary.specs.Places.{closed_length}
 use Rattle.ion_binary.proofs.CountedHeaders.{reached-more}
 use Rattle.ion_binary.proofs.OpenSteps.{opened, placed-more, size-counted, whole-length, whole-octets}
@@ -17,7 +17,7 @@ closed_size-requires-clause-reached g c =
 pub returns-then-closed_size-limits-clause-over : goal.returns-then-closed_size-limits-clause-over
 returns-then-closed_size-limits-clause-over g c is =
     let hs : List HeaderPlace = c.args.self.now.headers in
-    let x : List ℕ = spelled_octets c.args.scalar.now in
+    let x : List ℕ = both_octets c.args.scalar.now in
     let e : length c.as_slice-octets.result.now ≡ length c.args.self.now.octets = ap (λ (os : List ℕ). length os) c.as_slice-octets.ensures in
     let within = c.requires.open.within in
     let n : ℕ = length c.as_slice-octets.result.now + c.len.result + c.len-length.result in
@@ -46,19 +46,19 @@ returns-then-closed_size-limits-clause-over g c is =
 pub returns-clause-octets : goal.returns-clause-octets
 returns-clause-octets g c is =
     let o : List ℕ = c.args.self.now.octets in
-    let x : List ℕ = spelled_octets c.args.scalar.now in
-    let put : c.extend-2.new.self ≡ ((take c.args.place o ++ (wrapper_octets (length o - c.args.place) (length x) ++ drop c.args.place o)) ++ c.args.scalar.now.front.items) ++ c.args.scalar.now.lent.now =
+    let x : List ℕ = both_octets c.args.scalar.now in
+    let put : c.extend_some.new.octets ≡ ((take c.args.place o ++ (wrapper_octets (length o - c.args.place) (length x) ++ drop c.args.place o)) ++ c.args.scalar.now.front.now) ++ c.args.scalar.now.rest.now =
     let e : length c.as_slice-octets.result.now ≡ length o = ap (λ (os : List ℕ). length os) c.as_slice-octets.ensures in
     let w : c.wrapper-front.result.items ≡ wrapper_octets (length o - c.args.place) (length x) =
     c.wrapper-front.ensures.octets
     ∙ (ap (λ m. wrapper_octets (m - c.args.place) c.len-length.result) e ∙ ap (λ m. wrapper_octets (length o - c.args.place) m) c.len-length.ensures) in
-    let third : c.extend-2.new.self ≡ c.extend.new.self ++ c.args.scalar.now.lent.now = search rules in
-    let second : c.extend.new.self ≡ c.insert_slice.new.self ++ c.args.scalar.now.front.items = search rules in
-    let first : c.insert_slice.new.self ≡ take c.args.place o ++ (c.wrapper-front.result.items ++ drop c.args.place o) = search rules in
+    let third : c.extend_some.new.octets ≡ c.extend.new.self ++ c.args.scalar.now.rest.now = search rules in
+    let second : c.extend.new.self ≡ c.insert_some.new.octets ++ c.args.scalar.now.front.now = search rules in
+    let first : c.insert_some.new.octets ≡ take c.args.place o ++ (c.wrapper-front.result.items ++ drop c.args.place o) = search rules in
     third
-    ∙ ap (λ (y : List ℕ). y ++ c.args.scalar.now.lent.now)
-    (second ∙ ap (λ (y : List ℕ). y ++ c.args.scalar.now.front.items) (first ∙ ap (λ (y : List ℕ). take c.args.place o ++ (y ++ drop c.args.place o)) w)) in
-    put ∙ (append_assoc (take c.args.place o ++ (wrapper_octets (length o - c.args.place) (length x) ++ drop c.args.place o)) c.args.scalar.now.front.items c.args.scalar.now.lent.now
+    ∙ ap (λ (y : List ℕ). y ++ c.args.scalar.now.rest.now)
+    (second ∙ ap (λ (y : List ℕ). y ++ c.args.scalar.now.front.now) (first ∙ ap (λ (y : List ℕ). take c.args.place o ++ (y ++ drop c.args.place o)) w)) in
+    put ∙ (append_assoc (take c.args.place o ++ (wrapper_octets (length o - c.args.place) (length x) ++ drop c.args.place o)) c.args.scalar.now.front.now c.args.scalar.now.rest.now
     ∙ whole-octets c.args.place o x c.requires.open.within)
 
 pub returns-clause-open : goal.returns-clause-open
@@ -66,15 +66,15 @@ returns-clause-open g c is =
     let n : ℕ = length c.as_slice-octets.result.now + c.len.result + c.len-length.result in
     let e : length c.as_slice-octets.result.now ≡ length c.args.self.now.octets = ap (λ (os : List ℕ). length os) c.as_slice-octets.ensures in
     let within = c.requires.open.within in
-    let x : List ℕ = spelled_octets c.args.scalar.now in
+    let x : List ℕ = both_octets c.args.scalar.now in
     let l = whole-length c.args.place c.args.self.now.octets x within in
     let w : length c.wrapper-front.result.items ≡ length (wrapper_octets (length c.as_slice-octets.result.now - c.args.place) c.len-length.result) = ap (λ (os : List ℕ). length os) c.wrapper-front.ensures.octets in
     let v : length (wrapper_octets (length c.as_slice-octets.result.now - c.args.place) c.len-length.result) ≡ length (wrapper_octets (length c.args.self.now.octets - c.args.place) (length x)) =
     ap (λ m. length (wrapper_octets (m - c.args.place) c.len-length.result)) e ∙ ap (λ m. length (wrapper_octets (length c.args.self.now.octets - c.args.place) m)) c.len-length.ensures in
     let len = c.len.ensures.value in
-    let o : length c.extend-2.new.self ≡ length (whole_at c.args.place c.args.self.now.octets x) = ap (λ (os : List ℕ). length os) (returns-clause-octets g c is) in
-    let long : length c.extend-2.new.self ≡ n = let k = c.len-length.ensures in omega (arith, o, l, w, v, len, e, k) in
+    let o : length c.extend_some.new.octets ≡ length (whole_at c.args.place c.args.self.now.octets x) = ap (λ (os : List ℕ). length os) (returns-clause-octets g c is) in
+    let long : length c.extend_some.new.octets ≡ n = let k = c.len-length.ensures in omega (arith, o, l, w, v, len, e, k) in
     let t = c.if-closed_size-limits.false in
     let size = c.closed_size.ensures.size in
-    opened c.args.limits c.args.self.now (record { octets = c.extend-2.new.self; headers = c.closed_size.new.self.headers; counts = c.closed_size.new.self.counts }) c.args.place n c.requires.open
+    opened c.args.limits c.args.self.now (record { octets = c.extend_some.new.octets; headers = c.closed_size.new.self.headers; counts = c.closed_size.new.self.counts }) c.args.place n c.requires.open
     (omega (arith, e, within)) long c.closed_size.ensures.headers c.closed_size.ensures.counted (omega (arith, t, size))

@@ -10,7 +10,7 @@ ghost use Rattle.ion_value.specs.Value.{user_item};
 ghost use Rattle.ion_value.specs.Standing.{HeadInRange};
 
 use crate::between::{before, behind, behind_end, closing};
-use crate::put::put;
+use crate::put::{put, put_mark};
 use crate::scalar::{put_body, put_symbol};
 use ion_meter::device::Output;
 use ion_meter::fault::Fault;
@@ -122,9 +122,9 @@ fn put_first<O: Output, A: Allocator + Copy>(
         (first_text (shown kinds.now empty) (raw_head head.now)) }
 {
     match *head {
-        Head::End => sink.put(closing(kinds)),
+        Head::End => put_mark(sink, closing(kinds)),
         Head::Marker => sink.put(b""),
-        _ => sink.put(before(kinds, empty)),
+        _ => put_mark(sink, before(kinds, empty)),
     }
 }
 
@@ -140,9 +140,9 @@ fn put_last<O: Output, A: Allocator + Copy>(
         (last_text (shown kinds.now empty) (raw_head head.now)) }
 {
     match *head {
-        Head::End => put(sink, behind_end(kinds)),
+        Head::End => put_mark(sink, behind_end(kinds)),
         Head::Begin(_) | Head::Marker => put(sink, b""),
-        _ => put(sink, behind(kinds)),
+        _ => put_mark(sink, behind(kinds)),
     }
 }
 

@@ -1,5 +1,5 @@
 //! Bytes that are put in parts.
-ghost use Rattle.std.specs.Prelude.{◌≡◌, None};
+ghost use Rattle.std.specs.Prelude.{◌≡◌, None, Some, OnOk, IfErr};
 ghost use Rattle.ion_meter.specs.Sinks.{IsPut};
 
 use ion_meter::device::Output;
@@ -14,4 +14,23 @@ pub fn put<O: Output, A: Allocator + Copy>(sink: &mut Sink<O, A>, bytes: &[u8]) 
     ensures { IsPut O.Output sink.old sink.new result bytes.now }
 {
     sink.put(bytes)
+}
+
+/// Puts a mark of one byte, or none. As its length is told apart here, no call copies it.
+#[inline(always)]
+pub fn put_mark<O: Output, A: Allocator + Copy>(
+    sink: &mut Sink<O, A>,
+    mark: &[u8],
+) -> Result<(), Fault>
+    ensures well { OnOk result (sink.old.fault ≡ None) }
+    ensures cause { IfErr result (λ f. f ≡ Fault.WriteFault) }
+    ensures passed { (f : Fault) → sink.old.fault ≡ Some f → sink.new ≡ sink.old }
+    ensures puts { sink.old.fault ≡ None
+        → IsPut O.Output sink.old sink.new result mark.now }
+{
+    match mark {
+        [] => sink.put(b""),
+        [byte] => sink.put(&[*byte]),
+        _ => sink.put(mark),
+    }
 }

@@ -17,7 +17,7 @@ ghost use Rattle.ion_value.specs.Standing.{HeadInRange};
 
 use crate::between::opener;
 use crate::blob::put_base64;
-use crate::put::put;
+use crate::put::{put, put_mark};
 use crate::quote::put_quoted;
 use crate::word::is_plain;
 use ion_meter::device::Output;
@@ -164,7 +164,7 @@ pub fn put_body<O: Output, A: Allocator + Copy>(
         Head::String(text) => put_quoted(sink, b'"', 256, text),
         Head::Clob(bytes) => put_clob(sink, bytes),
         Head::Blob(bytes) => put_blob(sink, bytes),
-        Head::Begin(kind) => put(sink, opener(kind)),
+        Head::Begin(kind) => put_mark(sink, opener(kind)),
         Head::End | Head::Marker => put(sink, b""),
     }
 }

@@ -204,7 +204,7 @@ settled-at ns n total count t m (h ∷ hs) f e le is low high =
       ),
     )
 
-beyond-none : (ns : List ℕ) (total : ℕ) → ((c : ℕ) → get_or ns c 0 ≤ total) → beyond ns total ≡ 0
+pub beyond-none : (ns : List ℕ) (total : ℕ) → ((c : ℕ) → get_or ns c 0 ≤ total) → beyond ns total ≡ 0
 beyond-none [] total h = refl
 beyond-none (n ∷ ns) total h = let r = beyond-none ns total (λ c. h (suc c)) in let f : n ≤ total = h 0 in omega (arith, r, f)
 
@@ -404,12 +404,3 @@ around-reverse (x ∷ hs) zero d h = sym (ap (λ (ys : List HeaderPlace). place_
 around-reverse (x ∷ hs) (suc k) d h =
     around-reverse hs k d (omega (arith, h))
     ∙ sym (ap (λ (ys : List HeaderPlace). place_around ys (suc k)) (reverse-append (x ∷ []) hs) ∙ around-last (reverse hs) x k)
-
--- ---- nothing is counted where no header is missing
-
-pub none-beyond : (ns : List ℕ) → ((c : ℕ) → get_or ns c 0 ≤ 0) → beyond ns 0 ≡ 0
-none-beyond [] none = refl
-none-beyond (n ∷ ns) none =
-    let first : n ≤ 0 = none 0 in
-    let rest = none-beyond ns (λ c. none (suc c)) in
-    omega (arith, first, rest)

@@ -1,4 +1,5 @@
--- The octets of a number of 64 bits without those at the front that are zeros.
+-- The octets of a number of 64 bits without those at the front that are zeros: as `ion_value` shows it of 128 bits, whose lemmas are its
+-- own.
 use Rattle.std.proofs.Common.{◌≡◌, ℕ, zero, suc, ◌+◌, ◌-◌, ◌*◌, ◌/◌, ◌%◌, ◌^◌, ◌<◌, ◌≤◌, inl, inr, List, length, take, drop, refl, ap, ◌∙◌, arith}
 use Rattle.std.specs.Int.{byte_at, bytes_high_first, leading_zeros, w64}
 use Rattle.std.proofs.lemmas.Bool.{cases_lt}

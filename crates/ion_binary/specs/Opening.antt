@@ -52,7 +52,7 @@ pub record CanStep {A : Type 0} (limits : Limits) (v : OpenValue A) (meter : Cou
   pub held : open_cost v ≤ meter.held
   pub countable : meter.refused < 2 ^ 64 - 1
 
--- the cost rises, if at all, and the peak is at most what is held then or what it was
+-- what is held rises by a cost, which may be none, and the peak does not pass what it was and what is held then
 pub record Raises (old new : Counts) (cost : ℕ) : Type 0 where
   pub held : new.held ≡ old.held + cost
   pub peak : new.peak ≤ max old.peak new.held

@@ -303,7 +303,7 @@ impl<A: Allocator + Copy> OpenValue<A> {
         }
     }
 
-    // Puts an int. One that 64 bits hold needs no room of its own for its octets.
+    // Puts an int: one that 64 bits hold without an `ArrayVec` of its octets, which would be moved.
     fn int(
         &mut self,
         meter: &mut Meter<A>,
@@ -470,7 +470,7 @@ fn insert_some<A: Allocator + Copy>(
     octets.insert_slice(meter, place, more)
 }
 
-// Puts octets behind others, of which there are mostly none.
+// Puts octets behind others, if there are any.
 #[inline(always)]
 fn extend_some<A: Allocator + Copy>(
     octets: &mut Buf<A>,

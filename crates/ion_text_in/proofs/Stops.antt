@@ -8,7 +8,7 @@ use Rattle.ion_text_in.specs.Quotes.{one_mark}
 abbrev pub control : ℕ → Bool
 control x = (ltb x 32 && not (eqb x 9)) && (ltb x 11 || ltb 12 x)
 
--- beside the mark
+-- which of them, but for the mark, where this is the greatest that may stand there
 abbrev pub other : ℕ → ℕ → Bool
 other greatest x = (eqb x 92 || ltb greatest x) || control x
 

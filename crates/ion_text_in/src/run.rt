@@ -69,8 +69,8 @@ fn run_by_byte(run: Run, bytes: &[u8]) -> Extent
     so_far(bytes.len(), false)
 }
 
-/// How far a word goes on in a slice that begins behind its first byte. Most words are so short that
-/// sixteen bytes, looked at together, show where they end.
+/// How far a word goes on in a slice that begins behind its first byte. Most words are so short
+/// that sixteen bytes, looked at together, show where they end; others are looked at byte by byte.
 #[inline(always)]
 pub(crate) fn word_run(bytes: &[u8]) -> Extent
     ensures within { result.len ≤ length bytes.now }
@@ -100,8 +100,9 @@ fn others(bytes: u8x16) -> u64
     (no_letter & no_digit & no_mark).to_bitmask()
 }
 
-/// How far a number or a timestamp goes on in a slice that begins behind its first byte. Most are so
-/// short that 32 bytes, looked at together, show where they end.
+// How far a number or a timestamp goes on in a slice that begins behind its first byte. Most are
+// so short that 32 bytes, looked at together, show where they end; others, and those that a slash
+// may end, are looked at byte by byte.
 #[inline(always)]
 fn number_run(bytes: &[u8]) -> Extent
     ensures within { result.len ≤ length bytes.now }
@@ -122,7 +123,8 @@ fn number_run(bytes: &[u8]) -> Extent
     run_by_byte(Run::Number, bytes)
 }
 
-// Which of these bytes end a number or a timestamp, or may: a bit for each, the lowest for the first.
+// Which of these bytes end a number or a timestamp, or may: a bit for each, the lowest for the
+// first.
 #[inline(always)]
 fn number_stops(bytes: u8x32) -> u64
     ensures { result ≡ mask_l (map (λ b. not (stays Run.Number b)) bytes) }

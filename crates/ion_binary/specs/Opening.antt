@@ -11,7 +11,7 @@ use Rattle.ion_binary.specs.declared.open_value.OpenValue.{OpenValue}
 use Rattle.ion_value.specs.Number.{var_uint_octets}
 use Rattle.ion_value.specs.Standing.{InRange}
 use Rattle.ion_value.specs.Value as value
-use Rattle.ion_value.specs.Value.{Head, Item}
+use Rattle.ion_value.specs.Value.{Head, Item, PlacedItem}
 use Rattle.ion_binary.specs.declared.scalar.Octets.{Octets}
 use Rattle.ion_binary.specs.declared.scalar.Spelled.{Spelled}
 use Rattle.ion_binary.specs.Held.{size_of, whole_at}
@@ -91,6 +91,11 @@ MayAdd limits v (value.whole body) i = InRange body
 MayAdd limits v (value.begin kind) i = length v.headers + 2 ≤ 2 * limits.depth
 MayAdd limits v value.end i = (i.field ≡ None) × (i.annotations ≡ [])
 MayAdd limits v value.marker i = ⊥
+
+-- the open value is counted, and the item may come behind it
+pub record MayCome {A : Type 0} (limits : Limits) (v : OpenValue A) (i : PlacedItem) : Type 0 where
+  pub counted : IsOpen limits v
+  pub follows : MayAdd limits v i.head i
 
 -- a head may come where what stands before it is there up to a place
 abbrev pub MayFollow : {A S : Type 0} → Limits → OpenValue A → ℕ → Head S → Type 0

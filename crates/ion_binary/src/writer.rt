@@ -10,7 +10,7 @@ ghost use Rattle.ion_value.specs.Items.{item_of};
 ghost use Rattle.ion_value.specs.Shares.{WriteCauses, fault_of};
 ghost use Rattle.ion_binary.specs.Canonical.{is_over, marker_if};
 ghost use Rattle.ion_binary.specs.Held.{texts_forgotten, value_held, value_put};
-ghost use Rattle.ion_binary.specs.Opening.{IsOpen, MayAdd};
+ghost use Rattle.ion_binary.specs.Opening.{IsOpen, MayCome};
 ghost use Rattle.ion_binary.specs.Writer.{CanPut, CanTake, ComesAt, Follows, IsNew, IsSound, PutsOctets, Stands, Taken, added, adds_at, held_in, item_refusal, limits_of, most_of, own_of};
 ghost use Rattle.ion_binary.specs.Writing.{Written, binary_adds, binary_puts, binary_refusal};
 ghost use Rattle.ion_binary.specs.ItemPuts.{binary_grows, binary_silent};
@@ -113,9 +113,7 @@ impl<A: Allocator + Copy> BinWriter<A> {
     // Adds an item to the open value.
     fn add<N: Names>(&mut self, meter: &mut Meter<A>, item: &Item<'_, N>) -> Result<(), Fault>
         requires can_take { CanTake self.old meter.old }
-        requires open { IsOpen self.old.limits self.old.open_value }
-        requires may_add { MayAdd self.old.limits self.old.open_value
-            (item_of N.text item.now).head (item_of N.text item.now) }
+        requires comes { MayCome self.old.limits self.old.open_value (item_of N.text item.now) }
         ensures held { OnOk result
             (held_in self.new ≡ added (held_in self.old) (item_of N.text item.now)) }
         ensures open { OnOk result (IsOpen self.new.limits self.new.open_value) }

@@ -6,6 +6,7 @@ use Rattle.ion_meter.specs.declared.device.Output.{Ghosts as OutputOf}
 use Rattle.ion_meter.specs.declared.fault.Fault.{Fault}
 use Rattle.ion_meter.specs.declared.fault.Fault.TheVariants.{Memory}
 use Rattle.ion_value.specs.Shares.{Charges}
+use Rattle.ion_value.specs.Standing.{HeadInRange}
 use Rattle.ion_value.specs.Value.{Head, PlacedItem}
 use Rattle.ion_text_out.specs.declared.writer.TextWriter.{TextWriter}
 use Rattle.ion_text_out.specs.Text.{Open, item_text}
@@ -29,6 +30,11 @@ IsSound w = IsReady w.limits (length w.kinds)
 -- there is room for what begins here
 abbrev pub HasRoomFor : {A S : Type 0} → TextWriter A → Head S → Type 0
 HasRoomFor w head = HasRoom w.limits.depth (length w.kinds) head
+
+-- what comes is within its range, and there is room for it
+pub record MayCome {A S : Type 0} (w : TextWriter A) (head : Head S) : Type 0 where
+  pub range : HeadInRange head
+  pub fits : HasRoomFor w head
 
 -- the text that an item adds here
 abbrev pub text_of : {A : Type 0} → TextWriter A → PlacedItem → List ℕ

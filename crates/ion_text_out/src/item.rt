@@ -197,27 +197,28 @@ fn put_value<O: Output, A: Allocator + Copy, N: Names>(
     put_body(sink, head)
 }
 
-/// Puts an item, where these containers are open and the innermost is empty or not.
+/// Puts an item with such a head, where these containers are open and the innermost is empty or not.
 #[inline(always)]
 pub fn put_item<O: Output, A: Allocator + Copy, N: Names>(
     sink: &mut Sink<O, A>,
     kinds: &[Kind],
     empty: bool,
     item: &Item<'_, N>,
+    head: &Head<'_>,
 ) -> Result<(), Fault>
     requires range { HeadInRange (item_of N.text item.now).head }
+    requires head { raw_head head.now ≡ (item_of N.text item.now).head }
     ensures well { OnOk result (sink.old.fault ≡ None) }
     ensures cause { IfErr result (λ f. f ≡ Fault.WriteFault) }
     ensures passed { (f : Fault) → sink.old.fault ≡ Some f → sink.new ≡ sink.old }
     ensures puts { sink.old.fault ≡ None → IsPut O.Output sink.old sink.new result
         (item_text (shown kinds.now empty) (user_item (item_of N.text item.now))) }
 {
-    let head = item.head();
-    if let Err(fault) = put_first(sink, kinds, empty, &head) {
+    if let Err(fault) = put_first(sink, kinds, empty, head) {
         return Err(fault);
     }
-    if let Err(fault) = put_middle(sink, item, &head) {
+    if let Err(fault) = put_middle(sink, item, head) {
         return Err(fault);
     }
-    put_last(sink, kinds, &head)
+    put_last(sink, kinds, head)
 }

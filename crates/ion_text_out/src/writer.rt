@@ -11,7 +11,7 @@ ghost use Rattle.ion_text_out.specs.Text.{open_after};
 ghost use Rattle.ion_text_out.specs.Writing.{text_puts, text_adds, text_refusal, IsReady, Shows};
 ghost use Rattle.ion_value.specs.Value.{user_symbol_at};
 ghost use Rattle.ion_value.specs.Standing.{HeadInRange};
-ghost use Rattle.ion_text_out.specs.Steps.{held_by, opened_in, share_of, text_of, CanStep, HasRoomFor, PutsText, Stepped};
+ghost use Rattle.ion_text_out.specs.Steps.{CanStep, HasRoomFor, MayCome, PutsText, Stepped, held_by, opened_in, share_of, text_of};
 ghost use Rattle.ion_text_out.specs.Written.{text_grows, text-within};
 
 use crate::item::put_item;
@@ -78,8 +78,7 @@ impl<A: Allocator + Copy> TextWriter<A> {
         item: &Item<'_, N>,
     ) -> Result<(), Fault>
         requires can_step { CanStep self.old meter.old }
-        requires range { HeadInRange (item_of N.text item.now).head }
-        requires fits { HasRoomFor self.old (item_of N.text item.now).head }
+        requires comes { MayCome self.old (item_of N.text item.now).head }
         ensures opens { OnOk result (opened_in self.new
             ≡ open_after (opened_in self.old)
             (map_head user_symbol_at (item_of N.text item.now).head)) }
@@ -92,10 +91,10 @@ impl<A: Allocator + Copy> TextWriter<A> {
             (O.failure_count sink.old.device) (O.failure_count sink.new.device) }
         ensures stepped { Stepped self.old self.new meter.old meter.new }
     {
-        if let Err(fault) = put_item(sink, self.kinds.as_slice(), self.empty, item) {
+        let head = item.head();
+        if let Err(fault) = put_item(sink, self.kinds.as_slice(), self.empty, item, &head) {
             return Err(fault);
         }
-        let head = item.head();
         self.settle(meter, &head)
     }
 

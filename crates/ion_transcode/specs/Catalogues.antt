@@ -1,5 +1,5 @@
 -- What is read of a catalogue: a stream of shared tables, and nothing else.
-use Rattle.std.specs.Prelude.{◌≡◌, ◌≢◌, ℕ, ◌+◌, ◌<◌, ◌≤◌, List, [], length, Some, Result, Ok, Err}
+use Rattle.std.specs.Prelude.{◌≡◌, ◌≢◌, ℕ, ◌+◌, ◌<◌, ◌≤◌, List, [], length, Some, Result, Ok, Err, max}
 use Rattle.ion_meter.specs.Counts.{Counts}
 use Rattle.ion_meter.specs.declared.fault.Fault.{Fault}
 use Rattle.ion_meter.specs.declared.fault.Fault.TheVariants.{Refused, Memory, ReadFault, WriteFault, InputLimit}
@@ -88,6 +88,12 @@ pub record LoadCauses {T : Type 0} (answer : Result T Fault) (old new : Counts) 
 -- the most that is held while a catalogue is loaded: what a run to nothing holds, and the catalogue
 abbrev pub load_bound : Limits → ℕ
 load_bound limits = bound limits form.Text to.Nothing + limits.symbols
+
+-- what the loading of a catalogue leaves held, and what it holds at most
+pub record LoadCharges (limits : Limits) (kept : ℕ) (old new : Counts) : Type 0 where
+  pub cheap : kept ≤ limits.symbols
+  pub held : new.held ≡ old.held + kept
+  pub peak : new.peak ≤ max old.peak (old.held + load_bound limits)
 
 -- ---- laws
 

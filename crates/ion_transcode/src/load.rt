@@ -11,7 +11,7 @@ ghost use Rattle.ion_transcode.specs.declared.to.Form.TheVariants as form;
 ghost use Rattle.ion_transcode.specs.declared.to.To.TheVariants as to;
 ghost use Rattle.ion_transcode.specs.Bound.{share};
 ghost use Rattle.ion_transcode.specs.Calls.{Begins, HasRoom, IsFresh};
-ghost use Rattle.ion_transcode.specs.Catalogues.{HasCatalogVerdict, IsCatalog, LoadCauses, SaysCatalog, catalog_reading, kept_in, load_bound};
+ghost use Rattle.ion_transcode.specs.Catalogues.{HasCatalogVerdict, IsCatalog, LoadCauses, LoadCharges, SaysCatalog, catalog_reading, kept_in, load_bound};
 
 use crate::copy_stream::copy_stream;
 use crate::laws::{catalog_verdicts_are_read, catalogs_are_loaded};
@@ -134,9 +134,7 @@ fn load<I: Input, A: Allocator + Copy>(
         (I.failure_count input) (I.failure_count result.1)
         (I.observable input → limits.input < length (I.rest input)) }
     ensures input { I.observable result.1 ↔ I.observable input }
-    ensures cheap { kept_in result.0 ≤ limits.symbols }
-    ensures held { meter.new.held ≡ meter.old.held + kept_in result.0 }
-    ensures peak { meter.new.peak ≤ max meter.old.peak (meter.old.held + load_bound limits) }
+    ensures charges { LoadCharges limits (kept_in result.0) meter.old meter.new }
 {
     let source = match Source::new(meter, limits, input) {
         Ok(source) => source,

@@ -5,16 +5,16 @@ use Rattle.ion_text_out.proofs.item.put_item.Goals as goal
 
 pub returns-in-Err-clause-puts : goal.returns-in-Err-clause-puts
 returns-in-Err-clause-puts g c well =
-    item_first (shown c.args.kinds.now c.args.empty) (item_of g.N.Names.text c.args.item.now) (raw_head c.head-head.result) c.head-head.ensures c.in-Err.is (c.put_first.ensures.puts well)
+    item_first (shown c.args.kinds.now c.args.empty) (item_of g.N.Names.text c.args.item.now) (raw_head c.args.head.now) c.requires.head c.in-Err.is (c.put_first.ensures.puts well)
 
 pub returns-in-Err-put_middle-clause-puts : goal.returns-in-Err-put_middle-clause-puts
 returns-in-Err-put_middle-clause-puts g c well =
-    item_middle (shown c.args.kinds.now c.args.empty) (item_of g.N.Names.text c.args.item.now) (raw_head c.head-head.result) c.head-head.ensures c.in_default.is (c.put_first.ensures.puts well)
+    item_middle (shown c.args.kinds.now c.args.empty) (item_of g.N.Names.text c.args.item.now) (raw_head c.args.head.now) c.requires.head c.in_default.is (c.put_first.ensures.puts well)
     c.in-Err-put_middle.is c.put_middle.ensures
 
 pub returns-clause-puts : goal.returns-clause-puts
 returns-clause-puts g c well =
-    item_last (shown c.args.kinds.now c.args.empty) (item_of g.N.Names.text c.args.item.now) (raw_head c.head-head.result) c.head-head.ensures c.in_default.is (c.put_first.ensures.puts well)
+    item_last (shown c.args.kinds.now c.args.empty) (item_of g.N.Names.text c.args.item.now) (raw_head c.args.head.now) c.requires.head c.in_default.is (c.put_first.ensures.puts well)
     c.in_default-put_middle.is c.put_middle.ensures (c.put_last.ensures c.args.empty)
 
 pub returns-clause-cause : goal.returns-clause-cause

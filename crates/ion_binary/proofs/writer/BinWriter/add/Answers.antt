@@ -28,7 +28,7 @@ returns-then-not-front-clause-refuses g c r p is =
     let L : ℕ → Type 0 = λ l. first_over l w.symbols.texts (item_symbols item) ≡ None in
     let none : first_over w.limits.symbols w.symbols.texts (item_symbols item) ≡ None = subst L c.requires.can_take.sound.limit c.in-Ok.ensures.numbers.allowed in
     let over = front-over (held_in w) item c.put_front.new.symbols.texts c.put_front.new.buffer w.limits.value c.in-Ok.front c.in-Ok.ensures.texts c.in-Ok.ensures.front (long-of c.in-Ok.front.fits c.if-not-front.true) in
-    refused-long w.limits (held_in w) item none (front-refused w.limits w.open_value (held_in w) item c.requires.can_take.sound.within.octets c.requires.may_add over)
+    refused-long w.limits (held_in w) item none (front-refused w.limits w.open_value (held_in w) item c.requires.can_take.sound.within.octets c.requires.comes.follows over)
     ∙ (ap (λ (t : ℕ). let x : Option (Reason × ℕ) = Some (ValueLimit, t) in x) (sym c.top.ensures) ∙ same-why (Unit {0}) ValueLimit r c.top.result p is)
 
 pub take-requires-clause-may_follow : goal.take-requires-clause-may_follow
@@ -36,10 +36,10 @@ take-requires-clause-may_follow g c =
     let w = c.args.self.now in
     let item : PlacedItem = item_of g.N.Names.text c.args.item.now in
     let fits : c.in-Ok.front.fits ≡ true = fits-of c.in-Ok.front.fits c.if-not-front.false in
-    may-follow w.limits w.open_value (held_in w) item c.put_front.new.buffer c.in-Ok.front.ids (raw_head c.head-head.result) refl c.requires.open
+    may-follow w.limits w.open_value (held_in w) item c.put_front.new.buffer c.in-Ok.front.ids (raw_head c.head-head.result) refl c.requires.comes.counted
     (front-octets (held_in w) item c.put_front.new.symbols.texts c.put_front.new.buffer w.limits.value c.in-Ok.front c.in-Ok.ensures.texts c.in-Ok.ensures.front fits)
     (front-place (held_in w) item c.put_front.new.symbols.texts c.put_front.new.buffer w.limits.value c.in-Ok.front c.in-Ok.ensures.texts c.in-Ok.ensures.front fits)
-    c.head-head.ensures c.requires.may_add
+    c.head-head.ensures c.requires.comes.follows
 
 pub returns-in-Ok-true-clause-passes : goal.returns-in-Ok-true-clause-passes
 returns-in-Ok-true-clause-passes g c =

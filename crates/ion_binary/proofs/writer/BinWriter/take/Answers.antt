@@ -1,4 +1,4 @@
-use Rattle.std.proofs.Common.{◌≡◌, ℕ, List, None, Some, Err, Result, subst, ◌∙◌}
+use Rattle.std.proofs.Common.{rules, ◌≡◌, ℕ, List, None, Some, Err, Result, subst, ◌∙◌}
 use Rattle.ion_meter.specs.declared.fault.Fault.{Fault}
 use Rattle.ion_meter.specs.declared.fault.Fault.TheVariants.{Refused}
 use Rattle.ion_meter.specs.declared.fault.Reason.{Reason}
@@ -11,9 +11,11 @@ use Rattle.ion_binary.proofs.WriterFollows.{adds-are, follows-err, follows-out, 
 use Rattle.ion_binary.proofs.WriterSteps.{puts-none}
 use Rattle.ion_binary.proofs.writer.BinWriter.take.Goals as goal
 
-pub add-requires-clause-may_add : goal.add-requires-clause-may_add
-add-requires-clause-may_add g c =
-    may-add-behind c.args.self.now c.forget.new.self c.requires.comes.0 (item_of g.N.Names.text c.args.item.now) c.requires.comes.1 c.forget.ensures.open_value c.forget.ensures.taken.limits
+pub add-requires-clause-comes : goal.add-requires-clause-comes
+add-requires-clause-comes g c = record {
+  counted = search rules;
+  follows = may-add-behind c.args.self.now c.forget.new.self c.requires.comes.0 (item_of g.N.Names.text c.args.item.now) c.requires.comes.1 c.forget.ensures.open_value c.forget.ensures.taken.limits;
+}
 
 pub returns-in-Err-clause-follows : goal.returns-in-Err-clause-follows
 returns-in-Err-clause-follows g c s comes =

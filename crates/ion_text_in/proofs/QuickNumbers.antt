@@ -1,5 +1,5 @@
 -- Ints and decimals that are read in one pass.
-use Rattle.std.proofs.Common.{◌≡◌, IsTrue, ℕ, zero, suc, ◌+◌, ◌*◌, ◌-◌, ◌^◌, ◌<◌, ◌≤◌, pos, ◌-ℤ◌, inl, inr, Bool, true, false, not, ◌&&◌, ◌||◌, ◌==◌, nat_lt, Some, Ok, List, [], ◌∷◌, ◌++◌, length, take, drop, get_or, codes, refl, sym, ap, subst, ◌∙◌, arith}
+use Rattle.std.proofs.Common.{◌≡◌, IsTrue, ℕ, zero, suc, ◌+◌, ◌*◌, ◌-◌, ◌^◌, ◌<◌, ◌≤◌, pos, ◌-ℤ◌, inl, inr, Bool, true, false, not, ◌&&◌, ◌||◌, ◌==◌, nat_lt, Some, Ok, List, [], ◌∷◌, ◌++◌, length, take, drop, get_or, codes, refl, sym, ap, subst, ◌∙◌, arith, None, if◌then◌else◌, ℤ}
 use Rattle.std.proofs.lemmas.Bool.{and_parts, and_right, lt-ltb}
 use Rattle.std.proofs.lemmas.Bool.Decides.{nat_tests}
 use Rattle.std.proofs.lemmas.Int.{ints}
@@ -11,18 +11,17 @@ use Rattle.ion_value.specs.Decimal.{IsDecimal, decimal_in_range, decimal_of_text
 use Rattle.ion_value.specs.Digits.{is_digit, digit_value, all_are, first_is, has_minus}
 use Rattle.ion_value.specs.DigitReading.{Read, read_digits, read_whole, read_int, read_fraction}
 use Rattle.ion_value.specs.Name.{is_one_of}
+use Rattle.ion_value.specs.Number.{signed}
 use Rattle.ion_value.proofs.LeadingDigits.{all_are-append}
 use Rattle.ion_value.proofs.TextDigits.{ten, zero_first, int-text, int-whole}
-use Rattle.ion_value.proofs.TextDecimals.{sign-read, decimal-text, mantissa-pointed, behind-nothing, decimal-in_range, one-shape}
-use Rattle.ion_text_in.specs.declared.number.Number.{Number}
+use Rattle.ion_value.proofs.TextDecimals.{sign-read, decimal-text, exponent_digits, exponent-read, mantissa-plain, mantissa-pointed, behind-nothing, decimal-in_range, one-shape}
 use Rattle.ion_text_in.specs.declared.number.Number.TheVariants as numbers
 use Rattle.ion_text_in.specs.declared.run.Run.TheVariants as run
 use Rattle.ion_text_in.specs.Blanks.{is_white, begins_comment}
-use Rattle.ion_value.specs.Standing.{InRange}
-use Rattle.ion_text_in.specs.Quick.{number_by, pointed, signed_int, signed_text, AreDigits, IsWhole, IsQuick}
+use Rattle.ion_text_in.specs.Quick.{scaled, signed_int, signed_text, AreDigits, IsWhole, IsQuick}
 use Rattle.ion_text_in.specs.Runs.{EndBehind, stays}
 use Rattle.ion_text_in.specs.Token.{bytes_of, in_run, run_token}
-use Rattle.ion_text_in.specs.Views.{as_number, number_token, AreShown}
+use Rattle.ion_text_in.specs.Views.{number_token, AreShown}
 use Rattle.ion_text_in.proofs.Meaning.{run-more, run-none}
 use Rattle.ion_text_in.proofs.RunEnds.{stays-on, token-shown}
 use Rattle.ion_text_in.proofs.RunTokens.{int-token, decimal-token}
@@ -172,12 +171,11 @@ int-valid negative n small = record { positive_zero = λ h. positive negative n 
     positive false n h = absurd (cc h)
 
 pub quick-int : (negative : Bool) (bytes : List ℕ) (n k : ℕ) → IsWhole bytes n k → stops (get_or bytes k 0) ≡ true → n < 2 ^ 128
-    → IsQuick negative bytes (record { negative = negative; number = n; places = 0; count = k })
+    → IsQuick negative bytes (record { negative = negative; number = n; exponent = None; count = k })
 quick-int negative bytes n k so stop small = record {
   sign = refl;
   some = so.some;
   within = so.within;
-  few = omega arith;
   goes = all-stay (take k bytes) so.read.digits;
   ends = stop-ends bytes k so.within stop;
   gives = int-token (signed_text negative (take k bytes)) (signed_int negative n) (int-text-read negative bytes n k so small);
@@ -198,12 +196,19 @@ fraction-is start bytes m j so some =
     ∙ ap (λ (v : Bool). read_digits 10 m v j []) (lt-ltb 0 j some)
     ∙ read-last m j
 
-pub split-text : (bytes : List ℕ) (k j : ℕ) → k < length bytes → get_or bytes k 0 ≡ 46 → take (k + 1 + j) bytes ≡ take k bytes ++ (46 ∷ take j (drop (k + 1) bytes))
-split-text bytes k j less point =
+split-text : (bytes : List ℕ) (c k j : ℕ) → k < length bytes → get_or bytes k 0 ≡ c → take (k + 1 + j) bytes ≡ take k bytes ++ (c ∷ take j (drop (k + 1) bytes))
+split-text bytes c k j less is =
     take-add (k + 1) j bytes
     ∙ ap (λ (l : List ℕ). l ++ take j (drop (k + 1) bytes)) (take_more bytes k 0 less)
     ∙ append_assoc (take k bytes) (get_or bytes k 0 ∷ []) (take j (drop (k + 1) bytes))
-    ∙ ap (λ (b : ℕ). take k bytes ++ (b ∷ take j (drop (k + 1) bytes))) point
+    ∙ ap (λ (b : ℕ). take k bytes ++ (b ∷ take j (drop (k + 1) bytes))) is
+
+minus-is : (j : ℕ) → pos 0 -ℤ pos j ≡ signed true j
+minus-is j = omega (arith, ints)
+
+minus-none : (below : Bool) (m : ℕ) → signed below m -ℤ pos 0 ≡ signed below m
+minus-none true m = omega (arith, ints)
+minus-none false m = omega (arith, ints)
 
 decimal-valid : (d : Decimal) (j : ℕ) → d.coefficient < 2 ^ 128 → d.exponent ≡ pos 0 -ℤ pos j → j ≤ 128 → IsDecimal d
 decimal-valid d j small e few = record { coefficient = small; exponent = (omega (arith, ints, e, few), omega (arith, ints, e, few)) }
@@ -224,37 +229,101 @@ decimal-alone text d e = elim (one-shape text) [
   | inr none ↦ absurd (cc (none, e))
 ]
 
-pointed-valid : (negative : Bool) (m j : ℕ) → m < 2 ^ 128 → j ≤ 128 → IsDecimal (pointed negative m j)
-pointed-valid negative m j small few = decimal-valid (pointed negative m j) j small refl few
+scaled-valid : (negative below : Bool) (n j : ℕ) → n < 2 ^ 128 → j ≤ 128 → IsDecimal (scaled negative n (signed below j))
+scaled-valid negative true n j small few = decimal-valid (scaled negative n (signed true j)) j small (sym (minus-is j)) few
+scaled-valid negative false n j small few = record { coefficient = small; exponent = (omega (arith, ints, few), omega (arith, ints, few)) }
 
 decimal-gives : (negative : Bool) (bytes : List ℕ) (n k m j : ℕ) → IsWhole bytes n k → AreDigits n (drop (k + 1) bytes) m j → 0 < j → m < 2 ^ 128 → j ≤ 128
-    → run_token (signed_text negative (take k bytes ++ (46 ∷ take j (drop (k + 1) bytes)))) ≡ Ok (number_token (numbers.Decimal (pointed negative m j)))
+    → run_token (signed_text negative (take k bytes ++ (46 ∷ take j (drop (k + 1) bytes)))) ≡ Ok (number_token (numbers.Decimal (scaled negative m (signed true j))))
 decimal-gives negative bytes n k m j whole behind some small few =
-    let d : Decimal = pointed negative m j in
+    let d : Decimal = scaled negative m (signed true j) in
+    let within = ap (decimal_in_range negative m) (minus-is j) ∙ decimal-in_range d (scaled-valid negative true m j small few) in
     let read = decimal-read negative (take k bytes) (take j (drop (k + 1) bytes)) n k m j d (taken-some bytes k whole.some whole.read.within) whole.read.digits
     (read-front bytes (46 ∷ take j (drop (k + 1) bytes)) n k whole refl ∙ read-point n k (take j (drop (k + 1) bytes)))
-    (fraction-is n (drop (k + 1) bytes) m j behind some)
-    (decimal-in_range d (pointed-valid negative m j small few)) in
+    (fraction-is n (drop (k + 1) bytes) m j behind some) within in
     decimal-alone (signed_text negative (take k bytes ++ (46 ∷ take j (drop (k + 1) bytes)))) d read
-
-by-places : (negative : Bool) (m j : ℕ) → 0 < j → number_by negative m j ≡ numbers.Decimal (pointed negative m j)
-by-places negative m j some = rw (lt-ltb 0 j some) refl
 
 pub quick-decimal : (negative : Bool) (bytes : List ℕ) (n k m j : ℕ) → IsWhole bytes n k → get_or bytes k 0 ≡ 46 → AreDigits n (drop (k + 1) bytes) m j → 0 < j
     → k + 1 + j < length bytes → stops (get_or bytes (k + 1 + j) 0) ≡ true → m < 2 ^ 128 → j ≤ 128
-    → IsQuick negative bytes (record { negative = negative; number = m; places = j; count = k + 1 + j })
+    → IsQuick negative bytes (record { negative = negative; number = m; exponent = Some (signed true j); count = k + 1 + j })
 quick-decimal negative bytes n k m j whole point behind some within stop small few =
-    let text = split-text bytes k j whole.within point in
-    let is = by-places negative m j some in
+    let text = split-text bytes 46 k j whole.within point in
     record {
       sign = refl;
       some = omega (arith, some);
       within = within;
-      few = few;
       goes = ap (all_are (stays run.Number)) text
           ∙ all_are-append (stays run.Number) (take k bytes) (46 ∷ take j (drop (k + 1) bytes))
           ∙ rw (all-stay (take k bytes) whole.read.digits) (all-stay (take j (drop (k + 1) bytes)) behind.digits);
       ends = stop-ends bytes (k + 1 + j) within stop;
-      gives = ap (λ (l : List ℕ). run_token (signed_text negative l)) text ∙ decimal-gives negative bytes n k m j whole behind some small few ∙ ap (λ (x : Number). Ok (number_token x)) (sym is);
-      range = subst (λ (x : Number). InRange (as_number x)) (sym is) (pointed-valid negative m j small few);
+      gives = ap (λ (l : List ℕ). run_token (signed_text negative l)) text ∙ decimal-gives negative bytes n k m j whole behind some small few;
+      range = scaled-valid negative true m j small few;
+    }
+
+-- ---- decimals with an exponent
+
+read-mark : (n k : ℕ) (p : List ℕ) → read_digits 10 n true k (100 ∷ p) ≡ Some (made n k (100 ∷ p))
+unfolding read_digits
+read-mark n k p = refl
+
+no-sign : (ds : List ℕ) → 0 < length ds → all_are is_digit ds ≡ true → (first_is (λ b. b == 43 || b == 45) ds ≡ false) × (first_is (λ b. b == 45) ds ≡ false)
+no-sign [] some e = absurd (omega (arith, some))
+no-sign (d ∷ ds) some e = let parts = and_parts (is_digit d) (all_are is_digit ds) e in let digit = parts.0 in (grind (arith, nat_tests), grind (arith, nat_tests))
+
+power-parts : (below : Bool) (ds : List ℕ) → 0 < length ds → all_are is_digit ds ≡ true → (ds ≡ exponent_digits (signed_text below ds)) × (below ≡ first_is (λ b. b == 45) (signed_text below ds))
+power-parts true ds some e = (refl, refl)
+power-parts false ds some e = let none = no-sign ds some e in (rw none.0 refl, sym none.1)
+
+digits-read : (bytes : List ℕ) (m n : ℕ) → AreDigits 0 bytes m n → 0 < n → read_digits 10 0 false 0 (take n bytes) ≡ Some (made m n [])
+digits-read bytes m n so some =
+    ap (λ (l : List ℕ). read_digits 10 0 false 0 l) (sym (append-nil (take n bytes)))
+    ∙ so.read []
+    ∙ ap (λ (v : Bool). read_digits 10 m v n []) (lt-ltb 0 n some)
+    ∙ read-last m n
+
+power-read : (negative below : Bool) (ds ys : List ℕ) (n k m j : ℕ) (d : Decimal) → 0 < length ds → all_are is_digit ds ≡ true
+    → read_whole (ds ++ (100 ∷ signed_text below (take j ys))) ≡ Some (made n k (100 ∷ signed_text below (take j ys))) → AreDigits 0 ys m j → 0 < j
+    → decimal_in_range negative n (signed below m) ≡ Ok d → decimal_of_text (signed_text negative (ds ++ (100 ∷ signed_text below (take j ys)))) ≡ Ok d
+power-read negative below ds ys n k m j d some digits whole power more within =
+    let p : List ℕ = signed_text below (take j ys) in
+    let sign = sign-read negative (ds ++ (100 ∷ p)) (sign-front ds (100 ∷ p) some digits) in
+    let parts = power-parts below (take j ys) (taken-some ys j more power.within) power.digits in
+    let is = exponent-read p (take j ys) below m j [] parts.0 parts.1 (digits-read ys m j power more) (sym (length-take-le j ys power.within)) in
+    sym (decimal-text (signed_text negative (ds ++ (100 ∷ p))) (ds ++ (100 ∷ p)) negative (sym sign.0) (sym sign.1))
+    ∙ mantissa-plain (ds ++ (100 ∷ p)) n k (100 ∷ p) whole refl negative
+    ∙ rw is.0 (ap (λ (e : ℤ). decimal_in_range negative n (e -ℤ pos 0)) is.1 ∙ ap (decimal_in_range negative n) (minus-none below m) ∙ within)
+
+-- how many bytes there are of a sign
+abbrev pub sign_length : Bool → ℕ
+sign_length below = if below then 1 else 0
+
+take-signed : (below : Bool) (ys : List ℕ) (n : ℕ) → take (sign_length below + n) (signed_text below ys) ≡ signed_text below (take n ys)
+take-signed true ys n = let same : 1 + n ≡ suc n = omega arith in ap (λ (k : ℕ). take k (45 ∷ ys)) same
+take-signed false ys n = let same : 0 + n ≡ n = omega arith in ap (λ (k : ℕ). take k ys) same
+
+signed-stay : (below : Bool) (ds : List ℕ) → all_are (stays run.Number) ds ≡ true → all_are (stays run.Number) (signed_text below ds) ≡ true
+signed-stay true ds e = e
+signed-stay false ds e = e
+
+pub quick-power : (negative below : Bool) (bytes ys : List ℕ) (n k m j : ℕ) → IsWhole bytes n k → get_or bytes k 0 ≡ 100 → signed_text below ys ≡ drop (k + 1) bytes → AreDigits 0 ys m j → 0 < j
+    → k + 1 + (sign_length below + j) < length bytes → stops (get_or bytes (k + 1 + (sign_length below + j)) 0) ≡ true → n < 2 ^ 128 → m ≤ 128
+    → IsQuick negative bytes (record { negative = negative; number = n; exponent = Some (signed below m); count = k + 1 + (sign_length below + j) })
+quick-power negative below bytes ys n k m j whole mark behind power some within stop small few =
+    let p : List ℕ = signed_text below (take j ys) in
+    let split = split-text bytes 100 k (sign_length below + j) whole.within mark in
+    let front : take (sign_length below + j) (drop (k + 1) bytes) ≡ p = ap (take (sign_length below + j)) (sym behind) ∙ take-signed below ys j in
+    let text : take (k + 1 + (sign_length below + j)) bytes ≡ take k bytes ++ (100 ∷ p) = split ∙ ap (λ (l : List ℕ). take k bytes ++ (100 ∷ l)) front in
+    let d : Decimal = scaled negative n (signed below m) in
+    let read = power-read negative below (take k bytes) ys n k m j d (taken-some bytes k whole.some whole.read.within) whole.read.digits
+    (read-front bytes (100 ∷ p) n k whole refl ∙ read-mark n k p) power some (decimal-in_range d (scaled-valid negative below n m small few)) in
+    record {
+      sign = refl;
+      some = omega arith;
+      within = within;
+      goes = ap (all_are (stays run.Number)) text
+          ∙ all_are-append (stays run.Number) (take k bytes) (100 ∷ p)
+          ∙ rw (all-stay (take k bytes) whole.read.digits) (signed-stay below (take j ys) (all-stay (take j ys) power.digits));
+      ends = stop-ends bytes (k + 1 + (sign_length below + j)) within stop;
+      gives = ap (λ (l : List ℕ). run_token (signed_text negative l)) text ∙ decimal-alone (signed_text negative (take k bytes ++ (100 ∷ p))) d read;
+      range = scaled-valid negative below n m small few;
     }

@@ -1,6 +1,5 @@
 -- Lanes of frequent tokens: which may come where the reader stands, and what they make of it.
-use Rattle.std.proofs.Common.{◌≡◌, ℕ, ◌<◌, ◌≤◌, ◌-ℤ◌, pos, true, false, List, [], ◌∷◌, length, None, Some, Ok, Err, refl, ap, subst, ◌∙◌, arith}
-use Rattle.std.proofs.lemmas.Bool.{le-ltb, lt-ltb}
+use Rattle.std.proofs.Common.{◌≡◌, ℕ, ◌≤◌, true, false, List, [], ◌∷◌, length, None, Some, Ok, Err, refl, ap, subst, ◌∙◌, arith, ℤ}
 use Rattle.ion_meter.specs.Counts.{Counts}
 use Rattle.ion_meter.specs.declared.device.Input.{Ghosts as InputOf}
 use Rattle.ion_meter.specs.declared.fault.Fault.{Fault}
@@ -18,7 +17,7 @@ use Rattle.ion_text_in.specs.declared.token.Body.{Body}
 use Rattle.ion_text_in.specs.declared.token.Body.TheVariants as body
 use Rattle.ion_text_in.specs.Expecting.{wanted}
 use Rattle.ion_text_in.specs.Positions.{Wants, a_value, a_field, a_separator, at}
-use Rattle.ion_text_in.specs.Quick.{as_quick, pointed, signed_int}
+use Rattle.ion_text_in.specs.Quick.{as_quick, scaled, signed_int}
 use Rattle.ion_text_in.specs.Reading.{colon_from, colon_of, may_come, take}
 use Rattle.ion_text_in.specs.Steps.{annotations_in, comes, field_in, held_by, naming, naming_here, opened_in, part_by, scalar_by, share_of, taking, IsSized, StepGives}
 use Rattle.ion_text_in.specs.Token as tokens
@@ -71,14 +70,11 @@ module _ {I A : Type 0} where
   unfolding take
   plain-taken r scalar s place d value same = rw (value, ← same) refl
 
-pub quick-int : (text : List ℕ) (place : ℕ) (x : Quick) (int : Int) → x.places ≤ 0 → int ≡ signed_int x.negative x.number → as_scalar text place (body.Int int) ≡ as_number (as_quick x)
-quick-int text place x int none is = rw (is, le-ltb 0 x.places none) refl
+pub quick-int : (text : List ℕ) (place : ℕ) (x : Quick) (int : Int) → x.exponent ≡ None → int ≡ signed_int x.negative x.number → as_scalar text place (body.Int int) ≡ as_number (as_quick x)
+quick-int text place x int none is = rw (is, none) refl
 
-pub quick-decimal : (text : List ℕ) (place : ℕ) (x : Quick) (d : Decimal) → 0 < x.places → d.negative ≡ x.negative → d.coefficient ≡ x.number → d.exponent ≡ pos 0 -ℤ pos x.places
-    → as_scalar text place (body.Decimal d) ≡ as_number (as_quick x)
-quick-decimal text place x d some negative coefficient exponent =
-    let is : d ≡ pointed x.negative x.number x.places = rw (← negative, ← coefficient, ← exponent) refl in
-    rw (is, lt-ltb 0 x.places some) refl
+pub quick-decimal : (text : List ℕ) (place : ℕ) (x : Quick) (e : ℤ) (d : Decimal) → x.exponent ≡ Some e → d ≡ scaled x.negative x.number e → as_scalar text place (body.Decimal d) ≡ as_number (as_quick x)
+quick-decimal text place x e d some is = rw (is, some) refl
 
 -- ---- names of fields
 

@@ -1,5 +1,5 @@
 -- Ints and decimals that are read in one pass.
-use Rattle.std.specs.Prelude.{◌≡◌, ℕ, ◌<◌, ◌≤◌, pos, ◌-ℤ◌, Bool, true, false, ◌&&◌, ◌||◌, ◌==◌, nat_lt, if◌then◌else◌, List, [], ◌∷◌, ◌++◌, length, take, drop, Ok}
+use Rattle.std.specs.Prelude.{◌≡◌, ℕ, ◌<◌, ◌≤◌, ℤ, Option, Some, None, Bool, true, false, ◌&&◌, ◌||◌, ◌==◌, nat_lt, if◌then◌else◌, List, [], ◌∷◌, ◌++◌, length, take, drop, Ok}
 use Rattle.ion_value.specs.declared.decimal.Decimal.{Decimal}
 use Rattle.ion_value.specs.declared.int.Int.{Int}
 use Rattle.ion_value.specs.Digits.{is_digit, all_are, first_is}
@@ -21,16 +21,17 @@ signed_text negative text = (if negative then 45 ∷ [] else []) ++ text
 abbrev pub signed_int : Bool → ℕ → Int
 signed_int negative n = record { negative = negative && nat_lt 0 n; magnitude = n }
 
--- the decimal of a sign and digits, of which so many stand behind the point
-abbrev pub pointed : Bool → ℕ → ℕ → Decimal
-pointed negative n places = record { negative = negative; coefficient = n; exponent = pos 0 -ℤ pos places }
+-- the decimal of a sign, digits and an exponent
+abbrev pub scaled : Bool → ℕ → ℤ → Decimal
+scaled negative n e = record { negative = negative; coefficient = n; exponent = e }
 
--- the number of a sign and digits, with a point before the last of them or none
-abbrev pub number_by : Bool → ℕ → ℕ → Number
-number_by negative n places = if nat_lt 0 places then numbers.Decimal (pointed negative n places) else numbers.Int (signed_int negative n)
+-- the number of a sign, digits, and an exponent or none
+abbrev pub number_by : Bool → ℕ → Option ℤ → Number
+number_by negative n (Some e) = numbers.Decimal (scaled negative n e)
+number_by negative n None = numbers.Int (signed_int negative n)
 
 abbrev pub as_quick : Quick → Number
-as_quick x = number_by x.negative x.number x.places
+as_quick x = number_by x.negative x.number x.exponent
 
 -- so many bytes in front are digits, and behind a number they spell another, whatever follows them
 pub record AreDigits (start : ℕ) (bytes : List ℕ) (number count : ℕ) : Type 0 where
@@ -50,7 +51,6 @@ pub record IsQuick (negative : Bool) (bytes : List ℕ) (x : Quick) : Type 0 whe
   pub sign : x.negative ≡ negative
   pub some : 0 < x.count
   pub within : x.count < length bytes
-  pub few : x.places ≤ 128
   pub goes : all_are (stays run.Number) (take x.count bytes) ≡ true
   pub ends : (more : List ℕ) → in_run (drop x.count bytes ++ more) ≡ false
   pub gives : run_token (signed_text negative (take x.count bytes)) ≡ Ok (number_token (as_quick x))

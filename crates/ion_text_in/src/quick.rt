@@ -1,9 +1,10 @@
-//! Ints and decimals that 64 bits hold, without underscores, exponents and bases, read in one pass
+//! Ints and decimals that 64 bits hold, without underscores and bases, read in one pass
 //! (Ion specification, "Integers" and "Real Numbers").
-ghost use Rattle.std.specs.Prelude.{◌≡◌, ◌≤◌, ◌&&◌, ◌||◌, ◌==◌, pos, ◌-ℤ◌, Ok, drop, take, get_or, IfSome};
+ghost use Rattle.std.specs.Prelude.{◌≡◌, ◌≤◌, ◌&&◌, ◌||◌, ◌==◌, Ok, drop, take, get_or, IfSome};
 ghost use Rattle.ion_value.specs.Digits.{first_is, is_digit};
+ghost use Rattle.ion_value.specs.Number.{signed};
 ghost use Rattle.ion_value.specs.Standing.{InRange};
-ghost use Rattle.ion_text_in.specs.Quick.{as_quick, signed_int, signed_text, AreDigits, IsQuick, IsWhole};
+ghost use Rattle.ion_text_in.specs.Quick.{as_quick, scaled, signed_int, signed_text, AreDigits, IsQuick, IsWhole};
 ghost use Rattle.ion_text_in.specs.declared.scanned.Scanned.TheVariants.{Whole};
 ghost use Rattle.ion_text_in.specs.Scanners.{Shows};
 ghost use Rattle.ion_text_in.specs.Token.{a_run, bytes_of, in_run, run_token, token_of};
@@ -13,29 +14,28 @@ use crate::run::stops_number;
 use ion_value::decimal::Decimal;
 use ion_value::int::Int;
 
-/// An int or a decimal by its sign and digits.
+/// An int or a decimal by its sign, digits and exponent.
 #[derive(Clone, Copy)]
 pub(crate) struct Quick {
     /// Whether there is a minus in front.
     pub(crate) negative: bool,
     /// What the digits spell.
     pub(crate) number: u64,
-    /// How many of them stand behind a point; 0 for an int.
-    pub(crate) places: usize,
+    /// The exponent of a decimal; none for an int.
+    pub(crate) exponent: Option<i32>,
     /// How many bytes it has.
     pub(crate) count: usize,
 }
 
 /// The int or decimal at the front of these bytes, where it has no more than the limit.
 ///
-/// There is an answer where it is a minus or none and digits, which may have one point among them,
-/// where 64 bits hold the number that they spell, and where punctuation, a quote or white space
-/// ends it within the bytes.
+/// There is an answer where it is a minus or none and digits, which may have one point among them or
+/// a `d` and a small exponent behind them, where 64 bits hold the number that they spell, and where
+/// punctuation, a quote or white space ends it within the bytes.
 #[inline(always)]
 pub(crate) fn scan_quick(limit: u64, bytes: &[u8]) -> Option<Quick>
     ensures shows { IfSome result (λ x. Shows number_token bytes.now
         (Whole (as_quick x) x.count) (token_of (Some limit) a_run)) }
-    ensures few { IfSome result (λ x. x.places ≤ 128) }
     ensures range { IfSome result (λ x. InRange (as_number (as_quick x))) }
 {
     let Some(quick) = quick_number(bytes) else {
@@ -53,7 +53,6 @@ fn quick_number(bytes: &[u8]) -> Option<Quick>
     ensures shown { IfSome result (λ x. AreShown (bytes_of in_run) bytes.now x.count) }
     ensures gives { IfSome result (λ x. run_token (take x.count bytes.now)
         ≡ Ok (number_token (as_quick x))) }
-    ensures few { IfSome result (λ x. x.places ≤ 128) }
     ensures range { IfSome result (λ x. InRange (as_number (as_quick x))) }
 {
     let (negative, digits) = sign(bytes);
@@ -63,7 +62,7 @@ fn quick_number(bytes: &[u8]) -> Option<Quick>
     Some(Quick {
         negative,
         number: quick.number,
-        places: quick.places,
+        exponent: quick.exponent,
         count: if negative {
             quick.count + 1
         } else {
@@ -96,13 +95,16 @@ fn quick_digits(negative: bool, digits: &[u8]) -> Option<Quick>
     if next == b'.' {
         return quick_decimal(negative, whole, count, digits);
     }
+    if next == b'd' {
+        return quick_power(negative, whole, count, digits);
+    }
     if !stops_number(next) {
         return None;
     }
     Some(Quick {
         negative,
         number: whole,
-        places: 0,
+        exponent: None,
         count,
     })
 }
@@ -130,6 +132,9 @@ fn begins_zeros(digits: &[u8]) -> bool
 // How many digits there may be behind a point.
 const MOST_PLACES: usize = 128;
 
+// The greatest magnitude of an exponent.
+const GREATEST: u64 = 128;
+
 // The decimal of so many digits with a point behind them.
 #[inline(always)]
 fn quick_decimal(negative: bool, whole: u64, count: usize, digits: &[u8]) -> Option<Quick>
@@ -145,23 +150,54 @@ fn quick_decimal(negative: bool, whole: u64, count: usize, digits: &[u8]) -> Opt
     Some(Quick {
         negative,
         number: coefficient,
-        places,
+        exponent: Some(exponent_of(true, places as u64)),
         count: end,
     })
 }
 
-/// The decimal of a sign and digits, of which so many stand behind the point.
+// The decimal of so many digits with a `d` behind them and an exponent.
 #[inline(always)]
-pub(crate) fn pointed(negative: bool, coefficient: u64, places: usize) -> Decimal
-    requires few { places ≤ 128 }
-    ensures negative { result.negative ≡ negative }
-    ensures coefficient { result.coefficient ≡ coefficient }
-    ensures exponent { result.exponent ≡ pos 0 -ℤ pos places }
+fn quick_power(negative: bool, whole: u64, count: usize, digits: &[u8]) -> Option<Quick>
+    requires whole { IsWhole digits.now whole count }
+    requires mark { get_or digits.now count 0 ≡ 100 }
+    ensures { IfSome result (λ x. IsQuick negative digits.now x) }
+{
+    let (below, power) = sign(&digits[count + 1..]);
+    let (magnitude, n) = digits_behind(0, power);
+    let end = if below { count + 2 + n } else { count + 1 + n };
+    if n == 0 || magnitude > GREATEST || end >= digits.len() || !stops_number(digits[end]) {
+        return None;
+    }
+    Some(Quick {
+        negative,
+        number: whole,
+        exponent: Some(exponent_of(below, magnitude)),
+        count: end,
+    })
+}
+
+// The exponent of this sign and magnitude.
+#[inline(always)]
+fn exponent_of(below: bool, magnitude: u64) -> i32
+    requires few { magnitude ≤ 128 }
+    ensures { result ≡ signed below magnitude }
+{
+    if below {
+        -(magnitude as i32)
+    } else {
+        magnitude as i32
+    }
+}
+
+/// The decimal of a sign, digits and an exponent.
+#[inline(always)]
+pub(crate) fn scaled(negative: bool, coefficient: u64, exponent: i32) -> Decimal
+    ensures { result ≡ scaled negative coefficient exponent }
 {
     Decimal {
         negative,
         coefficient: coefficient as u128,
-        exponent: -(places as i32),
+        exponent,
     }
 }
 

@@ -18,7 +18,7 @@ use crate::expected::{Expected, may_come};
 use crate::first::{First, shows_colon};
 use crate::number::next_number;
 use crate::operator::pass_mark;
-use crate::quick::{Quick, pointed, scan_quick, signed_int};
+use crate::quick::{Quick, scaled, scan_quick, signed_int};
 use crate::text::{next_quoted_symbol, next_short_string};
 use crate::token::{Body, Symbol, Token, next_token, number_body};
 use crate::word::{Word, next_word};
@@ -234,7 +234,6 @@ impl<I: Input, A: Allocator + Copy> TextReader<I, A> {
         requires value { self.old.expected ≡ Expected.Value }
         requires inside { IsInside self.old }
         requires sized { IsSized self.old }
-        requires few { quick.places ≤ 128 }
         requires range { InRange (as_number (as_quick quick)) }
         ensures gives { I.observable self.old.source.device → StepGives I.Input
             (taking self.old place (number_token (as_quick quick)) (cursor I.Input self.old.source))
@@ -243,12 +242,16 @@ impl<I: Input, A: Allocator + Copy> TextReader<I, A> {
         ensures stepped { (m : Counts) → held_by self.old ≤ m.held
             → Stepped I.Input StepResult.Item self.old self.new m m (Ok result) }
     {
-        if quick.places > 0 {
-            let decimal = pointed(quick.negative, quick.number, quick.places);
-            return self.scalar(Body::Decimal(decimal), place, None);
+        match quick.exponent {
+            Some(exponent) => {
+                let decimal = scaled(quick.negative, quick.number, exponent);
+                self.scalar(Body::Decimal(decimal), place, None)
+            }
+            None => {
+                let int = signed_int(quick.negative, quick.number);
+                self.scalar(Body::Int(int), place, None)
+            }
         }
-        let int = signed_int(quick.negative, quick.number);
-        self.scalar(Body::Int(int), place, None)
     }
 
     // The same of any number or timestamp, by way of a token.

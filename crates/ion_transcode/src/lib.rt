@@ -1,4 +1,4 @@
-//! A stream of Amazon Ion 1.0, read in its form and written in another, or only checked.
+//! A stream of Amazon Ion 1.0, read in its form and written as asked, or only checked.
 //!
 //! `run` reads text and binary and writes text as binary, both as canonical text, or nothing, and
 //! `bound` is the most that it may hold. The laws say that each stream has one verdict.

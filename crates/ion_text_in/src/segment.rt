@@ -1,6 +1,6 @@
 //! Segments of texts between quotes, gathered over the window (Ion specification, "Strings",
 //! "Symbols" and "Clobs").
-ghost use Rattle.std.specs.Prelude.{◌≡◌, ◌≢◌, ◌+◌, ◌<◌, ◌≤◌, ℕ, [], ◌∷◌, Ok, Err, length, take, encode_utf8, OnOk, IfOk};
+ghost use Rattle.std.specs.Prelude.{◌≡◌, ◌≢◌, ◌+◌, ◌<◌, ◌≤◌, ℕ, Ok, Err, length, OnOk, IfOk};
 ghost use Rattle.ion_meter.specs.Windows.{left, lent};
 ghost use Rattle.ion_meter.specs.Sources.{skip, cursor, Stands};
 ghost use Rattle.ion_meter.specs.Sources.{Reads as Looks};
@@ -12,7 +12,6 @@ ghost use Rattle.ion_text_in.specs.Quotes.{quote_of};
 ghost use Rattle.ion_text_in.specs.Pieces.{piece_of, bytes_of_piece, taken_of, TakesSome};
 ghost use Rattle.ion_text_in.specs.Gathered.{CanGather, CanGrow, Grown, PutsOn, Goes, onward, with_segment};
 
-use crate::gather::put_front;
 use crate::piece::{Piece, last_piece, scan_piece};
 use crate::quoted::{Quote, is_text, plain_length};
 use ion_meter::buf::Buf;
@@ -126,70 +125,27 @@ fn take_plain<I: Input, A: Allocator + Copy>(
 {
     let bytes = source.buffer();
     let plain = plain_length(quote, bytes);
-    if let Err(fault) = put(text, bytes, plain, place, limits, meter) {
+    if let Err(fault) = put(text, &bytes[..plain], place, limits, meter) {
         return Err(fault);
     }
     source.consume(plain);
     Ok(())
 }
 
-// Puts the first bytes of some behind a text.
+// Puts bytes behind a text.
 #[inline]
 fn put<A: Allocator + Copy>(
     text: &mut Buf<A>,
     bytes: &[u8],
-    count: usize,
     place: u64,
     limits: Limits,
     meter: &mut Meter<A>,
 ) -> Result<(), Fault>
     requires can_grow { CanGrow limits text.old meter.old }
-    requires there { count ≤ length bytes.now }
-    ensures puts { PutsOn text.old text.new (take count bytes.now) limits.scalar place result }
+    ensures puts { PutsOn text.old text.new bytes.now limits.scalar place result }
     ensures grown { Grown meter.old meter.new (length text.old) (length text.new) limits.scalar
         (fault_of result) }
 {
-    if limits.scalar - (text.as_slice().len() as u64) < count as u64 {
-        return Err(Fault::Refused(Reason::ScalarLimit, place));
-    }
-    put_front(text, bytes, count, limits, meter)
-}
-
-// Puts a byte behind a text.
-#[inline]
-fn put_byte<A: Allocator + Copy>(
-    text: &mut Buf<A>,
-    byte: u8,
-    place: u64,
-    limits: Limits,
-    meter: &mut Meter<A>,
-) -> Result<(), Fault>
-    requires can_grow { CanGrow limits text.old meter.old }
-    ensures puts { PutsOn text.old text.new (byte ∷ []) limits.scalar place result }
-    ensures grown { Grown meter.old meter.new (length text.old) (length text.new) limits.scalar
-        (fault_of result) }
-{
-    if limits.scalar <= text.as_slice().len() as u64 {
-        return Err(Fault::Refused(Reason::ScalarLimit, place));
-    }
-    text.push(meter, byte)
-}
-
-// Puts a character behind a text, in UTF-8.
-fn put_char<A: Allocator + Copy>(
-    text: &mut Buf<A>,
-    character: char,
-    place: u64,
-    limits: Limits,
-    meter: &mut Meter<A>,
-) -> Result<(), Fault>
-    requires can_grow { CanGrow limits text.old meter.old }
-    ensures puts { PutsOn text.old text.new (encode_utf8 character) limits.scalar place result }
-    ensures grown { Grown meter.old meter.new (length text.old) (length text.new) limits.scalar
-        (fault_of result) }
-{
-    let mut room = [0; 4];
-    let bytes = character.encode_utf8(&mut room).as_bytes();
     if limits.scalar - (text.as_slice().len() as u64) < bytes.len() as u64 {
         return Err(Fault::Refused(Reason::ScalarLimit, place));
     }
@@ -197,7 +153,6 @@ fn put_char<A: Allocator + Copy>(
 }
 
 // Puts the bytes of a piece behind a text.
-#[inline]
 fn put_piece<A: Allocator + Copy>(
     text: &mut Buf<A>,
     piece: Piece,
@@ -211,9 +166,18 @@ fn put_piece<A: Allocator + Copy>(
         (fault_of result) }
 {
     match piece {
-        Piece::Char(character, _) => put_char(text, character, place, limits, meter),
-        Piece::Byte(byte, _) => put_byte(text, byte, place, limits, meter),
-        _ => Ok(()),
+        Piece::Char(character, _) => {
+            let mut room = [0; 4];
+            put(
+                text,
+                character.encode_utf8(&mut room).as_bytes(),
+                place,
+                limits,
+                meter,
+            )
+        }
+        Piece::Byte(byte, _) => put(text, &[byte], place, limits, meter),
+        _ => put(text, &[], place, limits, meter),
     }
 }
 

@@ -15,7 +15,6 @@ ghost use Rattle.ion_text_in.specs.Quotes.{quote_of};
 ghost use Rattle.ion_text_in.specs.Gathered.{CanGather, passed, Overruns};
 
 use crate::blank::{pass_blanks, pass_white};
-use crate::gather::put_front;
 use crate::quoted::{Quote, scan_text};
 use crate::scanned::Scanned;
 use crate::segment::next_segment;
@@ -127,7 +126,7 @@ pub(crate) fn next_short_text<I: Input, A: Allocator + Copy>(
     let bytes = source.buffer();
     match scan_text(quote, limits.scalar, bytes) {
         Scanned::Whole(plain, taken) => {
-            if let Err(fault) = put_front(text, bytes, plain, limits, meter) {
+            if let Err(fault) = text.extend(meter, &bytes[..plain]) {
                 return Err(fault);
             }
             source.consume(taken);

@@ -16,8 +16,8 @@ returns-in_default-clause-gives g c = λ h.
     let s = c.args.source.now in
     let reading = λ (d : Cursor). text_at (quote_of c.args.quote) (Some c.args.limits.scalar) d in
     let shows = subst (λ (l : List ℕ). Shows (λ (n : ℕ). take n l) l (Whole c.in-Whole.plain c.in-Whole.taken) reading) c.buffer-bytes.ensures c.in-Whole.ensures.shows in
-    let text : c.put_front.new.text ≡ take c.in-Whole.plain (lent s) =
-    c.in_default.ensures.puts ∙ ap (λ (l : List ℕ). l ++ take c.in-Whole.plain c.buffer-bytes.result.now) c.clear.ensures.bytes
+    let text : c.extend.new.self ≡ take c.in-Whole.plain (lent s) =
+    c.in_default.ensures.ok ∙ ap (λ (l : List ℕ). l ++ take c.in-Whole.plain c.buffer-bytes.result.now) c.clear.ensures.bytes
     ∙ ap (λ (l : List ℕ). take c.in-Whole.plain l) c.buffer-bytes.ensures in
     shown-whole g.I.Input (λ (n : ℕ). take n (lent s)) s c.consume.new.self c.in-Whole.plain c.in-Whole.taken reading shows c.consume.ensures
     ∙ ap (λ (l : List ℕ). Ok (l, cursor g.I.Input c.consume.new.self)) (sym text)

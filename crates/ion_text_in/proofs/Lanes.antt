@@ -1,5 +1,5 @@
 -- Vectors of bytes that are tested lane by lane.
-use Rattle.std.proofs.Common.{◌≡◌, ℕ, ◌+◌, ◌*◌, ◌%◌, ◌^◌, ◌<◌, ◌≤◌, Bool, true, false, cond, ◌&&◌, ◌||◌, List, [], ◌∷◌, map, length, replicate, refl, ap, ap₂, ◌∙◌, arith, w8, Fits}
+use Rattle.std.proofs.Common.{◌≡◌, ℕ, ◌%◌, ◌^◌, ◌<◌, ◌≤◌, Bool, true, false, cond, ◌&&◌, ◌||◌, List, [], ◌∷◌, map, length, replicate, refl, ap, ap₂, ◌∙◌, arith, w8, Fits}
 use Rattle.std.proofs.lemmas.Simd.{zip2_splat, zip2_splat_left, map-map, mask_l-mod}
 use Rattle.std.proofs.lemmas.List.{length-map}
 use lib.Bits.{bit_or, bit_and}
@@ -66,16 +66,3 @@ tops p q (x ∷ v) same fits = ap₂ (λ y ys. y ∷ ys) (top_lane (p x) ∙ sam
 -- the bits of a test are those of one that is the same for bytes
 pub mask_of : (p q : ℕ → Bool) (v : List ℕ) {z : List ℕ} → length v ≤ 64 → Each1 (Fits w8) v → Tested p v z → ((x : ℕ) → x < 256 → p x ≡ q x) → mask_l (map (top 7) z) % 2 ^ 64 ≡ mask_l (map q v)
 mask_of p q v short fits e same = ap (λ l. mask_l l % 2 ^ 64) (ap (map (top 7)) e ∙ tops p q v same fits) ∙ mask_l-mod (map q v) 64 (omega (arith, length-map v q))
-
--- ---- no lane of a test
-
-no_set : (b : Bool) (m : ℕ) → cond b 1 0 + 2 * m ≡ 0 → (b ≡ false) × (m ≡ 0)
-no_set false m e = (refl, omega arith)
-no_set true m e = let no : ⊥ = omega arith in absurd no
-
--- where no bit of a test is set, none is of one that passes no other byte
-pub none_of : (p q : ℕ → Bool) (v : List ℕ) → Each1 (Fits w8) v → ((x : ℕ) → x < 256 → p x ≡ false → q x ≡ false) → mask_l (map p v) ≡ 0 → mask_l (map q v) ≡ 0
-none_of p q [] fits less e = refl
-none_of p q (x ∷ v) fits less e =
-    let none = no_set (p x) (mask_l (map p v)) e in
-    ap₂ (λ b m. cond b 1 0 + 2 * m) (less x fits.0.fits none.0) (none_of p q v fits.1 less none.1)

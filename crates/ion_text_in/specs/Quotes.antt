@@ -25,9 +25,9 @@ mark_of code.ShortClob = 34
 mark_of code.Long = 39
 mark_of code.LongClob = 39
 
--- quotes that begin with a byte, between which lines may end or not
-abbrev pub one_mark : ℕ → Bool → Bool → Quote
-one_mark mark lines in_clob = record { closer = mark ∷ []; is_long = lines; in_clob = in_clob }
+-- quotes of one byte
+abbrev pub one_mark : ℕ → Bool → Quote
+one_mark mark in_clob = record { closer = mark ∷ []; is_long = false; in_clob = in_clob }
 
 -- so many bytes of a text are within a limit, and the quote stands behind them
 abbrev pub IsWithin : ℕ → Scanned ℕ → Type 0

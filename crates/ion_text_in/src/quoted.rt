@@ -110,53 +110,43 @@ pub(crate) fn plain_length(quote: Quote, bytes: &[u8]) -> usize
     ensures ends { first_is (is_plain_byte (quote_of quote)) (drop result bytes.now) ≡ false }
 {
     let mark = quote.mark();
-    let lines = quote.is_long();
     let in_clob = quote.in_clob();
     let mut at = 0;
     'skip: while bytes.len() - at >= BLOCK {
-        let stops = stops(mark, lines, in_clob, u8x32::from_slice(&bytes[at..]));
+        let stops = stops(mark, in_clob, u8x32::from_slice(&bytes[at..]));
         if stops != 0 {
             return at + stops.trailing_zeros() as usize;
         }
         at += BLOCK;
     }
-    at + few_plain(mark, lines, in_clob, &bytes[at..])
+    at + few_plain(mark, in_clob, &bytes[at..])
 }
 
 // Which of these bytes do not stand for themselves: a bit for each, the lowest for the first.
-// Mostly none of them is the mark, a backslash, a control character or, in a clob, no ASCII, which
-// fewer comparisons show than which of the control characters may stand there.
 #[inline(always)]
-fn stops(mark: u8, lines: bool, in_clob: bool, bytes: u8x32) -> u64
-    ensures { result
-        ≡ mask_l (map (λ b. not (is_plain_byte (one_mark mark lines in_clob) b)) bytes) }
+fn stops(mark: u8, in_clob: bool, bytes: u8x32) -> u64
+    ensures { result ≡ mask_l (map (λ b. not (is_plain_byte (one_mark mark in_clob) b)) bytes) }
 {
     let greatest = if in_clob { 127 } else { 255 };
-    let is_mark = u8x32::splat(mark).simd_eq(bytes);
+    let is_control = bytes.simd_lt(u8x32::splat(b' '))
+        & bytes.simd_ne(u8x32::splat(9))
+        & (bytes.simd_lt(u8x32::splat(11)) | bytes.simd_gt(u8x32::splat(12)));
     let is_other = bytes.simd_eq(u8x32::splat(b'\\'))
         | bytes.simd_gt(u8x32::splat(greatest))
-        | bytes.simd_lt(u8x32::splat(b' '));
-    if (is_mark | is_other).to_bitmask() == 0 {
-        return 0;
-    }
-    let line_end = if lines { 0 } else { b'\n' };
-    let is_no_white = bytes.simd_lt(u8x32::splat(9))
-        | bytes.simd_gt(u8x32::splat(12))
-        | bytes.simd_eq(u8x32::splat(line_end));
-    (is_mark | (is_other & is_no_white)).to_bitmask()
+        | is_control;
+    (u8x32::splat(mark).simd_eq(bytes) | is_other).to_bitmask()
 }
 
 // How many bytes at the front of these are plain, one after the other.
 #[inline(always)]
-fn few_plain(mark: u8, lines: bool, in_clob: bool, bytes: &[u8]) -> usize
+fn few_plain(mark: u8, in_clob: bool, bytes: &[u8]) -> usize
     ensures within { result ≤ length bytes.now }
-    ensures plain { all_are (is_plain_byte (one_mark mark lines in_clob))
-        (take result bytes.now) ≡ true }
-    ensures ends { first_is (is_plain_byte (one_mark mark lines in_clob))
-        (drop result bytes.now) ≡ false }
+    ensures plain { all_are (is_plain_byte (one_mark mark in_clob)) (take result bytes.now) ≡ true }
+    ensures ends { first_is (is_plain_byte (one_mark mark in_clob)) (drop result bytes.now)
+        ≡ false }
 {
     for (i, byte) in bytes.iter().enumerate() {
-        if !is_plain_alone(mark, lines, in_clob, *byte) {
+        if !is_plain_alone(mark, in_clob, *byte) {
             return i;
         }
     }
@@ -165,10 +155,10 @@ fn few_plain(mark: u8, lines: bool, in_clob: bool, bytes: &[u8]) -> usize
 
 // Whether a byte stands for itself between such quotes, whatever follows it.
 #[inline(always)]
-fn is_plain_alone(mark: u8, lines: bool, in_clob: bool, byte: u8) -> bool
-    ensures { result ≡ is_plain_byte (one_mark mark lines in_clob) byte }
+fn is_plain_alone(mark: u8, in_clob: bool, byte: u8) -> bool
+    ensures { result ≡ is_plain_byte (one_mark mark in_clob) byte }
 {
-    byte != mark && (is_written(byte) && (!in_clob || byte < 128) || lines && byte == b'\n')
+    byte != mark && is_written(byte) && (!in_clob || byte < 128)
 }
 
 // Which bytes stand for themselves between quotes of another sort, where the text is no clob's.

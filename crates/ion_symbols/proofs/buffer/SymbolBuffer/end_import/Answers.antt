@@ -1,4 +1,5 @@
 use Rattle.std.proofs.Common.{◌+◌, ◌-◌, ◌≤◌, length, refl, ap, arith}
+use Rattle.std.proofs.lemmas.Grind.{common_steps}
 use Rattle.ion_symbols.specs.Table.{most_slots}
 use Rattle.ion_symbols.specs.declared.symbols.FoundImport.{FoundImport}
 use Rattle.ion_symbols.proofs.Pendings.{import_pushed}
@@ -12,3 +13,9 @@ returns-clause-pending g c =
     let few : b.count + c.in-Slots.count ≤ most_slots = grind arith in
     import_pushed b c.push.new.self f (length c.as_slice.result.now) c.clear.new.self c.requires.can_take.pending c.requires.within.0
     c.in_default.ensures.ok c.push.ensures.same_cost refl (ap length c.as_slice.ensures) c.clear.ensures.bytes cheap few
+
+pub returns-clause-turn : goal.returns-clause-turn
+returns-clause-turn g c = grind (arith, common_steps)
+
+pub returns-clause-takes : goal.returns-clause-takes
+returns-clause-takes g c = grind (arith, common_steps)

@@ -1,4 +1,5 @@
 use Rattle.std.proofs.Common.{◌≡◌, ◌<◌, ◌≤◌, ◌+◌, length, slice_index_or, ap, sym, subst, ◌∙◌, arith}
+use Rattle.std.proofs.lemmas.Grind.{common_steps}
 use Rattle.std.specs.Str.{bytes_eq}
 use Rattle.ion_symbols.proofs.Catalogued.{IsLess, greater_here, lesser_here, other_here}
 use Rattle.ion_symbols.proofs.catalog.Catalog.greatest.Goals as goal
@@ -31,3 +32,6 @@ loop-place-preserved g c =
         }
       ]
     ]
+
+pub returns : goal.returns
+returns g c = grind (arith, common_steps)

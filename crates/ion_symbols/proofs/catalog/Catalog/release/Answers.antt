@@ -1,4 +1,5 @@
 use Rattle.std.proofs.Common.{◌≡◌, ◌+◌, ◌*◌, length, ap, ◌∙◌, arith}
+use Rattle.std.proofs.lemmas.Grind.{common_steps}
 use Rattle.ion_symbols.specs.Table.{catalog_cost, shared_cost}
 use Rattle.ion_symbols.proofs.Catalogued.{each_costs, cost_without}
 use Rattle.ion_symbols.proofs.catalog.Catalog.release.Goals as goal
@@ -28,3 +29,6 @@ loop-table-preserved g c =
       peak = c.release.ensures.peak ∙ (c.in-Some.ensures.cost.peak ∙ i.peak);
       refused = c.release.ensures.refused ∙ (c.in-Some.ensures.cost.refused ∙ i.refused);
     }
+
+pub loop-table-smaller : goal.loop-table-smaller
+loop-table-smaller g c = grind (arith, common_steps)

@@ -1,4 +1,5 @@
-use Rattle.std.proofs.Common.{◌+◌, length, ap, ◌∙◌, sym}
+use Rattle.std.proofs.Common.{arith, ◌+◌, length, ap, ◌∙◌, sym}
+use Rattle.std.proofs.lemmas.Grind.{common_steps}
 use Rattle.std.proofs.lemmas.List.{length-map}
 use Rattle.ion_symbols.specs.Output.{Output}
 use Rattle.ion_symbols.proofs.Adding.{nothing_charged, share_kept, belongs_kept, place_within, ordered_push, share_push, few_push, texts_pushed, given_push, charges_push, held_push}
@@ -57,3 +58,27 @@ returns-clause-charges g c =
     c.self.invariant.0 t c.in_ok-extend.ensures.ok c.in_default.ensures.ok from (ap (λ k. k + length c.args.text.now) from) in
     charges_push c.args.meter.now c.extend.new.meter c.push.new.meter c.insert.new.meter c.self.inside.limit c.args.self.now.limit c.args.self.now.texts _ c.args.text.now c.self.inside.places.cost c.self.inside.order.cost c.cost.result
     c.in_ok-extend.ensures.cost c.in_default.ensures.cost c.in_default-insert.ensures.cost c.self.invariant.1.place_cost c.self.invariant.1.id_cost c.requires.can_add.held (ap (λ (s : Output). s.limit) c.self.view_is) c.cost.ensures c.if-cost-length.false more
+
+pub truncate-requires : goal.truncate-requires
+truncate-requires g c = grind (arith, common_steps)
+
+pub invariant_of-self-in-Err : goal.invariant_of-self-in-Err
+invariant_of-self-in-Err g c = grind (arith, common_steps)
+
+pub returns-in-Err-clause-memory : goal.returns-in-Err-clause-memory
+returns-in-Err-clause-memory g c = grind (arith, common_steps)
+
+pub returns-in-Err-clause-charges : goal.returns-in-Err-clause-charges
+returns-in-Err-clause-charges g c = grind (arith, common_steps)
+
+pub truncate-requires-in-Err-insert : goal.truncate-requires-in-Err-insert
+truncate-requires-in-Err-insert g c = grind (arith, common_steps)
+
+pub invariant_of-self-in-Err-insert : goal.invariant_of-self-in-Err-insert
+invariant_of-self-in-Err-insert g c = grind (arith, common_steps)
+
+pub returns-in-Err-insert-clause-memory : goal.returns-in-Err-insert-clause-memory
+returns-in-Err-insert-clause-memory g c = grind (arith, common_steps)
+
+pub returns-in-Err-insert-clause-charges : goal.returns-in-Err-insert-clause-charges
+returns-in-Err-insert-clause-charges g c = grind (arith, common_steps)

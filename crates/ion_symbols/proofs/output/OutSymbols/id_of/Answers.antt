@@ -1,4 +1,5 @@
-use Rattle.std.proofs.Common.{ap, ◌∙◌}
+use Rattle.std.proofs.Common.{arith, ap, ◌∙◌}
+use Rattle.std.proofs.lemmas.Grind.{common_steps}
 use Rattle.ion_symbols.specs.Output.{Output}
 use Rattle.ion_symbols.proofs.Finding.{searched, found_within, not_known, belongs_sorted, found_given, found_charges, probes_sorted}
 use Rattle.ion_symbols.proofs.output.OutSymbols.id_of.Goals as goal
@@ -40,3 +41,12 @@ pub returns-in-Err-clause-searched : goal.returns-in-Err-clause-searched
 returns-in-Err-clause-searched g c sorted is none =
     let n = searched _ _ _ _ _ _ _ c.as_slice.ensures c.as_slice-2.ensures c.as_slice-3.ensures c.new-search.ensures.texts in
     probes_sorted _ _ _ _ _ _ _ c.self.invariant.0 n (ap (λ (s : Output). s.texts) c.self.view_is) (c.add.ensures.kept.1 ∙ (c.probes-self-inside.ensures ∙ c.place_of-found.ensures.exact)) sorted is
+
+pub overflow_add-result : goal.overflow_add-result
+overflow_add-result g c = grind (arith, common_steps)
+
+pub returns-in-Ok-clause-probes : goal.returns-in-Ok-clause-probes
+returns-in-Ok-clause-probes g c = grind (arith, common_steps)
+
+pub returns-in-Err-clause-probes : goal.returns-in-Err-clause-probes
+returns-in-Err-clause-probes g c = grind (arith, common_steps)

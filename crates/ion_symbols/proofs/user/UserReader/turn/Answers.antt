@@ -1,4 +1,5 @@
-use Rattle.std.proofs.Common.{◌≡◌, false, true, Ok, ap, sym, subst, ◌∙◌}
+use Rattle.std.proofs.Common.{arith, ◌≡◌, false, true, Ok, ap, sym, subst, ◌∙◌}
+use Rattle.std.proofs.lemmas.Grind.{common_steps}
 use Rattle.ion_value.specs.Items.{raw_item}
 use Rattle.ion_value.specs.Reading.{More}
 use Rattle.ion_value.specs.Standing.{is_marker}
@@ -6,6 +7,13 @@ use Rattle.ion_symbols.specs.Users.{begins_declaration, checked, level_after, us
 use Rattle.ion_symbols.specs.User.{CheckedAs}
 use Rattle.ion_symbols.proofs.UserTurns.{check_causes, item_given}
 use Rattle.ion_symbols.proofs.user.UserReader.turn.Goals as goal
+
+pub returns-in-Err-check_item-clause-causes : goal.returns-in-Err-check_item-clause-causes
+returns-in-Err-check_item-clause-causes g c =
+    let refused : c.next.new.meter.refused ≡ c.args.meter.now.refused = (c.in-Ok-true.ensures.causes (c.requires.can_turn.ready.fresh c.requires.can_turn.well)).counted (λ e. absurd (cc e)) in
+    let failures : g.R.RawReader.failures c.next.new.self ≡ g.R.RawReader.failures c.args.self.now.raw = (c.in-Ok-true.ensures.causes (c.requires.can_turn.ready.fresh c.requires.can_turn.well)).steady (λ e. absurd (cc e)) in
+    check_causes (checked c.args.self.now.symbols.table false (raw_item c.item-item.result)) c.in-Err-check_item.fault c.args.meter.now c.next.new.meter
+    (g.R.RawReader.failures c.args.self.now.raw) (g.R.RawReader.failures c.next.new.self) (g.R.RawReader.exceeds c.args.self.now.raw) c.in-Err-check_item.ensures refused failures
 
 pub returns-in-Err-check_item-2-clause-causes : goal.returns-in-Err-check_item-2-clause-causes
 returns-in-Err-check_item-2-clause-causes g c =
@@ -31,3 +39,9 @@ returns-clause-gives g c = record {
   ends = λ _ e. absurd (cc e);
   refuses = λ _ _ _ e. absurd (cc e);
 }
+
+pub returns-in-Ok-true-read-clause-passes : goal.returns-in-Ok-true-read-clause-passes
+returns-in-Ok-true-read-clause-passes g c = grind (arith, common_steps)
+
+pub returns-in-Err-check_item-2-clause-gives : goal.returns-in-Err-check_item-2-clause-gives
+returns-in-Err-check_item-2-clause-gives g c = grind (arith, common_steps)

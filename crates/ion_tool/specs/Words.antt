@@ -24,16 +24,18 @@ limit_rule name most = record (new_rule name) { long = Some name; parser = Some 
 abbrev pub catalog_rule : Rule
 catalog_rule = record (new_rule (codes "catalog")) { long = Some (codes "catalog"); value_names = 1 }
 
--- a subcommand: `NAME [--catalog FILE] [--depth N] [--scalar N] [--symbols N] [--value N] [FILE]`
-abbrev pub action_app : Text → App
-action_app name =
-    with_rule (with_rule (with_rule (with_rule (with_rule (with_rule (new_app name)
-    catalog_rule)
+-- the options for the limits behind what a subcommand has already
+abbrev pub with_limits : App → App
+with_limits app =
+    with_rule (with_rule (with_rule (with_rule app
     (limit_rule (codes "depth") 65535))
     (limit_rule (codes "scalar") 1073741824))
     (limit_rule (codes "symbols") 1073741824))
-    (limit_rule (codes "value") 1073741824))
-    (new_rule (codes "FILE"))
+    (limit_rule (codes "value") 1073741824)
+
+-- a subcommand: `NAME [--catalog FILE] [--depth N] [--scalar N] [--symbols N] [--value N] [FILE]`
+abbrev pub action_app : Text → App
+action_app name = with_rule (with_limits (with_rule (new_app name) catalog_rule)) (new_rule (codes "FILE"))
 
 -- the program's name, before its subcommands, of which one has to be named; it has a version
 abbrev pub bare_app : App

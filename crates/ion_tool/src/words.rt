@@ -1,9 +1,9 @@
 //! The words of the command line.
-ghost use Rattle.std.specs.Prelude.{◌≡◌, ◌≢◌, ◌≤◌, false, IfOk, IfSome, OnErr, None, List, [], Some, map, option_map, string_bytes};
-ghost use Rattle.clap.specs.Words.{Row, app_of, found_of, kind_of, rows_of, rule_of, fault_of, FailsBy, subcommand_of, subcommand_rows_of};
+ghost use Rattle.std.specs.Prelude.{◌≡◌, ◌≢◌, ◌≤◌, false, IfOk, IfSome, OnErr, None, List, [], Some, codes, map, option_map, string_bytes};
+ghost use Rattle.clap.specs.Words.{Row, app_of, found_of, kind_of, rows_of, rule_of, fault_of, FailsBy, new_rule, subcommand_of, subcommand_rows_of, with_subcommand};
 ghost use Rattle.clap.specs.declared.builder.command.Command.TheViews.{out-Command};
 ghost use Rattle.ion_meter.specs.Limits.{AreChecked};
-ghost use Rattle.ion_tool.specs.Words.{action_app, action_name, bare_app, catalog_in, catalog_rule, file_for, file_in, ion_app, limit_in, limit_rule, limits_in, Asks, AnswersError, IsRequestFor};
+ghost use Rattle.ion_tool.specs.Words.{action_app, with_limits, action_name, bare_app, catalog_in, catalog_rule, file_for, file_in, ion_app, limit_in, limit_rule, limits_in, Asks, AnswersError, IsRequestFor};
 
 use clap::builder::ValueParser;
 use clap::error::ErrorKind;
@@ -109,6 +109,32 @@ fn catalog_arg<'a>(alloc: Global) -> Arg<'a>
         )
 }
 
+/// The argument FILE.
+fn file_arg<'a>(alloc: Global) -> Arg<'a>
+    ensures rule { rule_of result ≡ new_rule (codes "FILE") }
+    ensures own { result.global ≡ false }
+{
+    Arg::new(alloc, "FILE").help("File to read; - is standard input [default: standard input]")
+}
+
+/// A command with the options for the limits.
+fn with_limits<'a>(alloc: Global, command: Command<'a>) -> Result<Command<'a>, AllocError>
+    ensures app { IfOk result (λ c. app_of c ≡ with_limits (app_of command.entry)) }
+    ensures own { IfOk result (λ c. (out-Command command.entry).has_globals ≡ false
+        → (out-Command c).has_globals ≡ false) }
+{
+    let depth = "Most containers open at once, 0 to 65535 [default: 64]";
+    let scalar = "Most bytes in one scalar, such as a string, 0 to 1073741824 [default: 1048576]";
+    let symbols = "Most bytes in one symbol table, 0 to 1073741824 [default: 1048576]";
+    let value =
+        "Most bytes in one value written as binary, 0 to 1073741824 [default: 16777216]; show and check write none";
+    command
+        .arg(limit_arg(alloc, "depth", 65_535, depth))?
+        .arg(limit_arg(alloc, "scalar", 1_073_741_824, scalar))?
+        .arg(limit_arg(alloc, "symbols", 1_073_741_824, symbols))?
+        .arg(limit_arg(alloc, "value", 1_073_741_824, value))
+}
+
 /// A subcommand with its options.
 fn action_command<'a>(
     alloc: Global,
@@ -119,23 +145,11 @@ fn action_command<'a>(
     ensures app { IfOk result (λ c. app_of c ≡ action_app name.entry.now) }
     ensures own { IfOk result (λ c. (out-Command c).has_globals ≡ false) }
 {
-    let depth = "Most containers open at once, 0 to 65535 [default: 64]";
-    let scalar = "Most bytes in one scalar, such as a string, 0 to 1073741824 [default: 1048576]";
-    let symbols = "Most bytes in one symbol table, 0 to 1073741824 [default: 1048576]";
-    let value =
-        "Most bytes in one value written as binary, 0 to 1073741824 [default: 16777216]; show and check write none";
-    let file = Arg::new(alloc, "FILE").help(
-        "File to read; - is standard input [default: standard input]",
-    );
-    Command::new(alloc, name)
+    let command = Command::new(alloc, name)
         .about(about)
         .after_help(example)
-        .arg(catalog_arg(alloc))?
-        .arg(limit_arg(alloc, "depth", 65_535, depth))?
-        .arg(limit_arg(alloc, "scalar", 1_073_741_824, scalar))?
-        .arg(limit_arg(alloc, "symbols", 1_073_741_824, symbols))?
-        .arg(limit_arg(alloc, "value", 1_073_741_824, value))?
-        .arg(file)
+        .arg(catalog_arg(alloc))?;
+    with_limits(alloc, command)?.arg(file_arg(alloc))
 }
 
 /// The program's name, with its texts.
@@ -151,33 +165,40 @@ fn top_command<'a>(alloc: Global) -> Command<'a>
         .after_help(AFTER)
 }
 
+/// A command with this subcommand.
+fn with_action<'a>(
+    alloc: Global,
+    command: Command<'a>,
+    name: &'a str,
+    about: &'a str,
+    example: &'a str,
+) -> Result<Command<'a>, AllocError>
+    ensures app { IfOk result (λ c.
+        app_of c ≡ with_subcommand (app_of command.entry) (action_app name.entry.now).top) }
+{
+    let action = action_command(alloc, name, about, example)?;
+    command.subcommand(action)
+}
+
 /// The whole command.
 fn command<'a>(alloc: Global) -> Result<Command<'a>, AllocError>
     ensures app { IfOk result (λ c. app_of c ≡ ion_app) }
 {
-    let show = action_command(
+    let show = "Writes the stream's values to standard output as canonical Ion text, a line each";
+    let check = "Reads the whole stream and says how many values it has, as in: ok 6 values";
+    let convert =
+        "Writes the stream's values to standard output in the other form: text as binary, binary as text";
+    let to_convert = "Example: ion convert data.ion > data.10n";
+    let command = top_command(alloc);
+    let command = with_action(alloc, command, "show", show, "Example: ion show data.ion")?;
+    let command = with_action(
         alloc,
-        "show",
-        "Writes the stream's values to standard output as canonical Ion text, a line each",
-        "Example: ion show data.ion",
-    )?;
-    let check = action_command(
-        alloc,
+        command,
         "check",
-        "Reads the whole stream and says how many values it has, as in: ok 6 values",
+        check,
         "Example: ion check < data.10n",
     )?;
-    let convert = action_command(
-        alloc,
-        "convert",
-        "Writes the stream's values to standard output in the other form: text as binary, binary as text",
-        "Example: ion convert data.ion > data.10n",
-    )?;
-    top_command(alloc)
-        .subcommand(show)?
-        .subcommand(check)?
-        .subcommand(convert)?
-        .bin_name("ion")
+    with_action(alloc, command, "convert", convert, to_convert)?.bin_name("ion")
 }
 
 /// The matches of the words.

@@ -1,4 +1,5 @@
 use Rattle.std.proofs.Common.{◌≡◌, ℕ, true, length, subst, List, take, Ok, sym, ap, ◌∙◌, arith}
+use Rattle.std.proofs.lemmas.Grind.{common_steps}
 use Rattle.ion_meter.specs.Windows.{left}
 use Rattle.ion_value.specs.Digits.{all_are}
 use Rattle.ion_text_in.specs.Blanks.{in_block}
@@ -83,3 +84,21 @@ block-preserved g c =
           inv.behind h start
           ∙ turn-then g.I.Input s t (take n bytes) (λ d. in_block start d.place d.rest) (λ d. in_block start d.place d.rest) passed (inv.gone.moves.still_observable.1 h) over;
     }
+
+pub consume-requires : goal.consume-requires
+consume-requires g c = grind (arith, common_steps)
+
+pub pass_star-requires-clause-stands : goal.pass_star-requires-clause-stands
+pass_star-requires-clause-stands g c = grind (arith, common_steps)
+
+pub pass_star-requires-clause-given : goal.pass_star-requires-clause-given
+pass_star-requires-clause-given g c = grind (arith, common_steps)
+
+pub returns-in-Err-pass_star-clause-reads : goal.returns-in-Err-pass_star-clause-reads
+returns-in-Err-pass_star-clause-reads g c = grind (arith, common_steps)
+
+pub returns-in-Ok-true-clause-reads : goal.returns-in-Ok-true-clause-reads
+returns-in-Ok-true-clause-reads g c = grind (arith, common_steps)
+
+pub consume-requires-else-star : goal.consume-requires-else-star
+consume-requires-else-star g c = grind (arith, common_steps)

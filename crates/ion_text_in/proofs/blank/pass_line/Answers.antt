@@ -1,4 +1,5 @@
 use Rattle.std.proofs.Common.{ℕ, ◌+◌, ◌≤◌, List, take, length, sym, ap, ◌∙◌, arith}
+use Rattle.std.proofs.lemmas.Grind.{common_steps}
 use Rattle.ion_meter.specs.Windows.{left}
 use Rattle.ion_meter.specs.Sources.{Cursor}
 use Rattle.ion_value.proofs.Cursors.{cursor-extends}
@@ -47,3 +48,12 @@ line-preserved g c =
       gone = gone-then g.I.Input c.args.source.now s t inv.gone passed.gone;
       behind = λ h. inv.behind h ∙ turn-then g.I.Input s t (take n bytes) (λ d. in_line d.place d.rest) (λ d. in_line d.place d.rest) passed (inv.gone.moves.still_observable.1 h) over;
     }
+
+pub consume-requires : goal.consume-requires
+consume-requires g c = grind (arith, common_steps)
+
+pub returns-then-line-bytes-clause-reads : goal.returns-then-line-bytes-clause-reads
+returns-then-line-bytes-clause-reads g c = grind (arith, common_steps)
+
+pub consume-requires-in-line : goal.consume-requires-in-line
+consume-requires-in-line g c = grind (arith, common_steps)

@@ -1,4 +1,5 @@
-use Rattle.std.proofs.Common.{◌≡◌, ℕ, List, Some, slice_get, sym, ap, ◌∙◌}
+use Rattle.std.proofs.Common.{arith, ◌≡◌, ℕ, List, Some, slice_get, sym, ap, ◌∙◌}
+use Rattle.std.proofs.lemmas.Grind.{common_steps}
 use Rattle.ion_meter.specs.Windows.{left}
 use Rattle.ion_meter.specs.Sources.{Cursor}
 use Rattle.ion_text_in.specs.Blanks.{blanks, in_block}
@@ -30,3 +31,9 @@ returns-clause-open g c = λ h same start.
     let other = λ (e : slice_get bytes 1 ≡ Some 47). found-not c.in-Ok.second 47 (sym c.eq.ensures ∙ c.if-eq.false) (peek.gives h ∙ e) in
     let behind = passed-cursor g.I.Input s q c.advance.new.self 0 c.requires.stands peek.kept peek.well.1 (given-kept g.I.Input s q 0 peek.kept c.requires.given) c.advance.ensures h in
     star-other start s.place bytes first other ∙ ap (λ (d : Cursor). in_block start d.place d.rest) (sym behind)
+
+pub advance-requires : goal.advance-requires
+advance-requires g c = grind (arith, common_steps)
+
+pub returns-clause-reads : goal.returns-clause-reads
+returns-clause-reads g c = grind (arith, common_steps)

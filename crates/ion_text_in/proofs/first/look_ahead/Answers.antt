@@ -1,4 +1,5 @@
 use Rattle.std.proofs.Common.{◌≡◌, ◌<◌, ◌∙◌, ap, sym, subst, ℕ, List, [], length, slice_get, MatchOption, arith}
+use Rattle.std.proofs.lemmas.Grind.{common_steps}
 use Rattle.ion_meter.specs.Windows.{left, lent}
 use Rattle.ion_meter.proofs.Lent.{lent-IsGiven}
 use Rattle.ion_text_in.specs.Token.{first_at}
@@ -52,3 +53,9 @@ ahead-preserved g c =
       there = omega (arith, lent-IsGiven p c.ahead.ahead peek.well.1 byte.byte.0);
       short = subst (λ (l : List ℕ). length l < 5) same (fewer (length c.buffer-in-ahead.result.now) c.in_default.ensures.known);
     }
+
+pub returns-in-Err-clause-kept : goal.returns-in-Err-clause-kept
+returns-in-Err-clause-kept g c = grind (arith, common_steps)
+
+pub returns-in-Ok-None-clause-kept : goal.returns-in-Ok-None-clause-kept
+returns-in-Ok-None-clause-kept g c = grind (arith, common_steps)

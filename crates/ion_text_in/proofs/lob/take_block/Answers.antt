@@ -1,4 +1,5 @@
 use Rattle.std.proofs.Common.{◌≡◌, ℕ, ◌+◌, ◌≤◌, ◌++◌, false, List, Some, length, take, sym, ap, subst, ◌∙◌, arith}
+use Rattle.std.proofs.lemmas.Grind.{common_steps}
 use Rattle.std.proofs.lemmas.Bool.{le-ltb}
 use Rattle.std.proofs.lemmas.List.{length-take-le}
 use Rattle.ion_meter.specs.Windows.{left}
@@ -29,3 +30,9 @@ returns-clause-gives g c = λ h.
     (block-of limit text s.place chars bytes (left g.I.Input.rest t) d.some d.octets free)
     ∙ ap (λ (k : ℕ). with_groups_behind limit (text ++ bytes) (is_padded k) (cursor g.I.Input t)) long
     ∙ ap (λ (l : List ℕ). with_groups_behind limit l (is_padded n) (cursor g.I.Input t)) (sym c.in_default-extend.ensures.ok)
+
+pub consume-requires : goal.consume-requires
+consume-requires g c = grind (arith, common_steps)
+
+pub returns-clause-reads : goal.returns-clause-reads
+returns-clause-reads g c = grind (arith, common_steps)

@@ -1,4 +1,5 @@
 use Rattle.std.proofs.Common.{◌≡◌, ℕ, ◌+◌, ◌≤◌, ◌<◌, ◌++◌, true, false, List, Some, Ok, nat_lt, length, take, refl, sym, ap, subst, ◌∙◌, arith}
+use Rattle.std.proofs.lemmas.Grind.{common_steps}
 use Rattle.std.proofs.lemmas.Bool.{lt-ltb, le-ltb}
 use Rattle.std.proofs.lemmas.List.{length-take-le}
 use Rattle.ion_meter.specs.Windows.{left}
@@ -92,3 +93,6 @@ returns-clause-gives g c = λ h.
     rw c.if-padded.false (on
     ∙ ap (λ (n : ℕ). with_groups_behind c.args.limits.scalar (c.args.text.now ++ bytes) (nat_lt n 3) (cursor g.I.Input t)) long
     ∙ ap (λ (l : List ℕ). with_groups_behind c.args.limits.scalar l (nat_lt c.in-Some.n 3) (cursor g.I.Input t)) (sym c.in_default-extend.ensures.ok))
+
+pub returns-clause-reads : goal.returns-clause-reads
+returns-clause-reads g c = grind (arith, common_steps)

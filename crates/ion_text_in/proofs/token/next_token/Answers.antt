@@ -1,4 +1,5 @@
-use Rattle.std.proofs.Common.{◌∙◌, Some, refl, ap}
+use Rattle.std.proofs.Common.{arith, ◌∙◌, Some, refl, ap}
+use Rattle.std.proofs.lemmas.Grind.{common_steps}
 use Rattle.ion_meter.specs.Sources.{cursor}
 use Rattle.ion_text_in.specs.declared.first.First.{First}
 use Rattle.ion_text_in.specs.Firsts.{first_of}
@@ -44,3 +45,6 @@ pub returns-in-Nothing-clause-gives : goal.returns-in-Nothing-clause-gives
 unfolding token_of
 returns-in-Nothing-clause-gives g c = λ h.
     (ap (λ (f : First). token_of (Some c.args.limits.scalar) (first_of f) (cursor g.I.Input c.args.source.now)) c.in-Nothing.is, c.place.ensures)
+
+pub returns-in-Colons-clause-reads : goal.returns-in-Colons-clause-reads
+returns-in-Colons-clause-reads g c = grind (arith, common_steps)

@@ -1,4 +1,5 @@
-use Rattle.std.proofs.Common.{◌≡◌, ◌∙◌, ap, sym, Some, true, List, ℕ, codes}
+use Rattle.std.proofs.Common.{arith, ◌≡◌, ◌∙◌, ap, sym, Some, true, List, ℕ, codes}
+use Rattle.std.proofs.lemmas.Grind.{common_steps}
 use Rattle.std.specs.Str.{bytes_eq}
 use Rattle.ion_meter.specs.Sources.{cursor}
 use Rattle.ion_text_in.proofs.Gathered.{answers-same}
@@ -14,3 +15,9 @@ returns-clause-gives g c = λ h.
     let same = null-spelled limit (cursor g.I.Input s) (cursor g.I.Input c.gather_token.new.source) text (c.in_default.ensures.gives h) null in
     answers-same (λ (x : Unit {0}). c.gather_type.new.text) c.gather_type.result (cursor g.I.Input c.gather_type.new.source) c.place-place.result s.place _ _
     (c.gather_type.ensures.gives (c.in_default.ensures.reads.moves.still_observable.1 h)) c.place-place.ensures same
+
+pub returns-in-Err-clause-gives : goal.returns-in-Err-clause-gives
+returns-in-Err-clause-gives g c = grind (arith, common_steps)
+
+pub returns-then-not-is_text-clause-gives : goal.returns-then-not-is_text-clause-gives
+returns-then-not-is_text-clause-gives g c = grind (arith, common_steps)

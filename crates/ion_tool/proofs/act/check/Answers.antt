@@ -1,4 +1,5 @@
-use Rattle.std.proofs.Common.{Result, subst}
+use Rattle.std.proofs.Common.{arith, Result, subst}
+use Rattle.std.proofs.lemmas.Grind.{common_steps}
 use Rattle.ion_meter.specs.declared.fault.Fault.{Fault}
 use Rattle.ion_transcode.specs.declared.to.Summary.{Summary}
 use Rattle.ion_transcode.specs.declared.to.To.TheVariants as to
@@ -24,3 +25,6 @@ returns-in-Err-clause-answered g c i o =
     let observable = g.O.Output.observable c.args.out in
     checked_fault c.args.catalog.now c.args.limits bytes before after observable o c.in-Err.fault
     (subst (λ (r : Result Summary Fault). Transcoded c.args.catalog.now c.args.limits to.Nothing bytes observable before after r) c.in-Err.is (c.run_stream-answer.ensures.transcoded i))
+
+pub returns-in-Ok-clause-kept : goal.returns-in-Ok-clause-kept
+returns-in-Ok-clause-kept g c = grind (arith, common_steps)

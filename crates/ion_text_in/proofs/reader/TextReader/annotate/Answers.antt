@@ -1,4 +1,5 @@
 use Rattle.std.proofs.Common.{List, ℕ, arith, subst}
+use Rattle.std.proofs.lemmas.Grind.{common_steps}
 use Rattle.ion_value.proofs.Passing.{IsPassed-cursor}
 use Rattle.ion_text_in.specs.Symbols.{GrowsBy, IsKept}
 use Rattle.ion_text_in.proofs.ReaderSymbols.{gives-annotated, ready-annotated, stepped-annotated}
@@ -28,3 +29,12 @@ returns-in-Ok-push-clause-stepped g c =
     let text = subst (λ (l : List ℕ). GrowsBy c.args.meter.now c.keep_text.new.meter l c.args.symbol) c.as_slice.ensures c.in-Ok.ensures.cost in
     stepped-annotated g.I.Input r c.args.symbol c.args.place c.pass_colons.new.source texts c.push.new.self c.in-Ok.annotation c.args.meter.now c.keep_text.new.meter c.push.new.meter
     c.requires.can_step one c.in-Ok-push.ensures.ok (omega (arith, c.if-limit-cost.false, c.annotations_cost-cost.ensures)) c.requires.colons c.pass_colons.ensures.passed text c.in-Ok-push.ensures.cost
+
+pub returns-then-limit-cost-clause-gives : goal.returns-then-limit-cost-clause-gives
+returns-then-limit-cost-clause-gives g c = grind (arith, common_steps)
+
+pub returns-in-Err-clause-stepped : goal.returns-in-Err-clause-stepped
+returns-in-Err-clause-stepped g c = grind (arith, common_steps)
+
+pub returns-in-Err-push-clause-stepped : goal.returns-in-Err-push-clause-stepped
+returns-in-Err-push-clause-stepped g c = grind (arith, common_steps)

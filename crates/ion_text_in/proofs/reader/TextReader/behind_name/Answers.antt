@@ -1,4 +1,5 @@
 use Rattle.std.proofs.Common.{◌≡◌, ◌∙◌, ℕ, ◌≤◌, List, false, length, sym, ap, arith}
+use Rattle.std.proofs.lemmas.Grind.{common_steps}
 use Rattle.ion_meter.specs.Sources.{Cursor, cursor}
 use Rattle.ion_meter.specs.Windows.{left, lent}
 use Rattle.ion_value.proofs.Cursors.{cursor-extends}
@@ -45,3 +46,6 @@ returns-in-Ok-Some-Colon-clause-stepped g c = λ m there.
     let two = reached-look device mid t m c.in-Ok-Some-Colon.field-0 one.sized there c.in-Ok-Some-Colon.ensures.reads in
     let both = reached-then device r mid last m m m there one two in
     stepped-behind device step_result.Item r last c.at_colon.new.self m m m c.at_colon.result there both (c.at_colon.ensures.stepped m there)
+
+pub returns-in-Ok-Some-next_first : goal.returns-in-Ok-Some-next_first
+returns-in-Ok-Some-next_first g c = grind (arith, common_steps)

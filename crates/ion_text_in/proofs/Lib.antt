@@ -68,4 +68,4 @@ mod QuotedRows
 mod Lanes
 mod Blocks
 mod SureRuns
-mod Stops
+mod Suspects

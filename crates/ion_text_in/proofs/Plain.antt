@@ -1,6 +1,6 @@
 -- A run of plain bytes in a text is a run of pieces.
 use Rattle.std.proofs.Common.{◌≡◌, ℕ, suc, ◌+◌, ◌≤◌, inl, inr, Bool, true, false, not, ◌&&◌, ◌||◌, ◌==◌, nat_le, nat_lt, if◌then◌else◌, List, [], ◌∷◌, ◌++◌, length, Option, Some, None, Ok, Err, refl, sym, ap, ◌∙◌, arith}
-use Rattle.std.proofs.lemmas.Bool.{cases_Bool, and_parts, not-true, ltb-false, le-ltb, false≢true}
+use Rattle.std.proofs.lemmas.Bool.{cases_Bool, and_parts, not-true, eqb-true, ltb-false, le-ltb, false≢true}
 use Rattle.std.proofs.lemmas.Bool.Decides.{nat_tests}
 use Rattle.ion_meter.specs.declared.fault.Reason.TheVariants.{ScalarLimit}
 use Rattle.ion_value.specs.Digits.{all_are}
@@ -30,15 +30,27 @@ raw-char q b bytes e = by-end (b == 10 || b == 13) (no-end ((and_parts (nat_le 3
     by-end end none true = rw (none, e) refl
     by-end end none false = rw e refl
 
+-- LF in a long text
+line-char : (q : Quote) (b : ℕ) (bytes : List ℕ) → q.is_long ≡ true → b ≡ 10 → quoted.raw q b bytes ≡ char (b ∷ []) 1
+line-char q b bytes long is = rw (long, is) refl
+
+plain-char : (q : Quote) (b : ℕ) (bytes : List ℕ) → (is_raw q b || (q.is_long && b == 10)) ≡ true → quoted.raw q b bytes ≡ char (b ∷ []) 1
+plain-char q b bytes e = elim (cases_Bool (is_raw q b)) [
+  | inl raw ↦ raw-char q b bytes raw
+  | inr none ↦
+      let line = and_parts q.is_long (b == 10) (sym (ap (λ (raw : Bool). raw || (q.is_long && b == 10)) none) ∙ e) in
+      line-char q b bytes line.0 (eqb-true b 10 line.1)
+]
+
 pub plain-piece : (q : Quote) (b : ℕ) (bytes : List ℕ) → is_plain_byte q b ≡ true → piece_at q (b ∷ bytes) ≡ char (b ∷ []) 1
 unfolding piece_at
 plain-piece q b bytes e =
-    let both = and_parts (not (may_close q.closer b) && not (b == 92)) (is_raw q b) e in
+    let both = and_parts (not (may_close q.closer b) && not (b == 92)) (is_raw q b || (q.is_long && b == 10)) e in
     let parts = and_parts (not (may_close q.closer b)) (not (b == 92)) both.0 in
     ap (λ (closes : Bool). if closes then quoted.close (length q.closer) else (if b == 92 then quoted.escape q.in_clob bytes else quoted.raw q b bytes))
     (no-close q.closer b bytes (not-true (may_close q.closer b) parts.0))
     ∙ ap (λ (escapes : Bool). if escapes then quoted.escape q.in_clob bytes else quoted.raw q b bytes) (not-true (b == 92) parts.1)
-    ∙ raw-char q b bytes both.1
+    ∙ plain-char q b bytes both.1
 
 -- ---- a run of them
 

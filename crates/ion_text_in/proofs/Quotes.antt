@@ -16,7 +16,7 @@ quote_of-is code.Long = (omega arith, omega arith)
 quote_of-is code.LongClob = (omega arith, omega arith)
 
 -- which bytes are plain the first mark says
-pub plain-mark : (q : CodeQuote) (b : ℕ) → is_plain_byte (quote_of q) b ≡ is_plain_byte (one_mark (mark_of q) (quote_of q).in_clob) b
+pub plain-mark : (q : CodeQuote) (b : ℕ) → is_plain_byte (quote_of q) b ≡ is_plain_byte (one_mark (mark_of q) (quote_of q).is_long (quote_of q).in_clob) b
 plain-mark code.Symbol b = refl
 plain-mark code.Short b = refl
 plain-mark code.ShortClob b = refl

@@ -1,5 +1,5 @@
 -- Quotes and pieces as the code has them.
-use Rattle.std.specs.Prelude.{◌≡◌, ℕ, ◌<◌, ◌≤◌, Bool, true, false, ◌==◌, List, [], ◌∷◌, take, drop}
+use Rattle.std.specs.Prelude.{◌≡◌, ℕ, ◌<◌, ◌≤◌, Bool, true, false, not, ◌&&◌, ◌||◌, ◌==◌, nat_le, nat_lt, List, [], ◌∷◌, take, drop}
 use Rattle.ion_value.specs.Digits.{first_is, all_are}
 use Rattle.ion_text_in.specs.declared.quoted.Quote.{Quote as CodeQuote}
 use Rattle.ion_text_in.specs.declared.quoted.Quote.TheVariants as code
@@ -25,9 +25,14 @@ mark_of code.ShortClob = 34
 mark_of code.Long = 39
 mark_of code.LongClob = 39
 
--- quotes of one byte
-abbrev pub one_mark : ℕ → Bool → Quote
-one_mark mark in_clob = record { closer = mark ∷ []; is_long = false; in_clob = in_clob }
+-- quotes that begin with a byte, between which lines may end or not
+abbrev pub one_mark : ℕ → Bool → Bool → Quote
+one_mark mark lines in_clob = record { closer = mark ∷ []; is_long = lines; in_clob = in_clob }
+
+-- a byte that stands for itself between them, as fewer comparisons tell: none of the control characters is one, though a few stand for
+-- themselves
+abbrev pub is_sure : ℕ → Bool → ℕ → Bool
+is_sure mark in_clob b = not (mark == b) && not (b == 92) && (nat_le 32 b && (not in_clob || nat_lt b 128))
 
 -- so many bytes of a text are within a limit, and the quote stands behind them
 abbrev pub IsWithin : ℕ → Scanned ℕ → Type 0

@@ -1,6 +1,6 @@
 -- What a reader in code does otherwise than the definitions: it starts behind blanks, it counts no pieces, and it takes plain bytes
 -- together.
-use Rattle.std.specs.Prelude.{◌≡◌, ℕ, suc, ◌+◌, ◌≤◌, Bool, true, false, not, ◌&&◌, ◌==◌, nat_lt, if◌then◌else◌, List, [], ◌∷◌, ◌++◌, length, Option, Result, Ok, Err}
+use Rattle.std.specs.Prelude.{◌≡◌, ℕ, suc, ◌+◌, ◌≤◌, Bool, true, false, not, ◌&&◌, ◌||◌, ◌==◌, nat_lt, if◌then◌else◌, List, [], ◌∷◌, ◌++◌, length, Option, Result, Ok, Err}
 use Rattle.ion_meter.specs.declared.fault.Reason.{Reason}
 use Rattle.ion_meter.specs.declared.fault.Reason.TheVariants.{ScalarLimit}
 use Rattle.ion_meter.specs.declared.limits.Limits.{Limits}
@@ -96,9 +96,9 @@ abbrev pub may_close : List ℕ → ℕ → Bool
 may_close [] b = true
 may_close (c ∷ closer) b = c == b
 
--- a byte that stands for itself, whatever follows it
+-- a byte that stands for itself, whatever follows it: LF does in a long text
 abbrev pub is_plain_byte : Quote → ℕ → Bool
-is_plain_byte q b = not (may_close q.closer b) && not (b == 92) && is_raw q b
+is_plain_byte q b = not (may_close q.closer b) && not (b == 92) && (is_raw q b || (q.is_long && b == 10))
 
 -- bytes before what is spelled further on
 abbrev pub with_front : List ℕ → Spelled → Spelled

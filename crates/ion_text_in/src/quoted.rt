@@ -3,7 +3,7 @@ ghost use Rattle.std.specs.Prelude.{◌≡◌, ◌<◌, ◌≤◌, ◌↔◌, �
 ghost use Rattle.std.specs.Simd.Lanes.{mask_l};
 ghost use Rattle.ion_value.specs.Name.{is_one_of};
 ghost use Rattle.ion_value.specs.Digits.{first_is, all_are};
-ghost use Rattle.ion_text_in.specs.Quotes.{quote_of, mark_of, one_mark, IsWithin, StopsBefore};
+ghost use Rattle.ion_text_in.specs.Quotes.{quote_of, mark_of, one_mark, is_sure, IsWithin, StopsBefore};
 ghost use Rattle.ion_text_in.specs.Quoted.{text_at};
 ghost use Rattle.ion_text_in.specs.Scanners.{Shows};
 ghost use Rattle.ion_text_in.specs.Scanning.{is_plain_byte};
@@ -110,43 +110,62 @@ pub(crate) fn plain_length(quote: Quote, bytes: &[u8]) -> usize
     ensures ends { first_is (is_plain_byte (quote_of quote)) (drop result bytes.now) ≡ false }
 {
     let mark = quote.mark();
+    let lines = quote.is_long();
     let in_clob = quote.in_clob();
     let mut at = 0;
     'skip: while bytes.len() - at >= BLOCK {
-        let stops = stops(mark, in_clob, u8x32::from_slice(&bytes[at..]));
-        if stops != 0 {
-            return at + stops.trailing_zeros() as usize;
+        let suspects = suspects(mark, in_clob, u8x32::from_slice(&bytes[at..]));
+        if suspects == 0 {
+            at += BLOCK;
+        } else {
+            let next = at + suspects.trailing_zeros() as usize;
+            if !is_cleared(mark, lines, in_clob, bytes[next]) {
+                return next;
+            }
+            at = next + 1;
         }
-        at += BLOCK;
     }
-    at + few_plain(mark, in_clob, &bytes[at..])
+    at + few_plain(mark, lines, in_clob, &bytes[at..])
 }
 
-// Which of these bytes do not stand for themselves: a bit for each, the lowest for the first.
+// Which of these bytes may stand for something else than themselves: a bit for each, the lowest for
+// the first. Those are the mark, a backslash, control characters and, in a clob, bytes that are no
+// ASCII; of the control characters a few stand for themselves all the same. Counted round from the
+// space, control characters come last, behind those that are no ASCII.
 #[inline(always)]
-fn stops(mark: u8, in_clob: bool, bytes: u8x32) -> u64
-    ensures { result ≡ mask_l (map (λ b. not (is_plain_byte (one_mark mark in_clob) b)) bytes) }
+fn suspects(mark: u8, in_clob: bool, bytes: u8x32) -> u64
+    ensures { result ≡ mask_l (map (λ b. not (is_sure mark in_clob b)) bytes) }
 {
-    let greatest = if in_clob { 127 } else { 255 };
-    let is_control = bytes.simd_lt(u8x32::splat(b' '))
-        & bytes.simd_ne(u8x32::splat(9))
-        & (bytes.simd_lt(u8x32::splat(11)) | bytes.simd_gt(u8x32::splat(12)));
-    let is_other = bytes.simd_eq(u8x32::splat(b'\\'))
-        | bytes.simd_gt(u8x32::splat(greatest))
-        | is_control;
-    (u8x32::splat(mark).simd_eq(bytes) | is_other).to_bitmask()
+    let others = if in_clob { 96 } else { 224 };
+    let is_mark = u8x32::splat(mark).simd_eq(bytes);
+    let is_escape = bytes.simd_eq(u8x32::splat(b'\\'));
+    let is_other = (bytes - u8x32::splat(b' ')).simd_ge(u8x32::splat(others));
+    (is_mark | is_escape | is_other).to_bitmask()
+}
+
+// Whether a byte that is suspect stands for itself all the same, which only control characters do.
+#[inline(always)]
+fn is_cleared(mark: u8, lines: bool, in_clob: bool, byte: u8) -> bool
+    requires { is_sure mark in_clob byte ≡ false }
+    ensures { result ≡ is_plain_byte (one_mark mark lines in_clob) byte }
+{
+    if byte >= b' ' {
+        return false;
+    }
+    is_plain_alone(mark, lines, in_clob, byte)
 }
 
 // How many bytes at the front of these are plain, one after the other.
 #[inline(always)]
-fn few_plain(mark: u8, in_clob: bool, bytes: &[u8]) -> usize
+fn few_plain(mark: u8, lines: bool, in_clob: bool, bytes: &[u8]) -> usize
     ensures within { result ≤ length bytes.now }
-    ensures plain { all_are (is_plain_byte (one_mark mark in_clob)) (take result bytes.now) ≡ true }
-    ensures ends { first_is (is_plain_byte (one_mark mark in_clob)) (drop result bytes.now)
-        ≡ false }
+    ensures plain { all_are (is_plain_byte (one_mark mark lines in_clob))
+        (take result bytes.now) ≡ true }
+    ensures ends { first_is (is_plain_byte (one_mark mark lines in_clob))
+        (drop result bytes.now) ≡ false }
 {
     for (i, byte) in bytes.iter().enumerate() {
-        if !is_plain_alone(mark, in_clob, *byte) {
+        if !is_plain_alone(mark, lines, in_clob, *byte) {
             return i;
         }
     }
@@ -155,10 +174,10 @@ fn few_plain(mark: u8, in_clob: bool, bytes: &[u8]) -> usize
 
 // Whether a byte stands for itself between such quotes, whatever follows it.
 #[inline(always)]
-fn is_plain_alone(mark: u8, in_clob: bool, byte: u8) -> bool
-    ensures { result ≡ is_plain_byte (one_mark mark in_clob) byte }
+fn is_plain_alone(mark: u8, lines: bool, in_clob: bool, byte: u8) -> bool
+    ensures { result ≡ is_plain_byte (one_mark mark lines in_clob) byte }
 {
-    byte != mark && is_written(byte) && (!in_clob || byte < 128)
+    byte != mark && (is_written(byte) && (!in_clob || byte < 128) || lines && byte == b'\n')
 }
 
 // Which bytes stand for themselves between quotes of another sort, where the text is no clob's.

@@ -1,6 +1,6 @@
 //! Segments of texts between quotes, gathered over the window (Ion specification, "Strings",
 //! "Symbols" and "Clobs").
-ghost use Rattle.std.specs.Prelude.{◌≡◌, ◌≢◌, ◌+◌, ◌<◌, ◌≤◌, ℕ, Ok, Err, length, OnOk, IfOk};
+ghost use Rattle.std.specs.Prelude.{◌≡◌, ◌≢◌, ◌+◌, ◌<◌, ◌≤◌, ℕ, [], ◌∷◌, Ok, Err, length, encode_utf8, OnOk, IfOk};
 ghost use Rattle.ion_meter.specs.Windows.{left, lent};
 ghost use Rattle.ion_meter.specs.Sources.{skip, cursor, Stands};
 ghost use Rattle.ion_meter.specs.Sources.{Reads as Looks};
@@ -12,7 +12,7 @@ ghost use Rattle.ion_text_in.specs.Quotes.{quote_of};
 ghost use Rattle.ion_text_in.specs.Pieces.{piece_of, bytes_of_piece, taken_of, TakesSome};
 ghost use Rattle.ion_text_in.specs.Gathered.{CanGather, CanGrow, Grown, PutsOn, Goes, onward, with_segment};
 
-use crate::piece::{Piece, last_piece, scan_piece};
+use crate::piece::{Piece, last_piece, quick_piece, scan_piece};
 use crate::quoted::{Quote, is_text, plain_length};
 use ion_meter::buf::Buf;
 use ion_meter::device::Input;
@@ -152,7 +152,51 @@ fn put<A: Allocator + Copy>(
     text.extend(meter, bytes)
 }
 
+// Puts a byte behind a text.
+#[inline]
+fn put_byte<A: Allocator + Copy>(
+    text: &mut Buf<A>,
+    byte: u8,
+    place: u64,
+    limits: Limits,
+    meter: &mut Meter<A>,
+) -> Result<(), Fault>
+    requires can_grow { CanGrow limits text.old meter.old }
+    ensures puts { PutsOn text.old text.new (byte ∷ []) limits.scalar place result }
+    ensures grown { Grown meter.old meter.new (length text.old) (length text.new) limits.scalar
+        (fault_of result) }
+{
+    if limits.scalar <= text.as_slice().len() as u64 {
+        return Err(Fault::Refused(Reason::ScalarLimit, place));
+    }
+    text.push(meter, byte)
+}
+
+// Puts a character behind a text, in UTF-8.
+fn put_char<A: Allocator + Copy>(
+    text: &mut Buf<A>,
+    character: char,
+    place: u64,
+    limits: Limits,
+    meter: &mut Meter<A>,
+) -> Result<(), Fault>
+    requires can_grow { CanGrow limits text.old meter.old }
+    ensures puts { PutsOn text.old text.new (encode_utf8 character) limits.scalar place result }
+    ensures grown { Grown meter.old meter.new (length text.old) (length text.new) limits.scalar
+        (fault_of result) }
+{
+    let mut room = [0; 4];
+    put(
+        text,
+        character.encode_utf8(&mut room).as_bytes(),
+        place,
+        limits,
+        meter,
+    )
+}
+
 // Puts the bytes of a piece behind a text.
+#[inline]
 fn put_piece<A: Allocator + Copy>(
     text: &mut Buf<A>,
     piece: Piece,
@@ -166,18 +210,9 @@ fn put_piece<A: Allocator + Copy>(
         (fault_of result) }
 {
     match piece {
-        Piece::Char(character, _) => {
-            let mut room = [0; 4];
-            put(
-                text,
-                character.encode_utf8(&mut room).as_bytes(),
-                place,
-                limits,
-                meter,
-            )
-        }
-        Piece::Byte(byte, _) => put(text, &[byte], place, limits, meter),
-        _ => put(text, &[], place, limits, meter),
+        Piece::Char(character, _) => put_char(text, character, place, limits, meter),
+        Piece::Byte(byte, _) => put_byte(text, byte, place, limits, meter),
+        _ => Ok(()),
     }
 }
 
@@ -208,7 +243,28 @@ fn next_piece<I: Input, A: Allocator + Copy>(
 }
 
 // The piece at the present place, for which no more of the device is read than it needs.
+#[inline]
 fn show_piece<I: Input, A: Allocator + Copy>(
+    source: &mut Source<I, A>,
+    quote: Quote,
+) -> Result<Piece, Fault>
+    requires stands { Stands source.old }
+    ensures gives { I.observable source.old.device → IfOk result (λ piece.
+        piece_of piece ≡ piece_at (quote_of quote) (left I.rest source.old)) }
+    ensures there { IfOk result (λ piece. taken_of piece ≤ length (lent source.new)) }
+    ensures some { IfOk result TakesSome }
+    ensures looks { Looks I.Input source.old source.new result }
+    ensures limit { result ≡ Err Fault.InputLimit → I.observable source.old.device
+        → source.old.limit < source.old.place + length (left I.rest source.old) }
+{
+    match quick_piece(quote, source.buffer()) {
+        Piece::Cut => show_slowly(source, quote),
+        piece => Ok(piece),
+    }
+}
+
+// The same for any piece.
+fn show_slowly<I: Input, A: Allocator + Copy>(
     source: &mut Source<I, A>,
     quote: Quote,
 ) -> Result<Piece, Fault>

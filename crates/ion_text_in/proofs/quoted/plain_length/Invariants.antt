@@ -7,7 +7,7 @@ use Rattle.ion_text_in.proofs.quoted.plain_length.Given as goal
 abbrev pub invariant-skip : goal.invariant-skip
 invariant-skip l = record {
   within : l.at ≤ length l.bytes;
-  plain : all_are (is_plain_byte (one_mark l.mark l.in_clob)) (take l.at l.bytes) ≡ true;
+  plain : all_are (is_plain_byte (one_mark l.mark l.lines l.in_clob)) (take l.at l.bytes) ≡ true;
 }
 
 abbrev pub decreases-skip : goal.decreases-skip

@@ -1,0 +1,116 @@
+-- Which bytes between quotes may stand for something else than themselves, as vectors test it.
+use Rattle.std.proofs.Common.{◌≡◌, ℕ, ◌+◌, ◌<◌, ◌≤◌, Bool, true, false, not, eqb, leb, ◌%◌, ◌==◌, ◌&&◌, ◌||◌, nat_le, nat_lt, List, [], ◌∷◌, map, take, drop, length, slice_index, suc, refl, sym, ap, ap₂, subst, ◌∙◌, ◌≢◌, arith}
+use Rattle.std.proofs.lemmas.Bool.{agree_below_at, and_parts, and_right, ne_eqb, le-leb}
+use Rattle.std.proofs.lemmas.List.{drop-drop, length-drop}
+use Rattle.std.proofs.Math.Seq.{drop-cons}
+use Rattle.std.specs.List.{prefix_len}
+use lib.Lanes.{chunk, mask_l}
+use lib.Count.{count_trailing_zeros}
+use Rattle.ion_value.specs.Digits.{first_is, all_are}
+use Rattle.ion_value.specs.Name.{is_one_of}
+use Rattle.ion_text_in.specs.Scanning.{is_plain_byte}
+use Rattle.ion_text_in.specs.Quotes.{one_mark, is_sure}
+use Rattle.ion_text_in.proofs.Quotes.{all-behind}
+use Rattle.ion_text_in.proofs.Blocks.{all_pass, run_passes, run_ends, run_at}
+
+-- a byte as it is counted round from the space
+abbrev pub round : ℕ → ℕ
+round x = (x + 224) % 256
+
+-- the first of the others, so counted
+abbrev pub others_of : Bool → ℕ
+others_of true = 96
+others_of false = 224
+
+abbrev stands : Bool → ℕ → Bool
+stands in_clob x = nat_le 32 x && (not in_clob || nat_lt x 128)
+
+others : (in_clob : Bool) (x : ℕ) → x < 256 → leb (others_of in_clob) (round x) ≡ not (stands in_clob x)
+others true x h = agree_below_at (λ x. leb 96 (round x)) (λ x. not (stands true x)) 256 x refl h
+others false x h = agree_below_at (λ x. leb 224 (round x)) (λ x. not (stands false x)) 256 x refl h
+
+beside : (m b r o : Bool) → o ≡ not r → ((m || b) || o) ≡ not (not m && not b && r)
+beside true b r o e = refl
+beside false true r o e = refl
+beside false false r o e = e
+
+pub suspect : (mark : ℕ) (in_clob : Bool) (x : ℕ) → x < 256 → ((eqb mark x || eqb x 92) || leb (others_of in_clob) (round x)) ≡ not (is_sure mark in_clob x)
+suspect mark in_clob x h = beside (eqb mark x) (eqb x 92) (stands in_clob x) (leb (others_of in_clob) (round x)) (others in_clob x h)
+
+-- ---- the others are plain
+
+spared : (m e g c w l : Bool) → (not m && not e && (g && c)) ≡ true → (not m && not e && (((g || w) && c) || l)) ≡ true
+spared false false true true w l e = refl
+spared false false true false w l e = absurd (cc e)
+spared false false false c w l e = absurd (cc e)
+spared false true g c w l e = absurd (cc e)
+spared true e' g c w l e = absurd (cc e)
+
+sure-plain : (mark : ℕ) (lines in_clob : Bool) (b : ℕ) → is_sure mark in_clob b ≡ true → is_plain_byte (one_mark mark lines in_clob) b ≡ true
+sure-plain mark lines in_clob b e =
+    spared (mark == b) (b == 92) (nat_le 32 b) (not in_clob || nat_lt b 128) (is_one_of (9 ∷ 11 ∷ 12 ∷ []) b) (lines && b == 10) e
+
+all-sure : (mark : ℕ) (lines in_clob : Bool) (xs : List ℕ) → all_are (is_sure mark in_clob) xs ≡ true → all_are (is_plain_byte (one_mark mark lines in_clob)) xs ≡ true
+all-sure mark lines in_clob [] e = refl
+all-sure mark lines in_clob (b ∷ xs) e =
+    let both = and_parts (is_sure mark in_clob b) (all_are (is_sure mark in_clob) xs) e in
+    ap₂ (λ y z. y && z) (sure-plain mark lines in_clob b both.0) (all-sure mark lines in_clob xs both.1)
+
+-- a suspect that is no control character is not plain
+not_spared : (m e g c w l : Bool) → (not m && not e && (g && c)) ≡ false → g ≡ true → l ≡ false → (not m && not e && (((g || w) && c) || l)) ≡ false
+not_spared true e g c w l none is no_line = refl
+not_spared false true g c w l none is no_line = refl
+not_spared false false true c w l none is no_line = rw (none, no_line) refl
+not_spared false false false c w l none is no_line = absurd (cc is)
+
+pub suspect-other : (mark : ℕ) (lines in_clob : Bool) (b : ℕ) → is_sure mark in_clob b ≡ false → 32 ≤ b → is_plain_byte (one_mark mark lines in_clob) b ≡ false
+suspect-other mark lines in_clob b none le =
+    let no_line : (lines && b == 10) ≡ false = and_right lines (b == 10) (ne_eqb b 10 (omega (arith, le))) in
+    not_spared (mark == b) (b == 92) (nat_le 32 b) (not in_clob || nat_lt b 128) (is_one_of (9 ∷ 11 ∷ 12 ∷ []) b) (lines && b == 10) none (le-leb 32 b le) no_line
+
+-- ---- a run of plain bytes, seen a block at a time
+
+pub at-other : (test : ℕ → Bool) (bytes : List ℕ) (n : ℕ) → n < length bytes → test (slice_index bytes n) ≡ false → first_is test (drop n bytes) ≡ false
+at-other test bytes n there none =
+    let cons : drop n bytes ≡ slice_index bytes n ∷ drop (suc n) bytes = drop-cons bytes n 0 there in
+    rw cons none
+
+from-other : (test : ℕ → Bool) (bytes : List ℕ) (n : ℕ) → n < length bytes → first_is test (drop n bytes) ≡ false → test (slice_index bytes n) ≡ false
+from-other test bytes n there none =
+    let cons : drop n bytes ≡ slice_index bytes n ∷ drop (suc n) bytes = drop-cons bytes n 0 there in
+    rw cons at none
+
+module _ (mark : ℕ) (lines in_clob : Bool) (bytes : List ℕ) (at found : ℕ) (same : found ≡ mask_l (map (λ b. not (is_sure mark in_clob b)) (chunk at 32 bytes))) where
+  abbrev sure : ℕ → Bool
+  sure = is_sure mark in_clob
+
+  abbrev plain : ℕ → Bool
+  plain = is_plain_byte (one_mark mark lines in_clob)
+
+  -- over a block without a suspect
+  pub over-block : all_are plain (take at bytes) ≡ true → found ≡ 0 → all_are plain (take (at + 32) bytes) ≡ true
+  over-block before none = all-behind plain bytes at 32 before (all-sure mark lines in_clob (chunk at 32 bytes) (all_pass sure (chunk at 32 bytes) (sym same ∙ none)))
+
+  -- up to the first suspect of a block
+  pub to-suspect : at + 32 ≤ length bytes → all_are plain (take at bytes) ≡ true → found ≢ 0
+      → (at + count_trailing_zeros 64 found < length bytes) × (all_are plain (take (at + count_trailing_zeros 64 found) bytes) ≡ true) × (sure (slice_index bytes (at + count_trailing_zeros 64 found)) ≡ false)
+  to-suspect room before some =
+      let n = count_trailing_zeros 64 found in
+      let run = run_at sure bytes at 32 room (omega arith) (omega (arith, same, some)) in
+      let count : prefix_len sure (drop at bytes) ≡ n = run.0 ∙ sym (ap (count_trailing_zeros 64) same) in
+      let there : at + n < length bytes = omega (arith, run.0, run.1, count, room) in
+      let passes = subst (λ (k : ℕ). all_are sure (take k (drop at bytes)) ≡ true) count (run_passes sure (drop at bytes)) in
+      let within : prefix_len sure (drop at bytes) < length (drop at bytes) = omega (arith, count, there, length-drop at bytes) in
+      let end : first_is sure (drop n (drop at bytes)) ≡ false = subst (λ (k : ℕ). first_is sure (drop k (drop at bytes)) ≡ false) count (run_ends sure (drop at bytes) within) in
+      let behind = rw (drop-drop n at bytes) at end in (
+        there,
+        all-behind plain bytes at n before (all-sure mark lines in_clob (take n (drop at bytes)) passes),
+        from-other sure bytes (at + n) there behind,
+      )
+
+-- over one byte that is plain, and up to one that is not
+pub over-one : (test : ℕ → Bool) (bytes : List ℕ) (n : ℕ) → n < length bytes → all_are test (take n bytes) ≡ true → test (slice_index bytes n) ≡ true
+    → all_are test (take (n + 1) bytes) ≡ true
+over-one test bytes n there before one =
+    let cons : drop n bytes ≡ slice_index bytes n ∷ drop (suc n) bytes = drop-cons bytes n 0 there in
+    all-behind test bytes n 1 before (rw (cons, one) refl)

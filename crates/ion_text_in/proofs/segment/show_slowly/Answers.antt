@@ -1,0 +1,35 @@
+use Rattle.std.proofs.Common.{ℕ, ◌≤◌, List, length, ap, subst, ◌∙◌}
+use Rattle.ion_text_in.specs.Quoted.{piece_at}
+use Rattle.ion_text_in.specs.Quotes.{quote_of}
+use Rattle.ion_text_in.specs.Pieces.{taken_of, ShowsPiece}
+use Rattle.ion_text_in.proofs.Looking.{piece-left, lent-all}
+use Rattle.ion_text_in.proofs.Taking.{taken-there, taken-some}
+use Rattle.ion_text_in.proofs.segment.show_slowly.Goals as goal
+
+pub returns-in_default-clause-gives : goal.returns-in_default-clause-gives
+returns-in_default-clause-gives g c = λ h.
+    let shows = subst (λ (l : List ℕ). ShowsPiece (quote_of c.args.quote) l c.scan_piece.result) c.buffer-bytes.ensures c.scan_piece.ensures.shows in
+    piece-left g.I.Input.rest c.more.source (quote_of c.args.quote) c.scan_piece.result c.in_default.not-Cut shows
+    ∙ ap (λ (l : List ℕ). piece_at (quote_of c.args.quote) l) (c.more.invariant.kept.same_left h)
+
+pub returns-in_default-clause-there : goal.returns-in_default-clause-there
+returns-in_default-clause-there g c =
+    subst (λ (l : List ℕ). taken_of c.scan_piece.result ≤ length l) c.buffer-bytes.ensures c.scan_piece.ensures.there
+
+pub returns-in-Ok-None-clause-gives : goal.returns-in-Ok-None-clause-gives
+returns-in-Ok-None-clause-gives g c = λ h.
+    let s = c.more.source in
+    let t = c.peek.new.self in
+    let seen = c.more.invariant.kept.still_observable.1 h in
+    let gives = rw (c.in-Ok-None.field-0-is, c.buffer-bytes.ensures) at (c.in-Ok-None.ensures.gives seen) in
+    c.last_piece.ensures
+    ∙ ap (λ (l : List ℕ). piece_at (quote_of c.args.quote) l)
+    (c.buffer.ensures ∙ lent-all g.I.Input.rest g.I.Input.observable s t c.in-Ok-None.ensures.kept c.in-Ok-None.ensures.well.0 c.in-Ok-None.ensures.well.1 seen gives
+    ∙ c.more.invariant.kept.same_left h)
+
+pub returns-in-Ok-None-clause-there : goal.returns-in-Ok-None-clause-there
+returns-in-Ok-None-clause-there g c =
+    subst (λ (l : List ℕ). taken_of c.last_piece.result ≤ length l) c.buffer.ensures (taken-there c.args.quote c.buffer.result.now c.last_piece.result c.last_piece.ensures)
+
+pub returns-in-Ok-None-clause-some : goal.returns-in-Ok-None-clause-some
+returns-in-Ok-None-clause-some g c = taken-some c.args.quote c.buffer.result.now c.last_piece.result c.last_piece.ensures

@@ -12,5 +12,6 @@ mod TextSound
 mod UserPaths
 mod Loading
 mod Following
+mod Copying
 mod LoadParts
 mod TableStreams

@@ -1,14 +1,16 @@
-use Rattle.std.proofs.Common.{rules, ◌≡◌, ℕ, ◌+◌, List, [], ◌∷◌, ◌++◌, length, Some, None, ap, subst, ◌∙◌}
+use Rattle.std.proofs.Common.{rules, ◌≡◌, ℕ, ◌+◌, ◌<◌, ◌≤◌, List, [], ◌∷◌, ◌++◌, length, Some, None, Ok, Err, true, refl, ap, sym, subst, ◌∙◌, add-zero, le_trans, arith}
 use Rattle.std.proofs.lemmas.List.{append-nil}
 use Rattle.ion_meter.specs.Windows.{so_far, HasPrefix}
 use Rattle.ion_value.specs.Items.{item_of}
+use Rattle.ion_value.specs.Value.{PlacedItem}
 use Rattle.ion_value.specs.Reading.{More, Finished}
 use Rattle.ion_value.specs.Standing.{open_after, Continues}
-use Rattle.ion_value.specs.Outcome.{one_if_closed}
+use Rattle.ion_value.specs.Outcome.{one_if_closed, Accepted, verdict_behind, output_behind}
 use Rattle.ion_symbols.specs.Table.{text_at}
-use Rattle.ion_symbols.specs.User.{coming_to, lent_by}
+use Rattle.ion_symbols.specs.User.{coming_to, lent_by, owned_by, share_of}
 use Rattle.ion_value.proofs.Outcomes.{walk-more, walk-prefix, walk-fault, walk-refused, prefix-then, prefix-behind, output_behind-prefix}
 use Rattle.ion_transcode.proofs.Following.{followed-more, followed-all}
+use Rattle.ion_transcode.proofs.Copying.{none_is, err_is, same_ok, ok_is, refused_as, not_refused, Unharmed, continues_with, taken_as, level_with, left_with, same_share, charges_read, charges_written, item_causes, flush_causes, whole_causes, read_causes, unharmed_read, unharmed_put}
 use Rattle.ion_transcode.proofs.copy_items.copy_items.Goals as goal
 
 pub returns-in_err-begin-clause-puts : goal.returns-in_err-begin-clause-puts
@@ -24,171 +26,391 @@ returns-in_err-begin-clause-puts g c r o =
           ((c.begin.ensures.part c.requires.writer.well).prefix o);
     }
 
+pub returns-in_err-begin-clause-causes : goal.returns-in_err-begin-clause-causes
+returns-in_err-begin-clause-causes g c = grind arith
+
+pub returns-in_err-next-clause-says : goal.returns-in_err-next-clause-says
+returns-in_err-next-clause-says g c = λ o.
+    let t = c.items.invariant.walk in
+    let given : c.from_residual-in_err-next.result ≡ Err c.in_err-next.field-0.0 = search rules in
+    rw given (record {
+      accepted = λ n e. absurd (err_is e);
+      rejected = λ reason place e. t.verdict o ∙ ap (verdict_behind (g.W.ValueWriter.refusal (g.W.ValueWriter.limits c.args.writer.now)) t.path)
+          (c.next.ensures.refuses (c.items.invariant.read.1 o) c.items.invariant.well reason place (refused_as c.in_err-next.was e));
+    })
+
 pub returns-in_err-next-clause-puts : goal.returns-in_err-next-clause-puts
 returns-in_err-next-clause-puts g c r o =
     let w = g.W.ValueWriter in
     let limits = w.limits c.args.writer.now in
+    let before = so_far g.O.Output.written c.args.sink.now in
+    let i = c.items.invariant in
+    let t = i.walk in
+    let given : c.from_residual-in_err-next.result ≡ Err c.in_err-next.field-0.0 = search rules in
+    rw given (record {
+      accepted = tt;
+      rejected = λ reason place e.
+          let stops = c.next.ensures.refuses (i.read.1 r) i.well reason place (refused_as c.in_err-next.was e) in
+          t.put o ∙ ap (λ l. before ++ l) (sym (t.output r ∙ ap (output_behind (w.puts limits) (w.refusal limits) t.path) stops));
+      prefix = walk-prefix t (w.adds limits) (g.met.W.ValueWriter.grows limits) _ r o (i.prefix o);
+    })
+
+pub returns-in_err-next-clause-causes : goal.returns-in_err-next-clause-causes
+returns-in_err-next-clause-causes g c =
+    let i = c.items.invariant in
+    let so_good : Unharmed c.args.meter.now c.items.meter (g.R.RawReader.failures c.args.reader.now.raw) (g.R.RawReader.failures c.items.reader.raw) g.O.Output c.args.sink.now.device c.items.sink.device =
+    record { refused = i.refused; reads = i.failures; writes = i.device; observable = i.written; grown = i.grown } in
+    let given : c.from_residual-in_err-next.result ≡ Err c.in_err-next.field-0.0 = search rules in
+    rw given (read_causes so_good (c.in_err-next.ensures.causes i.well) i.exceeds.0)
+
+pub returns-in_err-next-clause-input : goal.returns-in_err-next-clause-input
+returns-in_err-next-clause-input g c =
+    let i = c.items.invariant in
+    (λ o. i.read.0 (c.next.ensures.observable.0 o), λ o. c.next.ensures.observable.1 (i.read.1 o))
+
+pub returns-in_err-next-clause-joined : goal.returns-in_err-next-clause-joined
+returns-in_err-next-clause-joined g c =
+    let i = c.items.invariant in
     record {
-      accepted = search rules;
-      rejected = search rules;
-      prefix = walk-prefix c.items.invariant.walk (w.adds limits) (g.met.W.ValueWriter.grows limits) _ r o (c.items.invariant.prefix o);
+      ready = c.next.ensures.ready;
+      limits = c.next.ensures.same.0 ∙ i.same;
+      reader_most = c.next.ensures.kept.1 ∙ i.most;
+      stays = record { sound = i.writer; limits = i.limits; most = i.writer_most };
+      well = record { accepted = search rules; rejected = λ reason place e. i.sink };
     }
+
+pub returns-in_err-next-clause-charges : goal.returns-in_err-next-clause-charges
+returns-in_err-next-clause-charges g c =
+    let w = g.W.ValueWriter in
+    let r = g.R.RawReader in
+    let i = c.items.invariant in
+    let share = same_share _ _ _ _ i.most i.same in
+    let few = subst (λ n. w.own c.items.writer ≤ n) i.writer_most (g.met.W.ValueWriter.within c.items.writer i.writer).share in
+    charges_read (owned_by r.own c.args.reader.now) (w.own c.args.writer.now) (owned_by r.own c.items.reader) (w.own c.items.writer) (owned_by r.own c.next.new.self) (share_of r.most c.args.reader.now) (w.most c.args.writer.now)
+    i.charges c.next.ensures.charges share c.requires.room.held few
+
+pub item-item-requires : goal.item-item-requires
+item-item-requires g c = c.next.ensures.lends (c.in_ok-next.was ∙ ap Ok c.if-branch.true)
+
+pub item-requires-clause-countable : goal.item-requires-clause-countable
+item-requires-clause-countable g c =
+    let i = c.items.invariant in
+    subst (λ n. n < 18446744073709551615) (sym ((c.in_ok-next.ensures.causes i.well).counted none_is ∙ i.refused)) c.requires.room.countable
+
+pub item-requires-clause-path : goal.item-requires-clause-path
+item-requires-clause-path g c = λ _.
+    let i = c.items.invariant in
+    let walk = i.walk in (
+      walk.path,
+      walk.stands_at,
+      continues_with i.limits c.requires.writer.depth_of i.depth walk.kinds_at c.item-item.ensures (c.next.ensures.comes (c.in_ok-next.was ∙ ap Ok c.if-branch.true)),
+    )
 
 pub returns-in-Err-clause-says : goal.returns-in-Err-clause-says
 returns-in-Err-clause-says g c r =
     let w = g.W.ValueWriter in
-    let limits = w.limits c.args.writer.now in
-    let walk = c.items.invariant.walk in
+    let i = c.items.invariant in
+    let walk = i.walk in
     let item = lent_by g.R.RawReader.current c.next.new.self in
-    let may : Continues (w.limits c.items.writer) walk.path (item_of (λ s. text_at s.table) c.item-item.result) = search rules in
-    let is : coming_to g.R.RawReader.reading c.items.reader ≡ More item (coming_to g.R.RawReader.reading c.next.new.self) = search rules in
+    let taken : c.next.result ≡ Ok true = c.in_ok-next.was ∙ ap Ok c.if-branch.true in
+    let may : Continues (w.limits c.items.writer) walk.path (item_of (λ s. text_at s.table) c.item-item.result) =
+    continues_with i.limits c.requires.writer.depth_of i.depth walk.kinds_at c.item-item.ensures (c.next.ensures.comes taken) in
     record {
-      accepted = search rules;
+      accepted = λ n e. absurd (err_is e);
       rejected = λ reason place e.
-          let why : w.refusal limits walk.path item ≡ Some (reason, place) =
-          rw (c.items.invariant.limits, c.item-item.ensures) at (c.item.ensures.refuses c.items.invariant.fresh c.items.invariant.sink walk.path walk.stands_at may reason place (search rules)) in
-          (walk-refused walk item _ reason place r is why).0;
+          let why = c.item.ensures.refuses i.fresh i.sink walk.path walk.stands_at may reason place (refused_as c.in-Err.is e) in
+          (walk-refused walk item _ reason place r (c.next.ensures.gives (i.read.1 r) taken)
+          (taken_as (λ l x. w.refusal l walk.path x ≡ Some (reason, place)) i.limits c.item-item.ensures why)).0;
     }
 
 pub returns-in-Err-clause-puts : goal.returns-in-Err-clause-puts
 returns-in-Err-clause-puts g c r o =
     let w = g.W.ValueWriter in
+    let written = g.O.Output.written in
     let limits = w.limits c.args.writer.now in
-    let walk = c.items.invariant.walk in
+    let i = c.items.invariant in
+    let walk = i.walk in
     let item = lent_by g.R.RawReader.current c.next.new.self in
-    let may : Continues (w.limits c.items.writer) walk.path (item_of (λ s. text_at s.table) c.item-item.result) = search rules in
-    let is : coming_to g.R.RawReader.reading c.items.reader ≡ More item (coming_to g.R.RawReader.reading c.next.new.self) = search rules in
-    let part : HasPrefix (so_far g.O.Output.written c.items.sink ++ w.adds limits walk.path item) (g.O.Output.written c.item.new.sink.device) =
-    rw (c.items.invariant.limits, c.item-item.ensures) at ((c.item.ensures.part c.items.invariant.sink walk.path walk.stands_at may).prefix (c.items.invariant.written.1 o)) in
+    let taken : c.next.result ≡ Ok true = c.in_ok-next.was ∙ ap Ok c.if-branch.true in
+    let may : Continues (w.limits c.items.writer) walk.path (item_of (λ s. text_at s.table) c.item-item.result) =
+    continues_with i.limits c.requires.writer.depth_of i.depth walk.kinds_at c.item-item.ensures (c.next.ensures.comes taken) in
+    let is : coming_to g.R.RawReader.reading c.items.reader ≡ More item (coming_to g.R.RawReader.reading c.next.new.self) = c.next.ensures.gives (i.read.1 r) taken in
+    let part : HasPrefix (so_far written c.items.sink ++ w.adds limits walk.path item) (written c.item.new.sink.device) =
+    taken_as (λ l x. HasPrefix (so_far written c.items.sink ++ w.adds l walk.path x) (written c.item.new.sink.device)) i.limits c.item-item.ensures
+    ((c.item.ensures.part i.sink walk.path walk.stands_at may).prefix (i.written.1 o)) in
     record {
-      accepted = search rules;
+      accepted = tt;
       rejected = λ reason place e.
-          let why : w.refusal limits walk.path item ≡ Some (reason, place) =
-          rw (c.items.invariant.limits, c.item-item.ensures) at (c.item.ensures.refuses c.items.invariant.fresh c.items.invariant.sink walk.path walk.stands_at may reason place (search rules)) in
-          let quiet : c.item.new.sink ≡ c.items.sink = c.item.ensures.quiet c.items.invariant.sink reason place (search rules) in
-          ap (so_far g.O.Output.written) quiet ∙ (walk-refused walk item _ reason place r is why).1 o;
+          let refused = refused_as c.in-Err.is e in
+          let why = c.item.ensures.refuses i.fresh i.sink walk.path walk.stands_at may reason place refused in
+          ap (so_far written) (c.item.ensures.quiet i.sink reason place refused)
+          ∙ (walk-refused walk item _ reason place r is (taken_as (λ l x. w.refusal l walk.path x ≡ Some (reason, place)) i.limits c.item-item.ensures why)).1 o;
       prefix = walk-fault walk (w.adds limits) (g.met.W.ValueWriter.grows limits) (g.met.W.ValueWriter.silent limits) item _ _ r o is part;
     }
 
 pub returns-in-Err-clause-causes : goal.returns-in-Err-clause-causes
 returns-in-Err-clause-causes g c =
     let w = g.W.ValueWriter in
-    let walk = c.items.invariant.walk in
-    let may : Continues (w.limits c.items.writer) walk.path (item_of (λ s. text_at s.table) c.item-item.result) = search rules in
+    let i = c.items.invariant in
+    let walk = i.walk in
+    let taken : c.next.result ≡ Ok true = c.in_ok-next.was ∙ ap Ok c.if-branch.true in
+    let may : Continues (w.limits c.items.writer) walk.path (item_of (λ s. text_at s.table) c.item-item.result) =
+    continues_with i.limits c.requires.writer.depth_of i.depth walk.kinds_at c.item-item.ensures (c.next.ensures.comes taken) in
+    let puts = c.item.ensures.part i.sink walk.path walk.stands_at may in
+    let so_good : Unharmed c.args.meter.now c.items.meter (g.R.RawReader.failures c.args.reader.now.raw) (g.R.RawReader.failures c.items.reader.raw) g.O.Output c.args.sink.now.device c.items.sink.device =
+    record { refused = i.refused; reads = i.failures; writes = i.device; observable = i.written; grown = i.grown } in
+    item_causes _ (unharmed_read so_good (c.in_ok-next.ensures.causes i.well)) (c.in-Err.ensures.memory i.fresh) (c.in-Err.ensures.causes i.fresh i.sink)
+    puts.still_observable (λ o. prefix-then _ _ _ (puts.grown (i.written.1 o)) (i.grown o))
+
+pub returns-in-Err-clause-input : goal.returns-in-Err-clause-input
+returns-in-Err-clause-input g c =
+    let i = c.items.invariant in
+    (λ o. i.read.0 (c.next.ensures.observable.0 o), λ o. c.next.ensures.observable.1 (i.read.1 o))
+
+pub returns-in-Err-clause-joined : goal.returns-in-Err-clause-joined
+returns-in-Err-clause-joined g c =
+    let i = c.items.invariant in
     record {
-      memory = search rules;
-      counted = search rules;
-      read = search rules;
-      reads_steady = search rules;
-      write = search rules;
-      steady = search rules;
-      still_observable = search rules;
-      grown = λ o. prefix-then _ _ _ ((c.item.ensures.part c.items.invariant.sink walk.path walk.stands_at may).grown (c.items.invariant.written.1 o)) (c.items.invariant.grown o);
-      limit = search rules;
+      ready = c.next.ensures.ready;
+      limits = c.next.ensures.same.0 ∙ i.same;
+      reader_most = c.next.ensures.kept.1 ∙ i.most;
+      stays = record { sound = c.item.ensures.sound; limits = c.item.ensures.limits ∙ i.limits; most = c.item.ensures.most ∙ i.writer_most };
+      well = record { accepted = tt; rejected = λ reason place e. ap (λ s. s.fault) (c.item.ensures.quiet i.sink reason place (refused_as c.in-Err.is e)) ∙ i.sink };
     }
+
+pub returns-in-Err-clause-charges : goal.returns-in-Err-clause-charges
+returns-in-Err-clause-charges g c =
+    let w = g.W.ValueWriter in
+    let r = g.R.RawReader in
+    let i = c.items.invariant in
+    let share = same_share _ _ _ _ i.most i.same in
+    let few = subst (λ n. w.own c.items.writer ≤ n) i.writer_most (g.met.W.ValueWriter.within c.items.writer i.writer).share in
+    let most = subst (λ n. owned_by r.own c.next.new.self ≤ n) share c.next.ensures.charges.share in
+    let r_old = owned_by r.own c.args.reader.now in
+    let r_now = owned_by r.own c.items.reader in
+    let r_new = owned_by r.own c.next.new.self in
+    let w_old = w.own c.args.writer.now in
+    let w_now = w.own c.items.writer in
+    let r_most = share_of r.most c.args.reader.now in
+    let w_most = w.most c.args.writer.now in
+    charges_written r_old w_old r_new w_now (w.own c.item.new.self) r_most w_most
+    (charges_read r_old w_old r_now w_now r_new r_most w_most i.charges c.next.ensures.charges share c.requires.room.held few) c.item.ensures.charges i.writer_most c.requires.room.held most
+
+pub level_behind-level-requires : goal.level_behind-level-requires
+level_behind-level-requires g c =
+    let i = c.items.invariant in
+    let w = g.met.R.RawReader.within c.items.reader.raw i.ready.raw in
+    subst (λ n. n ≤ 65535) i.level (le_trans w.level w.deep)
+
+pub flush_ended-requires : goal.flush_ended-requires
+flush_ended-requires g c = record { well = c.in_default.ensures.well c.items.invariant.sink }
+
+pub returns-in-Err-flush_ended-clause-says : goal.returns-in-Err-flush_ended-clause-says
+returns-in-Err-flush_ended-clause-says g c r = record {
+  accepted = λ n e. absurd (err_is e);
+  rejected = λ reason place e. absurd (not_refused c.in-Err-flush_ended.ensures.cause e);
+}
 
 pub returns-in-Err-flush_ended-clause-puts : goal.returns-in-Err-flush_ended-clause-puts
 returns-in-Err-flush_ended-clause-puts g c r o =
     let w = g.W.ValueWriter in
-    let reads = g.R.RawReader in
     let written = g.O.Output.written in
     let limits = w.limits c.args.writer.now in
-    let walk = c.items.invariant.walk in
-    let item = lent_by reads.current c.next.new.self in
-    let may : Continues (w.limits c.items.writer) walk.path (item_of (λ s. text_at s.table) c.item-item.result) = search rules in
-    let is : coming_to reads.reading c.items.reader ≡ More item (coming_to reads.reading c.next.new.self) = search rules in
-    let put : so_far written c.item.new.sink ≡ so_far written c.items.sink ++ w.adds limits walk.path item = search rules in
-    let at : g.O.Output.observable c.item.new.sink.device = (c.item.ensures.part c.items.invariant.sink walk.path walk.stands_at may).still_observable.1 (c.items.invariant.written.1 o) in
+    let i = c.items.invariant in
+    let walk = i.walk in
+    let item = lent_by g.R.RawReader.current c.next.new.self in
+    let taken : c.next.result ≡ Ok true = c.in_ok-next.was ∙ ap Ok c.if-branch.true in
+    let may : Continues (w.limits c.items.writer) walk.path (item_of (λ s. text_at s.table) c.item-item.result) =
+    continues_with i.limits c.requires.writer.depth_of i.depth walk.kinds_at c.item-item.ensures (c.next.ensures.comes taken) in
+    let is : coming_to g.R.RawReader.reading c.items.reader ≡ More item (coming_to g.R.RawReader.reading c.next.new.self) = c.next.ensures.gives (i.read.1 r) taken in
+    let put : so_far written c.item.new.sink ≡ so_far written c.items.sink ++ w.adds limits walk.path item =
+    taken_as (λ l x. so_far written c.item.new.sink ≡ so_far written c.items.sink ++ w.adds l walk.path x) i.limits c.item-item.ensures (c.in_default.ensures.puts walk.path walk.stands_at may (i.written.1 o)) in
+    let at = (c.item.ensures.part i.sink walk.path walk.stands_at may).still_observable.1 (i.written.1 o) in
     let flushed : HasPrefix (so_far written c.items.sink ++ w.adds limits walk.path item) (written c.flush_ended.new.sink.device) =
     subst (λ (l : List ℕ). HasPrefix l (written c.flush_ended.new.sink.device)) (append-nil (so_far written c.item.new.sink) ∙ put) (c.flush_ended.ensures.puts.prefix at) in
     record {
-      accepted = search rules;
-      rejected = search rules;
+      accepted = tt;
+      rejected = λ reason place e. absurd (not_refused c.in-Err-flush_ended.ensures.cause e);
       prefix = walk-fault walk (w.adds limits) (g.met.W.ValueWriter.grows limits) (g.met.W.ValueWriter.silent limits) item _ _ r o is flushed;
     }
 
 pub returns-in-Err-flush_ended-clause-causes : goal.returns-in-Err-flush_ended-clause-causes
 returns-in-Err-flush_ended-clause-causes g c =
     let w = g.W.ValueWriter in
-    let walk = c.items.invariant.walk in
-    let may : Continues (w.limits c.items.writer) walk.path (item_of (λ s. text_at s.table) c.item-item.result) = search rules in
-    let puts = c.item.ensures.part c.items.invariant.sink walk.path walk.stands_at may in
+    let i = c.items.invariant in
+    let walk = i.walk in
+    let taken : c.next.result ≡ Ok true = c.in_ok-next.was ∙ ap Ok c.if-branch.true in
+    let may : Continues (w.limits c.items.writer) walk.path (item_of (λ s. text_at s.table) c.item-item.result) =
+    continues_with i.limits c.requires.writer.depth_of i.depth walk.kinds_at c.item-item.ensures (c.next.ensures.comes taken) in
+    let puts = c.item.ensures.part i.sink walk.path walk.stands_at may in
+    let so_good : Unharmed c.args.meter.now c.items.meter (g.R.RawReader.failures c.args.reader.now.raw) (g.R.RawReader.failures c.items.reader.raw) g.O.Output c.args.sink.now.device c.items.sink.device =
+    record { refused = i.refused; reads = i.failures; writes = i.device; observable = i.written; grown = i.grown } in
+    let grown : g.O.Output.observable c.args.sink.now.device → HasPrefix (g.O.Output.written c.item.new.sink.device) (g.O.Output.written c.args.sink.now.device) = λ o. prefix-then _ _ _ (puts.grown (i.written.1 o)) (i.grown o) in
+    let put = unharmed_put (unharmed_read so_good (c.in_ok-next.ensures.causes i.well)) (c.in_default.ensures.memory i.fresh) (c.in_default.ensures.causes i.fresh i.sink) puts.still_observable grown in
+    flush_causes _ put c.in-Err-flush_ended.ensures.cause c.in-Err-flush_ended.ensures.count
+    c.flush_ended.ensures.puts.still_observable (λ o. prefix-then _ _ _ (c.flush_ended.ensures.puts.grown (put.observable.1 o)) (put.grown o))
+
+pub returns-in-Err-flush_ended-clause-input : goal.returns-in-Err-flush_ended-clause-input
+returns-in-Err-flush_ended-clause-input g c =
+    let i = c.items.invariant in
+    (λ o. i.read.0 (c.next.ensures.observable.0 o), λ o. c.next.ensures.observable.1 (i.read.1 o))
+
+pub returns-in-Err-flush_ended-clause-joined : goal.returns-in-Err-flush_ended-clause-joined
+returns-in-Err-flush_ended-clause-joined g c =
+    let i = c.items.invariant in
     record {
-      memory = search rules;
-      counted = search rules;
-      read = search rules;
-      reads_steady = search rules;
-      write = search rules;
-      steady = search rules;
-      still_observable = search rules;
-      grown = λ o.
-          let at = c.items.invariant.written.1 o in
-          prefix-then _ _ _ (c.flush_ended.ensures.puts.grown (puts.still_observable.1 at)) (prefix-then _ _ _ (puts.grown at) (c.items.invariant.grown o));
-      limit = search rules;
+      ready = c.next.ensures.ready;
+      limits = c.next.ensures.same.0 ∙ i.same;
+      reader_most = c.next.ensures.kept.1 ∙ i.most;
+      stays = record { sound = c.item.ensures.sound; limits = c.item.ensures.limits ∙ i.limits; most = c.item.ensures.most ∙ i.writer_most };
+      well = record { accepted = tt; rejected = λ reason place e. absurd (not_refused c.in-Err-flush_ended.ensures.cause e) };
     }
 
-pub returns-clause-stands : goal.returns-clause-stands
-returns-clause-stands g c r =
-    let ends : coming_to g.R.RawReader.reading c.items.reader ≡ Finished = search rules in
-    followed-all c.items.invariant.followed r ends
+pub returns-in-Err-flush_ended-clause-charges : goal.returns-in-Err-flush_ended-clause-charges
+returns-in-Err-flush_ended-clause-charges g c =
+    let w = g.W.ValueWriter in
+    let r = g.R.RawReader in
+    let i = c.items.invariant in
+    let share = same_share _ _ _ _ i.most i.same in
+    let few = subst (λ n. w.own c.items.writer ≤ n) i.writer_most (g.met.W.ValueWriter.within c.items.writer i.writer).share in
+    let most = subst (λ n. owned_by r.own c.next.new.self ≤ n) share c.next.ensures.charges.share in
+    let r_old = owned_by r.own c.args.reader.now in
+    let r_now = owned_by r.own c.items.reader in
+    let r_new = owned_by r.own c.next.new.self in
+    let w_old = w.own c.args.writer.now in
+    let w_now = w.own c.items.writer in
+    let r_most = share_of r.most c.args.reader.now in
+    let w_most = w.most c.args.writer.now in
+    charges_written r_old w_old r_new w_now (w.own c.item.new.self) r_most w_most
+    (charges_read r_old w_old r_now w_now r_new r_most w_most i.charges c.next.ensures.charges share c.requires.room.held few) c.item.ensures.charges i.writer_most c.requires.room.held most
 
-pub returns-clause-causes : goal.returns-clause-causes
-returns-clause-causes g c = record {
-  memory = search rules;
-  counted = search rules;
-  read = search rules;
-  reads_steady = search rules;
-  write = search rules;
-  steady = search rules;
-  still_observable = search rules;
-  grown = search rules;
-  limit = search rules;
-}
+pub items-smaller : goal.items-smaller
+items-smaller g c = c.next.ensures.falls (c.in_ok-next.was ∙ ap Ok c.if-branch.true)
 
 pub items-preserved : goal.items-preserved
 items-preserved g c =
     let w = g.W.ValueWriter in
     let r = g.R.RawReader in
+    let out = g.O.Output in
     let limits = w.limits c.args.writer.now in
-    let walk = c.items.invariant.walk in
+    let i = c.items.invariant in
+    let walk = i.walk in
+    let followed = i.followed in
+    let taken : c.next.result ≡ Ok true = c.in_ok-next.was ∙ ap Ok c.if-branch.true in
     let item = lent_by r.current c.next.new.self in
-    let may : Continues (w.limits c.items.writer) walk.path (item_of (λ s. text_at s.table) c.item-item.result) = search rules in
-    let is : r.observable c.args.reader.now.raw → coming_to r.reading c.items.reader ≡ More item (coming_to r.reading c.next.new.self) = search rules in
-    let none : w.refusal limits walk.path item ≡ None = search rules in
-    let later : w.stands c.item.new.self (walk.path ++ item ∷ []) = search rules in
-    let puts = c.item.ensures.part c.items.invariant.sink walk.path walk.stands_at may in
-    let at : g.O.Output.observable c.args.sink.now.device → g.O.Output.observable c.item.new.sink.device = λ o. puts.still_observable.1 (c.items.invariant.written.1 o) in
-    let item_put : g.O.Output.observable c.args.sink.now.device → so_far g.O.Output.written c.item.new.sink ≡ so_far g.O.Output.written c.items.sink ++ w.adds limits walk.path item = search rules in
-    let flushed : g.O.Output.observable c.item.new.sink.device → so_far g.O.Output.written c.flush_ended.new.sink ≡ so_far g.O.Output.written c.item.new.sink = search rules in
-    let put : g.O.Output.observable c.args.sink.now.device → so_far g.O.Output.written c.flush_ended.new.sink ≡ so_far g.O.Output.written c.items.sink ++ w.adds limits walk.path item = λ o. flushed (at o) ∙ item_put o in
-    let opens : r.opened c.next.new.self.raw ≡ open_after (r.opened c.items.reader.raw) item.head = search rules in
-    let level : length (r.opened c.next.new.self.raw) ≡ c.level_behind-level.result = search rules in
-    let followed = c.items.invariant.followed in
-    let comes : Continues (w.limits c.items.writer) followed.path (item_of (λ s. text_at s.table) c.item-item.result) = search rules in
-    let behind : w.stands c.item.new.self (followed.path ++ item ∷ []) = search rules in
+    let own = item_of (λ s. text_at s.table) c.item-item.result in
+    let comes = c.next.ensures.comes taken in
+    let may : Continues (w.limits c.items.writer) walk.path own = continues_with i.limits c.requires.writer.depth_of i.depth walk.kinds_at c.item-item.ensures comes in
+    let follows : Continues (w.limits c.items.writer) followed.path own = continues_with i.limits c.requires.writer.depth_of i.depth followed.kinds_at c.item-item.ensures comes in
+    let is : r.observable c.args.reader.now.raw → coming_to r.reading c.items.reader ≡ More item (coming_to r.reading c.next.new.self) = λ o. c.next.ensures.gives (i.read.1 o) taken in
+    let stood = c.in_default.ensures.stands walk.path walk.stands_at may in
+    let none : w.refusal limits walk.path item ≡ None = taken_as (λ l x. w.refusal l walk.path x ≡ None) i.limits c.item-item.ensures stood.1 in
+    let later : w.stands c.item.new.self (walk.path ++ item ∷ []) = subst (λ (x : PlacedItem). w.stands c.item.new.self (walk.path ++ x ∷ [])) c.item-item.ensures stood.0 in
+    let behind : w.stands c.item.new.self (followed.path ++ item ∷ []) =
+    subst (λ (x : PlacedItem). w.stands c.item.new.self (followed.path ++ x ∷ [])) c.item-item.ensures (c.in_default.ensures.stands followed.path followed.stands_at follows).0 in
+    let puts = c.item.ensures.part i.sink walk.path walk.stands_at may in
+    let at : out.observable c.args.sink.now.device → out.observable c.item.new.sink.device = λ o. puts.still_observable.1 (i.written.1 o) in
+    let put : out.observable c.args.sink.now.device → so_far out.written c.flush_ended.new.sink ≡ so_far out.written c.items.sink ++ w.adds limits walk.path item =
+    λ o. c.in-Ok.ensures.same (at o)
+    ∙ taken_as (λ l x. so_far out.written c.item.new.sink ≡ so_far out.written c.items.sink ++ w.adds l walk.path x) i.limits c.item-item.ensures (c.in_default.ensures.puts walk.path walk.stands_at may (i.written.1 o)) in
+    let level : length (r.opened c.next.new.self.raw) ≡ c.level_behind-level.result =
+    level_with (r.opened c.items.reader.raw) _ _ item own _ comes.opens c.item-item.ensures c.head-head.ensures (c.level_behind-level.ensures (r.opened c.items.reader.raw) i.level) in
     let counts : c.values_behind-values.result ≡ c.items.values + one_if_closed (r.opened c.next.new.self.raw) = c.values_behind-values.ensures (r.opened c.next.new.self.raw) level in
+    let read_well = c.in_ok-next.ensures.causes i.well in
+    let put_well = c.in_default.ensures.causes i.fresh i.sink in
     record {
-      walk = walk-more walk (w.adds limits) (g.met.W.ValueWriter.grows limits) item (coming_to r.reading c.next.new.self) _ _ _ is none later put opens counts;
-      followed = followed-more followed item (coming_to r.reading c.next.new.self) (r.opened c.next.new.self.raw) is behind opens;
-      read = search rules;
-      written = search rules;
-      prefix = search rules;
-      grown = λ o. prefix-then _ _ _ (c.flush_ended.ensures.puts.grown (at o)) (prefix-then _ _ _ (puts.grown (c.items.invariant.written.1 o)) (c.items.invariant.grown o));
-      ready = search rules;
-      well = search rules;
-      writer = search rules;
-      fresh = search rules;
-      sink = search rules;
-      level = search rules;
-      left = search rules;
-      limits = search rules;
-      depth = search rules;
-      refused = search rules;
-      failures = search rules;
-      device = search rules;
-      exceeds = search rules;
-      most = search rules;
-      same = search rules;
-      writer_most = search rules;
-      charges = search rules;
+      walk = walk-more walk (w.adds limits) (g.met.W.ValueWriter.grows limits) item (coming_to r.reading c.next.new.self) _ _ _ is none later put comes.opens counts;
+      followed = followed-more followed item (coming_to r.reading c.next.new.self) (r.opened c.next.new.self.raw) is behind comes.opens;
+      read = (λ o. i.read.0 (c.next.ensures.observable.0 o), λ o. c.next.ensures.observable.1 (i.read.1 o));
+      written = (λ o. i.written.0 (puts.still_observable.0 (c.flush_ended.ensures.puts.still_observable.0 o)), λ o. c.flush_ended.ensures.puts.still_observable.1 (at o));
+      prefix = λ o. (c.flush_ended.new.sink.pending, refl);
+      grown = λ o. prefix-then _ _ _ (c.flush_ended.ensures.puts.grown (at o)) (prefix-then _ _ _ (puts.grown (i.written.1 o)) (i.grown o));
+      ready = c.next.ensures.ready;
+      well = c.in_ok-next.ensures.failed;
+      writer = c.item.ensures.sound;
+      fresh = c.in_default.ensures.failed;
+      sink = c.in-Ok.ensures.well;
+      level = level;
+      left = subst (λ n. n + r.left c.next.new.self.raw ≤ r.left c.args.reader.now.raw) (sym counts) (left_with (r.opened c.next.new.self.raw) _ _ _ _ i.left (c.next.ensures.falls taken));
+      limits = c.item.ensures.limits ∙ i.limits;
+      depth = c.next.ensures.kept.0 ∙ i.depth;
+      refused = (c.in_default.ensures.memory i.fresh).counted none_is ∙ (read_well.counted none_is ∙ i.refused);
+      failures = read_well.steady none_is ∙ i.failures;
+      device = c.in-Ok.ensures.count ∙ (add-zero _ ∙ (put_well.steady none_is ∙ i.device));
+      exceeds = (λ e. i.exceeds.0 (c.next.ensures.exceeds.0 e), λ e. c.next.ensures.exceeds.1 (i.exceeds.1 e));
+      most = c.next.ensures.kept.1 ∙ i.most;
+      same = c.next.ensures.same.0 ∙ i.same;
+      writer_most = c.item.ensures.most ∙ i.writer_most;
+      charges =
+          let share = same_share _ _ _ _ i.most i.same in
+          let few = subst (λ n. w.own c.items.writer ≤ n) i.writer_most (g.met.W.ValueWriter.within c.items.writer i.writer).share in
+          let most = subst (λ n. owned_by r.own c.next.new.self ≤ n) share c.next.ensures.charges.share in
+          let r_old = owned_by r.own c.args.reader.now in
+          let r_now = owned_by r.own c.items.reader in
+          let r_new = owned_by r.own c.next.new.self in
+          let w_old = w.own c.args.writer.now in
+          let w_now = w.own c.items.writer in
+          let r_most = share_of r.most c.args.reader.now in
+          let w_most = w.most c.args.writer.now in
+          charges_written r_old w_old r_new w_now (w.own c.item.new.self) r_most w_most
+          (charges_read r_old w_old r_now w_now r_new r_most w_most i.charges c.next.ensures.charges share c.requires.room.held few) c.item.ensures.charges i.writer_most c.requires.room.held most;
     }
+
+pub returns-clause-says : goal.returns-clause-says
+returns-clause-says g c = λ o.
+    let t = c.items.invariant.walk in
+    record {
+      accepted = λ n e. t.verdict o ∙ (ap (verdict_behind _ t.path) (c.next.ensures.ends (c.items.invariant.read.1 o) (c.in_ok-next.was ∙ ap Ok c.if-branch.false)).0 ∙ ap Accepted (t.values_at ∙ same_ok e));
+      rejected = λ reason place e. absurd (ok_is e);
+    }
+
+pub returns-clause-puts : goal.returns-clause-puts
+returns-clause-puts g c = λ o p.
+    let w = g.W.ValueWriter in
+    let limits = w.limits c.args.writer.now in
+    let before = so_far g.O.Output.written c.args.sink.now in
+    let t = c.items.invariant.walk in
+    let ends = (c.next.ensures.ends (c.items.invariant.read.1 o) (c.in_ok-next.was ∙ ap Ok c.if-branch.false)).0 in
+    let whole = t.put p ∙ ap (λ l. before ++ l) (sym (t.output o ∙ ap (output_behind (w.puts limits) (w.refusal limits) t.path) ends)) in
+    record {
+      accepted = whole;
+      rejected = λ reason place e. absurd (ok_is e);
+      prefix = subst (λ l. HasPrefix l (g.O.Output.written c.items.sink.device)) whole (c.items.invariant.prefix p);
+    }
+
+pub returns-clause-stands : goal.returns-clause-stands
+returns-clause-stands g c r =
+    followed-all c.items.invariant.followed r (c.next.ensures.ends (c.items.invariant.read.1 r) (c.in_ok-next.was ∙ ap Ok c.if-branch.false)).0
+
+pub returns-clause-causes : goal.returns-clause-causes
+returns-clause-causes g c =
+    let i = c.items.invariant in
+    let so_good : Unharmed c.args.meter.now c.items.meter (g.R.RawReader.failures c.args.reader.now.raw) (g.R.RawReader.failures c.items.reader.raw) g.O.Output c.args.sink.now.device c.items.sink.device =
+    record { refused = i.refused; reads = i.failures; writes = i.device; observable = i.written; grown = i.grown } in
+    whole_causes c.items.values _ (unharmed_read so_good (c.in_ok-next.ensures.causes i.well))
+
+pub returns-clause-input : goal.returns-clause-input
+returns-clause-input g c =
+    let i = c.items.invariant in
+    (λ o. i.read.0 (c.next.ensures.observable.0 o), λ o. c.next.ensures.observable.1 (i.read.1 o))
+
+pub returns-clause-joined : goal.returns-clause-joined
+returns-clause-joined g c =
+    let i = c.items.invariant in
+    record {
+      ready = c.next.ensures.ready;
+      limits = c.next.ensures.same.0 ∙ i.same;
+      reader_most = c.next.ensures.kept.1 ∙ i.most;
+      stays = record { sound = i.writer; limits = i.limits; most = i.writer_most };
+      well = record { accepted = i.sink; rejected = λ reason place e. i.sink };
+    }
+
+pub returns-clause-charges : goal.returns-clause-charges
+returns-clause-charges g c =
+    let w = g.W.ValueWriter in
+    let r = g.R.RawReader in
+    let i = c.items.invariant in
+    let share = same_share _ _ _ _ i.most i.same in
+    let few = subst (λ n. w.own c.items.writer ≤ n) i.writer_most (g.met.W.ValueWriter.within c.items.writer i.writer).share in
+    charges_read (owned_by r.own c.args.reader.now) (w.own c.args.writer.now) (owned_by r.own c.items.reader) (w.own c.items.writer) (owned_by r.own c.next.new.self) (share_of r.most c.args.reader.now) (w.most c.args.writer.now)
+    i.charges c.next.ensures.charges share c.requires.room.held few

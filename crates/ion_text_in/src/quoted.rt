@@ -131,7 +131,8 @@ pub(crate) fn plain_length(quote: Quote, bytes: &[u8]) -> usize
 // Which of these bytes may stand for something else than themselves: a bit for each, the lowest for
 // the first. Those are the mark, a backslash, control characters and, in a clob, bytes that are no
 // ASCII; of the control characters a few stand for themselves all the same. Counted round from the
-// space, control characters come last, behind those that are no ASCII.
+// space, bytes that are no ASCII come behind those that are, and control characters last, so that
+// one comparison tells both.
 #[inline(always)]
 fn suspects(mark: u8, in_clob: bool, bytes: u8x32) -> u64
     ensures { result ≡ mask_l (map (λ b. not (is_sure mark in_clob b)) bytes) }

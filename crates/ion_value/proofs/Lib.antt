@@ -6,6 +6,7 @@ pub mod VarOctets
 pub mod DecimalOctets
 pub mod Days
 pub mod TimestampOctets
+pub mod YearsBeside
 pub mod TimestampBodies
 pub mod TimestampFewest
 pub mod TextDigits
@@ -16,6 +17,7 @@ pub mod LeadingDigits
 pub mod TextParts
 pub mod TimestampText
 pub mod TextStages
+pub mod Shapes
 pub mod TextReadings
 pub mod TextRoundTrip
 pub mod DecimalRoundTrip

@@ -1,6 +1,6 @@
 -- No run of text is both a timestamp and a number.
-use Rattle.std.proofs.Common.{◌≡◌, ◌≢◌, ◌⊎◌, ℕ, Bool, true, false, ◌||◌, ◌==◌, Err, List, [], ◌∷◌, inl, inr, refl, sym, ap, ◌∙◌, arith}
-use Rattle.std.proofs.lemmas.Bool.{cases_Bool, eqb-true}
+use Rattle.std.proofs.Common.{◌≡◌, ◌≢◌, ◌⊎◌, ℕ, Bool, true, false, ◌||◌, ◌==◌, Err, List, [], ◌∷◌, take, codes, inl, inr, refl, sym, ap, ◌∙◌, arith}
+use Rattle.std.proofs.lemmas.Bool.{cases_Bool, eqb-true, and_parts}
 use Rattle.std.proofs.lemmas.Bool.Decides.{nat_tests}
 use Rattle.std.proofs.Math.Bool.{and-false}
 use Rattle.ion_meter.specs.declared.fault.Reason.TheVariants.{BadToken}
@@ -8,9 +8,9 @@ use Rattle.ion_value.specs.declared.timestamp.Timestamp.{Timestamp}
 use Rattle.ion_value.specs.Digits.{is_digit, is_hex_digit, is_binary_digit, is_whole, cut_at}
 use Rattle.ion_value.specs.Int.{is_based, int_of_digits, int_of_text}
 use Rattle.ion_value.specs.Decimal.{Parts, is_exponent_mark, is_point, parts_of, decimal_of_parts, decimal_of_text}
-use Rattle.ion_value.specs.Timestamp.{digits_at, timestamp_of_text}
-use Rattle.ion_value.specs.TimestampRuns.{unread, behind_year, from_year}
-use Rattle.ion_value.proofs.TextStages.{from_year-text}
+use Rattle.ion_value.specs.Timestamp.{digits_at, looks_like, timestamp_of_text}
+use Rattle.ion_value.specs.TimestampRuns.{unread, begins_time, behind_year, from_year}
+use Rattle.ion_value.proofs.TextStages.{date-text}
 
 -- ---- how a timestamp begins
 
@@ -48,6 +48,28 @@ year-dated (a ∷ b ∷ c ∷ d ∷ bytes) good =
         | inr q ↦ absurd (good (rw (p, q) refl))
       ]
       | inr p ↦ absurd (good (rw p refl))
+    ]
+
+-- a time begins so too
+minute-dated : (run : List ℕ) → begins_time run ≡ true → BeginsDated run
+minute-dated [] e = absurd (cc)
+minute-dated (a ∷ []) e = absurd (let f = simp and-false at e in cc)
+minute-dated (a ∷ b ∷ []) e = absurd (let f = simp and-false at e in cc)
+minute-dated (a ∷ b ∷ c ∷ []) e = absurd (let f = simp and-false at e in cc)
+minute-dated (a ∷ b ∷ c ∷ d ∷ []) e = absurd (let f = simp and-false at e in cc)
+minute-dated (a ∷ b ∷ c ∷ d ∷ x ∷ rest) e =
+    let first = and_parts (is_digit a) (looks_like (codes "000-00-00T00:00") (take 15 (b ∷ c ∷ d ∷ x ∷ rest))) e in
+    let second = and_parts (is_digit b) (looks_like (codes "00-00-00T00:00") (take 14 (c ∷ d ∷ x ∷ rest))) first.1 in
+    let third = and_parts (is_digit c) (looks_like (codes "0-00-00T00:00") (take 13 (d ∷ x ∷ rest))) second.1 in
+    let fourth = and_parts (is_digit d) (looks_like (codes "-00-00T00:00") (take 12 (x ∷ rest))) third.1 in
+    let fifth = and_parts (45 == x) (looks_like (codes "00-00T00:00") (take 11 rest)) fourth.1 in
+    dated a b c d x rest first.0 second.0 third.0 fourth.0 (inr (sym (eqb-true 45 x fifth.0)))
+
+text-dated : (run : List ℕ) → timestamp_of_text run ≢ Err BadToken → BeginsDated run
+text-dated run good =
+    elim (cases_Bool (begins_time run)) [
+      | inl e ↦ minute-dated run e
+      | inr e ↦ year-dated run (λ bad. good (sym (date-text run e) ∙ bad))
     ]
 
 -- ---- what begins so is no number
@@ -123,5 +145,5 @@ dated-decimal _ (dated a b c d x rest p q r s e) =
 
 pub timestamp-no_number : (run : List ℕ) → timestamp_of_text run ≢ Err BadToken → (int_of_text run ≡ Err BadToken) × (decimal_of_text run ≡ Err BadToken)
 timestamp-no_number run good =
-    let begins = year-dated run (λ e. good (sym (from_year-text run) ∙ e)) in
+    let begins = text-dated run good in
     (dated-int run begins, dated-decimal run begins)

@@ -19,7 +19,7 @@ use Rattle.ion_value.proofs.FixedDigits.{fixed_digits-two, fixed_digits-four, le
 use Rattle.ion_value.proofs.LeadingDigits.{all_are-append}
 use Rattle.ion_value.proofs.TimestampText.{offset-some, two_digits-some}
 use Rattle.ion_value.proofs.TextParts.{fraction-mark, second-offset}
-use Rattle.ion_value.proofs.TextStages.{minute-plain, minute-offset, day-plain, month-plain, year_month-plain, year-plain, from_year-text}
+use Rattle.ion_value.proofs.TextStages.{minute-plain, minute-offset, minute-bytes, month-plain, year_month-plain, year-plain, date-read}
 
 -- ---- digits
 
@@ -84,12 +84,6 @@ month-written t n rest small = rw (fixed_digits-two n small) (sym (year_month-pl
 
 day-written : (t : Timestamp) (n : ℕ) (rest : List ℕ) → n < 100 → behind_month t (45 ∷ (fixed_digits 2 n ++ rest)) ≡ behind_day (record t { precision = Day; day = n }) rest
 day-written t n rest small = rw (fixed_digits-two n small) (sym (month-plain t (tens n) (ones n) n rest (two-fixed n small)))
-
-minute-written : (t : Timestamp) (h m : ℕ) (rest : List ℕ) → h < 100 → m < 100
-    → behind_day t (84 ∷ (fixed_digits 2 h ++ (58 ∷ (fixed_digits 2 m ++ rest)))) ≡ behind_minute (record t { precision = Minute; hour = h; minute = m }) rest
-minute-written t h m rest few_hours few_minutes =
-    rw (fixed_digits-two h few_hours, fixed_digits-two m few_minutes)
-    (sym (day-plain t (tens h) (ones h) (tens m) (ones m) h m rest (two-fixed h few_hours) (two-fixed m few_minutes)))
 
 second-written : (t : Timestamp) (n : ℕ) (rest : List ℕ) → n < 100 → behind_minute t (58 ∷ (fixed_digits 2 n ++ rest)) ≡ behind_second (record t { precision = Second; second = n }) rest
 second-written t n rest small = rw (fixed_digits-two n small) (sym (minute-plain t (tens n) (ones n) n rest (two-fixed n small)))
@@ -195,37 +189,58 @@ day-text t rest m =
     ∙ day-written (fields Month t.year t.month 1 0 0 0 0) t.day rest (omega (arith, day-small t m))
     )
 
-minute-text : (t : Timestamp) (rest : List ℕ) → IsMoment t → from_year unread (minute_text t ++ rest) ≡ behind_minute (fields Minute t.year t.month t.day t.hour t.minute 0 0) rest
+minute-text : (t : Timestamp) (rest : List ℕ) → IsMoment t → timestamp_of_text (minute_text t ++ rest) ≡ behind_minute (fields Minute t.year t.month t.day t.hour t.minute 0 0) rest
 minute-text t rest m =
     let hour = m.hour in
     let minute = m.minute in
-    let whole : minute_text t ++ rest ≡ day_text t ++ (84 ∷ (fixed_digits 2 t.hour ++ (58 ∷ (fixed_digits 2 t.minute ++ rest)))) = simp append_assoc in
-    ap (λ xs. from_year unread xs) whole
-    ∙ day-text t (84 ∷ (fixed_digits 2 t.hour ++ (58 ∷ (fixed_digits 2 t.minute ++ rest)))) m
-    ∙ minute-written (fields Day t.year t.month t.day 0 0 0 0) t.hour t.minute rest (omega arith) (omega arith)
+    let high : ℕ = t.year / 100 in
+    let low : ℕ = t.year % 100 in
+    let few_high : high < 100 = omega (arith, m.year.1) in
+    let few_low : low < 100 = omega arith in
+    let few_months : t.month < 100 = omega (arith, month-small t m) in
+    let few_days : t.day < 100 = omega (arith, day-small t m) in
+    let few_hours : t.hour < 100 = omega arith in
+    let few_minutes : t.minute < 100 = omega arith in
+    let year : t.year / 100 * 100 + t.year % 100 ≡ t.year = omega arith in
+    let digits = four-two (tens high) (ones high) (tens low) (ones low) high low (two-fixed high few_high) (two-fixed low few_low) in
+    let text : minute_text t ++ rest
+    ≡ tens high ∷ ones high ∷ tens low ∷ ones low ∷ 45 ∷ tens t.month ∷ ones t.month ∷ 45 ∷ tens t.day ∷ ones t.day
+    ∷ 84 ∷ tens t.hour ∷ ones t.hour ∷ 58 ∷ tens t.minute ∷ ones t.minute ∷ rest =
+    rw (
+      fixed_digits-four t.year,
+      fixed_digits-two (t.year / 100) few_high,
+      fixed_digits-two (t.year % 100) few_low,
+      fixed_digits-two t.month few_months,
+      fixed_digits-two t.day few_days,
+      fixed_digits-two t.hour few_hours,
+      fixed_digits-two t.minute few_minutes,
+    ) refl in
+    ap (λ xs. timestamp_of_text xs) text
+    ∙ minute-bytes (tens high) (ones high) (tens low) (ones low) (tens t.month) (ones t.month) (tens t.day) (ones t.day) (tens t.hour) (ones t.hour) (tens t.minute) (ones t.minute)
+    t.year t.month t.day t.hour t.minute rest (ap Some (sym year) ∙ digits) (two-fixed t.month few_months) (two-fixed t.day few_days) (two-fixed t.hour few_hours) (two-fixed t.minute few_minutes)
 
-second-text : (t : Timestamp) (rest : List ℕ) → IsMoment t → from_year unread (second_text t ++ rest) ≡ behind_second (fields Second t.year t.month t.day t.hour t.minute t.second 0) rest
+second-text : (t : Timestamp) (rest : List ℕ) → IsMoment t → timestamp_of_text (second_text t ++ rest) ≡ behind_second (fields Second t.year t.month t.day t.hour t.minute t.second 0) rest
 second-text t rest m =
     let second = m.second in
     let whole : second_text t ++ rest ≡ minute_text t ++ (58 ∷ (fixed_digits 2 t.second ++ rest)) = append_assoc (minute_text t) (58 ∷ fixed_digits 2 t.second) rest in
-    ap (λ xs. from_year unread xs) whole
+    ap (λ xs. timestamp_of_text xs) whole
     ∙ minute-text t (58 ∷ (fixed_digits 2 t.second ++ rest)) m
     ∙ second-written (fields Minute t.year t.month t.day t.hour t.minute 0 0) t.second rest (omega arith)
 
 -- what is written to a precision is read
-to-read : (p : Precision) (t : Timestamp) → IsTimestamp t → t.precision ≡ p → from_year unread (text_to p t) ≡ Ok t
+to-read : (p : Precision) (t : Timestamp) → IsTimestamp t → t.precision ≡ p → timestamp_of_text (text_to p t) ≡ Ok t
 to-read Year t h e =
     let k = rw e at h.precision in
     let same = same_fields t Year 1 1 0 0 0 0 None e k.0 k.1 k.2 k.3 k.4 k.5 k.6 in
-    year-text t (84 ∷ []) h.moment ∙ ap date_in_range (sym same) ∙ date-ok t h
+    date-read (text_to Year t) t (year-text t (84 ∷ []) h.moment ∙ ap date_in_range (sym same) ∙ date-ok t h)
 to-read Month t h e =
     let k = rw e at h.precision in
     let same = same_fields t Month t.month 1 0 0 0 0 None e refl k.0 k.1 k.2 k.3 k.4 k.5 in
-    month-text t (84 ∷ []) h.moment ∙ ap date_in_range (sym same) ∙ date-ok t h
+    date-read (text_to Month t) t (month-text t (84 ∷ []) h.moment ∙ ap date_in_range (sym same) ∙ date-ok t h)
 to-read Day t h e =
     let k = rw e at h.precision in
     let same = same_fields t Day t.month t.day 0 0 0 0 None e refl refl k.0 k.1 k.2 k.3 k.4 in
-    ap (λ xs. from_year unread xs) (sym (append-nil (day_text t))) ∙ day-text t [] h.moment ∙ ap date_in_range (sym same) ∙ date-ok t h
+    date-read (text_to Day t) t (ap (λ xs. from_year unread xs) (sym (append-nil (day_text t))) ∙ day-text t [] h.moment ∙ ap date_in_range (sym same) ∙ date-ok t h)
 to-read Minute t h e =
     let k = rw e at h.precision in
     let same = same_fields t Minute t.month t.day t.hour t.minute 0 0 t.offset e refl refl refl refl k.0 k.1 refl in
@@ -252,4 +267,4 @@ to-read (Fraction n) t h e =
 
 pub text-read : (t : Timestamp) → IsTimestamp t → timestamp_of_text (timestamp_text t) ≡ Ok t
 unfolding timestamp_text
-text-read t h = sym (from_year-text (timestamp_text t)) ∙ to-read t.precision t h refl
+text-read t h = to-read t.precision t h refl

@@ -66,13 +66,17 @@ with_seconds t (b ∷ seconds) offset =
 abbrev pub behind_minute : Timestamp → List ℕ → Result Timestamp Reason
 behind_minute t bytes = with_seconds t (cut_at is_offset_mark bytes).0 (cut_at is_offset_mark bytes).1
 
--- with what stands behind the day, the month and the year
+-- a run that begins with a date, an hour and a minute, and what it tells to the minute
+abbrev pub begins_time : List ℕ → Bool
+begins_time run = looks_like (codes "0000-00-00T00:00") (take 16 run)
+
+abbrev pub to_the_minute : Timestamp → List ℕ → Timestamp
+to_the_minute t run =
+    record t { precision = Minute; year = digits_at 0 4 run; month = digits_at 5 2 run; day = digits_at 8 2 run; hour = digits_at 11 2 run; minute = digits_at 14 2 run }
+
+-- a date: with what stands behind the day, the month and the year
 abbrev pub behind_day : Timestamp → List ℕ → Result Timestamp Reason
-behind_day t bytes =
-    if looks_like [] bytes || looks_like (codes "T") bytes then date_in_range t
-    else (if looks_like (codes "T00:00") (take 6 bytes)
-    then behind_minute (record t { precision = Minute; hour = digits_at 1 2 bytes; minute = digits_at 4 2 bytes }) (drop 6 bytes)
-    else Err BadToken)
+behind_day t bytes = if looks_like [] bytes || looks_like (codes "T") bytes then date_in_range t else Err BadToken
 
 abbrev pub behind_month : Timestamp → List ℕ → Result Timestamp Reason
 behind_month t bytes =

@@ -1,10 +1,10 @@
 //! Timestamps in text.
-ghost use Rattle.std.specs.Prelude.{◌≡◌, ℕ, ◌⊎◌, ◌↔◌, ◌+◌, ◌*◌, ◌^◌, ◌<◌, ◌≤◌, pos, ◌≤ℤ◌, true, false, ◌&&◌, nat_le, IsTrue, List, [], ◌∷◌, ◌++◌, length, take, drop, map, IfOk, IfErr, IfSome, MatchOption};
+ghost use Rattle.std.specs.Prelude.{◌≡◌, ℕ, ◌⊎◌, ◌↔◌, ◌+◌, ◌*◌, ◌^◌, ◌<◌, ◌≤◌, pos, ◌≤ℤ◌, true, false, ◌&&◌, nat_le, IsTrue, List, [], ◌∷◌, ◌++◌, length, take, drop, map, IfOk, IfErr, IfSome, MatchOption, codes};
 ghost use Rattle.jiff_core.specs.Calendar.{IsCivilDate};
 ghost use Rattle.ion_value.specs.Number.{number};
 ghost use Rattle.ion_value.specs.Digits.{digit_value, first_is, all_are, is_digit, fixed_digits};
-ghost use Rattle.ion_value.specs.Timestamp.{IsTimestamp, IsMoment, IsOffset, date_in_range, has_offset_shape, time_in_range, timestamp_of_text, day_text, minute_text, second_text, minutes_text, offset_text, timestamp_text};
-ghost use Rattle.ion_value.specs.TimestampRuns.{outcome, with_offset, with_fraction, behind_second, behind_minute, behind_day, behind_month, behind_year, from_year, offset_in_range, offset_of, IsOffsetOf, AreDigits, AreLeading, month_text};
+ghost use Rattle.ion_value.specs.Timestamp.{IsTimestamp, IsMoment, IsOffset, date_in_range, digits_at, has_offset_shape, looks_like, time_in_range, timestamp_of_text, day_text, minute_text, second_text, minutes_text, offset_text, timestamp_text};
+ghost use Rattle.ion_value.specs.TimestampRuns.{outcome, with_offset, with_fraction, behind_second, begins_time, to_the_minute, unread, behind_minute, behind_day, behind_month, behind_year, from_year, offset_in_range, offset_of, IsOffsetOf, AreDigits, AreLeading, month_text};
 ghost use Rattle.ion_value.specs.TimestampRuns as spec;
 ghost use Rattle.arrayvec.specs.ArrayString.{array_string_len};
 
@@ -13,6 +13,7 @@ use crate::timestamp::{Precision, Timestamp};
 use arrayvec::ArrayString;
 use ion_meter::fault::Reason;
 use jiff::civil::Date;
+use std::simd::prelude::*;
 
 /// The most digits that a fraction may have.
 const MOST_DIGITS: usize = 38;
@@ -39,9 +40,22 @@ pub fn timestamp_from_text(run: &[u8]) -> Result<Timestamp, Reason>
         fraction: 0,
         offset: None,
     };
-    match read_year(&mut timestamp, run) {
-        Ok(()) => Ok(timestamp),
-        Err(reason) => Err(reason),
+    if let Err(reason) = read_run(&mut timestamp, run) {
+        return Err(reason);
+    }
+    Ok(timestamp)
+}
+
+// Reads a time or a date.
+#[inline]
+fn read_run(timestamp: &mut Timestamp, run: &[u8]) -> Result<(), Reason>
+    requires { timestamp.old ≡ unread }
+    ensures { outcome result timestamp.new ≡ timestamp_of_text run.now }
+{
+    if run.len() >= 16 && is_minute(u8x16::from_slice(run)) {
+        read_time(timestamp, run)
+    } else {
+        read_year(timestamp, run)
     }
 }
 
@@ -118,7 +132,7 @@ fn read_day(timestamp: &mut Timestamp, bytes: &[u8]) -> Result<(), Reason>
             Some(day) => {
                 timestamp.precision = Precision::Day;
                 timestamp.day = day;
-                read_minute(timestamp, rest)
+                read_end(timestamp, rest)
             }
             None => Err(Reason::BadToken),
         },
@@ -128,24 +142,51 @@ fn read_day(timestamp: &mut Timestamp, bytes: &[u8]) -> Result<(), Reason>
 
 // Reads what stands behind the day.
 #[inline]
-fn read_minute(timestamp: &mut Timestamp, bytes: &[u8]) -> Result<(), Reason>
-    ensures { outcome result timestamp.new ≡ behind_day timestamp.old bytes.now }
+fn read_end(timestamp: &Timestamp, bytes: &[u8]) -> Result<(), Reason>
+    ensures { outcome result timestamp.now ≡ behind_day timestamp.now bytes.now }
 {
     match bytes {
         [] | [b'T'] => check(timestamp),
-        [b'T', h1, h2, b':', m1, m2, rest @ ..] => {
-            match (two_digits(*h1, *h2), two_digits(*m1, *m2)) {
-                (Some(hour), Some(minute)) => {
-                    timestamp.precision = Precision::Minute;
-                    timestamp.hour = hour;
-                    timestamp.minute = minute;
-                    read_second(timestamp, rest)
-                }
-                _ => Err(Reason::BadToken),
-            }
-        }
         _ => Err(Reason::BadToken),
     }
+}
+
+// Whether these bytes are a date and a time to the minute.
+#[inline(always)]
+fn is_minute(bytes: u8x16) -> bool
+    ensures { result ≡ looks_like (codes "0000-00-00T00:00") bytes }
+{
+    let low = bytes.simd_lt(u8x16::from_slice(b"0000-00-00T00:00"));
+    let high = bytes.simd_gt(u8x16::from_slice(b"9999-99-99T99:99"));
+    (low | high).to_bitmask() == 0
+}
+
+// Reads a time, which begins with a date, an hour and a minute.
+#[inline]
+fn read_time(timestamp: &mut Timestamp, run: &[u8]) -> Result<(), Reason>
+    requires long { 16 ≤ length run.now }
+    requires minute { begins_time run.now ≡ true }
+    ensures { outcome result timestamp.new
+        ≡ behind_minute (to_the_minute timestamp.old run.now) (drop 16 run.now) }
+{
+    timestamp.precision = Precision::Minute;
+    timestamp.year = of_digits(run[0], run[1]) as u16 * 100 + of_digits(run[2], run[3]) as u16;
+    timestamp.month = of_digits(run[5], run[6]);
+    timestamp.day = of_digits(run[8], run[9]);
+    timestamp.hour = of_digits(run[11], run[12]);
+    timestamp.minute = of_digits(run[14], run[15]);
+    read_second(timestamp, &run[16..])
+}
+
+// The number of two digits.
+#[inline(always)]
+fn of_digits(tens: u8, ones: u8) -> u8
+    ensures { is_digit tens ≡ true → is_digit ones ≡ true
+        → result ≡ digits_at 0 2 (tens ∷ ones ∷ []) }
+{
+    let tens = tens.wrapping_sub(b'0');
+    let ones = ones.wrapping_sub(b'0');
+    tens.wrapping_mul(10).wrapping_add(ones)
 }
 
 // Reads what stands behind the minute.
@@ -287,6 +328,8 @@ fn check_in_utc(timestamp: &Timestamp) -> Result<(), Reason>
     ensures { outcome result timestamp.now ≡ time_in_range true timestamp.now }
 {
     match check(timestamp) {
+        // An offset has less than a day, so from these years it leads to none but 1 to 9999.
+        Ok(()) if timestamp.year >= 2 && timestamp.year <= 9998 => Ok(()),
         Ok(()) => match timestamp.to_utc() {
             Ok(_) => Ok(()),
             Err(reason) => Err(reason),
@@ -313,8 +356,12 @@ fn check(timestamp: &Timestamp) -> Result<(), Reason>
 fn is_date(year: u16, month: u8, day: u8) -> bool
     ensures { IsTrue result ↔ ((1 ≤ year) × (year ≤ 9999) × IsCivilDate (pos year) month day) }
 {
-    if year < 1 || year > 9999 || month > 12 || day > 31 {
+    if year < 1 || year > 9999 || month < 1 || month > 12 || day < 1 || day > 31 {
         return false;
+    }
+    // Each month has these days.
+    if day <= 28 {
+        return true;
     }
     Date::new(year as i16, month as i8, day as i8).is_ok()
 }

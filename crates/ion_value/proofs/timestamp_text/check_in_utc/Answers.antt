@@ -1,9 +1,19 @@
-use Rattle.std.proofs.Common.{sym, ap, ◌∙◌}
+use Rattle.std.proofs.Common.{sym, ap, ◌∙◌, arith}
+use Rattle.ion_value.specs.Timestamp.{IsMoment}
 use Rattle.ion_value.specs.TimestampRuns.{outcome}
 use Rattle.ion_value.proofs.TimestampText.{date_in_range-ok}
+use Rattle.ion_value.proofs.YearsBeside.{time_in_range-inner}
 use Rattle.ion_value.proofs.timestamp_text.check_in_utc.Goals as goal
+use Rattle.ion_value.proofs.timestamp_text.check_in_utc.Goals.{In-Ok}
 
-pub to_utc-requires-clause-moment : goal.to_utc-requires-clause-moment
-to_utc-requires-clause-moment c =
+-- what is checked is a moment
+checked : (c : In-Ok) → IsMoment c.args.timestamp.now
+checked c =
     let t = c.args.timestamp.now in
     (date_in_range-ok t t (ap (λ r. outcome r t) (sym c.in-Ok.is) ∙ c.check.ensures)).1
+
+pub to_utc-requires-clause-moment : goal.to_utc-requires-clause-moment
+to_utc-requires-clause-moment c = checked (goal.at.to_utc-requires-clause-moment c).In-Ok
+
+pub returns-in-Ok : goal.returns-in-Ok
+returns-in-Ok c = sym (time_in_range-inner c.args.timestamp.now (checked (goal.at.returns-in-Ok c).In-Ok) (omega arith) (omega arith))

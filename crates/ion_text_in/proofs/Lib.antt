@@ -69,3 +69,4 @@ mod Lanes
 mod Blocks
 mod SureRuns
 mod Suspects
+mod Fronts

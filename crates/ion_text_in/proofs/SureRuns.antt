@@ -1,6 +1,7 @@
 -- Bytes that each go on with a token whatever follows them.
 use Rattle.std.proofs.Common.{◌≡◌, ℕ, zero, suc, ◌+◌, ◌<◌, ◌≤◌, Bool, true, false, not, ◌||◌, List, [], ◌∷◌, ◌++◌, get_or, codes, length, take, drop, map, refl, sym, subst, ap, ◌∙◌, arith}
 use Rattle.std.proofs.lemmas.Bool.{and_parts}
+use Rattle.std.proofs.lemmas.Bool.Decides.{nat_tests}
 use Rattle.std.proofs.lemmas.List.{drop_more}
 use Rattle.std.specs.List.{prefix_len}
 use lib.Lanes.{chunk, mask_l}
@@ -9,12 +10,20 @@ use Rattle.ion_value.specs.Digits.{first_is, all_are}
 use Rattle.ion_value.specs.Name.{is_identifier_byte, is_one_of}
 use Rattle.ion_text_in.specs.Blanks.{is_white, begins_comment}
 use Rattle.ion_text_in.specs.Token.{in_run, in_word}
-use Rattle.ion_text_in.specs.Runs.{GoOn, EndBehind, goes_on, stays}
+use Rattle.ion_text_in.specs.Runs.{GoOn, EndBehind, goes_on, stays, is_plain}
 use Rattle.ion_text_in.specs.declared.run.Run.{Run}
 use Rattle.ion_text_in.specs.declared.run.Run.TheVariants as run
 use Rattle.ion_text_in.proofs.Blocks.{run_passes, run_ends, run_at}
 use Rattle.ion_text_in.proofs.Meaning.{run-more}
 use Rattle.ion_text_in.proofs.RunEnds.{go-end, stays-on}
+
+-- where the first stands that does not pass a test
+pub fail-at : (p : ℕ → Bool) (bytes : List ℕ) (size bits : ℕ) → size ≤ length bytes → size ≤ 64 → bits ≡ mask_l (map (λ b. not (p b)) (chunk 0 size bytes)) → 0 < bits
+    → (prefix_len p bytes ≡ count_trailing_zeros 64 bits) × (count_trailing_zeros 64 bits < length bytes)
+fail-at p bytes size bits room short e some =
+    let found = run_at p bytes 0 size (omega (arith, room)) short (omega (arith, e, some)) in
+    let same = ap (count_trailing_zeros 64) e in
+    (found.0 ∙ sym same, omega (arith, found.1, same, room))
 
 module _ (kind : Run) where
   all-go : (bytes : List ℕ) (n : ℕ) → n ≤ length bytes → all_are (stays kind) (take n bytes) ≡ true → GoOn (goes_on kind) bytes n
@@ -28,10 +37,7 @@ module _ (kind : Run) where
   -- where the first stands that may not go on
   pub stop-at : (bytes : List ℕ) (size bits : ℕ) → size ≤ length bytes → size ≤ 64 → bits ≡ mask_l (map (λ b. not (stays kind b)) (chunk 0 size bytes)) → 0 < bits
       → (prefix_len (stays kind) bytes ≡ count_trailing_zeros 64 bits) × (count_trailing_zeros 64 bits < length bytes)
-  stop-at bytes size bits room short e some =
-      let found = run_at (stays kind) bytes 0 size (omega (arith, room)) short (omega (arith, e, some)) in
-      let same = ap (count_trailing_zeros 64) e in
-      (found.0 ∙ sym same, omega (arith, found.1, same, room))
+  stop-at bytes size bits room short e some = fail-at (stays kind) bytes size bits room short e some
 
   -- all before it go on
   pub go-to : (bytes : List ℕ) (n : ℕ) → (prefix_len (stays kind) bytes ≡ n) × (n < length bytes) → GoOn (goes_on kind) bytes n
@@ -51,9 +57,26 @@ word-off (x ∷ bytes) (suc n) within e more = word-off bytes n (omega (arith, w
 pub word-end : (bytes : List ℕ) (n : ℕ) → (prefix_len is_identifier_byte bytes ≡ n) × (n < length bytes) → EndBehind in_word bytes n
 word-end bytes n at = go-end in_word bytes n (go-to run.Word bytes n at) (word-off bytes n at.1 (off-at run.Word bytes n at))
 
--- or a number what ends it
-pub number-end : (bytes : List ℕ) (n : ℕ) → (prefix_len (stays run.Number) bytes ≡ n) × (n < length bytes) → (is_one_of (codes "{}[](),\"'") (get_or bytes n 0) || is_white (get_or bytes n 0)) ≡ true → EndBehind in_run bytes n
+-- ---- numbers and timestamps
+
+plain-stays : (b : ℕ) → is_plain b ≡ true → stays run.Number b ≡ true
+plain-stays b e = grind (arith, nat_tests)
+
+plain-all : (bytes : List ℕ) → all_are is_plain bytes ≡ true → all_are (stays run.Number) bytes ≡ true
+plain-all [] e = refl
+plain-all (x ∷ bytes) e =
+    let parts = and_parts (is_plain x) (all_are is_plain bytes) e in
+    rw (plain-stays x parts.0, plain-all bytes parts.1) refl
+
+-- all before the first that is not plain go on
+pub plain-go : (bytes : List ℕ) (n : ℕ) → (prefix_len is_plain bytes ≡ n) × (n < length bytes) → GoOn in_run bytes n
+plain-go bytes n at =
+    let on : all_are is_plain (take n bytes) ≡ true = subst (λ k. all_are is_plain (take k bytes) ≡ true) at.0 (run_passes is_plain bytes) in
+    all-go run.Number bytes n (omega (arith, at.1)) (plain-all (take n bytes) on)
+
+-- and no further, where it ends a number
+pub number-end : (bytes : List ℕ) (n : ℕ) → (prefix_len is_plain bytes ≡ n) × (n < length bytes) → (is_one_of (codes "{}[](),\"'") (get_or bytes n 0) || is_white (get_or bytes n 0)) ≡ true → EndBehind in_run bytes n
 number-end bytes n at e =
-    go-end in_run bytes n (go-to run.Number bytes n at)
+    go-end in_run bytes n (plain-go bytes n at)
     (λ more. subst (λ (l : List ℕ). in_run (l ++ more) ≡ false) (sym (drop_more bytes n 0 at.1))
     (ap (λ (ends : Bool). not (ends || begins_comment (get_or bytes n 0 ∷ (drop (n + 1) bytes ++ more)))) e))

@@ -1,5 +1,5 @@
 -- How far numbers, timestamps, words and operators go (Ion specification, "Text Encoding").
-use Rattle.std.specs.Prelude.{◌≡◌, ℕ, ◌+◌, ◌-◌, ◌^◌, ◌<◌, ◌≤◌, ◌⊎◌, Bool, true, false, not, ◌&&◌, ◌||◌, ◌==◌, List, [], ◌∷◌, ◌++◌, length, take, drop, codes, Option, Some, None, Result, Ok}
+use Rattle.std.specs.Prelude.{◌≡◌, ℕ, ◌+◌, ◌-◌, ◌^◌, ◌<◌, ◌≤◌, ◌⊎◌, Bool, true, false, not, ◌&&◌, ◌||◌, ◌==◌, nat_lt, List, [], ◌∷◌, ◌++◌, length, take, drop, codes, Option, Some, None, Result, Ok}
 use Rattle.ion_meter.specs.declared.fault.Reason.{Reason}
 use Rattle.ion_meter.specs.declared.fault.Reason.TheVariants.{ScalarLimit}
 use Rattle.ion_meter.specs.declared.limits.Limits.{Limits}
@@ -26,6 +26,10 @@ abbrev pub stays : Run → ℕ → Bool
 stays Number b = not (is_one_of (codes "{}[](),\"'") b || is_white b) && not (b == 47)
 stays Word b = is_identifier_byte b
 stays Operator b = is_operator_byte b && not (b == 47)
+
+-- most bytes of numbers and timestamps are told by few tests
+abbrev pub is_plain : ℕ → Bool
+is_plain b = not (nat_lt b 43 || is_one_of (codes ",/{}[]") b)
 
 -- a slash goes on unless it begins a comment
 abbrev pub has_slashes : Run → Bool

@@ -1,8 +1,10 @@
 //! Tokens that the end of a window cuts: their bytes are gathered into a buffer.
-ghost use Rattle.std.specs.Prelude.{◌≡◌, ◌≤◌, ◌<◌, ℕ, [], Some, Ok, Err, length, OnOk, IfOk, IfErr};
+ghost use Rattle.std.specs.Prelude.{◌≡◌, ◌+◌, ◌≤◌, ◌<◌, ◌++◌, ℕ, [], Some, Ok, Err, length, take, OnOk, IfOk, IfErr};
 ghost use Rattle.ion_meter.specs.Sources.{Stands};
 ghost use Rattle.ion_meter.specs.Windows.{left, lent, Extends, IsGiven};
 ghost use Rattle.ion_value.specs.Calls.{AnswersBy, CanRead, Reads, ReadsInto};
+ghost use Rattle.ion_value.specs.Shares.{fault_of};
+ghost use Rattle.ion_text_in.specs.Gathered.{CanGrow, Grown};
 ghost use Rattle.ion_text_in.specs.Places.{run_of};
 ghost use Rattle.ion_text_in.specs.Token.{bytes_of};
 ghost use Rattle.ion_text_in.specs.Views.{spelled};
@@ -48,6 +50,40 @@ pub(crate) fn append<I: Input, A: Allocator + Copy>(
     Ok(())
 }
 
+// How many bytes are copied together.
+const BLOCK: usize = 32;
+
+/// Puts the first bytes of some behind a text.
+///
+/// Few are put as a whole block, of which those too many are taken off again: what is copied to a
+/// length that is known takes no call.
+#[inline(always)]
+pub(crate) fn put_front<A: Allocator + Copy>(
+    text: &mut Buf<A>,
+    bytes: &[u8],
+    count: usize,
+    limits: Limits,
+    meter: &mut Meter<A>,
+) -> Result<(), Fault>
+    requires can_grow { CanGrow limits text.old meter.old }
+    requires there { count ≤ length bytes.now }
+    requires small { length text.old + count ≤ limits.scalar }
+    ensures puts { OnOk result (text.new ≡ text.old ++ take count bytes.now) }
+    ensures memory { IfErr result (λ f. f ≡ Fault.Memory) }
+    ensures grown { Grown meter.old meter.new (length text.old) (length text.new) limits.scalar
+        (fault_of result) }
+{
+    let len = text.as_slice().len();
+    if count <= BLOCK && BLOCK <= bytes.len() && (len + BLOCK) as u64 <= limits.scalar {
+        if let Err(fault) = text.extend(meter, &bytes[..BLOCK]) {
+            return Err(fault);
+        }
+        text.truncate(meter, len + count);
+        return Ok(());
+    }
+    text.extend(meter, &bytes[..count])
+}
+
 /// Makes so many bytes of the window the text, and passes over them.
 #[inline(always)]
 pub(crate) fn copy<I: Input, A: Allocator + Copy>(
@@ -66,7 +102,7 @@ pub(crate) fn copy<I: Input, A: Allocator + Copy>(
         (length text.old) (length text.new) limits.scalar result }
 {
     text.clear(meter);
-    if let Err(fault) = text.extend(meter, &source.buffer()[..count]) {
+    if let Err(fault) = put_front(text, source.buffer(), count, limits, meter) {
         return Err(fault);
     }
     source.consume(count);

@@ -38,8 +38,8 @@ pub(crate) fn scan_quick(limit: u64, bytes: &[u8]) -> Option<Quick>
         (Whole (as_quick x) x.count) (token_of (Some limit) a_run)) }
     ensures range { IfSome result (λ x. InRange (as_number (as_quick x))) }
 {
-    // A timestamp is told by its fifth byte, before its digits are read.
-    if matches!(bytes, [_, _, _, _, b'-' | b'T', ..]) {
+    // Most timestamps are told by their fifth byte, before their digits are read.
+    if matches!(bytes, [_, _, _, _, b'-', ..]) {
         return None;
     }
     let Some(quick) = quick_number(bytes) else {

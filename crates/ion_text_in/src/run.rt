@@ -6,7 +6,7 @@ ghost use Rattle.ion_value.specs.Name.{is_identifier_byte, is_one_of, is_operato
 ghost use Rattle.ion_text_in.specs.Blanks.{is_white};
 ghost use Rattle.ion_text_in.specs.Token.{bytes_of};
 ghost use Rattle.ion_text_in.specs.Views.{AreShown};
-ghost use Rattle.ion_text_in.specs.Runs.{goes_on, stays, has_slashes, GoOn, EndBehind, IsOpen};
+ghost use Rattle.ion_text_in.specs.Runs.{goes_on, stays, is_plain, has_slashes, GoOn, EndBehind, IsOpen};
 
 use std::simd::prelude::*;
 
@@ -101,8 +101,8 @@ fn others(bytes: u8x16) -> u64
 }
 
 // How far a number or a timestamp goes on in a slice that begins behind its first byte. Most are
-// so short that 32 bytes, looked at together, show where they end; others, and those that a slash
-// may end, are looked at byte by byte.
+// so short that 32 bytes, looked at together, show where they end; others, and those with bytes
+// that may end them or not, are looked at byte by byte.
 #[inline(always)]
 fn number_run(bytes: &[u8]) -> Extent
     ensures within { result.len ≤ length bytes.now }
@@ -123,20 +123,16 @@ fn number_run(bytes: &[u8]) -> Extent
     run_by_byte(Run::Number, bytes)
 }
 
-// Which of these bytes end a number or a timestamp, or may: a bit for each, the lowest for the
-// first.
+// Which of these bytes are none that most numbers and timestamps are made of: a bit for each, the
+// lowest for the first. All that end one are among them.
 #[inline(always)]
 fn number_stops(bytes: u8x32) -> u64
-    ensures { result ≡ mask_l (map (λ b. not (stays Run.Number b)) bytes) }
+    ensures { result ≡ mask_l (map (λ b. not (is_plain b)) bytes) }
 {
     let lower = bytes | u8x32::splat(0x20);
     let brackets = lower.simd_eq(u8x32::splat(b'{')) | lower.simd_eq(u8x32::splat(b'}'));
-    let parens = bytes.simd_eq(u8x32::splat(b'(')) | bytes.simd_eq(u8x32::splat(b')'));
-    let quotes = bytes.simd_eq(u8x32::splat(b'"')) | bytes.simd_eq(u8x32::splat(b'\''));
     let marks = bytes.simd_eq(u8x32::splat(b',')) | bytes.simd_eq(u8x32::splat(b'/'));
-    let lines = bytes.simd_gt(u8x32::splat(8)) & bytes.simd_lt(u8x32::splat(14));
-    let white = bytes.simd_eq(u8x32::splat(b' ')) | lines;
-    ((brackets | parens) | (quotes | marks) | white).to_bitmask()
+    (brackets | marks | bytes.simd_lt(u8x32::splat(b'+'))).to_bitmask()
 }
 
 // So many bytes go on, and no more, where that is known.

@@ -1,14 +1,13 @@
-use Rattle.std.proofs.Common.{ℕ, Bool, not, eqb, ltb, ◌&&◌, ◌||◌, refl, arith}
+use Rattle.std.proofs.Common.{ℕ, Bool, not, eqb, ltb, ◌||◌, refl, arith}
 use Rattle.std.proofs.lemmas.Simd.{zip2_splat}
 use Rattle.std.proofs.lemmas.Bool.{agree_below_at}
 use lib.Bits.{bit_or}
-use Rattle.ion_text_in.specs.Runs.{stays}
-use Rattle.ion_text_in.specs.declared.run.Run.TheVariants as run
-use Rattle.ion_text_in.proofs.Lanes.{either, both, to_all, from_all, mapped_to_all, mask_of}
+use Rattle.ion_text_in.specs.Runs.{is_plain}
+use Rattle.ion_text_in.proofs.Lanes.{either, to_all, mapped_to_all, mask_of}
 use Rattle.ion_text_in.proofs.run.number_stops.Goals as goal
 
 abbrev stop : ℕ → Bool
-stop x = (((eqb (bit_or x 32) 123 || eqb (bit_or x 32) 125) || (eqb x 40 || eqb x 41)) || ((eqb x 34 || eqb x 39) || (eqb x 44 || eqb x 47))) || (eqb x 32 || (ltb 8 x && ltb x 14))
+stop x = ((eqb (bit_or x 32) 123 || eqb (bit_or x 32) 125) || (eqb x 44 || eqb x 47)) || ltb x 43
 
 pub returns : goal.returns
 returns c =
@@ -17,11 +16,7 @@ returns c =
     let lower : ℕ → ℕ = λ x. bit_or x 32 in
     let low = zip2_splat bit_or v 32 32 long in
     let brackets = either _ _ v (mapped_to_all eqb lower v 32 123 long low) (mapped_to_all eqb lower v 32 125 long low) in
-    let parens = either _ _ v (to_all eqb v 32 40 long) (to_all eqb v 32 41 long) in
-    let quotes = either _ _ v (to_all eqb v 32 34 long) (to_all eqb v 32 39 long) in
     let marks = either _ _ v (to_all eqb v 32 44 long) (to_all eqb v 32 47 long) in
-    let lines = both _ _ v (from_all ltb v 32 8 long) (to_all ltb v 32 14 long) in
-    let white = either _ _ v (to_all eqb v 32 32 long) lines in
-    mask_of stop (λ x. not (stays run.Number x)) v (omega arith) c.fits-bytes.1
-    (either _ _ v (either _ _ v (either _ _ v brackets parens) (either _ _ v quotes marks)) white)
-    (λ x h. agree_below_at stop (λ y. not (stays run.Number y)) 256 x refl h)
+    mask_of stop (λ x. not (is_plain x)) v (omega arith) c.fits-bytes.1
+    (either _ _ v (either _ _ v brackets marks) (to_all ltb v 32 43 long))
+    (λ x h. agree_below_at stop (λ y. not (is_plain y)) 256 x refl h)

@@ -1,0 +1,50 @@
+use Rattle.std.proofs.Common.{◌+◌, ℕ, List, length, take, ap, ◌∙◌, arith}
+use Rattle.std.proofs.lemmas.List.{length-append, length-take-le}
+use Rattle.ion_text_in.proofs.Fronts.{kept-front}
+use Rattle.ion_text_in.proofs.gather.put_front.Goals as goal
+
+pub extend-requires-clause-room : goal.extend-requires-clause-room
+extend-requires-clause-room g c =
+    let block = length-take-le 32 c.args.bytes.now c.if-bytes-ge-BLOCK.true in
+    let len = ap (λ (l : List ℕ). length l) c.as_slice-len.ensures in
+    let room = c.requires.can_grow.room in
+    omega (arith, block, len, room, c.if-len-limits.true)
+
+pub returns-then-len-limits-clause-puts : goal.returns-then-len-limits-clause-puts
+returns-then-len-limits-clause-puts g c =
+    let text : List ℕ = c.args.text.now in
+    let len = ap (λ (l : List ℕ). length l) c.as_slice-len.ensures in
+    c.truncate.ensures.bytes
+    ∙ ap (λ (n : ℕ). take (n + c.args.count) c.extend.new.self) len
+    ∙ ap (λ (l : List ℕ). take (length text + c.args.count) l) c.in_default.ensures.ok
+    ∙ kept-front text c.args.bytes.now c.args.count 32 c.if-count-le-BLOCK.true
+
+pub returns-then-len-limits-clause-grown : goal.returns-then-len-limits-clause-grown
+returns-then-len-limits-clause-grown g c =
+    let text : List ℕ = c.args.text.now in
+    let bytes : List ℕ = c.args.bytes.now in
+    let len = ap (λ (l : List ℕ). length l) c.as_slice-len.ensures in
+    let block = length-take-le 32 bytes c.if-bytes-ge-BLOCK.true in
+    let few = length-take-le c.args.count bytes c.requires.there in
+    let longer = ap (λ (l : List ℕ). length l) c.in_default.ensures.ok ∙ length-append text (take 32 bytes) in
+    let kept = ap (λ (l : List ℕ). length l) (returns-then-len-limits-clause-puts g c) ∙ length-append text (take c.args.count bytes) in
+    let held = c.in_default.ensures.cost.held in
+    let given = c.truncate.ensures.cost.held in
+    let peak = c.in_default.ensures.cost.peak in
+    let still = c.truncate.ensures.cost.peak in
+    let fits = c.if-len-limits.true in
+    let small = c.requires.small in
+    let holds = c.requires.can_grow.holds in
+    record {
+      charges = record {
+        held = omega (arith, len, block, few, longer, kept, held, given);
+        share = omega (arith, few, kept, small);
+        peak = omega (arith, len, block, held, peak, still, fits, holds);
+        rises = omega (arith, peak, still);
+      };
+      memory = λ e. absurd (cc e);
+      counted = λ _. c.truncate.ensures.cost.refused ∙ c.in_default.ensures.cost.refused;
+      no_reads = λ e. cc e;
+      no_writes = λ e. cc e;
+      no_limit = λ e. cc e;
+    }

@@ -39,7 +39,7 @@ pub(crate) fn scan_quick(limit: u64, bytes: &[u8]) -> Option<Quick>
     ensures range { IfSome result (λ x. InRange (as_number (as_quick x))) }
 {
     // Most timestamps are told by their fifth byte, before their digits are read.
-    if matches!(bytes, [_, _, _, _, b'-', ..]) {
+    if matches!(bytes, [_, _, _, fourth, b'-', ..] if *fourth != b'd') {
         return None;
     }
     let Some(quick) = quick_number(bytes) else {

@@ -1,4 +1,4 @@
-use Rattle.std.proofs.Common.{rules, refl, ◌∙◌, ◌≡◌, None, Ok, true, false}
+use Rattle.std.proofs.Common.{rules, refl, le_trans, subst, ◌∙◌, ◌≡◌, ◌≤◌, None, Ok, true, false, arith}
 use Rattle.ion_value.specs.Items.{raw_item}
 use Rattle.ion_value.specs.Reading.{More}
 use Rattle.ion_value.specs.Shares.{ReadCauses, fault_of}
@@ -6,7 +6,7 @@ use Rattle.ion_value.specs.Standing.{open_after}
 use Rattle.ion_symbols.specs.Table.{text_at}
 use Rattle.ion_symbols.specs.Declaration.{Ground, next, item_view, turn, on, made}
 use Rattle.ion_symbols.specs.Users.{checked, declaring, users}
-use Rattle.ion_symbols.specs.Buffer.{declaring_of, pending_of}
+use Rattle.ion_symbols.specs.Buffer.{declaring_of, depth_of, pending_of}
 use Rattle.ion_symbols.proofs.Turns.{level-on, level-made, goes_on, goes_out, turn_refused, not_failed, stopped, check_causes}
 use Rattle.ion_symbols.proofs.buffer.gather.Goals as goal
 
@@ -114,3 +114,9 @@ items-preserved g c =
       most = search rules;
       charges = search rules;
     }
+
+pub take-requires-clause-inside : goal.take-requires-clause-inside
+take-requires-clause-inside g c =
+    let w = g.met.R.RawReader.within c.items.raw c.items.invariant.sound in
+    let few : depth_of (declaring_of c.args.symbols.now.catalog c.items.buffer) ≤ 65535 = subst (λ n. n ≤ 65535) c.items.invariant.level (le_trans w.level w.deep) in
+    omega (arith, few)

@@ -1,4 +1,5 @@
 use Rattle.std.proofs.Common.{rules, ◌≡◌, Err, subst, arith}
+use Rattle.std.proofs.lemmas.Grind.{common_steps}
 use Rattle.ion_value.specs.Value.{user_item}
 use Rattle.ion_value.specs.Items.{item_of}
 use Rattle.ion_symbols.specs.CatalogItems.{EntryView, entry_view, load_step}
@@ -32,3 +33,9 @@ returns-in_default-outcome-clause-stands g c path stands may =
     let step : StepAs (load_step b.limits.symbols (loading_of b) (entry_view (user_item item))) c.take-outcome.result (loading_of c.take-outcome.new.self) =
     subst (λ (e : EntryView). StepAs (load_step b.limits.symbols (loading_of b) e) c.take-outcome.result (loading_of c.take-outcome.new.self)) c.view.ensures c.take-outcome.ensures.gives in
     read-answered b c.take-outcome.new.self path item c.take-outcome.result stands may step (search rules) (search rules)
+
+pub returns-in-Err-clause-sound : goal.returns-in-Err-clause-sound
+returns-in-Err-clause-sound g c = grind (arith, common_steps)
+
+pub returns-in-Err-clause-memory : goal.returns-in-Err-clause-memory
+returns-in-Err-clause-memory g c = grind (arith, common_steps)

@@ -1,4 +1,4 @@
-use Rattle.std.proofs.Common.{arith, ◌+◌, length, ap, ◌∙◌, sym}
+use Rattle.std.proofs.Common.{◌+◌, length, ap, ◌∙◌, sym, arith}
 use Rattle.std.proofs.lemmas.Grind.{common_steps}
 use Rattle.std.proofs.lemmas.List.{length-map}
 use Rattle.ion_symbols.specs.Output.{Output}

@@ -1,4 +1,4 @@
-use Rattle.std.proofs.Common.{arith, ap, ◌∙◌}
+use Rattle.std.proofs.Common.{ap, ◌∙◌, arith}
 use Rattle.std.proofs.lemmas.Grind.{common_steps}
 use Rattle.ion_symbols.specs.Output.{Output}
 use Rattle.ion_symbols.proofs.Finding.{searched, found_within, not_known, belongs_sorted, found_given, found_charges, probes_sorted}

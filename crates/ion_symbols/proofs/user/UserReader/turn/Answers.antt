@@ -1,5 +1,5 @@
-use Rattle.std.proofs.Common.{arith, ◌≡◌, false, true, Ok, ap, sym, subst, ◌∙◌}
-use Rattle.std.proofs.lemmas.Grind.{common_steps}
+use Rattle.std.proofs.Common.{◌≡◌, false, true, Ok, ap, sym, subst, ◌∙◌, arith}
+use Rattle.std.proofs.lemmas.Grind.{common_steps, elements}
 use Rattle.ion_value.specs.Items.{raw_item}
 use Rattle.ion_value.specs.Reading.{More}
 use Rattle.ion_value.specs.Standing.{is_marker}
@@ -45,3 +45,36 @@ returns-in-Ok-true-read-clause-passes g c = grind (arith, common_steps)
 
 pub returns-in-Err-check_item-2-clause-gives : goal.returns-in-Err-check_item-2-clause-gives
 returns-in-Err-check_item-2-clause-gives g c = grind (arith, common_steps)
+
+pub item-item-requires : goal.item-item-requires
+item-item-requires g c = grind (arith, common_steps)
+
+pub returns-in-Err-check_item-clause-gives : goal.returns-in-Err-check_item-clause-gives
+returns-in-Err-check_item-clause-gives g c = grind (arith, common_steps)
+
+pub read-requires-clause-can_read : goal.read-requires-clause-can_read
+read-requires-clause-can_read g c = grind (arith, common_steps)
+
+pub read-requires-clause-level : goal.read-requires-clause-level
+read-requires-clause-level g c = grind (arith, common_steps)
+
+pub returns-in-Err-read-clause-gives : goal.returns-in-Err-read-clause-gives
+returns-in-Err-read-clause-gives g c = grind (arith, common_steps)
+
+pub returns-in-Ok-true-read-clause-steps : goal.returns-in-Ok-true-read-clause-steps
+returns-in-Ok-true-read-clause-steps g c = grind (arith, common_steps)
+
+pub returns-in-Ok-false-read-clause-gives : goal.returns-in-Ok-false-read-clause-gives
+returns-in-Ok-false-read-clause-gives g c = grind (arith, common_steps)
+
+pub returns-in-Ok-false-read-clause-falls : goal.returns-in-Ok-false-read-clause-falls
+returns-in-Ok-false-read-clause-falls g c = grind (arith, common_steps)
+
+pub returns-in-Ok-false-read-clause-causes : goal.returns-in-Ok-false-read-clause-causes
+returns-in-Ok-false-read-clause-causes g c = grind (arith, common_steps)
+
+pub returns-in-Ok-false-read-clause-steps : goal.returns-in-Ok-false-read-clause-steps
+returns-in-Ok-false-read-clause-steps g c = grind (arith, elements)
+
+pub returns-in-Err-check_item-2-clause-steps : goal.returns-in-Err-check_item-2-clause-steps
+returns-in-Err-check_item-2-clause-steps g c = grind (arith, elements)

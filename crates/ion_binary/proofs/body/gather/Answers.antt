@@ -1,5 +1,5 @@
-use Rattle.std.proofs.Common.{arith, sym, subst, ap, ◌∙◌, ◌≡◌, ◌+◌, ◌-◌, ◌≤◌, ℕ, List, length, take}
-use Rattle.std.proofs.lemmas.Grind.{common_steps}
+use Rattle.std.proofs.Common.{sym, subst, ap, ◌∙◌, ◌≡◌, ◌+◌, ◌-◌, ◌≤◌, ℕ, List, length, take, arith}
+use Rattle.std.proofs.lemmas.Grind.{common_steps, elements}
 use Rattle.std.proofs.lemmas.List.{length-append, length-take-le}
 use Rattle.ion_meter.specs.Windows.{left, lent}
 use Rattle.ion_meter.proofs.Lent.{lent-take}
@@ -39,3 +39,12 @@ loop-source-preserved g c =
       rises = grind (arith, common_steps, cost.peak, inv.rises);
       refused = cost.refused ∙ inv.refused;
     }
+
+pub returns-in-Ok-None-clause-cut : goal.returns-in-Ok-None-clause-cut
+returns-in-Ok-None-clause-cut g c = grind (arith, elements)
+
+pub consume-requires : goal.consume-requires
+consume-requires g c = grind (arith, common_steps)
+
+pub loop-source-smaller : goal.loop-source-smaller
+loop-source-smaller g c = grind (arith, common_steps)

@@ -1,4 +1,5 @@
-use Rattle.std.proofs.Common.{◌≡◌, ◌<◌, ◌≤◌, ◌++◌, ◌∷◌, ℕ, List, length, drop, sym, ap, subst, ◌∙◌, arith, rules}
+use Rattle.std.proofs.Common.{◌≡◌, ◌<◌, ◌≤◌, ◌++◌, ◌∷◌, ℕ, List, length, drop, sym, ap, subst, ◌∙◌, rules, arith}
+use Rattle.std.proofs.lemmas.Grind.{common_steps}
 use Rattle.ion_binary.specs.declared.headers.HeaderPlace.{HeaderPlace}
 use Rattle.ion_binary.specs.Counting.{AreReached, IsCounted, counted_length}
 use Rattle.ion_binary.specs.Grammar.{type_code}
@@ -62,3 +63,6 @@ returns-then-closed_size-limits-clause-over g c is =
     let sized : counted_length ns (length c.as_slice-2.result.now) c.closed_size.new.self.headers ≡ counted_length ns (length (begun_at place o)) (begun_headers place o c.args.kind hs) =
     ap (counted_length ns (length c.as_slice-2.result.now)) same ∙ ap (λ k. counted_length ns k (begun_headers place o c.args.kind hs)) n in
     omega (arith, t, size, sized, s)
+
+pub returns-clause-open : goal.returns-clause-open
+returns-clause-open g c = grind (arith, common_steps)

@@ -1,4 +1,5 @@
-use Rattle.std.proofs.Common.{◌≡◌, ◌≢◌, ◌<◌, ◌-◌, ◌++◌, List, ℕ, length, sym, ap, ◌∙◌, arith, rules}
+use Rattle.std.proofs.Common.{◌≡◌, ◌≢◌, ◌<◌, ◌-◌, ◌++◌, List, ℕ, length, sym, ap, ◌∙◌, rules, arith}
+use Rattle.std.proofs.lemmas.Grind.{common_steps}
 use Rattle.ion_value.specs.Number.{var_uint_octets}
 use Rattle.ion_binary.specs.declared.headers.HeaderPlace.{HeaderPlace}
 use Rattle.ion_binary.proofs.OpenSteps.{begun-length, begun-octets, wrapper-begun}
@@ -34,3 +35,9 @@ returns-clause-headers g c is =
     let less : c.args.place < length c.args.self.now.octets = omega (arith, e, ne, within) in
     let w = wrapper-begun c.args.place c.args.self.now.octets less in
     search rules ∙ sym (ap (λ (hs : List HeaderPlace). hs ++ c.args.self.now.headers) w)
+
+pub returns-in_err-push-clause-stepped : goal.returns-in_err-push-clause-stepped
+returns-in_err-push-clause-stepped g c = grind (arith, common_steps)
+
+pub returns-clause-stepped : goal.returns-clause-stepped
+returns-clause-stepped g c = grind (arith, common_steps)

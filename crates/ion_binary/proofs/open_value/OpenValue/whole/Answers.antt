@@ -1,4 +1,5 @@
-use Rattle.std.proofs.Common.{◌≡◌, ◌+◌, ◌-◌, ◌++◌, ℕ, List, length, take, drop, map, ap, subst, ◌∙◌, arith, rules, append_assoc}
+use Rattle.std.proofs.Common.{◌≡◌, ◌+◌, ◌-◌, ◌++◌, ℕ, List, length, take, drop, map, ap, subst, ◌∙◌, rules, append_assoc, arith}
+use Rattle.std.proofs.lemmas.Grind.{common_steps}
 use Rattle.ion_binary.specs.declared.headers.HeaderPlace.{HeaderPlace}
 use Rattle.ion_binary.specs.Counting.{IsCounted, counted_length, place_of_header}
 use Rattle.ion_binary.specs.Held.{whole_at}
@@ -78,3 +79,21 @@ returns-clause-open g c is =
     let size = c.closed_size.ensures.size in
     opened c.args.limits c.args.self.now (record { octets = c.extend_some.new.octets; headers = c.closed_size.new.self.headers; counts = c.closed_size.new.self.counts }) c.args.place n c.requires.open
     (omega (arith, e, within)) long c.closed_size.ensures.headers c.closed_size.ensures.counted (omega (arith, t, size))
+
+pub returns-then-length-limits-clause-over : goal.returns-then-length-limits-clause-over
+returns-then-length-limits-clause-over g c = grind (arith, common_steps)
+
+pub extend-requires-clause-room : goal.extend-requires-clause-room
+extend-requires-clause-room g c = grind (arith, common_steps)
+
+pub returns-in_err-extend-clause-stepped : goal.returns-in_err-extend-clause-stepped
+returns-in_err-extend-clause-stepped g c = grind (arith, common_steps)
+
+pub extend_some-requires-clause-room : goal.extend_some-requires-clause-room
+extend_some-requires-clause-room g c = grind (arith, common_steps)
+
+pub returns-in_err-extend_some-clause-stepped : goal.returns-in_err-extend_some-clause-stepped
+returns-in_err-extend_some-clause-stepped g c = grind (arith, common_steps)
+
+pub returns-clause-stepped : goal.returns-clause-stepped
+returns-clause-stepped g c = grind (arith, common_steps)

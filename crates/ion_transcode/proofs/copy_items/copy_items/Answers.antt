@@ -3,8 +3,8 @@ use Rattle.std.proofs.lemmas.List.{append-nil}
 use Rattle.ion_meter.specs.Windows.{so_far, HasPrefix}
 use Rattle.ion_value.specs.Items.{item_of}
 use Rattle.ion_value.specs.Value.{PlacedItem}
-use Rattle.ion_value.specs.Reading.{More, Finished}
-use Rattle.ion_value.specs.Standing.{open_after, Continues}
+use Rattle.ion_value.specs.Reading.{More}
+use Rattle.ion_value.specs.Standing.{Continues}
 use Rattle.ion_value.specs.Outcome.{one_if_closed, Accepted, verdict_behind, output_behind}
 use Rattle.ion_symbols.specs.Table.{text_at}
 use Rattle.ion_symbols.specs.User.{coming_to, lent_by, owned_by, share_of}

@@ -69,4 +69,3 @@ mod Lanes
 mod Blocks
 mod SureRuns
 mod Suspects
-mod Fronts

@@ -10,7 +10,7 @@ use Rattle.ion_value.specs.Digits.{first_is, all_are}
 use Rattle.ion_value.specs.Name.{is_identifier_byte, is_one_of}
 use Rattle.ion_text_in.specs.Blanks.{is_white, begins_comment}
 use Rattle.ion_text_in.specs.Token.{in_run, in_word}
-use Rattle.ion_text_in.specs.Runs.{GoOn, EndBehind, goes_on, stays, is_plain}
+use Rattle.ion_text_in.specs.Runs.{GoOn, EndBehind, goes_on, stays, is_sure_in_number}
 use Rattle.ion_text_in.specs.declared.run.Run.{Run}
 use Rattle.ion_text_in.specs.declared.run.Run.TheVariants as run
 use Rattle.ion_text_in.proofs.Blocks.{run_passes, run_ends, run_at}
@@ -59,23 +59,23 @@ word-end bytes n at = go-end in_word bytes n (go-to run.Word bytes n at) (word-o
 
 -- ---- numbers and timestamps
 
-plain-stays : (b : ℕ) → is_plain b ≡ true → stays run.Number b ≡ true
+plain-stays : (b : ℕ) → is_sure_in_number b ≡ true → stays run.Number b ≡ true
 plain-stays b e = grind (arith, nat_tests)
 
-plain-all : (bytes : List ℕ) → all_are is_plain bytes ≡ true → all_are (stays run.Number) bytes ≡ true
+plain-all : (bytes : List ℕ) → all_are is_sure_in_number bytes ≡ true → all_are (stays run.Number) bytes ≡ true
 plain-all [] e = refl
 plain-all (x ∷ bytes) e =
-    let parts = and_parts (is_plain x) (all_are is_plain bytes) e in
+    let parts = and_parts (is_sure_in_number x) (all_are is_sure_in_number bytes) e in
     rw (plain-stays x parts.0, plain-all bytes parts.1) refl
 
 -- all before the first that is not plain go on
-pub plain-go : (bytes : List ℕ) (n : ℕ) → (prefix_len is_plain bytes ≡ n) × (n < length bytes) → GoOn in_run bytes n
+pub plain-go : (bytes : List ℕ) (n : ℕ) → (prefix_len is_sure_in_number bytes ≡ n) × (n < length bytes) → GoOn in_run bytes n
 plain-go bytes n at =
-    let on : all_are is_plain (take n bytes) ≡ true = subst (λ k. all_are is_plain (take k bytes) ≡ true) at.0 (run_passes is_plain bytes) in
+    let on : all_are is_sure_in_number (take n bytes) ≡ true = subst (λ k. all_are is_sure_in_number (take k bytes) ≡ true) at.0 (run_passes is_sure_in_number bytes) in
     all-go run.Number bytes n (omega (arith, at.1)) (plain-all (take n bytes) on)
 
 -- and no further, where it ends a number
-pub number-end : (bytes : List ℕ) (n : ℕ) → (prefix_len is_plain bytes ≡ n) × (n < length bytes) → (is_one_of (codes "{}[](),\"'") (get_or bytes n 0) || is_white (get_or bytes n 0)) ≡ true → EndBehind in_run bytes n
+pub number-end : (bytes : List ℕ) (n : ℕ) → (prefix_len is_sure_in_number bytes ≡ n) × (n < length bytes) → (is_one_of (codes "{}[](),\"'") (get_or bytes n 0) || is_white (get_or bytes n 0)) ≡ true → EndBehind in_run bytes n
 number-end bytes n at e =
     go-end in_run bytes n (plain-go bytes n at)
     (λ more. subst (λ (l : List ℕ). in_run (l ++ more) ≡ false) (sym (drop_more bytes n 0 at.1))

@@ -37,7 +37,7 @@ beside false false r o e = e
 pub suspect : (mark : ℕ) (in_clob : Bool) (x : ℕ) → x < 256 → ((eqb mark x || eqb x 92) || leb (others_of in_clob) (round x)) ≡ not (is_sure mark in_clob x)
 suspect mark in_clob x h = beside (eqb mark x) (eqb x 92) (stands in_clob x) (leb (others_of in_clob) (round x)) (others in_clob x h)
 
--- ---- the others are plain
+-- ---- bytes that are not suspect are plain
 
 spared : (m e g c w l : Bool) → (not m && not e && (g && c)) ≡ true → (not m && not e && (((g || w) && c) || l)) ≡ true
 spared false false true true w l e = refl
@@ -108,7 +108,7 @@ module _ (mark : ℕ) (lines in_clob : Bool) (bytes : List ℕ) (at found : ℕ)
         from-other sure bytes (at + n) there behind,
       )
 
--- over one byte that is plain, and up to one that is not
+-- over one byte that is plain
 pub over-one : (test : ℕ → Bool) (bytes : List ℕ) (n : ℕ) → n < length bytes → all_are test (take n bytes) ≡ true → test (slice_index bytes n) ≡ true
     → all_are test (take (n + 1) bytes) ≡ true
 over-one test bytes n there before one =

@@ -25,12 +25,12 @@ mark_of code.ShortClob = 34
 mark_of code.Long = 39
 mark_of code.LongClob = 39
 
--- quotes that begin with a byte, between which lines may end or not
+-- quotes of which only the first byte is known, whether lines may end between them, and whether they are a clob's: enough to tell
+-- plain bytes
 abbrev pub one_mark : ℕ → Bool → Bool → Quote
 one_mark mark lines in_clob = record { closer = mark ∷ []; is_long = lines; in_clob = in_clob }
 
--- a byte that stands for itself between them, as fewer comparisons tell: none of the control characters is one, though a few stand for
--- themselves
+-- a byte that stands for itself between them, as few comparisons tell: none below the space is one, though a few stand for themselves
 abbrev pub is_sure : ℕ → Bool → ℕ → Bool
 is_sure mark in_clob b = not (mark == b) && not (b == 92) && (nat_le 32 b && (not in_clob || nat_lt b 128))
 

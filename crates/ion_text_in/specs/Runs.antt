@@ -27,9 +27,9 @@ stays Number b = not (is_one_of (codes "{}[](),\"'") b || is_white b) && not (b 
 stays Word b = is_identifier_byte b
 stays Operator b = is_operator_byte b && not (b == 47)
 
--- most bytes of numbers and timestamps are told by few tests
-abbrev pub is_plain : ℕ → Bool
-is_plain b = not (nat_lt b 43 || is_one_of (codes ",/{}[]") b)
+-- a byte that goes on with a number or a timestamp whatever follows it, as few tests tell; some that do go on fail them
+abbrev pub is_sure_in_number : ℕ → Bool
+is_sure_in_number b = not (nat_lt b 43 || is_one_of (codes ",/{}[]") b)
 
 -- a slash goes on unless it begins a comment
 abbrev pub has_slashes : Run → Bool

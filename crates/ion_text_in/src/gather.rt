@@ -53,12 +53,10 @@ pub(crate) fn append<I: Input, A: Allocator + Copy>(
 // How many bytes are copied together.
 const BLOCK: usize = 32;
 
-/// Puts the first bytes of some behind a text.
-///
-/// Few are put as a whole block, of which those too many are taken off again: what is copied to a
-/// length that is known takes no call.
+// Puts the first `count` bytes behind a text. A few are copied as a whole block and the text is cut:
+// a copy of a known length takes no call.
 #[inline(always)]
-pub(crate) fn put_front<A: Allocator + Copy>(
+fn put_front<A: Allocator + Copy>(
     text: &mut Buf<A>,
     bytes: &[u8],
     count: usize,

@@ -38,8 +38,8 @@ pub(crate) fn scan_quick(limit: u64, bytes: &[u8]) -> Option<Quick>
         (Whole (as_quick x) x.count) (token_of (Some limit) a_run)) }
     ensures range { IfSome result (λ x. InRange (as_number (as_quick x))) }
 {
-    // Most timestamps are told by their fifth byte, before their digits are read.
-    if matches!(bytes, [_, _, _, fourth, b'-', ..] if *fourth != b'd') {
+    // A digit and a dash as fourth and fifth byte are those of a timestamp: no plain number has them.
+    if matches!(bytes, [_, _, _, fourth, b'-', ..] if fourth.is_ascii_digit()) {
         return None;
     }
     let Some(quick) = quick_number(bytes) else {

@@ -129,9 +129,9 @@ pub(crate) fn plain_length(quote: Quote, bytes: &[u8]) -> usize
 }
 
 // Which of these bytes may stand for something else than themselves: a bit for each, the lowest for
-// the first. Those are the mark, a backslash, control characters and, in a clob, bytes that are no
-// ASCII; of the control characters a few stand for themselves all the same. Counted round from the
-// space, bytes that are no ASCII come behind those that are, and control characters last, so that
+// the first. Those are the mark, a backslash, bytes below the space and, in a clob, bytes that are no
+// ASCII; of those below the space a few stand for themselves all the same. Counted round from the
+// space, bytes that are no ASCII come behind those that are, and those below the space last, so that
 // one comparison tells both.
 #[inline(always)]
 fn suspects(mark: u8, in_clob: bool, bytes: u8x32) -> u64
@@ -144,7 +144,7 @@ fn suspects(mark: u8, in_clob: bool, bytes: u8x32) -> u64
     (is_mark | is_escape | is_other).to_bitmask()
 }
 
-// Whether a byte that is suspect stands for itself all the same, which only control characters do.
+// Whether a byte that is suspect stands for itself all the same, as only bytes below the space do.
 #[inline(always)]
 fn is_cleared(mark: u8, lines: bool, in_clob: bool, byte: u8) -> bool
     requires { is_sure mark in_clob byte ≡ false }

@@ -6,7 +6,7 @@ ghost use Rattle.ion_value.specs.Name.{is_identifier_byte, is_one_of, is_operato
 ghost use Rattle.ion_text_in.specs.Blanks.{is_white};
 ghost use Rattle.ion_text_in.specs.Token.{bytes_of};
 ghost use Rattle.ion_text_in.specs.Views.{AreShown};
-ghost use Rattle.ion_text_in.specs.Runs.{goes_on, stays, is_plain, has_slashes, GoOn, EndBehind, IsOpen};
+ghost use Rattle.ion_text_in.specs.Runs.{goes_on, stays, is_sure_in_number, has_slashes, GoOn, EndBehind, IsOpen};
 
 use std::simd::prelude::*;
 
@@ -123,11 +123,11 @@ fn number_run(bytes: &[u8]) -> Extent
     run_by_byte(Run::Number, bytes)
 }
 
-// Which of these bytes are none that most numbers and timestamps are made of: a bit for each, the
-// lowest for the first. All that end one are among them.
+// Which of these bytes may end a number or a timestamp, or stand in few of them: a bit for each, the
+// lowest for the first.
 #[inline(always)]
 fn number_stops(bytes: u8x32) -> u64
-    ensures { result ≡ mask_l (map (λ b. not (is_plain b)) bytes) }
+    ensures { result ≡ mask_l (map (λ b. not (is_sure_in_number b)) bytes) }
 {
     let lower = bytes | u8x32::splat(0x20);
     let brackets = lower.simd_eq(u8x32::splat(b'{')) | lower.simd_eq(u8x32::splat(b'}'));

@@ -188,7 +188,7 @@ fn command<'a>(alloc: Global) -> Result<Command<'a>, AllocError>
     let check = "Reads the whole stream and says how many values it has, as in: ok 6 values";
     let convert =
         "Writes the stream's values to standard output in the other form: text as binary, binary as text";
-    let to_convert = "Example: ion convert data.ion > data.10n";
+    let example = "Example: ion convert data.ion > data.10n";
     let command = top_command(alloc);
     let command = with_action(alloc, command, "show", show, "Example: ion show data.ion")?;
     let command = with_action(
@@ -198,7 +198,7 @@ fn command<'a>(alloc: Global) -> Result<Command<'a>, AllocError>
         check,
         "Example: ion check < data.10n",
     )?;
-    with_action(alloc, command, "convert", convert, to_convert)?.bin_name("ion")
+    with_action(alloc, command, "convert", convert, example)?.bin_name("ion")
 }
 
 /// The matches of the words.

@@ -1,7 +1,11 @@
-use Rattle.std.proofs.Common.{◌+◌, ℕ, List, length, take, ap, ◌∙◌, arith}
-use Rattle.std.proofs.lemmas.List.{length-append, length-take-le}
-use Rattle.ion_text_in.proofs.Fronts.{kept-front}
+use Rattle.std.proofs.Common.{◌≡◌, ◌+◌, ◌≤◌, ◌++◌, ℕ, List, length, take, ap, ◌∙◌, arith}
+use Rattle.std.proofs.lemmas.List.{length-append, length-take-le, take-take}
+use Rattle.std.proofs.Math.Seq.{take-append-add}
 use Rattle.ion_text_in.proofs.gather.put_front.Goals as goal
+
+-- of those behind a list and a block, the list and so many are kept
+kept-front : (old bytes : List ℕ) (n k : ℕ) → n ≤ k → take (length old + n) (old ++ take k bytes) ≡ old ++ take n bytes
+kept-front old bytes n k le = take-append-add old (take k bytes) n ∙ ap (λ (l : List ℕ). old ++ l) (take-take n k bytes le)
 
 pub extend-requires-clause-room : goal.extend-requires-clause-room
 extend-requires-clause-room g c =

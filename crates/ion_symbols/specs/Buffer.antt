@@ -15,6 +15,7 @@ use Rattle.ion_symbols.specs.declared.item_view.FieldValue.TheVariants as what
 use Rattle.ion_symbols.specs.declared.item_view.ItemView as code
 use Rattle.ion_symbols.specs.declared.buffer.SymbolBuffer.{SymbolBuffer}
 
+-- what an item is to a declaration in code, as definitions see it
 abbrev pub field_value_of : FieldValue → d.FieldValue
 field_value_of (what.Begins kind) = d.begins kind
 field_value_of what.Ends = d.ends
@@ -23,9 +24,11 @@ field_value_of (what.Text t) = d.string t.now
 field_value_of (what.Int negative magnitude) = d.int negative magnitude
 field_value_of (what.Names word) = d.names word
 
+-- what a declaration looks at in an item in code, as definitions see it
 abbrev pub item_view_of : code.ItemView → ItemView
 item_view_of t = record { field = t.field; field_place = t.field_place; what = field_value_of t.what; place = t.place }
 
+-- the pending table of a buffer, with its imports by a catalogue
 abbrev pub pending_of : {A : Type 0} → List Shared → SymbolBuffer A → Pending
 pending_of catalog b =
     record {
@@ -39,6 +42,7 @@ pending_of catalog b =
       entry = record { has_name = b.entry.has_name; has_version = b.entry.has_version; has_max = b.entry.has_max; name = b.name; version = b.entry.version; max_id = b.entry.max_id; place = b.entry.place };
     }
 
+-- the same with what of the declaration is being read
 abbrev pub declaring_of : {A : Type 0} → List Shared → SymbolBuffer A → Declaring
 declaring_of catalog b = record { area = b.area; inside = b.inside; pending = pending_of catalog b }
 
@@ -46,6 +50,7 @@ declaring_of catalog b = record { area = b.area; inside = b.inside; pending = pe
 abbrev pub own_of : {A : Type 0} → SymbolBuffer A → ℕ
 own_of b = b.imports.cost * length b.imports.items + slots_cost b.slots + length b.name
 
+-- a number where the present table is kept, and else 0
 abbrev pub if_kept : Bool → ℕ → ℕ
 if_kept true n = n
 if_kept false n = 0
@@ -57,6 +62,7 @@ is_named area.Fields has_name = false
 is_named area.Imports has_name = false
 is_named area.Symbols has_name = false
 
+-- the list `imports` is being read, or an import in it
 abbrev pub is_importing : Area → Bool
 is_importing area.Import = true
 is_importing area.Imports = true
@@ -100,6 +106,7 @@ area_depth area.Imports = 2
 area_depth area.Symbols = 2
 area_depth area.Import = 3
 
+-- the same with those that are ignored
 abbrev pub depth_of : Declaring → ℕ
 depth_of d = area_depth d.area + d.inside
 
@@ -113,9 +120,11 @@ import_end_turn g p = then_turn (import_ended g p) (λ q. on (at area.Imports q)
 abbrev pub ground_in : Present → ℕ → Ground
 ground_in now limit = record { catalog = now.catalog; limit = limit; old = now.table }
 
+-- the pending table of a buffer, by the catalogue of the table before it
 abbrev pub pending_in : {A : Type 0} → Present → SymbolBuffer A → Pending
 pending_in now b = pending_of now.catalog b
 
+-- the same with what of the declaration is being read
 abbrev pub declaring_in : {A : Type 0} → Present → SymbolBuffer A → Declaring
 declaring_in now b = declaring_of now.catalog b
 

@@ -19,6 +19,7 @@ use Rattle.ion_symbols.specs.declared.entry_view.EntryView as code
 
 -- ---- what is seen of an item
 
+-- what a catalogue looks at in an item in code, as definitions see it
 abbrev pub view_of : code.EntryView → EntryView
 view_of t = record { shared = t.shared; field = t.field; what = field_value_of t.what; place = t.place; top = t.top }
 
@@ -29,9 +30,11 @@ names_first (Some s) = names_shared s
 
 -- ---- what is seen of a catalogue that is built
 
+-- the whole tables of a builder, and the one that it is reading
 abbrev pub draft_of : {A : Type 0} → CatalogBuilder A → Draft
 draft_of b = record { tables = b.catalog; has_version = b.has_version; has_symbols = b.has_symbols; table = b.table }
 
+-- the same with what is being read
 abbrev pub loading_of : {A : Type 0} → CatalogBuilder A → Loading
 loading_of b = record { stage = b.stage; inside = b.inside; draft = draft_of b }
 
@@ -39,6 +42,7 @@ loading_of b = record { stage = b.stage; inside = b.inside; draft = draft_of b }
 abbrev pub held_by : {A : Type 0} → CatalogBuilder A → ℕ
 held_by b = catalog_cost b.catalog + shared_cost b.table
 
+-- the most that it may hold is the limit on symbol tables
 abbrev pub most_of : {A : Type 0} → CatalogBuilder A → ℕ
 most_of b = b.limits.symbols
 
@@ -61,6 +65,7 @@ stage_level stage.Outside = 0
 stage_level stage.Fields = 1
 stage_level stage.Symbols = 2
 
+-- the same with those that mean nothing
 abbrev pub level_of : Loading → ℕ
 level_of s = stage_level s.stage + s.inside
 
@@ -112,6 +117,7 @@ name_counted : (name : List ℕ) → length name ≤ name_cost name
 name_counted [] = omega arith
 name_counted (b ∷ bs) = omega arith
 
+-- a builder holds no more than it may, as every writer does
 pub building-within : {A : Type 0} (b : CatalogBuilder A) → IsBuilding b → WritesWithin (held_by b) (most_of b)
 building-within b building =
     let name = name_counted b.table.name in

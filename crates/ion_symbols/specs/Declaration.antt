@@ -15,6 +15,7 @@ use Rattle.ion_symbols.specs.Table.{word_of, Slots, Shared, Import, Table, most_
 
 -- ---- what a declaration looks at in an item
 
+-- what an item is to a declaration: the beginning or end of a container, a string, an int, a symbol by its word, or other
 pub data FieldValue : Type 0 where
   begins : (kind : Kind) → FieldValue
   ends other : FieldValue
@@ -22,12 +23,14 @@ pub data FieldValue : Type 0 where
   int : (negative : Bool) → (magnitude : ℕ) → FieldValue
   names : (word : Word) → FieldValue
 
+-- what it looks at in an item: which word the field is and its place (0 without a field), what the item is, and its place
 pub record ItemView : Type 0 where
   pub field : Word
   pub field_place : ℕ
   pub what : FieldValue
   pub place : ℕ
 
+-- the word of an id by the text that it has, and `Other` where it has none
 abbrev pub word_by_id : Option (List ℕ) → Word
 word_by_id None = word.Other
 word_by_id (Some t) = word_of t
@@ -37,14 +40,17 @@ abbrev pub word_in : (ℕ → Option (List ℕ)) → Symbol → Word
 word_in texts (value.Text t) = word_of t
 word_in texts (value.Id id) = word_by_id (texts id)
 
+-- the word that a field is, by the texts of ids; `Other` where there is none
 abbrev pub field_word : (ℕ → Option (List ℕ)) → Option SymbolAt → Word
 field_word texts None = word.Other
 field_word texts (Some s) = word_in texts s.symbol
 
+-- the place of a field, 0 where there is none
 abbrev pub place_in : Option SymbolAt → ℕ
 place_in None = 0
 place_in (Some s) = s.place
 
+-- what a scalar is to a declaration, by the texts of ids
 abbrev pub scalar_view : (ℕ → Option (List ℕ)) → Scalar SymbolAt → FieldValue
 scalar_view texts (value.null type) = other
 scalar_view texts (value.bool truth) = other
@@ -56,12 +62,14 @@ scalar_view texts (value.string t) = string t
 scalar_view texts (value.clob bytes) = other
 scalar_view texts (value.blob bytes) = other
 
+-- what the head of an item is to a declaration, by the texts of ids
 abbrev pub head_view : (ℕ → Option (List ℕ)) → Head SymbolAt → FieldValue
 head_view texts (value.whole body) = scalar_view texts body
 head_view texts (value.begin kind) = begins kind
 head_view texts value.end = ends
 head_view texts value.marker = other
 
+-- what a declaration looks at in an item, by the texts of ids
 abbrev pub item_view : (ℕ → Option (List ℕ)) → PlacedItem → ItemView
 item_view texts i = record { field = field_word texts i.field; field_place = place_in i.field; what = head_view texts i.head; place = i.place }
 
@@ -89,9 +97,11 @@ pub record Pending : Type 0 where
   pub count : ℕ
   pub entry : Entry
 
+-- an import of which nothing was read, whose struct begins at a place
 abbrev pub new_entry : ℕ → Entry
 new_entry place = record { has_name = false; has_version = false; has_max = false; name = []; version = 1; max_id = None; place = place }
 
+-- the pending table of a declaration of which nothing was read
 abbrev pub nothing_yet : Pending
 nothing_yet = record { has_imports = false; has_symbols = false; keeps = false; imports = []; locals = []; cost = 0; count = 0; entry = new_entry 0 }
 
@@ -143,9 +153,11 @@ part_met place _ p = Ok p
 abbrev pub with_import_name : Ground → ℕ → List ℕ → Pending → Held
 with_import_name g place t p = add_cost g.limit place (length t) 0 (record p { entry = record p.entry { name = t } })
 
+-- the import that is being read gets a version
 abbrev pub versioned : ℕ → Pending → Pending
 versioned n p = record p { entry = record p.entry { version = n } }
 
+-- the import that is being read gets a max_id, or none
 abbrev pub cut_to : Option ℕ → Pending → Pending
 cut_to most p = record p { entry = record p.entry { max_id = most } }
 
@@ -154,6 +166,7 @@ abbrev pub is_ignored : List ℕ → Bool
 is_ignored [] = true
 is_ignored (b ∷ bs) = bytes_eq (b ∷ bs) (codes "$ion")
 
+-- the slots of a table that was found, and none where none was
 abbrev pub slots_found : Option Shared → Slots
 slots_found None = []
 slots_found (Some s) = s.slots
@@ -174,9 +187,11 @@ abbrev pub import_of : List Shared → List ℕ → ℕ → Option ℕ → Optio
 import_of catalog name version None = whole_import (find catalog name version)
 import_of catalog name version (Some count) = Some (record { slots = slots_found (or_greatest catalog name (find catalog name version)); count = count })
 
+-- the name of the import that is being read is forgotten
 abbrev pub nameless : Pending → Pending
 nameless p = record p { entry = record p.entry { name = [] } }
 
+-- one import more, which costs 32, or `BadTable` where there is none; faults stand where the import's struct begins
 abbrev pub with_import : Ground → Pending → Option Import → Held
 with_import g p None = Err (BadTable, p.entry.place)
 with_import g p (Some i) = add_cost g.limit p.entry.place 32 i.count (nameless (record p { imports = p.imports ++ i ∷ [] }))
@@ -185,6 +200,7 @@ with_import g p (Some i) = add_cost g.limit p.entry.place 32 i.count (nameless (
 abbrev pub given_back : Pending → Pending
 given_back p = record p { cost = p.cost - length p.entry.name }
 
+-- what the end of an import's struct does: the import is ignored, or taken in, or refused
 abbrev pub import_ended : Ground → Pending → Held
 import_ended g p =
     if is_ignored p.entry.name then Ok (nameless (given_back p))
@@ -198,9 +214,11 @@ pub record Declaring : Type 0 where
   pub inside : ℕ
   pub pending : Pending
 
+-- an area of a declaration is being read, and nothing that is ignored is open
 abbrev pub at : Area → Pending → Declaring
 at area p = record { area = area; inside = 0; pending = p }
 
+-- a declaration of which nothing was read, behind the beginning of its struct
 abbrev pub start : Declaring
 start = at area.Fields nothing_yet
 
@@ -210,6 +228,7 @@ pub data Turn : Type 0 where
   made : Table → Turn
   stop : Reason → ℕ → Turn
 
+-- goes on with the pending table, or stops with its reason and place
 abbrev pub then_turn : Held → (Pending → Turn) → Turn
 then_turn (Ok p) later = later p
 then_turn (Err why) later = stop why.0 why.1
@@ -223,12 +242,14 @@ skip_ignored (string t) d = d
 skip_ignored (int negative n) d = d
 skip_ignored (names w) d = d
 
+-- what the value of a field does, by its place and the field's word: a list begins, the present table is kept, or it is ignored
 abbrev pub field_value : Ground → ℕ → Word → FieldValue → Pending → Turn
 field_value g place word.Imports (begins kind.List) p = on (at area.Imports p)
 field_value g place word.Imports (names word.Declaration) p = then_turn (keeping g place p) (λ q. on (at area.Fields q))
 field_value g place word.Symbols (begins kind.List) p = on (at area.Symbols p)
 field_value g place _ what p = on (skip_ignored what (at area.Fields p))
 
+-- a field of the declaration: first that it is there, then its value
 abbrev pub field_turn : Ground → ItemView → Pending → Turn
 field_turn g t p = then_turn (field_met t.field_place t.field p) (λ q. field_value g t.place t.field t.what q)
 
@@ -237,22 +258,27 @@ abbrev pub string_in : FieldValue → Option (List ℕ)
 string_in (string t) = Some t
 string_in _ = None
 
+-- such an element: one slot more, and what the element contains is ignored
 abbrev pub element_turn : Ground → ItemView → Pending → Turn
 element_turn g t p = then_turn (with_slot g t.place (string_in t.what) p) (λ q. on (skip_ignored t.what (at area.Symbols q)))
 
+-- an element of `imports` or the end of the list: a struct is an import, and anything else is ignored
 abbrev pub imports_turn : ItemView → Pending → FieldValue → Turn
 imports_turn t p ends = on (at area.Fields p)
 imports_turn t p (begins kind.Struct) = on (at area.Import (record p { entry = new_entry t.place }))
 imports_turn t p what = on (skip_ignored what (at area.Imports p))
 
+-- the version that a value says: an int, at least 1, and 1 for anything else
 abbrev pub version_in : FieldValue → ℕ
 version_in (int false n) = max n 1
 version_in _ = 1
 
+-- the max_id that a value says: an int that is not negative, and none for anything else
 abbrev pub max_id_in : FieldValue → Option ℕ
 max_id_in (int false n) = Some n
 max_id_in _ = None
 
+-- what the value of an import's field does, by its place and the field's word: it is the name, version or max_id, or ignored
 abbrev pub part_value : Ground → ℕ → Word → FieldValue → Pending → Turn
 part_value g place word.Name (string t) p =
     then_turn (with_import_name g place t p) (λ q. on (at area.Import q))
@@ -261,22 +287,27 @@ part_value g place word.MaxId what p =
     on (skip_ignored what (at area.Import (cut_to (max_id_in what) p)))
 part_value g place _ what p = on (skip_ignored what (at area.Import p))
 
+-- a field of an import: first that it is there, then its value
 abbrev pub part_turn : Ground → ItemView → Pending → Turn
 part_turn g t p = then_turn (part_met t.field_place t.field p) (λ q. part_value g t.place t.field t.what q)
 
+-- whether an item is the end of a container
 abbrev pub is_end : FieldValue → Bool
 is_end ends = true
 is_end _ = false
 
+-- what an item does in an area of the declaration, where nothing that is ignored is open
 abbrev pub area_turn : Ground → ItemView → Pending → Area → Turn
 area_turn g t p area.Fields = if is_end t.what then made (next g.old p) else field_turn g t p
 area_turn g t p area.Symbols = if is_end t.what then on (at area.Fields p) else element_turn g t p
 area_turn g t p area.Imports = imports_turn t p t.what
 area_turn g t p area.Import = if is_end t.what then then_turn (import_ended g p) (λ q. on (at area.Imports q)) else part_turn g t p
 
+-- the same where so many containers are open that are ignored: in one the item is ignored too
 abbrev pub turn_at : Ground → Declaring → ItemView → ℕ → Turn
 turn_at g d t zero = area_turn g t d.pending d.area
 turn_at g d t (suc n) = on (skip_ignored t.what d)
 
+-- what an item does in a declaration
 abbrev pub turn : Ground → Declaring → ItemView → Turn
 turn g d t = turn_at g d t d.inside

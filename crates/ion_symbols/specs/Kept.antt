@@ -4,9 +4,11 @@ use Rattle.ion_meter.specs.Counts.{Counts}
 use Rattle.ion_symbols.specs.Table.{Slots}
 use Rattle.ion_symbols.specs.declared.slots.Part.{Part}
 
+-- the text of a slot among the bytes of all texts, if it has one
 abbrev pub kept_slot : List ℕ → Part → Option (List ℕ)
 kept_slot texts p = if p.known then Some (take (p.to - p.from) (drop p.from texts)) else None
 
+-- the slots of these parts in order, with their texts among these bytes
 abbrev pub kept_slots : List ℕ → List Part → Slots
 kept_slots texts parts = map (kept_slot texts) parts
 

@@ -33,32 +33,36 @@ DeclarationsAreRead =
 abbrev pub WhatIsDeclared : Type 0
 WhatIsDeclared = (g : Ground) (top : ℕ) (members : Members SymbolAt ℕ) (t : Table) → declared g top members ≡ Ok t → next_table g.catalog (text_at g.old) g.old members ≡ Some t
 
--- a field of some name stands twice
+-- 1 where a test holds, and else 0
 abbrev pub one_if : Bool → ℕ
 one_if true = 1
 one_if false = 0
 
+-- how many fields of a name members have, by the texts of ids
 abbrev pub fields_named : (ℕ → Option (List ℕ)) → Word → Members SymbolAt ℕ → ℕ
 fields_named texts w nothing = 0
 fields_named texts w (member before field annotations place x) = fields_named texts w before + one_if (same_word (field_word texts field) w)
 
+-- a field of a name stands more than once
 abbrev pub IsTwice : (ℕ → Option (List ℕ)) → Members SymbolAt ℕ → Word → Type 0
 IsTwice texts members w = 1 < fields_named texts w members
 
--- the fields that may stand once in an import
+-- an element of `imports` is a struct with `name`, `version` or `max_id` twice
 abbrev pub ImportIsDoubled : (ℕ → Option (List ℕ)) → Value SymbolAt ℕ → Type 0
 ImportIsDoubled texts (container kind.Struct members last) = IsTwice texts members word.Name ⊎ (IsTwice texts members word.Version ⊎ IsTwice texts members word.MaxId)
 ImportIsDoubled texts _ = ⊥
 
+-- one of the elements of `imports` is such a struct
 abbrev pub SomeImport : (ℕ → Option (List ℕ)) → Members SymbolAt ℕ → Type 0
 SomeImport texts nothing = ⊥
 SomeImport texts (member before field annotations place x) = SomeImport texts before ⊎ ImportIsDoubled texts x
 
+-- the value of `imports` is a list that has such a struct
 abbrev pub ListIsDoubled : (ℕ → Option (List ℕ)) → Option (Value SymbolAt ℕ) → Type 0
 ListIsDoubled texts (Some (container kind.List members last)) = SomeImport texts members
 ListIsDoubled texts _ = ⊥
 
--- and those in a declaration
+-- a declaration has `imports` or `symbols` twice, or such a struct in its first `imports`
 abbrev pub IsDoubled : (ℕ → Option (List ℕ)) → Members SymbolAt ℕ → Type 0
 IsDoubled texts members =
     IsTwice texts members word.Imports ⊎ (IsTwice texts members word.Symbols ⊎ ListIsDoubled texts (value_of texts word.Imports members))
@@ -68,18 +72,22 @@ abbrev pub IsAbove : Slot → Type 0
 IsAbove slot.above = ⊤
 IsAbove _ = ⊥
 
+-- a symbol is an id above a table
 abbrev pub SymbolAbove : Table → Symbol → Type 0
 SymbolAbove t (value.Text bytes) = ⊥
 SymbolAbove t (value.Id id) = IsAbove (slot_of t id)
 
+-- the name of a field is such an id
 abbrev pub FieldAbove : Table → Option SymbolAt → Type 0
 FieldAbove t None = ⊥
 FieldAbove t (Some s) = SymbolAbove t s.symbol
 
+-- one of these annotations is such an id
 abbrev pub AnyAbove : Table → List SymbolAt → Type 0
 AnyAbove t [] = ⊥
 AnyAbove t (s ∷ ss) = SymbolAbove t s.symbol ⊎ AnyAbove t ss
 
+-- a scalar is a symbol that is such an id
 abbrev pub ScalarAbove : Table → Scalar SymbolAt → Type 0
 ScalarAbove t (value.symbol s) = SymbolAbove t s.symbol
 ScalarAbove t _ = ⊥
@@ -90,56 +98,66 @@ abbrev mutual
   ValueAbove t (value.scalar body) = ScalarAbove t body
   ValueAbove t (container kind members last) = SomeAbove t members
 
+  -- members have such an id, in a field, an annotation or a value
   pub SomeAbove : Table → Members SymbolAt ℕ → Type 0
   SomeAbove t nothing = ⊥
   SomeAbove t (member before field annotations place x) = SomeAbove t before ⊎ (FieldAbove t field ⊎ (AnyAbove t annotations ⊎ ValueAbove t x))
 
--- what the members of a declaration cost in all: their slots, 32 an import, the names of imports, and the table that is kept
+-- the length of a field's value where the field is `name` and the value a string, and else 0
 abbrev pub name_cost : Word → Value SymbolAt ℕ → ℕ
 name_cost word.Name (value.scalar (value.string t)) = length t
 name_cost _ _ = 0
 
+-- the same of all fields of an import
 abbrev pub names_cost : (ℕ → Option (List ℕ)) → Members SymbolAt ℕ → ℕ
 names_cost texts nothing = 0
 names_cost texts (member before field annotations place x) = names_cost texts before + name_cost (field_word texts field) x
 
+-- what an element of `imports` is counted for: 32 and its names where it is a struct, and else 0
 abbrev pub import_cost : (ℕ → Option (List ℕ)) → Value SymbolAt ℕ → ℕ
 import_cost texts (container kind.Struct members last) = 32 + names_cost texts members
 import_cost texts _ = 0
 
+-- what the elements of `imports` are counted for
 abbrev pub imports_cost : (ℕ → Option (List ℕ)) → Members SymbolAt ℕ → ℕ
 imports_cost texts nothing = 0
 imports_cost texts (member before field annotations place x) = imports_cost texts before + import_cost texts x
 
+-- a number where a symbol is `$ion_symbol_table`, and else 0
 abbrev pub if_kept : Word → ℕ → ℕ
 if_kept word.Declaration n = n
 if_kept _ n = 0
 
+-- what a field of a declaration is counted for, by its word and value
 abbrev pub field_cost : Ground → Word → Value SymbolAt ℕ → ℕ
 field_cost g word.Imports (container kind.List members last) = imports_cost (text_at g.old) members
 field_cost g word.Imports (value.scalar (value.symbol s)) = if_kept (word_in (text_at g.old) s.symbol) (table_cost g.old)
 field_cost g word.Symbols (container kind.List members last) = slots_cost (elements members)
 field_cost g _ x = 0
 
+-- what the members of a declaration cost in all: their slots, 32 an import, the names of imports, and the table that is kept
 abbrev pub fields_cost : Ground → Members SymbolAt ℕ → ℕ
 fields_cost g nothing = 0
 fields_cost g (member before field annotations place x) = fields_cost g before + field_cost g (field_word (text_at g.old) field) x
 
--- and how many slots they are
+-- how many slots imports have in all, 0 where they are missing
 abbrev pub slots_in : Option (List Import) → ℕ
 slots_in None = 0
 slots_in (Some imports) = import_count imports
 
+-- how many slots the elements of `imports` stand for
 abbrev pub imports_slots : Ground → Members SymbolAt ℕ → ℕ
 imports_slots g nothing = 0
 imports_slots g (member before field annotations place x) = imports_slots g before + slots_in (value_import g.catalog (text_at g.old) x)
 
+-- how many slots a field of a declaration stands for, by its word and value, with those of the table that is kept
 abbrev pub field_slots : Ground → Word → Value SymbolAt ℕ → ℕ
 field_slots g word.Imports (container kind.List members last) = imports_slots g members
 field_slots g word.Imports (value.scalar (value.symbol s)) = if_kept (word_in (text_at g.old) s.symbol) (count_of g.old)
 field_slots g word.Symbols (container kind.List members last) = length (elements members)
 field_slots g _ x = 0
 
+-- how many slots the members of a declaration stand for in all
 abbrev pub fields_slots : Ground → Members SymbolAt ℕ → ℕ
 fields_slots g nothing = 0
 fields_slots g (member before field annotations place x) = fields_slots g before + field_slots g (field_word (text_at g.old) field) x
@@ -162,6 +180,7 @@ pub record IsKept (g : Ground) (members : Members SymbolAt ℕ) (t : Table) : Ty
   pub below : SomeAbove g.old members → ⊥
   pub single : IsDoubled (text_at g.old) members → ⊥
 
+-- this is true of each declaration that leaves a table
 abbrev pub WhatIsAccepted : Type 0
 WhatIsAccepted = (g : Ground) (top : ℕ) (members : Members SymbolAt ℕ) (t : Table) → declared g top members ≡ Ok t → IsKept g members t
 
@@ -212,17 +231,21 @@ IsSlot slot.gap = ⊥
 IsSlot slot.unknown = ⊤
 IsSlot (slot.known t) = ⊤
 
+-- a symbol is a text, or an id that stands for one of these in a table
 abbrev pub SymbolStands : Table → Symbol → Type 0
 SymbolStands t (value.Text bytes) = ⊤
 SymbolStands t (value.Id id) = IsSlot (slot_of t id)
 
+-- the same of a symbol with its place
 abbrev pub Stands : Table → SymbolAt → Type 0
 Stands t s = SymbolStands t s.symbol
 
+-- the same of a field, where there is one
 abbrev pub FieldStands : Table → Option SymbolAt → Type 0
 FieldStands t None = ⊤
 FieldStands t (Some s) = Stands t s
 
+-- the same of the symbol that a scalar is, where it is one
 abbrev pub ScalarStands : Table → Scalar SymbolAt → Type 0
 ScalarStands t (value.symbol s) = Stands t s
 ScalarStands t _ = ⊤
@@ -233,6 +256,7 @@ abbrev mutual
   ValueStands t (value.scalar body) = ScalarStands t body
   ValueStands t (container kind members last) = MembersStand t members
 
+  -- so does each symbol of the members of a container
   pub MembersStand : Table → Members SymbolAt ℕ → Type 0
   MembersStand t nothing = ⊤
   MembersStand t (member before field annotations place x) =
@@ -262,6 +286,7 @@ abbrev pub Among : SymbolAt → List SymbolAt → Type 0
 Among s [] = ⊥
 Among s (r ∷ rs) = (r ≡ s) ⊎ Among s rs
 
+-- a symbol, with its place, is one of these of an item
 abbrev pub IsSymbolOf : SymbolAt → PlacedItem → Type 0
 IsSymbolOf s i = (i.field ≡ Some s) ⊎ (Among s i.annotations ⊎ (i.head ≡ value.whole (value.symbol s)))
 
@@ -270,6 +295,7 @@ abbrev pub IsGap : Slot → Type 0
 IsGap slot.gap = ⊤
 IsGap _ = ⊥
 
+-- a symbol is an id in a gap of a table
 abbrev pub SymbolInGap : Table → Symbol → Type 0
 SymbolInGap t (value.Text bytes) = ⊥
 SymbolInGap t (value.Id id) = IsGap (slot_of t id)

@@ -3,6 +3,7 @@ use Rattle.std.specs.Prelude.{◌≡◌, ℕ, ◌+◌, ◌-◌, ◌*◌, ◌^◌
 use Rattle.ion_symbols.specs.declared.ordered.Place.{Place}
 use Rattle.ion_symbols.specs.Output.{Ascend}
 
+-- the text at a place among bytes
 abbrev pub place_text : List ℕ → Place → List ℕ
 place_text bytes p = take (p.to - p.from) (drop p.from bytes)
 
@@ -14,6 +15,7 @@ texts_in bytes places = map (place_text bytes) places
 abbrev pub in_order : List (List ℕ) → List ℕ → List (List ℕ)
 in_order texts order = map (λ i. slice_index_or texts i []) order
 
+-- the texts at places among bytes, in the order that is given
 abbrev pub ordered_texts : List ℕ → List Place → List ℕ → List (List ℕ)
 ordered_texts bytes places order = in_order (texts_in bytes places) order
 

@@ -22,6 +22,7 @@ system_texts =
 abbrev pub system_id : List ℕ → Option ℕ
 system_id t = option_map (λ place. place + 1) (position system_texts t)
 
+-- the system table's id, or else 10 and a place among the texts that were given an id
 abbrev pub or_given : Option ℕ → Option ℕ → Option ℕ
 or_given (Some id) place = Some id
 or_given None place = option_map (λ n. n + 10) place
@@ -35,6 +36,7 @@ abbrev pub texts_cost : List (List ℕ) → ℕ
 texts_cost [] = 0
 texts_cost (t ∷ ts) = (16 + length t) + texts_cost ts
 
+-- the id that a text has so far, or else a new one, where the limit allows it; and the texts afterwards
 abbrev pub id_or_new : ℕ → List (List ℕ) → List ℕ → Option ℕ → Option ℕ × List (List ℕ)
 id_or_new limit texts t (Some id) = (Some id, texts)
 id_or_new limit texts t None =
@@ -63,6 +65,7 @@ pub record Searched : Type 0 where
   pub texts : List (List ℕ)
   pub probes : ℕ
 
+-- whether a text is less than another, equal to it or greater, in order of bytes
 abbrev pub text_cmp : List ℕ → List ℕ → Ordering
 text_cmp s t = slice_cmp nat_cmp s t
 
@@ -88,6 +91,7 @@ pub record IsSorted (sorted texts : List (List ℕ)) : Type 0 where
   pub all : (t : List ℕ) → Has texts t → Has sorted t
   pub no_other : (t : List ℕ) → Has sorted t → Has texts t
 
+-- how many binary digits a number has, of which at most so many are counted
 abbrev pub digits_within : ℕ → ℕ → ℕ
 digits_within zero n = 0
 digits_within (suc most) zero = 0

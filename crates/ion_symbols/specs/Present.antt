@@ -16,13 +16,16 @@ abbrev pub slots_of : Option Shared → Slots
 slots_of None = []
 slots_of (Some s) = s.slots
 
+-- the same by the place, and none where there is no place or no table there
 abbrev pub slots_at : List Shared → Option ℕ → Slots
 slots_at catalog None = []
 slots_at catalog (Some place) = slots_of (slice_get catalog place)
 
+-- an import with the slots of the table that it found in the catalogue
 abbrev pub import_in : List Shared → FoundImport → Import
 import_in catalog f = record { slots = slots_at catalog f.table; count = f.count }
 
+-- the same of imports in order
 abbrev pub imports_in : List Shared → List FoundImport → List Import
 imports_in catalog founds = map (import_in catalog) founds
 
@@ -45,6 +48,7 @@ pub record IsKept (imports : List FoundImport) (cost import_slots : ℕ) (locals
   pub each : cost ≡ 32
   pub few : import_slots + length locals ≤ most_slots
 
+-- a slot of the code as definitions see it
 abbrev pub as_slot : code.Slot → Slot
 as_slot (variants.Known t) = slot.known t.now
 as_slot variants.Unknown = slot.unknown

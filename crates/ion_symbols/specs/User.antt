@@ -29,6 +29,7 @@ state_of u = record { table = u.symbols.table; mode = plain u.count }
 abbrev pub owned_by : {R A : Type 0} → (R → ℕ) → UserReader R A → ℕ
 owned_by own u = own u.raw + table_cost u.symbols.table
 
+-- the most that it may hold: what its raw reader may, and twice the limit on symbol tables
 abbrev pub share_of : {R A : Type 0} → (R → ℕ) → UserReader R A → ℕ
 share_of most u = most u.raw + 2 * u.limits.symbols
 
@@ -61,12 +62,15 @@ pub record MayCome (depth : ℕ) (before after : List Kind) (item : PlacedItem) 
 abbrev pub raw_of : {R A : Type 0} → UserReader R A → R
 raw_of u = u.raw
 
+-- the symbol table at its place
 abbrev pub table_of : {R A : Type 0} → UserReader R A → Table
 table_of u = u.symbols.table
 
+-- the shared tables by which it resolves imports
 abbrev pub catalog_of : {R A : Type 0} → UserReader R A → List Shared
 catalog_of u = u.symbols.catalog
 
+-- the limits that it keeps
 abbrev pub limits_of : {R A : Type 0} → UserReader R A → Limits
 limits_of u = u.limits
 
@@ -74,10 +78,11 @@ limits_of u = u.limits
 abbrev pub level_of : {R A : Type 0} → UserReader R A → ℕ
 level_of u = u.count
 
+-- the fault that it answered, if any
 abbrev pub answered_by : {R A : Type 0} → UserReader R A → Option Fault
 answered_by u = u.failed
 
--- it takes the next raw item
+-- it can take the next raw item
 pub record CanTurn {R A : Type 0} (r : RawReaderOf R A) (most : ℕ) (u : UserReader R A) (meter : Counts) : Type 0 where
   pub room : meter.held ≤ most
   pub held : owned_by r.own u ≤ meter.held

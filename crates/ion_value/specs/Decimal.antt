@@ -11,6 +11,7 @@ use Rattle.ion_value.specs.Digits.{is_digit, are_digits, digits_value, first_is,
 abbrev pub IsExponent : ℤ → Type 0
 IsExponent e = (neg_ℤ (pos (2 ^ 31 - 1)) ≤ℤ e) × (e ≤ℤ pos (2 ^ 31 - 1))
 
+-- whether decimals may have this exponent
 abbrev pub is_exponent : ℤ → Bool
 is_exponent e = int_le (neg_ℤ (pos (2 ^ 31 - 1))) e && int_le e (pos (2 ^ 31 - 1))
 
@@ -19,12 +20,14 @@ pub record IsDecimal (d : Decimal) : Type 0 where
   pub coefficient : d.coefficient < 2 ^ 128
   pub exponent : IsExponent d.exponent
 
+-- the decimal of a sign (true for minus), a magnitude and an exponent, or `Range` where not both are in range
 abbrev pub decimal_in_range : Bool → ℕ → ℤ → Result Decimal Reason
 decimal_in_range negative n e =
     if nat_lt n (2 ^ 128) && is_exponent e then Ok (record { negative = negative; coefficient = n; exponent = e }) else Err Range
 
 -- ---- in octets (binary encoding, "5: decimal")
 
+-- positive zero with the exponent 0, which a body of no octets spells
 abbrev pub zero_decimal : Decimal
 zero_decimal = record { negative = false; coefficient = 0; exponent = pos 0 }
 
@@ -40,6 +43,7 @@ decimal_of_cut None = Err BadVar
 decimal_of_cut (Some cut) =
     decimal_in_range (int_negative cut.1) (int_magnitude cut.1) (signed (var_int_negative cut.0) (var_int_magnitude cut.0))
 
+-- the same of the body's octets, not yet cut in two
 unfoldable pub decimal_of_bytes : List ℕ → Result Decimal Reason
 decimal_of_bytes [] = Ok zero_decimal
 decimal_of_bytes (b ∷ body) = decimal_of_cut (var_cut 9 (b ∷ body))
@@ -63,21 +67,25 @@ decimal_body d = if is_nothing d then [] else exponent_octets d.exponent ++ coef
 
 -- ---- in text (Ion specification, "Real Numbers")
 
+-- `d`, `D`, `e` or `E`, with which the exponent of a decimal or a float begins
 abbrev pub is_exponent_mark : ℕ → Bool
 is_exponent_mark b = b == 100 || b == 68 || b == 101 || b == 69
 
+-- `d` or `D`, with which the exponent of a decimal begins
 abbrev pub is_decimal_mark : ℕ → Bool
 is_decimal_mark b = b == 100 || b == 68
 
+-- `.`, which stands before the digits of a fraction
 abbrev pub is_point : ℕ → Bool
 is_point b = b == 46
 
--- a number's text behind its sign: the digits before the point, all from the point on, and all from the exponent's mark on
+-- a number's text behind its sign: what stands before the point, from there to the exponent's mark, and all from the mark on
 pub record Parts : Type 0 where
   pub whole : List ℕ
   pub fraction : List ℕ
   pub power : List ℕ
 
+-- such a text in its parts: cut at the first exponent's mark, and what stands before that at the first point
 unfoldable pub parts_of : List ℕ → Parts
 parts_of bytes =
     let mark = cut_at is_exponent_mark bytes in
@@ -90,13 +98,15 @@ is_fraction [] = true
 is_fraction (point ∷ []) = true
 is_fraction (point ∷ d ∷ ds) = are_digits is_digit (d ∷ ds)
 
--- a mark, a sign or none, and digits
+-- whether bytes begin with a sign, `+` or `-`
 abbrev pub has_sign : List ℕ → Bool
 has_sign bytes = first_is (λ b. b == 43 || b == 45) bytes
 
+-- what stands behind the mark of an exponent, and behind its sign where it has one
 abbrev pub power_digits : List ℕ → List ℕ
 power_digits bytes = if has_sign (drop 1 bytes) then drop 2 bytes else drop 1 bytes
 
+-- whether bytes are an exponent: a mark for which the test holds, a sign or none, and one digit or more
 abbrev pub is_power : (ℕ → Bool) → List ℕ → Bool
 is_power mark bytes = first_is mark bytes && nat_lt 0 (length (power_digits bytes)) && all_are is_digit (power_digits bytes)
 
@@ -108,6 +118,7 @@ power_value bytes = signed (first_is (λ b. b == 45) (drop 1 bytes)) (digits_val
 abbrev pub fraction_digits : List ℕ → List ℕ
 fraction_digits bytes = filter is_digit bytes
 
+-- whether the parts before the exponent are well formed: `0` or digits that do not begin with it, and a fraction or none
 abbrev pub is_mantissa : Parts → Bool
 is_mantissa p = is_whole p.whole && is_fraction p.fraction
 
@@ -130,6 +141,7 @@ decimal_of_parts negative p =
 unfoldable pub decimal_of_text : List ℕ → Result Decimal Reason
 decimal_of_text run = decimal_of_parts (has_minus run) (parts_of (without_minus run))
 
+-- a whole number in decimal digits, with a minus in front where it is below zero
 abbrev pub integer_text : ℤ → List ℕ
 integer_text (pos n) = decimal n
 integer_text (negsuc n) = 45 ∷ decimal (1 + n)

@@ -2,15 +2,19 @@
 use Rattle.std.specs.Prelude.{ℕ, zero, suc, ◌+◌, ◌-◌, ◌/◌, ◌%◌, Bool, true, false, not, ◌&&◌, ◌||◌, ◌==◌, nat_le, if◌then◌else◌, List, [], ◌∷◌, ◌++◌, length, drop, map, filter}
 use Rattle.ion_value.specs.Number.{number}
 
+-- whether the third number is one of those from the first to the second, both included
 abbrev pub is_between : ℕ → ℕ → ℕ → Bool
 is_between low high b = nat_le low b && nat_le b high
 
+-- a byte that is one of `0` to `9`
 abbrev pub is_digit : ℕ → Bool
 is_digit b = is_between 48 57 b
 
+-- a byte that is one of `0` to `9`, `A` to `F` and `a` to `f`
 abbrev pub is_hex_digit : ℕ → Bool
 is_hex_digit b = is_digit b || is_between 65 70 b || is_between 97 102 b
 
+-- a byte that is `0` or `1`
 abbrev pub is_binary_digit : ℕ → Bool
 is_binary_digit b = is_between 48 49 b
 
@@ -49,6 +53,7 @@ is_whole bytes = are_digits is_digit bytes && (not (first_is (λ b. b == 48) byt
 abbrev pub has_minus : List ℕ → Bool
 has_minus run = first_is (λ b. b == 45) run
 
+-- a number's text without its minus, where it has one
 abbrev pub without_minus : List ℕ → List ℕ
 without_minus run = if has_minus run then drop 1 run else run
 

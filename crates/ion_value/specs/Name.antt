@@ -8,6 +8,7 @@ use Rattle.ion_value.specs.Digits.{is_between, is_digit, digit_value, first_is, 
 
 -- ---- types
 
+-- the name of a type in text, as it stands behind `null.`
 abbrev pub type_name : IonType → List ℕ
 type_name type.Null = codes "null"
 type_name type.Bool = codes "bool"
@@ -23,16 +24,19 @@ type_name type.List = codes "list"
 type_name type.Sexp = codes "sexp"
 type_name type.Struct = codes "struct"
 
+-- whether the second bytes begin with the first
 abbrev pub begins_with : List ℕ → List ℕ → Bool
 begins_with [] bytes = true
 begins_with (c ∷ cs) [] = false
 begins_with (c ∷ cs) (b ∷ bytes) = (c == b) && begins_with cs bytes
 
+-- the thirteen types of Ion
 abbrev pub all_types : List IonType
 all_types =
     type.Null ∷ type.Bool ∷ type.Int ∷ type.Float ∷ type.Decimal ∷ type.Timestamp ∷ type.Symbol ∷ type.String ∷ type.Clob ∷ type.Blob ∷ type.List
     ∷ type.Sexp ∷ type.Struct ∷ []
 
+-- the type among these that has a name, if one has it
 abbrev pub named_in : List IonType → List ℕ → Option IonType
 named_in [] name = None
 named_in (t ∷ types) name = if bytes_eq (type_name t) name then Some t else named_in types name
@@ -46,18 +50,22 @@ abbrev pub null_text : IonType → List ℕ
 null_text type.Null = codes "null"
 null_text t = codes "null." ++ type_name t
 
+-- `true` or `false`, as a bool is written
 abbrev pub bool_text : Bool → List ℕ
 bool_text true = codes "true"
 bool_text false = codes "false"
 
 -- ---- identifiers and keywords
 
+-- a byte that an identifier may begin with: an ASCII letter, `_` or `$`
 abbrev pub is_identifier_start : ℕ → Bool
 is_identifier_start b = is_between 65 90 b || is_between 97 122 b || b == 95 || b == 36
 
+-- a byte that may stand in an identifier: one of these, or a digit
 abbrev pub is_identifier_byte : ℕ → Bool
 is_identifier_byte b = is_identifier_start b || is_digit b
 
+-- whether bytes have the shape of an identifier, which `true`, `$10` and `$ion_1_0` have too
 abbrev pub is_identifier : List ℕ → Bool
 is_identifier name = first_is is_identifier_start name && all_are is_identifier_byte name
 
@@ -67,6 +75,7 @@ pub data Keyword : Type 0 where
   a_bool : (truth : Bool) → Keyword
   a_nan : Keyword
 
+-- the keyword that a word is, if it is one: `null.` begins one whatever stands behind it
 abbrev pub keyword : List ℕ → Option Keyword
 keyword word =
     if bytes_eq (codes "null") word then Some (a_null (Some type.Null))
@@ -86,6 +95,7 @@ raw_id n = min n (2 ^ 31)
 abbrev pub is_id : List ℕ → Bool
 is_id word = first_is (λ b. b == 36) word && nat_lt 1 (length word) && all_are is_digit (drop 1 word)
 
+-- the id that such a word says, as readers give it
 abbrev pub id_of : List ℕ → ℕ
 id_of word = raw_id (number 10 (map digit_value (drop 1 word)))
 
@@ -109,6 +119,7 @@ is_plain name = is_identifier name && is_none (keyword name) && not (is_id name)
 
 -- ---- operators
 
+-- whether a byte is one of a list
 abbrev pub is_one_of : List ℕ → ℕ → Bool
 is_one_of [] b = false
 is_one_of (c ∷ cs) b = b == c || is_one_of cs b

@@ -81,6 +81,7 @@ digits_within zero base n = []
 digits_within (suc most) base zero = []
 digits_within (suc most) base (suc n) = digits_within most base (suc n / base) ++ (suc n % base) ∷ []
 
+-- all digits of a number in a base of 2 or more, the one that counts most first, and none of zero
 abbrev pub digits_in : ℕ → ℕ → List ℕ
 digits_in base n = digits_within n base n
 
@@ -100,9 +101,11 @@ with_sign bit negative (d ∷ ds) =
 abbrev pub uint_octets : ℕ → List ℕ
 uint_octets n = digits_in 256 n
 
+-- the shortest VarUInt of a number
 abbrev pub var_uint_octets : ℕ → List ℕ
 var_uint_octets n = marked (digits_in 128 n)
 
+-- the shortest VarInt of a sign (true for minus) and a magnitude
 abbrev pub var_int_octets : Bool → ℕ → List ℕ
 var_int_octets negative n = marked (with_sign 64 negative (digits_in 128 n))
 

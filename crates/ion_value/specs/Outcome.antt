@@ -32,6 +32,7 @@ verdict_behind refusal path Finished = Accepted (values_in [] path)
 verdict_behind refusal path (Stopped reason place) = Rejected reason place
 verdict_behind refusal path (More item rest) = verdict_with (refusal path item) (verdict_behind refusal (path ++ item ∷ []) rest)
 
+-- all that is put: what was put so far where the next item is refused, and else what is put with it and the rest
 abbrev pub output_with : Option (Reason × ℕ) → List ℕ → List ℕ → List ℕ
 output_with None so_far rest = rest
 output_with (Some why) so_far rest = so_far

@@ -17,10 +17,12 @@ use Rattle.ion_value.specs.Value.{Symbol, Id, Scalar, null, bool, int, decimal, 
 
 -- ---- octets (binary encoding, "Typed Value Formats")
 
+-- a value that was read, put through a function, or the reason why there is none
 abbrev pub with_value : {A B : Type 0} → (A → B) → Result A Reason → Result B Reason
 with_value f (Ok x) = Ok (f x)
 with_value f (Err reason) = Err reason
 
+-- the string of these bytes, or `BadText` where they are not UTF-8
 abbrev pub string_of : List ℕ → Result (Scalar Symbol) Reason
 string_of body = if is_utf8 body then Ok (string body) else Err BadText
 
@@ -93,5 +95,6 @@ scalar_of_readings (Err BadToken) (Err BadToken) (Err reason) = Err reason
 scalar_of_readings (Err BadToken) (Err reason) t = Err reason
 scalar_of_readings (Err reason) d t = Err reason
 
+-- the int, decimal or timestamp that a run of text spells, or why it is none
 unfoldable pub scalar_of_run : {S : Type 0} → List ℕ → Result (Scalar S) Reason
 scalar_of_run run = scalar_of_readings (int_of_text run) (decimal_of_text run) (timestamp_of_text run)

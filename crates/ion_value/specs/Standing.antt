@@ -15,6 +15,7 @@ open_after kinds (begin kind) = kind ∷ kinds
 open_after kinds end = drop 1 kinds
 open_after kinds marker = kinds
 
+-- whether the innermost of these containers is a struct
 abbrev pub in_struct : List Kind → Bool
 in_struct [] = false
 in_struct (Struct ∷ kinds) = true
@@ -66,6 +67,7 @@ pub record Fits {S P : Type 0} (depth : ℕ) (kinds : List Kind) (item : Item S 
   pub field : is_some item.field ≡ has_field kinds item.head
   pub annotations : HasAnnotations item.head item.annotations
 
+-- whether the head of an item is a version marker
 abbrev pub is_marker : {S : Type 0} → Head S → Bool
 is_marker marker = true
 is_marker (whole body) = false

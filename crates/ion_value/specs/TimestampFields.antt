@@ -28,6 +28,7 @@ utc_of_numbers (y ∷ m ∷ d ∷ h ∷ i ∷ []) digits c = Some (fields Minute
 utc_of_numbers (y ∷ m ∷ d ∷ h ∷ i ∷ s ∷ []) digits c = Some (fields (second_precision digits) y m d h i s c)
 utc_of_numbers _ digits c = None
 
+-- a timestamp where there is such a date and time, and else none
 abbrev pub if_moment : Timestamp → Option Timestamp
 if_moment t = if is_moment t then Some t else None
 

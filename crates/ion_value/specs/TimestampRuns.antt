@@ -14,6 +14,7 @@ use Rattle.ion_value.specs.Timestamp.{fields, looks_like, digits_at, is_offset_m
 abbrev pub two_digits : ℕ → ℕ → Option ℕ
 two_digits a b = if is_digit a && is_digit b then Some (digits_at 0 2 (a ∷ b ∷ [])) else None
 
+-- the same of four bytes
 abbrev pub four_digits : ℕ → ℕ → ℕ → ℕ → Option ℕ
 four_digits a b c d =
     if is_digit a && is_digit b && is_digit c && is_digit d then Some (digits_at 0 4 (a ∷ b ∷ c ∷ d ∷ [])) else None
@@ -31,9 +32,11 @@ outcome (Err e) t = Err e
 abbrev pub offset_in_range : Timestamp → List ℕ → Result Timestamp Reason
 offset_in_range t bytes = time_in_range (is_text_offset bytes) (record t { offset = offset_of_text bytes })
 
+-- the same where the bytes have the shape of an offset, and else `BadToken`
 abbrev pub with_offset : Timestamp → List ℕ → Result Timestamp Reason
 with_offset t bytes = if has_offset_shape bytes then offset_in_range t bytes else Err BadToken
 
+-- why a time with more than 38 digits of a fraction is none, by the bytes behind these: `Range` where they have an offset's shape
 abbrev pub too_long : List ℕ → Reason
 too_long bytes = if has_offset_shape bytes then Range else BadToken
 
@@ -52,6 +55,7 @@ with_point t (b ∷ digits) offset =
     else offset_in_range (record t { precision = Fraction (length digits); fraction = number 10 (map digit_value digits) }) offset)
     else Err BadToken
 
+-- a time to the second and all that stands behind the second, or why it is no timestamp
 abbrev pub behind_second : Timestamp → List ℕ → Result Timestamp Reason
 behind_second t bytes = with_point t (cut_at is_offset_mark bytes).0 (cut_at is_offset_mark bytes).1
 
@@ -63,6 +67,7 @@ with_seconds t (b ∷ seconds) offset =
     then with_point (record t { precision = Second; second = digits_at 0 2 seconds }) (drop 2 seconds) offset
     else Err BadToken
 
+-- a time to the minute and all that stands behind the minute, or why it is no timestamp
 abbrev pub behind_minute : Timestamp → List ℕ → Result Timestamp Reason
 behind_minute t bytes = with_seconds t (cut_at is_offset_mark bytes).0 (cut_at is_offset_mark bytes).1
 
@@ -70,6 +75,7 @@ behind_minute t bytes = with_seconds t (cut_at is_offset_mark bytes).0 (cut_at i
 abbrev pub begins_time : List ℕ → Bool
 begins_time run = looks_like (codes "0000-00-00T00:00") (take 16 run)
 
+-- a timestamp with the date, hour and minute of such a run
 abbrev pub to_the_minute : Timestamp → List ℕ → Timestamp
 to_the_minute t run =
     record t { precision = Minute; year = digits_at 0 4 run; month = digits_at 5 2 run; day = digits_at 8 2 run; hour = digits_at 11 2 run; minute = digits_at 14 2 run }
@@ -78,6 +84,7 @@ to_the_minute t run =
 abbrev pub behind_day : Timestamp → List ℕ → Result Timestamp Reason
 behind_day t bytes = if looks_like [] bytes || looks_like (codes "T") bytes then date_in_range t else Err BadToken
 
+-- a date to the month and all that stands behind the month: `T`, or a day and its end
 abbrev pub behind_month : Timestamp → List ℕ → Result Timestamp Reason
 behind_month t bytes =
     if looks_like (codes "T") bytes then date_in_range t
@@ -85,6 +92,7 @@ behind_month t bytes =
     then behind_day (record t { precision = Day; day = digits_at 1 2 bytes }) (drop 3 bytes)
     else Err BadToken)
 
+-- a date to the year and all that stands behind the year: `T`, or a month and what is behind it
 abbrev pub behind_year : Timestamp → List ℕ → Result Timestamp Reason
 behind_year t bytes =
     if looks_like (codes "T") bytes then date_in_range t
@@ -113,6 +121,7 @@ pub record AreDigits (most : ℕ) (bytes : List ℕ) (count : ℕ) : Type 0 wher
   pub digits : all_are is_digit (take count bytes) ≡ true
   pub ends : nat_lt count most ≡ true → first_is is_digit (drop count bytes) ≡ false
 
+-- a byte that is no digit of base ten
 abbrev pub is_no_digit : ℕ → Bool
 is_no_digit b = not (is_digit b)
 

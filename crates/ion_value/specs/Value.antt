@@ -40,6 +40,7 @@ mutual
     scalar : (body : Scalar S) → Value S P
     container : (kind : Kind) → (members : Members S P) → (last : P) → Value S P
 
+  -- the members of a container: none, or one behind those before it
   pub data Members (S P : Type 0) : Type 0 where
     nothing : Members S P
     member : (before : Members S P) → (field : Option S) → (annotations : List S) → (place : P) → (value : Value S P) → Members S P
@@ -51,6 +52,7 @@ pub data Top (S P : Type 0) : Type 0 where
 
 -- ---- items
 
+-- what an item is: a scalar, a container's beginning or end, or a version marker
 pub data Head (S : Type 0) : Type 0 where
   whole : (body : Scalar S) → Head S
   begin : (kind : Kind) → Head S
@@ -65,6 +67,7 @@ pub record Item (S P : Type 0) : Type 0 where
   pub place : P
   pub top : P
 
+-- an item without field and annotations: its head, its place, and that of its top-level value
 abbrev pub bare_item : {S P : Type 0} → Head S → P → P → Item S P
 bare_item head place top = record { field = None; annotations = []; head = head; place = place; top = top }
 
@@ -75,14 +78,17 @@ abbrev mutual
   value_items top f annotations place (container kind members last) =
       record { field = f; annotations = annotations; head = begin kind; place = place; top = top } ∷ (member_items top members ++ bare_item end last top ∷ [])
 
+  -- the items of a container's members, in order
   pub member_items : {S P : Type 0} → P → Members S P → List (Item S P)
   member_items top nothing = []
   member_items top (member before f annotations place value) = member_items top before ++ value_items top f annotations place value
 
+-- the items of a value at top level, or the one that is a version marker
 abbrev pub one_top : {S P : Type 0} → Top S P → List (Item S P)
 one_top (version place) = bare_item marker place place ∷ []
 one_top (tree first annotations place value) = value_items first None annotations place value
 
+-- the items of all values and version markers at top level, in order
 abbrev pub top_items : {S P : Type 0} → List (Top S P) → List (Item S P)
 top_items [] = []
 top_items (t ∷ ts) = one_top t ++ top_items ts
@@ -93,6 +99,7 @@ PlacedItem = Item SymbolAt ℕ
 
 -- ---- the same with other symbols and places
 
+-- a scalar with another symbol where it is one
 abbrev pub map_scalar : {S T : Type 0} → (S → T) → Scalar S → Scalar T
 map_scalar f (null type) = null type
 map_scalar f (bool truth) = bool truth
@@ -104,21 +111,25 @@ map_scalar f (string bytes) = string bytes
 map_scalar f (clob bytes) = clob bytes
 map_scalar f (blob bytes) = blob bytes
 
+-- the head of an item with another symbol where it is one
 abbrev pub map_head : {S T : Type 0} → (S → T) → Head S → Head T
 map_head f (whole body) = whole (map_scalar f body)
 map_head f (begin kind) = begin kind
 map_head f end = end
 map_head f marker = marker
 
+-- an item with other symbols, by the first function, and other places, by the second
 abbrev pub map_item : {S T P Q : Type 0} → (S → T) → (P → Q) → Item S P → Item T Q
 map_item f g i =
     record { field = option_map f i.field; annotations = map f i.annotations; head = map_head f i.head; place = g i.place; top = g i.top }
 
 abbrev mutual
+  -- the same of a value and all that it contains
   pub map_value : {S T P Q : Type 0} → (S → T) → (P → Q) → Value S P → Value T Q
   map_value f g (scalar body) = scalar (map_scalar f body)
   map_value f g (container kind members last) = container kind (map_members f g members) (g last)
 
+  -- the same of the members of a container
   pub map_members : {S T P Q : Type 0} → (S → T) → (P → Q) → Members S P → Members T Q
   map_members f g nothing = nothing
   map_members f g (member before field annotations place value) =
@@ -135,8 +146,10 @@ user_symbol (Id id) = Unknown
 abbrev pub user_symbol_at : SymbolAt → UserSymbol
 user_symbol_at s = user_symbol s.symbol
 
+-- an item with its symbols as a user knows them
 abbrev pub user_item : PlacedItem → Item UserSymbol ℕ
 user_item item = map_item user_symbol_at (λ place. place) item
 
+-- items with their symbols as a user knows them
 abbrev pub user_items : List PlacedItem → List (Item UserSymbol ℕ)
 user_items items = map user_item items

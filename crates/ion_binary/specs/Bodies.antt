@@ -22,5 +22,6 @@ abbrev pub IsNumberCode : ℕ → Type 0
 IsNumberCode type_code =
     (type_code ≡ 2) ⊎ ((type_code ≡ 3) ⊎ ((type_code ≡ 5) ⊎ ((type_code ≡ 6) ⊎ (type_code ≡ 7))))
 
+-- the type codes of all scalars whose bodies are read: ints, decimals, timestamps, symbols, strings, clobs and blobs
 abbrev pub IsBodyTypeCode : ℕ → Type 0
 IsBodyTypeCode type_code = (type_code ≡ 2) ⊎ ((type_code ≡ 3) ⊎ ((type_code ≡ 5) ⊎ ((type_code ≡ 6) ⊎ ((type_code ≡ 7) ⊎ ((8 ≤ type_code) × (type_code ≤ 10))))))

@@ -16,6 +16,7 @@ use Rattle.ion_binary.specs.Grammar.{type_code}
 abbrev pub length_code : ℕ → ℕ
 length_code n = if nat_lt n 14 then n else 14
 
+-- the length of n octets as a VarUInt behind the descriptor, and nothing where the descriptor itself has it
 abbrev pub length_octets : ℕ → List ℕ
 length_octets n = if nat_lt n 14 then [] else var_uint_octets n
 
@@ -23,6 +24,7 @@ length_octets n = if nat_lt n 14 then [] else var_uint_octets n
 abbrev pub header : ℕ → ℕ → List ℕ
 header t n = (16 * t + length_code n) ∷ length_octets n
 
+-- a body behind its shortest header with this type code
 abbrev pub headed : ℕ → List ℕ → List ℕ
 headed t body = header t (length body) ++ body
 
@@ -33,6 +35,7 @@ wrapped (n ∷ ns) x = headed 14 ((n ∷ ns) ++ x)
 
 -- ---- values, where symbols have ids
 
+-- the ids of symbols as VarUInts, one behind the other; the first argument says which id a symbol has
 abbrev pub id_octets : (UserSymbol → ℕ) → List UserSymbol → List ℕ
 id_octets ids symbols = flat_map (λ s. var_uint_octets (ids s)) symbols
 
@@ -41,6 +44,7 @@ abbrev pub annotation_octets : (UserSymbol → ℕ) → List UserSymbol → List
 annotation_octets ids [] = []
 annotation_octets ids (s ∷ ss) = var_uint_octets (length (id_octets ids (s ∷ ss))) ++ id_octets ids (s ∷ ss)
 
+-- the id of a field as a VarUInt, and nothing where there is no field
 abbrev pub field_octets : (UserSymbol → ℕ) → Option UserSymbol → List ℕ
 field_octets ids None = []
 field_octets ids (Some s) = var_uint_octets (ids s)
@@ -49,16 +53,19 @@ field_octets ids (Some s) = var_uint_octets (ids s)
 abbrev pub member_octets : (UserSymbol → ℕ) → Option UserSymbol → List UserSymbol → List ℕ → List ℕ
 member_octets ids f annotations x = field_octets ids f ++ wrapped (annotation_octets ids annotations) x
 
+-- a scalar without field and annotations: its descriptor, its length and its shortest body
 abbrev pub scalar_octets : (UserSymbol → ℕ) → Scalar UserSymbol → List ℕ
 scalar_octets ids (value.null type) = (16 * numbered.type_code type + 15) ∷ []
 scalar_octets ids (value.bool truth) = (if truth then 17 else 16) ∷ []
 scalar_octets ids body = headed (scalar_code body) (scalar_body ids body)
 
 abbrev mutual
+  -- a value without field and annotations
   pub value_octets : {P : Type 0} → (UserSymbol → ℕ) → Value UserSymbol P → List ℕ
   value_octets ids (scalar body) = scalar_octets ids body
   value_octets ids (container kind members last) = headed (type_code kind) (members_octets ids members)
 
+  -- the members of a container, each behind its field and its annotations
   pub members_octets : {P : Type 0} → (UserSymbol → ℕ) → Members UserSymbol P → List ℕ
   members_octets ids nothing = []
   members_octets ids (member before f annotations place x) = members_octets ids before ++ member_octets ids f annotations (value_octets ids x)
@@ -70,6 +77,7 @@ unfoldable pub id_in : List (List ℕ) → UserSymbol → ℕ
 id_in texts (Known t) = unwrap_or (known_id texts t) 0
 id_in texts Unknown = 0
 
+-- the texts with t behind them, where t has no id yet: the last argument is the id that it has
 abbrev pub with_text : List (List ℕ) → List ℕ → Option ℕ → List (List ℕ)
 with_text texts t (Some id) = texts
 with_text texts t None = texts ++ t ∷ []
@@ -79,6 +87,7 @@ unfoldable pub with_symbol : List (List ℕ) → UserSymbol → List (List ℕ)
 with_symbol texts (Known t) = with_text texts t (known_id texts t)
 with_symbol texts Unknown = texts
 
+-- the texts with those of the symbols behind them, in order of the symbols, where they have no id yet
 abbrev pub with_symbols : List (List ℕ) → List UserSymbol → List (List ℕ)
 with_symbols texts [] = texts
 with_symbols texts (s ∷ ss) = with_symbols (with_symbol texts s) ss
@@ -88,6 +97,7 @@ abbrev pub field_symbols : {S : Type 0} → Option S → List S
 field_symbols None = []
 field_symbols (Some s) = s ∷ []
 
+-- the symbol of a symbol value, and none of any other scalar
 abbrev pub scalar_symbols : {S : Type 0} → Scalar S → List S
 scalar_symbols (value.symbol name) = name ∷ []
 scalar_symbols (value.null type) = []
@@ -100,16 +110,19 @@ scalar_symbols (value.clob bytes) = []
 scalar_symbols (value.blob bytes) = []
 
 abbrev mutual
+  -- the symbols of a value with this field and these annotations, and behind them those of its members
   pub value_symbols : {S P : Type 0} → Option S → List S → Value S P → List S
   value_symbols f annotations (scalar body) = field_symbols f ++ (annotations ++ scalar_symbols body)
   value_symbols f annotations (container kind members last) = (field_symbols f ++ (annotations ++ [])) ++ members_symbols members
 
+  -- the symbols of the members of a container, one member after the other
   pub members_symbols : {S P : Type 0} → Members S P → List S
   members_symbols nothing = []
   members_symbols (member before f annotations place x) = members_symbols before ++ value_symbols f annotations x
 
 -- ---- declarations
 
+-- these members, and behind them a string for each text, without field and annotations
 abbrev pub string_members : Members UserSymbol ⊤ → List (List ℕ) → Members UserSymbol ⊤
 string_members before [] = before
 string_members before (t ∷ ts) = string_members (member before None [] tt (scalar (value.string t))) ts
@@ -129,9 +142,11 @@ declaration (t ∷ ts) = member_octets (id_in []) None (Known (codes "$ion_symbo
 
 -- ---- streams
 
+-- the version marker of Ion 1.0: `E0 01 00 EA`
 abbrev pub marker_octets : List ℕ
 marker_octets = 224 ∷ 1 ∷ 0 ∷ 234 ∷ []
 
+-- a version marker where one is due, and nothing else
 abbrev pub marker_if : Bool → List ℕ
 marker_if true = marker_octets
 marker_if false = []
@@ -140,6 +155,7 @@ marker_if false = []
 unfoldable pub is_over : ℕ → List (List ℕ) → Bool
 is_over limit texts = nat_lt (limit / 2) (texts_cost texts)
 
+-- the texts with which the next value at top level begins: none where the first argument says that they are forgotten
 abbrev pub texts_kept : Bool → List (List ℕ) → List (List ℕ)
 texts_kept true texts = []
 texts_kept false texts = texts

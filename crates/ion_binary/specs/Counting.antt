@@ -3,6 +3,7 @@ use Rattle.std.specs.Prelude.{◌≡◌, ℕ, zero, suc, ◌+◌, ◌-◌, ◌<�
 use Rattle.ion_binary.specs.declared.headers.HeaderPlace.{HeaderPlace}
 use Rattle.ion_binary.specs.Places.{thresholds}
 
+-- where a header goes in: the number of octets before it
 abbrev pub place_of_header : HeaderPlace → ℕ
 place_of_header h = h.place
 
@@ -50,6 +51,7 @@ pub record IsCountedTo (level : ℕ) (counts : List ℕ) (n : ℕ) (hs : List He
   pub reached : AreReached counts n hs
   pub settled : AreSettledTo level counts n hs
 
+-- all five counts are those of the headers that are missing among n octets
 abbrev pub IsCounted : List ℕ → ℕ → List HeaderPlace → Type 0
 IsCounted counts n hs = IsCountedTo 5 counts n hs
 

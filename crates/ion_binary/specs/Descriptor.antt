@@ -16,6 +16,7 @@ use Rattle.ion_meter.specs.Sources.{Cursor}
 abbrev pub Region : Type 0
 Region = Option ℕ
 
+-- a place is the region's end or past it; the top level has no end
 abbrev pub is_at_end : Region → ℕ → Bool
 is_at_end None place = false
 is_at_end (Some end) place = nat_le end place
@@ -25,12 +26,14 @@ abbrev pub passes : Region → ℕ → ℕ → Bool
 passes None place n = false
 passes (Some end) place n = nat_lt end (place + n)
 
+-- n octets from a place on end before the region's end; the top level has no end
 abbrev pub falls_short : Region → ℕ → ℕ → Bool
 falls_short None place n = false
 falls_short (Some end) place n = nat_lt (place + n) end
 
 -- ---- octets and lengths
 
+-- the first of these bytes, which stands at a place, and the cursor behind it; Truncated where there is none
 abbrev pub first_octet : ℕ → List ℕ → Result (ℕ × Cursor) Reason
 first_octet place [] = Err Truncated
 first_octet place (b ∷ bytes) = Ok (b, record { place = place + 1; rest = bytes })
@@ -46,6 +49,7 @@ var_at (suc most) r c = do
   b ← octet_at r c
   if nat_lt b.0 128 then (var_at most r b.1 >>= λ more. Ok (b.0 ∷ more.0, more.1)) else Ok (b.0 ∷ [], b.1)
 
+-- the number that a VarUInt of at most nine octets spells, and the cursor behind it
 unfoldable pub var_uint_at : Region → Cursor → Result (ℕ × Cursor) Reason
 var_uint_at r c = do
   b ← var_at 9 r c
@@ -76,6 +80,7 @@ null_shapes =
     null type.Null ∷ null type.Bool ∷ null type.Int ∷ null type.Int ∷ null type.Float ∷ null type.Decimal ∷ null type.Timestamp ∷ null type.Symbol
     ∷ null type.String ∷ null type.Clob ∷ null type.Blob ∷ null type.List ∷ null type.Sexp ∷ null type.Struct ∷ []
 
+-- a bool by its length code below 15: 0 is false, 1 is true, and all others are illegal
 abbrev pub bool_shape : ℕ → Shape
 bool_shape zero = bool false
 bool_shape (suc zero) = bool true
@@ -100,6 +105,7 @@ sized_shapes length_code =
     ∷ container kind.List length_code ∷ container kind.Sexp length_code
     ∷ struct_shape length_code ∷ wrapper_shape length_code ∷ []
 
+-- what a descriptor says, by its type code and its length code; nulls have the length code 15
 abbrev pub shape_by : ℕ → ℕ → Shape
 shape_by type_code length_code = slice_index_or (if nat_eq length_code 15 then null_shapes else sized_shapes length_code) type_code illegal
 

@@ -112,6 +112,7 @@ pub data Field : Kind → ℕ → Option SymbolAt → List ℕ → Type 0 where
   in_list : (q : ℕ) → Field kind.List q None []
   in_sexp : (q : ℕ) → Field kind.Sexp q None []
 
+-- the type code in the descriptor of a list, a sexp or a struct
 abbrev pub type_code : Kind → ℕ
 type_code kind.List = 11
 type_code kind.Sexp = 12

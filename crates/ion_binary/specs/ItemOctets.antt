@@ -25,6 +25,7 @@ abbrev pub scalar_name : (UserSymbol → ℕ) → Scalar UserSymbol → ℕ
 scalar_name ids (value.symbol s) = ids s
 scalar_name ids body = 0
 
+-- the id of a head that is a symbol value, and 0 of all others
 abbrev pub head_name : (UserSymbol → ℕ) → Head UserSymbol → ℕ
 head_name ids (value.whole body) = scalar_name ids body
 head_name ids (value.begin kind) = 0
@@ -43,6 +44,7 @@ opening code inside more = header code (length inside + more) ++ inside
 abbrev pub strings_octets : List (List ℕ) → List ℕ
 strings_octets texts = flat_map (λ t. headed 8 t) texts
 
+-- a text that is declared as a string, and nothing where there is none
 abbrev pub next_string : Option (List ℕ) → List ℕ
 next_string None = []
 next_string (Some t) = headed 8 t

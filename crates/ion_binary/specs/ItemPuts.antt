@@ -36,11 +36,13 @@ after-octets limit w i =
     head-octets n (id_in n.texts) i.field i.annotations i.head
     ∙ ap (λ (o : List ℕ). o ++ item_puts limit w i) (forgetting-octets w w.open_containers (not (is_marker i.head) && is_over limit w.texts))
 
+-- the state behind items and one more is that which the last makes of the state behind the others
 pub after_all-last : (limit : ℕ) (w : Written) (path : List PlacedItem) (item : PlacedItem)
     → after_all limit w (user_items (path ++ item ∷ [])) ≡ after limit (after_all limit w (user_items path)) (user_item item)
 after_all-last limit w [] item = refl
 after_all-last limit w (i ∷ path) item = after_all-last limit (after limit w (user_item i)) path item
 
+-- behind what is put for items comes what one more adds, where it is not refused
 pub binary_grows : (limits : Limits) (path : List PlacedItem) (item : PlacedItem) → binary_refusal limits path item ≡ None
     → binary_puts limits (path ++ item ∷ []) ≡ binary_puts limits path ++ binary_adds limits path item
 binary_grows limits path item none =
@@ -50,6 +52,7 @@ binary_grows limits path item none =
     ∙ (after-octets limits.symbols w (user_item item)
     ∙ ap (λ (r : Option (Reason × ℕ)). w.octets ++ unless_refused r x) (sym none))
 
+-- an item that is refused adds nothing
 pub binary_silent : (limits : Limits) (path : List PlacedItem) (item : PlacedItem) (why : Reason × ℕ) → binary_refusal limits path item ≡ Some why
     → binary_adds limits path item ≡ []
 binary_silent limits path item why some =

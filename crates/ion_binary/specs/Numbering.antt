@@ -19,6 +19,7 @@ pub record Numbering : Type 0 where
   pub octets : List ℕ
   pub meter : Counts
 
+-- the record of a symbol table, octets and a meter
 abbrev pub numbering : Output → List ℕ → Counts → Numbering
 numbering symbols octets meter = record { symbols = symbols; octets = octets; meter = meter }
 
@@ -36,6 +37,7 @@ pub record CanNumber (most : ℕ) (n : Numbering) : Type 0 where
   pub held : held_by n ≤ n.meter.held
   pub countable : n.meter.refused < 2 ^ 64 - 1
 
+-- symbols as a user of the stream knows them, without their places
 abbrev pub users : List SymbolAt → List UserSymbol
 users symbols = map user_symbol_at symbols
 

@@ -22,6 +22,7 @@ use Rattle.ion_binary.specs.Counting.{ArePlaced, AreReached, IsCounted, counted_
 abbrev pub open_cost : {A : Type 0} → OpenValue A → ℕ
 open_cost v = 8 * length v.headers + length v.octets
 
+-- the most counted bytes that an open value may hold under limits
 abbrev pub open_most : Limits → ℕ
 open_most limits = 16 * limits.depth + limits.value
 

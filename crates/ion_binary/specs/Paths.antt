@@ -18,7 +18,7 @@ abbrev pub Within : List Frame → ℕ → Type 0
 Within [] q = Unit {0}
 Within (frame ∷ frames) q = q ≤ frame.end
 
--- a container that was opened: where it is in the path, its kind, and the place of its end
+-- an open container by its kind and the place of its end
 abbrev pub frame_of : Kind → ℕ → Frame
 frame_of k end = record { kind = k; end = end }
 
@@ -61,6 +61,7 @@ abbrev pub IsTop : Path SymbolAt ℕ → ℕ → Type 0
 IsTop (closed ts) place = Unit {0}
 IsTop (opened ts first nest) place = first ≡ place
 
+-- the reading stands behind the path: the bytes before its cursor spell it, and its top is the open value's place
 abbrev pub At : List ℕ → Path SymbolAt ℕ → State → Type 0
 At bytes path s = IsSpelledTo bytes path s.frames s.cursor × IsTop path s.top
 

@@ -18,6 +18,7 @@ abbrev pub wrapper_places : List ℕ → ℕ → List ℕ
 wrapper_places [] place = []
 wrapper_places (n ∷ ns) place = place ∷ []
 
+-- the places of all open containers' headers, each container's own before its wrapper's
 abbrev pub header_places : List Unclosed → List ℕ
 header_places [] = []
 header_places (c ∷ cs) =
@@ -32,6 +33,7 @@ missing n (p ∷ ps) m = missing n ps (m + header_size (n - p + m))
 abbrev pub closed_length : ℕ → List ℕ → ℕ
 closed_length n places = n + missing n places 0
 
+-- an open value with any octets behind it is, once all its containers are closed, as long as the places say
 abbrev pub ClosedSizeByPlaces : Type 0
 ClosedSizeByPlaces = (cs : List Unclosed) (x : List ℕ) → closed_length (length (unheaded cs) + length x) (header_places cs) ≡ length (all_closed cs x)
 
@@ -58,6 +60,7 @@ IsSettledAt count threshold [] = ⊤
 IsSettledAt count threshold (x ∷ xs) =
     (suc (length xs) ≡ count → threshold ≤ x) × ((length xs ≡ count → x < threshold) × IsSettledAt count threshold xs)
 
+-- so it is of each count and its threshold, as many of the one as of the other, and no count is above the number of headers
 abbrev pub AreSettled : List ℕ → List ℕ → List ℕ → Type 0
 AreSettled [] [] xs = ⊤
 AreSettled (count ∷ counts) (threshold ∷ others) xs = (count ≤ length xs) × (IsSettledAt count threshold xs × AreSettled counts others xs)

@@ -37,10 +37,12 @@ marker_rest (a ∷ []) = Err Truncated
 marker_rest (a ∷ b ∷ []) = Err Truncated
 marker_rest (a ∷ b ∷ c ∷ bytes) = refuse (not ((a == 1) && (b == 0) && (c == 234))) BadVersion
 
+-- a region that has no end: the top level
 abbrev pub is_top : Region → Bool
 is_top None = true
 is_top (Some end) = false
 
+-- a version marker behind its first octet, which stands at top level alone
 unfoldable pub marker_at : Region → Cursor → Result (TypedValue × Cursor) Reason
 marker_at r c = do
   refuse (not (is_top r)) BadDescriptor
@@ -59,6 +61,7 @@ bare_at a v c = do
   refuse (a.wrapped && falls_short a.region c.place 0) BadAnnotation
   Ok (a_scalar v, c)
 
+-- a NOP pad behind its descriptor octet: its length, and then so many octets that are passed over
 unfoldable pub nop_pad_at : Around → ℕ → Cursor → Result (TypedValue × Cursor) Reason
 nop_pad_at a length_code c = do
   n ← length_at length_code a.region c
@@ -75,6 +78,7 @@ body_at limits a type_code n c = do
   v ← scalar_of_body type_code (take n c.rest)
   Ok (a_scalar v, skip n c)
 
+-- a scalar behind its descriptor octet: its length, and then its body
 unfoldable pub scalar_at : Limits → Around → ℕ → ℕ → Cursor → Result (TypedValue × Cursor) Reason
 scalar_at limits a type_code length_code c = do
   n ← length_at length_code a.region c
@@ -87,18 +91,21 @@ begin_at limits a k n c = do
   refuse (nat_le limits.depth a.depth) DepthLimit
   Ok (a_container k (c.place + n), c)
 
+-- a container's beginning behind its descriptor octet: its length, which tells its end
 unfoldable pub container_at : Limits → Around → Kind → ℕ → Cursor
     → Result (TypedValue × Cursor) Reason
 container_at limits a k length_code c = do
   n ← length_at length_code a.region c
   begin_at limits a k n.0 n.1
 
+-- the beginning of a struct whose fields are in order, behind its descriptor octet: its length is a VarUInt other than 0
 unfoldable pub sorted_at : Limits → Around → Cursor → Result (TypedValue × Cursor) Reason
 sorted_at limits a c = do
   n ← var_uint_at a.region c
   refuse (nat_eq n.0 0) BadDescriptor
   begin_at limits a kind.Struct n.0 n.1
 
+-- the part behind its descriptor octet, by what that says
 unfoldable pub read_by_descriptor : Limits → Around → Shape → Cursor
     → Result (TypedValue × Cursor) Reason
 read_by_descriptor limits a (null t) c = bare_at a (value.null t) c
@@ -148,6 +155,7 @@ ids_at (suc most) limits end count c =
       more ← ids_at most limits end (count + 1) i.1
       Ok (symbol_id i.0 c.place ∷ more.0, more.1))
 
+-- what is left of the innermost open container, or the top level where none is open
 abbrev pub region_of : List Frame → Region
 region_of [] = None
 region_of (f ∷ frames) = Some f.end
@@ -160,10 +168,12 @@ field_in kind.Struct r c = do
   i ← var_uint_at r c
   Ok (Some (symbol_id i.0 c.place), i.1)
 
+-- the field of what stands in these open containers, and the cursor behind it; there is none at top level
 abbrev pub field_at : List Frame → Cursor → Result (Option SymbolAt × Cursor) Reason
 field_at [] c = Ok (None, c)
 field_at (f ∷ frames) c = field_in f.kind (Some f.end) c
 
+-- an item by its parts: its head stands at `place`, in the top-level value that begins at `top`
 abbrev pub placed_item : ℕ → Option SymbolAt → List SymbolAt → ℕ → Head SymbolAt → PlacedItem
 placed_item top f annotations place head = record { field = f; annotations = annotations; head = head; place = place; top = top }
 
@@ -211,10 +221,12 @@ wrapper_length marker = None
 wrapper_length float = None
 wrapper_length illegal = None
 
+-- one of two, by the length code of a wrapper: the first where there is a wrapper, which gets the code, and else the second
 abbrev pub by_wrapper : {A : Type 0} → Option ℕ → (ℕ → A) → A → A
 by_wrapper None annotated plain = plain
 by_wrapper (Some length_code) annotated plain = annotated length_code
 
+-- what stands behind a field, as a step: a value with or without annotations, a NOP pad, or a version marker
 unfoldable pub value_at : Limits → List Frame → ℕ → Option SymbolAt → Cursor → Placed (Step State)
 value_at limits frames top f c = do
   b ← part c.place (octet_at (region_of frames) c)
@@ -225,6 +237,7 @@ abbrev pub top_of : List Frame → ℕ → ℕ → ℕ
 top_of [] top place = place
 top_of (f ∷ frames) top place = top
 
+-- the same with the field before it, from the first byte of the field on
 unfoldable pub member_at : Limits → List Frame → ℕ → Cursor → Placed (Step State)
 member_at limits frames top c = do
   f ← part c.place (field_at frames c)
@@ -232,6 +245,7 @@ member_at limits frames top c = do
 
 -- ---- the stream
 
+-- a fault as the step that stops there
 abbrev pub step_of : Placed (Step State) → Step State
 step_of (Ok s) = s
 step_of (Err fault) = Stops fault.0 fault.1
@@ -248,6 +262,7 @@ step_in limits (f ∷ frames) top c =
     if nat_le f.end c.place then Gives (placed_item top None [] c.place value.end) (record { frames = frames; top = top; cursor = c })
     else step_of (member_at limits (f ∷ frames) top c)
 
+-- what the reading does next at a state, under limits
 unfoldable pub step : Limits → State → Step State
 step limits s = step_in limits s.frames s.top s.cursor
 
@@ -255,6 +270,7 @@ step limits s = step_in limits s.frames s.top s.cursor
 abbrev pub size : State → ℕ
 size s = 2 * length s.cursor.rest + length s.frames
 
+-- the state before the first of these bytes: nothing is open, and the place is 0
 abbrev pub start : List ℕ → State
 start bytes = record { frames = []; top = 0; cursor = record { place = 0; rest = bytes } }
 

@@ -3,6 +3,7 @@ use Rattle.ion_binary.specs.declared.descriptor.Shape as code
 use Rattle.ion_binary.specs.declared.descriptor.Shape.TheVariants as shape
 use Rattle.ion_binary.specs.Descriptor.{Shape, null, bool, nop_pad, wrapper, body, container, sorted, marker, float, illegal}
 
+-- what a descriptor says, from the code's `Shape`
 abbrev pub as_shape : code.Shape → Shape
 as_shape (shape.Null type) = null type
 as_shape (shape.Bool truth) = bool truth

@@ -15,6 +15,7 @@ use Rattle.ion_binary.specs.Canonical.{binary, declaration, header, id_in, is_ov
 
 -- ---- which values are written
 
+-- a string whose bytes are UTF-8, or any other scalar
 abbrev pub HasText : {S : Type 0} → Scalar S → Type 0
 HasText (value.string bytes) = IsUtf8 bytes
 HasText (value.null type) = ⊤
@@ -32,6 +33,7 @@ abbrev mutual
   IsWritable (scalar body) = InRange body × HasText body
   IsWritable (container kind members last) = AreWritable kind members
 
+  -- so are the members of a container of this kind, each with a field exactly where the kind is a struct
   pub AreWritable : {S P : Type 0} → Kind → Members S P → Type 0
   AreWritable kind nothing = ⊤
   AreWritable kind (member before f annotations place x) = AreWritable kind before × ((is_some f ≡ in_struct (kind ∷ [])) × IsWritable x)
@@ -42,12 +44,15 @@ abbrev mutual
 abbrev pub HeadersAreShortest : Type 0
 HeadersAreShortest = (t n : ℕ) (head : List ℕ) → Descriptor t n head → length (header t n) ≤ length head
 
+-- a symbol without its place
 abbrev pub bare_symbol : SymbolAt → Symbol
 bare_symbol s = s.symbol
 
+-- a symbol as the id that the first argument gives it
 abbrev pub with_id : (UserSymbol → ℕ) → UserSymbol → Symbol
 with_id ids s = Id (ids s)
 
+-- a place is forgotten, so that trees are compared without their places
 abbrev pub no_place : {P : Type 0} → P → ⊤
 no_place place = tt
 
@@ -69,6 +74,7 @@ ValuesAreSpelled =
 
 -- ---- declarations
 
+-- a symbol table with these texts behind its own, as local symbols
 abbrev pub with_texts : Table → List (List ℕ) → Table
 with_texts old texts = record { imports = old.imports; locals = old.locals ++ map (λ t. Some t) texts }
 
@@ -82,6 +88,7 @@ pub record IsDeclared (catalog : List Shared) (old : Table) (q : ℕ) (texts : L
   pub is_declaration : declares_table old own raw ≡ Some members
   pub leaves : next_table catalog (text_at old) old members ≡ Some (with_texts old texts)
 
+-- so it is of the declaration of any texts that are UTF-8, where it has one at least and is shorter than 2^62 octets
 abbrev pub WrittenDeclarationsAreRead : Type 0
 WrittenDeclarationsAreRead =
     (catalog : List Shared) (old : Table) (q : ℕ) (texts : List (List ℕ)) → 0 < length texts → AllByRecursion IsUtf8 texts
@@ -149,5 +156,6 @@ pub record IsRead (catalog : List Shared) (limit : ℕ) (tops : List (Top UserSy
   pub users_are : user_tops catalog system raw ≡ Some users
   pub same : map unplaced_top users ≡ map unplaced_top tops
 
+-- so it is of all values that a user can have, where they are so short, whatever the catalogue and the limit on symbol tables
 abbrev pub TheFormIsRead : Type 0
 TheFormIsRead = (catalog : List Shared) (limit : ℕ) (tops : List (Top UserSymbol ℕ)) → AllByRecursion IsUser tops → AreShort limit [] tops → IsRead catalog limit tops

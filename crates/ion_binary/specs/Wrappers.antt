@@ -9,6 +9,7 @@ use Rattle.ion_binary.specs.declared.wrapper.Frame as frame
 use Rattle.ion_binary.specs.Positions.{Frame}
 use Rattle.ion_binary.specs.Reading.{Wrapped}
 
+-- where a wrapper's ids and the wrapper itself end, from the code's `Wrapper`
 abbrev pub as_wrapped : code.Wrapper → Wrapped
 as_wrapped w = record { ids = w.ids; end = w.end }
 
@@ -16,10 +17,12 @@ as_wrapped w = record { ids = w.ids; end = w.end }
 abbrev pub as_annotations : List Annotation → List SymbolAt
 as_annotations annotations = map (raw_annotation []) annotations
 
+-- a field from the code, which keeps its id and its place
 abbrev pub as_field : Option field.Field → Option SymbolAt
 as_field None = None
 as_field (Some f) = Some (record { symbol = Id f.id; place = f.place })
 
+-- an open container from the code, by its kind and the place of its end
 abbrev pub as_frame : frame.Frame → Frame
 as_frame f = record { kind = f.kind; end = f.end }
 

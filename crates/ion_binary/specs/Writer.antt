@@ -30,6 +30,7 @@ held_in w = record {
 abbrev pub own_of : {A : Type 0} → BinWriter A → ℕ
 own_of w = texts_cost w.symbols.texts + open_cost w.open_value
 
+-- the most counted bytes that it may hold under limits
 abbrev pub most_of : Limits → ℕ
 most_of limits = limits.symbols + open_most limits
 
@@ -76,6 +77,7 @@ pub record PutsOctets {O T : Type 0} (device : OutputOf O) (old new : Outgoing O
 
 -- ---- an item more
 
+-- the limits under which it writes
 abbrev pub limits_of : {A : Type 0} → BinWriter A → Limits
 limits_of w = w.limits
 
@@ -92,6 +94,7 @@ ComesAt w s item = Holds w s × MayCome w.limits.depth s (user_item item)
 abbrev pub adds_at : Limits → Written → PlacedItem → List ℕ
 adds_at limits s item = unless_refused (refused_at limits s item) (item_puts limits.symbols s (user_item item))
 
+-- a call that answers well leads where the streaming definition does, which does not refuse the item; a refusal is that one's own
 pub record Follows {A : Type 0} (old new : BinWriter A) (s : Written) (item : PlacedItem) (result : Result (Unit {0}) Fault) : Type 0 where
   pub holds : OnOk result (Holds new (after old.limits.symbols s (user_item item)))
   pub passes : OnOk result (refused_at old.limits s item ≡ None)
@@ -103,11 +106,12 @@ added h item =
     let n = with_names h (user_item item) in
     record n { octets = octets_with n (user_item item); headers = headers_with n (user_item item) }
 
+-- the reason and the place for which an item is refused behind what is held, if it is: texts that cost too much go first
 abbrev pub item_refusal : Limits → Held → PlacedItem → Option (Reason × ℕ)
 item_refusal limits h item =
     refused_by limits.value (size_of (added h item).octets (added h item).headers) item.top (first_over limits.symbols h.texts (item_symbols item))
 
--- the counted bytes are there, and what is open is right
+-- it stays within its limits, and what it holds is counted
 pub record CanPut {A : Type 0} (w : BinWriter A) (meter : Counts) : Type 0 where
   pub sound : IsSound w
   pub held : own_of w ≤ meter.held

@@ -26,6 +26,7 @@ ItemsAddTheirOctets =
     (limits : Limits) (path : List PlacedItem) (item : PlacedItem) → binary_refusal limits path item ≡ None
     → binary_puts limits (path ++ item ∷ []) ≡ binary_puts limits path ++ binary_adds limits path item
 
+-- an item that is refused adds nothing
 abbrev pub RefusedItemsAddNothing : Type 0
 RefusedItemsAddNothing =
     (limits : Limits) (path : List PlacedItem) (item : PlacedItem) (why : Reason × ℕ) → binary_refusal limits path item ≡ Some why
@@ -38,19 +39,22 @@ abbrev pub nest_kinds : {S P : Type 0} → Nest S P → List Kind
 nest_kinds (outermost annotations place kind members) = kind ∷ []
 nest_kinds (inner around f annotations place kind members) = kind ∷ nest_kinds around
 
+-- the kinds of the open containers of a path, the innermost first; none where nothing is open
 abbrev pub path_kinds : {S P : Type 0} → Path S P → List Kind
 path_kinds (closed tops) = []
 path_kinds (opened tops first nest) = nest_kinds nest
 
--- the length of the last value at top level
+-- the length of a value at top level, and 0 of a version marker
 abbrev pub top_size : {P : Type 0} → (UserSymbol → ℕ) → Top UserSymbol P → ℕ
 top_size ids (version place) = 0
 top_size ids (tree first annotations place x) = length (member_octets ids None annotations (value_octets ids x))
 
+-- the length of the last of these, value or version marker, and `size` where there are none
 abbrev pub size_behind : {P : Type 0} → (UserSymbol → ℕ) → ℕ → List (Top UserSymbol P) → ℕ
 size_behind ids size [] = size
 size_behind ids size (t ∷ ts) = size_behind ids (top_size ids t) ts
 
+-- the length of the last of these, value or version marker, and 0 where there are none
 abbrev pub last_size : {P : Type 0} → (UserSymbol → ℕ) → List (Top UserSymbol P) → ℕ
 last_size ids tops = size_behind ids 0 tops
 
@@ -68,5 +72,6 @@ abbrev pub IsGiven : ℕ → List (List ℕ) → List ℕ → Option ℕ → Lis
 IsGiven limit texts t (Some id) after = (after ≡ with_symbol texts (Known t)) × (id ≡ id_in after (Known t)) × (texts_cost after ≤ limit)
 IsGiven limit texts t None after = (after ≡ texts) × (limit < texts_cost (with_symbol texts (Known t)))
 
+-- so it is of each text, wherever the texts before it cost no more than the limit
 abbrev pub IdsAreGiven : Type 0
 IdsAreGiven = (limit : ℕ) (texts : List (List ℕ)) (t : List ℕ) → texts_cost texts ≤ limit → IsGiven limit texts t (id_given limit texts t).0 (id_given limit texts t).1

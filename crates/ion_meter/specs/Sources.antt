@@ -10,6 +10,7 @@ pub record Cursor : Type 0 where
   pub place : ℕ
   pub rest : List ℕ
 
+-- the cursor so many bytes further on
 abbrev pub skip : ℕ → Cursor → Cursor
 skip n c = record { place = c.place + n; rest = drop n c.rest }
 

@@ -22,6 +22,7 @@ abbrev pub lent_by : Option Fault → ℕ → List ℕ → List ℕ
 lent_by None most bytes = take most bytes
 lent_by (Some f) most bytes = []
 
+-- the bytes that a window lends: those that are in it and within its limit, and none where it has failed
 abbrev pub lent : {I : Type 0} → Incoming I → List ℕ
 lent s = lent_by s.fault (s.limit - s.place) s.buffered
 

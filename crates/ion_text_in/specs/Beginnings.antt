@@ -27,6 +27,7 @@ pub data InIdentifier : ℕ → Type 0 where
   start : {b : ℕ} → BeginsIdentifier b → InIdentifier b
   digit : {b : ℕ} → IsDigit b → InIdentifier b
 
+-- one of the characters that operators consist of
 abbrev pub IsOperatorCharacter : ℕ → Type 0
 IsOperatorCharacter b = IsOneOf (codes "!#%&*+-./;<=>?@^`|~") b
 
@@ -57,6 +58,7 @@ pub record IsRun (Ends : List ℕ → Type 0) (bytes run behind : List ℕ) : Ty
   pub ended : Ends behind
   pub goes_on : (xs ys : List ℕ) → run ≡ xs ++ ys → ys ≢ [] → Ends (ys ++ behind) → ⊥
 
+-- a number or timestamp is said not to go on exactly where such an end stands
 abbrev pub NumbersEnd : Type 0
 NumbersEnd = (bytes : List ℕ) → (in_run bytes ≡ false) ↔ EndsNumber bytes
 
@@ -71,9 +73,11 @@ pub data EndsIdentifier : List ℕ → Type 0 where
   end : EndsIdentifier []
   character : {b : ℕ} {bytes : List ℕ} → (InIdentifier b → ⊥) → EndsIdentifier (b ∷ bytes)
 
+-- an identifier is said not to go on exactly where such an end stands
 abbrev pub IdentifiersEnd : Type 0
 IdentifiersEnd = (bytes : List ℕ) → (in_word bytes ≡ false) ↔ EndsIdentifier bytes
 
+-- the bytes that are said to go on with an identifier are such a run, and no others are
 abbrev pub IdentifiersAreCut : Type 0
 IdentifiersAreCut = (bytes run behind : List ℕ) → (run_of in_word bytes ≡ (run, behind)) ↔ IsRun EndsIdentifier bytes run behind
 
@@ -83,9 +87,11 @@ pub data EndsOperator : List ℕ → Type 0 where
   character : {b : ℕ} {bytes : List ℕ} → (IsOperatorCharacter b → ⊥) → EndsOperator (b ∷ bytes)
   comment : {bytes : List ℕ} → BeginsComment bytes → EndsOperator bytes
 
+-- an operator is said not to go on exactly where such an end stands
 abbrev pub OperatorsEnd : Type 0
 OperatorsEnd = (bytes : List ℕ) → (in_operator bytes ≡ false) ↔ EndsOperator bytes
 
+-- the bytes that are said to go on with an operator are such a run, and no others are
 abbrev pub OperatorsAreCut : Type 0
 OperatorsAreCut = (bytes run behind : List ℕ) → (run_of in_operator bytes ≡ (run, behind)) ↔ IsRun EndsOperator bytes run behind
 

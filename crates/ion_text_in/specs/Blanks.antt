@@ -9,6 +9,7 @@ use Rattle.ion_value.specs.Parts.{Placed}
 abbrev pub is_white : ℕ → Bool
 is_white b = b == 32 || is_between 9 13 b
 
+-- LF and CR, each of which ends a line
 abbrev pub is_line_end : ℕ → Bool
 is_line_end b = b == 10 || b == 13
 
@@ -19,6 +20,7 @@ pub data Begins : Type 0 where
   block_comment : Begins
   no_blank : Begins
 
+-- which blank begins at the byte b, if any does; `bytes` stand behind it
 abbrev pub blank_at : ℕ → List ℕ → Begins
 blank_at b bytes =
     if is_white b then white
@@ -33,6 +35,7 @@ is_comment block_comment = true
 is_comment white = false
 is_comment no_blank = false
 
+-- a comment begins at the first of these bytes
 abbrev pub begins_comment : List ℕ → Bool
 begins_comment [] = false
 begins_comment (b ∷ bytes) = is_comment (blank_at b bytes)
@@ -41,6 +44,7 @@ begins_comment (b ∷ bytes) = is_comment (blank_at b bytes)
 abbrev pub ends_block : ℕ → List ℕ → Bool
 ends_block b bytes = b == 42 && first_is (λ c. c == 47) bytes
 
+-- the cursor at the place p, where these bytes are still to come, without a fault
 abbrev pub here : ℕ → List ℕ → Placed Cursor
 here p bytes = Ok (record { place = p; rest = bytes })
 
@@ -65,6 +69,7 @@ unfoldable mutual
   opening start p [] = Err (Truncated, start)
   opening start p (b ∷ bytes) = in_block start (suc p) bytes
 
+  -- inside a comment in a block that began at `start`, up to the star that closes it
   pub in_block : ℕ → ℕ → List ℕ → Placed Cursor
   in_block start p [] = Err (Truncated, start)
   in_block start p (b ∷ bytes) = elim (ends_block b bytes) [ true ↦ closing (suc p) bytes | false ↦ in_block start (suc p) bytes ]
@@ -74,5 +79,6 @@ unfoldable mutual
   closing p [] = here p []
   closing p (b ∷ bytes) = blanks_at (suc p) bytes
 
+-- behind all blanks from a cursor on, or the fault of a comment in a block that does not end
 abbrev pub blanks : Cursor → Placed Cursor
 blanks c = blanks_at c.place c.rest

@@ -7,6 +7,7 @@ use Rattle.ion_text_in.specs.declared.first.First as code
 use Rattle.ion_text_in.specs.declared.first.First.TheVariants as kind
 use Rattle.ion_text_in.specs.Token as tokens
 
+-- a kind of token, from the code's `First`
 abbrev pub first_of : code.First → tokens.First
 first_of kind.Number = tokens.a_run
 first_of kind.Word = tokens.a_word

@@ -87,6 +87,7 @@ pub data Tops (c : Cursor) : List (Top SymbolAt ℕ) → Cursor → Type 0 where
       → Tops c tops d → Txt None d annotations p v e
       → Tops c (tops ++ value.tree (first_place annotations p) annotations p v ∷ []) e
 
+-- the cursor before the first of these bytes, at place 0
 abbrev pub start_of : List ℕ → Cursor
 start_of bytes = record { place = 0; rest = bytes }
 

@@ -23,6 +23,7 @@ pub record IsRead (bytes : List ℕ) (r : Reading) : Type 0 where
   pub items : items_of r ≡ path_items path
   pub whole : ending_of r ≡ Finished → (tops : List (Top SymbolAt ℕ)) × (path ≡ closed tops) × Stream bytes tops
 
+-- so it is of all bytes, under all limits
 abbrev pub Sound : Type 0
 Sound = (limits : Limits) (bytes : List ℕ) → IsRead bytes (reading limits bytes)
 

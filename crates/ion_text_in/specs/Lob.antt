@@ -21,6 +21,7 @@ braces [] = Err Truncated
 braces (b ∷ []) = if b == 125 then Err Truncated else Err BadLob
 braces (b ∷ c ∷ bytes) = refuse (not (b == 125 && c == 125)) BadLob
 
+-- the cursor behind the closing braces, which must stand here
 abbrev pub closed_at : Cursor → Result Cursor Reason
 closed_at c = do
   braces c.rest
@@ -37,6 +38,7 @@ group_of (suc more) (b ∷ bytes) = elim (is_white b) [
   | false ↦ elim (b == 125) [ true ↦ ([], b ∷ bytes) | false ↦ (b ∷ (group_of more bytes).0, (group_of more bytes).1) ]
 ]
 
+-- the cursor further on, where `rest` is all that is left
 abbrev pub behind_to : Cursor → List ℕ → Cursor
 behind_to c rest = record { place = c.place + (length c.rest - length rest); rest = rest }
 
@@ -65,6 +67,7 @@ groups_for (suc most) limit count padded c =
       others ← groups_for most limit (count + length bytes) (nat_lt (length bytes) 3) (behind_to c g.1)
       Ok (bytes ++ others.0, others.1))
 
+-- a blob from its first character to behind its closing braces, of whose bytes a limit may say how many there may be
 abbrev pub blob_at : {S : Type 0} → Option ℕ → Cursor → Result (Scalar S × Cursor) Reason
 blob_at limit c = do
   b ← groups_for (suc (length c.rest)) limit 0 false c
@@ -82,18 +85,20 @@ clob_closed_at is_long c = do
   refuse (is_long && are_cut_quotes c.rest) Truncated
   closed_at c
 
+-- a clob from behind the quotes that open its text, long or short, to behind its closing braces
 abbrev pub clob_at : {S : Type 0} → Option ℕ → Bool → Cursor → Result (Scalar S × Cursor) Reason
 clob_at limit is_long c = do
   t ← text_at (if is_long then long_quote true else short_quote true) limit c
   d ← clob_closed_at is_long (behind_run (first_is is_white) t.1)
   Ok (clob t.0, d)
 
--- a lob behind its opening braces
+-- a lob behind its opening braces and white space: quotes open a clob, and anything else is a blob
 abbrev pub lob_in : {S : Type 0} → Option ℕ → Cursor → Result (Scalar S × Cursor) Reason
 lob_in limit c =
     if begins_with (34 ∷ []) c.rest then clob_at limit false (skip 1 c)
     else (if begins_with (39 ∷ 39 ∷ 39 ∷ []) c.rest then clob_at limit true (skip 3 c)
     else blob_at limit c)
 
+-- a lob from behind its opening braces on: white space may stand before its text
 unfoldable pub lob_at : {S : Type 0} → Option ℕ → Cursor → Result (Scalar S × Cursor) Reason
 lob_at limit c = lob_in limit (behind_run (first_is is_white) c)

@@ -66,6 +66,7 @@ closed_behind count c = do
 
 -- ---- lobs
 
+-- the clob or blob of these bytes
 abbrev pub lob_of : Lob → List ℕ → Scalar SymbolAt
 lob_of code.Clob bytes = clob bytes
 lob_of code.Blob bytes = blob bytes

@@ -29,6 +29,7 @@ abbrev pub Allows : Limit → ℕ → Type 0
 Allows None count = Unit {0}
 Allows (Some limit) count = count ≤ limit
 
+-- the cursor at a place, where these bytes are still to come
 abbrev pub at : ℕ → List ℕ → Cursor
 at place rest = record { place = place; rest = rest }
 
@@ -50,9 +51,11 @@ abbrev pub EndsNull : IonType → List ℕ → Type 0
 EndsNull type.Null rest = EndsIdentifier rest × BeginsNot (codes ".") rest
 EndsNull t rest = EndsIdentifier rest
 
+-- the canonical text of each null is read as that null
 abbrev pub NullTextIsRead : Type 0
 NullTextIsRead = (t : IonType) → Means (length (null_text t)) (EndsNull t) (null_text t) (plain (null t))
 
+-- `true` and `false` are read as these bools
 abbrev pub BoolTextIsRead : Type 0
 BoolTextIsRead = (truth : Bool) → Means (length (bool_text truth)) EndsIdentifier (bool_text truth) (plain (bool truth))
 
@@ -63,13 +66,16 @@ PlainSymbolIsRead =
 
 -- ---- runs
 
+-- the canonical text of each int is read as that int
 abbrev pub IntTextIsRead : Type 0
 IntTextIsRead = (i : Int) → IsInt i → Means (length (int_text i)) EndsNumber (int_text i) (plain (int i))
 
+-- the canonical text of each decimal is read as that decimal
 abbrev pub DecimalTextIsRead : Type 0
 DecimalTextIsRead =
     (d : Decimal) → IsDecimal d → Means (length (decimal_text d)) EndsNumber (decimal_text d) (plain (decimal d))
 
+-- the canonical text of each timestamp is read as that timestamp
 abbrev pub TimestampTextIsRead : Type 0
 TimestampTextIsRead =
     (t : Timestamp) → IsTimestamp t → Means (length (timestamp_text t)) EndsNumber (timestamp_text t) (plain (timestamp t))
@@ -137,9 +143,11 @@ pub data Chars (quote : ℕ) (in_clob : Bool) : List ℕ → List ℕ → Type 0
   and_then : {text chars bytes : List ℕ} {b : ℕ} → Char quote in_clob text b → Chars quote in_clob chars bytes
       → Chars quote in_clob (text ++ chars) (b ∷ bytes)
 
+-- characters with this quote before and behind them
 abbrev pub quoted : ℕ → List ℕ → List ℕ
 quoted quote chars = quote ∷ (chars ++ quote ∷ [])
 
+-- characters between double quotes are a string of the bytes that they mean, where these are UTF-8
 abbrev pub StringTextIsRead : Type 0
 StringTextIsRead =
     (chars bytes : List ℕ) → Chars 34 false chars bytes → is_utf8 bytes ≡ true
@@ -149,6 +157,7 @@ StringTextIsRead =
 abbrev pub EndsSymbol : List ℕ → List ℕ → Type 0
 EndsSymbol bytes rest = bytes ≡ [] → BeginsNot (codes "'") rest
 
+-- characters between single quotes are a symbol of the bytes that they mean, where these are UTF-8
 abbrev pub QuotedSymbolIsRead : Type 0
 QuotedSymbolIsRead =
     (chars bytes : List ℕ) → Chars 39 false chars bytes → is_utf8 bytes ≡ true

@@ -7,6 +7,7 @@ use Rattle.ion_meter.specs.Sources.{Cursor}
 
 -- ---- open containers
 
+-- the one kind of container in which operators may stand
 abbrev pub is_sexp : Kind → Bool
 is_sexp kind.Sexp = true
 is_sexp kind.List = false
@@ -17,6 +18,7 @@ abbrev pub innermost : List Kind → Option Kind
 innermost [] = None
 innermost (k ∷ kinds) = Some k
 
+-- the innermost open container is a sexp
 abbrev pub in_sexp : Option Kind → Bool
 in_sexp None = false
 in_sexp (Some k) = is_sexp k
@@ -30,6 +32,7 @@ has_commas (Some kind.Struct) = true
 
 -- ---- places
 
+-- a symbol with the place of its first byte
 abbrev pub at : Symbol → ℕ → SymbolAt
 at symbol place = record { symbol = symbol; place = place }
 

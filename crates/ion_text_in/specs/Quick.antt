@@ -30,6 +30,7 @@ abbrev pub number_by : Bool → ℕ → Option ℤ → Number
 number_by negative n (Some e) = numbers.Decimal (scaled negative n e)
 number_by negative n None = numbers.Int (signed_int negative n)
 
+-- a number that was read in one pass: a decimal where it has an exponent, and else an int
 abbrev pub as_quick : Quick → Number
 as_quick x = number_by x.negative x.number x.exponent
 

@@ -17,12 +17,15 @@ pub record Quote : Type 0 where
   pub is_long : Bool
   pub in_clob : Bool
 
+-- the quotes of a symbol, `'`
 abbrev pub symbol_quote : Quote
 symbol_quote = record { closer = 39 ∷ []; is_long = false; in_clob = false }
 
+-- the quotes of a string, `"`, or of a clob's short text
 abbrev pub short_quote : Bool → Quote
 short_quote in_clob = record { closer = 34 ∷ []; is_long = false; in_clob = in_clob }
 
+-- the quotes of a long string, `'''`, or of a clob's long text
 abbrev pub long_quote : Bool → Quote
 long_quote in_clob = record { closer = 39 ∷ 39 ∷ 39 ∷ []; is_long = true; in_clob = in_clob }
 
@@ -36,20 +39,23 @@ pub data Piece : Type 0 where
 
 -- ---- escapes
 
--- so many hex digits, behind those of a number
+-- what so many hex digits spell and the bytes behind them; or that a byte among them is none, or that the input ends there
 pub data Hex : Type 0 where
   number : (value : ℕ) → (behind : List ℕ) → Hex
   no_digit : Hex
   cut_digits : Hex
 
+-- so many hex digits at the front of these bytes, behind others that spell n
 unfoldable pub hex_behind : ℕ → ℕ → List ℕ → Hex
 hex_behind zero n bytes = number n bytes
 hex_behind (suc more) n [] = cut_digits
 hex_behind (suc more) n (b ∷ bytes) = elim (is_hex_digit b) [ true ↦ hex_behind more (16 * n + digit_value b) bytes | false ↦ no_digit ]
 
+-- the first of two codes by which UTF-16 has a character from U+10000 on
 abbrev pub is_high_surrogate : ℕ → Bool
 is_high_surrogate c = is_between 0xD800 0xDBFF c
 
+-- the second of two such codes
 abbrev pub is_low_surrogate : ℕ → Bool
 is_low_surrogate c = is_between 0xDC00 0xDFFF c
 
@@ -57,9 +63,11 @@ is_low_surrogate c = is_between 0xDC00 0xDFFF c
 abbrev pub by_code : ℕ → ℕ → Piece
 by_code c taken = if nat_le c 0x10FFFF && not (is_between 0xD800 0xDFFF c) then char (encode_utf8 c) taken else illegal
 
+-- the code point of a high and a low surrogate
 abbrev pub pair : ℕ → ℕ → ℕ
 pair high low = 0x10000 + (high - 0xD800) * 1024 + (low - 0xDC00)
 
+-- the character of a high surrogate and of the escape behind it, whose digits these are: they must tell a low one
 abbrev pub low_half : ℕ → Hex → Piece
 low_half high (number low behind) = if is_low_surrogate low then by_code (pair high low) 12 else illegal
 low_half high no_digit = illegal
@@ -78,11 +86,13 @@ byte_code false (number n behind) = by_code n 4
 byte_code in_clob no_digit = illegal
 byte_code in_clob cut_digits = cut
 
+-- the character of `\u` and four digits, or of two such escapes where these are a pair of surrogates
 abbrev pub short_code : Hex → Piece
 short_code (number n behind) = if is_high_surrogate n then low_behind n behind else by_code n 6
 short_code no_digit = illegal
 short_code cut_digits = cut
 
+-- the character of `\U` and eight digits
 abbrev pub long_code : Hex → Piece
 long_code (number n behind) = by_code n 10
 long_code no_digit = illegal
@@ -95,6 +105,7 @@ letter e =
     else (if e == 102 then Some 12 else (if e == 114 then Some 13 else (if e == 118 then Some 11 else (if e == 48 then Some 0
     else (if is_one_of (63 ∷ 34 ∷ 39 ∷ 92 ∷ 47 ∷ []) e then Some e else None))))))))
 
+-- an escape by code, whose letter is e: `\x`, and outside of clobs `\u` and `\U`
 abbrev pub coded : Bool → ℕ → List ℕ → Piece
 coded in_clob e bytes =
     if e == 120 then byte_code in_clob (hex_behind 2 0 bytes)
@@ -103,6 +114,7 @@ coded in_clob e bytes =
     else (if e == 85 then long_code (hex_behind 8 0 bytes)
     else illegal)))
 
+-- an escape whose letter is e: the byte that it means, where it means one by itself, and else what the code behind it means
 abbrev pub by_letter : Option ℕ → Bool → ℕ → List ℕ → Piece
 by_letter (Some c) in_clob e bytes = char (c ∷ []) 2
 by_letter None in_clob e bytes = coded in_clob e bytes
@@ -126,6 +138,7 @@ is_raw q b = (nat_le 32 b || is_one_of (9 ∷ 11 ∷ 12 ∷ []) b) && (not q.in_
 abbrev pub raw : Quote → ℕ → List ℕ → Piece
 raw q b bytes = if q.is_long && (b == 10 || b == 13) then char (10 ∷ []) (line_end_length b bytes) else (if is_raw q b then char (b ∷ []) 1 else illegal)
 
+-- what stands at the front of these bytes, inside such quotes
 unfoldable pub piece_at : Quote → List ℕ → Piece
 piece_at q [] = cut
 piece_at q (b ∷ bytes) =
@@ -133,6 +146,7 @@ piece_at q (b ∷ bytes) =
 
 -- ---- segments
 
+-- the reason where something illegal stands in a text: BadLob in a clob, and else BadText
 abbrev pub bad_text : Quote → Reason
 bad_text q = if q.in_clob then BadLob else BadText
 
@@ -162,6 +176,7 @@ segment_at q limit count c = do
 abbrev pub behind_quotes : Quote → Cursor → Option Cursor
 behind_quotes q c = if begins_with q.closer c.rest then Some (skip (length q.closer) c) else None
 
+-- what was read, where there was no fault
 abbrev pub where_read : {A : Type 0} → Placed A → Option A
 where_read (Ok x) = Some x
 where_read (Err fault) = None
@@ -171,19 +186,23 @@ abbrev pub between : Bool → Cursor → Option Cursor
 between true c = Some (behind_run (first_is is_white) c)
 between false c = where_read (blanks c)
 
+-- behind the quotes of a further segment, where there is a cursor and they stand at it
 abbrev pub in_next : Quote → Option Cursor → Option Cursor
 in_next q None = None
 in_next q (Some c) = behind_quotes q c
 
+-- behind the opening quotes of a further segment, where one follows: in long texts alone
 abbrev pub next_segment : Quote → Cursor → Option Cursor
 next_segment q c = if q.is_long then in_next q (between q.in_clob c) else None
 
+-- a segment (`s`) and then the further ones, which the first argument reads where there are any
 abbrev pub with_segments : (Cursor → Result (List ℕ × Cursor) Reason) → List ℕ × Cursor → Option Cursor → Result (List ℕ × Cursor) Reason
 with_segments later s None = Ok s
 with_segments later s (Some c) = do
   others ← later c
   Ok (s.0 ++ others.0, others.1)
 
+-- the segments from behind the first opening quotes on; the first number is how many there are at most
 unfoldable pub segments_for : ℕ → Quote → Option ℕ → ℕ → Cursor → Result (List ℕ × Cursor) Reason
 segments_for zero q limit count c = Err Truncated
 segments_for (suc most) q limit count c = do

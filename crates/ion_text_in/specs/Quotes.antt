@@ -10,6 +10,7 @@ use Rattle.ion_text_in.specs.Scanning.{is_plain_byte}
 
 -- ---- quotes
 
+-- quotes, from the code's `Quote`
 abbrev pub quote_of : CodeQuote → Quote
 quote_of code.Symbol = symbol_quote
 quote_of code.Short = short_quote false

@@ -24,6 +24,7 @@ member_of kind.Struct = a_field
 member_of kind.List = a_value None []
 member_of kind.Sexp = a_value None []
 
+-- what must come where a member of a container of this kind may begin, or a value at top level
 abbrev pub at_member : Option Kind → Wants
 at_member None = a_value None []
 at_member (Some k) = member_of k
@@ -34,6 +35,7 @@ behind_member k = if has_commas k then a_separator else a_value None []
 
 -- ---- which tokens may come
 
+-- what begins brackets, commas and colons, and what begins no token at all
 abbrev pub is_punctuation : First → Bool
 is_punctuation (a_begin k) = true
 is_punctuation (an_end k) = true
@@ -50,6 +52,7 @@ is_punctuation a_lob = false
 is_punctuation an_operator = false
 is_punctuation an_infinity = false
 
+-- what begins a token that may name a field: a word, a symbol in quotes or a string
 abbrev pub names_field : First → Bool
 names_field a_word = true
 names_field a_quoted = true
@@ -74,10 +77,12 @@ may_come a_separator first = is_punctuation first
 
 -- ---- items
 
+-- the place of the top-level value that an item is in: its own first byte at top level, and `top` in a container
 abbrev pub top_of : List Kind → ℕ → List SymbolAt → ℕ → ℕ
 top_of [] top annotations place = first_place annotations place
 top_of (k ∷ kinds) top annotations place = top
 
+-- an item by its parts: its head begins at `place`, in the top-level value that begins at `top`
 abbrev pub item_of : ℕ → Option SymbolAt → List SymbolAt → ℕ → Head SymbolAt → PlacedItem
 item_of top field annotations place head = record { field = field; annotations = annotations; head = head; place = place; top = top }
 
@@ -87,11 +92,13 @@ item_step kinds top field annotations place head after wants c =
     Gives (item_of (top_of kinds top annotations place) field annotations place head)
     (record { kinds = after; top = top_of kinds top annotations place; wants = wants; cursor = c })
 
+-- the step that gives a scalar, which begins at `place`
 abbrev pub scalar_step : List Kind → ℕ → Option SymbolAt → List SymbolAt → ℕ → Scalar SymbolAt → Cursor → Step State
 scalar_step kinds top field annotations place body c =
     item_step kinds top field annotations place (value.whole body) kinds
     (behind_member (innermost kinds)) c
 
+-- a step that gives no item; this must come from the cursor on
 abbrev pub onward_step : List Kind → ℕ → Wants → Cursor → Step State
 onward_step kinds top wants c = GoesOn (record { kinds = kinds; top = top; wants = wants; cursor = c })
 
@@ -104,6 +111,7 @@ cost a = cost_of a.symbol where
   cost_of (value.Text bytes) = 16 + length bytes
   cost_of (value.Id id) = 16
 
+-- the step of one more annotation, refused where all of them together cost more than the limit on scalars
 abbrev pub with_annotation : Limits → List Kind → ℕ → Option SymbolAt → List SymbolAt → SymbolAt → Cursor → Result (Step State) Reason
 with_annotation limits kinds top field annotations a c = do
   refuse (nat_lt limits.scalar (sum_by cost (annotations ++ a ∷ []))) AnnotationLimit
@@ -114,15 +122,18 @@ unfoldable pub tells_version : Option Kind → List SymbolAt → Bool → Symbol
 tells_version None [] false (value.Text word) = is_version word
 tells_version _ _ _ _ = false
 
+-- a symbol whose text is `$ion_1_0`
 abbrev pub is_marker : Symbol → Bool
 is_marker (value.Text word) = bytes_eq version_word word
 is_marker (value.Id id) = false
 
+-- the step of a version marker, whose word must be that of Ion 1.0
 abbrev pub version_step : List Kind → ℕ → Option SymbolAt → List SymbolAt → SymbolAt → Cursor → Result (Step State) Reason
 version_step kinds top field annotations a c = do
   refuse (not (is_marker a.symbol)) BadVersion
   Ok (item_step kinds top field annotations a.place value.marker kinds (behind_member (innermost kinds)) c)
 
+-- the step of a symbol with no two colons behind it: a version marker where the last argument says so, and else a value
 abbrev pub value_or_version : List Kind → ℕ → Option SymbolAt → List SymbolAt → SymbolAt → Cursor → Bool → Result (Step State) Reason
 value_or_version kinds top field annotations a c true =
     version_step kinds top field annotations a c
@@ -133,10 +144,12 @@ abbrev pub colons_at : First → Cursor → Option Cursor
 colons_at two_colons c = Some (skip 2 c)
 colons_at _ c = None
 
+-- behind two colons, where they are the next token behind blanks that end here
 abbrev pub colons_behind : Bool → Placed Cursor → Option Cursor
 colons_behind sexp (Ok c) = colons_at (first_at sexp c.rest) c
 colons_behind sexp (Err fault) = None
 
+-- behind two colons, where they are the next token from the cursor on; the first argument says whether in a sexp
 abbrev pub behind_colons : Bool → Cursor → Option Cursor
 behind_colons sexp c = colons_behind sexp (blanks c)
 
@@ -148,12 +161,14 @@ symbol_step limits kinds top field annotations quoted a c None =
 
 -- ---- brackets, commas and fields
 
+-- two containers are of one kind
 abbrev pub is_same : Kind → Kind → Bool
 is_same kind.List kind.List = true
 is_same kind.Sexp kind.Sexp = true
 is_same kind.Struct kind.Struct = true
 is_same _ _ = false
 
+-- the step of a closing bracket at `place`: the innermost open container must be of its kind
 abbrev pub end_step : List Kind → ℕ → Kind → ℕ → Cursor → Result (Step State) Reason
 end_step [] top k place c = Err BadToken
 end_step (j ∷ kinds) top k place c = do
@@ -165,6 +180,7 @@ abbrev pub bare_end_step : Option SymbolAt → List SymbolAt → List Kind → �
 bare_end_step None [] kinds top k place c = end_step kinds top k place c
 bare_end_step _ _ kinds top k place c = Err BadToken
 
+-- the step of an opening bracket at `place`: refused where as many containers are open as may be
 abbrev pub begin_step : Limits → List Kind → ℕ → Option SymbolAt → List SymbolAt → Kind → ℕ → Cursor → Result (Step State) Reason
 begin_step limits kinds top field annotations k place c = do
   refuse (nat_le limits.depth (length kinds)) DepthLimit
@@ -175,10 +191,12 @@ abbrev pub colon_of : List Kind → ℕ → SymbolAt → Cursor → First → Pl
 colon_of kinds top a c a_colon = Ok (onward_step kinds top (a_value (Some a) []) (skip 1 c))
 colon_of kinds top a c _ = Err (BadToken, c.place)
 
+-- the step behind a field's name and blanks: a colon must be the next token
 abbrev pub colon_from : List Kind → ℕ → SymbolAt → Cursor → List ℕ → Placed (Step State)
 colon_from kinds top a c [] = Err (Truncated, c.place)
 colon_from kinds top a c (b ∷ bytes) = colon_of kinds top a c (first_at false (b ∷ bytes))
 
+-- the step behind a field's name: blanks, and then the colon that must come
 abbrev pub field_step : List Kind → ℕ → SymbolAt → Cursor → Placed (Step State)
 field_step kinds top a c = do
   d ← blanks c
@@ -209,19 +227,23 @@ abbrev pub final_step : List Kind → Wants → ℕ → Placed (Step State)
 final_step [] (a_value None []) place = Ok Ends
 final_step _ _ place = Err (Truncated, place)
 
+-- the step by the token that so begins at the cursor, refused unread where the last argument says that none such may come
 abbrev pub next_part : Limits → State → Cursor → First → Bool → Placed (Step State)
 next_part limits s c first false = Err (BadToken, c.place)
 next_part limits s c first true = do
   t ← part c.place (token_of (Some limits.scalar) first c)
   take limits s.kinds s.top s.wants c.place t.0 t.1
 
+-- the step by the token that so begins at the cursor
 abbrev pub part_from : Limits → State → Cursor → First → Placed (Step State)
 part_from limits s c first = next_part limits s c first (may_come s.wants first)
 
+-- the step where blanks end: at the end of the input, or by the token that begins there
 abbrev pub part_behind : Limits → State → Cursor → List ℕ → Placed (Step State)
 part_behind limits s c [] = final_step s.kinds s.wants c.place
 part_behind limits s c (b ∷ bytes) = part_from limits s c (first_at (in_sexp (innermost s.kinds)) (b ∷ bytes))
 
+-- what the reading does next at a state, or its fault and the place of that
 unfoldable pub part_at : Limits → State → Placed (Step State)
 part_at limits s = do
   c ← blanks s.cursor
@@ -229,10 +251,12 @@ part_at limits s = do
 
 -- ---- the stream
 
+-- a fault as the step that stops there
 abbrev pub step_of : Placed (Step State) → Step State
 step_of (Ok s) = s
 step_of (Err fault) = Stops fault.0 fault.1
 
+-- what the reading does next at a state, under limits
 unfoldable pub step : Limits → State → Step State
 step limits s = step_of (part_at limits s)
 
@@ -240,6 +264,7 @@ step limits s = step_of (part_at limits s)
 abbrev pub size : State → ℕ
 size s = length s.cursor.rest
 
+-- the state before the first of these bytes: nothing is open, the place is 0, and a value may come
 abbrev pub start : List ℕ → State
 start bytes = record { kinds = []; top = 0; wants = a_value None []; cursor = record { place = 0; rest = bytes } }
 

@@ -31,12 +31,15 @@ BlanksChangeNoStep = (limits : Limits) (s : State) (c : Cursor) → blanks s.cur
 abbrev pub Spelled : Type 0
 Spelled = Result (List ℕ × Cursor) Reason
 
+-- the pieces from a cursor inside quotes to behind the closing ones, where so many bytes came before
 abbrev pub pieces : Quote → Option ℕ → ℕ → Cursor → Spelled
 pieces q limit count c = pieces_for (suc (length c.rest)) q limit count c
 
+-- the segments from behind opening quotes on, where so many bytes came before
 abbrev pub segments : Quote → Option ℕ → ℕ → Cursor → Spelled
 segments q limit count c = segments_for (suc (length c.rest)) q limit count c
 
+-- the groups of a blob from a cursor on, where so many bytes came before, and the group before was padded or not
 abbrev pub groups : Option ℕ → ℕ → Bool → Cursor → Spelled
 groups limit count padded c = groups_for (suc (length c.rest)) limit count padded c
 
@@ -50,12 +53,14 @@ pub record Takes (rest : List ℕ) (taken : ℕ) : Type 0 where
   pub there : taken ≤ length rest
   pub few : taken ≤ 12
 
+-- so it is of a character and of closing quotes
 abbrev pub PieceTakes : List ℕ → Piece → Type 0
 PieceTakes rest (char bytes taken) = Takes rest taken
 PieceTakes rest (close taken) = Takes rest taken
 PieceTakes rest illegal = Unit {0}
 PieceTakes rest cut = Unit {0}
 
+-- so it is of what stands anywhere inside quotes of one to three bytes
 abbrev pub EachPieceTakes : Type 0
 EachPieceTakes = (q : Quote) (rest : List ℕ) → IsQuote q → PieceTakes rest (piece_at q rest)
 
@@ -110,6 +115,7 @@ pub record PlainBytes (q : Quote) (limit : Option ℕ) (count place : ℕ) (xs r
       → pieces q limit count (at place (xs ++ rest)) ≡ with_front xs (pieces q limit (count + length xs) (at (place + length xs) rest))
   pub over : passes limit count ≡ false → passes limit (count + length xs) ≡ true → pieces q limit count (at place (xs ++ rest)) ≡ Err ScalarLimit
 
+-- so it is of all plain bytes, inside quotes of one to three bytes
 abbrev pub PlainBytesAreSpelled : Type 0
 PlainBytesAreSpelled =
     (q : Quote) (limit : Option ℕ) (count place : ℕ) (xs rest : List ℕ) → IsQuote q → all_are (is_plain_byte q) xs ≡ true

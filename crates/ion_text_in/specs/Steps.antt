@@ -34,15 +34,18 @@ use Rattle.ion_text_in.specs.Expecting.{wanted, MayExpect}
 
 -- ---- what is seen of a reader
 
+-- the head of the item that is lent: `text` has the bytes of its scalar, and `place` is where the head begins
 abbrev pub as_head : List ℕ → ℕ → ItemKind → Head SymbolAt
 as_head text place (kind.Scalar body) = value.whole (as_scalar text place body)
 as_head text place (kind.Begin k) = value.begin k
 as_head text place kind.End = value.end
 as_head text place kind.Marker = value.marker
 
+-- the field that was read of its item, where there is one
 abbrev pub field_in : {I A : Type 0} → TextReader I A → Option SymbolAt
 field_in r = as_field r.name r.field
 
+-- the annotations that were read of its item, in order
 abbrev pub annotations_in : {I A : Type 0} → TextReader I A → List SymbolAt
 annotations_in r = as_annotations r.texts r.annotations
 
@@ -58,6 +61,7 @@ opened_in r = reverse r.kinds
 abbrev pub held_by : {I A : Type 0} → TextReader I A → ℕ
 held_by r = 4096 + 16 * length r.kinds + 16 * length r.annotations + length r.texts + length r.name + length r.text
 
+-- the most counted bytes that it may hold, by its limits
 abbrev pub share_of : {I A : Type 0} → TextReader I A → ℕ
 share_of r = 4096 + 16 * r.limits.depth + 3 * r.limits.scalar
 
@@ -110,6 +114,7 @@ pub record IsSound {I A : Type 0} (r : TextReader I A) : Type 0 where
 abbrev pub later : Limits → State → Reading
 later limits s = reading_by (step limits) size s
 
+-- all that is to come where this is the next step, or its fault
 abbrev pub comes : Limits → Placed (Step State) → Reading
 comes limits o = next_reading (later limits) (step_of o)
 
@@ -122,6 +127,7 @@ unless_unfinished (Some start) r = Stopped Truncated start
 abbrev pub state_at : {I A : Type 0} → Cursor → TextReader I A → State
 state_at c r = record { kinds = opened_in r; top = r.top; wants = wanted r.expected (field_in r) (annotations_in r); cursor = c }
 
+-- all that is to come inside an item, by what is left of the device
 abbrev pub to_come_in : {I A : Type 0} → InputOf I → TextReader I A → Reading
 to_come_in device r = later r.limits (state_at (cursor device r.source) r)
 
@@ -129,6 +135,7 @@ to_come_in device r = later r.limits (state_at (cursor device r.source) r)
 abbrev pub state_behind : {I A : Type 0} → Cursor → TextReader I A → State
 state_behind c r = record { kinds = opened_in r; top = r.top; wants = wanted r.expected None []; cursor = c }
 
+-- all that is to come between two items, by what is left of the device
 abbrev pub to_come_by : {I A : Type 0} → InputOf I → TextReader I A → Reading
 to_come_by device r = unless_unfinished r.unfinished (later r.limits (state_behind (cursor device r.source) r))
 
@@ -152,6 +159,7 @@ scalar_by r body place c = comes r.limits (Ok (scalar_step (opened_in r) r.top (
 abbrev pub with_colons : {I A : Type 0} → TextReader I A → Symbol → ℕ → Cursor → Reading
 with_colons r symbol place c = comes r.limits (part place (with_annotation r.limits (opened_in r) r.top (field_in r) (annotations_in r) (at (as_symbol r.text symbol) place) c))
 
+-- all that is to come where a symbol without two colons was read: it is a value or a version marker
 abbrev pub without_colons : {I A : Type 0} → TextReader I A → Symbol → Bool → ℕ → Cursor → Reading
 without_colons r symbol quoted place c =
     comes r.limits (part place (value_or_version (opened_in r) r.top (field_in r) (annotations_in r) (at (as_symbol r.text symbol) place) c
@@ -165,9 +173,11 @@ naming r text symbol place c = comes r.limits (field_step (opened_in r) r.top (a
 abbrev pub naming_here : {I A : Type 0} → TextReader I A → Symbol → ℕ → Cursor → Reading
 naming_here r symbol place c = comes r.limits (colon_of (opened_in r) r.top (at (as_symbol r.name symbol) place) c tokens.a_colon)
 
+-- all that is to come where a bracket was read that closes a container of this kind
 abbrev pub closing : {I A : Type 0} → TextReader I A → Kind → ℕ → Cursor → Reading
 closing r k place c = comes r.limits (part place (end_step (opened_in r) r.top k place c))
 
+-- all that is to come where a bracket was read that opens a container of this kind
 abbrev pub opening : {I A : Type 0} → TextReader I A → Kind → ℕ → Cursor → Reading
 opening r k place c = comes r.limits (part place (begin_step r.limits (opened_in r) r.top (field_in r) (annotations_in r) k place c))
 

@@ -12,10 +12,12 @@ use Rattle.ion_text_in.specs.Positions.{at}
 use Rattle.ion_text_in.specs.Reading.{cost}
 use Rattle.ion_text_in.specs.Tokens.{as_symbol}
 
+-- a field from the code, whose text is `name` where it is no id
 abbrev pub as_field : List ℕ → Option FieldName → Option SymbolAt
 as_field name None = None
 as_field name (Some field) = Some (at (as_symbol name field.symbol) field.place)
 
+-- annotations from the code, whose texts stand in `texts`
 abbrev pub as_annotations : List ℕ → List Annotation → List SymbolAt
 as_annotations texts annotations = map (raw_annotation texts) annotations
 
@@ -24,6 +26,7 @@ abbrev pub IsWithin : ℕ → Annotation → Type 0
 IsWithin n (annotation.Text from to place) = (from ≤ to) × (to ≤ n)
 IsWithin n (annotation.Id id place) = ⊤
 
+-- the texts of these annotations stand among so many bytes
 abbrev pub AreWithin : ℕ → List Annotation → Type 0
 AreWithin n [] = ⊤
 AreWithin n (a ∷ annotations) = IsWithin n a × AreWithin n annotations
@@ -43,6 +46,7 @@ abbrev pub GrowsBy : Counts → Counts → List ℕ → Symbol → Type 0
 GrowsBy old new text symbol.Text = Grows old new (length text)
 GrowsBy old new text (symbol.Id id) = new ≡ old
 
+-- there are annotations
 abbrev pub is_annotated : List SymbolAt → Bool
 is_annotated [] = false
 is_annotated (a ∷ annotations) = true

@@ -43,9 +43,11 @@ abbrev pub is_infinity : List ℕ → Bool
 is_infinity bytes =
     (begins_with (codes "+inf") bytes || begins_with (codes "-inf") bytes) && not (first_is is_identifier_byte (drop 4 bytes))
 
+-- a number or timestamp begins at the byte b: a digit, or a minus before a digit
 abbrev pub begins_run : ℕ → List ℕ → Bool
 begins_run b bytes = is_digit b || (b == 45 && first_is is_digit bytes)
 
+-- which bracket, comma or colons begin at the byte b, if any
 abbrev pub punctuation : ℕ → List ℕ → First
 punctuation b bytes =
     if b == 123 then a_begin kind.Struct
@@ -79,9 +81,11 @@ abbrev pub in_run : List ℕ → Bool
 in_run [] = false
 in_run (b ∷ bytes) = not (is_one_of (codes "{}[](),\"'") b || is_white b || begins_comment (b ∷ bytes))
 
+-- the first of these bytes goes on with an operator: a character of operators that begins no comment
 abbrev pub in_operator : List ℕ → Bool
 in_operator bytes = first_is is_operator_byte bytes && not (begins_comment bytes)
 
+-- the first of these bytes goes on with an identifier
 abbrev pub in_word : List ℕ → Bool
 in_word bytes = first_is is_identifier_byte bytes
 
@@ -101,6 +105,7 @@ abbrev pub with_type : List ℕ → List ℕ → List ℕ
 with_type word behind =
     if bytes_eq (codes "null") word && first_is (λ b. b == 46) behind then word ++ 46 ∷ (run_of in_word (drop 1 behind)).0 else word
 
+-- the bytes of the word that these bytes begin with; a point behind `null` belongs to it, with what could name a type
 abbrev pub word_of : List ℕ → List ℕ
 word_of [] = []
 word_of (b ∷ bytes) = with_type (b ∷ (run_of in_word bytes).0) (run_of in_word bytes).1
@@ -121,19 +126,23 @@ pub data Token : Type 0 where
   colon : Token
   colons : Token
 
+-- the null of this type, and BadToken where what stands behind `null.` names none
 abbrev pub null_token : Option IonType → Result Token Reason
 null_token (Some type) = Ok (plain (null type))
 null_token None = Err BadToken
 
+-- what a word means by the keyword that it is; where it is none, a symbol by its id or its text
 abbrev pub by_keyword : Option Keyword → List ℕ → Result Token Reason
 by_keyword (Some (a_null type)) word = null_token type
 by_keyword (Some (a_bool truth)) word = Ok (plain (bool truth))
 by_keyword (Some a_nan) word = Ok no_number
 by_keyword None word = Ok (name false (if is_id word then value.Id (id_of word) else value.Text word))
 
+-- what a word without quotes means: a null, a bool, `nan` or a symbol
 unfoldable pub word_token : List ℕ → Result Token Reason
 word_token word = by_keyword (keyword word) word
 
+-- what the bytes of a number or timestamp mean, or why they mean nothing
 abbrev pub run_token : List ℕ → Result Token Reason
 run_token run = do
   v ← scalar_of_run run
@@ -178,6 +187,7 @@ token_of limit a_colon c = mark colon 1 c
 token_of limit two_colons c = mark colons 2 c
 token_of limit no_token c = Err BadToken
 
+-- the token that begins at the cursor, in a sexp or not, where a limit may say how many bytes it counts
 abbrev pub token_at : Option ℕ → Bool → Cursor → Result (Token × Cursor) Reason
 token_at limit in_sexp c = token_of limit (first_at in_sexp c.rest) c
 
@@ -187,6 +197,7 @@ pub record Cut : Type 0 where
   pub first : ℕ
   pub behind : Cursor
 
+-- a token whose first byte is at the place `first`, and what stands behind it
 abbrev pub cut : Token → ℕ → Cursor → Cut
 cut t first behind = record { token = t; first = first; behind = behind }
 

@@ -26,10 +26,12 @@ use Rattle.ion_text_in.specs.Token as tokens
 
 -- ---- what is seen, bytes standing beside it
 
+-- a symbol from the code, whose text is `text` where it is no id
 abbrev pub as_symbol : List ℕ → Symbol → value.Symbol
 as_symbol text symbol.Text = value.Text text
 as_symbol text (symbol.Id id) = value.Id id
 
+-- a scalar from the code: `text` has the bytes of a symbol, string or lob, and `place` is where it begins
 abbrev pub as_scalar : List ℕ → ℕ → Body → Scalar SymbolAt
 as_scalar text place (body.Null type) = value.null type
 as_scalar text place (body.Bool truth) = value.bool truth
@@ -41,6 +43,7 @@ as_scalar text place body.String = value.string text
 as_scalar text place body.Clob = value.clob text
 as_scalar text place body.Blob = value.blob text
 
+-- a token from the code: `text` has its bytes, and `place` is where it begins
 abbrev pub token_view : List ℕ → ℕ → Token → tokens.Token
 token_view text place (code.Plain scalar) = tokens.plain (as_scalar text place scalar)
 token_view text place (code.Symbol name quoted) = tokens.name quoted (as_symbol text name)
@@ -65,6 +68,7 @@ BodyInRange body.String = ⊤
 BodyInRange body.Clob = ⊤
 BodyInRange body.Blob = ⊤
 
+-- so are those of a token
 abbrev pub TokenInRange : Token → Type 0
 TokenInRange (code.Plain scalar) = BodyInRange scalar
 TokenInRange (code.Symbol name quoted) = ⊤

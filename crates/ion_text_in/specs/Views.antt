@@ -56,11 +56,13 @@ shown_text slice Cut = []
 
 -- ---- numbers and timestamps
 
+-- a number or timestamp from the code, as a scalar
 abbrev pub as_number : Number → Scalar SymbolAt
 as_number (numbers.Int int) = value.int int
 as_number (numbers.Decimal decimal) = value.decimal decimal
 as_number (numbers.Timestamp timestamp) = value.timestamp timestamp
 
+-- a number or timestamp from the code, as a token
 abbrev pub number_token : Number → Token
 number_token x = plain (as_number x)
 
@@ -87,6 +89,7 @@ id_in digits = if nat_lt 0 (length digits) && all_are is_digit digits then Some 
 abbrev pub text_or_container : List ℕ → Option IonType
 text_or_container name = named_in (type.String ∷ type.Clob ∷ type.Blob ∷ type.List ∷ type.Sexp ∷ type.Struct ∷ []) name
 
+-- there is a byte, and it is a point
 abbrev pub is_point : Option ℕ → Bool
 is_point (Some b) = b == 46
 is_point None = false

@@ -2,6 +2,7 @@
 use Rattle.std.specs.Prelude.{ℕ, ◌+◌, ◌/◌, ◌%◌, Bool, not, ◌&&◌, ◌==◌, nat_le, nat_lt, if◌then◌else◌, List, [], ◌∷◌, ◌++◌, Option, Some, None}
 use Rattle.std.specs.List.{flat_map}
 
+-- the hex digit of a number below 16, in lower case
 abbrev pub hex_digit : ℕ → ℕ
 hex_digit n = if nat_lt n 10 then 48 + n else 87 + n
 
@@ -26,15 +27,19 @@ letter b =
 abbrev pub is_shown : ℕ → ℕ → ℕ → Bool
 is_shown quote top b = nat_le 32 b && (nat_lt b top && (not (b == 127) && (not (b == quote) && not (b == 92))))
 
+-- the escape of a byte: by its letter, where it has one, and else by its code
 abbrev pub escape_by : ℕ → Option ℕ → List ℕ
 escape_by b (Some c) = 92 ∷ c ∷ []
 escape_by b None = hex_escape b
 
+-- the escape of a byte between these quotes, which is a backslash before the quote itself
 abbrev pub escaped : ℕ → ℕ → List ℕ
 escaped quote b = if b == quote then 92 ∷ b ∷ [] else escape_by b (letter b)
 
+-- a byte between these quotes: itself where it may stand for itself, and else its escape; bytes from `top` on have escapes
 abbrev pub byte_text : ℕ → ℕ → ℕ → List ℕ
 byte_text quote top b = if is_shown quote top b then b ∷ [] else escaped quote b
 
+-- bytes between two of these quotes, those from `top` on by escapes
 abbrev pub between_quotes : ℕ → ℕ → List ℕ → List ℕ
 between_quotes quote top bytes = quote ∷ (flat_map (byte_text quote top) bytes ++ quote ∷ [])

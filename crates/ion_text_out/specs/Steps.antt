@@ -21,9 +21,11 @@ opened_in w = shown w.kinds w.empty
 abbrev pub held_by : {A : Type 0} → TextWriter A → ℕ
 held_by w = 16 * length w.kinds
 
+-- the most counted bytes that it may hold, by its limits
 abbrev pub share_of : {A : Type 0} → TextWriter A → ℕ
 share_of w = 16 * w.limits.depth
 
+-- what holds of it between calls: its limits are checked, and no more containers are open than may be
 abbrev pub IsSound : {A : Type 0} → TextWriter A → Type 0
 IsSound w = IsReady w.limits (length w.kinds)
 

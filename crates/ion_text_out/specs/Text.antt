@@ -19,6 +19,7 @@ abbrev pub symbol_text : UserSymbol → List ℕ
 symbol_text (Known t) = if is_plain t then t else between_quotes 39 256 t
 symbol_text Unknown = codes "$0"
 
+-- the text of a scalar, without field and annotations
 abbrev pub scalar_text : Scalar UserSymbol → List ℕ
 scalar_text (v.null type) = null_text type
 scalar_text (v.bool truth) = bool_text truth
@@ -30,23 +31,28 @@ scalar_text (v.string bytes) = between_quotes 34 256 bytes
 scalar_text (v.clob bytes) = codes "{{" ++ (between_quotes 34 128 bytes ++ codes "}}")
 scalar_text (v.blob bytes) = codes "{{" ++ (encode_of standard bytes ++ codes "}}")
 
+-- a field's name and a colon, and nothing where there is no field
 abbrev pub field_text : Option UserSymbol → List ℕ
 field_text None = []
 field_text (Some s) = symbol_text s ++ codes ":"
 
+-- an annotation and its two colons
 abbrev pub annotation_text : UserSymbol → List ℕ
 annotation_text s = symbol_text s ++ codes "::"
 
+-- the bracket that opens a container of a kind
 abbrev pub opener : Kind → List ℕ
 opener list = codes "["
 opener sexp = codes "("
 opener struct = codes "{"
 
+-- the bracket that closes a container of a kind
 abbrev pub closer : Kind → List ℕ
 closer list = codes "]"
 closer sexp = codes ")"
 closer struct = codes "}"
 
+-- what stands between two members of a container of a kind: a comma, and in a sexp a space
 abbrev pub separator : Kind → List ℕ
 separator list = codes ","
 separator sexp = codes " "
@@ -57,6 +63,7 @@ abbrev pub before_next : Kind → Bool → List ℕ
 before_next kind true = []
 before_next kind false = separator kind
 
+-- there are no members
 abbrev pub is_empty : {S P : Type 0} → Members S P → Bool
 is_empty nothing = true
 is_empty (member before field annotations place value) = false
@@ -64,10 +71,12 @@ is_empty (member before field annotations place value) = false
 -- ---- whole values
 
 abbrev mutual
+  -- the text of a value, without field and annotations
   pub value_text : {P : Type 0} → Value UserSymbol P → List ℕ
   value_text (scalar body) = scalar_text body
   value_text (container kind members last) = opener kind ++ (members_text kind members ++ closer kind)
 
+  -- the text of the members of a container of this kind, with separators between them
   pub members_text : {P : Type 0} → Kind → Members UserSymbol P → List ℕ
   members_text kind nothing = []
   members_text kind (member before field annotations place value) =
@@ -78,6 +87,7 @@ abbrev pub top_text : {P : Type 0} → Top UserSymbol P → List ℕ
 top_text (v.version place) = []
 top_text (tree first annotations place value) = flat_map annotation_text annotations ++ (value_text value ++ codes "\n")
 
+-- the text of values at top level, a line for each
 abbrev pub text : {P : Type 0} → List (Top UserSymbol P) → List ℕ
 text tops = flat_map top_text tops
 
@@ -88,6 +98,7 @@ abbrev pub inner_kind : {S P : Type 0} → Nest S P → Kind
 inner_kind (outermost annotations place kind members) = kind
 inner_kind (inner around field annotations place kind members) = kind
 
+-- the members so far of the innermost open container
 abbrev pub inner_members : {S P : Type 0} → Nest S P → Members S P
 inner_members (outermost annotations place kind members) = members
 inner_members (inner around field annotations place kind members) = members
@@ -100,6 +111,7 @@ nest_text (inner around field annotations place kind members) =
     ++ (before_next (inner_kind around) (is_empty (inner_members around))
     ++ (field_text field ++ (flat_map annotation_text annotations ++ (opener kind ++ members_text kind members))))
 
+-- the text of a path: its whole values, and behind them what is open
 abbrev pub path_text : {P : Type 0} → Path UserSymbol P → List ℕ
 path_text (closed tops) = text tops
 path_text (opened tops first nest) = text tops ++ nest_text nest
@@ -110,22 +122,27 @@ path_text (opened tops first nest) = text tops ++ nest_text nest
 abbrev pub Open : Type 0
 Open = List (Kind × Bool)
 
+-- what stands before a value: a separator where the innermost open container has a member
 abbrev pub before_item : Open → List ℕ
 before_item [] = []
 before_item (c ∷ cs) = before_next c.0 c.1
 
+-- what stands behind a whole value: the end of its line at top level
 abbrev pub behind_value : Open → List ℕ
 behind_value [] = codes "\n"
 behind_value (c ∷ cs) = []
 
+-- the open containers, of which the innermost has a member now
 abbrev pub with_member : Open → Open
 with_member [] = []
 with_member (c ∷ cs) = (c.0, false) ∷ cs
 
+-- what a container's end adds: the bracket that closes the innermost, and the line's end where none is open around that
 abbrev pub end_text : Open → List ℕ
 end_text [] = []
 end_text (c ∷ cs) = closer c.0 ++ behind_value cs
 
+-- what an item adds, by its head; `prefix` is the text of its field and annotations
 abbrev pub head_text : Open → List ℕ → Head UserSymbol → List ℕ
 head_text cs prefix (v.whole body) = before_item cs ++ (prefix ++ (scalar_text body ++ behind_value cs))
 head_text cs prefix (v.begin kind) = before_item cs ++ (prefix ++ opener kind)
@@ -136,6 +153,7 @@ head_text cs prefix v.marker = []
 abbrev pub item_text : {P : Type 0} → Open → Item UserSymbol P → List ℕ
 item_text cs i = head_text cs (field_text i.field ++ flat_map annotation_text i.annotations) i.head
 
+-- the open containers behind an item
 abbrev pub open_after : Open → Head UserSymbol → Open
 open_after cs (v.whole body) = with_member cs
 open_after cs (v.begin kind) = (kind, true) ∷ with_member cs

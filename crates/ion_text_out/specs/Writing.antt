@@ -13,9 +13,11 @@ use Rattle.ion_text_out.specs.Text.{Open, annotation_text, before_item, behind_v
 abbrev pub text_puts : Limits → List PlacedItem → List ℕ
 text_puts limits path = items_text [] (user_items path)
 
+-- what an item behind others adds
 abbrev pub text_adds : Limits → List PlacedItem → PlacedItem → List ℕ
 text_adds limits path item = item_text (open_behind [] (user_items path)) (user_item item)
 
+-- the refusal of an item behind others: there is none
 abbrev pub text_refusal : Limits → List PlacedItem → PlacedItem → Option (Reason × ℕ)
 text_refusal limits path item = None
 
@@ -26,9 +28,11 @@ abbrev pub shown_in : List Kind → Bool → Open
 shown_in [] empty = []
 shown_in (kind ∷ kinds) empty = (kind, empty) ∷ map (λ k. (k, false)) kinds
 
+-- the open containers as the definitions have them, the innermost first; it alone may be empty
 abbrev pub shown : List Kind → Bool → Open
 shown kinds empty = shown_in (reverse kinds) empty
 
+-- the kind of the innermost of these containers, where there is one
 abbrev pub innermost : List Kind → Option Kind
 innermost kinds = slice_get (reverse kinds) 0
 
@@ -39,6 +43,7 @@ abbrev pub closing : Open → List ℕ
 closing [] = []
 closing (c ∷ cs) = closer c.0
 
+-- the first part of an item's text: a separator before a value where one is due, and the bracket that a container ends with
 abbrev pub first_text : {S : Type 0} → Open → Head S → List ℕ
 first_text cs (v.whole body) = before_item cs
 first_text cs (v.begin kind) = before_item cs
@@ -50,42 +55,50 @@ abbrev pub behind_end : Open → List ℕ
 behind_end [] = []
 behind_end (c ∷ cs) = behind_value cs
 
+-- the last part of an item's text: behind a whole value at top level the end of its line, and else nothing
 abbrev pub last_text : {S : Type 0} → Open → Head S → List ℕ
 last_text cs (v.whole body) = behind_value cs
 last_text cs (v.begin kind) = []
 last_text cs v.end = behind_end cs
 last_text cs v.marker = []
 
+-- the text of a scalar, or the bracket that opens a container; nothing of an end or a marker
 abbrev pub body_text : Head UserSymbol → List ℕ
 body_text (v.whole body) = scalar_text body
 body_text (v.begin kind) = opener kind
 body_text v.end = []
 body_text v.marker = []
 
+-- annotations, each with its two colons
 abbrev pub annotations_text : List SymbolAt → List ℕ
 annotations_text annotations = flat_map annotation_text (map user_symbol_at annotations)
 
+-- an annotation and its two colons, and nothing where there is none
 abbrev pub next_annotation_text : Option SymbolAt → List ℕ
 next_annotation_text None = []
 next_annotation_text (Some at) = annotation_text (user_symbol_at at)
 
+-- a field's name and a colon, and nothing where there is no field
 abbrev pub name_text : Option SymbolAt → List ℕ
 name_text field = field_text (option_map user_symbol_at field)
 
--- what stands between: nothing for an end
+-- a scalar or a container's beginning: of other items nothing stands between the first part and the last
 abbrev pub is_value : {S : Type 0} → Head S → Bool
 is_value (v.whole body) = true
 is_value (v.begin kind) = true
 is_value v.end = false
 is_value v.marker = false
 
+-- this text, where an item is or begins a value, and else nothing
 abbrev pub where_value : Bool → List ℕ → List ℕ
 where_value true text = text
 where_value false text = []
 
+-- a field and annotations, and then a scalar or the bracket that opens a container
 abbrev pub value_text : Option SymbolAt → List SymbolAt → Head SymbolAt → List ℕ
 value_text field annotations head = name_text field ++ (annotations_text annotations ++ body_text (map_head user_symbol_at head))
 
+-- the part of an item's text between the first and the last: nothing of an end or a marker
 abbrev pub middle_text : PlacedItem → List ℕ
 middle_text item = where_value (is_value item.head) (value_text item.field item.annotations item.head)
 

@@ -18,12 +18,15 @@ items_append cs (i ∷ is) js =
 pub one_more : (is : List (Item UserSymbol ℕ)) (i : Item UserSymbol ℕ) → items_text [] (is ++ i ∷ []) ≡ items_text [] is ++ item_text (open_behind [] is) i
 one_more is i = items_append [] is (i ∷ []) ∙ ap (λ t. items_text [] is ++ t) (append-nil (item_text (open_behind [] is) i))
 
+-- items and one more, as a user knows them, are those items and then that one
 pub user_items-append : (path : List PlacedItem) (item : PlacedItem) → user_items (path ++ item ∷ []) ≡ user_items path ++ user_item item ∷ []
 user_items-append [] item = refl
 user_items-append (i ∷ path) item = ap (λ (l : List (Item UserSymbol ℕ)). user_item i ∷ l) (user_items-append path item)
 
+-- behind what is put for items comes what one more adds
 pub text_grows : (limits : Limits) (path : List PlacedItem) (item : PlacedItem) → text_refusal limits path item ≡ None → text_puts limits (path ++ item ∷ []) ≡ text_puts limits path ++ text_adds limits path item
 text_grows limits path item none = ap (λ (l : List (Item UserSymbol ℕ)). items_text [] l) (user_items-append path item) ∙ one_more (user_items path) (user_item item)
 
+-- with `level` containers open a writer holds no more than its limits allow, which is 2^59 at most
 pub text-within : (limits : Limits) (level : ℕ) → IsReady limits level → WritesWithin (16 * level) (16 * limits.depth)
 text-within limits level ready = record { share = omega (arith, ready.deep); small = omega (arith, ready.checked.depth) }

@@ -40,11 +40,13 @@ pub record IsCatalogIn (e : Encoding) (limits : Limits) (bytes : List ℕ) (tabl
   pub cheap : catalog_cost tables ≤ limits.symbols
   pub accepted : HasVerdictFrom e (as_catalog limits) [] limits bytes (Accepted (length values)) []
 
+-- so it is in the form that the stream's first byte tells
 abbrev pub IsCatalog : Limits → List ℕ → List Shared → Type 0
 IsCatalog limits bytes tables = IsCatalogIn (encoding_of (form_of bytes)) limits bytes tables
 
 -- ---- as it is read item by item
 
+-- the raw items of a stream and how they end, in the form that its first byte tells
 abbrev pub catalog_reading : Limits → List ℕ → Reading
 catalog_reading limits bytes = reading_of (form_of bytes) limits bytes
 
@@ -52,6 +54,7 @@ catalog_reading limits bytes = reading_of (form_of bytes) limits bytes
 abbrev pub catalog_users : Limits → Reading → Reading
 catalog_users limits raw = users [] limits.symbols at_start raw
 
+-- the verdict on a raw reading with the fault rules of a catalogue, its user items being those under the empty catalogue
 abbrev pub catalog_verdict : Limits → Reading → Verdict
 catalog_verdict limits raw = verdict (as_catalog limits) [] limits raw
 

@@ -57,6 +57,7 @@ path_output target.Text limits path = path_text path
 path_output target.Binary limits path = binary limits.symbols (whole_tops path)
 path_output target.Nothing limits path = []
 
+-- the reason and the place for which the target's writer refuses an item behind a path of user values, if it does
 abbrev pub path_refusal : Target → Limits → Path UserSymbol ℕ → PlacedItem → Option (Reason × ℕ)
 path_refusal target.Text limits path item = None
 path_refusal target.Binary limits path item = refused_behind limits path item

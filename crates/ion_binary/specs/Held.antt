@@ -74,7 +74,7 @@ abbrev pub without_wrapper : List HeaderPlace → List HeaderPlace
 without_wrapper [] = []
 without_wrapper (h ∷ hs) = if nat_eq h.code 14 then hs else h ∷ hs
 
--- those of the innermost container: its own, and then its wrapper's
+-- the octets where the innermost container's own header has gone in, which stands first in the list
 abbrev pub innermost_in : List ℕ → List HeaderPlace → List ℕ
 innermost_in octets [] = octets
 innermost_in octets (h ∷ hs) = headed_at h octets
@@ -89,7 +89,7 @@ headers_around hs = without_wrapper (drop 1 hs)
 
 -- ---- an item more
 
--- its field and the ids of its annotations come first, and these from a place on; their length goes in before them
+-- the ids of annotations behind the length of all of them, and nothing where there are no annotations
 abbrev pub counted_ids : List ℕ → List ℕ
 counted_ids [] = []
 counted_ids (n ∷ ns) = var_uint_octets (length (n ∷ ns)) ++ (n ∷ ns)

@@ -1,5 +1,5 @@
 -- What contracts see of the scalars and the declarations that are written.
-use Rattle.std.specs.Prelude.{ℕ, ◌+◌, List, [], ◌∷◌, ◌++◌, length, Option, Some, None}
+use Rattle.std.specs.Prelude.{ℕ, ◌+◌, List, [], ◌∷◌, ◌++◌, length}
 use Rattle.std.specs.List.{flat_map}
 use Rattle.ion_value.specs.declared.item.Head.{Head as CodeHead}
 use Rattle.ion_value.specs.Items.{raw_head}
@@ -43,11 +43,6 @@ opening code inside more = header code (length inside + more) ++ inside
 -- the strings of the texts that are declared
 abbrev pub strings_octets : List (List ℕ) → List ℕ
 strings_octets texts = flat_map (λ t. headed 8 t) texts
-
--- a text that is declared as a string, and nothing where there is none
-abbrev pub next_string : Option (List ℕ) → List ℕ
-next_string None = []
-next_string (Some t) = headed 8 t
 
 -- what stands before strings of so many octets: the annotation `$ion_symbol_table`, the field `imports` with that symbol, and the field
 -- `symbols`, each behind its header

@@ -12,8 +12,10 @@ unheaded (c ∷ cs) = unheaded cs ++ (c.field ++ (c.annotations ++ c.body))
 abbrev pub header_size : ℕ → ℕ
 header_size n = suc (length (length_octets n))
 
--- the places of the headers that are missing, the innermost first: a container's, and its wrapper's where it has annotations; all that
--- is there behind a place is what the header is of
+-- ---- the headers that are missing, the innermost first: a container's, and its wrapper's where it has annotations; each is of all that is
+-- there behind its place
+
+-- the place of a wrapper's header, by the ids of the annotations and where they begin; none where there are no annotations
 abbrev pub wrapper_places : List ℕ → ℕ → List ℕ
 wrapper_places [] place = []
 wrapper_places (n ∷ ns) place = place ∷ []

@@ -141,7 +141,7 @@ TurnGives now t result new = TurnAs t result (declaring_in now new) (table_left 
 -- a call that may hold more can be made
 pub record CanTake {A : Type 0} (most : ℕ) (now : Present) (b : SymbolBuffer A) (meter : Counts) : Type 0 where
   pub room : meter.held ≤ 2 ^ 62
-  pub then_turn : own_of b ≤ meter.held
+  pub held : own_of b ≤ meter.held
   pub countable : meter.refused < 2 ^ 64 - 1
   pub small : most ≤ 2 ^ 30
   pub pending : IsPending most now.table b

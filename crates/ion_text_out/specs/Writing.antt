@@ -38,7 +38,7 @@ innermost kinds = slice_get (reverse kinds) 0
 
 -- ---- the parts of an item's text
 
--- what stands first: a separator, or the bracket that closes
+-- the bracket that the innermost container ends with, and nothing where none is open
 abbrev pub closing : Open → List ℕ
 closing [] = []
 closing (c ∷ cs) = closer c.0

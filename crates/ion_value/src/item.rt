@@ -50,7 +50,7 @@ pub enum Annotation {
 }
 
 /// What an item is: a value without members, the beginning or the end of a container, or a version
-/// version marker.
+/// marker.
 #[derive(Clone, Copy, Debug, PartialEq, Eq)]
 pub enum Head<'a> {
     /// The null of a type.

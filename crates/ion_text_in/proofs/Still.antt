@@ -1,5 +1,5 @@
 -- A piece that is whole at a slice's end, and that no more bytes change.
-use Rattle.std.proofs.Common.{◌≡◌, ℕ, ◌+◌, Bool, true, false, ◌&&◌, ◌||◌, ◌==◌, if◌then◌else◌, List, [], ◌∷◌, ◌++◌, length, Option, Some, None, refl, ap, ◌∙◌, inl, inr, arith}
+use Rattle.std.proofs.Common.{◌≡◌, ℕ, ◌+◌, Bool, true, false, ◌&&◌, ◌||◌, ◌==◌, if◌then◌else◌, List, [], ◌∷◌, ◌++◌, length, Option, Some, None, refl, sym, subst, ap, ◌∙◌, inl, inr, arith}
 use Rattle.std.proofs.lemmas.Bool.{cases_Bool}
 use Rattle.std.proofs.lemmas.Bool.Decides.{nat_tests}
 use Rattle.ion_value.specs.Name.{begins_with}
@@ -8,7 +8,9 @@ use Rattle.ion_text_in.specs.declared.quoted.Quote.TheVariants as code
 use Rattle.ion_text_in.specs.Quoted as quoted
 use Rattle.ion_text_in.specs.Quoted.{Quote, Piece, char, close, illegal, cut, hex_behind, piece_at}
 use Rattle.ion_text_in.specs.Quotes.{quote_of}
-use Rattle.ion_text_in.specs.Pieces.{may_go_on}
+use Rattle.ion_text_in.specs.declared.piece.Piece.{Piece as CodePiece}
+use Rattle.ion_text_in.specs.declared.piece.Piece.TheVariants as code_piece
+use Rattle.ion_text_in.specs.Pieces.{piece_of, ShowsPiece, may_go_on}
 use Rattle.ion_text_in.proofs.Quotes.{quote_of-is}
 use Rattle.ion_text_in.proofs.ShownPieces.{IsWhole, piece-shown}
 
@@ -105,3 +107,13 @@ piece-still code.ShortClob (a ∷ b ∷ []) more e w = two-short 34 true a b mor
 piece-still code.Long (a ∷ b ∷ []) more e w = two-long false a b more e w
 piece-still code.LongClob (a ∷ b ∷ []) more e w = two-long true a b more e w
 piece-still q (a ∷ b ∷ c ∷ bytes) more e w = piece-shown (quote_of q) (a ∷ b ∷ c ∷ bytes) more (quote_of-is q) (omega arith) w
+
+-- a slice that no more bytes change shows the piece at its front
+pub shown : (q : CodeQuote) (bytes : List ℕ) (piece : CodePiece) → may_go_on (quote_of q) bytes ≡ false → piece_of piece ≡ piece_at (quote_of q) bytes
+    → ShowsPiece (quote_of q) bytes piece
+shown q bytes (code_piece.Char c n) still e = λ more. piece-still q bytes more still (subst IsWhole e tt) ∙ sym e
+shown q bytes (code_piece.Byte b n) still e = λ more. piece-still q bytes more still (subst IsWhole e tt) ∙ sym e
+shown q bytes (code_piece.Nothing n) still e = λ more. piece-still q bytes more still (subst IsWhole e tt) ∙ sym e
+shown q bytes (code_piece.Close n) still e = λ more. piece-still q bytes more still (subst IsWhole e tt) ∙ sym e
+shown q bytes code_piece.Illegal still e = λ more. piece-still q bytes more still (subst IsWhole e tt) ∙ sym e
+shown q bytes code_piece.Cut still e = tt

@@ -38,8 +38,9 @@ enum HexDigits {
     Cut,
 }
 
-/// The closing quote of a text that is not long, or an escape by a letter, which stand most often
-/// behind plain bytes. `Cut` for any other piece, and where the bytes end before.
+/// The closing quote of a text that is not long, or an escape by a letter or by two or four digits,
+/// which stand most often behind plain bytes. `Cut` for any other piece, and where the bytes end
+/// before.
 #[inline(always)]
 pub(crate) fn quick_piece(quote: Quote, bytes: &[u8]) -> Piece
     ensures shows { ShowsPiece (quote_of quote) bytes.now result }
@@ -47,13 +48,22 @@ pub(crate) fn quick_piece(quote: Quote, bytes: &[u8]) -> Piece
     ensures some { TakesSome result }
 {
     match bytes {
-        [b'\\', byte, ..] => match letter(*byte) {
+        [b'\\', byte, digits @ ..] => match letter(*byte) {
             Some(meant) => Piece::Byte(meant, 2),
+            None if is_short_code(*byte) => coded(quote.in_clob(), *byte, digits),
             None => Piece::Cut,
         },
         [byte, ..] if *byte == quote.mark() && !quote.is_long() => Piece::Close(1),
         _ => Piece::Cut,
     }
+}
+
+// Whether a letter behind a backslash has two or four hex digits behind it.
+#[inline(always)]
+fn is_short_code(byte: u8) -> bool
+    ensures { result ≡ (byte == 120 || byte == 117) }
+{
+    byte == b'x' || byte == b'u'
 }
 
 /// The piece at the front of some bytes that more may follow, or `Cut` where what follows may

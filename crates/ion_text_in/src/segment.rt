@@ -185,6 +185,9 @@ fn put_char<A: Allocator + Copy>(
     ensures grown { Grown meter.old meter.new (length text.old) (length text.new) limits.scalar
         (fault_of result) }
 {
+    if character.is_ascii() {
+        return put_byte(text, character as u8, place, limits, meter);
+    }
     let mut room = [0; 4];
     put(
         text,

@@ -10,6 +10,8 @@ mod Pendings
 mod Viewing
 mod Turning
 mod Checking
+mod Answering
+mod Sharing
 mod Turns
 mod UserTurns
 mod DeclarationReadings

@@ -1,4 +1,5 @@
-use Rattle.std.proofs.Common.{rules, refl, le_trans, subst, ◌∙◌, ◌≡◌, ◌≤◌, None, Ok, true, false, arith}
+use Rattle.std.proofs.Common.{rules, refl, le_trans, subst, ◌∙◌, ◌≡◌, ◌≤◌, None, Ok, true, false, arith, ap, ◌+◌}
+use Rattle.std.proofs.lemmas.Grind.{common_steps}
 use Rattle.ion_value.specs.Items.{raw_item}
 use Rattle.ion_value.specs.Reading.{More}
 use Rattle.ion_value.specs.Shares.{ReadCauses, fault_of}
@@ -6,7 +7,10 @@ use Rattle.ion_value.specs.Standing.{open_after}
 use Rattle.ion_symbols.specs.Table.{text_at}
 use Rattle.ion_symbols.specs.Declaration.{Ground, next, item_view, turn, on, made}
 use Rattle.ion_symbols.specs.Users.{checked, declaring, users}
-use Rattle.ion_symbols.specs.Buffer.{declaring_of, depth_of, pending_of}
+use Rattle.ion_symbols.specs.Buffer.{declaring_of, depth_of, own_of, pending_of}
+use Rattle.ion_meter.specs.declared.fault.Fault.TheVariants.{Memory, ReadFault, Refused}
+use Rattle.ion_symbols.proofs.Answering.{no_fault, ok-not-err, err-not-ok, same_fault, true-not-false}
+use Rattle.ion_symbols.proofs.Sharing.{falls_within, pending_within, causes_after, charges_both}
 use Rattle.ion_symbols.proofs.Turns.{level-on, level-made, goes_on, goes_out, turn_refused, not_failed, stopped, check_causes}
 use Rattle.ion_symbols.proofs.buffer.gather.Goals as goal
 
@@ -19,20 +23,29 @@ returns-in-Ok-true-clause-gives g c = record {
       let d = declaring_of s.catalog c.items.buffer in
       let u = next s.table (pending_of s.catalog c.take.new.self) in
       let item = raw_item c.item-item.result in
-      let more : r.reading c.items.raw ≡ More (r.current c.next.new.self) (r.reading c.next.new.self) = search rules in
-      let turns : turn (record { catalog = s.catalog; limit = c.args.limit; old = s.table }) d (item_view (text_at s.table) item) ≡ made u = search rules in
+      let ok : c.next.result ≡ Ok true = c.in_ok-next.was ∙ ap Ok c.if-branch.true in
+      let more : r.reading c.items.raw ≡ More (r.current c.next.new.self) (r.reading c.next.new.self) = c.next.ensures.gives (c.items.invariant.observable.0 t) ok in
+      let turns : turn (record { catalog = s.catalog; limit = c.args.limit; old = s.table }) d (item_view (text_at s.table) item) ≡ made u =
+      rw c.in-Ok-true.field-0-test at c.in-Ok-true.ensures.turn in
       let first = users s.catalog c.args.limit (record { table = s.table; mode = declaring (declaring_of s.catalog c.args.buffer.now) }) (r.reading c.args.raw.now) in
       goes_out s.catalog c.args.limit s.table d u (r.current c.next.new.self) item first (r.reading c.items.raw) (r.reading c.next.new.self) c.check_item.result
       (c.items.invariant.coming t) more c.item-item.ensures c.check_item.ensures c.in_default.is turns;
-  ends = λ t e. cc;
-  refuses = λ t well reason place e. cc;
+  ends = λ t e. absurd (true-not-false e);
+  refuses = λ t well reason place e. absurd (ok-not-err true (Refused reason place) e);
 }
 
 pub returns-in-Ok-true-clause-gathered : goal.returns-in-Ok-true-clause-gathered
 returns-in-Ok-true-clause-gathered g c = record {
-  pending = search rules;
-  nameless = search rules;
-  counted = search rules;
+  pending = c.in-Ok-true.ensures.pending;
+  nameless = λ e. c.take.ensures.nameless (c.in-Ok-true.is ∙ ap Ok c.in-Ok-true.field-0-test);
+  counted =
+      let r = g.R.RawReader in
+      let ok : c.next.result ≡ Ok true = c.in_ok-next.was ∙ ap Ok c.if-branch.true in
+      let none : fault_of c.next.result ≡ None = rw ok refl in
+      let well : r.failed c.items.raw ≡ None = not_failed (r.failed c.items.raw) c.next.result (λ f e. (c.next.ensures.again f e).0) true ok in
+      let causes : ReadCauses None c.items.meter c.next.new.meter (r.failures c.items.raw) (r.failures c.next.new.self) (r.exceeds c.items.raw) =
+      rw none at (c.next.ensures.causes well) in
+      c.in-Ok-true.ensures.takes.causes.counted (no_fault Memory) ∙ (causes.counted (no_fault Memory) ∙ c.items.invariant.refused);
   level = λ o.
       let r = g.R.RawReader in
       let s = c.args.symbols.now in
@@ -40,8 +53,9 @@ returns-in-Ok-true-clause-gathered g c = record {
       let d = declaring_of s.catalog c.items.buffer in
       let u = next s.table (pending_of s.catalog c.take.new.self) in
       let item = raw_item c.item-item.result in
-      let opens : r.opened c.next.new.self ≡ open_after (r.opened c.items.raw) (r.current c.next.new.self).head = search rules in
-      let turns : turn ground d (item_view (text_at s.table) item) ≡ made u = search rules in
+      let ok : c.next.result ≡ Ok true = c.in_ok-next.was ∙ ap Ok c.if-branch.true in
+      let opens : r.opened c.next.new.self ≡ open_after (r.opened c.items.raw) (r.current c.next.new.self).head = c.next.ensures.opens ok in
+      let turns : turn ground d (item_view (text_at s.table) item) ≡ made u = rw c.in-Ok-true.field-0-test at c.in-Ok-true.ensures.turn in
       level-made (text_at s.table) ground d u (r.current c.next.new.self) item (r.opened c.items.raw) (r.opened c.next.new.self)
       c.items.invariant.level opens c.item-item.ensures turns;
 }
@@ -49,17 +63,18 @@ returns-in-Ok-true-clause-gathered g c = record {
 -- the item is refused
 pub returns-in-Err-take-clause-gives : goal.returns-in-Err-take-clause-gives
 returns-in-Err-take-clause-gives g c = record {
-  gives = λ t e. cc;
-  ends = λ t e. cc;
+  gives = λ t e. absurd (err-not-ok c.in-Err-take.fault true e);
+  ends = λ t e. absurd (err-not-ok c.in-Err-take.fault false e);
   refuses = λ t well reason place o.
       let r = g.R.RawReader in
       let s = c.args.symbols.now in
       let d = declaring_of s.catalog c.items.buffer in
       let item = raw_item c.item-item.result in
-      let more : r.reading c.items.raw ≡ More (r.current c.next.new.self) (r.reading c.next.new.self) = search rules in
+      let ok : c.next.result ≡ Ok true = c.in_ok-next.was ∙ ap Ok c.if-branch.true in
+      let more : r.reading c.items.raw ≡ More (r.current c.next.new.self) (r.reading c.next.new.self) = c.next.ensures.gives (c.items.invariant.observable.0 t) ok in
       let e = declaring_of s.catalog c.take.new.self in
       let u = next s.table (pending_of s.catalog c.take.new.self) in
-      let turns = stopped _ c.in-Err-take.fault e u reason place c.in-Err-take.ensures.turn cc in
+      let turns = stopped _ c.in-Err-take.fault e u reason place c.in-Err-take.ensures.turn (same_fault c.in-Err-take.fault (Refused reason place) o) in
       let first = users s.catalog c.args.limit (record { table = s.table; mode = declaring (declaring_of s.catalog c.args.buffer.now) }) (r.reading c.args.raw.now) in
       turn_refused s.catalog c.args.limit s.table d (r.current c.next.new.self) item first (r.reading c.items.raw) (r.reading c.next.new.self)
       c.check_item.result reason place (c.items.invariant.coming t) more c.item-item.ensures c.check_item.ensures c.in_default.is turns;
@@ -70,13 +85,14 @@ pub returns-in-Err-clause-causes : goal.returns-in-Err-clause-causes
 returns-in-Err-clause-causes g c = λ well.
     let r = g.R.RawReader in
     let s = c.args.symbols.now in
-    let ok : c.next.result ≡ Ok true = search rules in
+    let ok : c.next.result ≡ Ok true = c.in_ok-next.was ∙ ap Ok c.if-branch.true in
     let none : fault_of c.next.result ≡ None = rw ok refl in
     let fresh : r.failed c.items.raw ≡ None = c.items.invariant.fresh well in
     let causes : ReadCauses None c.items.meter c.next.new.meter (r.failures c.items.raw) (r.failures c.next.new.self) (r.exceeds c.items.raw) =
     rw none at (c.next.ensures.causes fresh) in
     let same : ReadCauses None c.args.meter.now c.next.new.meter (r.failures c.args.raw.now) (r.failures c.next.new.self) (r.exceeds c.args.raw.now) =
-    search rules in
+    causes_after None c.args.meter.now c.items.meter c.next.new.meter (r.failures c.args.raw.now) (r.failures c.items.raw) (r.failures c.next.new.self)
+    (r.exceeds c.args.raw.now) (r.exceeds c.items.raw) c.items.invariant.refused c.items.invariant.failures c.items.invariant.exceeds.1 causes in
     check_causes (checked s.table false (raw_item c.item-item.result)) c.in-Err.fault _ _ _ _ _ c.in-Err.ensures same
 
 -- the declaration goes on
@@ -84,35 +100,39 @@ pub items-preserved : goal.items-preserved
 items-preserved g c =
     let r = g.R.RawReader in
     let s = c.args.symbols.now in
+    let i = c.items.invariant in
     let ground : Ground = record { catalog = s.catalog; limit = c.args.limit; old = s.table } in
     let d = declaring_of s.catalog c.items.buffer in
     let e = declaring_of s.catalog c.take.new.self in
     let item = raw_item c.item-item.result in
-    let opens : r.opened c.next.new.self ≡ open_after (r.opened c.items.raw) (r.current c.next.new.self).head = search rules in
-    let turns : turn ground d (item_view (text_at s.table) item) ≡ on e = search rules in
-    let ok : c.next.result ≡ Ok true = search rules in
+    let ok : c.next.result ≡ Ok true = c.in_ok-next.was ∙ ap Ok c.if-branch.true in
+    let opens : r.opened c.next.new.self ≡ open_after (r.opened c.items.raw) (r.current c.next.new.self).head = c.next.ensures.opens ok in
+    let turns : turn ground d (item_view (text_at s.table) item) ≡ on e = rw c.in-Ok-false.field-0-test at c.in-Ok-false.ensures.turn in
     let none : fault_of c.next.result ≡ None = rw ok refl in
     let well : r.failed c.items.raw ≡ None = not_failed (r.failed c.items.raw) c.next.result (λ f e. (c.next.ensures.again f e).0) true ok in
     let causes : ReadCauses None c.items.meter c.next.new.meter (r.failures c.items.raw) (r.failures c.next.new.self) (r.exceeds c.items.raw) =
     rw none at (c.next.ensures.causes well) in
     record {
-      sound = search rules;
-      pending = search rules;
+      sound = c.next.ensures.sound;
+      pending = c.in-Ok-false.ensures.pending;
       level = level-on (text_at s.table) ground d e (r.current c.next.new.self) item (r.opened c.items.raw) (r.opened c.next.new.self)
           c.items.invariant.level opens c.item-item.ensures turns;
       fresh = λ o. c.next.ensures.failed ∙ none;
-      observable = search rules;
+      observable = (λ o. c.next.ensures.observable.1 (i.observable.0 o), λ o. i.observable.1 (c.next.ensures.observable.0 o));
       coming = λ t.
-          let more : r.reading c.items.raw ≡ More (r.current c.next.new.self) (r.reading c.next.new.self) = search rules in
+          let more : r.reading c.items.raw ≡ More (r.current c.next.new.self) (r.reading c.next.new.self) = c.next.ensures.gives (i.observable.0 t) ok in
           goes_on s.catalog c.args.limit s.table d e (r.current c.next.new.self) item _ (r.reading c.items.raw) (r.reading c.next.new.self) c.check_item.result
           (c.items.invariant.coming t) more c.item-item.ensures c.check_item.ensures c.in_default.is turns;
-      left = search rules;
-      refused = search rules;
-      failures = search rules;
-      exceeds = search rules;
-      depth = search rules;
-      most = search rules;
-      charges = search rules;
+      left = falls_within (r.left c.next.new.self) (r.left c.items.raw) (r.left c.args.raw.now) (c.next.ensures.falls ok) i.left;
+      refused = c.in-Ok-false.ensures.takes.causes.counted (no_fault Memory) ∙ (causes.counted (no_fault Memory) ∙ i.refused);
+      failures = causes.steady (no_fault ReadFault) ∙ i.failures;
+      exceeds = (λ o. c.next.ensures.exceeds.1 (i.exceeds.0 o), λ o. i.exceeds.1 (c.next.ensures.exceeds.0 o));
+      depth = c.next.ensures.depth ∙ i.depth;
+      most = c.next.ensures.most ∙ i.most;
+      charges = charges_both c.args.meter.now c.items.meter c.next.new.meter c.take.new.meter (r.own c.args.raw.now + own_of c.args.buffer.now)
+          (r.own c.items.raw) (r.own c.next.new.self) (own_of c.items.buffer) (own_of c.take.new.self)
+          (r.most c.args.raw.now) (r.most c.items.raw) c.args.limit c.requires.can_gather.held (pending_within c.args.limit s.table c.items.buffer i.pending) i.most
+          i.charges c.next.ensures.charges c.in-Ok-false.ensures.takes.charges;
     }
 
 pub take-requires-clause-inside : goal.take-requires-clause-inside
@@ -120,3 +140,75 @@ take-requires-clause-inside g c =
     let w = g.met.R.RawReader.within c.items.raw c.items.invariant.sound in
     let few : depth_of (declaring_of c.args.symbols.now.catalog c.items.buffer) ≤ 65535 = subst (λ n. n ≤ 65535) c.items.invariant.level (le_trans w.level w.deep) in
     omega (arith, few)
+
+pub items-init : goal.items-init
+items-init g c = grind (arith, common_steps)
+
+pub next-requires-clause-room : goal.next-requires-clause-room
+next-requires-clause-room g c = search rules
+
+pub returns-in_err-next-clause-gives : goal.returns-in_err-next-clause-gives
+returns-in_err-next-clause-gives g c = grind (arith, common_steps)
+
+pub returns-in_err-next-clause-gathered : goal.returns-in_err-next-clause-gathered
+returns-in_err-next-clause-gathered g c = grind (arith, common_steps)
+
+pub returns-in_err-next-clause-leaves : goal.returns-in_err-next-clause-leaves
+returns-in_err-next-clause-leaves g c = grind (arith, common_steps)
+
+pub returns-in_err-next-clause-causes : goal.returns-in_err-next-clause-causes
+returns-in_err-next-clause-causes g c = grind (arith, common_steps)
+
+pub returns-in_err-next-clause-charges : goal.returns-in_err-next-clause-charges
+returns-in_err-next-clause-charges g c = grind (arith, common_steps)
+
+pub item-item-requires : goal.item-item-requires
+item-item-requires g c = grind (arith, common_steps)
+
+pub returns-in-Err-clause-gives : goal.returns-in-Err-clause-gives
+returns-in-Err-clause-gives g c = search rules
+
+pub returns-in-Err-clause-leaves : goal.returns-in-Err-clause-leaves
+returns-in-Err-clause-leaves g c = grind (arith, common_steps)
+
+pub returns-in-Err-clause-charges : goal.returns-in-Err-clause-charges
+returns-in-Err-clause-charges g c = grind (arith, common_steps)
+
+pub take-requires-clause-can_take : goal.take-requires-clause-can_take
+take-requires-clause-can_take g c = search rules
+
+pub returns-in-Ok-true-clause-leaves : goal.returns-in-Ok-true-clause-leaves
+returns-in-Ok-true-clause-leaves g c = grind (arith, common_steps)
+
+pub returns-in-Ok-true-clause-causes : goal.returns-in-Ok-true-clause-causes
+returns-in-Ok-true-clause-causes g c = grind (arith, common_steps)
+
+pub returns-in-Ok-true-clause-charges : goal.returns-in-Ok-true-clause-charges
+returns-in-Ok-true-clause-charges g c = grind (arith, common_steps)
+
+pub items-smaller : goal.items-smaller
+items-smaller g c = grind (arith, common_steps)
+
+pub returns-in-Err-take-clause-leaves : goal.returns-in-Err-take-clause-leaves
+returns-in-Err-take-clause-leaves g c = grind (arith, common_steps)
+
+pub returns-in-Err-take-clause-causes : goal.returns-in-Err-take-clause-causes
+returns-in-Err-take-clause-causes g c = grind (arith, common_steps)
+
+pub returns-in-Err-take-clause-charges : goal.returns-in-Err-take-clause-charges
+returns-in-Err-take-clause-charges g c = grind (arith, common_steps)
+
+pub returns-clause-gives : goal.returns-clause-gives
+returns-clause-gives g c = grind (arith, common_steps)
+
+pub returns-clause-gathered : goal.returns-clause-gathered
+returns-clause-gathered g c = grind (arith, common_steps)
+
+pub returns-clause-leaves : goal.returns-clause-leaves
+returns-clause-leaves g c = grind (arith, common_steps)
+
+pub returns-clause-causes : goal.returns-clause-causes
+returns-clause-causes g c = grind (arith, common_steps)
+
+pub returns-clause-charges : goal.returns-clause-charges
+returns-clause-charges g c = grind (arith, common_steps)

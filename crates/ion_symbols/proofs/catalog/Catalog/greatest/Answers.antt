@@ -35,3 +35,12 @@ loop-place-preserved g c =
 
 pub returns : goal.returns
 returns g c = grind (arith, common_steps)
+
+pub offset_bounds-as_slice-place : goal.offset_bounds-as_slice-place
+offset_bounds-as_slice-place g c = grind (arith, common_steps)
+
+pub bounds-as_slice-place : goal.bounds-as_slice-place
+bounds-as_slice-place g c = grind (arith, common_steps)
+
+pub loop-place-smaller : goal.loop-place-smaller
+loop-place-smaller g c = grind (arith, common_steps)

@@ -32,3 +32,12 @@ loop-table-preserved g c =
 
 pub loop-table-smaller : goal.loop-table-smaller
 loop-table-smaller g c = grind (arith, common_steps)
+
+pub loop-table-init : goal.loop-table-init
+loop-table-init g c = grind (arith, common_steps)
+
+pub release-requires-2 : goal.release-requires-2
+release-requires-2 g c = grind (arith, common_steps)
+
+pub returns : goal.returns
+returns g c = grind (arith, common_steps)

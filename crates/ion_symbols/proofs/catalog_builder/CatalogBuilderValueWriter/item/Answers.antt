@@ -39,3 +39,33 @@ returns-in-Err-clause-sound g c = grind (arith, common_steps)
 
 pub returns-in-Err-clause-memory : goal.returns-in-Err-clause-memory
 returns-in-Err-clause-memory g c = grind (arith, common_steps)
+
+pub returns-in-Some-clause-part : goal.returns-in-Some-clause-part
+returns-in-Some-clause-part g c = grind (arith, common_steps)
+
+pub returns-in-Some-clause-cut : goal.returns-in-Some-clause-cut
+returns-in-Some-clause-cut g c = grind (arith, common_steps)
+
+pub returns-in-Some-clause-again : goal.returns-in-Some-clause-again
+returns-in-Some-clause-again g c = grind (arith, common_steps)
+
+pub returns-in-Some-clause-causes : goal.returns-in-Some-clause-causes
+returns-in-Some-clause-causes g c = grind (arith, common_steps)
+
+pub returns-in-Some-clause-charges : goal.returns-in-Some-clause-charges
+returns-in-Some-clause-charges g c = grind (arith, common_steps)
+
+pub returns-in-Err-clause-cut : goal.returns-in-Err-clause-cut
+returns-in-Err-clause-cut g c = grind (arith, common_steps)
+
+pub returns-in-Err-clause-again : goal.returns-in-Err-clause-again
+returns-in-Err-clause-again g c = grind (arith, common_steps)
+
+pub returns-in-Err-clause-causes : goal.returns-in-Err-clause-causes
+returns-in-Err-clause-causes g c = grind (arith, common_steps)
+
+pub returns-in_default-outcome-clause-puts : goal.returns-in_default-outcome-clause-puts
+returns-in_default-outcome-clause-puts g c = grind (arith, common_steps)
+
+pub returns-in_default-outcome-clause-causes : goal.returns-in_default-outcome-clause-causes
+returns-in_default-outcome-clause-causes g c = grind (arith, common_steps)

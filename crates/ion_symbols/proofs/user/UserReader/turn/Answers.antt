@@ -1,4 +1,4 @@
-use Rattle.std.proofs.Common.{◌≡◌, false, true, Ok, ap, sym, subst, ◌∙◌, arith}
+use Rattle.std.proofs.Common.{◌≡◌, false, true, Ok, ap, sym, subst, ◌∙◌, arith, rules}
 use Rattle.std.proofs.lemmas.Grind.{common_steps, elements}
 use Rattle.ion_value.specs.Items.{raw_item}
 use Rattle.ion_value.specs.Reading.{More}
@@ -78,3 +78,84 @@ returns-in-Ok-false-read-clause-steps g c = grind (arith, elements)
 
 pub returns-in-Err-check_item-2-clause-steps : goal.returns-in-Err-check_item-2-clause-steps
 returns-in-Err-check_item-2-clause-steps g c = grind (arith, elements)
+
+pub returns-in-Err-clause-gives : goal.returns-in-Err-clause-gives
+returns-in-Err-clause-gives g c = grind (arith, common_steps)
+
+pub returns-in-Err-clause-causes : goal.returns-in-Err-clause-causes
+returns-in-Err-clause-causes g c = grind (arith, common_steps)
+
+pub returns-in-Err-clause-steps : goal.returns-in-Err-clause-steps
+returns-in-Err-clause-steps g c = grind (arith, common_steps)
+
+pub returns-in-Ok-false-clause-gives : goal.returns-in-Ok-false-clause-gives
+returns-in-Ok-false-clause-gives g c = search rules
+
+pub returns-in-Ok-false-clause-falls : goal.returns-in-Ok-false-clause-falls
+returns-in-Ok-false-clause-falls g c = grind (arith, common_steps)
+
+pub returns-in-Ok-false-clause-causes : goal.returns-in-Ok-false-clause-causes
+returns-in-Ok-false-clause-causes g c = grind (arith, common_steps)
+
+pub returns-in-Ok-false-clause-steps : goal.returns-in-Ok-false-clause-steps
+returns-in-Ok-false-clause-steps g c = search rules
+
+pub returns-then-is_marker-clause-gives : goal.returns-then-is_marker-clause-gives
+returns-then-is_marker-clause-gives g c = grind (arith, common_steps)
+
+pub returns-then-is_marker-clause-passes : goal.returns-then-is_marker-clause-passes
+returns-then-is_marker-clause-passes g c = grind (arith, common_steps)
+
+pub returns-then-is_marker-clause-falls : goal.returns-then-is_marker-clause-falls
+returns-then-is_marker-clause-falls g c = grind (arith, common_steps)
+
+pub returns-then-is_marker-clause-causes : goal.returns-then-is_marker-clause-causes
+returns-then-is_marker-clause-causes g c = grind (arith, common_steps)
+
+pub returns-then-is_marker-clause-steps : goal.returns-then-is_marker-clause-steps
+returns-then-is_marker-clause-steps g c = grind (arith, common_steps)
+
+pub returns-in-Err-check_item-clause-passes : goal.returns-in-Err-check_item-clause-passes
+returns-in-Err-check_item-clause-passes g c = grind (arith, common_steps)
+
+pub returns-in-Err-check_item-clause-steps : goal.returns-in-Err-check_item-clause-steps
+returns-in-Err-check_item-clause-steps g c = grind (arith, common_steps)
+
+pub returns-in-Err-read-clause-passes : goal.returns-in-Err-read-clause-passes
+returns-in-Err-read-clause-passes g c = grind (arith, common_steps)
+
+pub returns-in-Err-read-clause-causes : goal.returns-in-Err-read-clause-causes
+returns-in-Err-read-clause-causes g c = grind (arith, common_steps)
+
+pub returns-in-Err-read-clause-steps : goal.returns-in-Err-read-clause-steps
+returns-in-Err-read-clause-steps g c = grind (arith, common_steps)
+
+pub returns-in-Ok-true-read-clause-gives : goal.returns-in-Ok-true-read-clause-gives
+returns-in-Ok-true-read-clause-gives g c = grind (arith, common_steps)
+
+pub returns-in-Ok-true-read-clause-falls : goal.returns-in-Ok-true-read-clause-falls
+returns-in-Ok-true-read-clause-falls g c = grind (arith, common_steps)
+
+pub returns-in-Ok-true-read-clause-causes : goal.returns-in-Ok-true-read-clause-causes
+returns-in-Ok-true-read-clause-causes g c = grind (arith, common_steps)
+
+pub returns-in-Ok-false-read-clause-passes : goal.returns-in-Ok-false-read-clause-passes
+returns-in-Ok-false-read-clause-passes g c = grind (arith, common_steps)
+
+pub returns-in-Err-check_item-2-clause-passes : goal.returns-in-Err-check_item-2-clause-passes
+returns-in-Err-check_item-2-clause-passes g c = grind (arith, common_steps)
+
+pub level_after-self-requires : goal.level_after-self-requires
+level_after-self-requires g c = search rules
+
+pub returns-clause-passes : goal.returns-clause-passes
+returns-clause-passes g c = grind (arith, common_steps)
+
+pub returns-clause-falls : goal.returns-clause-falls
+returns-clause-falls g c = grind (arith, common_steps)
+
+pub returns-clause-causes : goal.returns-clause-causes
+returns-clause-causes g c = grind (arith, common_steps)
+
+pub returns-clause-steps : goal.returns-clause-steps
+returns-clause-steps g c = grind (arith, common_steps)

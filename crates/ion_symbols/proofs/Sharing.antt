@@ -39,3 +39,13 @@ charges_both a b c d first l l2 m m2 most other limit within small same p q r = 
   peak = omega (arith, p.held, q.held, p.peak, q.peak, r.peak, p.share, q.share, small, within, same);
   rises = omega (arith, p.rises, q.rises, r.rises);
 }
+
+-- a reader moves, beside a table within the limit
+pub charges_beside : (a b : Counts) (k l cost most limit : ℕ) → cost ≤ limit → k + cost ≤ a.held → Charges a b k l most
+    → Charges a b (k + cost) (l + cost) (most + 2 * limit)
+charges_beside a b k l cost most limit cheap within q = record {
+  held = omega (arith, q.held);
+  share = omega (arith, q.share, cheap);
+  peak = omega (arith, q.peak, within, cheap);
+  rises = q.rises;
+}

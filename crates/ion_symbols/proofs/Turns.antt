@@ -247,6 +247,18 @@ pub turn_refused : (catalog : List Shared) (limit : ℕ) (t : Table) (d : Declar
 turn_refused catalog limit t d i j first old new x reason place came more same says ok turns =
     came ∙ (rw (more, sym same, is_fine (checked t false j) x says ok, turns) refl)
 
+is_bad : (k : Checked) (fault : Fault) (reason : Reason) (place : ℕ) → CheckedAs k (Err fault) → fault ≡ Refused reason place → k ≡ bad reason place
+is_bad fine fault reason place says e = cc
+is_bad (bad r p) fault reason place says e = cc
+
+-- an item whose symbols are refused
+pub check_refused : (catalog : List Shared) (limit : ℕ) (t : Table) (d : Declaring) (i j : PlacedItem) (first old new : Reading)
+    (fault : Fault) (reason : Reason) (place : ℕ)
+    → first ≡ users catalog limit (record { table = t; mode = declaring d }) old → old ≡ More i new → j ≡ i
+    → CheckedAs (checked t false j) (Err fault) → fault ≡ Refused reason place → first ≡ Stopped reason place
+check_refused catalog limit t d i j first old new fault reason place came more same says is =
+    came ∙ (rw (more, sym same, is_bad (checked t false j) fault reason place says is) refl)
+
 -- ---- faults
 
 -- what answers an item had not failed

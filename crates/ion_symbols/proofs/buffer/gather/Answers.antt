@@ -1,4 +1,4 @@
-use Rattle.std.proofs.Common.{rules, refl, le_trans, subst, ◌∙◌, ◌≡◌, ◌≤◌, None, Ok, true, false, arith, ap, ◌+◌}
+use Rattle.std.proofs.Common.{rules, refl, le_trans, subst, ◌∙◌, ◌≡◌, ◌≤◌, None, Ok, true, false, arith, ap, ◌+◌, ◌-◌, ◌^◌, ◌<◌, sym}
 use Rattle.std.proofs.lemmas.Grind.{common_steps}
 use Rattle.ion_value.specs.Items.{raw_item}
 use Rattle.ion_value.specs.Reading.{More}
@@ -10,8 +10,8 @@ use Rattle.ion_symbols.specs.Users.{checked, declaring, users}
 use Rattle.ion_symbols.specs.Buffer.{declaring_of, depth_of, own_of, pending_of}
 use Rattle.ion_meter.specs.declared.fault.Fault.TheVariants.{Memory, ReadFault, Refused}
 use Rattle.ion_symbols.proofs.Answering.{no_fault, ok-not-err, err-not-ok, same_fault, true-not-false}
-use Rattle.ion_symbols.proofs.Sharing.{falls_within, pending_within, causes_after, charges_both}
-use Rattle.ion_symbols.proofs.Turns.{level-on, level-made, goes_on, goes_out, turn_refused, not_failed, stopped, check_causes}
+use Rattle.ion_symbols.proofs.Sharing.{falls_within, pending_within, causes_after, charges_both, falls_below, no_causes, room_then, turn_causes}
+use Rattle.ion_symbols.proofs.Turns.{level-on, level-made, goes_on, goes_out, turn_refused, not_failed, stopped, check_causes, check_refused}
 use Rattle.ion_symbols.proofs.buffer.gather.Goals as goal
 
 -- the item ends the declaration
@@ -166,7 +166,18 @@ pub item-item-requires : goal.item-item-requires
 item-item-requires g c = grind (arith, common_steps)
 
 pub returns-in-Err-clause-gives : goal.returns-in-Err-clause-gives
-returns-in-Err-clause-gives g c = search rules
+returns-in-Err-clause-gives g c = record {
+  gives = λ t e. absurd (err-not-ok c.in-Err.fault true e);
+  ends = λ t e. absurd (err-not-ok c.in-Err.fault false e);
+  refuses = λ t well reason place o.
+      let r = g.R.RawReader in
+      let s = c.args.symbols.now in
+      let ok : c.next.result ≡ Ok true = c.in_ok-next.was ∙ ap Ok c.if-branch.true in
+      let first = users s.catalog c.args.limit (record { table = s.table; mode = declaring (declaring_of s.catalog c.args.buffer.now) }) (r.reading c.args.raw.now) in
+      check_refused s.catalog c.args.limit s.table (declaring_of s.catalog c.items.buffer) (r.current c.next.new.self) (raw_item c.item-item.result)
+      first (r.reading c.items.raw) (r.reading c.next.new.self) c.in-Err.fault reason place (c.items.invariant.coming t)
+      (c.next.ensures.gives (c.items.invariant.observable.0 t) ok) c.item-item.ensures c.in-Err.ensures (same_fault c.in-Err.fault (Refused reason place) o);
+}
 
 pub returns-in-Err-clause-leaves : goal.returns-in-Err-clause-leaves
 returns-in-Err-clause-leaves g c = grind (arith, common_steps)
@@ -175,13 +186,51 @@ pub returns-in-Err-clause-charges : goal.returns-in-Err-clause-charges
 returns-in-Err-clause-charges g c = grind (arith, common_steps)
 
 pub take-requires-clause-can_take : goal.take-requires-clause-can_take
-take-requires-clause-can_take g c = search rules
+take-requires-clause-can_take g c =
+    let r = g.R.RawReader in
+    let i = c.items.invariant in
+    let ok : c.next.result ≡ Ok true = c.in_ok-next.was ∙ ap Ok c.if-branch.true in
+    let well : r.failed c.items.raw ≡ None = not_failed (r.failed c.items.raw) c.next.result (λ f e. (c.next.ensures.again f e).0) true ok in
+    let causes = c.in_ok-next.ensures.causes well in
+    let can = c.requires.can_gather in
+    let w = g.met.R.RawReader.within c.items.raw i.sound in
+    let room = room_then c.args.meter.now c.items.meter c.next.new.meter (r.own c.args.raw.now + own_of c.args.buffer.now) (r.own c.items.raw) (r.own c.next.new.self)
+    (own_of c.items.buffer) (r.most c.args.raw.now + c.args.limit) (r.most c.items.raw) c.args.limit
+    can.room can.held (pending_within c.args.limit c.args.symbols.now.table c.items.buffer i.pending) can.small w.small i.charges c.next.ensures.charges in
+    record {
+      room = room.0;
+      then_turn = room.1;
+      countable = subst (λ n. n < 2 ^ 64 - 1) (sym (causes.counted (no_fault Memory) ∙ i.refused)) can.countable;
+      small = can.small;
+      pending = i.pending;
+    }
 
 pub returns-in-Ok-true-clause-leaves : goal.returns-in-Ok-true-clause-leaves
-returns-in-Ok-true-clause-leaves g c = grind (arith, common_steps)
+returns-in-Ok-true-clause-leaves g c =
+    let r = g.R.RawReader in
+    let i = c.items.invariant in
+    let ok : c.next.result ≡ Ok true = c.in_ok-next.was ∙ ap Ok c.if-branch.true in
+    record {
+      sound = c.next.ensures.sound;
+      observable = (λ o. i.observable.1 (c.next.ensures.observable.0 o), λ o. c.next.ensures.observable.1 (i.observable.0 o));
+      exceeds = (λ o. i.exceeds.1 (c.next.ensures.exceeds.0 o), λ o. c.next.ensures.exceeds.1 (i.exceeds.0 o));
+      depth = c.next.ensures.depth ∙ i.depth;
+      most = c.next.ensures.most ∙ i.most;
+      ended = λ e. absurd (true-not-false e);
+      fresh = c.in_ok-next.ensures.failed;
+      falls = λ _. falls_below (r.left c.next.new.self) (r.left c.items.raw) (r.left c.args.raw.now) (c.next.ensures.falls ok) i.left;
+    }
 
 pub returns-in-Ok-true-clause-causes : goal.returns-in-Ok-true-clause-causes
-returns-in-Ok-true-clause-causes g c = grind (arith, common_steps)
+returns-in-Ok-true-clause-causes g c =
+    let r = g.R.RawReader in
+    let i = c.items.invariant in
+    let ok : c.next.result ≡ Ok true = c.in_ok-next.was ∙ ap Ok c.if-branch.true in
+    let well : r.failed c.items.raw ≡ None = not_failed (r.failed c.items.raw) c.next.result (λ f e. (c.next.ensures.again f e).0) true ok in
+    let causes = c.in_ok-next.ensures.causes well in
+    λ _.
+    no_causes c.args.meter.now c.take.new.meter (r.failures c.args.raw.now) (r.failures c.next.new.self) (r.exceeds c.args.raw.now)
+    (c.in-Ok-true.ensures.takes.causes.counted (no_fault Memory) ∙ (causes.counted (no_fault Memory) ∙ i.refused)) (causes.steady (no_fault ReadFault) ∙ i.failures)
 
 pub returns-in-Ok-true-clause-charges : goal.returns-in-Ok-true-clause-charges
 returns-in-Ok-true-clause-charges g c = grind (arith, common_steps)
@@ -190,10 +239,32 @@ pub items-smaller : goal.items-smaller
 items-smaller g c = grind (arith, common_steps)
 
 pub returns-in-Err-take-clause-leaves : goal.returns-in-Err-take-clause-leaves
-returns-in-Err-take-clause-leaves g c = grind (arith, common_steps)
+returns-in-Err-take-clause-leaves g c =
+    let r = g.R.RawReader in
+    let i = c.items.invariant in
+    record {
+      sound = c.next.ensures.sound;
+      observable = (λ o. i.observable.1 (c.next.ensures.observable.0 o), λ o. c.next.ensures.observable.1 (i.observable.0 o));
+      exceeds = (λ o. i.exceeds.1 (c.next.ensures.exceeds.0 o), λ o. c.next.ensures.exceeds.1 (i.exceeds.0 o));
+      depth = c.next.ensures.depth ∙ i.depth;
+      most = c.next.ensures.most ∙ i.most;
+      ended = λ e. absurd (err-not-ok c.in-Err-take.fault false e);
+      fresh = tt;
+      falls = λ e. absurd (err-not-ok c.in-Err-take.fault true e);
+    }
 
 pub returns-in-Err-take-clause-causes : goal.returns-in-Err-take-clause-causes
-returns-in-Err-take-clause-causes g c = grind (arith, common_steps)
+returns-in-Err-take-clause-causes g c =
+    let r = g.R.RawReader in
+    let i = c.items.invariant in
+    let ok : c.next.result ≡ Ok true = c.in_ok-next.was ∙ ap Ok c.if-branch.true in
+    let well : r.failed c.items.raw ≡ None = not_failed (r.failed c.items.raw) c.next.result (λ f e. (c.next.ensures.again f e).0) true ok in
+    let causes = c.in_ok-next.ensures.causes well in
+    let s = c.args.symbols.now in
+    λ _.
+    turn_causes _ c.in-Err-take.fault (declaring_of s.catalog c.take.new.self) (next s.table (pending_of s.catalog c.take.new.self))
+    c.args.meter.now c.next.new.meter c.take.new.meter (r.failures c.args.raw.now) (r.failures c.next.new.self) (r.exceeds c.args.raw.now)
+    c.in-Err-take.ensures.turn (causes.counted (no_fault Memory) ∙ i.refused) (causes.steady (no_fault ReadFault) ∙ i.failures) c.in-Err-take.ensures.takes.causes
 
 pub returns-in-Err-take-clause-charges : goal.returns-in-Err-take-clause-charges
 returns-in-Err-take-clause-charges g c = grind (arith, common_steps)

@@ -3,6 +3,7 @@
 # The first word is that program: run with the word `sum`, it reads Ion text from standard input and writes the sum that
 # docs/speed/tokens.rattle writes.
 # A folder as the second word is where the built program and the streams are left. Further words are the kinds to measure.
+# CPU=x86-64-v3 in the environment builds for processors with AVX2.
 set -eu
 plain=$(realpath "$1")
 if [ $# -gt 1 ]; then
@@ -36,7 +37,7 @@ invariant-tokens g l = record {
 }
 ANTT
     { grep -E '^(ion_meter|ion_value|ion_text_in):' crates.txt; echo 'ion_speed: ion_meter ion_value ion_text_in'; } > "$work/repository/crates.txt"
-    (cd "$crate" && rt run < /dev/null > "$work/log" 2>&1) || true
+    (cd "$crate" && rt run ${CPU:+--cpu="$CPU"} < /dev/null > "$work/log" 2>&1) || true
     [ -x "$ion" ] || { cat "$work/log"; exit 1; }
 fi
 [ -f "$work/lines" ] || python3 - "$work" <<'PY'

@@ -25,6 +25,3 @@ true-not-false e = cc
 
 pub item-not-end : ◌≡◌ {A = Result StepResult Fault} (Ok step.Item) (Ok step.Ended) → ⊥
 item-not-end e = cc
-
-pub item-not-passed : ◌≡◌ {A = Result StepResult Fault} (Ok step.Item) (Ok step.Passed) → ⊥
-item-not-passed e = cc

@@ -65,7 +65,8 @@ returns-in_err-install-clause-charges g c =
     let w = g.met.R.RawReader.within c.gather-outcome.new.raw leaves.sound in
     charges_read c.args.meter.now c.gather-outcome.new.meter c.install.new.meter (r.own c.args.raw.now) (own_of c.new-buffer.result) (r.own c.gather-outcome.new.raw)
     (own_of c.gather-outcome.new.buffer) (table_cost c.args.symbols.now.table) (table_cost c.install.new.symbols.table) (r.most c.args.raw.now) c.args.limits.symbols
-    can.held c.new-buffer.ensures.own can.cheap (subst (λ n. r.own c.gather-outcome.new.raw ≤ n) leaves.most w.share) c.gather-outcome.ensures.charges c.install.ensures.charges
+    can.held c.new-buffer.ensures.own can.cheap (subst (λ n. r.own c.gather-outcome.new.raw ≤ n) leaves.most w.share)
+    c.gather-outcome.ensures.charges c.install.ensures.charges
 
 pub returns-in-Ok-true-clause-gives : goal.returns-in-Ok-true-clause-gives
 returns-in-Ok-true-clause-gives g c = search rules
@@ -93,7 +94,8 @@ returns-in-Ok-true-clause-charges g c =
     let w = g.met.R.RawReader.within c.gather-outcome.new.raw leaves.sound in
     charges_read c.args.meter.now c.gather-outcome.new.meter c.install.new.meter (r.own c.args.raw.now) (own_of c.new-buffer.result) (r.own c.gather-outcome.new.raw)
     (own_of c.gather-outcome.new.buffer) (table_cost c.args.symbols.now.table) (table_cost c.install.new.symbols.table) (r.most c.args.raw.now) c.args.limits.symbols
-    can.held c.new-buffer.ensures.own can.cheap (subst (λ n. r.own c.gather-outcome.new.raw ≤ n) leaves.most w.share) c.gather-outcome.ensures.charges c.install.ensures.charges
+    can.held c.new-buffer.ensures.own can.cheap (subst (λ n. r.own c.gather-outcome.new.raw ≤ n) leaves.most w.share)
+    c.gather-outcome.ensures.charges c.install.ensures.charges
 
 pub returns-clause-ends : goal.returns-clause-ends
 returns-clause-ends g c = grind (arith, common_steps)

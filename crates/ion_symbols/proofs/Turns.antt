@@ -247,7 +247,8 @@ pub turn_refused : (catalog : List Shared) (limit : ℕ) (t : Table) (d : Declar
 turn_refused catalog limit t d i j first old new x reason place came more same says ok turns =
     came ∙ (rw (more, sym same, is_fine (checked t false j) x says ok, turns) refl)
 
-is_bad : (k : Checked) (fault : Fault) (reason : Reason) (place : ℕ) → CheckedAs k (Err fault) → fault ≡ Refused reason place → k ≡ bad reason place
+-- symbols that are not fine are bad at the place of the refusal
+pub is_bad : (k : Checked) (fault : Fault) (reason : Reason) (place : ℕ) → CheckedAs k (Err fault) → fault ≡ Refused reason place → k ≡ bad reason place
 is_bad fine fault reason place says e = cc
 is_bad (bad r p) fault reason place says e = cc
 

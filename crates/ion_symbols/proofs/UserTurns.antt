@@ -14,6 +14,7 @@ use Rattle.ion_value.specs.Standing.{Fits, is_marker, open_after}
 use Rattle.ion_symbols.specs.Table.{Shared, Table}
 use Rattle.ion_symbols.specs.Users.{Checked, fine, bad, begins_declaration, by_step, checked, level_after, plain, plain_step, resolve, users}
 use Rattle.ion_symbols.specs.User.{CheckedAs, MayCome}
+use Rattle.ion_symbols.proofs.Turns.{is_bad}
 
 -- a check answers no fault but a refusal
 pub check_causes : (a : Checked) (fault : Fault) (old new : Counts) (failures_old failures_new : ℕ) (exceeds : Type 0)
@@ -48,10 +49,6 @@ item_given catalog limit t n i r rest e marker begins is_checked =
     step a b c = rw (a, b, c) refl
 
 -- an item of a user value whose symbols are not fine is refused
-is_bad : (a : Checked) (fault : Fault) (reason : Reason) (place : ℕ) → CheckedAs a (Err fault) → fault ≡ Refused reason place → a ≡ bad reason place
-is_bad fine fault reason place h e = absurd (cc h)
-is_bad (bad r p) fault reason place h e = cc
-
 pub item_refused : (catalog : List Shared) (limit : ℕ) (t : Table) (n : ℕ) (i j : PlacedItem) (r rest : Reading) (fault : Fault) (reason : Reason) (place : ℕ)
     → r ≡ More i rest → j ≡ i → is_marker i.head ≡ false → begins_declaration t n i ≡ false
     → CheckedAs (checked t true j) (Err fault) → fault ≡ Refused reason place

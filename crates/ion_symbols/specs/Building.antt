@@ -38,7 +38,7 @@ draft_of b = record { tables = b.catalog; has_version = b.has_version; has_symbo
 abbrev pub loading_of : {A : Type 0} → CatalogBuilder A → Loading
 loading_of b = record { stage = b.stage; inside = b.inside; draft = draft_of b }
 
--- the counted bytes that it holds, and the most that it may
+-- the counted bytes that it holds
 abbrev pub held_by : {A : Type 0} → CatalogBuilder A → ℕ
 held_by b = catalog_cost b.catalog + shared_cost b.table
 

@@ -12,18 +12,18 @@ use Rattle.ion_symbols.specs.Declaration.{FieldValue, string_in, version_in}
 use Rattle.ion_symbols.specs.Tree.{same_word, or_later}
 use Rattle.ion_symbols.specs.CatalogItems.{user_field, is_shared, head_seen, Draft, Drafted, behind_tables, within, with_text, name_met, version_met, symbols_met, table_ended}
 
--- what a value is to a catalogue, by its first item
+-- the head of the first item of a value
 abbrev pub head_of : Value UserSymbol ℕ → Head UserSymbol
 head_of (scalar body) = value.whole body
 head_of (container kind members last) = value.begin kind
 
--- the same as the catalogue looks at it
+-- what a value is to a catalogue, judged by its first item
 abbrev pub seen : Value UserSymbol ℕ → FieldValue
 seen x = head_seen (head_of x)
 
 -- ---- which tables they are
 
--- the value of the first field of a name, and how many there are
+-- the value of the first field of a name
 abbrev pub value_of : Word → Members UserSymbol ℕ → Option (Value UserSymbol ℕ)
 value_of w nothing = None
 value_of w (member before field annotations place x) = or_later (value_of w before) (if same_word (user_field field) w then Some x else None)

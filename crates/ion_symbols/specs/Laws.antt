@@ -113,12 +113,12 @@ abbrev pub names_cost : (ℕ → Option (List ℕ)) → Members SymbolAt ℕ →
 names_cost texts nothing = 0
 names_cost texts (member before field annotations place x) = names_cost texts before + name_cost (field_word texts field) x
 
--- what an element of `imports` is counted for: 32 and its names where it is a struct, and else 0
+-- the most that an element of `imports` may be counted for: 32 and all its names where it is a struct, and else 0
 abbrev pub import_cost : (ℕ → Option (List ℕ)) → Value SymbolAt ℕ → ℕ
 import_cost texts (container kind.Struct members last) = 32 + names_cost texts members
 import_cost texts _ = 0
 
--- what the elements of `imports` are counted for
+-- the most that the elements of `imports` may be counted for in all
 abbrev pub imports_cost : (ℕ → Option (List ℕ)) → Members SymbolAt ℕ → ℕ
 imports_cost texts nothing = 0
 imports_cost texts (member before field annotations place x) = imports_cost texts before + import_cost texts x
@@ -128,14 +128,14 @@ abbrev pub if_kept : Word → ℕ → ℕ
 if_kept word.Declaration n = n
 if_kept _ n = 0
 
--- what a field of a declaration is counted for, by its word and value
+-- the most that a field of a declaration may be counted for, by its word and value
 abbrev pub field_cost : Ground → Word → Value SymbolAt ℕ → ℕ
 field_cost g word.Imports (container kind.List members last) = imports_cost (text_at g.old) members
 field_cost g word.Imports (value.scalar (value.symbol s)) = if_kept (word_in (text_at g.old) s.symbol) (table_cost g.old)
 field_cost g word.Symbols (container kind.List members last) = slots_cost (elements members)
 field_cost g _ x = 0
 
--- what the members of a declaration cost in all: their slots, 32 an import, the names of imports, and the table that is kept
+-- the most that a declaration's members may be counted for: slots, 32 a struct in `imports`, its names, and the kept table
 abbrev pub fields_cost : Ground → Members SymbolAt ℕ → ℕ
 fields_cost g nothing = 0
 fields_cost g (member before field annotations place x) = fields_cost g before + field_cost g (field_word (text_at g.old) field) x
@@ -162,7 +162,7 @@ abbrev pub fields_slots : Ground → Members SymbolAt ℕ → ℕ
 fields_slots g nothing = 0
 fields_slots g (member before field annotations place x) = fields_slots g before + field_slots g (field_word (text_at g.old) field) x
 
--- that is more than the limit, or more slots than there are ids
+-- the members of a declaration may be counted for more than the limit, or stand for more slots than there are ids
 abbrev pub IsCostly : Ground → Members SymbolAt ℕ → Type 0
 IsCostly g members = (g.limit < fields_cost g members) ⊎ (most_slots < fields_slots g members)
 
@@ -281,12 +281,12 @@ SymbolsStand =
 
 -- ---- why a user item is refused
 
--- a symbol of an item: its field, one of its annotations, or the symbol that it is
+-- a symbol, with its place, is one of a list
 abbrev pub Among : SymbolAt → List SymbolAt → Type 0
 Among s [] = ⊥
 Among s (r ∷ rs) = (r ≡ s) ⊎ Among s rs
 
--- a symbol, with its place, is one of these of an item
+-- a symbol, with its place, is the field of an item, one of its annotations, or the symbol that it is
 abbrev pub IsSymbolOf : SymbolAt → PlacedItem → Type 0
 IsSymbolOf s i = (i.field ≡ Some s) ⊎ (Among s i.annotations ⊎ (i.head ≡ value.whole (value.symbol s)))
 

@@ -130,7 +130,7 @@ abbrev pub items_checked : Table → List PlacedItem → Checked
 items_checked t [] = fine
 items_checked t (i ∷ is) = or_else (checked t false i) (items_checked t is)
 
--- the first item of a value, and those behind it up to its end
+-- the head of the first item of a value
 abbrev pub head_of : Value SymbolAt ℕ → Head SymbolAt
 head_of (scalar body) = value.whole body
 head_of (container kind members last) = value.begin kind

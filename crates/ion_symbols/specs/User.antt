@@ -25,7 +25,7 @@ CheckedAs (bad reason place) result = result ≡ Err (Refused reason place)
 abbrev pub state_of : {R A : Type 0} → UserReader R A → State
 state_of u = record { table = u.symbols.table; mode = plain u.count }
 
--- the counted bytes that it holds with its raw reader, and the most that it may
+-- the counted bytes that it holds with its raw reader
 abbrev pub owned_by : {R A : Type 0} → (R → ℕ) → UserReader R A → ℕ
 owned_by own u = own u.raw + table_cost u.symbols.table
 
@@ -58,7 +58,7 @@ pub record MayCome (depth : ℕ) (before after : List Kind) (item : PlacedItem) 
 
 -- ---- what its calls say of it
 
--- its raw reader, and the table, the catalogue and the limits that it goes by
+-- its raw reader
 abbrev pub raw_of : {R A : Type 0} → UserReader R A → R
 raw_of u = u.raw
 
@@ -74,7 +74,7 @@ catalog_of u = u.symbols.catalog
 abbrev pub limits_of : {R A : Type 0} → UserReader R A → Limits
 limits_of u = u.limits
 
--- how many containers of a user value are open, and the fault that it answered
+-- how many containers of a user value are open
 abbrev pub level_of : {R A : Type 0} → UserReader R A → ℕ
 level_of u = u.count
 

@@ -49,7 +49,7 @@ all_are test (b ∷ bytes) = test b && all_are test bytes
 abbrev pub is_whole : List ℕ → Bool
 is_whole bytes = are_digits is_digit bytes && (not (first_is (λ b. b == 48) bytes) || length bytes == 1)
 
--- the sign of a number in text, and what stands behind it
+-- whether a number's text begins with a minus
 abbrev pub has_minus : List ℕ → Bool
 has_minus run = first_is (λ b. b == 45) run
 

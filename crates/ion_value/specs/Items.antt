@@ -77,7 +77,7 @@ named_at texts at = record { symbol = named texts at.symbol; place = at.place }
 abbrev pub named_item : (ℕ → Option (List ℕ)) → PlacedItem → PlacedItem
 named_item texts item = map_item (named_at texts) (λ place. place) item
 
--- the annotations and the item with each id that has a text being that text
+-- the annotations of an item in order, each id that has a text by the item's own names being that text
 abbrev pub annotations_of : {N : Type 0} → (N → ℕ → Option (List ℕ)) → Annotations N → List SymbolAt
 annotations_of text annotations = map (named_at (text annotations.names.now)) (raw_annotations annotations)
 

@@ -97,7 +97,7 @@ with_sign bit negative [] = (if negative then bit else 0) ∷ []
 with_sign bit negative (d ∷ ds) =
     if nat_lt d bit then (if negative then d + bit else d) ∷ ds else (if negative then bit else 0) ∷ d ∷ ds
 
--- the shortest UInt, VarUInt and VarInt of a number
+-- the shortest UInt of a number, which has no octets for zero
 abbrev pub uint_octets : ℕ → List ℕ
 uint_octets n = digits_in 256 n
 

@@ -15,7 +15,7 @@ abbrev pub refuse : Bool → Reason → Result (Unit {0}) Reason
 refuse true reason = Err reason
 refuse false reason = Ok tt
 
--- the same where the second does not need what the first gives
+-- one step after another, where the second does not need what the first gives: the second, or the first one's fault
 infixl 20 ◌>>◌
 abbrev pub ◌>>◌ : {A B E : Type 0} → Result A E → Result B E → Result B E
 Ok x >> r = r

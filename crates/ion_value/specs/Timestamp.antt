@@ -186,7 +186,7 @@ timestamp_of_fields [] c = Err BadTimestamp
 timestamp_of_fields (o ∷ others) c =
     timestamp_in_utc o (is_fraction (exponent_in (o ∷ others)) c) (utc_fields others (int_magnitude c))
 
--- the same of a body cut into these two; `BadVar` where it cannot be, `Range` where coefficient or exponent are not in range
+-- the same of a body cut so: `BadVar` if it cannot be, `Range` if the coefficient is 2^128 or more or the exponent below -38
 abbrev pub timestamp_of_cut : Option (List (List ℕ) × List ℕ) → Result Timestamp Reason
 timestamp_of_cut None = Err BadVar
 timestamp_of_cut (Some cut) =

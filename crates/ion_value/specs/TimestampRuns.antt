@@ -10,7 +10,7 @@ use Rattle.ion_value.specs.Number.{number, signed}
 use Rattle.ion_value.specs.Digits.{is_digit, digit_value, first_is, all_are, cut_at, fixed_digits}
 use Rattle.ion_value.specs.Timestamp.{fields, looks_like, digits_at, is_offset_mark, has_offset_shape, is_text_offset, offset_of_text, date_in_range, time_in_range}
 
--- the number of two or four bytes, where they are digits
+-- the number of two bytes, where they are digits
 abbrev pub two_digits : ℕ → ℕ → Option ℕ
 two_digits a b = if is_digit a && is_digit b then Some (digits_at 0 2 (a ∷ b ∷ [])) else None
 
@@ -80,7 +80,7 @@ abbrev pub to_the_minute : Timestamp → List ℕ → Timestamp
 to_the_minute t run =
     record t { precision = Minute; year = digits_at 0 4 run; month = digits_at 5 2 run; day = digits_at 8 2 run; hour = digits_at 11 2 run; minute = digits_at 14 2 run }
 
--- a date: with what stands behind the day, the month and the year
+-- a date to the day and all that stands behind the day: nothing, or `T`
 abbrev pub behind_day : Timestamp → List ℕ → Result Timestamp Reason
 behind_day t bytes = if looks_like [] bytes || looks_like (codes "T") bytes then date_in_range t else Err BadToken
 

@@ -142,7 +142,7 @@ user_symbol (Id id) = Unknown
 
 -- ---- items of user values
 
--- a symbol, an item and items as a user of the stream knows them
+-- a symbol with its place as a user of the stream knows it
 abbrev pub user_symbol_at : SymbolAt → UserSymbol
 user_symbol_at s = user_symbol s.symbol
 

@@ -12,7 +12,7 @@ use Rattle.ion_binary.specs.Grammar.{type_code}
 
 -- ---- headers
 
--- the length code of n octets, and the length behind a descriptor that has no room for it
+-- the length code of n octets: n, or 14 where the descriptor has no room for it
 abbrev pub length_code : ℕ → ℕ
 length_code n = if nat_lt n 14 then n else 14
 
@@ -53,7 +53,7 @@ field_octets ids (Some s) = var_uint_octets (ids s)
 abbrev pub member_octets : (UserSymbol → ℕ) → Option UserSymbol → List UserSymbol → List ℕ → List ℕ
 member_octets ids f annotations x = field_octets ids f ++ wrapped (annotation_octets ids annotations) x
 
--- a scalar without field and annotations: its descriptor, its length and its shortest body
+-- a scalar without field and annotations: a null or a bool in one octet, any other as its shortest header and its shortest body
 abbrev pub scalar_octets : (UserSymbol → ℕ) → Scalar UserSymbol → List ℕ
 scalar_octets ids (value.null type) = (16 * numbered.type_code type + 15) ∷ []
 scalar_octets ids (value.bool truth) = (if truth then 17 else 16) ∷ []
@@ -92,7 +92,7 @@ abbrev pub with_symbols : List (List ℕ) → List UserSymbol → List (List ℕ
 with_symbols texts [] = texts
 with_symbols texts (s ∷ ss) = with_symbols (with_symbol texts s) ss
 
--- the symbols of a value in order of first use: a field, annotations, and then a symbol value
+-- the symbol of a field, and none where there is no field
 abbrev pub field_symbols : {S : Type 0} → Option S → List S
 field_symbols None = []
 field_symbols (Some s) = s ∷ []

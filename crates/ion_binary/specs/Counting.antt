@@ -46,7 +46,7 @@ abbrev pub AreSettledTo : ℕ → List ℕ → ℕ → List HeaderPlace → Type
 AreSettledTo level counts n hs =
     (c : ℕ) → c < level → slice_index counts c < length hs → content_around counts n hs (slice_index counts c) < slice_index thresholds c
 
--- so many of the counts, and then all, are those of the headers that are missing among n octets
+-- so many of the counts are those of the headers that are missing among n octets; the others are no higher than those
 pub record IsCountedTo (level : ℕ) (counts : List ℕ) (n : ℕ) (hs : List HeaderPlace) : Type 0 where
   pub reached : AreReached counts n hs
   pub settled : AreSettledTo level counts n hs

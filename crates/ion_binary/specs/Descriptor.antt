@@ -21,7 +21,7 @@ abbrev pub is_at_end : Region → ℕ → Bool
 is_at_end None place = false
 is_at_end (Some end) place = nat_le end place
 
--- n octets from a place on pass the region's end, or end before it
+-- n octets from a place on pass the region's end; the top level has no end
 abbrev pub passes : Region → ℕ → ℕ → Bool
 passes None place n = false
 passes (Some end) place n = nat_lt end (place + n)

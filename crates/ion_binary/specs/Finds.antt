@@ -12,7 +12,7 @@ use Rattle.ion_value.specs.Parts.{◌>>◌, refuse}
 use Rattle.ion_binary.specs.Descriptor.{Shape, null, bool, nop_pad, wrapper, body, container, sorted, marker, float, illegal}
 use Rattle.ion_binary.specs.Reading.{Around, TypedValue, a_nop_pad, a_marker, a_scalar, a_container, fits}
 
--- where a part of the code stands: whether a wrapper is around it, its region, and how many containers are open
+-- where a part of an item stands, from the code's `Around`: whether in a wrapper, its region, and how many containers are open
 abbrev pub as_around : code.Around → Around
 as_around a = record { wrapped = a.wrapped; region = a.region; depth = a.depth }
 

@@ -106,7 +106,7 @@ begun_at place octets = take place octets ++ counted_ids (drop place octets)
 abbrev pub begun_headers : ℕ → List ℕ → Kind → List HeaderPlace → List HeaderPlace
 begun_headers place octets kind hs = header_at (length (begun_at place octets)) (type_code kind) ∷ (wrapper_headers (drop place octets) place ++ hs)
 
--- the octets and the headers behind an item, before a value that is whole is put
+-- the octets behind an item, before a value that is whole is put
 abbrev pub moved_octets : ℕ → List ℕ → List HeaderPlace → (UserSymbol → ℕ) → Head UserSymbol → List ℕ
 moved_octets place octets hs ids (value.whole body) = whole_at place octets (scalar_octets ids body)
 moved_octets place octets hs ids (value.begin kind) = begun_at place octets
@@ -120,13 +120,13 @@ moved_headers place octets hs (value.begin kind) = begun_headers place octets ki
 moved_headers place octets hs value.end = headers_around hs
 moved_headers place octets hs value.marker = hs
 
--- the texts are forgotten as a value at top level begins, where they cost too much, and those of the item are given ids
+-- the texts are forgotten where no container is open and the last argument says that they cost too much
 abbrev pub texts_forgotten : Held → List HeaderPlace → Bool → Held
 texts_forgotten h [] true = record h { texts = []; declared = 0; due = true }
 texts_forgotten h [] false = h
 texts_forgotten h (e ∷ es) over = h
 
--- what is held as an item comes: no texts where it begins a value at top level and they cost too much under the limit
+-- what is held as an item comes: no texts where it begins a value at top level and they cost more than half of the limit
 abbrev pub held_forgotten : {S : Type 0} → ℕ → Held → Head S → Held
 held_forgotten limit h head = texts_forgotten h h.headers (not (is_marker head) && is_over limit h.texts)
 
@@ -170,7 +170,7 @@ held_after limit h i =
     let n = held_with_ids limit h i in
     value_held n (headers_with n i) (octets_with n i)
 
--- what is put as an item comes: the value at top level that it makes whole, and nothing while that is open
+-- what is put as an item comes: the value at top level that it makes whole, behind its declaration; nothing while that is open
 abbrev pub held_puts : ℕ → Held → Item UserSymbol ℕ → List ℕ
 held_puts limit h i =
     let n = held_with_ids limit h i in

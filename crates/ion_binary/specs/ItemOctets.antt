@@ -20,7 +20,7 @@ head_octets ids (value.begin kind) = []
 head_octets ids value.end = []
 head_octets ids value.marker = []
 
--- the id of a symbol value, and 0 of other heads
+-- the id of a symbol value, and 0 of other scalars
 abbrev pub scalar_name : (UserSymbol → ℕ) → Scalar UserSymbol → ℕ
 scalar_name ids (value.symbol s) = ids s
 scalar_name ids body = 0

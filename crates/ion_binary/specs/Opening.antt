@@ -18,7 +18,7 @@ use Rattle.ion_binary.specs.Held.{size_of, whole_at}
 use Rattle.ion_binary.specs.ItemOctets.{opening}
 use Rattle.ion_binary.specs.Counting.{ArePlaced, AreReached, IsCounted, counted_length}
 
--- the counted bytes that it holds, and the most that it may
+-- the counted bytes that it holds
 abbrev pub open_cost : {A : Type 0} → OpenValue A → ℕ
 open_cost v = 8 * length v.headers + length v.octets
 

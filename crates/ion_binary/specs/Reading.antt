@@ -237,7 +237,7 @@ abbrev pub top_of : List Frame → ℕ → ℕ → ℕ
 top_of [] top place = place
 top_of (f ∷ frames) top place = top
 
--- the same with the field before it, from the first byte of the field on
+-- a member of a container, or what stands at top level, as a step: its field, where it has one, and then what `value_at` reads
 unfoldable pub member_at : Limits → List Frame → ℕ → Cursor → Placed (Step State)
 member_at limits frames top c = do
   f ← part c.place (field_at frames c)

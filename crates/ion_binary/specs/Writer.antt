@@ -26,7 +26,7 @@ held_in w = record {
   due = w.due;
 }
 
--- the counted bytes that it holds, and the most that it may
+-- the counted bytes that it holds
 abbrev pub own_of : {A : Type 0} → BinWriter A → ℕ
 own_of w = texts_cost w.symbols.texts + open_cost w.open_value
 
@@ -100,13 +100,13 @@ pub record Follows {A : Type 0} (old new : BinWriter A) (s : Written) (item : Pl
   pub passes : OnOk result (refused_at old.limits s item ≡ None)
   pub refuses : (r : Reason) (p : ℕ) → result ≡ Err (Refused r p) → refused_at old.limits s item ≡ Some (r, p)
 
--- what is held with an item, before a value that is whole is put, and why it is refused
+-- what is held with an item, before a value that is whole is put
 abbrev pub added : Held → PlacedItem → Held
 added h item =
     let n = with_names h (user_item item) in
     record n { octets = octets_with n (user_item item); headers = headers_with n (user_item item) }
 
--- the reason and the place for which an item is refused behind what is held, if it is: texts that cost too much go first
+-- why an item is refused behind what is held, and the place, if it is: the limit on symbol tables first, then that on values
 abbrev pub item_refusal : Limits → Held → PlacedItem → Option (Reason × ℕ)
 item_refusal limits h item =
     refused_by limits.value (size_of (added h item).octets (added h item).headers) item.top (first_over limits.symbols h.texts (item_symbols item))

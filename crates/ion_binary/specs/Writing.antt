@@ -174,7 +174,7 @@ abbrev pub unless_refused : Option (Reason × ℕ) → List ℕ → List ℕ
 unless_refused (Some why) octets = []
 unless_refused None octets = octets
 
--- what is put for items, whether an item behind them is refused, and what it adds
+-- what is put for items
 abbrev pub binary_puts : Limits → List PlacedItem → List ℕ
 binary_puts limits path = (written_behind limits path).octets
 

@@ -20,7 +20,7 @@ OpenItemsPutWhatIsWhole =
     (limit : ℕ) (tops : List (Top UserSymbol ℕ)) (first : ℕ) (nest : Nest UserSymbol ℕ)
     → (after_all limit at_begin (path_items (opened tops first nest))).octets ≡ binary limit tops
 
--- an item that is not refused adds what it puts, and one that is refused nothing
+-- an item that is not refused adds what it puts
 abbrev pub ItemsAddTheirOctets : Type 0
 ItemsAddTheirOctets =
     (limits : Limits) (path : List PlacedItem) (item : PlacedItem) → binary_refusal limits path item ≡ None

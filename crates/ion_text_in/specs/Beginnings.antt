@@ -62,7 +62,7 @@ pub record IsRun (Ends : List ℕ → Type 0) (bytes run behind : List ℕ) : Ty
 abbrev pub NumbersEnd : Type 0
 NumbersEnd = (bytes : List ℕ) → (in_run bytes ≡ false) ↔ EndsNumber bytes
 
--- and no other bytes are such a run
+-- the bytes that are said to go on with a number or timestamp are such a run, and no others are
 abbrev pub NumbersAreCut : Type 0
 NumbersAreCut = (bytes run behind : List ℕ) → (run_of in_run bytes ≡ (run, behind)) ↔ IsRun EndsNumber bytes run behind
 

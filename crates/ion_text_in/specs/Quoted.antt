@@ -79,7 +79,7 @@ low_behind high [] = cut
 low_behind high (b ∷ []) = if b == 92 then cut else illegal
 low_behind high (b ∷ c ∷ bytes) = if b == 92 && c == 117 then low_half high (hex_behind 4 0 bytes) else illegal
 
--- an escape by the code of a character: with two digits in a clob a byte
+-- the character of `\x` and two digits, which in a clob is a byte
 abbrev pub byte_code : Bool → Hex → Piece
 byte_code true (number n behind) = char (n ∷ []) 4
 byte_code false (number n behind) = by_code n 4

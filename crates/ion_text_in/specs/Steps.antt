@@ -57,7 +57,7 @@ lent_by r = record { field = field_in r; annotations = annotations_in r; head = 
 abbrev pub opened_in : {I A : Type 0} → TextReader I A → List Kind
 opened_in r = reverse r.kinds
 
--- the counted bytes that it holds, and the most that it may
+-- the counted bytes that it holds
 abbrev pub held_by : {I A : Type 0} → TextReader I A → ℕ
 held_by r = 4096 + 16 * length r.kinds + 16 * length r.annotations + length r.texts + length r.name + length r.text
 
@@ -127,7 +127,7 @@ unless_unfinished (Some start) r = Stopped Truncated start
 abbrev pub state_at : {I A : Type 0} → Cursor → TextReader I A → State
 state_at c r = record { kinds = opened_in r; top = r.top; wants = wanted r.expected (field_in r) (annotations_in r); cursor = c }
 
--- all that is to come inside an item, by what is left of the device
+-- all that is to come where the reader stands inside an item, by what is left of the device
 abbrev pub to_come_in : {I A : Type 0} → InputOf I → TextReader I A → Reading
 to_come_in device r = later r.limits (state_at (cursor device r.source) r)
 
@@ -135,7 +135,7 @@ to_come_in device r = later r.limits (state_at (cursor device r.source) r)
 abbrev pub state_behind : {I A : Type 0} → Cursor → TextReader I A → State
 state_behind c r = record { kinds = opened_in r; top = r.top; wants = wanted r.expected None []; cursor = c }
 
--- all that is to come between two items, by what is left of the device
+-- all that is to come where the reader stands between two items, by what is left of the device
 abbrev pub to_come_by : {I A : Type 0} → InputOf I → TextReader I A → Reading
 to_come_by device r = unless_unfinished r.unfinished (later r.limits (state_behind (cursor device r.source) r))
 
@@ -155,7 +155,7 @@ ending r place = comes r.limits (final_step (opened_in r) (wanted r.expected (fi
 abbrev pub scalar_by : {I A : Type 0} → TextReader I A → Body → ℕ → Cursor → Reading
 scalar_by r body place c = comes r.limits (Ok (scalar_step (opened_in r) r.top (field_in r) (annotations_in r) place (as_scalar r.text place body) c))
 
--- a symbol with two colons before the cursor, and one without
+-- all that is to come where a symbol was read with two colons before the cursor: it is an annotation
 abbrev pub with_colons : {I A : Type 0} → TextReader I A → Symbol → ℕ → Cursor → Reading
 with_colons r symbol place c = comes r.limits (part place (with_annotation r.limits (opened_in r) r.top (field_in r) (annotations_in r) (at (as_symbol r.text symbol) place) c))
 
@@ -165,7 +165,7 @@ without_colons r symbol quoted place c =
     comes r.limits (part place (value_or_version (opened_in r) r.top (field_in r) (annotations_in r) (at (as_symbol r.text symbol) place) c
     (tells_version (innermost (opened_in r)) (annotations_in r) quoted (as_symbol r.text symbol))))
 
--- a field's name, a closing bracket and an opening one
+-- all that is to come where a field's name was read
 abbrev pub naming : {I A : Type 0} → TextReader I A → List ℕ → Symbol → ℕ → Cursor → Reading
 naming r text symbol place c = comes r.limits (field_step (opened_in r) r.top (at (as_symbol text symbol) place) c)
 

@@ -17,7 +17,7 @@ use Rattle.ion_value.specs.Value.{user_item}
 abbrev pub opened_in : {A : Type 0} → TextWriter A → Open
 opened_in w = shown w.kinds w.empty
 
--- the counted bytes that it holds, and the most that it may
+-- the counted bytes that it holds
 abbrev pub held_by : {A : Type 0} → TextWriter A → ℕ
 held_by w = 16 * length w.kinds
 

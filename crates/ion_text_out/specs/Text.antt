@@ -93,7 +93,7 @@ text tops = flat_map top_text tops
 
 -- ---- paths whose containers are still open
 
--- the kind of the innermost open container, and its members so far
+-- the kind of the innermost open container
 abbrev pub inner_kind : {S P : Type 0} → Nest S P → Kind
 inner_kind (outermost annotations place kind members) = kind
 inner_kind (inner around field annotations place kind members) = kind

@@ -9,7 +9,7 @@ use Rattle.ion_value.specs.Value as v
 use Rattle.ion_value.specs.Value.{SymbolAt, UserSymbol, user_symbol_at, user_item, user_items, map_head, Head, PlacedItem}
 use Rattle.ion_text_out.specs.Text.{Open, annotation_text, before_item, behind_value, closer, field_text, item_text, items_text, open_behind, opener, scalar_text}
 
--- what is put for items, what an item behind them adds, and that none is refused
+-- what is put for items
 abbrev pub text_puts : Limits → List PlacedItem → List ℕ
 text_puts limits path = items_text [] (user_items path)
 

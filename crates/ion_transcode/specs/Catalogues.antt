@@ -50,7 +50,7 @@ IsCatalog limits bytes tables = IsCatalogIn (encoding_of (form_of bytes)) limits
 abbrev pub catalog_reading : Limits → List ℕ → Reading
 catalog_reading limits bytes = reading_of (form_of bytes) limits bytes
 
--- the user items of a raw reading, and the verdict on them
+-- the user items of a raw reading, under the empty catalogue
 abbrev pub catalog_users : Limits → Reading → Reading
 catalog_users limits raw = users [] limits.symbols at_start raw
 

@@ -51,7 +51,7 @@ FaultlessPathsAreRead =
 
 -- ---- what is refused
 
--- what is written of a path of user values, and whether an item behind it is refused by its writer
+-- what is written of a path of user values
 abbrev pub path_output : Target → Limits → Path UserSymbol ℕ → List ℕ
 path_output target.Text limits path = path_text path
 path_output target.Binary limits path = binary limits.symbols (whole_tops path)

@@ -199,7 +199,7 @@ take-requires-clause-can_take g c =
     can.room can.held (pending_within c.args.limit c.args.symbols.now.table c.items.buffer i.pending) can.small w.small i.charges c.next.ensures.charges in
     record {
       room = room.0;
-      then_turn = room.1;
+      held = room.1;
       countable = subst (λ n. n < 2 ^ 64 - 1) (sym (causes.counted (no_fault Memory) ∙ i.refused)) can.countable;
       small = can.small;
       pending = i.pending;

@@ -1,4 +1,5 @@
 use Rattle.std.proofs.Common.{◌≡◌, ◌⊎◌, pos, ◌-ℤ◌, length, get_or, arith}
+use Rattle.std.proofs.lemmas.Grind.{common_steps}
 use Rattle.ion_value.specs.Number.{signed}
 use Rattle.ion_value.proofs.TextDigits.{tail-all}
 use Rattle.ion_value.proofs.TextDecimals.{behind-power}
@@ -15,3 +16,6 @@ returns-in-100 c =
       c.less_places.ensures told.1.0 told.1.1,
       λ negative n. behind-power negative n mantissa.places mantissa.pointed e power _ (omega arith) (tail-all power (length power) (omega arith)) mark told.0 told.1.2,
     )
+
+pub returns-in-101 : goal.returns-in-101
+returns-in-101 c = grind (arith, common_steps) steps 1500000

@@ -1,4 +1,5 @@
 use Rattle.std.proofs.Common.{◌-◌, ◌++◌, [], List, ℕ, take, drop, arith, sym, ◌∙◌, refl, ap, append-nil, append_assoc}
+use Rattle.std.proofs.lemmas.Grind.{common_steps}
 use Rattle.std.specs.List.{copy_within}
 use Rattle.ion_meter.proofs.Window.{read_behind, read_nothing}
 use Rattle.ion_meter.proofs.source.Source.fill.Goals as goal
@@ -32,3 +33,6 @@ returns-clause-kept g c =
           ∙ (append_assoc buffered (take c.in-Ok.n c.read.new.into) (g.I.Input.rest c.read.new.self)
           ∙ ap (λ (l : List ℕ). buffered ++ l) (sym (c.in-Ok.ensures.bytes t)));
     })
+
+pub invariant_of-self-2 : goal.invariant_of-self-2
+invariant_of-self-2 g c = grind (arith, common_steps) steps 400000

@@ -12,4 +12,4 @@ pub returns-then-at-self-clause-gives : goal.returns-then-at-self-clause-gives
 returns-then-at-self-clause-gives g c = grind (arith, elements)
 
 pub returns-clause-there : goal.returns-clause-there
-returns-clause-there g c = grind (arith, elements)
+returns-clause-there g c = grind (arith, elements) steps 400000

@@ -21,7 +21,7 @@ pub returns-then-self-index-clause-reads : goal.returns-then-self-index-clause-r
 returns-then-self-index-clause-reads g c = grind (arith, elements)
 
 pub returns-clause-reads : goal.returns-clause-reads
-returns-clause-reads g c = grind (arith, elements)
+returns-clause-reads g c = grind (arith, elements) steps 400000
 
 pub returns-clause-limit : goal.returns-clause-limit
 returns-clause-limit g c = grind (arith, elements)

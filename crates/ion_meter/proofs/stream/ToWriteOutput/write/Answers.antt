@@ -1,0 +1,6 @@
+use Rattle.std.proofs.Common.{arith}
+use Rattle.std.proofs.lemmas.Grind.{common_steps}
+use Rattle.ion_meter.proofs.stream.ToWriteOutput.write.Goals as goal
+
+pub returns-in-Ok-clause-stuck : goal.returns-in-Ok-clause-stuck
+returns-in-Ok-clause-stuck g c = grind (arith, common_steps) steps 400000

@@ -1,6 +1,7 @@
 // What no contract says: that the calls succeed, also right after a refusal or beside a device that fails, and what they print.
 ghost use Rattle.std.specs.Prelude.{◌≡◌, ◌^◌, ◌<◌};
 
+use crate::same::same;
 use ion_meter::limits::Limits;
 use ion_meter::meter::Meter;
 use std::alloc::{Allocator, Global};
@@ -26,23 +27,39 @@ const LIMITS: Limits = Limits {
     input: 100,
 };
 
+/// What is run over an allocator that refuses. A run answers how often it was refused.
+#[derive(Clone, Copy)]
+enum Script {
+    Bytes,
+    SplicedBytes,
+    Stack,
+    Table,
+    Input,
+    Output,
+}
+
+fn run(rt: &impl Abort, alloc: Global, refusing: &Refusing<Global>, script: Script) -> u64 {
+    match script {
+        Script::Bytes => growing::grow_bytes(rt, alloc, refusing),
+        Script::SplicedBytes => growing::grow_spliced_bytes(rt, alloc, refusing),
+        Script::Stack => growing::grow_stack(rt, alloc, refusing),
+        Script::Table => growing::grow_table(rt, alloc, refusing),
+        Script::Input => windows::read_byte(rt, refusing),
+        Script::Output => windows::write_bytes(rt, alloc, refusing),
+    }
+}
+
 /// Runs a script over an allocator that refuses its first allocation, then over one that refuses its second, and so on until
-/// a run meets no refusal. A script answers how often it was refused. The answer is how many runs met a refusal.
-fn refuse_each<F: Fn(&Refusing<Global>) -> Result<u64, Fail>>(
-    rt: &impl Abort,
-    alloc: Global,
-    script: F,
-) -> Result<u64, Fail>
-    requires { F.IsAlwaysCallable script }
-{
+/// a run meets no refusal. The answer is how many runs met a refusal.
+fn refuse_each(rt: &impl Abort, alloc: Global, script: Script) -> u64 {
     for nth in 1..1_000 {
         let refusing = Refusing::new(alloc, nth);
-        let refused = script(&refusing)?;
+        let refused = run(rt, alloc, &refusing, script);
         if !refusing.has_refused() {
-            assert_eq!(rt; refused, 0);
-            return Ok(nth - 1);
+            same(rt, refused, 0);
+            return nth - 1;
         }
-        assert_eq!(rt; refused, 1, "at allocation {nth}");
+        same(rt, (nth, refused), (nth, 1));
     }
     panic!(rt; "each run met a refusal")
 }

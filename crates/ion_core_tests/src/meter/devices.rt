@@ -130,7 +130,7 @@ impl Output for Narrow {
 }
 
 /// A window on this input.
-fn source_on<I: Input + Drop, A: Allocator + Copy>(
+pub fn source_on<I: Input + Drop, A: Allocator + Copy>(
     rt: &impl Abort,
     meter: &mut Meter<A>,
     limits: Limits,
@@ -148,7 +148,7 @@ fn source_on<I: Input + Drop, A: Allocator + Copy>(
 }
 
 /// A window on this output.
-fn sink_on<O: Output + Drop, A: Allocator + Copy>(
+pub fn sink_on<O: Output + Drop, A: Allocator + Copy>(
     rt: &impl Abort,
     meter: &mut Meter<A>,
     device: O,
@@ -172,186 +172,304 @@ fn pass<I: Input, A: Allocator + Copy>(rt: &impl Abort, source: &mut Source<I, A
     source.advance();
 }
 
-/// Takes what the window lends, and passes over it.
-fn take_lent<I: Input, A: Allocator + Copy>(
-    rt: &impl Abort,
-    source: &mut Source<I, A>,
-    into: &mut Vec<u8>,
-) -> usize {
-    let lent = source.buffer();
-    let count = lent.len();
-    if into.extend_from_slice(lent).is_err() {
-        panic!(rt; "no memory");
-    }
-    source.consume(count);
-    count
+/// What is asked of a window on an input, and what it answers.
+#[derive(Clone, Copy)]
+enum Ask<'a> {
+    /// The byte so far ahead.
+    Peek(usize, Result<Option<u8>, Fault>),
+    /// What the window lends.
+    Lent(&'a [u8]),
+    /// Passes over this byte.
+    Pass(u8),
+    /// How many bytes were passed over.
+    Place(u64),
 }
+
+/// Asserts what a window on an input answers.
+fn answers<I: Input, A: Allocator + Copy>(rt: &impl Abort, source: &mut Source<I, A>, ask: Ask) {
+    match ask {
+        Ask::Peek(ahead, want) => {
+            assert!(rt; ahead < 16);
+            same(rt, (ahead, source.peek(ahead)), (ahead, want));
+        }
+        Ask::Lent(bytes) => same(rt, source.buffer(), bytes),
+        Ask::Pass(byte) => pass(rt, source, byte),
+        Ask::Place(place) => same(rt, source.place(), place),
+    }
+}
+
+/// Passes over these bytes of an input of at most so many, and asks. The input is handed out.
+fn read_on<I: Input + Drop>(
+    rt: &impl Abort,
+    alloc: Global,
+    input: u64,
+    device: I,
+    passed: &[u8],
+    asks: &[Ask],
+) -> I
+    requires failures { I.failure_count device ≡ 0 }
+{
+    let mut meter = Meter::new(alloc);
+    let limits = Limits { input, ..LIMITS };
+    let mut source = source_on(rt, &mut meter, limits, device);
+    for byte in passed {
+        pass(rt, &mut source, *byte);
+    }
+    for ask in asks {
+        answers(rt, &mut source, *ask);
+    }
+    source.release(&mut meter)
+}
+
+/// The same of the text, of which each call gives one byte and one call fails. In the end there were so many calls and failures.
+fn read_drip(
+    rt: &impl Abort,
+    alloc: Global,
+    fails_at: usize,
+    passed: &[u8],
+    asks: &[Ask],
+    calls: usize,
+    failures: u64,
+) {
+    let device = read_on(rt, alloc, 100, Drip::new(TEXT, fails_at), passed, asks);
+    same(rt, device.calls, calls);
+    same(rt, device.failures(), failures);
+}
+
+const READ_FAULTS: &[Ask] = &[
+    Ask::Peek(0, Err(Fault::ReadFault)),
+    Ask::Lent(b""),
+    Ask::Peek(1, Err(Fault::ReadFault)),
+    Ask::Lent(b""),
+    Ask::Peek(2, Err(Fault::ReadFault)),
+    Ask::Lent(b""),
+];
 
 #[test]
 fn a_read_that_fails_is_answered_from_then_on(rt: HostRuntime) {
     for before in 0..=TEXT.len() {
-        let mut meter = Meter::new(rt.alloc());
-        let mut source = source_on(&rt, &mut meter, LIMITS, Drip::new(TEXT, before + 1));
-        for byte in &TEXT[..before] {
-            pass(&rt, &mut source, *byte);
-        }
-        for ahead in 0..3 {
-            assert_eq!(rt; source.peek(ahead), Err(Fault::ReadFault), "after {before}");
-            same(&rt, source.buffer(), b"".as_slice());
-        }
-        let device = source.release(&mut meter);
-        same(&rt, device.calls, before + 1);
-        same(&rt, device.failures(), 1);
+        let fails_at = before + 1;
+        read_drip(
+            &rt,
+            rt.alloc(),
+            fails_at,
+            &TEXT[..before],
+            READ_FAULTS,
+            fails_at,
+            1,
+        );
     }
 }
+
+const END_AT_10: &[Ask] = &[
+    Ask::Place(10),
+    Ask::Peek(0, Ok(None)),
+    Ask::Peek(0, Ok(None)),
+];
 
 #[test]
 fn a_reader_that_never_fails_is_read_to_its_end(rt: HostRuntime) {
-    let mut meter = Meter::new(rt.alloc());
-    let mut source = source_on(&rt, &mut meter, LIMITS, Drip::new(TEXT, 12));
-    for byte in TEXT {
-        pass(&rt, &mut source, *byte);
-    }
-    same(&rt, source.place(), 10);
-    same(&rt, source.peek(0), Ok(None));
-    same(&rt, source.peek(0), Ok(None));
-    let device = source.release(&mut meter);
-    same(&rt, device.calls, 11);
-    same(&rt, device.failures(), 0);
+    read_drip(&rt, rt.alloc(), 12, TEXT, END_AT_10, 11, 0);
 }
+
+const AHEAD: &[Ask] = &[
+    Ask::Peek(3, Ok(Some(b'3'))),
+    Ask::Lent(b"0123"),
+    Ask::Peek(1, Ok(Some(b'1'))),
+    Ask::Pass(b'0'),
+    Ask::Peek(3, Ok(Some(b'4'))),
+    Ask::Lent(b"1234"),
+    Ask::Peek(15, Ok(None)),
+    Ask::Peek(8, Ok(Some(b'9'))),
+    Ask::Peek(9, Ok(None)),
+];
 
 #[test]
 fn a_peek_ahead_reads_no_more_than_it_needs(rt: HostRuntime) {
-    let mut meter = Meter::new(rt.alloc());
-    let mut source = source_on(&rt, &mut meter, LIMITS, Drip::new(TEXT, 0));
-    same(&rt, source.peek(3), Ok(Some(b'3')));
-    same(&rt, source.buffer(), b"0123".as_slice());
-    same(&rt, source.peek(1), Ok(Some(b'1')));
-    pass(&rt, &mut source, b'0');
-    same(&rt, source.peek(3), Ok(Some(b'4')));
-    same(&rt, source.buffer(), b"1234".as_slice());
-    same(&rt, source.peek(15), Ok(None));
-    same(&rt, source.peek(8), Ok(Some(b'9')));
-    same(&rt, source.peek(9), Ok(None));
-    let device = source.release(&mut meter);
-    same(&rt, device.calls, 11);
+    read_drip(&rt, rt.alloc(), 0, b"", AHEAD, 11, 0);
+}
+
+const END: &[Ask] = &[Ask::Peek(0, Ok(None)), Ask::Peek(0, Ok(None))];
+
+const PAST: &[Ask] = &[
+    Ask::Peek(0, Ok(Some(b'a'))),
+    Ask::Lent(b"ab"),
+    Ask::Pass(b'a'),
+    Ask::Pass(b'b'),
+    Ask::Lent(b""),
+    Ask::Peek(0, Err(Fault::InputLimit)),
+    Ask::Peek(0, Err(Fault::InputLimit)),
+];
+
+#[test]
+fn an_input_may_be_as_long_as_its_limit_and_no_longer(rt: HostRuntime) {
+    for (input, passed, asks) in [(3, b"abc".as_slice(), END), (2, b"".as_slice(), PAST)] {
+        let text = FromRead::new(b"abc".as_slice());
+        let device = read_on(&rt, rt.alloc(), input, text, passed, asks);
+        same(&rt, device.failures(), 0);
+    }
+}
+
+/// Asserts that the input has not ended.
+pub fn has_more<I: Input, A: Allocator + Copy>(rt: &impl Abort, source: &mut Source<I, A>) {
+    assert!(rt; matches!(source.peek(0), Ok(Some(_))));
+}
+
+/// Takes what the window lends, so many bytes, and passes over it.
+fn take_lent<I: Input, A: Allocator + Copy>(
+    rt: &impl Abort,
+    source: &mut Source<I, A>,
+    into: &mut Vec<u8>,
+    length: usize,
+) {
+    has_more(rt, source);
+    let lent = source.buffer();
+    let count = lent.len();
+    assert!(rt; into.extend_from_slice(lent).is_ok());
+    source.consume(count);
+    same(rt, count, length);
+}
+
+/// Takes the windows of 10,000 bytes.
+fn take_windows<I: Input, A: Allocator + Copy>(
+    rt: &impl Abort,
+    source: &mut Source<I, A>,
+    into: &mut Vec<u8>,
+) {
+    for length in [4_096, 4_096, 1_808] {
+        take_lent(rt, source, into, length);
+    }
+    same(rt, source.peek(0), Ok(None));
+    same(rt, source.place(), 10_000);
+}
+
+/// Reads these bytes by the windows that follow one another.
+fn read_windows(rt: &impl Abort, alloc: Global, bytes: &[u8]) {
+    let mut meter = Meter::new(alloc);
+    let limits = Limits {
+        input: 10_000,
+        ..LIMITS
+    };
+    let mut source = source_on(rt, &mut meter, limits, FromRead::new(bytes));
+    let mut read = Vec::new(alloc);
+    take_windows(rt, &mut source, &mut read);
+    same(rt, read.as_slice(), bytes);
 }
 
 #[test]
 fn windows_follow_one_another(rt: HostRuntime) -> Result<(), Fail> {
     let bytes = many_bytes(rt.alloc(), 10_000)?;
-    let limits = Limits {
-        input: 10_000,
-        ..LIMITS
-    };
-    let mut meter = Meter::new(rt.alloc());
-    let device = FromRead::new(bytes.as_slice());
-    let mut source = source_on(&rt, &mut meter, limits, device);
-    let mut read = Vec::new(rt.alloc());
-    for length in [4_096, 4_096, 1_808] {
-        assert!(rt; matches!(source.peek(0), Ok(Some(_))));
-        same(&rt, take_lent(&rt, &mut source, &mut read), length);
-    }
-    same(&rt, source.peek(0), Ok(None));
-    same(&rt, source.place(), 10_000);
-    same(&rt, read.as_slice(), bytes.as_slice());
+    read_windows(&rt, rt.alloc(), bytes.as_slice());
     Ok(())
 }
 
-#[test]
-fn an_input_may_be_as_long_as_its_limit(rt: HostRuntime) {
-    let limits = Limits { input: 3, ..LIMITS };
-    let mut meter = Meter::new(rt.alloc());
-    let device = FromRead::new(b"abc".as_slice());
-    let mut source = source_on(&rt, &mut meter, limits, device);
-    for byte in b"abc" {
-        pass(&rt, &mut source, *byte);
-    }
-    same(&rt, source.peek(0), Ok(None));
-    same(&rt, source.peek(0), Ok(None));
+/// A call on a window on an output.
+#[derive(Clone, Copy)]
+enum Call<'a> {
+    Put(&'a [u8]),
+    Flush,
 }
 
-#[test]
-fn an_input_past_its_limit_is_a_fault(rt: HostRuntime) {
-    let limits = Limits { input: 2, ..LIMITS };
-    let mut meter = Meter::new(rt.alloc());
-    let device = FromRead::new(b"abc".as_slice());
-    let mut source = source_on(&rt, &mut meter, limits, device);
-    same(&rt, source.peek(0), Ok(Some(b'a')));
-    same(&rt, source.buffer(), b"ab".as_slice());
-    pass(&rt, &mut source, b'a');
-    pass(&rt, &mut source, b'b');
-    same(&rt, source.buffer(), b"".as_slice());
-    same(&rt, source.peek(0), Err(Fault::InputLimit));
-    same(&rt, source.peek(0), Err(Fault::InputLimit));
-    let device = source.release(&mut meter);
-    same(&rt, device.failures(), 0);
-}
-
-/// Puts the text and flushes it, where the output fails behind n bytes.
-fn write_to_fault(rt: &impl Abort, alloc: Global, before: usize, failing: Failing) {
-    assert!(rt; before < TEXT.len());
+/// Makes the calls on a window on this output, each with its answer. The output is handed out.
+fn write_on<O: Output + Drop>(
+    rt: &impl Abort,
+    alloc: Global,
+    device: O,
+    calls: &[(Call, Result<(), Fault>)],
+) -> O
+    requires failures { O.failure_count device ≡ 0 }
+{
     let mut meter = Meter::new(alloc);
-    let mut sink = sink_on(rt, &mut meter, Narrow::new(alloc, before + 1, failing));
-    same(rt, sink.put(TEXT), Ok(()));
-    for _ in 0..2 {
-        assert_eq!(rt; sink.flush(), Err(Fault::WriteFault), "after {before}");
-        assert_eq!(rt; sink.put(b"a"), Err(Fault::WriteFault), "after {before}");
-        assert_eq!(rt; sink.put(b""), Err(Fault::WriteFault), "after {before}");
+    let mut sink = sink_on(rt, &mut meter, device);
+    for (call, want) in calls {
+        let answer = match *call {
+            Call::Put(bytes) => sink.put(bytes),
+            Call::Flush => sink.flush(),
+        };
+        same(rt, answer, *want);
     }
-    let device = sink.release(&mut meter);
-    same(rt, device.taken.as_slice(), &TEXT[..before]);
-    same(rt, device.calls, before + 1);
-    same(rt, device.failures(), 1);
+    sink.release(&mut meter)
 }
+
+/// Asserts what such an output has taken, and its calls and failures.
+fn has_taken(rt: &impl Abort, device: Narrow, taken: &[u8], calls: usize, failures: u64) {
+    same(rt, device.taken.as_slice(), taken);
+    same(rt, device.calls, calls);
+    same(rt, device.failures(), failures);
+}
+
+const WRITE_FAULT: Result<(), Fault> = Err(Fault::WriteFault);
+
+/// Puts the text and flushes it, where the output fails behind fewer bytes, then puts and flushes more.
+const WRITE_FAULTS: &[(Call, Result<(), Fault>)] = &[
+    (Call::Put(TEXT), Ok(())),
+    (Call::Flush, WRITE_FAULT),
+    (Call::Put(b"a"), WRITE_FAULT),
+    (Call::Put(b""), WRITE_FAULT),
+    (Call::Flush, WRITE_FAULT),
+    (Call::Put(b"a"), WRITE_FAULT),
+    (Call::Put(b""), WRITE_FAULT),
+];
 
 #[test]
 fn a_write_that_fails_is_answered_from_then_on(rt: HostRuntime) {
     for before in 0..TEXT.len() {
-        write_to_fault(&rt, rt.alloc(), before, Failing::ByErr);
-        write_to_fault(&rt, rt.alloc(), before, Failing::ByTakingNothing);
+        for failing in [Failing::ByErr, Failing::ByTakingNothing] {
+            let output = Narrow::new(rt.alloc(), before + 1, failing);
+            let device = write_on(&rt, rt.alloc(), output, WRITE_FAULTS);
+            has_taken(&rt, device, &TEXT[..before], before + 1, 1);
+        }
     }
 }
 
+const ALL: &[(Call, Result<(), Fault>)] = &[
+    (Call::Put(TEXT), Ok(())),
+    (Call::Flush, Ok(())),
+    (Call::Flush, Ok(())),
+];
+
 #[test]
 fn a_writer_that_never_fails_gets_all(rt: HostRuntime) {
-    let mut meter = Meter::new(rt.alloc());
-    let mut sink = sink_on(&rt, &mut meter, Narrow::new(rt.alloc(), 11, Failing::ByErr));
-    same(&rt, sink.put(TEXT), Ok(()));
-    same(&rt, sink.flush(), Ok(()));
-    same(&rt, sink.flush(), Ok(()));
-    let device = sink.release(&mut meter);
-    same(&rt, device.taken.as_slice(), TEXT);
-    same(&rt, device.calls, 10);
-    same(&rt, device.failures(), 0);
+    let output = Narrow::new(rt.alloc(), 11, Failing::ByErr);
+    let device = write_on(&rt, rt.alloc(), output, ALL);
+    has_taken(&rt, device, TEXT, 10, 0);
 }
 
 #[test]
 fn a_put_into_a_full_window_may_fail(rt: HostRuntime) -> Result<(), Fail> {
     let bytes = many_bytes(rt.alloc(), 4_097)?;
-    let mut meter = Meter::new(rt.alloc());
-    let mut sink = sink_on(&rt, &mut meter, Narrow::new(rt.alloc(), 3, Failing::ByErr));
-    same(&rt, sink.put(bytes.as_slice()), Err(Fault::WriteFault));
-    same(&rt, sink.put(b"a"), Err(Fault::WriteFault));
-    same(&rt, sink.flush(), Err(Fault::WriteFault));
-    let device = sink.release(&mut meter);
-    same(&rt, device.taken.as_slice(), [0, 1].as_slice());
-    same(&rt, device.calls, 3);
-    same(&rt, device.failures(), 1);
+    let calls = [
+        (Call::Put(bytes.as_slice()), WRITE_FAULT),
+        (Call::Put(b"a"), WRITE_FAULT),
+        (Call::Flush, WRITE_FAULT),
+    ];
+    let output = Narrow::new(rt.alloc(), 3, Failing::ByErr);
+    let device = write_on(&rt, rt.alloc(), output, &calls);
+    has_taken(&rt, device, &[0, 1], 3, 1);
     Ok(())
+}
+
+/// Puts pieces of the bytes, and flushes them.
+fn put_each<O: Output, A: Allocator + Copy>(rt: &impl Abort, sink: &mut Sink<O, A>, bytes: &[u8]) {
+    for piece in bytes.chunks(700) {
+        same(rt, sink.put(piece), Ok(()));
+    }
+    same(rt, sink.flush(), Ok(()));
+}
+
+/// Puts pieces of the bytes, which arrive whole and in order.
+fn put_pieces(rt: &impl Abort, alloc: Global, bytes: &[u8]) {
+    let mut meter = Meter::new(alloc);
+    let mut sink = sink_on(rt, &mut meter, ToWrite::new(Vec::new(alloc)));
+    put_each(rt, &mut sink, bytes);
+    let written = sink.release(&mut meter).into_inner();
+    same(rt, written.as_slice(), bytes);
+    same(rt, meter.held(), 0);
 }
 
 #[test]
 fn pieces_arrive_whole_and_in_order(rt: HostRuntime) -> Result<(), Fail> {
     let bytes = many_bytes(rt.alloc(), 7_000)?;
-    let mut meter = Meter::new(rt.alloc());
-    let mut sink = sink_on(&rt, &mut meter, ToWrite::new(Vec::new(rt.alloc())));
-    for piece in bytes.as_slice().chunks(700) {
-        same(&rt, sink.put(piece), Ok(()));
-    }
-    same(&rt, sink.flush(), Ok(()));
-    let written = sink.release(&mut meter).into_inner();
-    same(&rt, written.as_slice(), bytes.as_slice());
-    same(&rt, meter.held(), 0);
+    put_pieces(&rt, rt.alloc(), bytes.as_slice());
     Ok(())
 }

@@ -2,7 +2,7 @@
 ghost use Rattle.std.specs.Prelude.{◌≡◌, ◌<◌};
 
 use super::refusing::Refusing;
-use super::{counts_of, is_refused, refuse_each};
+use super::{Script, counts_of, is_refused, refuse_each};
 use crate::same::same;
 use ion_meter::buf::Buf;
 use ion_meter::fault::Fault;
@@ -11,7 +11,6 @@ use ion_meter::stack::Stack;
 use ion_meter::table::Table;
 use std::alloc::{Allocator, Global};
 use std::process::Abort;
-use std::test::Fail;
 
 /// A call that grows.
 #[derive(Clone, Copy)]
@@ -143,16 +142,28 @@ fn grow<A: Allocator + Copy>(
     meter: &mut Meter<A>,
     grown: &mut impl Growing<A>,
     call: Call,
-) -> Result<(), Fail> {
+) {
+    let Ok(contents) = grown.contents().to_vec(alloc) else {
+        panic!(rt; "no memory")
+    };
+    grow_from(rt, meter, grown, call, contents.as_slice());
+}
+
+/// The same, where it has these contents.
+fn grow_from<A: Allocator + Copy>(
+    rt: &impl Abort,
+    meter: &mut Meter<A>,
+    grown: &mut impl Growing<A>,
+    call: Call,
+    contents: &[u8],
+) {
     let before = counts_of(rt, meter);
-    let contents = grown.contents().to_vec(alloc)?;
     if let Err(fault) = grown.make(rt, meter, call) {
         same(rt, fault, Fault::Memory);
-        same(rt, grown.contents(), contents.as_slice());
+        same(rt, grown.contents(), contents);
         is_refused(rt, meter, before);
-        grown.make(rt, meter, call)?;
+        same(rt, grown.make(rt, meter, call), Ok(()));
     }
-    Ok(())
 }
 
 /// Pushes, extends and inserts, so that each is refused in some run. At the end this much is held.
@@ -162,63 +173,58 @@ fn grow_often<A: Allocator + Copy>(
     meter: &mut Meter<A>,
     grown: &mut impl Growing<A>,
     held: u64,
-) -> Result<u64, Fail> {
+) -> u64 {
     for entry in 0..40 {
-        grow(rt, alloc, meter, grown, Call::Push(entry))?;
+        grow(rt, alloc, meter, grown, Call::Push(entry));
     }
-    grow(rt, alloc, meter, grown, Call::Extend(&[7; 100]))?;
+    grow(rt, alloc, meter, grown, Call::Extend(&[7; 100]));
     for place in 0..60 {
-        grow(rt, alloc, meter, grown, Call::Insert(place, 9))?;
+        grow(rt, alloc, meter, grown, Call::Insert(place, 9));
     }
     same(rt, grown.contents().len(), 200);
     same(rt, meter.held(), held);
     same(rt, meter.peak(), held);
-    Ok(meter.refused())
+    meter.refused()
+}
+
+pub fn grow_bytes(rt: &impl Abort, alloc: Global, refusing: &Refusing<Global>) -> u64 {
+    let mut meter = Meter::new(refusing);
+    let mut buf = Buf::new(&meter);
+    grow_often(rt, alloc, &mut meter, &mut buf, 200)
+}
+
+pub fn grow_spliced_bytes(rt: &impl Abort, alloc: Global, refusing: &Refusing<Global>) -> u64 {
+    let mut meter = Meter::new(refusing);
+    let buf = Buf::new(&meter);
+    grow_often(rt, alloc, &mut meter, &mut Spliced { buf }, 200)
+}
+
+pub fn grow_stack(rt: &impl Abort, alloc: Global, refusing: &Refusing<Global>) -> u64 {
+    let mut meter = Meter::new(refusing);
+    let mut stack = Stack::new(&meter);
+    grow_often(rt, alloc, &mut meter, &mut stack, 3_200)
+}
+
+pub fn grow_table(rt: &impl Abort, alloc: Global, refusing: &Refusing<Global>) -> u64 {
+    let mut meter = Meter::new(refusing);
+    let table = Table::new(&meter, 24);
+    grow_often(rt, alloc, &mut meter, &mut Priced { table }, 4_800)
 }
 
 /// Four of the pushes are refused, then the extension, then an insertion.
 const REFUSALS: u64 = 6;
 
-#[test]
-fn bytes_grow_past_each_refusal(rt: HostRuntime) -> Result<(), Fail> {
-    let runs = refuse_each(&rt, rt.alloc(), |refusing| {
-        let mut meter = Meter::new(refusing);
-        let mut buf = Buf::new(&meter);
-        grow_often(&rt, rt.alloc(), &mut meter, &mut buf, 200)
-    })?;
-    same(&rt, runs, REFUSALS);
-    Ok(())
-}
+const GROWING: &[(&str, Script)] = &[
+    ("bytes", Script::Bytes),
+    ("spliced bytes", Script::SplicedBytes),
+    ("stack", Script::Stack),
+    ("table", Script::Table),
+];
 
 #[test]
-fn spliced_bytes_grow_past_each_refusal(rt: HostRuntime) -> Result<(), Fail> {
-    let runs = refuse_each(&rt, rt.alloc(), |refusing| {
-        let mut meter = Meter::new(refusing);
-        let buf = Buf::new(&meter);
-        grow_often(&rt, rt.alloc(), &mut meter, &mut Spliced { buf }, 200)
-    })?;
-    same(&rt, runs, REFUSALS);
-    Ok(())
-}
-
-#[test]
-fn stacks_grow_past_each_refusal(rt: HostRuntime) -> Result<(), Fail> {
-    let runs = refuse_each(&rt, rt.alloc(), |refusing| {
-        let mut meter = Meter::new(refusing);
-        let mut stack = Stack::new(&meter);
-        grow_often(&rt, rt.alloc(), &mut meter, &mut stack, 3_200)
-    })?;
-    same(&rt, runs, REFUSALS);
-    Ok(())
-}
-
-#[test]
-fn tables_grow_past_each_refusal(rt: HostRuntime) -> Result<(), Fail> {
-    let runs = refuse_each(&rt, rt.alloc(), |refusing| {
-        let mut meter = Meter::new(refusing);
-        let table = Table::new(&meter, 24);
-        grow_often(&rt, rt.alloc(), &mut meter, &mut Priced { table }, 4_800)
-    })?;
-    same(&rt, runs, REFUSALS);
-    Ok(())
+fn each_grows_past_each_refusal(rt: HostRuntime) {
+    for (name, script) in GROWING {
+        let runs = refuse_each(&rt, rt.alloc(), *script);
+        same(&rt, (*name, runs), (*name, REFUSALS));
+    }
 }

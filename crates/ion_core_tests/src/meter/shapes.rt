@@ -1,5 +1,7 @@
 // What each call leaves, and what it costs.
-use super::LIMITS;
+ghost use Rattle.std.specs.Prelude.{◌≡◌};
+
+use super::{LIMITS, counts_of};
 use crate::same::same;
 use ion_meter::buf::Buf;
 use ion_meter::fault::{Fault, Reason};
@@ -10,104 +12,220 @@ use ion_meter::source::Source;
 use ion_meter::stack::Stack;
 use ion_meter::stream::{FromRead, ToWrite};
 use ion_meter::table::Table;
+use std::alloc::Global;
 use std::process::Abort;
 use std::test::Fail;
 
-#[test]
-fn bytes_are_put_in_and_cut(rt: HostRuntime) {
-    let mut meter = Meter::new(rt.alloc());
-    let mut buf = Buf::new(&meter);
-    assert!(rt; buf.extend(&mut meter, b"abc").is_ok());
-    assert!(rt; buf.insert(&mut meter, 1, b'x').is_ok());
-    same(&rt, buf.as_slice(), b"axbc".as_slice());
-    same(&rt, meter.held(), 4);
-    buf.truncate(&mut meter, 2);
-    same(&rt, buf.as_slice(), b"ax".as_slice());
-    same(&rt, meter.held(), 2);
-    same(&rt, meter.peak(), 4);
-    buf.release(&mut meter);
-    same(&rt, meter.held(), 0);
-    same(&rt, meter.peak(), 4);
-    same(&rt, meter.refused(), 0);
+/// A call on bytes.
+#[derive(Clone, Copy)]
+enum ByteCall<'a> {
+    Push(u8),
+    Extend(&'a [u8]),
+    Insert(usize, u8),
+    InsertSlice(usize, &'a [u8]),
+    Set(usize, u8),
+    Pop(Option<u8>),
+    Truncate(usize),
+    Clear,
 }
 
-#[test]
-fn bytes_are_written_over_and_taken_off(rt: HostRuntime) {
-    let mut meter = Meter::new(rt.alloc());
-    let mut buf = Buf::new(&meter);
-    assert!(rt; buf.extend(&mut meter, b"ab").is_ok());
-    buf.set(0, b'y');
-    same(&rt, buf.as_slice(), b"yb".as_slice());
-    same(&rt, meter.held(), 2);
-    same(&rt, buf.pop(&mut meter), Some(b'b'));
-    same(&rt, buf.as_slice(), b"y".as_slice());
-    same(&rt, meter.held(), 1);
-    buf.clear(&mut meter);
-    same(&rt, buf.as_slice(), b"".as_slice());
-    same(&rt, meter.held(), 0);
-    same(&rt, buf.pop(&mut meter), None);
+/// Makes the call, which is not refused.
+fn call_buf(rt: &impl Abort, meter: &mut Meter<Global>, buf: &mut Buf<Global>, call: ByteCall) {
+    counts_of(rt, meter);
+    let length = buf.as_slice().len();
+    assert!(rt; length as u64 <= meter.held());
+    match call {
+        ByteCall::Push(byte) => same(rt, buf.push(meter, byte), Ok(())),
+        ByteCall::Extend(bytes) => {
+            assert!(rt; bytes.len() < 1_000);
+            same(rt, buf.extend(meter, bytes), Ok(()));
+        }
+        ByteCall::Insert(place, byte) => {
+            assert!(rt; place <= length);
+            same(rt, buf.insert(meter, place, byte), Ok(()));
+        }
+        ByteCall::InsertSlice(place, bytes) => {
+            assert!(rt; place <= length && bytes.len() < 1_000);
+            same(rt, buf.insert_slice(meter, place, bytes), Ok(()));
+        }
+        ByteCall::Set(place, byte) => {
+            assert!(rt; place < length);
+            buf.set(place, byte);
+        }
+        ByteCall::Pop(byte) => same(rt, buf.pop(meter), byte),
+        ByteCall::Truncate(to) => buf.truncate(meter, to),
+        ByteCall::Clear => buf.clear(meter),
+    }
 }
 
-#[test]
-fn a_slice_is_put_in(rt: HostRuntime) {
-    let mut meter = Meter::new(rt.alloc());
+/// Makes the calls, and asserts the bytes after each, of which each costs 1. Then all is given back, and so much was held at most.
+fn follow_buf(rt: &impl Abort, alloc: Global, calls: &[(ByteCall, &[u8])], peak: u64) {
+    let mut meter = Meter::new(alloc);
     let mut buf = Buf::new(&meter);
-    assert!(rt; buf.push(&mut meter, b'a').is_ok());
-    assert!(rt; buf.push(&mut meter, b'b').is_ok());
-    assert!(rt; buf.insert_slice(&mut meter, 1, b"xy").is_ok());
-    same(&rt, buf.as_slice(), b"axyb".as_slice());
-    same(&rt, meter.held(), 4);
+    for (call, bytes) in calls {
+        call_buf(rt, &mut meter, &mut buf, *call);
+        same(rt, buf.as_slice(), *bytes);
+        same(rt, meter.held(), bytes.len() as u64);
+    }
+    same(rt, meter.peak(), peak);
+    assert!(rt; buf.as_slice().len() as u64 <= meter.held());
     buf.release(&mut meter);
-    same(&rt, meter.held(), 0);
+    same(rt, meter.held(), 0);
+    same(rt, meter.peak(), peak);
+    same(rt, meter.refused(), 0);
 }
+
+const CUT: &[(ByteCall, &[u8])] = &[
+    (ByteCall::Extend(b"abc"), b"abc"),
+    (ByteCall::Insert(1, b'x'), b"axbc"),
+    (ByteCall::Truncate(2), b"ax"),
+];
+
+const TAKEN_OFF: &[(ByteCall, &[u8])] = &[
+    (ByteCall::Extend(b"ab"), b"ab"),
+    (ByteCall::Set(0, b'y'), b"yb"),
+    (ByteCall::Pop(Some(b'b')), b"y"),
+    (ByteCall::Clear, b""),
+    (ByteCall::Pop(None), b""),
+];
+
+const PUT_IN: &[(ByteCall, &[u8])] = &[
+    (ByteCall::Push(b'a'), b"a"),
+    (ByteCall::Push(b'b'), b"ab"),
+    (ByteCall::InsertSlice(1, b"xy"), b"axyb"),
+];
+
+#[test]
+fn bytes_are_put_in_and_taken_off(rt: HostRuntime) {
+    follow_buf(&rt, rt.alloc(), CUT, 4);
+    follow_buf(&rt, rt.alloc(), TAKEN_OFF, 2);
+    follow_buf(&rt, rt.alloc(), PUT_IN, 4);
+}
+
+/// A call on entries.
+#[derive(Clone, Copy)]
+enum EntryCall<'a> {
+    Push(u32),
+    Extend(&'a [u32]),
+    Insert(usize, u32),
+    Set(usize, u32),
+    Pop(Option<u32>),
+    Truncate(usize),
+    Clear,
+}
+
+/// Makes the call, which is not refused.
+fn call_stack(
+    rt: &impl Abort,
+    meter: &mut Meter<Global>,
+    stack: &mut Stack<u32, Global>,
+    call: EntryCall,
+) {
+    counts_of(rt, meter);
+    let length = stack.as_slice().len();
+    assert!(rt; length < 1_000);
+    assert!(rt; 16 * length as u64 <= meter.held());
+    match call {
+        EntryCall::Push(entry) => same(rt, stack.push(meter, entry), Ok(())),
+        EntryCall::Extend(entries) => {
+            assert!(rt; entries.len() < 1_000);
+            same(rt, stack.extend(meter, entries), Ok(()));
+        }
+        EntryCall::Insert(place, entry) => {
+            assert!(rt; place <= length);
+            same(rt, stack.insert(meter, place, entry), Ok(()));
+        }
+        EntryCall::Set(place, entry) => {
+            assert!(rt; place < length);
+            stack.set(place, entry);
+        }
+        EntryCall::Pop(entry) => same(rt, stack.pop(meter), entry),
+        EntryCall::Truncate(to) => stack.truncate(meter, to),
+        EntryCall::Clear => stack.clear(meter),
+    }
+}
+
+const STACK: &[(EntryCall, &[u32], u64)] = &[
+    (EntryCall::Extend(&[1, 2]), &[1, 2], 32),
+    (EntryCall::Set(0, 7), &[7, 2], 32),
+    (EntryCall::Pop(Some(2)), &[7], 16),
+    (EntryCall::Insert(0, 5), &[5, 7], 32),
+    (EntryCall::Push(9), &[5, 7, 9], 48),
+    (EntryCall::Truncate(1), &[5], 16),
+    (EntryCall::Clear, &[], 0),
+    (EntryCall::Push(3), &[3], 16),
+];
 
 #[test]
 fn an_entry_of_a_stack_costs_16(rt: HostRuntime) {
     let mut meter = Meter::new(rt.alloc());
     let mut stack = Stack::new(&meter);
-    assert!(rt; stack.extend(&mut meter, &[1_u32, 2]).is_ok());
-    same(&rt, meter.held(), 32);
-    stack.set(0, 7);
-    same(&rt, stack.as_slice(), [7, 2].as_slice());
-    same(&rt, stack.pop(&mut meter), Some(2));
-    same(&rt, meter.held(), 16);
-    same(&rt, stack.insert(&mut meter, 0, 5), Ok(()));
-    same(&rt, stack.push(&mut meter, 9), Ok(()));
-    same(&rt, stack.as_slice(), [5, 7, 9].as_slice());
-    same(&rt, meter.held(), 48);
-    stack.truncate(&mut meter, 1);
-    same(&rt, stack.as_slice(), [5].as_slice());
-    same(&rt, meter.held(), 16);
-    stack.clear(&mut meter);
-    same(&rt, stack.as_slice(), [].as_slice());
-    same(&rt, meter.held(), 0);
-    same(&rt, stack.push(&mut meter, 3), Ok(()));
+    for (call, entries, held) in STACK {
+        call_stack(&rt, &mut meter, &mut stack, *call);
+        same(&rt, stack.as_slice(), *entries);
+        same(&rt, meter.held(), *held);
+    }
+    assert!(rt; stack.as_slice().len() == 1 && meter.held() == 16);
     stack.release(&mut meter);
     same(&rt, meter.held(), 0);
     same(&rt, meter.peak(), 48);
 }
 
+/// Makes the call, which is not refused.
+fn call_table(
+    rt: &impl Abort,
+    meter: &mut Meter<Global>,
+    table: &mut Table<u32, Global>,
+    call: EntryCall,
+)
+    requires cost { table.old.cost ≡ 24 }
+    ensures cost { table.new.cost ≡ 24 }
+{
+    counts_of(rt, meter);
+    let length = table.as_slice().len();
+    assert!(rt; length < 1_000);
+    assert!(rt; 24 * length as u64 <= meter.held());
+    match call {
+        EntryCall::Push(entry) => same(rt, table.push(meter, entry), Ok(())),
+        EntryCall::Extend(entries) => {
+            assert!(rt; entries.len() < 1_000);
+            same(rt, table.extend(meter, entries), Ok(()));
+        }
+        EntryCall::Insert(place, entry) => {
+            assert!(rt; place <= length);
+            same(rt, table.insert(meter, place, entry), Ok(()));
+        }
+        EntryCall::Set(place, entry) => {
+            assert!(rt; place < length);
+            table.set(place, entry);
+        }
+        EntryCall::Pop(entry) => same(rt, table.pop(meter), entry),
+        EntryCall::Truncate(to) => table.truncate(meter, to),
+        EntryCall::Clear => table.clear(meter),
+    }
+}
+
+const TABLE: &[(EntryCall, &[u32], u64)] = &[
+    (EntryCall::Push(7), &[7], 24),
+    (EntryCall::Set(0, 8), &[8], 24),
+    (EntryCall::Extend(&[1, 2]), &[8, 1, 2], 72),
+    (EntryCall::Insert(1, 5), &[8, 5, 1, 2], 96),
+    (EntryCall::Pop(Some(2)), &[8, 5, 1], 72),
+    (EntryCall::Truncate(1), &[8], 24),
+    (EntryCall::Clear, &[], 0),
+    (EntryCall::Push(3), &[3], 24),
+];
+
 #[test]
 fn an_entry_of_a_table_has_its_cost(rt: HostRuntime) {
     let mut meter = Meter::new(rt.alloc());
     let mut table = Table::new(&meter, 24);
-    assert_eq!(rt; table.push(&mut meter, 7_u32), Ok(()));
-    same(&rt, meter.held(), 24);
-    table.set(0, 8);
-    same(&rt, table.as_slice(), [8].as_slice());
-    assert!(rt; table.extend(&mut meter, &[1, 2]).is_ok());
-    same(&rt, table.insert(&mut meter, 1, 5), Ok(()));
-    same(&rt, table.as_slice(), [8, 5, 1, 2].as_slice());
-    same(&rt, meter.held(), 96);
-    same(&rt, table.pop(&mut meter), Some(2));
-    same(&rt, meter.held(), 72);
-    table.truncate(&mut meter, 1);
-    same(&rt, table.as_slice(), [8].as_slice());
-    same(&rt, meter.held(), 24);
-    table.clear(&mut meter);
-    same(&rt, table.as_slice(), [].as_slice());
-    same(&rt, meter.held(), 0);
-    same(&rt, table.push(&mut meter, 3), Ok(()));
+    for (call, entries, held) in TABLE {
+        call_table(&rt, &mut meter, &mut table, *call);
+        same(&rt, table.as_slice(), *entries);
+        same(&rt, meter.held(), *held);
+    }
+    assert!(rt; table.as_slice().len() == 1 && meter.held() == 24);
     table.release(&mut meter);
     same(&rt, meter.held(), 0);
     same(&rt, meter.peak(), 96);
@@ -166,7 +284,7 @@ fn limits_are_checked(rt: HostRuntime) {
         },
     ];
     for limits in above {
-        assert!(rt; !limits.check(), "at {limits:?}");
+        same(&rt, (limits, limits.check()), (limits, false));
     }
 }
 

@@ -1,7 +1,8 @@
 //! Catalogues of shared tables.
-ghost use Rattle.std.specs.Prelude.{◌+◌, ◌^◌, ◌<◌, ◌≤◌, IfOk};
+ghost use Rattle.std.specs.Prelude.{◌+◌, ◌^◌, ◌<◌, ◌≤◌};
 ghost use Rattle.ion_symbols.specs.Table.{catalog_cost, shared_cost};
 
+use super::shared_tables::expect_slots;
 use crate::same::same;
 use ion_meter::fault::{Fault, Reason};
 use ion_meter::meter::Meter;
@@ -9,13 +10,27 @@ use ion_symbols::catalog::Catalog;
 use ion_symbols::shared::SharedTable;
 use std::alloc::Global;
 use std::process::Abort;
-use std::test::Fail;
 
 /// A catalogue, and the meter of what it holds.
 #[derive(Drop)]
 struct Shelf {
     catalog: Catalog<Global>,
     meter: Meter<Global>,
+}
+
+/// A call on a catalogue, and what it answers. A table has a name, a version and slots.
+#[derive(Clone, Copy)]
+enum Step<'a> {
+    /// Adds such a table.
+    Add(&'a str, u32, &'a [Option<&'a str>]),
+    /// Such a table may not stand there.
+    Refused(&'a str, u32),
+    /// There is such a table.
+    Found(&'a str, u32, &'a [Option<&'a str>]),
+    /// There is no such table.
+    Missing(&'a str, u32),
+    /// So many tables, and how much is held, which is the most so far.
+    Counts(usize, u64),
 }
 
 impl Shelf {
@@ -27,29 +42,41 @@ impl Shelf {
         Shelf { catalog, meter }
     }
 
-    // A table of this name and version, with these texts.
+    // A table of this name and version, with these slots.
     #[tactic(auto, using(ion_symbols::proofs::Keeping::cost_push))]
     fn table(
         &mut self,
         rt: &impl Abort,
         name: &str,
         version: u32,
-        texts: &[&str],
-    ) -> Result<SharedTable<Global>, Fail>
+        slots: &[Option<&str>],
+    ) -> SharedTable<Global>
         requires held { catalog_cost self.old.catalog ≤ self.old.meter.held }
-        ensures held { IfOk result (λ table.
-            catalog_cost self.new.catalog + shared_cost table ≤ self.new.meter.held) }
-        ensures others { catalog_cost self.new.catalog ≤ self.new.meter.held }
+        ensures held { catalog_cost self.new.catalog + shared_cost result ≤ self.new.meter.held }
     {
         self.expect_little(rt);
         assert!(rt; name.len() < 100);
-        let mut table = SharedTable::new(&mut self.meter, name, version)?;
-        for text in texts {
-            self.expect_little(rt);
-            assert!(rt; text.len() < 100);
-            table.push(&mut self.meter, Some(*text))?;
+        let Ok(mut table) = SharedTable::new(&mut self.meter, name, version) else {
+            panic!(rt; "no memory")
+        };
+        for text in slots {
+            self.push(rt, &mut table, *text);
         }
-        Ok(table)
+        table
+    }
+
+    // Pushes a slot.
+    #[tactic(auto, using(ion_symbols::proofs::Keeping::cost_push))]
+    fn push(&mut self, rt: &impl Abort, table: &mut SharedTable<Global>, text: Option<&str>)
+        requires held { catalog_cost self.old.catalog + shared_cost table.old ≤ self.old.meter.held }
+        ensures held { catalog_cost self.new.catalog + shared_cost table.new ≤ self.new.meter.held }
+    {
+        self.expect_little(rt);
+        if let Some(text) = text {
+            assert!(rt; text.len() < 100);
+        }
+        let pushed = table.push(&mut self.meter, text);
+        assert!(rt; pushed.is_ok());
     }
 
     // Asserts that the meter counts little, which a call that grows requires.
@@ -63,25 +90,30 @@ impl Shelf {
 
     // Adds such a table.
     #[tactic(auto, using(crate::proofs::Shelves::cost_without))]
-    fn add(&mut self, rt: &impl Abort, name: &str, version: u32, texts: &[&str]) -> Result<(), Fail>
+    fn add(&mut self, rt: &impl Abort, name: &str, version: u32, slots: &[Option<&str>])
         requires held { catalog_cost self.old.catalog ≤ self.old.meter.held }
         ensures held { catalog_cost self.new.catalog ≤ self.new.meter.held }
     {
-        let table = self.table(rt, name, version, texts)?;
+        let table = self.table(rt, name, version, slots);
         self.expect_little(rt);
+        let held = self.meter.held();
         let added = self.catalog.add(&mut self.meter, table);
-        assert!(rt; added.is_ok(), "{name} {version}");
-        Ok(())
+        assert!(rt; added.is_ok());
+        same(
+            rt,
+            (name, version, self.meter.held()),
+            (name, version, held + 32),
+        );
     }
 
     // Asserts that such a table is handed back, and that nothing is changed.
-    fn expect_refused(&mut self, rt: &impl Abort, name: &str, version: u32) -> Result<(), Fail>
+    fn expect_refused(&mut self, rt: &impl Abort, name: &str, version: u32)
         requires held { catalog_cost self.old.catalog ≤ self.old.meter.held }
         ensures held { catalog_cost self.new.catalog ≤ self.new.meter.held }
     {
         let held = self.meter.held();
         let count = self.catalog.len();
-        let table = self.table(rt, name, version, &["new"])?;
+        let table = self.table(rt, name, version, &[Some("new")]);
         self.expect_little(rt);
         let Err((table, fault)) = self.catalog.add(&mut self.meter, table) else {
             panic!(rt; "{name} {version} was added")
@@ -93,24 +125,38 @@ impl Shelf {
         table.release(&mut self.meter);
         same(rt, self.catalog.len(), count);
         same(rt, self.meter.held(), held);
-        Ok(())
     }
 
-    // Asserts that there is a table of this name and version, with these texts.
-    fn expect_found(&self, rt: &impl Abort, name: &str, version: u32, texts: &[&str]) {
+    // Asserts that there is a table of this name and version, with these slots.
+    fn expect_found(&self, rt: &impl Abort, name: &str, version: u32, slots: &[Option<&str>]) {
         let Some(table) = self.catalog.find(name, version) else {
             panic!(rt; "no {name} {version}")
         };
         same(rt, table.name(), name.as_bytes());
         same(rt, table.version(), version);
-        same(rt, table.len(), texts.len());
-        let mut place = 0;
-        for text in texts {
-            assert_eq!(rt; table.get(place), Some(text.as_bytes()), "{name} {version}");
-            assert!(rt; place < 1_000);
-            place += 1;
+        expect_slots(rt, table, slots);
+    }
+
+    // Asserts what a call answers.
+    fn expect(&mut self, rt: &impl Abort, step: Step)
+        requires held { catalog_cost self.old.catalog ≤ self.old.meter.held }
+        ensures held { catalog_cost self.new.catalog ≤ self.new.meter.held }
+    {
+        match step {
+            Step::Add(name, version, slots) => self.add(rt, name, version, slots),
+            Step::Refused(name, version) => self.expect_refused(rt, name, version),
+            Step::Found(name, version, slots) => self.expect_found(rt, name, version, slots),
+            Step::Missing(name, version) => {
+                let there = self.catalog.find(name, version).is_some();
+                same(rt, (name, version, there), (name, version, false));
+            }
+            Step::Counts(count, held) => {
+                same(rt, self.catalog.len(), count);
+                same(rt, self.catalog.is_empty(), count == 0);
+                same(rt, self.meter.held(), held);
+                same(rt, self.meter.peak(), held);
+            }
         }
-        same(rt, table.get(place), None);
     }
 
     // Gives all back, after which nothing is held.
@@ -123,71 +169,65 @@ impl Shelf {
     }
 }
 
-#[test]
-fn a_table_costs_32_more_in_a_catalog(rt: HostRuntime) -> Result<(), Fail> {
-    let mut meter = Meter::new(rt.alloc());
-    let mut table = SharedTable::new(&mut meter, "x", 1)?;
-    table.push(&mut meter, Some("p"))?;
-    table.push(&mut meter, None)?;
-    let mut catalog = Catalog::new(&meter);
-    assert!(rt; catalog.is_empty());
-    same(&rt, meter.held(), 34);
-    let added = catalog.add(&mut meter, table);
-    assert!(rt; added.is_ok());
-    same(&rt, catalog.len(), 1);
-    assert!(rt; !catalog.is_empty());
-    same(&rt, meter.held(), 66);
-    let Some(table) = catalog.find("x", 1) else {
-        panic!(rt; "no table")
-    };
-    same(&rt, table.get(0), Some(b"p".as_slice()));
-    same(&rt, table.get(1), None);
-    same(&rt, table.len(), 2);
-    catalog.release(&mut meter);
-    same(&rt, meter.held(), 0);
-    same(&rt, meter.peak(), 66);
-    Ok(())
+/// Asserts what each call answers, on a new catalogue, and gives all back.
+fn follow(rt: &impl Abort, alloc: Global, steps: &[Step]) {
+    let mut shelf = Shelf::new(alloc);
+    for step in steps {
+        shelf.expect(rt, *step);
+    }
+    shelf.finish(rt);
 }
 
-#[test]
-fn a_table_that_may_not_stand_is_handed_back(rt: HostRuntime) -> Result<(), Fail> {
-    let mut shelf = Shelf::new(rt.alloc());
-    shelf.add(&rt, "x", 1, &["p", "q"])?;
-    for (name, version) in [
-        ("x", 1),
-        ("", 1),
-        ("$ion", 1),
-        ("x", 0),
-        ("x", 2_147_483_648),
-        ("y", u32::MAX),
-    ] {
-        shelf.expect_refused(&rt, name, version)?;
-    }
-    shelf.expect_found(&rt, "x", 1, &["p", "q"]);
-    shelf.finish(&rt);
-    Ok(())
-}
+const COSTS: &[Step] = &[
+    Step::Counts(0, 0),
+    Step::Add("x", 1, &[Some("p"), None]),
+    // 34 before it was added.
+    Step::Counts(1, 66),
+    Step::Found("x", 1, &[Some("p"), None]),
+];
 
 #[test]
-fn a_table_is_found_by_name_and_version(rt: HostRuntime) -> Result<(), Fail> {
-    let mut shelf = Shelf::new(rt.alloc());
-    assert!(rt; shelf.catalog.find("x", 1).is_none());
-    shelf.add(&rt, "x", 1, &["p", "q"])?;
-    shelf.add(&rt, "x", 3, &["r", "s", "t"])?;
-    shelf.add(&rt, "xy", 1, &[])?;
-    shelf.add(&rt, "$ion_", 2_147_483_647, &["u"])?;
-    shelf.expect_found(&rt, "x", 1, &["p", "q"]);
-    shelf.expect_found(&rt, "x", 3, &["r", "s", "t"]);
-    shelf.expect_found(&rt, "xy", 1, &[]);
-    shelf.expect_found(&rt, "$ion_", 2_147_483_647, &["u"]);
-    for (name, version) in [("x", 2), ("x", 0), ("xy", 3), ("y", 1), ("", 1), ("X", 1)] {
-        assert!(rt;
-            shelf.catalog.find(name, version).is_none(),
-            "{name} {version}"
-        );
-    }
-    let slots = 6 * (16 + 1);
-    same(&rt, shelf.meter.held(), 4 * 32 + 1 + 1 + 2 + 5 + slots);
-    shelf.finish(&rt);
-    Ok(())
+fn a_table_costs_32_more_in_a_catalog(rt: HostRuntime) {
+    follow(&rt, rt.alloc(), COSTS);
+}
+
+const MAY_NOT_STAND: &[Step] = &[
+    Step::Add("x", 1, &[Some("p"), Some("q")]),
+    Step::Refused("x", 1),
+    Step::Refused("", 1),
+    Step::Refused("$ion", 1),
+    Step::Refused("x", 0),
+    Step::Refused("x", 2_147_483_648),
+    Step::Refused("y", u32::MAX),
+    Step::Found("x", 1, &[Some("p"), Some("q")]),
+];
+
+#[test]
+fn a_table_that_may_not_stand_is_handed_back(rt: HostRuntime) {
+    follow(&rt, rt.alloc(), MAY_NOT_STAND);
+}
+
+const BY_NAME_AND_VERSION: &[Step] = &[
+    Step::Missing("x", 1),
+    Step::Add("x", 1, &[Some("p"), Some("q")]),
+    Step::Add("x", 3, &[Some("r"), Some("s"), Some("t")]),
+    Step::Add("xy", 1, &[]),
+    Step::Add("$ion_", 2_147_483_647, &[Some("u")]),
+    Step::Found("x", 1, &[Some("p"), Some("q")]),
+    Step::Found("x", 3, &[Some("r"), Some("s"), Some("t")]),
+    Step::Found("xy", 1, &[]),
+    Step::Found("$ion_", 2_147_483_647, &[Some("u")]),
+    Step::Missing("x", 2),
+    Step::Missing("x", 0),
+    Step::Missing("xy", 3),
+    Step::Missing("y", 1),
+    Step::Missing("", 1),
+    Step::Missing("X", 1),
+    // Tables, names and slots.
+    Step::Counts(4, 4 * 32 + 1 + 1 + 2 + 5 + 6 * (16 + 1)),
+];
+
+#[test]
+fn a_table_is_found_by_name_and_version(rt: HostRuntime) {
+    follow(&rt, rt.alloc(), BY_NAME_AND_VERSION);
 }

@@ -3,7 +3,6 @@ ghost use Rattle.std.specs.Prelude.{◌≤◌};
 ghost use Rattle.ion_symbols.specs.Output.{texts_cost};
 
 use crate::same::same;
-use ion_meter::fault::Fault;
 use ion_meter::limits::Limits;
 use ion_meter::meter::Meter;
 use ion_symbols::output::OutSymbols;
@@ -36,36 +35,45 @@ fn start(rt: &impl Abort, alloc: Global, symbols: u64) -> Texting
     Texting { texts, meter }
 }
 
+/// A call on texts, and what it answers.
+#[derive(Clone, Copy)]
+enum Step<'a> {
+    /// The id of a text.
+    Id(&'a str, Option<u32>),
+    /// The texts from an id on.
+    Since(u32, &'a [&'a str]),
+    /// Where a text stands in order of bytes, or where it belongs.
+    Place(&'a [u8], Result<u32, u32>),
+    /// What the texts cost, which is all that is held.
+    Cost(u64),
+    /// The most that was held.
+    Peak(u64),
+    /// The least and the most that the last search may have probed.
+    Probes(u32, u32),
+    /// Forgets the texts.
+    Clear,
+}
+
 impl Texting {
-    // The id of a text.
-    fn id_of(&mut self, rt: &impl Abort, text: &[u8]) -> Result<Option<u32>, Fault>
+    // Asserts the id of a text.
+    fn expect_id(&mut self, rt: &impl Abort, text: &str, id: Option<u32>)
         requires held { texts_cost self.old.texts.texts ≤ self.old.meter.held }
         ensures held { texts_cost self.new.texts.texts ≤ self.new.meter.held }
     {
         assert!(rt; self.meter.held() < 1 << 32);
         assert!(rt; self.meter.refused() < 1 << 32);
-        self.texts.id_of(&mut self.meter, text)
-    }
-
-    // Asserts the id of each text.
-    fn expect_ids(&mut self, rt: &impl Abort, texts: &[(&str, Option<u32>)]) -> Result<(), Fail>
-        requires held { texts_cost self.old.texts.texts ≤ self.old.meter.held }
-        ensures held { texts_cost self.new.texts.texts ≤ self.new.meter.held }
-    {
-        for (text, id) in texts {
-            assert_eq!(rt; self.id_of(rt, text.as_bytes())?, *id, "{text}");
-        }
-        Ok(())
+        let given = self.texts.id_of(&mut self.meter, text.as_bytes());
+        same(rt, (text, given), (text, Ok(id)));
     }
 
     // Asserts which texts there are from an id on.
     fn expect_since(&self, rt: &impl Abort, id: u32, texts: &[&str]) {
         let since = self.texts.new_since(id);
-        assert_eq!(rt; since.len(), texts.len(), "from {id} on");
+        same(rt, (id, since.len()), (id, texts.len()));
         same(rt, since.is_empty(), texts.is_empty());
         let mut place = 0;
         for text in texts {
-            assert_eq!(rt; since.get(place), Some(text.as_bytes()), "from {id} on");
+            same(rt, (id, since.get(place)), (id, Some(text.as_bytes())));
             assert!(rt; place < 1_000);
             place += 1;
         }
@@ -76,7 +84,29 @@ impl Texting {
     fn expect_place(&self, rt: &impl Abort, text: &[u8], place: Result<u32, u32>) {
         let mut search = self.texts.search();
         same(rt, search.probes(), 0);
-        assert_eq!(rt; place_of(&mut search, text), place, "{text:?}");
+        same(rt, (text, place_of(&mut search, text)), (text, place));
+    }
+
+    // Asserts what a call answers.
+    fn expect(&mut self, rt: &impl Abort, step: Step)
+        requires held { texts_cost self.old.texts.texts ≤ self.old.meter.held }
+        ensures held { texts_cost self.new.texts.texts ≤ self.new.meter.held }
+    {
+        match step {
+            Step::Id(text, id) => self.expect_id(rt, text, id),
+            Step::Since(id, texts) => self.expect_since(rt, id, texts),
+            Step::Place(text, place) => self.expect_place(rt, text, place),
+            Step::Cost(cost) => {
+                same(rt, self.texts.cost(), cost);
+                same(rt, self.meter.held(), cost);
+            }
+            Step::Peak(peak) => same(rt, self.meter.peak(), peak),
+            Step::Probes(least, most) => {
+                let probes = self.texts.last_probes();
+                assert!(rt; least <= probes && probes <= most);
+            }
+            Step::Clear => self.texts.clear(&mut self.meter),
+        }
     }
 
     // Gives all back, after which nothing is held.
@@ -90,154 +120,143 @@ impl Texting {
     }
 }
 
-#[test]
-fn texts_get_ids_from_10_on(rt: HostRuntime) -> Result<(), Fail> {
-    let mut texting = start(&rt, rt.alloc(), 1_024);
-    same(&rt, texting.texts.last_probes(), 0);
-    texting.expect_ids(
-        &rt,
-        &[
-            ("b", Some(10)),
-            ("a", Some(11)),
-            ("c", Some(12)),
-            ("a", Some(11)),
-        ],
-    )?;
-    assert!(rt; texting.texts.last_probes() <= 2);
-    same(&rt, texting.texts.cost(), 51);
-    same(&rt, texting.meter.held(), 51);
-    texting.expect_since(&rt, 10, &["b", "a", "c"]);
-    texting.expect_since(&rt, 11, &["a", "c"]);
-    texting.expect_since(&rt, 12, &["c"]);
-    texting.expect_since(&rt, 13, &[]);
-    texting.expect_since(&rt, u32::MAX, &[]);
-    texting.expect_since(&rt, 0, &["b", "a", "c"]);
-    texting.finish(&rt);
-    Ok(())
-}
-
-#[test]
-fn cleared_texts_begin_at_10_again(rt: HostRuntime) -> Result<(), Fail> {
-    let mut texting = start(&rt, rt.alloc(), 1_024);
-    texting.expect_ids(&rt, &[("b", Some(10)), ("a", Some(11))])?;
-    texting.texts.clear(&mut texting.meter);
-    assert_eq!(rt; texting.meter.held(), 0);
-    assert_eq!(rt; texting.texts.last_probes(), 0);
-    texting.expect_ids(&rt, &[("a", Some(10)), ("b", Some(11))])?;
-    texting.expect_since(&rt, 10, &["a", "b"]);
-    texting.finish(&rt);
-    Ok(())
-}
-
-#[test]
-fn cleared_texts_cost_nothing(rt: HostRuntime) -> Result<(), Fail> {
-    let mut texting = start(&rt, rt.alloc(), 17);
-    texting.texts.clear(&mut texting.meter);
-    texting.expect_ids(&rt, &[("a", Some(10)), ("b", None)])?;
-    texting.texts.clear(&mut texting.meter);
-    same(&rt, texting.texts.cost(), 0);
-    texting.expect_since(&rt, 10, &[]);
-    texting.expect_ids(&rt, &[("b", Some(10))])?;
-    texting.finish(&rt);
-    Ok(())
-}
-
-const SYSTEM: [(&str, Option<u32>); 9] = [
-    ("$ion", Some(1)),
-    ("$ion_1_0", Some(2)),
-    ("$ion_symbol_table", Some(3)),
-    ("name", Some(4)),
-    ("version", Some(5)),
-    ("imports", Some(6)),
-    ("symbols", Some(7)),
-    ("max_id", Some(8)),
-    ("$ion_shared_symbol_table", Some(9)),
-];
-
-#[test]
-fn system_texts_have_ids_without_probes(rt: HostRuntime) -> Result<(), Fail> {
-    let mut texting = start(&rt, rt.alloc(), 1_024);
-    texting.expect_ids(&rt, &[("b", Some(10)), ("a", Some(11)), ("b", Some(10))])?;
-    assert!(rt; texting.texts.last_probes() > 0);
-    texting.expect_ids(&rt, &SYSTEM)?;
-    same(&rt, texting.texts.last_probes(), 0);
-    texting.expect_ids(
-        &rt,
-        &[("$ion_1", Some(12)), ("", Some(13)), ("$ion_", Some(14))],
-    )?;
-    texting.expect_since(&rt, 10, &["b", "a", "$ion_1", "", "$ion_"]);
-    same(&rt, texting.meter.held(), 5 * 16 + 1 + 1 + 6 + 5);
-    texting.finish(&rt);
-    Ok(())
-}
-
-#[test]
-fn a_text_past_the_limit_gets_no_id(rt: HostRuntime) -> Result<(), Fail> {
-    let mut texting = start(&rt, rt.alloc(), 17);
-    texting.expect_ids(
-        &rt,
-        &[
-            ("ab", None),
-            ("a", Some(10)),
-            ("b", None),
-            ("", None),
-            ("a", Some(10)),
-            ("name", Some(4)),
-        ],
-    )?;
-    texting.expect_since(&rt, 10, &["a"]);
-    same(&rt, texting.texts.cost(), 17);
-    same(&rt, texting.meter.held(), 17);
-    same(&rt, texting.meter.peak(), 17);
-    texting.finish(&rt);
-    Ok(())
-}
-
-// Texts in order of bytes.
-const THERE: [(&str, u32); 6] = [
-    ("Z", 0),
-    ("b", 1),
-    ("ba", 2),
-    ("\u{e9}", 3),
-    ("\u{ffff}", 4),
-    ("\u{10000}", 5),
-];
-
-// Texts that are not there, and where they belong.
-const BELONG: [(&str, u32); 6] = [
-    ("", 0),
-    ("Za", 1),
-    ("a", 1),
-    ("b\u{0}", 2),
-    ("bb", 3),
-    ("\u{10001}", 6),
-];
-
-#[test]
-fn texts_stand_in_order_of_bytes(rt: HostRuntime) -> Result<(), Fail> {
-    let mut texting = start(&rt, rt.alloc(), 1_024);
-    texting.expect_place(&rt, b"a", Err(0));
-    texting.expect_ids(
-        &rt,
-        &[
-            ("b", Some(10)),
-            ("\u{e9}", Some(11)),
-            ("Z", Some(12)),
-            ("ba", Some(13)),
-            ("\u{10000}", Some(14)),
-            ("\u{ffff}", Some(15)),
-        ],
-    )?;
-    for (text, place) in THERE {
-        texting.expect_place(&rt, text.as_bytes(), Ok(place));
+/// Asserts what each call answers, on new texts of which the cost may be so much, and gives all back.
+fn follow(rt: &impl Abort, alloc: Global, symbols: u64, steps: &[Step]) {
+    let mut texting = start(rt, alloc, symbols);
+    for step in steps {
+        texting.expect(rt, *step);
     }
-    for (text, place) in BELONG {
-        texting.expect_place(&rt, text.as_bytes(), Err(place));
-    }
-    texting.expect_place(&rt, b"\xFF", Err(6));
-    texting.finish(&rt);
-    Ok(())
+    texting.finish(rt);
 }
+
+const FROM_10_ON: &[Step] = &[
+    Step::Probes(0, 0),
+    Step::Id("b", Some(10)),
+    Step::Id("a", Some(11)),
+    Step::Id("c", Some(12)),
+    Step::Id("a", Some(11)),
+    Step::Probes(0, 2),
+    Step::Cost(51),
+    Step::Since(10, &["b", "a", "c"]),
+    Step::Since(11, &["a", "c"]),
+    Step::Since(12, &["c"]),
+    Step::Since(13, &[]),
+    Step::Since(u32::MAX, &[]),
+    Step::Since(0, &["b", "a", "c"]),
+];
+
+#[test]
+fn texts_get_ids_from_10_on(rt: HostRuntime) {
+    follow(&rt, rt.alloc(), 1_024, FROM_10_ON);
+}
+
+const CLEARED: &[Step] = &[
+    Step::Id("b", Some(10)),
+    Step::Id("a", Some(11)),
+    Step::Clear,
+    Step::Cost(0),
+    Step::Probes(0, 0),
+    Step::Id("a", Some(10)),
+    Step::Id("b", Some(11)),
+    Step::Since(10, &["a", "b"]),
+];
+
+const CLEARED_AT_THE_LIMIT: &[Step] = &[
+    Step::Clear,
+    Step::Id("a", Some(10)),
+    Step::Id("b", None),
+    Step::Clear,
+    Step::Cost(0),
+    Step::Since(10, &[]),
+    Step::Id("b", Some(10)),
+];
+
+#[test]
+fn cleared_texts_begin_at_10_again_and_cost_nothing(rt: HostRuntime) {
+    follow(&rt, rt.alloc(), 1_024, CLEARED);
+    follow(&rt, rt.alloc(), 17, CLEARED_AT_THE_LIMIT);
+}
+
+const SYSTEM: &[Step] = &[
+    Step::Id("b", Some(10)),
+    Step::Id("a", Some(11)),
+    Step::Id("b", Some(10)),
+    Step::Probes(1, u32::MAX),
+    Step::Id("$ion", Some(1)),
+    Step::Id("$ion_1_0", Some(2)),
+    Step::Id("$ion_symbol_table", Some(3)),
+    Step::Id("name", Some(4)),
+    Step::Id("version", Some(5)),
+    Step::Id("imports", Some(6)),
+    Step::Id("symbols", Some(7)),
+    Step::Id("max_id", Some(8)),
+    Step::Id("$ion_shared_symbol_table", Some(9)),
+    Step::Probes(0, 0),
+    Step::Id("$ion_1", Some(12)),
+    Step::Id("", Some(13)),
+    Step::Id("$ion_", Some(14)),
+    Step::Since(10, &["b", "a", "$ion_1", "", "$ion_"]),
+    Step::Cost(5 * 16 + 1 + 1 + 6 + 5),
+];
+
+#[test]
+fn system_texts_have_ids_without_probes(rt: HostRuntime) {
+    follow(&rt, rt.alloc(), 1_024, SYSTEM);
+}
+
+const PAST_THE_LIMIT: &[Step] = &[
+    Step::Id("ab", None),
+    Step::Id("a", Some(10)),
+    Step::Id("b", None),
+    Step::Id("", None),
+    Step::Id("a", Some(10)),
+    Step::Id("name", Some(4)),
+    Step::Since(10, &["a"]),
+    Step::Cost(17),
+    Step::Peak(17),
+];
+
+#[test]
+fn a_text_past_the_limit_gets_no_id(rt: HostRuntime) {
+    follow(&rt, rt.alloc(), 17, PAST_THE_LIMIT);
+}
+
+const IN_ORDER: &[Step] = &[
+    Step::Place(b"a", Err(0)),
+    Step::Id("b", Some(10)),
+    Step::Id("\u{e9}", Some(11)),
+    Step::Id("Z", Some(12)),
+    Step::Id("ba", Some(13)),
+    Step::Id("\u{10000}", Some(14)),
+    Step::Id("\u{ffff}", Some(15)),
+    // Those that are there.
+    Step::Place(b"Z", Ok(0)),
+    Step::Place(b"b", Ok(1)),
+    Step::Place(b"ba", Ok(2)),
+    Step::Place(b"\xC3\xA9", Ok(3)),
+    Step::Place(b"\xEF\xBF\xBF", Ok(4)),
+    Step::Place(b"\xF0\x90\x80\x80", Ok(5)),
+    // Those that are not, and where they belong.
+    Step::Place(b"", Err(0)),
+    Step::Place(b"Za", Err(1)),
+    Step::Place(b"a", Err(1)),
+    Step::Place(b"b\x00", Err(2)),
+    Step::Place(b"bb", Err(3)),
+    Step::Place(b"\xF0\x90\x80\x81", Err(6)),
+    Step::Place(b"\xFF", Err(6)),
+];
+
+#[test]
+fn texts_stand_in_order_of_bytes(rt: HostRuntime) {
+    follow(&rt, rt.alloc(), 1_024, IN_ORDER);
+}
+
+const FEW_PROBES: &[Step] = &[
+    Step::Probes(0, 12),
+    Step::Id("text 0", Some(10)),
+    Step::Id("text 1103", Some(11)),
+    Step::Probes(1, 13),
+];
 
 #[test]
 fn a_place_is_found_with_few_probes(rt: HostRuntime) -> Result<(), Fail> {
@@ -246,14 +265,12 @@ fn a_place_is_found_with_few_probes(rt: HostRuntime) -> Result<(), Fail> {
         // An odd factor, so that each text comes once, in no order.
         let name = number * 1_103 % 4_096;
         let text = format!(in rt.alloc(); "text {name}")?;
-        let id = texting.id_of(&rt, text.as_str().as_bytes())?;
-        same(&rt, id, Some(number + 10));
+        texting.expect_id(&rt, text.as_str(), Some(number + 10));
     }
-    assert!(rt; texting.texts.last_probes() <= 12);
     same(&rt, texting.texts.new_since(10).len(), 4_096);
-    texting.expect_ids(&rt, &[("text 0", Some(10)), ("text 1103", Some(11))])?;
-    assert!(rt; texting.texts.last_probes() <= 13);
-    assert!(rt; texting.texts.last_probes() > 0);
+    for step in FEW_PROBES {
+        texting.expect(&rt, *step);
+    }
     texting.finish(&rt);
     Ok(())
 }

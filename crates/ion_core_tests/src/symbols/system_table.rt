@@ -5,6 +5,8 @@ use ion_meter::meter::Meter;
 use ion_symbols::catalog::Catalog;
 use ion_symbols::symbols::{Slot, Symbols};
 use ion_value::names::Names;
+use std::alloc::Global;
+use std::process::Abort;
 
 const TEXTS: [&[u8]; 9] = [
     b"$ion",
@@ -18,19 +20,34 @@ const TEXTS: [&[u8]; 9] = [
     b"$ion_shared_symbol_table",
 ];
 
+// Asserts the texts of the ids from 1 on.
+fn expect_texts(rt: &impl Abort, symbols: &Symbols<Global>) {
+    let mut id = 1;
+    for text in TEXTS {
+        same(rt, (id, symbols.text(id)), (id, Slot::Known(text)));
+        same(rt, (id, symbols.text_of(id)), (id, Some(text)));
+        assert!(rt; id < 10);
+        id += 1;
+    }
+    same(rt, id, 10);
+}
+
+// Asserts that 0 is unknown, and that the ids from 10 on are above.
+fn expect_no_texts(rt: &impl Abort, symbols: &Symbols<Global>) {
+    same(rt, symbols.text(0), Slot::Unknown);
+    for id in [10, 11, 2_147_483_648, u32::MAX] {
+        same(rt, (id, symbols.text(id)), (id, Slot::Above));
+        same(rt, (id, symbols.text_of(id)), (id, None));
+    }
+    same(rt, symbols.text_of(0), None);
+}
+
 #[test]
 fn ids_1_to_9_have_texts(rt: HostRuntime) {
     let mut meter = Meter::new(rt.alloc());
     let catalog = Catalog::new(&meter);
     let symbols = Symbols::new(&meter, &catalog);
-    let mut id = 1;
-    for text in TEXTS {
-        assert_eq!(rt; symbols.text(id), Slot::Known(text), "at {id}");
-        assert_eq!(rt; symbols.text_of(id), Some(text), "at {id}");
-        assert!(rt; id < 10);
-        id += 1;
-    }
-    same(&rt, id, 10);
+    expect_texts(&rt, &symbols);
     symbols.release(&mut meter);
     same(&rt, meter.held(), 0);
 }
@@ -40,11 +57,6 @@ fn id_0_is_unknown_and_10_above(rt: HostRuntime) {
     let meter = Meter::new(rt.alloc());
     let catalog = Catalog::new(&meter);
     let symbols = Symbols::new(&meter, &catalog);
-    same(&rt, symbols.text(0), Slot::Unknown);
-    for id in [10, 11, 2_147_483_648, u32::MAX] {
-        assert_eq!(rt; symbols.text(id), Slot::Above, "at {id}");
-        assert_eq!(rt; symbols.text_of(id), None, "at {id}");
-    }
-    same(&rt, symbols.text_of(0), None);
+    expect_no_texts(&rt, &symbols);
     same(&rt, meter.held(), 0);
 }

@@ -10,20 +10,24 @@ const LARGEST: [u8; 18] = [
     0xFF, 0xFF,
 ];
 
+/// Bodies, and the signs and coefficients of their decimals, which have the exponent -1.
+const READ: &[(&[u8], bool, u128)] = &[
+    (&[0xC1], false, 0),
+    (&[0xC1, 0x80], true, 0),
+    (&[0xC1, 0x0F], false, 15),
+    (&[0xC1, 0x81, 0x02], true, 258),
+    (&[0xC1, 0x80, 0x00, 0x00, 0x05], true, 5),
+    (&LARGEST, true, u128::MAX),
+];
+
 #[test]
 fn reads_coefficients(rt: HostRuntime) {
-    for (body, want) in [
-        ([0xC1].as_slice(), decimal(false, 0, -1)),
-        ([0xC1, 0x80].as_slice(), decimal(true, 0, -1)),
-        ([0xC1, 0x0F].as_slice(), decimal(false, 15, -1)),
-        ([0xC1, 0x81, 0x02].as_slice(), decimal(true, 258, -1)),
-        (
-            [0xC1, 0x80, 0x00, 0x00, 0x05].as_slice(),
-            decimal(true, 5, -1),
-        ),
-        (LARGEST.as_slice(), decimal(true, u128::MAX, -1)),
-    ] {
-        same(&rt, decimal_from_bytes(body), Ok(want));
+    for (body, negative, coefficient) in READ {
+        same(
+            &rt,
+            decimal_from_bytes(body),
+            Ok(decimal(*negative, *coefficient, -1)),
+        );
     }
     let mut octets = LARGEST;
     octets[1] = 0x01;
@@ -32,17 +36,20 @@ fn reads_coefficients(rt: HostRuntime) {
     same(&rt, decimal_from_bytes(&octets[..17]), Ok(shorter));
 }
 
+/// Signs and coefficients, and the bodies of their decimals with the exponent -1.
+const WRITTEN: &[(bool, u128, &[u8])] = &[
+    (false, 0, &[0xC1]),
+    (true, 0, &[0xC1, 0x80]),
+    (true, 127, &[0xC1, 0xFF]),
+    (false, 128, &[0xC1, 0x00, 0x80]),
+    (true, 258, &[0xC1, 0x81, 0x02]),
+    (true, u128::MAX, &LARGEST),
+];
+
 #[test]
 fn writes_coefficients(rt: HostRuntime) {
-    for (negative, coefficient, want) in [
-        (false, 0, [0xC1].as_slice()),
-        (true, 0, [0xC1, 0x80].as_slice()),
-        (true, 127, [0xC1, 0xFF].as_slice()),
-        (false, 128, [0xC1, 0x00, 0x80].as_slice()),
-        (true, 258, [0xC1, 0x81, 0x02].as_slice()),
-        (true, u128::MAX, LARGEST.as_slice()),
-    ] {
-        let octets = decimal_to_bytes(decimal(negative, coefficient, -1));
-        same(&rt, octets.as_slice(), want);
+    for (negative, coefficient, want) in WRITTEN {
+        let octets = decimal_to_bytes(decimal(*negative, *coefficient, -1));
+        same(&rt, octets.as_slice(), *want);
     }
 }

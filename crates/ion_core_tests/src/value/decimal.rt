@@ -27,61 +27,55 @@ fn again(body: &[u8]) -> ArrayVec<u8, 22> {
     }
 }
 
+/// Bodies, and the signs, coefficients and exponents of their decimals.
+const READ: &[(&[u8], bool, u128, i32)] = &[
+    (&[], false, 0, 0),
+    (&[0x80], false, 0, 0),
+    (&[0xC0], false, 0, 0),
+    (&[0xC2], false, 0, -2),
+    (&[0x80, 0x80], true, 0, 0),
+    (&[0xC1, 0x0F], false, 15, -1),
+    (&[0xC1, 0x8F], true, 15, -1),
+    (&[0x80, 0x00, 0x00, 0x05], false, 5, 0),
+    (&[0x07, 0x7F, 0x7F, 0x7F, 0xFF, 0x01], false, 1, 0x7FFF_FFFF),
+    (
+        &[0x47, 0x7F, 0x7F, 0x7F, 0xFF, 0x01],
+        false,
+        1,
+        -0x7FFF_FFFF,
+    ),
+];
+
 #[test]
 fn reads_decimals(rt: HostRuntime) {
-    same(&rt, decimal_from_bytes(&[]), Ok(decimal(false, 0, 0)));
-    same(&rt, decimal_from_bytes(&[0x80]), Ok(decimal(false, 0, 0)));
-    same(&rt, decimal_from_bytes(&[0xC0]), Ok(decimal(false, 0, 0)));
-    same(&rt, decimal_from_bytes(&[0xC2]), Ok(decimal(false, 0, -2)));
-    same(
-        &rt,
-        decimal_from_bytes(&[0x80, 0x80]),
-        Ok(decimal(true, 0, 0)),
-    );
+    for (body, negative, coefficient, exponent) in READ {
+        let want = decimal(*negative, *coefficient, *exponent);
+        same(&rt, decimal_from_bytes(body), Ok(want));
+    }
     assert_ne!(rt; decimal_from_bytes(&[0x80, 0x80]), Ok(decimal(false, 0, 0)));
-    same(
-        &rt,
-        decimal_from_bytes(&[0xC1, 0x0F]),
-        Ok(decimal(false, 15, -1)),
-    );
-    same(
-        &rt,
-        decimal_from_bytes(&[0xC1, 0x8F]),
-        Ok(decimal(true, 15, -1)),
-    );
-    same(
-        &rt,
-        decimal_from_bytes(&[0x80, 0x00, 0x00, 0x05]),
-        Ok(decimal(false, 5, 0)),
-    );
-    same(
-        &rt,
-        decimal_from_bytes(&[0x07, 0x7F, 0x7F, 0x7F, 0xFF, 0x01]),
-        Ok(decimal(false, 1, 0x7FFF_FFFF)),
-    );
-    same(
-        &rt,
-        decimal_from_bytes(&[0x47, 0x7F, 0x7F, 0x7F, 0xFF, 0x01]),
-        Ok(decimal(false, 1, -0x7FFF_FFFF)),
-    );
 }
+
+/// Bodies that tell no decimal, and why.
+const REFUSED: &[(&[u8], Reason)] = &[
+    (&[0x41, 0x0F], Reason::BadVar),
+    (&[0, 0, 0, 0, 0, 0, 0, 0, 0, 0x81], Reason::BadVar),
+    (&[0x08, 0x00, 0x00, 0x00, 0x80], Reason::Range),
+    (&[0x48, 0x00, 0x00, 0x00, 0x80], Reason::Range),
+    (
+        &[0x80, 0x01, 0, 0, 0, 0, 0, 0, 0, 0, 0, 0, 0, 0, 0, 0, 0, 0],
+        Reason::Range,
+    ),
+    (
+        &[0x80, 0x81, 0, 0, 0, 0, 0, 0, 0, 0, 0, 0, 0, 0, 0, 0, 0, 0],
+        Reason::Range,
+    ),
+];
 
 #[test]
 fn refuses_decimals(rt: HostRuntime) {
-    same(&rt, decimal_from_bytes(&[0x41, 0x0F]), Err(Reason::BadVar));
-    let mut ten = [0; 10];
-    ten[9] = 0x81;
-    same(&rt, decimal_from_bytes(&ten), Err(Reason::BadVar));
-    for first in [0x08, 0x48] {
-        let body = [first, 0x00, 0x00, 0x00, 0x80];
-        same(&rt, decimal_from_bytes(&body), Err(Reason::Range));
+    for (body, reason) in REFUSED {
+        same(&rt, decimal_from_bytes(body), Err(*reason));
     }
-    let mut long = [0; 18];
-    long[0] = 0x80;
-    long[1] = 0x01;
-    same(&rt, decimal_from_bytes(&long), Err(Reason::Range));
-    long[1] = 0x81;
-    same(&rt, decimal_from_bytes(&long), Err(Reason::Range));
 }
 
 #[test]
@@ -97,37 +91,28 @@ fn reads_the_largest_coefficient(rt: HostRuntime) {
     same(&rt, again(&body).as_slice(), body.as_slice());
 }
 
+/// Bodies, and what is written for their decimals.
+const WRITTEN: &[(&[u8], &[u8])] = &[
+    (&[], &[]),
+    (&[0x80], &[]),
+    (&[0xC0, 0x00], &[]),
+    (&[0xC2, 0x00], &[0xC2]),
+    (&[0x80, 0x80], &[0x80, 0x80]),
+    (&[0xC0, 0x80, 0x00], &[0x80, 0x80]),
+    (&[0xC1, 0x0F], &[0xC1, 0x0F]),
+    (&[0x80, 0x00, 0x00, 0x05], &[0x80, 0x05]),
+    (&[0xC1, 0x80, 0x80], &[0xC1, 0x80, 0x80]),
+    (
+        &[0x47, 0x7F, 0x7F, 0x7F, 0xFF, 0x01],
+        &[0x47, 0x7F, 0x7F, 0x7F, 0xFF, 0x01],
+    ),
+];
+
 #[test]
 fn writes_decimals(rt: HostRuntime) {
-    let empty: [u8; 0] = [];
-    same(&rt, again(&[]).as_slice(), empty.as_slice());
-    same(&rt, again(&[0x80]).as_slice(), empty.as_slice());
-    same(&rt, again(&[0xC0, 0x00]).as_slice(), empty.as_slice());
-    same(&rt, again(&[0xC2, 0x00]).as_slice(), [0xC2].as_slice());
-    same(
-        &rt,
-        again(&[0x80, 0x80]).as_slice(),
-        [0x80, 0x80].as_slice(),
-    );
-    same(
-        &rt,
-        again(&[0xC0, 0x80, 0x00]).as_slice(),
-        [0x80, 0x80].as_slice(),
-    );
-    same(
-        &rt,
-        again(&[0xC1, 0x0F]).as_slice(),
-        [0xC1, 0x0F].as_slice(),
-    );
-    same(
-        &rt,
-        again(&[0x80, 0x00, 0x00, 0x05]).as_slice(),
-        [0x80, 0x05].as_slice(),
-    );
-    let sign = [0xC1, 0x80, 0x80];
-    same(&rt, again(&sign).as_slice(), sign.as_slice());
-    let least = [0x47, 0x7F, 0x7F, 0x7F, 0xFF, 0x01];
-    same(&rt, again(&least).as_slice(), least.as_slice());
+    for (body, want) in WRITTEN {
+        same(&rt, again(body).as_slice(), *want);
+    }
 }
 
 #[test]

@@ -3,6 +3,7 @@
 use crate::same::same;
 use ion_value::item::{Annotation, Annotations, Head, Item, Sym, SymAt};
 use ion_value::names::{Names, NoNames};
+use std::process::Abort;
 
 // Names of one id.
 struct OneName;
@@ -28,59 +29,44 @@ const ENTRIES: [Annotation; 3] = [
     Annotation::Id { id: 11, place: 12 },
 ];
 
-fn text(text: &[u8], place: u64) -> SymAt<'_> {
-    SymAt {
-        sym: Sym::Text(text),
-        place,
+// Asserts what the item has, where the id 10 is given as this.
+fn shows<N: Names>(rt: &impl Abort, item: &Item<'_, N>, ten: Sym<'_>) {
+    same(rt, item.field(), Some(SymAt { sym: ten, place: 5 }));
+    same(
+        rt,
+        item.head(),
+        Head::Symbol(SymAt {
+            sym: ten,
+            place: 13,
+        }),
+    );
+    same(rt, (item.place(), item.top()), (13, 5));
+    let annotations = item.annotations();
+    same(rt, (annotations.len(), annotations.is_empty()), (3, false));
+    for (index, sym, place) in [(0, Sym::Text(b"bc"), 7), (1, ten, 11), (2, Sym::Id(11), 12)] {
+        same(rt, annotations.get(index), Some(SymAt { sym, place }));
     }
-}
-
-fn id(id: u32, place: u64) -> SymAt<'static> {
-    SymAt {
-        sym: Sym::Id(id),
-        place,
-    }
+    same(rt, annotations.get(3), None);
 }
 
 #[test]
-fn gives_ids_as_they_are(rt: HostRuntime) {
+fn gives_ids_as_they_are_and_as_their_texts(rt: HostRuntime) {
     let annotations = Annotations::new(&ENTRIES, b"abcd", &NoNames);
-    let item = Item::new(
-        Some(id(10, 5)),
-        annotations,
-        Head::Symbol(id(10, 13)),
-        13,
-        5,
-    );
-    same(&rt, item.field(), Some(id(10, 5)));
-    same(&rt, item.head(), Head::Symbol(id(10, 13)));
-    same(&rt, item.place(), 13);
-    same(&rt, item.top(), 5);
-    let annotations = item.annotations();
-    same(&rt, annotations.len(), 3);
-    assert!(rt; !annotations.is_empty());
-    same(&rt, annotations.get(0), Some(text(b"bc", 7)));
-    same(&rt, annotations.get(1), Some(id(10, 11)));
-    same(&rt, annotations.get(3), None);
+    let field = SymAt {
+        sym: Sym::Id(10),
+        place: 5,
+    };
+    let head = SymAt {
+        sym: Sym::Id(10),
+        place: 13,
+    };
+    let item = Item::new(Some(field), annotations, Head::Symbol(head), 13, 5);
+    shows(&rt, &item, Sym::Id(10));
+    shows(&rt, &item.with_names(&OneName), Sym::Text(b"name"));
+}
+
+#[test]
+fn there_may_be_no_annotations_and_no_names(rt: HostRuntime) {
     assert!(rt; Annotations::new(&[], &[], &NoNames).is_empty());
     same(&rt, NoNames.text_of(10), None);
-}
-
-#[test]
-fn gives_ids_as_their_texts(rt: HostRuntime) {
-    let annotations = Annotations::new(&ENTRIES, b"abcd", &NoNames);
-    let raw = Item::new(
-        Some(id(10, 5)),
-        annotations,
-        Head::Symbol(id(10, 13)),
-        13,
-        5,
-    );
-    let item = raw.with_names(&OneName);
-    same(&rt, item.field(), Some(text(b"name", 5)));
-    same(&rt, item.head(), Head::Symbol(text(b"name", 13)));
-    let annotations = item.annotations();
-    same(&rt, annotations.get(0), Some(text(b"bc", 7)));
-    same(&rt, annotations.get(1), Some(text(b"name", 11)));
-    same(&rt, annotations.get(2), Some(id(11, 12)));
 }

@@ -1,90 +1,120 @@
 //! Timestamps in octets, and in their time and UTC.
-ghost use Rattle.std.specs.Prelude.{◌≡◌};
+ghost use Rattle.ion_value.specs.Timestamp.{IsMoment, IsOffset};
 
 use crate::same::same;
 use arrayvec::ArrayVec;
 use ion_meter::fault::Reason;
 use ion_value::timestamp::{Precision, Timestamp, timestamp_from_bytes, timestamp_to_bytes};
+use std::process::Abort;
 
-fn at(date: (u16, u8, u8), hour: u8, minute: u8, offset: Option<i16>) -> Timestamp
-    ensures date { (result.year ≡ date.0) × (result.month ≡ date.1)
-        × (result.day ≡ date.2) }
-    ensures time { (result.hour ≡ hour) × (result.minute ≡ minute) × (result.second ≡ 0) }
-    ensures offset { result.offset ≡ offset }
+/// A year, month and day, and an hour and minute.
+type Minute = ((u16, u8, u8), (u8, u8));
+
+fn at(minute: Minute, offset: Option<i16>) -> Timestamp {
+    let (date, (hour, minute)) = minute;
+    told(Precision::Minute, date, (hour, minute, 0), 0, offset)
+}
+
+/// The same, read from its body, since a call that moves it asks that there be such a day.
+fn moment(rt: &impl Abort, minute: Minute, offset: Option<i16>) -> Timestamp
+    ensures moment { IsMoment result }
+    ensures offset { IsOffset result.offset }
 {
-    Timestamp {
-        precision: Precision::Minute,
-        year: date.0,
-        month: date.1,
-        day: date.2,
-        hour,
-        minute,
-        second: 0,
-        fraction: 0,
-        offset,
+    let ((year, month, day), (hour, minute_of_hour)) = minute;
+    let body = [
+        0x80,
+        (year / 128 % 128) as u8,
+        (year % 128) as u8 | 0x80,
+        month | 0x80,
+        day | 0x80,
+        hour | 0x80,
+        minute_of_hour | 0x80,
+    ];
+    let read = timestamp_from_bytes(&body).expect(rt, "a date and time");
+    let minutes = offset.unwrap_or(0);
+    assert!(rt; -1_440 < minutes && minutes < 1_440);
+    let moment = Timestamp { offset, ..read };
+    same(rt, moment, at(minute, offset));
+    moment
+}
+
+/// Minutes in UTC, in local time, and the offset.
+const MOVED: &[(Minute, Minute, Option<i16>)] = &[
+    // On the same day, and at an unknown offset.
+    (((2007, 1, 1), (23, 30)), ((2007, 1, 1), (23, 59)), Some(29)),
+    (((2007, 1, 1), (23, 30)), ((2007, 1, 1), (23, 30)), None),
+    // Over new year.
+    (
+        ((2000, 12, 31), (23, 30)),
+        ((2001, 1, 1), (0, 15)),
+        Some(45),
+    ),
+    (
+        ((2001, 1, 1), (0, 15)),
+        ((2000, 12, 31), (0, 16)),
+        Some(-1439),
+    ),
+    // Over leap days.
+    (
+        ((2000, 2, 28), (23, 30)),
+        ((2000, 2, 29), (0, 15)),
+        Some(45),
+    ),
+    (
+        ((2000, 3, 1), (0, 15)),
+        ((2000, 2, 29), (23, 30)),
+        Some(-45),
+    ),
+    (((1900, 2, 28), (23, 30)), ((1900, 3, 1), (0, 15)), Some(45)),
+];
+
+#[test]
+fn goes_to_local_time_and_back(rt: HostRuntime) {
+    for (utc, local, offset) in MOVED {
+        let utc = moment(&rt, *utc, *offset);
+        let local = moment(&rt, *local, *offset);
+        same(&rt, utc.to_local(), Ok(local));
+        same(&rt, local.to_utc(), Ok(utc));
+    }
+}
+
+/// The first minute and the last, an offset, and the same from UTC to local time and from local time to UTC, where it is a
+/// minute of the years 1 to 9999.
+const ENDS: &[(Minute, i16, Option<Minute>, Option<Minute>)] = &[
+    (((1, 1, 1), (0, 0)), -1, None, Some(((1, 1, 1), (0, 1)))),
+    (((1, 1, 1), (0, 0)), 1, Some(((1, 1, 1), (0, 1))), None),
+    (
+        ((9999, 12, 31), (23, 59)),
+        1,
+        None,
+        Some(((9999, 12, 31), (23, 58))),
+    ),
+    (
+        ((9999, 12, 31), (23, 59)),
+        -1,
+        Some(((9999, 12, 31), (23, 58))),
+        None,
+    ),
+];
+
+fn if_there(minute: Option<Minute>, offset: Option<i16>) -> Result<Timestamp, Reason> {
+    match minute {
+        Some(minute) => Ok(at(minute, offset)),
+        None => Err(Reason::BadTimestamp),
     }
 }
 
 #[test]
-fn keeps_the_day(rt: HostRuntime) {
-    let utc = at((2007, 1, 1), 23, 30, Some(29));
-    let local = at((2007, 1, 1), 23, 59, Some(29));
-    same(&rt, utc.to_local(), Ok(local));
-    same(&rt, local.to_utc(), Ok(utc));
-    let unknown = at((2007, 1, 1), 23, 30, None);
-    same(&rt, unknown.to_local(), Ok(unknown));
-    same(&rt, unknown.to_utc(), Ok(unknown));
-}
-
-#[test]
-fn goes_over_new_year(rt: HostRuntime) {
-    let utc = at((2000, 12, 31), 23, 30, Some(45));
-    let local = at((2001, 1, 1), 0, 15, Some(45));
-    same(&rt, utc.to_local(), Ok(local));
-    same(&rt, local.to_utc(), Ok(utc));
-    let utc = at((2001, 1, 1), 0, 15, Some(-1439));
-    let local = at((2000, 12, 31), 0, 16, Some(-1439));
-    same(&rt, utc.to_local(), Ok(local));
-    same(&rt, local.to_utc(), Ok(utc));
-}
-
-#[test]
-fn goes_over_leap_days(rt: HostRuntime) {
-    let utc = at((2000, 2, 28), 23, 30, Some(45));
-    let local = at((2000, 2, 29), 0, 15, Some(45));
-    same(&rt, utc.to_local(), Ok(local));
-    same(&rt, local.to_utc(), Ok(utc));
-    let utc = at((2000, 3, 1), 0, 15, Some(-45));
-    let local = at((2000, 2, 29), 23, 30, Some(-45));
-    same(&rt, utc.to_local(), Ok(local));
-    same(&rt, local.to_utc(), Ok(utc));
-    let utc = at((1900, 2, 28), 23, 30, Some(45));
-    let local = at((1900, 3, 1), 0, 15, Some(45));
-    same(&rt, utc.to_local(), Ok(local));
-    same(&rt, local.to_utc(), Ok(utc));
-}
-
-#[test]
 fn ends_with_the_years(rt: HostRuntime) {
-    let first = at((1, 1, 1), 0, 0, Some(-1));
-    same(&rt, first.to_local(), Err(Reason::BadTimestamp));
-    same(&rt, first.to_utc(), Ok(at((1, 1, 1), 0, 1, Some(-1))));
-    let first = at((1, 1, 1), 0, 0, Some(1));
-    same(&rt, first.to_utc(), Err(Reason::BadTimestamp));
-    same(&rt, first.to_local(), Ok(at((1, 1, 1), 0, 1, Some(1))));
-    let last = at((9999, 12, 31), 23, 59, Some(1));
-    same(&rt, last.to_local(), Err(Reason::BadTimestamp));
-    same(&rt, last.to_utc(), Ok(at((9999, 12, 31), 23, 58, Some(1))));
-    let last = at((9999, 12, 31), 23, 59, Some(-1));
-    same(&rt, last.to_utc(), Err(Reason::BadTimestamp));
-    same(
-        &rt,
-        last.to_local(),
-        Ok(at((9999, 12, 31), 23, 58, Some(-1))),
-    );
+    for (end, offset, local, utc) in ENDS {
+        let offset = Some(*offset);
+        let end = moment(&rt, *end, offset);
+        same(&rt, end.to_local(), if_there(*local, offset));
+        same(&rt, end.to_utc(), if_there(*utc, offset));
+    }
 }
 
-fn told(
+pub fn told(
     precision: Precision,
     date: (u16, u8, u8),
     time: (u8, u8, u8),
@@ -112,148 +142,212 @@ fn written(body: &[u8]) -> Result<ArrayVec<u8, 26>, Reason> {
     }
 }
 
-#[test]
-fn reads_dates(rt: HostRuntime) {
-    let midnight = (0, 0, 0);
-    let year = told(Precision::Year, (2007, 1, 1), midnight, 0, None);
-    same(&rt, timestamp_from_bytes(&[0xC0, 0x0F, 0xD7]), Ok(year));
-    let month = told(Precision::Month, (2007, 12, 1), midnight, 0, None);
-    same(
-        &rt,
-        timestamp_from_bytes(&[0xC0, 0x0F, 0xD7, 0x8C]),
-        Ok(month),
-    );
-    let day = told(Precision::Day, (2007, 1, 2), midnight, 0, None);
-    same(
-        &rt,
-        timestamp_from_bytes(&[0xC0, 0x0F, 0xD7, 0x81, 0x82]),
-        Ok(day),
-    );
-
-    // Whatever offset is written.
-    same(
-        &rt,
-        timestamp_from_bytes(&[0x0B, 0xA0, 0x0F, 0xD7]),
-        Ok(year),
-    );
+// Asserts that the body is written as it was read.
+fn is_kept(rt: &impl Abort, body: &[u8]) {
+    match written(body) {
+        Ok(again) => same(rt, again.as_slice(), body),
+        Err(_) => assert!(rt; false),
+    }
 }
 
-#[test]
-fn reads_times(rt: HostRuntime) {
-    let unknown = told(Precision::Minute, (2007, 1, 2), (3, 4, 0), 0, None);
-    same(
-        &rt,
-        timestamp_from_bytes(&[0xC0, 0x0F, 0xD7, 0x81, 0x82, 0x83, 0x84]),
-        Ok(unknown),
-    );
-    let east = told(Precision::Minute, (2007, 1, 2), (0, 30, 0), 0, Some(60));
-    same(
-        &rt,
-        timestamp_from_bytes(&[0xBC, 0x0F, 0xD7, 0x81, 0x81, 0x97, 0x9E]),
-        Ok(east),
-    );
-    let west = told(
+/// Bodies, and what they tell: precision, date, time, fraction and offset.
+const READ: &[(
+    &[u8],
+    Precision,
+    (u16, u8, u8),
+    (u8, u8, u8),
+    u128,
+    Option<i16>,
+)] = &[
+    (
+        &[0xC0, 0x0F, 0xD7],
+        Precision::Year,
+        (2007, 1, 1),
+        (0, 0, 0),
+        0,
+        None,
+    ),
+    (
+        &[0xC0, 0x0F, 0xD7, 0x8C],
+        Precision::Month,
+        (2007, 12, 1),
+        (0, 0, 0),
+        0,
+        None,
+    ),
+    (
+        &[0xC0, 0x0F, 0xD7, 0x81, 0x82],
+        Precision::Day,
+        (2007, 1, 2),
+        (0, 0, 0),
+        0,
+        None,
+    ),
+    // Whatever offset is written.
+    (
+        &[0x0B, 0xA0, 0x0F, 0xD7],
+        Precision::Year,
+        (2007, 1, 1),
+        (0, 0, 0),
+        0,
+        None,
+    ),
+    (
+        &[0xC0, 0x0F, 0xD7, 0x81, 0x82, 0x83, 0x84],
+        Precision::Minute,
+        (2007, 1, 2),
+        (3, 4, 0),
+        0,
+        None,
+    ),
+    (
+        &[0xBC, 0x0F, 0xD7, 0x81, 0x81, 0x97, 0x9E],
+        Precision::Minute,
+        (2007, 1, 2),
+        (0, 30, 0),
+        0,
+        Some(60),
+    ),
+    (
+        &[
+            0x43, 0xE0, 0x0F, 0xDB, 0x82, 0x94, 0x93, 0x9E, 0xBB, 0xC3, 0x64,
+        ],
         Precision::Fraction(3),
         (2011, 2, 20),
         (11, 30, 59),
         100,
         Some(-480),
-    );
-    same(
-        &rt,
-        timestamp_from_bytes(&[
-            0x43, 0xE0, 0x0F, 0xDB, 0x82, 0x94, 0x93, 0x9E, 0xBB, 0xC3, 0x64,
-        ]),
-        Ok(west),
-    );
+    ),
+];
+
+#[test]
+fn reads_bodies(rt: HostRuntime) {
+    for (body, precision, date, time, fraction, offset) in READ {
+        let want = told(*precision, *date, *time, *fraction, *offset);
+        same(&rt, timestamp_from_bytes(body), Ok(want));
+    }
 }
+
+/// Bodies of midnight of 1 January 2000 in UTC, the precision, and the fraction.
+const FRACTIONS: &[(&[u8], Result<(Precision, u128), Reason>)] = &[
+    // No exponent, an exponent of zero, one digit, and minus zero as a digit.
+    (
+        &[0x80, 0x0F, 0xD0, 0x81, 0x81, 0x80, 0x80, 0x80],
+        Ok((Precision::Second, 0)),
+    ),
+    (
+        &[0x80, 0x0F, 0xD0, 0x81, 0x81, 0x80, 0x80, 0x80, 0x80],
+        Ok((Precision::Second, 0)),
+    ),
+    (
+        &[0x80, 0x0F, 0xD0, 0x81, 0x81, 0x80, 0x80, 0x80, 0xC1],
+        Ok((Precision::Fraction(1), 0)),
+    ),
+    (
+        &[0x80, 0x0F, 0xD0, 0x81, 0x81, 0x80, 0x80, 0x80, 0xC1, 0x80],
+        Ok((Precision::Fraction(1), 0)),
+    ),
+    (
+        &[0x80, 0x0F, 0xD0, 0x81, 0x81, 0x80, 0x80, 0x80, 0xC1, 0x09],
+        Ok((Precision::Fraction(1), 9)),
+    ),
+    // One, less than zero, and more than a second.
+    (
+        &[0x80, 0x0F, 0xD0, 0x81, 0x81, 0x80, 0x80, 0x80, 0xC1, 0x0A],
+        Err(Reason::BadTimestamp),
+    ),
+    (
+        &[0x80, 0x0F, 0xD0, 0x81, 0x81, 0x80, 0x80, 0x80, 0xC1, 0x81],
+        Err(Reason::BadTimestamp),
+    ),
+    (
+        &[0x80, 0x0F, 0xD0, 0x81, 0x81, 0x80, 0x80, 0x80, 0x80, 0x01],
+        Err(Reason::BadTimestamp),
+    ),
+    // 38 digits, and one more, also in the hour 24.
+    (
+        &[0x80, 0x0F, 0xD0, 0x81, 0x81, 0x80, 0x80, 0x80, 0xE6, 0x01],
+        Ok((Precision::Fraction(38), 1)),
+    ),
+    (
+        &[0x80, 0x0F, 0xD0, 0x81, 0x81, 0x80, 0x80, 0x80, 0xE7, 0x01],
+        Err(Reason::Range),
+    ),
+    (
+        &[0x80, 0x0F, 0xD0, 0x81, 0x81, 0x98, 0x80, 0x80, 0xE7, 0x01],
+        Err(Reason::Range),
+    ),
+];
 
 #[test]
 fn reads_fractions(rt: HostRuntime) {
-    // No exponent, an exponent of zero, one digit, and minus zero as a digit.
-    let mut body = [0x80, 0x0F, 0xD0, 0x81, 0x81, 0x80, 0x80, 0x80, 0x80, 0x80];
-    let whole = told(Precision::Second, (2000, 1, 1), (0, 0, 0), 0, Some(0));
-    same(&rt, timestamp_from_bytes(&body[..8]), Ok(whole));
-    same(&rt, timestamp_from_bytes(&body[..9]), Ok(whole));
-    body[8] = 0xC1;
-    let digit = told(Precision::Fraction(1), (2000, 1, 1), (0, 0, 0), 0, Some(0));
-    same(&rt, timestamp_from_bytes(&body[..9]), Ok(digit));
-    same(&rt, timestamp_from_bytes(&body), Ok(digit));
-    body[9] = 0x09;
-    let nine = told(Precision::Fraction(1), (2000, 1, 1), (0, 0, 0), 9, Some(0));
-    same(&rt, timestamp_from_bytes(&body), Ok(nine));
-
-    // One, less than zero, and more than a second.
-    body[9] = 0x0A;
-    same(&rt, timestamp_from_bytes(&body), Err(Reason::BadTimestamp));
-    body[9] = 0x81;
-    same(&rt, timestamp_from_bytes(&body), Err(Reason::BadTimestamp));
-    body[8] = 0x80;
-    body[9] = 0x01;
-    same(&rt, timestamp_from_bytes(&body), Err(Reason::BadTimestamp));
-
-    // 38 digits, and one more.
-    body[8] = 0xE6;
-    body[9] = 0x01;
-    let least = told(Precision::Fraction(38), (2000, 1, 1), (0, 0, 0), 1, Some(0));
-    same(&rt, timestamp_from_bytes(&body), Ok(least));
-    body[8] = 0xE7;
-    same(&rt, timestamp_from_bytes(&body), Err(Reason::Range));
-    body[5] = 0x98;
-    same(&rt, timestamp_from_bytes(&body), Err(Reason::Range));
+    for (body, want) in FRACTIONS {
+        let want = match *want {
+            Ok((precision, fraction)) => {
+                Ok(told(precision, (2000, 1, 1), (0, 0, 0), fraction, Some(0)))
+            }
+            Err(reason) => Err(reason),
+        };
+        same(&rt, timestamp_from_bytes(body), want);
+    }
 }
+
+/// Bodies that tell no timestamp, and why.
+const REFUSED: &[(&[u8], Reason)] = &[
+    // Nothing, the offset alone, and an hour without its minute.
+    (&[], Reason::BadTimestamp),
+    (&[0x80], Reason::BadTimestamp),
+    (&[0x80, 0x0F, 0xD0, 0x81, 0x81, 0x80], Reason::BadTimestamp),
+    // The year 0, 29 February 2001 and hour 24.
+    (&[0x80, 0x80], Reason::BadTimestamp),
+    (&[0x80, 0x0F, 0xD1, 0x82, 0x9D], Reason::BadTimestamp),
+    (
+        &[0x80, 0x0F, 0xD0, 0x81, 0x81, 0x98, 0x80],
+        Reason::BadTimestamp,
+    ),
+    // Second 60, and an offset of a day.
+    (
+        &[0x80, 0x0F, 0xD0, 0x81, 0x81, 0x80, 0x80, 0xBC],
+        Reason::BadTimestamp,
+    ),
+    (
+        &[0x0B, 0xA0, 0x0F, 0xD0, 0x81, 0x81, 0x80, 0x80],
+        Reason::BadTimestamp,
+    ),
+    // Local time in the year 0.
+    (&[0xFF, 0x81, 0x81, 0x81, 0x80, 0x80], Reason::BadTimestamp),
+    // Fields that do not end.
+    (&[0x80, 0x0F], Reason::BadVar),
+    (
+        &[0x80, 0x0F, 0xD0, 0x81, 0x81, 0x98, 0x80, 0x80, 0x67],
+        Reason::BadVar,
+    ),
+];
 
 #[test]
 fn refuses_bodies(rt: HostRuntime) {
-    let empty: [u8; 0] = [];
-    for body in [
-        // Nothing, the offset alone, and an hour without its minute.
-        empty.as_slice(),
-        [0x80].as_slice(),
-        [0x80, 0x0F, 0xD0, 0x81, 0x81, 0x80].as_slice(),
-        // The year 0, 29 February 2001 and hour 24.
-        [0x80, 0x80].as_slice(),
-        [0x80, 0x0F, 0xD1, 0x82, 0x9D].as_slice(),
-        [0x80, 0x0F, 0xD0, 0x81, 0x81, 0x98, 0x80].as_slice(),
-        // Second 60, and an offset of a day.
-        [0x80, 0x0F, 0xD0, 0x81, 0x81, 0x80, 0x80, 0xBC].as_slice(),
-        [0x0B, 0xA0, 0x0F, 0xD0, 0x81, 0x81, 0x80, 0x80].as_slice(),
-        // Local time in the year 0.
-        [0xFF, 0x81, 0x81, 0x81, 0x80, 0x80].as_slice(),
-    ] {
-        same(&rt, timestamp_from_bytes(body), Err(Reason::BadTimestamp));
+    for (body, reason) in REFUSED {
+        same(&rt, timestamp_from_bytes(body), Err(*reason));
     }
-    same(
-        &rt,
-        timestamp_from_bytes(&[0x80, 0x0F]),
-        Err(Reason::BadVar),
-    );
-    same(
-        &rt,
-        timestamp_from_bytes(&[0x80, 0x0F, 0xD0, 0x81, 0x81, 0x98, 0x80, 0x80, 0x67]),
-        Err(Reason::BadVar),
-    );
 }
+
+const KEPT: &[&[u8]] = &[
+    &[0xC0, 0x0F, 0xD7],
+    &[0xC0, 0x0F, 0xD7, 0x8C],
+    &[0xC0, 0x0F, 0xD7, 0x81, 0x82],
+    &[0xC0, 0x0F, 0xD7, 0x81, 0x82, 0x83, 0x84],
+    &[0xBC, 0x0F, 0xD7, 0x81, 0x81, 0x97, 0x9E],
+    &[
+        0x43, 0xE0, 0x0F, 0xDB, 0x82, 0x94, 0x93, 0x9E, 0xBB, 0xC3, 0x64,
+    ],
+    &[0x80, 0x0F, 0xD0, 0x81, 0x81, 0x80, 0x80, 0x80],
+    &[0x80, 0x0F, 0xD0, 0x81, 0x81, 0x80, 0x80, 0x80, 0xC1],
+];
 
 #[test]
 fn writes_bodies(rt: HostRuntime) {
-    for body in [
-        [0xC0, 0x0F, 0xD7].as_slice(),
-        [0xC0, 0x0F, 0xD7, 0x8C].as_slice(),
-        [0xC0, 0x0F, 0xD7, 0x81, 0x82].as_slice(),
-        [0xC0, 0x0F, 0xD7, 0x81, 0x82, 0x83, 0x84].as_slice(),
-        [0xBC, 0x0F, 0xD7, 0x81, 0x81, 0x97, 0x9E].as_slice(),
-        [
-            0x43, 0xE0, 0x0F, 0xDB, 0x82, 0x94, 0x93, 0x9E, 0xBB, 0xC3, 0x64,
-        ]
-        .as_slice(),
-        [0x80, 0x0F, 0xD0, 0x81, 0x81, 0x80, 0x80, 0x80].as_slice(),
-        [0x80, 0x0F, 0xD0, 0x81, 0x81, 0x80, 0x80, 0x80, 0xC1].as_slice(),
-    ] {
-        match written(body) {
-            Ok(again) => same(&rt, again.as_slice(), body),
-            Err(_) => assert!(rt; false),
-        }
+    for body in KEPT {
+        is_kept(&rt, body);
     }
 }
 
@@ -272,8 +366,5 @@ fn writes_the_longest_body(rt: HostRuntime) {
         Some(-1439),
     );
     same(&rt, timestamp_from_bytes(&body), Ok(longest));
-    match written(&body) {
-        Ok(again) => same(&rt, again.as_slice(), body.as_slice()),
-        Err(_) => assert!(rt; false),
-    }
+    is_kept(&rt, &body);
 }

@@ -5,71 +5,50 @@ use crate::same::same;
 use ion_meter::fault::Reason;
 use ion_value::var::{Signed, var_int_read, var_int_write, var_uint_read, var_uint_write};
 
+/// The largest, in nine octets, or ten with one behind it.
+const UINT_9: [u8; 9] = [0x7F, 0x7F, 0x7F, 0x7F, 0x7F, 0x7F, 0x7F, 0x7F, 0xFF];
+
+const UINT_10: [u8; 10] = [0x7F, 0x7F, 0x7F, 0x7F, 0x7F, 0x7F, 0x7F, 0x7F, 0xFF, 0x7F];
+
+/// Octets, and what is read at their front: a number, and how many octets it has.
+const UINTS: &[(&[u8], Result<(u64, usize), Reason>)] = &[
+    (&[0x80], Ok((0, 1))),
+    (&[0x0E, 0x90], Ok((0x710, 2))),
+    (&[0x0E, 0x90, 0x81], Ok((0x710, 2))),
+    (&[0x00, 0x00, 0x81], Ok((1, 3))),
+    (&UINT_10, Ok((0x7FFF_FFFF_FFFF_FFFF, 9))),
+    // Those that do not end.
+    (&[], Err(Reason::BadVar)),
+    (&[0x01, 0x7F], Err(Reason::BadVar)),
+    (&[0; 9], Err(Reason::BadVar)),
+    (&[0, 0, 0, 0, 0, 0, 0, 0, 0, 0x81], Err(Reason::BadVar)),
+];
+
 #[test]
 fn reads_var_uints(rt: HostRuntime) {
-    same(&rt, var_uint_read(&[0x80]), Ok((0, 1)));
-    same(&rt, var_uint_read(&[0x0E, 0x90]), Ok((0x710, 2)));
-    same(&rt, var_uint_read(&[0x0E, 0x90, 0x81]), Ok((0x710, 2)));
-    same(&rt, var_uint_read(&[0x00, 0x00, 0x81]), Ok((1, 3)));
-    let mut nine = [0x7F; 10];
-    nine[8] = 0xFF;
-    same(&rt, var_uint_read(&nine), Ok((0x7FFF_FFFF_FFFF_FFFF, 9)));
+    for (octets, want) in UINTS {
+        same(&rt, var_uint_read(octets), *want);
+    }
 }
 
-#[test]
-fn refuses_var_uints_that_do_not_end(rt: HostRuntime) {
-    same(&rt, var_uint_read(&[]), Err(Reason::BadVar));
-    same(&rt, var_uint_read(&[0x01, 0x7F]), Err(Reason::BadVar));
-    let mut ten = [0; 10];
-    same(&rt, var_uint_read(&ten[..9]), Err(Reason::BadVar));
-    ten[9] = 0x81;
-    same(&rt, var_uint_read(&ten), Err(Reason::BadVar));
-}
-
-#[test]
-fn writes_var_uints(rt: HostRuntime) {
-    let largest = [0x7F, 0x7F, 0x7F, 0x7F, 0x7F, 0x7F, 0x7F, 0x7F, 0xFF];
-    same(&rt, var_uint_write(0).as_slice(), [0x80].as_slice());
-    same(&rt, var_uint_write(127).as_slice(), [0xFF].as_slice());
-    same(&rt, var_uint_write(128).as_slice(), [0x01, 0x80].as_slice());
-    same(
-        &rt,
-        var_uint_write(0x710).as_slice(),
-        [0x0E, 0x90].as_slice(),
-    );
-    same(
-        &rt,
-        var_uint_write(16383).as_slice(),
-        [0x7F, 0xFF].as_slice(),
-    );
-    same(
-        &rt,
-        var_uint_write(16384).as_slice(),
-        [0x01, 0x00, 0x80].as_slice(),
-    );
-    same(
-        &rt,
-        var_uint_write(0x7FFF_FFFF_FFFF_FFFF).as_slice(),
-        largest.as_slice(),
-    );
-}
+/// Numbers, and their octets.
+const WRITTEN_UINTS: &[(u64, &[u8])] = &[
+    (0, &[0x80]),
+    (127, &[0xFF]),
+    (128, &[0x01, 0x80]),
+    (0x710, &[0x0E, 0x90]),
+    (16383, &[0x7F, 0xFF]),
+    (16384, &[0x01, 0x00, 0x80]),
+    (0x7FFF_FFFF_FFFF_FFFF, &UINT_9),
+];
 
 #[test]
 fn reads_the_var_uints_that_it_writes(rt: HostRuntime) {
-    for (n, count) in [
-        (0, 1),
-        (127, 1),
-        (128, 2),
-        (16383, 2),
-        (16384, 3),
-        (0x7FFF_FFFF_FFFF_FFFF, 9),
-    ] {
-        assert!(rt; n < 0x8000_0000_0000_0000);
-        same(
-            &rt,
-            var_uint_read(var_uint_write(n).as_slice()),
-            Ok((n, count)),
-        );
+    for (n, want) in WRITTEN_UINTS {
+        assert!(rt; *n < 0x8000_0000_0000_0000);
+        let octets = var_uint_write(*n);
+        same(&rt, octets.as_slice(), *want);
+        same(&rt, var_uint_read(octets.as_slice()), Ok((*n, want.len())));
     }
 }
 
@@ -83,99 +62,87 @@ fn signed(negative: bool, magnitude: u64) -> Signed
     }
 }
 
-#[test]
-fn reads_var_ints(rt: HostRuntime) {
-    same(&rt, var_int_read(&[0x80]), Ok((signed(false, 0), 1)));
-    same(&rt, var_int_read(&[0xC0]), Ok((signed(true, 0), 1)));
-    assert_ne!(rt; var_int_read(&[0xC0]), Ok((signed(false, 0), 1)));
-    same(&rt, var_int_read(&[0xBF]), Ok((signed(false, 63), 1)));
-    same(&rt, var_int_read(&[0xFF]), Ok((signed(true, 63), 1)));
-    same(&rt, var_int_read(&[0x00, 0xC0]), Ok((signed(false, 64), 2)));
-    same(&rt, var_int_read(&[0x40, 0xC0]), Ok((signed(true, 64), 2)));
-    same(
-        &rt,
-        var_int_read(&[0x7F, 0x81]),
-        Ok((signed(true, 8065), 2)),
-    );
-    same(
-        &rt,
-        var_int_read(&[0x41, 0x00, 0x85, 0x80]),
-        Ok((signed(true, 16389), 3)),
-    );
-    let mut nine = [0x7F; 9];
-    nine[8] = 0xFF;
-    same(
-        &rt,
-        var_int_read(&nine),
-        Ok((signed(true, 0x3FFF_FFFF_FFFF_FFFF), 9)),
-    );
-    nine[0] = 0x3F;
-    same(
-        &rt,
-        var_int_read(&nine),
-        Ok((signed(false, 0x3FFF_FFFF_FFFF_FFFF), 9)),
-    );
-}
+/// Octets, and what is read at their front: a sign, a magnitude, and how many octets they have.
+const INTS: &[(&[u8], bool, u64, usize)] = &[
+    (&[0x80], false, 0, 1),
+    (&[0xC0], true, 0, 1),
+    (&[0xBF], false, 63, 1),
+    (&[0xFF], true, 63, 1),
+    (&[0x00, 0xC0], false, 64, 2),
+    (&[0x40, 0xC0], true, 64, 2),
+    (&[0x7F, 0x81], true, 8065, 2),
+    (&[0x41, 0x00, 0x85, 0x80], true, 16389, 3),
+    (&UINT_9, true, 0x3FFF_FFFF_FFFF_FFFF, 9),
+    (
+        &[0x3F, 0x7F, 0x7F, 0x7F, 0x7F, 0x7F, 0x7F, 0x7F, 0xFF],
+        false,
+        0x3FFF_FFFF_FFFF_FFFF,
+        9,
+    ),
+];
+
+/// Those that do not end.
+const ENDLESS_INTS: &[&[u8]] = &[
+    &[],
+    &[0x7F],
+    &[0x7F; 9],
+    &[0x7F, 0x7F, 0x7F, 0x7F, 0x7F, 0x7F, 0x7F, 0x7F, 0x7F, 0xFF],
+];
 
 #[test]
-fn refuses_var_ints_that_do_not_end(rt: HostRuntime) {
-    same(&rt, var_int_read(&[]), Err(Reason::BadVar));
-    same(&rt, var_int_read(&[0x7F]), Err(Reason::BadVar));
-    let mut ten = [0x7F; 10];
-    same(&rt, var_int_read(&ten[..9]), Err(Reason::BadVar));
-    ten[9] = 0xFF;
-    same(&rt, var_int_read(&ten), Err(Reason::BadVar));
+fn reads_var_ints(rt: HostRuntime) {
+    for (octets, negative, magnitude, count) in INTS {
+        let want = signed(*negative, *magnitude);
+        same(&rt, var_int_read(octets), Ok((want, *count)));
+    }
+    for octets in ENDLESS_INTS {
+        same(&rt, var_int_read(octets), Err(Reason::BadVar));
+    }
+    assert_ne!(rt; var_int_read(&[0xC0]), Ok((signed(false, 0), 1)));
 }
+
+/// Signs and magnitudes, and their octets.
+const WRITTEN_INTS: &[(bool, u64, &[u8])] = &[
+    (false, 0, &[0x80]),
+    (true, 0, &[0xC0]),
+    (false, 63, &[0xBF]),
+    (false, 64, &[0x00, 0xC0]),
+    (true, 64, &[0x40, 0xC0]),
+    (true, 0x3FFF_FFFF_FFFF_FFFF, &UINT_9),
+];
 
 #[test]
 fn writes_var_ints(rt: HostRuntime) {
-    let largest = [0x7F, 0x7F, 0x7F, 0x7F, 0x7F, 0x7F, 0x7F, 0x7F, 0xFF];
-    same(
-        &rt,
-        var_int_write(signed(false, 0)).as_slice(),
-        [0x80].as_slice(),
-    );
-    same(
-        &rt,
-        var_int_write(signed(true, 0)).as_slice(),
-        [0xC0].as_slice(),
-    );
-    same(
-        &rt,
-        var_int_write(signed(false, 63)).as_slice(),
-        [0xBF].as_slice(),
-    );
-    same(
-        &rt,
-        var_int_write(signed(false, 64)).as_slice(),
-        [0x00, 0xC0].as_slice(),
-    );
-    same(
-        &rt,
-        var_int_write(signed(true, 64)).as_slice(),
-        [0x40, 0xC0].as_slice(),
-    );
-    let least = signed(true, 0x3FFF_FFFF_FFFF_FFFF);
-    same(&rt, var_int_write(least).as_slice(), largest.as_slice());
+    for (negative, magnitude, want) in WRITTEN_INTS {
+        assert!(rt; *magnitude < 0x4000_0000_0000_0000);
+        same(
+            &rt,
+            var_int_write(signed(*negative, *magnitude)).as_slice(),
+            *want,
+        );
+    }
 }
+
+/// Magnitudes, and how many octets each has with either sign.
+const MAGNITUDES: &[(u64, usize)] = &[
+    (0, 1),
+    (63, 1),
+    (64, 2),
+    (8191, 2),
+    (8192, 3),
+    (0x3FFF_FFFF_FFFF_FFFF, 9),
+];
 
 #[test]
 fn reads_the_var_ints_that_it_writes(rt: HostRuntime) {
-    for (magnitude, count) in [
-        (0, 1),
-        (63, 1),
-        (64, 2),
-        (8191, 2),
-        (8192, 3),
-        (0x3FFF_FFFF_FFFF_FFFF, 9),
-    ] {
-        assert!(rt; magnitude < 0x4000_0000_0000_0000);
+    for (magnitude, count) in MAGNITUDES {
+        assert!(rt; *magnitude < 0x4000_0000_0000_0000);
         for negative in [false, true] {
-            let z = signed(negative, magnitude);
+            let z = signed(negative, *magnitude);
             same(
                 &rt,
                 var_int_read(var_int_write(z).as_slice()),
-                Ok((z, count)),
+                Ok((z, *count)),
             );
         }
     }

@@ -1,0 +1,6 @@
+use Rattle.std.proofs.Common.{arith}
+use Rattle.std.proofs.lemmas.Grind.{common_steps}
+use Rattle.ion_symbols.proofs.buffer.SymbolBuffer.field.Goals as goal
+
+pub returns-in_default-field : goal.returns-in_default-field
+returns-in_default-field g c = grind (arith, common_steps) steps 400000

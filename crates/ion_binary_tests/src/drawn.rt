@@ -270,10 +270,10 @@ fn drawn_streams_are_refused(rt: HostRuntime) {
                 scalar: *scalar,
                 ..LIMITS
             };
-            let octets = octets(&rt, rt.alloc(), b"", digits);
+            let mut octets = octets(&rt, rt.alloc(), b"", digits);
             let all = read_each_way(&rt, rt.alloc(), limits, None, octets.as_slice());
             all.expect_end(&rt, rt.alloc(), ending);
-            mangle(&rt, rt.alloc(), limits, octets);
+            mangle(&rt, rt.alloc(), limits, octets.as_mut_slice());
         }
     }
 }

@@ -4,6 +4,7 @@ use crate::hex::{MARKER, octets};
 use crate::limits::LIMITS;
 use crate::pieces::{Pieces, in_pieces, whole};
 use crate::reading::{Outcome, read, read_to};
+use crate::same::same;
 use crate::tables::RAW;
 use ion_meter::fault::Fault;
 use ion_meter::limits::Limits;
@@ -27,8 +28,7 @@ fn read_past_end(rt: &impl Abort, alloc: Global, limits: Limits, input: Pieces<'
     read_to(rt, alloc, limits, None, input, &mut once);
     let again = read(rt, alloc, limits, None, input);
     assert!(rt; again.is_same(&once));
-    assert_eq!(rt; again.left, once.left);
-    assert_eq!(rt; again.reads, once.reads);
+    same(rt, (again.left, again.reads), (once.left, once.reads));
     again
 }
 
@@ -42,23 +42,66 @@ fn an_ending_is_answered_from_then_on(rt: HostRuntime) {
     }
 }
 
+// Asserts that these pieces are cut by a read that fails, the last one.
+fn expect_failing_read(rt: &impl Abort, alloc: Global, input: Pieces<'_>, all: &Outcome) {
+    let cut = read_past_end(rt, alloc, LIMITS, input);
+    let is_cut = cut.is_cut_by(Fault::ReadFault, all);
+    let reads = input.sound.saturating_add(1);
+    same(
+        rt,
+        (input.sound, is_cut, cut.reads),
+        (input.sound, true, reads),
+    );
+}
+
+// Asserts that a stream that is read an octet a read is cut by each read that fails, and only by
+// these.
+fn expect_failing_reads(rt: &impl Abort, alloc: Global, octets: &[u8]) {
+    let input = in_pieces(octets, 1, 1);
+    let all = read_past_end(rt, alloc, LIMITS, input);
+    same(rt, all.ending, Ok(()));
+    for sound in 0..all.reads {
+        expect_failing_read(rt, alloc, Pieces { sound, ..input }, &all);
+    }
+    let late = Pieces {
+        sound: all.reads,
+        ..input
+    };
+    assert!(rt; read_past_end(rt, alloc, LIMITS, late).is_same(&all));
+}
+
 #[test]
 fn a_read_that_fails_is_no_end(rt: HostRuntime) {
     for digits in STREAMS {
         let octets = octets(&rt, rt.alloc(), b"", digits);
-        let input = in_pieces(octets.as_slice(), 1, 1);
-        let all = read_past_end(&rt, rt.alloc(), LIMITS, input);
-        assert_eq!(rt; all.ending, Ok(()));
-        for sound in 0..all.reads {
-            let cut = read_past_end(&rt, rt.alloc(), LIMITS, Pieces { sound, ..input });
-            assert!(rt; cut.is_cut_by(Fault::ReadFault, &all), "after {sound}");
-            assert_eq!(rt; cut.reads, sound.saturating_add(1));
+        expect_failing_reads(&rt, rt.alloc(), octets.as_slice());
+    }
+}
+
+// Asserts that these pieces are cut by this limit of the input, or read as the whole was.
+fn expect_limit(rt: &impl Abort, alloc: Global, input: Pieces<'_>, most: usize, all: &Outcome) {
+    let limits = Limits {
+        input: most as u64,
+        ..LIMITS
+    };
+    let cut = read_past_end(rt, alloc, limits, input);
+    let fits = if most < input.left.len() {
+        cut.is_cut_by(Fault::InputLimit, all)
+    } else {
+        cut.is_same(all)
+    };
+    same(rt, (most, input.left, fits), (most, input.left, true));
+}
+
+// Asserts what each limit of the input does to a stream, in pieces of each size.
+fn expect_limits(rt: &impl Abort, alloc: Global, octets: &[u8]) {
+    let length = octets.len();
+    let all = read(rt, alloc, LIMITS, None, whole(octets));
+    for size in 1..=length.max(1) {
+        let input = in_pieces(octets, size, size);
+        for most in 0..=length {
+            expect_limit(rt, alloc, input, most, &all);
         }
-        let late = Pieces {
-            sound: all.reads,
-            ..input
-        };
-        assert!(rt; read_past_end(&rt, rt.alloc(), LIMITS, late).is_same(&all));
     }
 }
 
@@ -66,23 +109,6 @@ fn a_read_that_fails_is_no_end(rt: HostRuntime) {
 fn the_input_has_a_limit(rt: HostRuntime) {
     for digits in STREAMS {
         let octets = octets(&rt, rt.alloc(), b"", digits);
-        let length = octets.len();
-        let all = read(&rt, rt.alloc(), LIMITS, None, whole(octets.as_slice()));
-        for size in 1..=length.max(1) {
-            for most in 0..=length {
-                let limits = Limits {
-                    input: most as u64,
-                    ..LIMITS
-                };
-                let input = in_pieces(octets.as_slice(), size, size);
-                let cut = read_past_end(&rt, rt.alloc(), limits, input);
-                let fits = if most < length {
-                    cut.is_cut_by(Fault::InputLimit, &all)
-                } else {
-                    cut.is_same(&all)
-                };
-                assert!(rt; fits, "{most} of {digits}");
-            }
-        }
+        expect_limits(&rt, rt.alloc(), octets.as_slice());
     }
 }

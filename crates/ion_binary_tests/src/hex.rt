@@ -10,13 +10,23 @@ pub const MARKER: &[u8] = b"\xE0\x01\x00\xEA";
 pub fn octets(rt: &impl Abort, alloc: Global, front: &[u8], text: &str) -> Vec<u8> {
     let mut octets = Vec::new(alloc);
     add(rt, &mut octets, front);
-    for digits in text.split_whitespace() {
-        let Ok(octet) = u8::from_str_radix(digits, 16) else {
-            panic!(rt; "no octet: {digits}")
-        };
-        add(rt, &mut octets, &[octet]);
-    }
+    add_digits(rt, &mut octets, text);
     octets
+}
+
+/// Adds the octets of a text.
+pub fn add_digits(rt: &impl Abort, octets: &mut Vec<u8>, text: &str) {
+    for digits in text.split_whitespace() {
+        add(rt, octets, &[octet_of(rt, digits)]);
+    }
+}
+
+// The octet of two digits.
+fn octet_of(rt: &impl Abort, digits: &str) -> u8 {
+    let Ok(octet) = u8::from_str_radix(digits, 16) else {
+        panic!(rt; "no octet: {digits}")
+    };
+    octet
 }
 
 /// Adds octets.

@@ -34,6 +34,8 @@ mod reading;
 #[cfg(test)]
 mod refusing;
 #[cfg(test)]
+mod same;
+#[cfg(test)]
 mod scalars;
 #[cfg(test)]
 mod streams;

@@ -2,15 +2,15 @@
 
 use crate::hex::{MARKER, add, octets};
 use crate::limits::LIMITS;
-use crate::pieces::{in_pieces, whole};
+use crate::pieces::{Pieces, in_pieces, whole};
 use crate::reading::{Outcome, read, read_to};
+use crate::same::same;
 use crate::tables::catalog_of;
 use ion_meter::limits::Limits;
 use ion_value::var::var_uint_write;
 use std::alloc::Global;
 use std::fmt::Write;
 use std::process::Abort;
-use std::test::Fail;
 
 const SIZES: [usize; 6] = [1, 1_000, 4_095, 4_096, 4_097, 100_000];
 
@@ -105,7 +105,7 @@ fn a_nop_pad_is_not_held(rt: HostRuntime) {
         let input = in_pieces(stream.as_slice(), size, size);
         let told = read(&rt, rt.alloc(), limits, None, input);
         told.expect(&rt, rt.alloc(), "", NOP_PAD.4);
-        assert!(rt; told.peak == 4_096);
+        same(&rt, told.peak, 4_096);
     }
 }
 
@@ -126,31 +126,82 @@ fn what_is_ignored_is_not_held(rt: HostRuntime) {
     assert!(rt; told.peak <= 4_096 + 16 * 4 + 3 * 64 + 2 * 1_024);
 }
 
-#[test]
-fn a_long_blob_is_read(rt: HostRuntime) -> Result<(), Fail> {
-    let mut stream = octets(&rt, rt.alloc(), MARKER, "AE 4E 90");
-    let mut words = String::new(rt.alloc());
-    words.push_str("0/0 marker; 4/4 blob")?;
-    for octet in (0..=250u8).cycle().take(10_000) {
-        add(&rt, &mut stream, &[octet]);
-        write!(words, " {octet:02X}")?;
+// Octets of a long blob.
+const BLOB: u32 = 10_000;
+
+// A blob of them, and true.
+fn blob_octets(rt: &impl Abort, alloc: Global) -> Vec<u8> {
+    let mut stream = octets(rt, alloc, MARKER, "AE 4E 90");
+    let mut octet = 0;
+    for _ in 0..BLOB {
+        add(rt, &mut stream, &[octet]);
+        octet = after(octet);
     }
-    add(&rt, &mut stream, &[0x11]);
-    words.push_str("; 10007/10007 true; end")?;
+    add(rt, &mut stream, &[0x11]);
+    stream
+}
+
+// The octet behind this one of a blob: they go from 0 to 250 and begin anew.
+fn after(octet: u8) -> u8 {
+    if octet < 250 { octet + 1 } else { 0 }
+}
+
+fn add_words(rt: &impl Abort, words: &mut String, more: &str) {
+    assert!(rt; words.push_str(more).is_ok());
+}
+
+fn add_octet(rt: &impl Abort, words: &mut String, octet: u8) {
+    assert!(rt; write!(words, " {octet:02X}").is_ok());
+}
+
+fn blob_words(rt: &impl Abort, alloc: Global) -> String {
+    let mut words = String::new(alloc);
+    add_words(rt, &mut words, "0/0 marker; 4/4 blob");
+    let mut octet = 0;
+    for _ in 0..BLOB {
+        add_octet(rt, &mut words, octet);
+        octet = after(octet);
+    }
+    add_words(rt, &mut words, "; 10007/10007 true; end");
+    words
+}
+
+#[test]
+fn a_long_blob_is_read(rt: HostRuntime) {
+    let stream = blob_octets(&rt, rt.alloc());
+    let words = blob_words(&rt, rt.alloc());
     expect_sizes(&rt, rt.alloc(), stream.as_slice(), words.as_str());
-    Ok(())
 }
 
 // 64 lists, each of which has the next and nothing else.
-#[test]
-fn an_open_container_counts_16(rt: HostRuntime) {
-    let mut stream = octets(&rt, rt.alloc(), MARKER, "");
+fn nested_lists(rt: &impl Abort, alloc: Global) -> Vec<u8> {
+    let mut stream = octets(rt, alloc, MARKER, "");
     let mut length = 192u8;
     for _ in 0..64u32 {
         length = length.saturating_sub(3);
         let header = [0xBE, u8::from(length >= 128), length | 0x80];
-        add(&rt, &mut stream, &header);
+        add(rt, &mut stream, &header);
     }
+    stream
+}
+
+// Asserts what is held of them at most under a limit of depth, and how they end, in pieces of a size.
+fn expect_peak(
+    rt: &impl Abort,
+    alloc: Global,
+    limits: Limits,
+    input: Pieces<'_>,
+    row: (u64, &str),
+) {
+    let (peak, ending) = row;
+    let told = read(rt, alloc, limits, None, input);
+    told.expect_end(rt, alloc, ending);
+    same(rt, (limits.depth, told.peak), (limits.depth, peak));
+}
+
+#[test]
+fn an_open_container_counts_16(rt: HostRuntime) {
+    let stream = nested_lists(&rt, rt.alloc());
     for (depth, peak, ending) in [
         (65, 5_120, "end"),
         (64, 5_120, "end"),
@@ -163,9 +214,7 @@ fn an_open_container_counts_16(rt: HostRuntime) {
         };
         for size in [1, 200] {
             let input = in_pieces(stream.as_slice(), size, size);
-            let told = read(&rt, rt.alloc(), limits, None, input);
-            told.expect_end(&rt, rt.alloc(), ending);
-            assert!(rt; told.peak == peak);
+            expect_peak(&rt, rt.alloc(), limits, input, (peak, ending));
         }
     }
 }
@@ -199,19 +248,21 @@ fn expect_late(rt: &impl Abort, alloc: Global, zeros: &[u8], stream: &[u8], word
     }
 }
 
-// A stream begins at each place of the first window's end.
+// Asserts that a stream is read to the same words at each place of the first window's end.
+fn expect_in_two_windows(rt: &impl Abort, alloc: Global, stream: &[u8]) {
+    assert!(rt; stream.len() <= 1_000);
+    let words = read(rt, alloc, LIMITS, None, whole(stream)).words(rt, alloc);
+    for before in 0..=stream.len() {
+        expect_late(rt, alloc, &ZEROS[before..], stream, words.as_str());
+    }
+}
+
 #[test]
-fn a_part_may_lie_in_two_windows(rt: HostRuntime) -> Result<(), Fail> {
+fn a_part_may_lie_in_two_windows(rt: HostRuntime) {
     for digits in DENSE {
         let stream = octets(&rt, rt.alloc(), b"", digits);
-        let stream = stream.as_slice();
-        let words = read(&rt, rt.alloc(), LIMITS, None, whole(stream)).words(rt.alloc())?;
-        for before in 0..=stream.len() {
-            assert!(rt; before <= 1_000);
-            expect_late(&rt, rt.alloc(), &ZEROS[before..], stream, words.as_str());
-        }
+        expect_in_two_windows(&rt, rt.alloc(), stream.as_slice());
     }
-    Ok(())
 }
 
 // Adds the declarations of the texts t000 to t999, each of which keeps those before it.

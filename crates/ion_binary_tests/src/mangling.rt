@@ -4,6 +4,7 @@ use crate::hex::{MARKER, octets};
 use crate::limits::LIMITS;
 use crate::pieces::whole;
 use crate::reading::{Outcome, read, read_each_way};
+use crate::same::same;
 use crate::streams;
 use crate::tables::RAW;
 use ion_meter::fault::{Fault, Reason};
@@ -15,64 +16,60 @@ use std::process::Abort;
 // at top level. Where such a value begins it ends well; else it is cut, or has the fault of the
 // stream.
 fn expect_prefix(rt: &impl Abort, prefix: &Outcome, length: u64, all: &Outcome) {
-    assert!(rt;
-        all.items.as_str().starts_with(prefix.items.as_str()),
-        "{length}"
-    );
+    let is_prefix = all.items.as_str().starts_with(prefix.items.as_str());
     let begins = all.tops.as_slice().contains(&length);
-    match prefix.ending {
+    let fits = match prefix.ending {
         Ok(()) => {
-            assert_eq!(rt; prefix.open, 0);
-            if let Some(top) = all.tops.as_slice().get(prefix.tops.len()) {
-                assert!(rt; *top >= length, "{length}");
+            same(rt, prefix.open, 0);
+            match all.tops.as_slice().get(prefix.tops.len()) {
+                Some(top) => *top >= length,
+                None => true,
             }
         }
-        Err(Fault::Refused(Reason::Truncated, place)) => {
-            assert!(rt; !begins && place <= length, "{length}");
-        }
-        fault => {
-            assert!(rt; !begins && fault == all.ending, "{length}");
-        }
+        Err(Fault::Refused(Reason::Truncated, place)) => !begins && place <= length,
+        fault => !begins && fault == all.ending,
+    };
+    same(rt, (length, is_prefix, fits), (length, true, true));
+}
+
+// Asserts what each prefix of these octets gives.
+fn expect_prefixes(rt: &impl Abort, alloc: Global, limits: Limits, octets: &[u8]) {
+    let all = read(rt, alloc, limits, None, whole(octets));
+    for length in 0..octets.len() {
+        let prefix = read_each_way(rt, alloc, limits, None, &octets[..length]);
+        expect_prefix(rt, &prefix, length as u64, &all);
     }
 }
 
 /// Reads each prefix of these octets, and them with one of them replaced, in whatever pieces they
 /// come.
-pub fn mangle(rt: &impl Abort, alloc: Global, limits: Limits, mut octets: Vec<u8>) {
-    let all = read(rt, alloc, limits, None, whole(octets.as_slice()));
-    for length in 0..octets.len() {
-        let prefix = read_each_way(rt, alloc, limits, None, &octets.as_slice()[..length]);
-        expect_prefix(rt, &prefix, length as u64, &all);
-    }
+pub fn mangle(rt: &impl Abort, alloc: Global, limits: Limits, octets: &mut [u8]) {
+    expect_prefixes(rt, alloc, limits, octets);
     for place in 0..octets.len() {
         let octet = octets[place];
         for other in [0x00, 0x7F, 0x80, 0xFF] {
             octets[place] = other;
-            let _read = read_each_way(rt, alloc, limits, None, octets.as_slice());
+            let _read = read_each_way(rt, alloc, limits, None, octets);
         }
         octets[place] = octet;
     }
+}
+
+// Mangles the octets of a row behind these.
+fn mangle_row(rt: &impl Abort, alloc: Global, front: &[u8], digits: &str) {
+    let mut octets = octets(rt, alloc, front, digits);
+    mangle(rt, alloc, LIMITS, octets.as_mut_slice());
 }
 
 #[test]
 fn mangled_streams_are_read(rt: HostRuntime) {
     for rows in RAW {
         for (digits, _) in rows {
-            mangle(
-                &rt,
-                rt.alloc(),
-                LIMITS,
-                octets(&rt, rt.alloc(), MARKER, digits),
-            );
+            mangle_row(&rt, rt.alloc(), MARKER, digits);
         }
     }
     for (digits, _) in streams::ROWS {
-        mangle(
-            &rt,
-            rt.alloc(),
-            LIMITS,
-            octets(&rt, rt.alloc(), b"", digits),
-        );
+        mangle_row(&rt, rt.alloc(), b"", digits);
     }
 }
 
@@ -89,21 +86,26 @@ fn expect_narrower(rt: &impl Abort, narrow: &Outcome, all: &Outcome) {
     }
 }
 
+// Asserts that small limits only cut the reading of these octets short.
+fn expect_cut_short(rt: &impl Abort, alloc: Global, octets: &[u8]) {
+    let all = read(rt, alloc, LIMITS, None, whole(octets));
+    for (depth, scalar) in DEPTHS_AND_SCALARS {
+        let limits = Limits {
+            depth,
+            scalar,
+            ..LIMITS
+        };
+        let narrow = read_each_way(rt, alloc, limits, None, octets);
+        expect_narrower(rt, &narrow, &all);
+    }
+}
+
 #[test]
 fn small_limits_only_cut_short(rt: HostRuntime) {
     for rows in RAW {
         for (digits, _) in rows {
             let octets = octets(&rt, rt.alloc(), MARKER, digits);
-            let all = read(&rt, rt.alloc(), LIMITS, None, whole(octets.as_slice()));
-            for (depth, scalar) in DEPTHS_AND_SCALARS {
-                let limits = Limits {
-                    depth,
-                    scalar,
-                    ..LIMITS
-                };
-                let narrow = read_each_way(&rt, rt.alloc(), limits, None, octets.as_slice());
-                expect_narrower(&rt, &narrow, &all);
-            }
+            expect_cut_short(&rt, rt.alloc(), octets.as_slice());
         }
     }
 }

@@ -6,6 +6,7 @@ use crate::hex::octets;
 use crate::limits::LIMITS;
 use crate::pieces::whole;
 use crate::reading::expect_little;
+use crate::same::same;
 use ion_binary::reader::BinReader;
 use ion_meter::meter::Meter;
 use ion_meter::source::Source;
@@ -18,7 +19,6 @@ use ion_value::item::Head;
 use ion_value::reader::RawReader;
 use std::alloc::Global;
 use std::process::Abort;
-use std::test::Fail;
 
 // Takes the next item, which begins a struct.
 fn begin_struct<R: RawReader<Global>>(rt: &impl Abort, meter: &mut Meter<Global>, raw: &mut R)
@@ -48,14 +48,14 @@ fn read_declaration<R: RawReader<Global>>(rt: &impl Abort, meter: &mut Meter<Glo
     begin_struct(rt, meter, raw);
     expect_little(rt, meter);
     let read = SymbolBuffer::read(meter, LIMITS, raw, &mut symbols);
-    assert_eq!(rt; read, Ok(true));
-    assert_eq!(rt; symbols.text(10), Slot::Known(b"a"));
-    assert_eq!(rt; symbols.text(11), Slot::Above);
+    same(rt, read, Ok(true));
+    let slots = (symbols.text(10), symbols.text(11));
+    same(rt, slots, (Slot::Known(b"a"), Slot::Above));
     symbols.release(meter);
 }
 
 #[test]
-fn a_declaration_is_read_by_itself(rt: HostRuntime) -> Result<(), Fail> {
+fn a_declaration_is_read_by_itself(rt: HostRuntime) {
     let octets = octets(&rt, rt.alloc(), b"", "E7 81 83 D4 87 B2 81 61");
     assert!(rt; LIMITS.check());
     let mut meter = Meter::new(rt.alloc());
@@ -66,6 +66,5 @@ fn a_declaration_is_read_by_itself(rt: HostRuntime) -> Result<(), Fail> {
     let mut raw = BinReader::new(&meter, LIMITS, source);
     read_declaration(&rt, &mut meter, &mut raw);
     let _device = raw.release(&mut meter);
-    assert_eq!(rt; meter.held(), 0);
-    Ok(())
+    same(&rt, meter.held(), 0);
 }

@@ -4,6 +4,7 @@ ghost use Rattle.ion_meter.specs.Limits.{AreChecked};
 ghost use Rattle.ion_symbols.specs.User.{IsReady, owned_by};
 
 use crate::pieces::{Pieces, in_pieces, whole};
+use crate::same::same;
 use crate::telling::tell_item;
 use ion_binary::reader::BinReader;
 use ion_meter::fault::Fault;
@@ -89,14 +90,13 @@ impl Outcome {
             self.ending = ending;
             self.held = held;
         }
-        assert_eq!(rt; self.ending, ending);
-        assert_eq!(rt; self.held, held);
+        same(rt, (self.ending, self.held), (ending, held));
         self.ends = self.ends.saturating_add(1);
         self.ends > self.again
     }
 
-    /// The words of the items and of the ending: "end", or a reason and a place.
-    pub fn words(&self, alloc: Global) -> Result<String, AllocError> {
+    // The words of the items and of the ending, where there is memory.
+    fn told(&self, alloc: Global) -> Result<String, AllocError> {
         let items = self.items.as_str();
         match self.ending {
             Ok(()) => format!(in alloc; "{items}end"),
@@ -109,22 +109,24 @@ impl Outcome {
         }
     }
 
-    /// Asserts the words, behind those before.
-    pub fn expect(&self, rt: &impl Abort, alloc: Global, before: &str, words: &str) {
-        let Ok(told) = self.words(alloc) else {
+    /// The words of the items and of the ending: "end", or a reason and a place.
+    pub fn words(&self, rt: &impl Abort, alloc: Global) -> String {
+        let Ok(words) = self.told(alloc) else {
             panic!(rt; "no memory")
         };
-        let told = told.as_str();
-        assert!(rt; told.strip_prefix(before) == Some(words), "{told}");
+        words
+    }
+
+    /// Asserts the words, behind those before.
+    pub fn expect(&self, rt: &impl Abort, alloc: Global, before: &str, words: &str) {
+        let told = self.words(rt, alloc);
+        same(rt, told.as_str().strip_prefix(before), Some(words));
     }
 
     /// Asserts the words at the end.
     pub fn expect_end(&self, rt: &impl Abort, alloc: Global, ending: &str) {
-        let Ok(told) = self.words(alloc) else {
-            panic!(rt; "no memory")
-        };
-        let told = told.as_str();
-        assert!(rt; told.ends_with(ending), "{told}");
+        let told = self.words(rt, alloc);
+        expect_that(rt, told.as_str(), told.as_str().ends_with(ending));
     }
 
     /// Whether this is a beginning of the other one, and ends by this fault.
@@ -136,6 +138,11 @@ impl Outcome {
     pub fn is_same(&self, other: &Outcome) -> bool {
         self.items.as_str() == other.items.as_str() && self.ending == other.ending
     }
+}
+
+// Asserts that this holds of these words.
+fn expect_that(rt: &impl Abort, words: &str, holds: bool) {
+    assert!(rt; holds, "{words}");
 }
 
 /// Asserts that little is counted.
@@ -251,11 +258,11 @@ pub fn read_to(
     let raw = read_by(rt, &mut meter, limits, catalog, raw, told);
     told.raw_held = meter.held();
     told.peak = meter.peak();
-    let symbols = catalog.map_or(0, |_| limits.symbols);
+    let symbols = if catalog.is_some() { limits.symbols } else { 0 };
     let most = 4096 + 16 * limits.depth as u64 + 3 * limits.scalar;
     assert!(rt; told.peak <= most.saturating_add(symbols.saturating_mul(2)));
     let device = raw.release(&mut meter).into_inner();
-    assert_eq!(rt; meter.held(), 0);
+    same(rt, meter.held(), 0);
     told.reads = device.reads;
     told.left = device.left.len();
 }
@@ -282,12 +289,25 @@ pub fn read_each_way(
     octets: &[u8],
 ) -> Outcome {
     let all = read(rt, alloc, limits, catalog, whole(octets));
-    let single = read(rt, alloc, limits, catalog, in_pieces(octets, 1, 1));
-    assert!(rt; single.is_same(&all), "one octet a read: {octets:?}");
+    expect_alike(rt, alloc, limits, catalog, in_pieces(octets, 1, 1), &all);
     for place in 1..octets.len() {
         let input = in_pieces(octets, place, octets.len());
-        let cut = read(rt, alloc, limits, catalog, input);
-        assert!(rt; cut.is_same(&all), "cut at {place}: {octets:?}");
+        expect_alike(rt, alloc, limits, catalog, input, &all);
     }
     all
+}
+
+// Asserts that these pieces give what others of the same octets gave.
+fn expect_alike(
+    rt: &impl Abort,
+    alloc: Global,
+    limits: Limits,
+    catalog: Option<&Catalog<Global>>,
+    input: Pieces<'_>,
+    all: &Outcome,
+) {
+    let told = read(rt, alloc, limits, catalog, input);
+    let is_same = told.is_same(all);
+    let pieces = (input.left, input.next, input.later);
+    same(rt, (pieces, is_same), (pieces, true));
 }

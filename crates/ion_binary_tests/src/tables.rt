@@ -1,10 +1,11 @@
 //! Rows of octets and of what is read of them.
+ghost use Rattle.std.specs.Prelude.{◌≤◌};
+ghost use Rattle.ion_symbols.specs.Table.{shared_cost};
 
 use crate::hex::{MARKER, octets};
 use crate::limits::LIMITS;
 use crate::reading::{expect_little, read_each_way};
 use crate::{containers, declarations, imports, scalars, streams, wrappers};
-use ion_meter::fault::Fault;
 use ion_meter::limits::Limits;
 use ion_meter::meter::Meter;
 use ion_symbols::catalog::Catalog;
@@ -72,39 +73,42 @@ const OTHERS: [&[Table]; 6] = [
     imports::TABLES,
 ];
 
-// Version 1 of the shared table x, and version 3 of it.
-fn first_version(alloc: Global) -> Result<SharedTable<Global>, Fault> {
-    let mut meter = Meter::new(alloc);
-    let mut table = SharedTable::new(&mut meter, "x", 1)?;
-    table.push(&mut meter, Some("p"))?;
-    table.push(&mut meter, Some("q"))?;
-    Ok(table)
+// The versions of the shared table x, and their texts.
+const VERSIONS: [(u32, &[&str]); 2] = [(1, &["p", "q"]), (3, &["r", "s", "t"])];
+
+// Adds a text.
+#[tactic(auto, using(ion_symbols::proofs::Keeping::cost_push))]
+fn push(rt: &impl Abort, meter: &mut Meter<Global>, table: &mut SharedTable<Global>, text: &str)
+    requires held { shared_cost table.old ≤ meter.old.held }
+    ensures held { shared_cost table.new ≤ meter.new.held }
+{
+    expect_little(rt, meter);
+    assert!(rt; text.len() < 100);
+    let pushed = table.push(meter, Some(text));
+    assert!(rt; pushed.is_ok());
 }
 
-fn third_version(alloc: Global) -> Result<SharedTable<Global>, Fault> {
+// This version of the shared table x.
+fn table_of(rt: &impl Abort, alloc: Global, version: u32, texts: &[&str]) -> SharedTable<Global> {
     let mut meter = Meter::new(alloc);
-    let mut table = SharedTable::new(&mut meter, "x", 3)?;
-    table.push(&mut meter, Some("r"))?;
-    table.push(&mut meter, Some("s"))?;
-    table.push(&mut meter, Some("t"))?;
-    Ok(table)
+    let Ok(mut table) = SharedTable::new(&mut meter, "x", version) else {
+        panic!(rt; "no memory")
+    };
+    for text in texts {
+        push(rt, &mut meter, &mut table, text);
+    }
+    table
 }
 
 /// A catalogue of so many versions of the shared table x.
 pub fn catalog_of(rt: &impl Abort, alloc: Global, versions: usize) -> Catalog<Global> {
     let mut meter = Meter::new(alloc);
     let mut catalog = Catalog::new(&meter);
-    for make in 0..versions {
-        let made = if make == 0 {
-            first_version(alloc)
-        } else {
-            third_version(alloc)
-        };
-        let Ok(table) = made else {
-            panic!(rt; "no memory")
-        };
+    for (version, texts) in VERSIONS.iter().take(versions) {
+        let table = table_of(rt, alloc, *version, texts);
         expect_little(rt, &meter);
-        assert!(rt; catalog.add(&mut meter, table).is_ok());
+        let added = catalog.add(&mut meter, table);
+        assert!(rt; added.is_ok());
     }
     catalog
 }

@@ -6,9 +6,12 @@ use crate::imports::{FOUND, NOT_FOUND};
 use crate::limits::LIMITS;
 use crate::pieces::{Pieces, in_pieces, whole};
 use crate::reading::{Outcome, read, read_each_way};
+use crate::same::same;
 use crate::tables::{Row, catalog_of};
 use ion_meter::fault::Fault;
 use ion_meter::limits::Limits;
+use ion_symbols::catalog::Catalog;
+use std::alloc::Global;
 use std::process::Abort;
 
 // Tables of rows, each with the number of shared tables that are there.
@@ -20,31 +23,52 @@ const TABLES: [(&[Row], usize); 5] = [
     (FOUND, 1),
 ];
 
-// A prefix of a stream gives a prefix of its items, and ends as the raw reader does unless it has the
-// fault of the whole.
+// Asserts that a prefix of a stream gives a prefix of its items, and ends as the raw reader does
+// unless it has the fault of the whole.
+fn expect_prefix(
+    rt: &impl Abort,
+    alloc: Global,
+    catalog: &Catalog<Global>,
+    octets: &[u8],
+    all: &Outcome,
+) {
+    let prefix = read(rt, alloc, LIMITS, Some(catalog), whole(octets));
+    let raw = read(rt, alloc, LIMITS, None, whole(octets));
+    let begins = all.items.as_str().starts_with(prefix.items.as_str());
+    let ends = prefix.ending == raw.ending || prefix.is_same(all);
+    same(rt, (octets, begins, ends), (octets, true, true));
+}
+
+fn expect_prefixes(rt: &impl Abort, alloc: Global, catalog: &Catalog<Global>, octets: &[u8]) {
+    let all = read(rt, alloc, LIMITS, Some(catalog), whole(octets));
+    for length in 0..octets.len() {
+        expect_prefix(rt, alloc, catalog, &octets[..length], &all);
+    }
+}
+
 #[test]
 fn a_prefix_of_a_stream_gives_a_prefix_of_its_items(rt: HostRuntime) {
     for (rows, versions) in TABLES {
         let catalog = catalog_of(&rt, rt.alloc(), versions);
         for (digits, _) in rows {
             let octets = octets(&rt, rt.alloc(), MARKER, digits);
-            let octets = octets.as_slice();
-            let all = read(&rt, rt.alloc(), LIMITS, Some(&catalog), whole(octets));
-            for length in 0..octets.len() {
-                let input = whole(&octets[..length]);
-                let prefix = read(&rt, rt.alloc(), LIMITS, Some(&catalog), input);
-                let raw = read(&rt, rt.alloc(), LIMITS, None, input);
-                assert!(rt;
-                    all.items.as_str().starts_with(prefix.items.as_str()),
-                    "{length}"
-                );
-                assert!(rt;
-                    prefix.ending == raw.ending || prefix.is_same(&all),
-                    "{length}"
-                );
-            }
+            expect_prefixes(&rt, rt.alloc(), &catalog, octets.as_slice());
         }
     }
+}
+
+// Asserts how a part of a stream ends, beside the raw reader, and whether that is well.
+fn expect_ending(
+    rt: &impl Abort,
+    alloc: Global,
+    catalog: &Catalog<Global>,
+    octets: &[u8],
+    is_well: bool,
+) {
+    let prefix = read_each_way(rt, alloc, LIMITS, Some(catalog), octets);
+    let raw = read(rt, alloc, LIMITS, None, whole(octets));
+    let given = (octets, prefix.ending, prefix.ending.is_ok());
+    same(rt, given, (octets, raw.ending, is_well));
 }
 
 // The raw reader's answer at each place of the stream is the only one that there is.
@@ -54,13 +78,25 @@ fn a_cut_stream_ends_as_the_raw_one_does(rt: HostRuntime) {
     let octets = octets(&rt, rt.alloc(), MARKER, APPENDED);
     let octets = octets.as_slice();
     for length in 0..octets.len() {
-        let octets = &octets[..length];
-        let prefix = read_each_way(&rt, rt.alloc(), LIMITS, Some(&catalog), octets);
-        let raw = read(&rt, rt.alloc(), LIMITS, None, whole(octets));
-        assert_eq!(rt; prefix.ending, raw.ending, "{length}");
         let between = [0, 4, 15, 26, 28].as_slice().contains(&length);
-        assert_eq!(rt; prefix.ending.is_ok(), between, "{length}");
+        expect_ending(&rt, rt.alloc(), &catalog, &octets[..length], between);
     }
+}
+
+// Asserts that this fault cuts the reading of these pieces.
+fn expect_cut(
+    rt: &impl Abort,
+    alloc: Global,
+    limits: Limits,
+    catalog: &Catalog<Global>,
+    input: Pieces<'_>,
+    fault: Fault,
+    all: &Outcome,
+) {
+    let cut = read(rt, alloc, limits, Some(catalog), input);
+    let is_cut = cut.is_cut_by(fault, all);
+    let row = (input.sound, limits.input, fault);
+    same(rt, (row, is_cut), (row, true));
 }
 
 #[test]
@@ -71,14 +107,28 @@ fn a_read_that_fails_ends_a_declaration(rt: HostRuntime) {
     let all = read(&rt, rt.alloc(), LIMITS, Some(&catalog), input);
     for sound in 0..30u32 {
         let failing = Pieces { sound, ..input };
-        let cut = read(&rt, rt.alloc(), LIMITS, Some(&catalog), failing);
-        assert!(rt; cut.is_cut_by(Fault::ReadFault, &all), "after {sound}");
+        expect_cut(
+            &rt,
+            rt.alloc(),
+            LIMITS,
+            &catalog,
+            failing,
+            Fault::ReadFault,
+            &all,
+        );
         let limits = Limits {
             input: sound as u64,
             ..LIMITS
         };
-        let cut = read(&rt, rt.alloc(), limits, Some(&catalog), input);
-        assert!(rt; cut.is_cut_by(Fault::InputLimit, &all), "{sound} octets");
+        expect_cut(
+            &rt,
+            rt.alloc(),
+            limits,
+            &catalog,
+            input,
+            Fault::InputLimit,
+            &all,
+        );
     }
 }
 

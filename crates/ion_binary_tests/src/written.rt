@@ -6,6 +6,7 @@ ghost use Rattle.ion_value.specs.Standing.{open_after, open_behind, is_marker, F
 ghost use Rattle.ion_value.specs.Value.{PlacedItem};
 
 use crate::reading::expect_little;
+use crate::same::same;
 use ion_binary::writer::BinWriter;
 use ion_meter::device::Output;
 use ion_meter::fault::Fault;
@@ -154,7 +155,7 @@ fn put_one<W: ValueWriter<O, Global>, O: Output, N: Names>(
     assert!(rt; may_stand(depth, kinds.as_slice(), item));
     if let Err(fault) = writer.item(meter, sink, item) {
         expect_little(rt, meter);
-        assert_eq!(rt; writer.item(meter, sink, item), Err(fault));
+        same(rt, writer.item(meter, sink, item), Err(fault));
         return Err(fault);
     }
     let head = item.head();
@@ -223,12 +224,16 @@ pub fn put<D: Write + Drop>(
     let mut writer = BinWriter::new(&meter, limits);
     let depth = limits.depth;
     let answer = put_all(rt, alloc, &mut meter, &mut sink, &mut writer, depth, steps);
-    assert_eq!(rt; answer, want);
-    assert_eq!(rt; sink.flush().is_ok(), want != Err(Fault::WriteFault));
+    let flushed = sink.flush().is_ok();
+    same(
+        rt,
+        (answer, flushed),
+        (want, want != Err(Fault::WriteFault)),
+    );
     writer.release(&mut meter);
     let most = 4096 + 16 * limits.depth as u64 + limits.value + limits.symbols;
     assert!(rt; meter.peak() <= most);
     let device = sink.release(&mut meter).into_inner();
-    assert_eq!(rt; meter.held(), 0);
+    same(rt, meter.held(), 0);
     device
 }

@@ -1,14 +1,16 @@
 //! Binary streams that are read and written again.
 ghost use Rattle.std.specs.Prelude.{◌≡◌, ◌+◌, ◌≤◌, List, [], None, Ok, true};
+ghost use Rattle.ion_meter.specs.Sources.{Stands};
 ghost use Rattle.ion_symbols.specs.User.{IsReady, owned_by, raw_of};
 ghost use Rattle.ion_value.specs.Standing.{open_behind};
 ghost use Rattle.ion_value.specs.Value.{PlacedItem};
 
-use crate::hex::{MARKER, add, octets};
+use crate::hex::{MARKER, add, add_digits, octets};
 use crate::limits::LIMITS;
 use crate::pieces::{Pieces, in_pieces, whole};
 use crate::reading::{MANY, Outcome, expect_little};
 use crate::refusing::Refusing;
+use crate::same::same;
 use crate::tables::{Row, catalog_of};
 use crate::written_rows::{DRAWN, SPELLINGS, SYMBOLS, TIMESTAMPS, UNKNOWN};
 use ion_binary::reader::BinReader;
@@ -55,7 +57,7 @@ fn copy_one<R: RawReader<A>, W: ValueWriter<O, A>, O: Output, A: Allocator + Cop
         Ok(true) => {}
         ending => {
             expect_little(rt, meter);
-            assert_eq!(rt; reader.next(meter), ending);
+            same(rt, reader.next(meter), ending);
             return ending;
         }
     }
@@ -63,7 +65,7 @@ fn copy_one<R: RawReader<A>, W: ValueWriter<O, A>, O: Output, A: Allocator + Cop
     let item = reader.item();
     if let Err(fault) = writer.item(meter, sink, &item) {
         expect_little(rt, meter);
-        assert_eq!(rt; writer.item(meter, sink, &item), Err(fault));
+        same(rt, writer.item(meter, sink, &item), Err(fault));
         return Err(fault);
     }
     told.add(rt, &item);
@@ -124,44 +126,92 @@ fn copy_stream<R: RawReader<A>, W: ValueWriter<O, A>, O: Output, A: Allocator + 
     let mut reader = UserReader::new(meter, LIMITS, raw, catalog);
     let answer = copy_all(rt, meter, &mut reader, writer, sink, told);
     let flushed = sink.flush();
-    assert_eq!(rt; sink.flush(), flushed);
+    same(rt, sink.flush(), flushed);
     told.ending = answer.and(flushed);
     reader.release(meter)
 }
 
-/// Writes what is read of one device to another, which is handed out. The answer has the items that
-/// were put, without their places. All memory has to be given back.
+/// Writes what is read of a source to a sink, whose device is handed out. All memory has to be given
+/// back.
+fn write_between<P: Read + Drop, Q: Write + Drop, A: Allocator + Copy>(
+    rt: &impl Abort,
+    meter: &mut Meter<A>,
+    catalog: &Catalog<A>,
+    source: Source<FromRead<P>, A>,
+    mut sink: Sink<ToWrite<Q>, A>,
+    told: &mut Outcome,
+) -> Q
+    requires stands { Stands source }
+    requires held { 8192 ≤ meter.old.held }
+{
+    assert!(rt; LIMITS.check());
+    let raw = BinReader::new(meter, LIMITS, source);
+    let mut writer = BinWriter::new(meter, LIMITS);
+    let raw = copy_stream(rt, meter, catalog, raw, &mut writer, &mut sink, told);
+    writer.release(meter);
+    let _input = raw.release(meter);
+    let output = sink.release(meter).into_inner();
+    same(rt, meter.held(), 0);
+    output
+}
+
+/// Writes what is read of a source to a device, which is handed out.
+fn write_source<P: Read + Drop, Q: Write + Drop, A: Allocator + Copy>(
+    rt: &impl Abort,
+    meter: &mut Meter<A>,
+    catalog: &Catalog<A>,
+    source: Source<FromRead<P>, A>,
+    output: Q,
+    told: &mut Outcome,
+) -> Q
+    requires stands { Stands source }
+    requires held { 4096 ≤ meter.old.held }
+{
+    expect_little(rt, meter);
+    match Sink::new(meter, ToWrite::new(output)) {
+        Ok(sink) => write_between(rt, meter, catalog, source, sink, told),
+        Err(device) => {
+            let _input = source.release(meter);
+            same(rt, meter.held(), 0);
+            device.into_inner()
+        }
+    }
+}
+
+/// Writes what is read of one device to another, which is handed out. The items that were put are
+/// told, without their places.
 fn write_again<P: Read + Drop, Q: Write + Drop, A: Allocator + Copy>(
     rt: &impl Abort,
-    alloc: Global,
     meter: &mut Meter<A>,
     catalog: &Catalog<A>,
     input: P,
     output: Q,
-) -> (Outcome, Q) {
+    told: &mut Outcome,
+) -> Q {
     assert!(rt; LIMITS.check());
     expect_little(rt, meter);
-    let mut told = Outcome::new(alloc, u64::MAX, 0);
     told.ending = Err(Fault::Memory);
-    let Ok(source) = Source::new(meter, LIMITS, FromRead::new(input)) else {
-        return (told, output);
-    };
-    let mut sink = match Sink::new(meter, ToWrite::new(output)) {
-        Ok(sink) => sink,
-        Err(device) => {
-            let _input = source.release(meter);
-            assert_eq!(rt; meter.held(), 0);
-            return (told, device.into_inner());
-        }
-    };
-    let raw = BinReader::new(meter, LIMITS, source);
-    let mut writer = BinWriter::new(meter, LIMITS);
-    let raw = copy_stream(rt, meter, catalog, raw, &mut writer, &mut sink, &mut told);
-    writer.release(meter);
-    let _input = raw.release(meter);
-    let output = sink.release(meter).into_inner();
-    assert_eq!(rt; meter.held(), 0);
-    (told, output)
+    match Source::new(meter, LIMITS, FromRead::new(input)) {
+        Ok(source) => write_source(rt, meter, catalog, source, output, told),
+        Err(_) => output,
+    }
+}
+
+/// Nothing that was put yet.
+fn nothing_told(alloc: Global) -> Outcome {
+    Outcome::new(alloc, u64::MAX, 0)
+}
+
+/// What is written of these pieces, where there are these shared tables.
+fn written_of(
+    rt: &impl Abort,
+    alloc: Global,
+    catalog: &Catalog<Global>,
+    input: Pieces<'_>,
+    told: &mut Outcome,
+) -> Vec<u8> {
+    let mut meter = Meter::new(alloc);
+    write_again(rt, &mut meter, catalog, input, Vec::new(alloc), told)
 }
 
 /// Asserts what a stream is written as, where there are so many shared tables. The answer has its
@@ -176,12 +226,22 @@ fn expect_written(
     let input = octets(rt, alloc, MARKER, input);
     let want = octets(rt, alloc, MARKER, want);
     let catalog = catalog_of(rt, alloc, versions);
-    let mut meter = Meter::new(alloc);
-    let input = whole(input.as_slice());
-    let (told, written) = write_again(rt, alloc, &mut meter, &catalog, input, Vec::new(alloc));
-    assert_eq!(rt; told.ending, Ok(()));
-    assert_eq!(rt; written.as_slice(), want.as_slice());
+    let mut told = nothing_told(alloc);
+    let written = written_of(rt, alloc, &catalog, whole(input.as_slice()), &mut told);
+    let given = (told.ending, written.as_slice());
+    same(rt, given, (Ok(()), want.as_slice()));
     told
+}
+
+/// Asserts what a row is written as, and that this is written as it is and has the same items, where
+/// they are known, and else as many.
+fn expect_row(rt: &impl Abort, alloc: Global, row: Row, known: bool) {
+    let (input, want) = row;
+    let told = expect_written(rt, alloc, 1, input, want);
+    let again = expect_written(rt, alloc, 0, want, want);
+    same(rt, (input, again.tops.len()), (input, told.tops.len()));
+    let fits = !known || again.is_same(&told);
+    same(rt, (input, fits), (input, true));
 }
 
 // What is written of a row is written as it is, and has the same items; where there are symbols of
@@ -195,11 +255,8 @@ fn streams_are_written_again(rt: HostRuntime) {
         (DRAWN, true),
         (UNKNOWN, false),
     ] {
-        for (input, want) in rows {
-            let told = expect_written(&rt, rt.alloc(), 1, input, want);
-            let again = expect_written(&rt, rt.alloc(), 0, want, want);
-            assert!(rt; again.tops.len() == told.tops.len());
-            assert!(rt; !known || again.is_same(&told), "other items: {input}");
+        for row in rows {
+            expect_row(&rt, rt.alloc(), *row, known);
         }
     }
 }
@@ -239,19 +296,43 @@ const ITEMS: usize = 14;
 fn expect_failing(rt: &impl Abort, alloc: Global, octets: &[u8], room: usize, items: usize) {
     let mut meter = Meter::new(alloc);
     let catalog = Catalog::new(&meter);
-    let input = whole(octets);
-    let taken = Vec::new(alloc);
-    let device = FailingOnce { taken, room };
-    let (told, device) = write_again(rt, alloc, &mut meter, &catalog, input, device);
+    let mut told = nothing_told(alloc);
+    let device = FailingOnce {
+        taken: Vec::new(alloc),
+        room,
+    };
+    let device = write_again(rt, &mut meter, &catalog, whole(octets), device, &mut told);
     let want = if room < octets.len() {
         Err(Fault::WriteFault)
     } else {
         Ok(())
     };
-    assert_eq!(rt; told.ending, want, "behind {room}");
-    assert_eq!(rt; told.tops.len(), items, "behind {room}");
-    assert_eq!(rt; device.taken.len(), room);
+    let given = (room, told.ending, told.tops.len(), device.taken.len());
+    same(rt, given, (room, want, items, room));
     assert!(rt; octets.starts_with(device.taken.as_slice()));
+}
+
+/// Rooms of a device, each with how many of three long strings were put.
+const ROOMS: [(usize, usize); 9] = [
+    (0, 1),
+    (1, 1),
+    (4_095, 1),
+    (4_096, 2),
+    (4_097, 2),
+    (8_191, 2),
+    (8_192, 3),
+    (9_012, 3),
+    (9_013, 3),
+];
+
+/// Three strings of 3,000 letters: what was put is written each time that it is 4,096 bytes.
+fn long_strings(rt: &impl Abort, alloc: Global) -> Vec<u8> {
+    let mut long = octets(rt, alloc, MARKER, "");
+    for _ in 0..3u32 {
+        add(rt, &mut long, b"\x8E\x17\xB8");
+        add(rt, &mut long, &[b'a'; 3_000]);
+    }
+    long
 }
 
 #[test]
@@ -260,24 +341,19 @@ fn a_device_that_fails_has_the_bytes_before(rt: HostRuntime) {
     for room in 0..=short.len() {
         expect_failing(&rt, rt.alloc(), short.as_slice(), room, ITEMS);
     }
-    // Three strings of 3,000 letters: what was put is written each time that it is 4,096 bytes.
-    let mut long = octets(&rt, rt.alloc(), MARKER, "");
-    for _ in 0..3u32 {
-        add(&rt, &mut long, b"\x8E\x17\xB8");
-        add(&rt, &mut long, &[b'a'; 3_000]);
-    }
-    for (room, items) in [
-        (0, 1),
-        (1, 1),
-        (4_095, 1),
-        (4_096, 2),
-        (4_097, 2),
-        (8_191, 2),
-        (8_192, 3),
-        (9_012, 3),
-        (9_013, 3),
-    ] {
+    let long = long_strings(&rt, rt.alloc());
+    for (room, items) in ROOMS {
         expect_failing(&rt, rt.alloc(), long.as_slice(), room, items);
+    }
+}
+
+/// Asserts how a run ends that has met a refusal, or has not, and what is written.
+fn expect_refused(rt: &impl Abort, told: &Outcome, octets: &[u8], output: &[u8], is_met: bool) {
+    assert!(rt; octets.starts_with(output));
+    if is_met {
+        same(rt, told.ending, Err(Fault::Memory));
+    } else {
+        same(rt, (told.ending, output.len()), (Ok(()), octets.len()));
     }
 }
 
@@ -286,31 +362,31 @@ fn is_refused(rt: &impl Abort, alloc: Global, octets: &[u8], nth: u64) -> bool {
     let refusing = Refusing::new(alloc, nth);
     let mut meter = Meter::new(&refusing);
     let catalog = Catalog::new(&meter);
+    let mut told = nothing_told(alloc);
     let output = Vec::new(alloc);
-    let (told, output) = write_again(rt, alloc, &mut meter, &catalog, whole(octets), output);
-    assert!(rt; octets.starts_with(output.as_slice()));
+    let output = write_again(rt, &mut meter, &catalog, whole(octets), output, &mut told);
     let is_met = refusing.has_refused();
-    assert!(rt; meter.refused() == u64::from(is_met));
-    if is_met {
-        assert_eq!(rt; told.ending, Err(Fault::Memory), "growth {nth}");
-    } else {
-        assert_eq!(rt; told.ending, Ok(()));
-        assert!(rt; output.len() == octets.len());
-    }
+    same(rt, (nth, meter.refused()), (nth, u64::from(is_met)));
+    expect_refused(rt, &told, octets, output.as_slice(), is_met);
     is_met
+}
+
+/// The first number of an allocation that no run over these octets makes. Each one before it is
+/// refused alone.
+fn first_unmet(rt: &impl Abort, alloc: Global, octets: &[u8]) -> u64 {
+    for nth in 1..1_000 {
+        if !is_refused(rt, alloc, octets, nth) {
+            return nth;
+        }
+    }
+    panic!(rt; "each run met a refusal")
 }
 
 // The first growth is refused, then the second alone, and so on until none is.
 #[test]
 fn each_growth_refused(rt: HostRuntime) {
     let octets = octets(&rt, rt.alloc(), MARKER, PLAIN);
-    for nth in 1..1_000 {
-        if !is_refused(&rt, rt.alloc(), octets.as_slice(), nth) {
-            assert!(rt; nth == 19);
-            return;
-        }
-    }
-    panic!(rt; "each run met a refusal")
+    same(&rt, first_unmet(&rt, rt.alloc(), octets.as_slice()), 19);
 }
 
 /// The parts of a stream, and what is written when each was read.
@@ -332,10 +408,10 @@ const PARTS: &[Row] = &[
 
 /// How a stream ends, of which this has to be written.
 fn ending_of(rt: &impl Abort, alloc: Global, input: Pieces<'_>, want: &[u8]) -> Result<(), Fault> {
-    let mut meter = Meter::new(alloc);
-    let catalog = Catalog::new(&meter);
-    let (told, written) = write_again(rt, alloc, &mut meter, &catalog, input, Vec::new(alloc));
-    assert_eq!(rt; written.as_slice(), want);
+    let catalog = catalog_of(rt, alloc, 0);
+    let mut told = nothing_told(alloc);
+    let written = written_of(rt, alloc, &catalog, input, &mut told);
+    same(rt, written.as_slice(), want);
     told.ending
 }
 
@@ -348,13 +424,13 @@ fn expect_broken(rt: &impl Abort, alloc: Global, input: &[u8], before: usize, wa
             ..in_pieces(input, 1, 1)
         };
         let ending = ending_of(rt, alloc, failing, want);
-        assert!(rt; ending == Err(Fault::ReadFault), "after {place}");
+        same(rt, (place, ending), (place, Err(Fault::ReadFault)));
         let fits = match ending_of(rt, alloc, whole(&input[..place]), want) {
             Ok(()) => place == before,
             Err(Fault::Refused(Reason::Truncated, _)) => place > before,
             Err(_) => false,
         };
-        assert!(rt; fits, "cut at {place}");
+        same(rt, (place, fits), (place, true));
     }
 }
 
@@ -364,10 +440,10 @@ fn a_stream_that_breaks_off_has_its_whole_values(rt: HostRuntime) {
     let mut want = octets(&rt, rt.alloc(), MARKER, "");
     for (digits, written) in PARTS {
         let before = input.len();
-        input = octets(&rt, rt.alloc(), input.as_slice(), digits);
+        add_digits(&rt, &mut input, digits);
         expect_broken(&rt, rt.alloc(), input.as_slice(), before, want.as_slice());
-        want = octets(&rt, rt.alloc(), want.as_slice(), written);
+        add_digits(&rt, &mut want, written);
     }
     let ending = ending_of(&rt, rt.alloc(), whole(input.as_slice()), want.as_slice());
-    assert_eq!(rt; ending, Ok(()));
+    same(&rt, ending, Ok(()));
 }

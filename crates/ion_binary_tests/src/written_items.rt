@@ -1,7 +1,8 @@
 //! Items, and the octets that they are written as.
 
-use crate::hex::{MARKER, octets};
+use crate::hex::{MARKER, add, octets};
 use crate::limits::LIMITS;
+use crate::same::same;
 use crate::tables::SYMBOLS;
 use crate::written::{Part, Step, put};
 use crate::written_again::FailingOnce;
@@ -11,7 +12,6 @@ use ion_value::ion_type::{IonType, Kind};
 use ion_value::item::Annotation;
 use std::alloc::Global;
 use std::process::Abort;
-use std::test::Fail;
 
 /// The greatest length of a value where nothing else is said.
 const VALUE: u64 = 16_777_216;
@@ -596,7 +596,7 @@ fn expect_row(rt: &impl Abort, alloc: Global, row: &Row) {
     };
     let written = put(rt, alloc, limits, steps, want, Vec::new(alloc));
     let text = octets(rt, alloc, b"", text);
-    assert_eq!(rt; written.as_slice(), text.as_slice());
+    same(rt, written.as_slice(), text.as_slice());
 }
 
 #[test]
@@ -608,64 +608,61 @@ fn items_are_written(rt: HostRuntime) {
     }
 }
 
+// What is written of a text that is longer than a window.
+const LONG_TEXT: [Step<'static>; 1] = [(None, &[], Part::Symbol(&LONG))];
+
+fn expect_long_text(rt: &impl Abort, alloc: Global) {
+    let written = put(rt, alloc, LIMITS, &LONG_TEXT, Ok(()), Vec::new(alloc));
+    let front = "EE 27 97 81 83 DE 27 92 86 71 03 87 BE 27 8B 8E 27 88";
+    let mut want = octets(rt, alloc, MARKER, front);
+    add(rt, &mut want, &LONG);
+    add(rt, &mut want, b"\x71\x0A");
+    same(rt, written.as_slice(), want.as_slice());
+}
+
 // A text that is longer than a window, and a device that fails.
 #[test]
-fn a_long_text_is_declared(rt: HostRuntime) -> Result<(), Fail> {
-    let steps: [Step<'_>; 1] = [(None, &[], Part::Symbol(&LONG))];
-    let written = put(
-        &rt,
-        rt.alloc(),
-        LIMITS,
-        &steps,
-        Ok(()),
-        Vec::new(rt.alloc()),
-    );
-    let front = "EE 27 97 81 83 DE 27 92 86 71 03 87 BE 27 8B 8E 27 88";
-    let mut want = octets(&rt, rt.alloc(), MARKER, front);
-    want.extend_from_slice(&LONG)?;
-    want.extend_from_slice(b"\x71\x0A")?;
-    assert_eq!(rt; written.as_slice(), want.as_slice());
+fn a_long_text_is_declared(rt: HostRuntime) {
+    expect_long_text(&rt, rt.alloc());
     let device = FailingOnce {
         taken: Vec::new(rt.alloc()),
         room: 0,
     };
-    let device = put(
-        &rt,
-        rt.alloc(),
-        LIMITS,
-        &steps,
-        Err(Fault::WriteFault),
-        device,
-    );
+    let fault = Err(Fault::WriteFault);
+    let device = put(&rt, rt.alloc(), LIMITS, &LONG_TEXT, fault, device);
     assert!(rt; device.taken.is_empty());
-    Ok(())
+}
+
+// Adds items.
+fn add_steps(rt: &impl Abort, steps: &mut Vec<Step<'static>>, more: &[Step<'static>]) {
+    assert!(rt; steps.extend_from_slice(more).is_ok());
 }
 
 // Texts of the ids from 10 to 256.
 #[test]
-fn an_id_may_have_two_octets(rt: HostRuntime) -> Result<(), Fail> {
+fn an_id_may_have_two_octets(rt: HostRuntime) {
     let mut steps = Vec::new(rt.alloc());
-    steps.push(LIST)?;
+    add_steps(&rt, &mut steps, &[LIST]);
     for length in 0..247usize {
-        steps.push((None, [].as_slice(), Part::Symbol(&LONG[..length])))?;
+        add_steps(
+            &rt,
+            &mut steps,
+            &[(None, &[], Part::Symbol(&LONG[..length]))],
+        );
     }
-    steps.push(END)?;
+    add_steps(&rt, &mut steps, &[END]);
     let device = Vec::new(rt.alloc());
     let written = put(&rt, rt.alloc(), LIMITS, steps.as_slice(), Ok(()), device);
-    assert!(rt;
-        written
-            .as_slice()
-            .ends_with(b"\x71\xFE\x71\xFF\x72\x01\x00")
-    );
-    Ok(())
+    let last = b"\x71\xFE\x71\xFF\x72\x01\x00";
+    assert!(rt; written.as_slice().ends_with(last));
 }
 
 #[test]
-fn a_long_value_is_held_once(rt: HostRuntime) -> Result<(), Fail> {
+fn a_long_value_is_held_once(rt: HostRuntime) {
     let mut steps = Vec::new(rt.alloc());
-    steps.extend_from_slice(&[LIST; 20])?;
-    steps.extend_from_slice(&[LETTERS; 1_400])?;
-    steps.extend_from_slice(&[END; 20])?;
+    add_steps(&rt, &mut steps, &[LIST; 20]);
+    add_steps(&rt, &mut steps, &[LETTERS; 1_400]);
+    add_steps(&rt, &mut steps, &[END; 20]);
     let limits = Limits {
         depth: 32,
         scalar: 64,
@@ -675,14 +672,13 @@ fn a_long_value_is_held_once(rt: HostRuntime) -> Result<(), Fail> {
     };
     let device = Vec::new(rt.alloc());
     let written = put(&rt, rt.alloc(), limits, steps.as_slice(), Ok(()), device);
-    assert_eq!(rt; written.len(), 92_484);
-    Ok(())
+    same(&rt, written.len(), 92_484);
 }
 
 const OVER: Result<(), Fault> = Err(Fault::Refused(Reason::ValueLimit, 0));
 
 #[test]
-fn many_open_containers_are_counted_on(rt: HostRuntime) -> Result<(), Fail> {
+fn many_open_containers_are_counted_on(rt: HostRuntime) {
     // The length of so many lists, each in the one before, and less.
     for (value, want) in [(26_425, Ok(())), (26_424, OVER)] {
         let limits = Limits {
@@ -692,7 +688,6 @@ fn many_open_containers_are_counted_on(rt: HostRuntime) -> Result<(), Fail> {
         };
         let device = Vec::new(rt.alloc());
         let written = put(&rt, rt.alloc(), limits, &[LIST; 8_000], want, device);
-        assert_eq!(rt; written.len(), 4);
+        same(&rt, (value, written.len()), (value, 4));
     }
-    Ok(())
 }

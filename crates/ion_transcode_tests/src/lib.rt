@@ -18,4 +18,6 @@ mod refusing;
 #[cfg(test)]
 mod runs;
 #[cfg(test)]
+mod same;
+#[cfg(test)]
 mod to_binary;

@@ -4,32 +4,20 @@ use super::devices::Giving;
 use super::hex::behind_marker;
 use super::refusing::Refusing;
 use super::runs::LIMITS;
-use super::same::same;
 use ion_meter::fault::{Fault, Reason};
 use ion_meter::limits::Limits;
 use ion_meter::meter::Meter;
 use ion_meter::stream::FromRead;
-use ion_symbols::catalog::Catalog;
 use ion_transcode::load::load_catalog;
 use ion_transcode::run::bound;
 use ion_transcode::to::{Form, To};
 use std::alloc::Global;
 use std::io::Read;
 use std::process::Abort;
+use std::test::Fail;
 
 /// What a catalogue of one table x, version 1, with the texts p and q costs.
 const COST: u64 = 67;
-
-/// Asserts that a catalogue has the one table and no other.
-fn expect_table(rt: &impl Abort, catalog: &Catalog<Global>) {
-    same(rt, catalog.len(), 1);
-    let Some(table) = catalog.find("x", 1) else {
-        panic!(rt; "the table is not there")
-    };
-    same(rt, table.len(), 2);
-    let texts = (table.get(0), table.get(1));
-    same(rt, texts, (Some(b"p".as_slice()), Some(b"q".as_slice())));
-}
 
 /// Loads a catalogue: the fault, or none where it has that one table and no other. What it costs is
 /// held, after a fault nothing, and at no moment more than the bound.
@@ -43,24 +31,35 @@ fn fault_of<R: Read + Drop>(
     let mut meter = Meter::new(alloc);
     let (outcome, _input) = load_catalog(&mut meter, limits, FromRead::new(reader));
     assert!(rt; meter.peak() <= bound(limits, Form::Text, To::Nothing) + limits.symbols);
-    let fault = match outcome {
+    match outcome {
         Ok(catalog) => {
-            same(rt, meter.held(), COST);
-            expect_table(rt, &catalog);
+            assert_eq!(rt; meter.held(), COST);
+            assert_eq!(rt; catalog.len(), 1);
+            match catalog.find("x", 1) {
+                None => panic!(rt; "the table is not there"),
+                Some(table) => {
+                    assert_eq!(rt; table.len(), 2);
+                    assert_eq!(rt; table.get(0), Some(b"p".as_slice()));
+                    assert_eq!(rt; table.get(1), Some(b"q".as_slice()));
+                }
+            }
             catalog.release(&mut meter);
+            assert_eq!(rt; meter.held(), 0);
             None
         }
-        Err(fault) => Some(fault),
-    };
-    same(rt, meter.held(), 0);
-    fault
+        Err(fault) => {
+            assert_eq!(rt; meter.held(), 0);
+            Some(fault)
+        }
+    }
 }
 
 /// Asserts the fault of a catalogue, or that it has the one table, in one piece or a byte a read.
 fn expect(rt: &impl Abort, alloc: Global, limits: Limits, octets: &[u8], want: Option<Fault>) {
     let whole = fault_of(rt, alloc, limits, octets);
+    assert_eq!(rt; whole, want, "{octets:?}");
     let pieces = fault_of(rt, alloc, limits, Giving::all(octets, 1));
-    same(rt, (octets, whole, pieces), (octets, want, want));
+    assert_eq!(rt; pieces, want, "a byte a read: {octets:?}");
 }
 
 /// A refusal.
@@ -73,45 +72,44 @@ const NAME_FIRST: &str = "$ion_shared_symbol_table::{name:\"x\",version:1,symbol
 
 const NAME_LAST: &str = "$ion_shared_symbol_table::{symbols:[\"p\",\"q\"],version:1,name:\"x\"}";
 
-/// Texts that have the one table.
-const ONE_TABLE: [&str; 5] = [
-    NAME_FIRST,
-    NAME_LAST,
-    "'$ion_shared_symbol_table'::b::{max_id:5,symbols:[a::\"p\",\"q\"],name:c::\"x\"}",
-    "$9::{version:-3,a:[{name:1}],symbols:[\"p\",\"q\"],name:'''x'''} // all",
-    "$ion_symbol_table::{symbols:[\"name\"]} $9::{$10:\"x\",version:[2],symbols:[\"p\",\"q\"]}",
-];
-
 #[test]
-fn one_table(rt: HostRuntime) {
-    for text in ONE_TABLE {
-        expect(&rt, rt.alloc(), LIMITS, text.as_bytes(), None);
+fn one_table(rt: HostRuntime) -> Result<(), Fail> {
+    let alloc = rt.alloc();
+    for text in [
+        NAME_FIRST,
+        NAME_LAST,
+        "'$ion_shared_symbol_table'::b::{max_id:5,symbols:[a::\"p\",\"q\"],name:c::\"x\"}",
+        "$9::{version:-3,a:[{name:1}],symbols:[\"p\",\"q\"],name:'''x'''} // all",
+        "$ion_symbol_table::{symbols:[\"name\"]} $9::{$10:\"x\",version:[2],symbols:[\"p\",\"q\"]}",
+    ] {
+        expect(&rt, alloc, LIMITS, text.as_bytes(), None);
     }
-    let digits = "EE 8F 81 89 DC 84 81 78 85 21 01 87 B4 81 70 81 71";
-    let octets = behind_marker(&rt, rt.alloc(), digits);
-    expect(&rt, rt.alloc(), LIMITS, octets.as_slice(), None);
-}
-
-/// Asserts that these octets have no tables.
-fn expect_none(rt: &impl Abort, alloc: Global, octets: &[u8]) {
-    let mut meter = Meter::new(alloc);
-    let (outcome, _input) = load_catalog(&mut meter, LIMITS, FromRead::new(octets));
-    match outcome {
-        Ok(catalog) => assert!(rt; catalog.is_empty()),
-        Err(_) => panic!(rt; "no catalogue"),
-    }
-    same(rt, (octets, meter.held()), (octets, 0));
+    let octets = behind_marker(
+        &rt,
+        alloc,
+        "EE 8F 81 89 DC 84 81 78 85 21 01 87 B4 81 70 81 71",
+    )?;
+    expect(&rt, alloc, LIMITS, octets.as_slice(), None);
+    Ok(())
 }
 
 #[test]
-fn no_tables(rt: HostRuntime) {
+fn no_tables(rt: HostRuntime) -> Result<(), Fail> {
+    let alloc = rt.alloc();
     for octets in [
         b"".as_slice(),
         b"\xE0\x01\x00\xEA",
         b"$ion_1_0 /**/".as_slice(),
     ] {
-        expect_none(&rt, rt.alloc(), octets);
+        let mut meter = Meter::new(alloc);
+        let (outcome, _input) = load_catalog(&mut meter, LIMITS, FromRead::new(octets));
+        match outcome {
+            Ok(catalog) => assert!(rt; catalog.is_empty()),
+            Err(_) => panic!(rt; "no catalogue"),
+        }
+        assert_eq!(rt; meter.held(), 0);
     }
+    Ok(())
 }
 
 /// Texts, and why and where they are refused.
@@ -156,95 +154,98 @@ const REFUSED: &[(&str, Reason, u64)] = &[
 ];
 
 #[test]
-fn refused_catalogues(rt: HostRuntime) {
+fn refused_catalogues(rt: HostRuntime) -> Result<(), Fail> {
+    let alloc = rt.alloc();
     for (text, reason, place) in REFUSED {
-        let want = refused(*reason, *place);
-        expect(&rt, rt.alloc(), LIMITS, text.as_bytes(), want);
+        expect(
+            &rt,
+            alloc,
+            LIMITS,
+            text.as_bytes(),
+            refused(*reason, *place),
+        );
     }
-    let octets = behind_marker(&rt, rt.alloc(), "21 05");
+    let octets = behind_marker(&rt, alloc, "21 05")?;
     let want = refused(Reason::CatalogEntry, 4);
-    expect(&rt, rt.alloc(), LIMITS, octets.as_slice(), want);
+    expect(&rt, alloc, LIMITS, octets.as_slice(), want);
+    Ok(())
 }
-
-/// Texts, limits on symbol tables, and where they are refused for these.
-const TOO_LONG: [(&str, u64, u64); 6] = [
-    (NAME_FIRST, 66, 59),
-    (NAME_FIRST, 49, 55),
-    (NAME_FIRST, 32, 32),
-    (NAME_LAST, 66, 60),
-    (NAME_LAST, 33, 40),
-    (NAME_LAST, 16, 36),
-];
 
 // The name's 32 are counted with it.
 #[test]
-fn limits(rt: HostRuntime) {
-    for (text, symbols, place) in TOO_LONG {
+fn limits(rt: HostRuntime) -> Result<(), Fail> {
+    let alloc = rt.alloc();
+    for (text, symbols, place) in [
+        (NAME_FIRST, 66, 59),
+        (NAME_FIRST, 49, 55),
+        (NAME_FIRST, 32, 32),
+        (NAME_LAST, 66, 60),
+        (NAME_LAST, 33, 40),
+        (NAME_LAST, 16, 36),
+    ] {
         let limits = Limits { symbols, ..LIMITS };
         let want = refused(Reason::SymbolLimit, place);
-        expect(&rt, rt.alloc(), limits, text.as_bytes(), want);
+        expect(&rt, alloc, limits, text.as_bytes(), want);
     }
     let limits = Limits {
         symbols: COST,
         input: 64,
         ..LIMITS
     };
-    let octets = NAME_FIRST.as_bytes();
-    expect(&rt, rt.alloc(), limits, octets, None);
+    expect(&rt, alloc, limits, NAME_FIRST.as_bytes(), None);
     let short = Limits {
         input: 63,
         ..LIMITS
     };
-    expect(&rt, rt.alloc(), short, octets, Some(Fault::InputLimit));
+    expect(
+        &rt,
+        alloc,
+        short,
+        NAME_FIRST.as_bytes(),
+        Some(Fault::InputLimit),
+    );
+    Ok(())
 }
 
 #[test]
-fn faults(rt: HostRuntime) {
+fn faults(rt: HostRuntime) -> Result<(), Fail> {
     let reader = Giving {
         fails: true,
         ..Giving::all(NAME_FIRST.as_bytes(), 5)
     };
-    let fault = fault_of(&rt, rt.alloc(), LIMITS, reader);
-    same(&rt, fault, Some(Fault::ReadFault));
-}
-
-/// Loads a catalogue while its nth allocation is refused. The answer is whether that was met.
-fn is_refused(rt: &impl Abort, alloc: Global, nth: u64) -> bool {
-    let refusing = Refusing::new(alloc, nth);
-    let mut meter = Meter::new(&refusing);
-    let input = FromRead::new(NAME_FIRST.as_bytes());
-    let (outcome, _input) = load_catalog(&mut meter, LIMITS, input);
-    assert!(rt; meter.peak() <= bound(LIMITS, Form::Text, To::Nothing) + LIMITS.symbols);
-    let held = meter.held();
-    let fault = match outcome {
-        Ok(catalog) => {
-            catalog.release(&mut meter);
-            None
-        }
-        Err(fault) => Some(fault),
-    };
-    let is_met = refusing.has_refused();
-    let want = if is_met {
-        (Some(Fault::Memory), 1, 0)
-    } else {
-        (None, 0, COST)
-    };
-    same(rt, (fault, meter.refused(), held), want);
-    is_met
-}
-
-/// The first number of an allocation that no load makes. Each one before it is refused alone.
-fn first_unmet(rt: &impl Abort, alloc: Global) -> u64 {
-    for nth in 1..100 {
-        if !is_refused(rt, alloc, nth) {
-            return nth;
-        }
-    }
-    panic!(rt; "each run met a refusal")
+    assert_eq!(rt;
+        fault_of(&rt, rt.alloc(), LIMITS, reader),
+        Some(Fault::ReadFault)
+    );
+    Ok(())
 }
 
 // The first growth is refused, then the second alone, and so on until none is.
 #[test]
-fn each_growth_refused(rt: HostRuntime) {
-    assert!(rt; first_unmet(&rt, rt.alloc()) > 5);
+fn each_growth_refused(rt: HostRuntime) -> Result<(), Fail> {
+    let alloc = rt.alloc();
+    for nth in 1..100 {
+        let refusing = Refusing::new(alloc, nth);
+        let mut meter = Meter::new(&refusing);
+        let input = FromRead::new(NAME_FIRST.as_bytes());
+        let (outcome, _input) = load_catalog(&mut meter, LIMITS, input);
+        assert!(rt; meter.peak() <= bound(LIMITS, Form::Text, To::Nothing) + LIMITS.symbols);
+        match outcome {
+            Ok(catalog) => {
+                assert!(rt; !refusing.has_refused());
+                assert_eq!(rt; meter.refused(), 0);
+                assert!(rt; nth > 5);
+                assert_eq!(rt; meter.held(), COST);
+                catalog.release(&mut meter);
+                return Ok(());
+            }
+            Err(fault) => {
+                assert_eq!(rt; fault, Fault::Memory);
+                assert!(rt; refusing.has_refused());
+                assert_eq!(rt; meter.refused(), 1);
+                assert_eq!(rt; meter.held(), 0);
+            }
+        }
+    }
+    panic!(rt; "each run met a refusal")
 }

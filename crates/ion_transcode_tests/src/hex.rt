@@ -2,38 +2,25 @@
 
 use std::alloc::Global;
 use std::process::Abort;
+use std::test::Fail;
 
 /// The octets of a text: two hexadecimal digits each, with spaces between them.
-pub fn octets(rt: &impl Abort, alloc: Global, text: &str) -> Vec<u8> {
-    let mut octets = Vec::new(alloc);
-    add_digits(rt, &mut octets, text);
-    octets
+pub fn octets(rt: &impl Abort, alloc: Global, text: &str) -> Result<Vec<u8>, Fail> {
+    octets_behind(rt, Vec::new(alloc), text)
 }
 
 /// The octets of a text behind a version marker.
-pub fn behind_marker(rt: &impl Abort, alloc: Global, text: &str) -> Vec<u8> {
-    let mut octets = Vec::new(alloc);
-    add(rt, &mut octets, b"\xE0\x01\x00\xEA");
-    add_digits(rt, &mut octets, text);
-    octets
+pub fn behind_marker(rt: &impl Abort, alloc: Global, text: &str) -> Result<Vec<u8>, Fail> {
+    octets_behind(rt, Vec::from_slice(alloc, b"\xE0\x01\x00\xEA")?, text)
 }
 
-// Adds the octets of a text.
-fn add_digits(rt: &impl Abort, octets: &mut Vec<u8>, text: &str) {
+// The octets of a text behind some others.
+fn octets_behind(rt: &impl Abort, mut octets: Vec<u8>, text: &str) -> Result<Vec<u8>, Fail> {
     for digits in text.split_whitespace() {
-        add(rt, octets, &[octet_of(rt, digits)]);
+        let Ok(octet) = u8::from_str_radix(digits, 16) else {
+            panic!(rt; "no octet: {digits}")
+        };
+        octets.push(octet)?;
     }
-}
-
-// The octet of two digits.
-fn octet_of(rt: &impl Abort, digits: &str) -> u8 {
-    let Ok(octet) = u8::from_str_radix(digits, 16) else {
-        panic!(rt; "no octet: {digits}")
-    };
-    octet
-}
-
-/// Adds octets.
-pub fn add(rt: &impl Abort, octets: &mut Vec<u8>, more: &[u8]) {
-    assert!(rt; octets.extend_from_slice(more).is_ok());
+    Ok(octets)
 }

@@ -18,6 +18,4 @@ mod refusing;
 #[cfg(test)]
 mod runs;
 #[cfg(test)]
-mod same;
-#[cfg(test)]
 mod to_binary;

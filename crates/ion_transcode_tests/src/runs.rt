@@ -1,8 +1,7 @@
 //! What runs write of worked streams, in whatever pieces they come, and how they end.
 
 use super::devices::{Giving, Taking, Telling, Waiting, answer};
-use super::hex::{add, behind_marker, octets};
-use super::same::same;
+use super::hex::{behind_marker, octets};
 use ion_meter::fault::{Fault, Reason};
 use ion_meter::limits::Limits;
 use ion_transcode::run::bound;
@@ -10,6 +9,7 @@ use ion_transcode::to::{Form, Summary, To};
 use std::alloc::Global;
 use std::cell::Cell;
 use std::process::Abort;
+use std::test::Fail;
 
 /// The limits of a run where nothing else is said.
 pub const LIMITS: Limits = Limits {
@@ -20,32 +20,29 @@ pub const LIMITS: Limits = Limits {
     input: 281_474_976_710_656,
 };
 
-/// How many values there are, or why and where they are refused.
-pub type Verdict = Result<u64, (Reason, u64)>;
-
 /// The octets of a stream, its verdict, and what is written of it as text.
-type Row = (&'static str, Verdict, &'static str);
-
-/// The verdict on a stream of this form.
-pub fn wanted(form: Form, verdict: Verdict) -> Result<Summary, Fault> {
-    match verdict {
-        Ok(values) => Ok(Summary { form, values }),
-        Err((reason, place)) => Err(Fault::Refused(reason, place)),
-    }
-}
+type Row = (&'static str, Result<Summary, Fault>, &'static str);
 
 /// So many values of a binary stream.
 fn binary(values: u64) -> Result<Summary, Fault> {
-    wanted(Form::Binary, Ok(values))
+    Ok(Summary {
+        form: Form::Binary,
+        values,
+    })
 }
 
 /// So many values of a text.
 pub fn text(values: u64) -> Result<Summary, Fault> {
-    wanted(Form::Text, Ok(values))
+    Ok(Summary {
+        form: Form::Text,
+        values,
+    })
 }
 
-/// A binary stream is no text that could be written as binary.
-const SAME_FORM: Result<Summary, Fault> = Err(Fault::Refused(Reason::SameForm, 0));
+/// A refusal.
+pub fn refused(reason: Reason, place: u64) -> Result<Summary, Fault> {
+    Err(Fault::Refused(reason, place))
+}
 
 /// Asserts the verdict on a stream, in one piece or a byte a read, and that this text is written of
 /// it, at once or a byte a call.
@@ -72,32 +69,20 @@ pub fn expect_bytes(
     output: &[u8],
 ) {
     let (outcome, out) = answer(rt, alloc, limits, to, octets, Vec::new(alloc));
-    same(
-        rt,
-        (octets, outcome, out.as_slice()),
-        (octets, want, output),
-    );
-    expect_byte_by_byte(rt, alloc, limits, to, octets, want, output);
-}
-
-/// The same, a byte a read and a byte a call.
-fn expect_byte_by_byte(
-    rt: &impl Abort,
-    alloc: Global,
-    limits: Limits,
-    to: To,
-    octets: &[u8],
-    want: Result<Summary, Fault>,
-    output: &[u8],
-) {
+    assert_eq!(rt; outcome, want, "{octets:?}");
+    assert_eq!(rt; out.as_slice(), output, "{octets:?}");
     let reader = Giving::all(octets, 1);
     let writer = Taking {
         taken: Vec::new(alloc),
         room: output.len(),
     };
     let (outcome, writer) = answer(rt, alloc, limits, to, reader, writer);
-    let given = ("byte by byte", octets, outcome, writer.taken.as_slice());
-    same(rt, given, ("byte by byte", octets, want, output));
+    assert_eq!(rt; outcome, want, "a byte a read: {octets:?}");
+    assert_eq!(rt;
+        writer.taken.as_slice(),
+        output,
+        "a byte a call: {octets:?}"
+    );
 }
 
 /// Asserts the verdict on a stream as text, checked alone, and as the form that it does not have.
@@ -114,14 +99,16 @@ fn expect_read(
     }
 }
 
-/// Asserts the verdict on a stream behind a version marker.
-fn expect_row(rt: &impl Abort, alloc: Global, limits: Limits, row: Row) {
-    let (digits, want, text) = row;
-    let octets = behind_marker(rt, alloc, digits);
-    let octets = octets.as_slice();
-    let want = wanted(Form::Binary, want);
-    expect_read(rt, alloc, limits, octets, want, text);
-    expect(rt, alloc, limits, To::Binary, octets, SAME_FORM, "");
+/// Asserts the verdicts on streams behind a version marker.
+fn expect_rows(rt: &impl Abort, alloc: Global, limits: Limits, rows: &[Row]) -> Result<(), Fail> {
+    for (digits, want, text) in rows {
+        let octets = behind_marker(rt, alloc, digits)?;
+        let octets = octets.as_slice();
+        expect_read(rt, alloc, limits, octets, *want, text);
+        let same = refused(Reason::SameForm, 0);
+        expect(rt, alloc, limits, To::Binary, octets, same, "");
+    }
+    Ok(())
 }
 
 /// Octets behind a version marker, how many values they have, and what is written of them as text.
@@ -173,49 +160,56 @@ const BINARY_STREAMS: &[(&str, u64, &str)] = &[
 ];
 
 #[test]
-fn binary_streams(rt: HostRuntime) {
+fn binary_streams(rt: HostRuntime) -> Result<(), Fail> {
     for (digits, values, text) in BINARY_STREAMS {
-        expect_row(&rt, rt.alloc(), LIMITS, (*digits, Ok(*values), *text));
+        expect_rows(
+            &rt,
+            rt.alloc(),
+            LIMITS,
+            &[(*digits, binary(*values), *text)],
+        )?;
     }
+    Ok(())
 }
 
-const REFUSED_STREAMS: &[Row] = &[
-    ("21 05 82 61", Err((Reason::Truncated, 6)), "5\n"),
-    ("21 05 82 61 FF", Err((Reason::BadText, 6)), "5\n"),
-    ("E6 81 84 E3 81 84 11", Err((Reason::BadAnnotation, 7)), ""),
-    ("E4 81 84 01 00", Err((Reason::BadAnnotation, 7)), ""),
-    ("40", Err((Reason::Float, 4)), ""),
-    ("31 00", Err((Reason::BadNumber, 4)), ""),
-    ("71 0A", Err((Reason::BadSymbol, 4)), ""),
-    ("B1 21 05", Err((Reason::Overrun, 5)), "["),
-    ("D1 80", Err((Reason::BadDescriptor, 4)), ""),
-    // A marker stands at top level alone, and ends what was declared.
-    ("B4 E0 01 00 EA", Err((Reason::BadDescriptor, 5)), "["),
-    ("21 05 E0 02 00 EA", Err((Reason::BadVersion, 6)), "5\n"),
-    ("21 05 E0 01", Err((Reason::Truncated, 6)), "5\n"),
-    (
-        "EA 81 83 D7 87 B2 81 61 86 71 03 71 0A E0 01 00 EA 71 0A",
-        Err((Reason::BadSymbol, 21)),
-        "a\n",
-    ),
-    // What is open stays open.
-    ("B2 11", Err((Reason::Truncated, 6)), "[true"),
-    ("B5 21 01 D3", Err((Reason::Overrun, 7)), "[1"),
-    (
-        "11 D6 84 B4 21 01 21",
-        Err((Reason::Truncated, 10)),
-        "true\n{name:[1",
-    ),
-];
-
 #[test]
-fn refused_streams(rt: HostRuntime) {
-    for row in REFUSED_STREAMS {
-        expect_row(&rt, rt.alloc(), LIMITS, *row);
-    }
+fn refused_streams(rt: HostRuntime) -> Result<(), Fail> {
+    let rows = [
+        ("21 05 82 61", refused(Reason::Truncated, 6), "5\n"),
+        ("21 05 82 61 FF", refused(Reason::BadText, 6), "5\n"),
+        (
+            "E6 81 84 E3 81 84 11",
+            refused(Reason::BadAnnotation, 7),
+            "",
+        ),
+        ("E4 81 84 01 00", refused(Reason::BadAnnotation, 7), ""),
+        ("40", refused(Reason::Float, 4), ""),
+        ("31 00", refused(Reason::BadNumber, 4), ""),
+        ("71 0A", refused(Reason::BadSymbol, 4), ""),
+        ("B1 21 05", refused(Reason::Overrun, 5), "["),
+        ("D1 80", refused(Reason::BadDescriptor, 4), ""),
+        // A marker stands at top level alone, and ends what was declared.
+        ("B4 E0 01 00 EA", refused(Reason::BadDescriptor, 5), "["),
+        ("21 05 E0 02 00 EA", refused(Reason::BadVersion, 6), "5\n"),
+        ("21 05 E0 01", refused(Reason::Truncated, 6), "5\n"),
+        (
+            "EA 81 83 D7 87 B2 81 61 86 71 03 71 0A E0 01 00 EA 71 0A",
+            refused(Reason::BadSymbol, 21),
+            "a\n",
+        ),
+        // What is open stays open.
+        ("B2 11", refused(Reason::Truncated, 6), "[true"),
+        ("B5 21 01 D3", refused(Reason::Overrun, 7), "[1"),
+        (
+            "11 D6 84 B4 21 01 21",
+            refused(Reason::Truncated, 10),
+            "true\n{name:[1",
+        ),
+    ];
+    expect_rows(&rt, rt.alloc(), LIMITS, &rows)?;
     let one = Limits { depth: 1, ..LIMITS };
-    let row = ("B1 B0", Err((Reason::DepthLimit, 5)), "[");
-    expect_row(&rt, rt.alloc(), one, row);
+    let rows = [("B1 B0", refused(Reason::DepthLimit, 5), "[")];
+    expect_rows(&rt, rt.alloc(), one, &rows)
 }
 
 /// Asserts the verdict on a text and what is written of it, in whichever two pieces it comes.
@@ -225,301 +219,262 @@ fn expect_cut(
     limits: Limits,
     input: &[u8],
     want: Result<Summary, Fault>,
-    shown: &[u8],
+    shown: &str,
 ) {
     for at in 0..input.len() {
         let reader = Giving::cut(input, at);
         let (outcome, out) = answer(rt, alloc, limits, To::Text, reader, Vec::new(alloc));
-        let given = (at, input, outcome, out.as_slice());
-        same(rt, given, (at, input, want, shown));
+        assert_eq!(rt; outcome, want, "cut at {at}: {input:?}");
+        assert_eq!(rt; out.as_slice(), shown.as_bytes(), "cut at {at}: {input:?}");
     }
-}
-
-/// Asserts the verdict on a text, and what is written of it as text.
-fn expect_text(
-    rt: &impl Abort,
-    alloc: Global,
-    limits: Limits,
-    input: &str,
-    want: Result<Summary, Fault>,
-    shown: &str,
-) {
-    let input = input.as_bytes();
-    expect(rt, alloc, limits, To::Text, input, want, shown);
-    expect(rt, alloc, limits, To::Nothing, input, want, "");
-    expect_cut(rt, alloc, limits, input, want, shown.as_bytes());
 }
 
 /// Asserts the verdicts on texts, and what is written of them as text.
 fn expect_texts(rt: &impl Abort, alloc: Global, limits: Limits, rows: &[Row]) {
     for (input, want, shown) in rows {
-        let want = wanted(Form::Text, *want);
-        expect_text(rt, alloc, limits, input, want, shown);
+        let input = input.as_bytes();
+        expect(rt, alloc, limits, To::Text, input, *want, shown);
+        expect(rt, alloc, limits, To::Nothing, input, *want, "");
+        expect_cut(rt, alloc, limits, input, *want, shown);
     }
 }
 
-const TEXTS: &[Row] = &[
-    ("[1/*x*/,2]", Ok(1), "[1,2]\n"),
-    ("a /*x*/ :: /*y*/ b", Ok(1), "a::b\n"),
-    ("$ion_1_0 a $ion_1_0", Ok(1), "a\n"),
-    ("[1/2]", Err((Reason::BadToken, 1)), "["),
-    ("null.nul", Err((Reason::BadToken, 0)), ""),
-    ("(1_ a)", Err((Reason::BadToken, 1)), "("),
-    ("a::", Err((Reason::Truncated, 3)), ""),
-    ("[1 \"a", Err((Reason::BadToken, 3)), "[1"),
-    ("{nan:1}", Err((Reason::BadToken, 1)), "{"),
-    ("2000-02-30T", Err((Reason::BadTimestamp, 0)), ""),
-    // The item is given before the comment behind it is refused.
-    ("a /*", Err((Reason::Truncated, 2)), "a\n"),
-    ("'''a''' '''b", Err((Reason::Truncated, 0)), ""),
-    // Declarations are no values.
-    (
-        "$ion_symbol_table::{symbols:[\"a\"]} $10 $11",
-        Err((Reason::BadSymbol, 39)),
-        "a\n",
-    ),
-];
-
-const TOO_DEEP: &[Row] = &[
-    ("[[", Err((Reason::DepthLimit, 1)), "["),
-    ("[[]]", Err((Reason::DepthLimit, 1)), "["),
-];
-
 #[test]
-fn texts(rt: HostRuntime) {
-    expect_texts(&rt, rt.alloc(), LIMITS, TEXTS);
+fn texts(rt: HostRuntime) -> Result<(), Fail> {
+    let rows = [
+        ("[1/*x*/,2]", text(1), "[1,2]\n"),
+        ("a /*x*/ :: /*y*/ b", text(1), "a::b\n"),
+        ("$ion_1_0 a $ion_1_0", text(1), "a\n"),
+        ("[1/2]", refused(Reason::BadToken, 1), "["),
+        ("null.nul", refused(Reason::BadToken, 0), ""),
+        ("(1_ a)", refused(Reason::BadToken, 1), "("),
+        ("a::", refused(Reason::Truncated, 3), ""),
+        ("[1 \"a", refused(Reason::BadToken, 3), "[1"),
+        ("{nan:1}", refused(Reason::BadToken, 1), "{"),
+        ("2000-02-30T", refused(Reason::BadTimestamp, 0), ""),
+        // The item is given before the comment behind it is refused.
+        ("a /*", refused(Reason::Truncated, 2), "a\n"),
+        ("'''a''' '''b", refused(Reason::Truncated, 0), ""),
+        // Declarations are no values.
+        (
+            "$ion_symbol_table::{symbols:[\"a\"]} $10 $11",
+            refused(Reason::BadSymbol, 39),
+            "a\n",
+        ),
+    ];
+    expect_texts(&rt, rt.alloc(), LIMITS, &rows);
     let one = Limits { depth: 1, ..LIMITS };
-    expect_texts(&rt, rt.alloc(), one, TOO_DEEP);
+    let rows = [("[[", refused(Reason::DepthLimit, 1), "[")];
+    expect_texts(&rt, rt.alloc(), one, &rows);
+    Ok(())
 }
 
-/// Tokens, and what they mean.
-const TOKENS: &[Row] = &[
-    ("'''a''' /*x*/ '''b'''", Ok(1), "\"ab\"\n"),
-    ("(--1 a.b -2 /*c*/ +)", Ok(1), "('--' 1 a '.' b -2 '+')\n"),
-    ("-0.", Ok(1), "-0.\n"),
-    ("15d-1 1.50 5d-3", Ok(3), "1.5\n1.50\n0.005\n"),
-    (
-        "340282366920938463463374607431768211455",
-        Ok(1),
-        "340282366920938463463374607431768211455\n",
-    ),
-    (
-        "340282366920938463463374607431768211456",
-        Err((Reason::Range, 0)),
-        "",
-    ),
-    ("1e0", Err((Reason::Float, 0)), ""),
-    ("{{aGVsbG8=}}", Ok(1), "{{aGVsbG8=}}\n"),
-    // Bits of the last character that belong to no byte have to be zero.
-    ("{{aGVsbG9=}}", Err((Reason::BadLob, 0)), ""),
-    ("{{}}", Ok(1), "{{}}\n"),
-    ("\"\\xe9\"", Ok(1), "\"\u{E9}\"\n"),
-    ("\"\\uD83D\\uDE00\"", Ok(1), "\"\u{1F600}\"\n"),
-    ("\"\\uD83D\"", Err((Reason::BadText, 0)), ""),
-    ("\"ab ", Err((Reason::Truncated, 0)), ""),
-    ("2007T 2007-01-02T", Ok(2), "2007T\n2007-01-02\n"),
-    ("2007-13T", Err((Reason::BadTimestamp, 0)), ""),
-    // A byte-order mark, and octets of the binary form without its marker.
-    ("\u{FEFF}5", Err((Reason::BadToken, 0)), ""),
-    ("!\u{5}", Err((Reason::BadToken, 0)), ""),
-];
-
+// Tokens, and what they mean.
 #[test]
-fn tokens_of_texts(rt: HostRuntime) {
-    expect_texts(&rt, rt.alloc(), LIMITS, TOKENS);
+fn tokens_of_texts(rt: HostRuntime) -> Result<(), Fail> {
+    let rows = [
+        ("'''a''' /*x*/ '''b'''", text(1), "\"ab\"\n"),
+        ("(--1 a.b -2 /*c*/ +)", text(1), "('--' 1 a '.' b -2 '+')\n"),
+        ("-0.", text(1), "-0.\n"),
+        ("15d-1 1.50 5d-3", text(3), "1.5\n1.50\n0.005\n"),
+        (
+            "340282366920938463463374607431768211455",
+            text(1),
+            "340282366920938463463374607431768211455\n",
+        ),
+        (
+            "340282366920938463463374607431768211456",
+            refused(Reason::Range, 0),
+            "",
+        ),
+        ("1e0", refused(Reason::Float, 0), ""),
+        ("{{aGVsbG8=}}", text(1), "{{aGVsbG8=}}\n"),
+        // Bits of the last character that belong to no byte have to be zero.
+        ("{{aGVsbG9=}}", refused(Reason::BadLob, 0), ""),
+        ("{{}}", text(1), "{{}}\n"),
+        ("\"\\xe9\"", text(1), "\"\u{E9}\"\n"),
+        ("\"\\uD83D\\uDE00\"", text(1), "\"\u{1F600}\"\n"),
+        ("\"\\uD83D\"", refused(Reason::BadText, 0), ""),
+        ("\"ab ", refused(Reason::Truncated, 0), ""),
+        ("2007T 2007-01-02T", text(2), "2007T\n2007-01-02\n"),
+        ("2007-13T", refused(Reason::BadTimestamp, 0), ""),
+        // A byte-order mark, and octets of the binary form without its marker.
+        ("\u{FEFF}5", refused(Reason::BadToken, 0), ""),
+        ("!\u{5}", refused(Reason::BadToken, 0), ""),
+    ];
+    expect_texts(&rt, rt.alloc(), LIMITS, &rows);
+    Ok(())
 }
 
-/// Items, in the order of their faults.
-const ITEMS: &[Row] = &[
-    ("[1,{a:", Err((Reason::Truncated, 6)), "[1,{"),
-    ("[1,]", Ok(1), "[1]\n"),
-    ("[1 2]", Err((Reason::BadToken, 3)), "[1"),
-    ("[,]", Err((Reason::BadToken, 1)), "["),
-    ("{a::1}", Err((Reason::BadToken, 2)), "{"),
-    // A token of the item is refused before one of its symbols.
-    ("{$99:1}", Err((Reason::BadSymbol, 1)), "{"),
-    ("{$99:1_}", Err((Reason::BadToken, 5)), "{"),
-    ("$ion_1_1 5", Err((Reason::BadVersion, 0)), ""),
-    // In quotes it is a symbol as any other.
-    ("'$ion_1_0'", Ok(1), "'$ion_1_0'\n"),
-];
-
+// Items, in the order of their faults.
 #[test]
-fn items_of_texts(rt: HostRuntime) {
-    expect_texts(&rt, rt.alloc(), LIMITS, ITEMS);
+fn items_of_texts(rt: HostRuntime) -> Result<(), Fail> {
+    let rows = [
+        ("[1,{a:", refused(Reason::Truncated, 6), "[1,{"),
+        ("[1,]", text(1), "[1]\n"),
+        ("[1 2]", refused(Reason::BadToken, 3), "[1"),
+        ("[,]", refused(Reason::BadToken, 1), "["),
+        ("{a::1}", refused(Reason::BadToken, 2), "{"),
+        // A token of the item is refused before one of its symbols.
+        ("{$99:1}", refused(Reason::BadSymbol, 1), "{"),
+        ("{$99:1_}", refused(Reason::BadToken, 5), "{"),
+        ("$ion_1_1 5", refused(Reason::BadVersion, 0), ""),
+        // In quotes it is a symbol as any other.
+        ("'$ion_1_0'", text(1), "'$ion_1_0'\n"),
+    ];
+    expect_texts(&rt, rt.alloc(), LIMITS, &rows);
+    let one = Limits { depth: 1, ..LIMITS };
+    let rows = [("[[]]", refused(Reason::DepthLimit, 1), "[")];
+    expect_texts(&rt, rt.alloc(), one, &rows);
+    Ok(())
 }
 
 // An input of as many bytes as the limit is read.
 #[test]
-fn input_limits(rt: HostRuntime) {
+fn input_limits(rt: HostRuntime) -> Result<(), Fail> {
     let five = Limits { input: 5, ..LIMITS };
-    expect_text(&rt, rt.alloc(), five, "1 2 3", text(3), "1\n2\n3\n");
+    expect_texts(&rt, rt.alloc(), five, &[("1 2 3", text(3), "1\n2\n3\n")]);
     let one = Limits { input: 1, ..LIMITS };
-    expect_text(&rt, rt.alloc(), one, "12", Err(Fault::InputLimit), "");
-}
-
-/// Octets, their verdict as a text, what is shown of them, and what is written as binary.
-const FIRST_BYTES: &[(&str, Verdict, &str, &str)] = &[
-    ("", Ok(0), "", ""),
-    ("35", Ok(1), "5\n", "21 05"),
-    ("E1 01 00 EA", Err((Reason::BadToken, 0)), "", ""),
-];
-
-/// Octets that begin as a version marker does, and their verdict.
-const MARKERS: &[(&str, Verdict)] = &[
-    ("E0 01", Err((Reason::Truncated, 0))),
-    ("E0 01 01 EA", Err((Reason::BadVersion, 0))),
-];
-
-/// Asserts what is written of octets that are a text.
-fn expect_forms(
-    rt: &impl Abort,
-    alloc: Global,
-    octets: &[u8],
-    want: Result<Summary, Fault>,
-    shown: &str,
-    converted: &[u8],
-) {
-    expect(rt, alloc, LIMITS, To::Text, octets, want, shown);
-    expect(rt, alloc, LIMITS, To::Nothing, octets, want, "");
-    for to in [To::Binary, To::Other] {
-        expect_bytes(rt, alloc, LIMITS, to, octets, want, converted);
-    }
+    expect_texts(&rt, rt.alloc(), one, &[("12", Err(Fault::InputLimit), "")]);
+    Ok(())
 }
 
 #[test]
-fn first_bytes(rt: HostRuntime) {
-    for (digits, want, shown, converted) in FIRST_BYTES {
-        let octets = octets(&rt, rt.alloc(), digits);
-        let converted = behind_marker(&rt, rt.alloc(), converted);
-        let want = wanted(Form::Text, *want);
-        let converted = converted.as_slice();
-        expect_forms(&rt, rt.alloc(), octets.as_slice(), want, shown, converted);
-    }
-    for (digits, want) in MARKERS {
-        let octets = octets(&rt, rt.alloc(), digits);
+fn first_bytes(rt: HostRuntime) -> Result<(), Fail> {
+    let alloc = rt.alloc();
+    let rows = [
+        ("", text(0), "", ""),
+        ("35", text(1), "5\n", "21 05"),
+        ("E1 01 00 EA", refused(Reason::BadToken, 0), "", ""),
+    ];
+    for (digits, want, shown, converted) in rows {
+        let octets = octets(&rt, alloc, digits)?;
         let octets = octets.as_slice();
-        expect_read(
-            &rt,
-            rt.alloc(),
-            LIMITS,
-            octets,
-            wanted(Form::Binary, *want),
-            "",
-        );
-        expect(&rt, rt.alloc(), LIMITS, To::Binary, octets, SAME_FORM, "");
+        expect(&rt, alloc, LIMITS, To::Text, octets, want, shown);
+        expect(&rt, alloc, LIMITS, To::Nothing, octets, want, "");
+        let converted = behind_marker(&rt, alloc, converted)?;
+        for to in [To::Binary, To::Other] {
+            expect_bytes(&rt, alloc, LIMITS, to, octets, want, converted.as_slice());
+        }
     }
+    let rows = [
+        ("E0 01", refused(Reason::Truncated, 0)),
+        ("E0 01 01 EA", refused(Reason::BadVersion, 0)),
+    ];
+    for (digits, want) in rows {
+        let octets = octets(&rt, alloc, digits)?;
+        expect_read(&rt, alloc, LIMITS, octets.as_slice(), want, "");
+        let same = refused(Reason::SameForm, 0);
+        expect(&rt, alloc, LIMITS, To::Binary, octets.as_slice(), same, "");
+    }
+    Ok(())
 }
 
-/// Asserts what a device has that takes so many bytes, where a stream is written to it.
-fn expect_failing(rt: &impl Abort, alloc: Global, to: To, octets: &[u8], want: &[u8]) {
-    let writer = Taking {
-        taken: Vec::new(alloc),
-        room: want.len(),
-    };
-    let (outcome, writer) = answer(rt, alloc, LIMITS, to, octets, writer);
-    let given = (octets, outcome, writer.taken.as_slice());
-    same(rt, given, (octets, Err(Fault::WriteFault), want));
-}
-
-/// Asserts that what was written before a read failed is a prefix of the whole stream's output.
-fn expect_failing_read(rt: &impl Abort, alloc: Global, octets: &[u8], output: &[u8]) {
+// What was written then is a prefix of the whole stream's output.
+#[test]
+fn faults(rt: HostRuntime) -> Result<(), Fail> {
+    let alloc = rt.alloc();
+    let octets = behind_marker(&rt, alloc, "21 05 11")?;
+    let octets = octets.as_slice();
+    let short = Limits { input: 3, ..LIMITS };
+    expect_read(&rt, alloc, short, octets, Err(Fault::InputLimit), "");
     let reader = Giving {
         fails: true,
         ..Giving::all(octets, 2)
     };
-    let (outcome, out) = answer(rt, alloc, LIMITS, To::Text, reader, Vec::new(alloc));
-    same(rt, outcome, Err(Fault::ReadFault));
-    assert!(rt; output.starts_with(out.as_slice()));
+    let (outcome, out) = answer(&rt, alloc, LIMITS, To::Text, reader, Vec::new(alloc));
+    assert_eq!(rt; outcome, Err(Fault::ReadFault));
+    assert!(rt; b"5\ntrue\n".starts_with(out.as_slice()));
+    let writer = Taking {
+        taken: Vec::new(alloc),
+        room: 3,
+    };
+    let (outcome, writer) = answer(&rt, alloc, LIMITS, To::Text, octets, writer);
+    assert_eq!(rt; outcome, Err(Fault::WriteFault));
+    assert_eq!(rt; writer.taken.as_slice(), b"5\nt".as_slice());
+    let writer = Taking {
+        taken: Vec::new(alloc),
+        room: 2,
+    };
+    let empty: [u8; 0] = [];
+    let (outcome, writer) = answer(&rt, alloc, LIMITS, To::Binary, empty.as_slice(), writer);
+    assert_eq!(rt; outcome, Err(Fault::WriteFault));
+    assert_eq!(rt; writer.taken.as_slice(), [0xE0, 0x01].as_slice());
+    Ok(())
 }
 
 #[test]
-fn faults(rt: HostRuntime) {
-    let octets = behind_marker(&rt, rt.alloc(), "21 05 11");
-    let octets = octets.as_slice();
-    let short = Limits { input: 3, ..LIMITS };
-    expect_read(&rt, rt.alloc(), short, octets, Err(Fault::InputLimit), "");
-    expect_failing_read(&rt, rt.alloc(), octets, b"5\ntrue\n");
-    expect_failing(&rt, rt.alloc(), To::Text, octets, b"5\nt");
-    expect_failing(&rt, rt.alloc(), To::Binary, b"", b"\xE0\x01");
-}
-
-/// The bounds where nothing else is said.
-const BOUNDS: [(Form, To, u64); 8] = [
-    (Form::Binary, To::Text, 5_253_120),
-    (Form::Binary, To::Binary, 5_253_120),
-    (Form::Binary, To::Nothing, 5_253_120),
-    (Form::Binary, To::Other, 5_253_120),
-    (Form::Text, To::Text, 5_253_120),
-    (Form::Text, To::Nothing, 5_253_120),
-    (Form::Text, To::Binary, 23_078_912),
-    (Form::Text, To::Other, 23_078_912),
-];
-
-#[test]
-fn bounds(rt: HostRuntime) {
-    for (form, to, want) in BOUNDS {
-        same(&rt, (form, to, bound(LIMITS, form, to)), (form, to, want));
+fn bounds(rt: HostRuntime) -> Result<(), Fail> {
+    for to in [To::Text, To::Binary, To::Nothing, To::Other] {
+        assert_eq!(rt; bound(LIMITS, Form::Binary, to), 5_253_120);
     }
+    for (to, want) in [
+        (To::Text, 5_253_120),
+        (To::Nothing, 5_253_120),
+        (To::Binary, 23_078_912),
+        (To::Other, 23_078_912),
+    ] {
+        assert_eq!(rt; bound(LIMITS, Form::Text, to), want);
+    }
+    Ok(())
 }
 
 /// Ints of one octet.
 const ZEROS: [u8; 4_096] = [0x20; 4_096];
 
-/// Small limits.
-const SMALL: Limits = Limits {
-    depth: 4,
-    scalar: 64,
-    symbols: 1_024,
-    value: 0,
-    ..LIMITS
-};
-
-/// Asserts how many values a stream has, of which nothing is written, under small limits.
-fn expect_nothing(
-    rt: &impl Abort,
-    alloc: Global,
-    reader: Giving<'_>,
-    want: Result<Summary, Fault>,
-) {
-    let (outcome, out) = answer(rt, alloc, SMALL, To::Nothing, reader, Vec::new(alloc));
-    same(rt, (outcome, out.len()), (want, 0));
-}
-
 // A declaration with 4,194,304 ints in a field that is ignored.
 #[test]
-fn what_is_ignored_is_not_held(rt: HostRuntime) {
-    let digits = "EE 02 00 00 8D 81 83 DE 02 00 00 86 84 BE 02 00 00 80";
-    let first = behind_marker(&rt, rt.alloc(), digits);
+fn what_is_ignored_is_not_held(rt: HostRuntime) -> Result<(), Fail> {
+    let alloc = rt.alloc();
+    let first = behind_marker(
+        &rt,
+        alloc,
+        "EE 02 00 00 8D 81 83 DE 02 00 00 86 84 BE 02 00 00 80",
+    )?;
     let reader = Giving {
         again: &ZEROS,
         times: 1_024,
         ..Giving::all(first.as_slice(), 4_096)
     };
-    same(&rt, bound(SMALL, Form::Binary, To::Nothing), 10_560);
-    expect_nothing(&rt, rt.alloc(), reader, binary(0));
-}
-
-/// Elements of a list: 2,048 times "5,".
-fn fives(rt: &impl Abort, alloc: Global) -> Vec<u8> {
-    let mut fives = Vec::new(alloc);
-    for _ in 0..2_048u32 {
-        add(rt, &mut fives, b"5,");
-    }
-    fives
+    let limits = Limits {
+        depth: 4,
+        scalar: 64,
+        symbols: 1_024,
+        value: 0,
+        ..LIMITS
+    };
+    assert_eq!(rt; bound(limits, Form::Binary, To::Nothing), 10_560);
+    let (outcome, out) = answer(&rt, alloc, limits, To::Nothing, reader, Vec::new(alloc));
+    assert_eq!(rt; outcome, binary(0));
+    assert!(rt; out.is_empty());
+    Ok(())
 }
 
 // The same in text.
 #[test]
-fn what_text_ignores_is_not_held(rt: HostRuntime) {
-    let fives = fives(&rt, rt.alloc());
+fn what_text_ignores_is_not_held(rt: HostRuntime) -> Result<(), Fail> {
+    let alloc = rt.alloc();
+    let mut fives = Vec::new(alloc);
+    for _ in 0..2_048 {
+        fives.extend_from_slice(b"5,")?;
+    }
     let reader = Giving {
         again: fives.as_slice(),
         times: 2_048,
         last: b"],symbols:[\"a\"]} $10",
         ..Giving::all(b"$ion_symbol_table::{name:[", 4_096)
     };
-    expect_nothing(&rt, rt.alloc(), reader, text(1));
+    let limits = Limits {
+        depth: 4,
+        scalar: 64,
+        symbols: 1_024,
+        value: 0,
+        ..LIMITS
+    };
+    let (outcome, out) = answer(&rt, alloc, limits, To::Nothing, reader, Vec::new(alloc));
+    assert_eq!(rt; outcome, text(1));
+    assert!(rt; out.is_empty());
+    Ok(())
 }
 
 /// Asserts that of a stream whose pieces come one by one just so much is written before each of them, and
@@ -541,8 +496,8 @@ fn expect_live(
         written: &written,
     };
     let (outcome, writer) = answer(rt, alloc, LIMITS, To::Text, reader, writer);
-    let given = (writer.taken.as_slice(), outcome);
-    same(rt, given, (shown.as_bytes(), want));
+    assert_eq!(rt; writer.taken.as_slice(), shown.as_bytes());
+    assert_eq!(rt; outcome, want, "before {shown}");
 }
 
 /// Pieces of a text, each with how many bytes are written before it is read; how many values there are;
@@ -599,10 +554,11 @@ const LIVE_TEXTS: &[(&[(&[u8], usize)], u64, &str)] = &[
 
 // Values that are whole are written before a read that may have to wait.
 #[test]
-fn texts_are_written_as_they_come(rt: HostRuntime) {
+fn texts_are_written_as_they_come(rt: HostRuntime) -> Result<(), Fail> {
     for (pieces, values, shown) in LIVE_TEXTS {
         expect_live(&rt, rt.alloc(), pieces, text(*values), shown);
     }
+    Ok(())
 }
 
 /// Pieces of a binary stream, each with how many bytes are written before it is read; how many values there are;
@@ -648,8 +604,9 @@ const LIVE_OCTETS: &[(&[(&[u8], usize)], u64, &str)] = &[
 ];
 
 #[test]
-fn octets_are_written_as_they_come(rt: HostRuntime) {
+fn octets_are_written_as_they_come(rt: HostRuntime) -> Result<(), Fail> {
     for (pieces, values, shown) in LIVE_OCTETS {
         expect_live(&rt, rt.alloc(), pieces, binary(*values), shown);
     }
+    Ok(())
 }

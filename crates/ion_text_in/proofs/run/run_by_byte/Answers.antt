@@ -1,4 +1,5 @@
-use Rattle.std.proofs.Common.{◌≡◌, ◌+◌, ◌∙◌, true, false, not, List, ℕ, ◌++◌, drop, get_or, ap, sym, subst}
+use Rattle.std.proofs.Common.{◌≡◌, ◌+◌, ◌∙◌, true, false, not, List, ℕ, ◌++◌, drop, get_or, ap, sym, subst, arith}
+use Rattle.std.proofs.lemmas.Grind.{common_steps}
 use Rattle.std.proofs.lemmas.List.{take_rest, drop_more}
 use Rattle.ion_text_in.specs.Runs.{goes_on, EndBehind}
 use Rattle.ion_text_in.proofs.RunEnds.{go-more, go-end, stays-on}
@@ -24,3 +25,9 @@ returns-in-Some-true-clause-ends c = λ e.
     let bytes = c.args.bytes.now in
     subst (λ (n : ℕ). EndBehind (goes_on c.args.run) bytes n) (sym c.so_far.ensures.len) (go-end (goes_on c.args.run) bytes c.bytes.i c.bytes.invariant
     (λ more. subst (λ (l : List ℕ). goes_on c.args.run (l ++ more) ≡ false) (take_rest bytes c.bytes.i) (c.in-Some-true.ensures more ∙ ap not c.in-Some-true.field-0-test)))
+
+pub returns-clause-behind : goal.returns-clause-behind
+returns-clause-behind c = grind (arith, common_steps) steps 400000
+
+pub returns-clause-ends : goal.returns-clause-ends
+returns-clause-ends c = grind (arith, common_steps) steps 400000

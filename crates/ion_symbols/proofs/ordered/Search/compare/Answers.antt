@@ -1,4 +1,5 @@
 use Rattle.std.proofs.Common.{◌≡◌, ap, ◌∙◌, sym, arith}
+use Rattle.std.proofs.lemmas.Grind.{common_steps}
 use Rattle.ion_symbols.specs.Output.{Searched, text_cmp}
 use Rattle.ion_symbols.proofs.TextOrder.{at_place}
 use Rattle.ion_symbols.proofs.OutputTexts.{kept_place, kept_text}
@@ -22,3 +23,6 @@ returns-clause-order c =
     let e = ap (λ (s : Searched). s.texts) c.self.view_is in
     let k = kept_text _ _ _ _ c.self.invariant e c.args.place c.requires.within (record { from = 0; to = 0 }) in
     at_place (λ kept. c.cmp.result ≡ text_cmp kept c.args.text.now) c.args.self.now.texts c.args.place c.requires.within (c.cmp.ensures ∙ ap (λ s. text_cmp s c.args.text.now) (sym k))
+
+pub returns-clause-probes : goal.returns-clause-probes
+returns-clause-probes c = grind (arith, common_steps) steps 400000

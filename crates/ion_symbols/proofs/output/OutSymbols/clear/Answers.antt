@@ -1,4 +1,5 @@
 use Rattle.std.proofs.Common.{ap, ◌∙◌, arith}
+use Rattle.std.proofs.lemmas.Grind.{common_steps}
 use Rattle.ion_symbols.specs.Output.{Output}
 use Rattle.ion_symbols.proofs.OutputTexts.{costs}
 use Rattle.ion_symbols.proofs.output.OutSymbols.clear.Goals as goal
@@ -26,3 +27,6 @@ returns-clause-cost g c =
       peak = c.clear-3.ensures.cost.peak ∙ (c.clear-2.ensures.cost.peak ∙ c.clear.ensures.cost.peak);
       refused = c.clear-3.ensures.cost.refused ∙ (c.clear-2.ensures.cost.refused ∙ c.clear.ensures.cost.refused);
     }
+
+pub returns-clause-cleared : goal.returns-clause-cleared
+returns-clause-cleared g c = grind (arith, common_steps) steps 400000

@@ -1,0 +1,6 @@
+use Rattle.std.proofs.Common.{arith}
+use Rattle.std.proofs.lemmas.Grind.{common_steps}
+use Rattle.ion_symbols.proofs.catalog.Catalog.find_import.Goals as goal
+
+pub returns-in-None-exact-2 : goal.returns-in-None-exact-2
+returns-in-None-exact-2 g c = grind (arith, common_steps) steps 400000

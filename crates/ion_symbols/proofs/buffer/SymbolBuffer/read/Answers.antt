@@ -107,4 +107,4 @@ pub returns-clause-causes : goal.returns-clause-causes
 returns-clause-causes g c = grind (arith, common_steps)
 
 pub returns-clause-charges : goal.returns-clause-charges
-returns-clause-charges g c = grind (arith, common_steps)
+returns-clause-charges g c = grind (arith, common_steps) steps 400000

@@ -20,10 +20,10 @@ returns-in-Import-2-clause-turn g c =
     c.if-self-gt0.false c.in-Import.is c.view-item_view.ensures (sym c.if-ends-2.ensures) c.part.ensures.turn
 
 pub returns-then-self-gt0-clause-pending : goal.returns-then-self-gt0-clause-pending
-returns-then-self-gt0-clause-pending g c = grind (arith, common_steps)
+returns-then-self-gt0-clause-pending g c = grind (arith, common_steps) steps 400000
 
 pub returns-then-self-gt0-clause-takes : goal.returns-then-self-gt0-clause-takes
-returns-then-self-gt0-clause-takes g c = grind (arith, common_steps)
+returns-then-self-gt0-clause-takes g c = grind (arith, common_steps) steps 400000
 
 pub returns-in-Fields-clause-takes : goal.returns-in-Fields-clause-takes
 returns-in-Fields-clause-takes g c = grind (arith, common_steps)

@@ -31,7 +31,7 @@ returns-in-Ok-push-clause-stepped g c =
     c.requires.can_step one c.in-Ok-push.ensures.ok (omega (arith, c.if-limit-cost.false, c.annotations_cost-cost.ensures)) c.requires.colons c.pass_colons.ensures.passed text c.in-Ok-push.ensures.cost
 
 pub returns-then-limit-cost-clause-gives : goal.returns-then-limit-cost-clause-gives
-returns-then-limit-cost-clause-gives g c = grind (arith, common_steps)
+returns-then-limit-cost-clause-gives g c = grind (arith, common_steps) steps 400000
 
 pub returns-in-Err-clause-stepped : goal.returns-in-Err-clause-stepped
 returns-in-Err-clause-stepped g c = grind (arith, common_steps)

@@ -1,4 +1,5 @@
 use Rattle.std.proofs.Common.{rules, ◌≡◌, ◌≢◌, ◌+◌, ℕ, Ok, Err, refl, ap, sym, ◌∙◌, arith}
+use Rattle.std.proofs.lemmas.Grind.{common_steps}
 use Rattle.ion_meter.specs.declared.fault.Fault.TheVariants.{Memory, ReadFault, WriteFault}
 use Rattle.ion_value.specs.Reading.{items_of}
 use Rattle.ion_symbols.specs.Users.{at_start, users}
@@ -59,3 +60,6 @@ returns-in-Err-clause-causes g c =
           omega (arith, one);
       limit = λ e. search rules;
     }
+
+pub returns-in-Err-clause-charges : goal.returns-in-Err-clause-charges
+returns-in-Err-clause-charges g c = grind (arith, common_steps) steps 400000

@@ -68,7 +68,8 @@ impl Shelf {
     // Pushes a slot.
     #[tactic(auto, using(ion_symbols::proofs::Keeping::cost_push))]
     fn push(&mut self, rt: &impl Abort, table: &mut SharedTable<Global>, text: Option<&str>)
-        requires held { catalog_cost self.old.catalog + shared_cost table.old ≤ self.old.meter.held }
+        requires held { catalog_cost self.old.catalog + shared_cost table.old
+            ≤ self.old.meter.held }
         ensures held { catalog_cost self.new.catalog + shared_cost table.new ≤ self.new.meter.held }
     {
         self.expect_little(rt);

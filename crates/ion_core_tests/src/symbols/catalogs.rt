@@ -70,7 +70,8 @@ impl Shelf {
     fn push(&mut self, rt: &impl Abort, table: &mut SharedTable<Global>, text: Option<&str>)
         requires held { catalog_cost self.old.catalog + shared_cost table.old
             ≤ self.old.meter.held }
-        ensures held { catalog_cost self.new.catalog + shared_cost table.new ≤ self.new.meter.held }
+        ensures held { catalog_cost self.new.catalog + shared_cost table.new
+            ≤ self.new.meter.held }
     {
         self.expect_little(rt);
         if let Some(text) = text {

@@ -1,4 +1,5 @@
-"""Runs the commands and the rows that the pages show, and compares what is printed. `checks/run` calls it.
+"""Runs the commands and the rows that the pages show, compares what is printed, and follows links to files.
+`checks/run` calls it.
 
 In a page a block that begins with ```console is one session of a shell: a line `$ COMMAND`, lines `> MORE` that
 continue it, and what it prints, standard error among it, up to the next command. `$ echo $?` behind a command shows its
@@ -6,6 +7,7 @@ status, which is 0 where nothing shows it. In a table whose header is `| Input |
 input for `ion show` (a text, or octets in hexadecimal behind `hex` or behind the version marker `M`), options
 or another command in a second code span, and the lines that are printed, a code span each.
 """
+import glob
 import os
 import re
 import shutil
@@ -81,7 +83,7 @@ def run_session(page, block, folder, environment):
             print(f"skipped: {tool} ({page.name}: {command})")
             continue
         # a file that is followed has no end, so such a command is ended when it has written what there is
-        bounded = re.sub(r"\btail -f\b", "timeout 1 tail -f", command)
+        bounded = re.sub(r"\btail (-c \+1 )?-f\b", r"timeout 1 tail \1-f", command)
         # what shows progress does so on standard error, with times
         errors = subprocess.DEVNULL if command.startswith("pv ") else subprocess.STDOUT
         done = subprocess.run(["sh", "-c", bounded], cwd=folder, env=environment, stdin=subprocess.DEVNULL,
@@ -122,6 +124,16 @@ def run_row(page, cells, program):
     page.judge(right, cells[0], wanted, (done.returncode, out, done.stderr))
 
 
+def check_links(page, text):
+    """Each link to a file of the repository leads to one."""
+    for target in re.findall(r"\]\(([^)#\s]+)", text):
+        if not re.match(r"[a-z]+:", target):
+            path = os.path.join(os.path.dirname(page.name), target)
+            if not os.path.exists(path):
+                page.judge(False, "a link", path, "no such file")
+    page.judge(True, "", None, None)
+
+
 def rows_of(text):
     """The cells of each row of the tables of inputs and answers."""
     inside = False
@@ -139,11 +151,14 @@ def main():
     if not os.access(program, os.X_OK):
         sys.exit(f"there is no program {program}: (cd crates/ion_tool && rt run) builds it")
     pages = []
-    for name in ["README.md", "docs/DIFFERENCES.md"]:
+    for name in ["README.md", "CONTRIBUTING.md", "SECURITY.md", "CHANGELOG.md"] + sorted(glob.glob("docs/*.md")):
         with open(name, encoding="utf-8") as file:
             text = file.read()
         page = Page(name)
         pages.append(page)
+        check_links(page, text)
+        if name not in ("README.md", "docs/DIFFERENCES.md"):
+            continue
         with tempfile.TemporaryDirectory() as folder:
             os.mkdir(folder + "/bin")
             os.symlink(program, folder + "/bin/ion")

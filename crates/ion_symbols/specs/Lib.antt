@@ -2,6 +2,7 @@ pub mod Table
 pub mod Declaration
 pub mod Users
 pub mod Tree
+pub mod UserValues
 pub mod Output
 pub mod Laws
 pub mod Kept

@@ -18,6 +18,7 @@ mod WentWell
 mod DecodedBytes
 mod LobBytes
 mod RawTokens
+mod TokenLimits
 mod RawStreams
 mod Narrow
 mod Refused

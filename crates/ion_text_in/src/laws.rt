@@ -1,7 +1,7 @@
 //! Laws of the grammar and the reading of the text form, each the contract of a function that does
 //! nothing.
 ghost use Rattle.ion_text_in.specs.Beginnings.{IdentifiersAreCut, IdentifiersEnd, NumbersAreCut, NumbersEnd, OneBegins, OperatorsAreCut, OperatorsEnd, WhatBegins, WhereNoneBegins};
-ghost use Rattle.ion_text_in.specs.Meaning.{Base64IsRead, BlobsAreBase64, BoolTextIsRead, ClobTextIsRead, DecimalTextIsRead, IdIsRead, IdWordIsRead, IntTextIsRead, NullTextIsRead, PlainSymbolIsRead, QuotedSymbolIsRead, StringTextIsRead, TimestampTextIsRead, TokensAreRaw};
+ghost use Rattle.ion_text_in.specs.Meaning.{Base64IsRead, BlobsAreBase64, BoolTextIsRead, ClobTextIsRead, DecimalTextIsRead, IdIsRead, IdWordIsRead, IntTextIsRead, NullTextIsRead, PlainSymbolIsRead, QuotedSymbolIsRead, StringTextIsRead, TimestampTextIsRead, TokensAreRaw, WithinLimitIsRead};
 ghost use Rattle.ion_text_in.specs.Scanning.{BlanksChangeNoStep, EachPieceTakes, GroupsInTurn, PiecesInTurn, PlainBytesAreSpelled, SegmentsInTurn};
 ghost use Rattle.ion_text_in.specs.Laws.{Complete, EachStepFalls, EachStepFollows, ExactLimits, Narrow, OnePath, OneStream, RightlyRefused, Sound, StreamsAreRaw, StreamsAreRead, WithinLimitsAreRead};
 
@@ -140,6 +140,11 @@ pub fn id_is_read()
 /// What a token means is in range, UTF-8, and bytes.
 pub fn tokens_are_raw()
     ensures { TokensAreRaw }
+{}
+
+/// Under a limit a token is read exactly where it counts no more, and else refused at its first byte.
+pub fn tokens_within_a_limit_are_read()
+    ensures { WithinLimitIsRead }
 {}
 
 /// A number or timestamp goes on up to the input's end, one of the fifteen numeric stop characters or

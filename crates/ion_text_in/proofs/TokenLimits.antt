@@ -22,12 +22,11 @@ use Rattle.ion_value.specs.Value as value
 use Rattle.ion_value.specs.Value.{SymbolAt, Scalar}
 use Rattle.ion_text_in.specs.Blanks.{is_white, blanks}
 use Rattle.ion_text_in.specs.Lob.{group_of, behind_to, last_group, closed_at, group_bytes, groups_for, blob_at, clob_closed_at, clob_at, lob_at}
-use Rattle.ion_text_in.specs.Meaning.{counts, WithinLimitIsRead}
+use Rattle.ion_text_in.specs.Meaning.{counts}
 use Rattle.ion_text_in.specs.Places.{behind_run}
 use Rattle.ion_text_in.specs.Quoted.{Quote, symbol_quote, short_quote, long_quote, Piece, char, close, illegal, cut, piece_at, with_piece, pieces_for, segment_at, next_segment, with_segments, segments_for, text_at}
 use Rattle.ion_text_in.specs.Token as tokens
 use Rattle.ion_text_in.specs.Token.{First, a_run, a_word, a_quoted, a_short, a_long, a_lob, an_operator, an_infinity, a_begin, an_end, a_comma, a_colon, two_colons, no_token, first_at, Token, plain, name, text, operator, no_number, begin, end, comma, colon, colons, bytes_of, in_run, in_operator, word_of, word_token, run_token, by_keyword, token_of, token_at, next_token}
-use Rattle.ion_text_in.proofs.Tokens.{tok-stands}
 
 -- what is given as bytes, and what is left
 abbrev Given : Type 0
@@ -44,6 +43,38 @@ none d = ([], d)
 
 abbrev token_at_end : Token → Cursor → Result (Token × Cursor) Reason
 token_at_end t d = Ok (t, d)
+
+-- ---- tokens that count all their bytes
+
+abbrev pub CountsAll : Token → Type 0
+CountsAll t = (p q : ℕ) → counts t p q ≡ q - p
+
+readings-count : (i : Result Int Reason) (d : Result Decimal Reason) (t : Result Timestamp Reason) → IfOk (scalar_of_readings {S = SymbolAt} i d t) (λ v. CountsAll (plain v))
+readings-count (Ok i) d t = λ p q. refl
+readings-count (Err BadToken) (Ok d) t = λ p q. refl
+readings-count (Err BadToken) (Err BadToken) (Ok t) = λ p q. refl
+readings-count (Err BadToken) (Err BadToken) (Err reason) = tt
+readings-count (Err BadToken) (Err reason) t = tt
+readings-count (Err reason) d t = tt
+
+pub run_token-counts : (run : List ℕ) → IfOk (run_token run) CountsAll
+unfolding scalar_of_run
+run_token-counts run = by (scalar_of_readings (int_of_text run) (decimal_of_text run) (timestamp_of_text run)) (readings-count (int_of_text run) (decimal_of_text run) (timestamp_of_text run))
+  where
+    by : (o : Result (Scalar SymbolAt) Reason) → IfOk o (λ v. CountsAll (plain v)) → IfOk (o >>= (λ v. Ok (plain v))) CountsAll
+    by (Ok v) h = h
+    by (Err reason) h = tt
+
+keyword-counts : (k : Option Keyword) (word : List ℕ) → IfOk (by_keyword k word) CountsAll
+keyword-counts (Some (a_null (Some type))) word = λ p q. refl
+keyword-counts (Some (a_null None)) word = tt
+keyword-counts (Some (a_bool truth)) word = λ p q. refl
+keyword-counts (Some a_nan) word = λ p q. refl
+keyword-counts None word = λ p q. refl
+
+pub word_token-counts : (word : List ℕ) → IfOk (word_token word) CountsAll
+unfolding word_token
+word_token-counts word = keyword-counts (keyword word) word
 
 module _ (limit : ℕ) where
   -- ---- a result that counts so much
@@ -222,38 +253,7 @@ module _ (limit : ℕ) where
       either-limited (scalar_counts p) (begins_with (34 ∷ []) d.rest) _ _ _ _ (clob-limited p false (skip 1 d))
       (either-limited (scalar_counts p) (begins_with (39 ∷ 39 ∷ 39 ∷ []) d.rest) _ _ _ _ (clob-limited p true (skip 3 d)) (blob-limited p d))
 
-  -- ---- runs, words and operators
-
-  -- a token counts all its bytes
-  abbrev CountsAll : Token → Type 0
-  CountsAll t = (p q : ℕ) → counts t p q ≡ q - p
-
-  readings-count : (i : Result Int Reason) (d : Result Decimal Reason) (t : Result Timestamp Reason) → IfOk (scalar_of_readings {S = SymbolAt} i d t) (λ v. CountsAll (plain v))
-  readings-count (Ok i) d t = λ p q. refl
-  readings-count (Err BadToken) (Ok d) t = λ p q. refl
-  readings-count (Err BadToken) (Err BadToken) (Ok t) = λ p q. refl
-  readings-count (Err BadToken) (Err BadToken) (Err reason) = tt
-  readings-count (Err BadToken) (Err reason) t = tt
-  readings-count (Err reason) d t = tt
-
-  run-counts : (run : List ℕ) → IfOk (run_token run) CountsAll
-  unfolding scalar_of_run
-  run-counts run = by (scalar_of_readings (int_of_text run) (decimal_of_text run) (timestamp_of_text run)) (readings-count (int_of_text run) (decimal_of_text run) (timestamp_of_text run))
-    where
-      by : (o : Result (Scalar SymbolAt) Reason) → IfOk o (λ v. CountsAll (plain v)) → IfOk (o >>= (λ v. Ok (plain v))) CountsAll
-      by (Ok v) h = h
-      by (Err reason) h = tt
-
-  keyword-counts : (k : Option Keyword) (word : List ℕ) → IfOk (by_keyword k word) CountsAll
-  keyword-counts (Some (a_null (Some type))) word = λ p q. refl
-  keyword-counts (Some (a_null None)) word = tt
-  keyword-counts (Some (a_bool truth)) word = λ p q. refl
-  keyword-counts (Some a_nan) word = λ p q. refl
-  keyword-counts None word = λ p q. refl
-
-  word-counts : (word : List ℕ) → IfOk (word_token word) CountsAll
-  unfolding word_token
-  word-counts word = keyword-counts (keyword word) word
+  -- ---- tokens
 
   -- what a token at a place counts
   abbrev token_counts : ℕ → Token × Cursor → ℕ
@@ -274,16 +274,14 @@ module _ (limit : ℕ) where
           ap (λ (o : Result Token Reason). o >>= (λ t. token_at_end t (skip (length bytes) c))) is
           ∙ within (counts t c.place (c.place + length bytes)) (t, skip (length bytes) c) (let kept = ltb-false limit (length bytes) e in omega (arith, kept, all c.place (c.place + length bytes)))
 
-  -- ---- tokens
-
   infinity-limited : (c : Cursor) (b : Bool) → nat_lt limit 4 ≡ b → (refuse b ScalarLimit >> tokens.mark no_number 4 c) ≡ limited (c.place + 4 - c.place) (no_number, skip 4 c)
   infinity-limited c true e = over (c.place + 4 - c.place) (no_number, skip 4 c) (let passed = ltb-true limit 4 e in omega (arith, passed))
   infinity-limited c false e = within (c.place + 4 - c.place) (no_number, skip 4 c) (let kept = ltb-false limit 4 e in omega (arith, kept))
 
   token-limited : (f : First) (c : Cursor) → Limited (token_of (Some limit) f c) (token_of None f c) (token_counts c.place)
   unfolding token_of
-  token-limited a_run c = counted-limited (bytes_of in_run c.rest) c run_token (run-counts (bytes_of in_run c.rest))
-  token-limited a_word c = counted-limited (word_of c.rest) c word_token (word-counts (word_of c.rest))
+  token-limited a_run c = counted-limited (bytes_of in_run c.rest) c run_token (run_token-counts (bytes_of in_run c.rest))
+  token-limited a_word c = counted-limited (word_of c.rest) c word_token (word_token-counts (word_of c.rest))
   token-limited a_quoted c =
       map-limited (λ t. length t.0) (token_counts c.place) (text_at symbol_quote (Some limit) (skip 1 c)) (text_at symbol_quote None (skip 1 c)) (λ t. (name true (value.Text t.0), t.1)) (λ t. refl)
       (text-limited symbol_quote (skip 1 c))
@@ -304,19 +302,10 @@ module _ (limit : ℕ) where
   token-limited two_colons c = within 0 (colons, skip 2 c) (omega arith)
   token-limited no_token c = tt
 
-pub within-limit-read : WithinLimitIsRead
-unfolding next_token
-within-limit-read limit sexp c d t p tok =
-    let s = tok-stands sexp c d t p tok in
-    let b : Cursor = s.prefix in
-    let is : token_of (Some limit) (first_at sexp b.rest) b ≡ limited limit (counts t b.place d.place) (t, d) =
-        IfOk-at_ok (λ (x : Token × Cursor). token_of (Some limit) (first_at sexp b.rest) b ≡ limited limit (counts x.0 b.place x.1.place) x) s.token (token-limited limit (first_at sexp b.rest) b) in
-    ap (λ o. o >>= (λ b. part b.place (token_at (Some limit) sexp b) >>= (λ t. Ok (tokens.cut t.0 b.place t.1)))) s.blank
-    ∙ ap (λ (o : Result (Token × Cursor) Reason). part b.place o >>= (λ t. Ok (tokens.cut t.0 b.place t.1))) is
-    ∙ placed b.place (nat_lt limit (counts t b.place d.place))
-    ∙ ap (λ p. if nat_lt limit (counts t p d.place) then Err (ScalarLimit, p) else Ok (tokens.cut t p d)) s.place
-  where
-    placed : (p : ℕ) (b : Bool)
-        → (part p (if b then Err ScalarLimit else token_at_end t d) >>= (λ t. Ok (tokens.cut t.0 p t.1))) ≡ (if b then Err (ScalarLimit, p) else Ok (tokens.cut t p d))
-    placed p true = refl
-    placed p false = refl
+  pub token-exact : (f : First) (c : Cursor) (t : Token) (d : Cursor) → token_of None f c ≡ token_at_end t d → token_of (Some limit) f c ≡ limited (counts t c.place d.place) (t, d)
+  token-exact f c t d token =
+      IfOk-at_ok (λ (x : Token × Cursor). token_of (Some limit) f c ≡ limited (counts x.0 c.place x.1.place) x) token (token-limited f c)
+
+  -- so it is read where the limit allows it
+  pub token-within : (f : First) (c : Cursor) (t : Token) (d : Cursor) → token_of None f c ≡ token_at_end t d → counts t c.place d.place ≤ limit → token_of (Some limit) f c ≡ token_at_end t d
+  token-within f c t d token le = token-exact f c t d token ∙ sym (within (counts t c.place d.place) (t, d) le)

@@ -221,7 +221,7 @@ counts tokens.colons p q = 0
 counts t p q = q - p
 
 -- under a limit a token is read where it counts no more, and else refused at its first byte
-abbrev pub WithinLimitIsRead : Type 0
-WithinLimitIsRead =
+abbrev pub TokensWithinAreRead : Type 0
+TokensWithinAreRead =
     (limit : ℕ) (sexp : Bool) (c d : Cursor) (t : Token) (p : ℕ) → Tok sexp c t p d
     → next_token (Some limit) sexp c ≡ (if nat_lt limit (counts t p d.place) then Err (ScalarLimit, p) else Ok (cut t p d))

@@ -2,6 +2,7 @@
 ghost use Rattle.ion_transcode.specs.Catalogues.{CatalogVerdictsAreRead, CatalogsAreLoaded, OneCatalog, OneCatalogVerdict, TablesAreCatalogs};
 ghost use Rattle.ion_transcode.specs.Forms.{binary_encoding, text_encoding};
 ghost use Rattle.ion_transcode.specs.Laws.{BinaryIsComplete, BinaryIsSound, OneSpelling, OneVerdict, SpellsOnce, StreamsAreRead, TextIsComplete, TextIsSound};
+ghost use Rattle.ion_transcode.specs.RoundTrip.{RoundTrip, ShowOnce, TextIsRead, ThereAndBack, ValuesOfStreams};
 ghost use Rattle.ion_transcode.specs.UserPaths.{FaultlessPathsAreRead, RefusedOutputIsThatOfAPath};
 
 use ion_binary::laws as binary;
@@ -157,4 +158,68 @@ pub fn one_catalog()
     ensures { OneCatalog }
 {
     one_spelling();
+}
+
+/// The canonical text of values is a stream of text, and its user values are these values, whatever
+/// the catalogue: of all values that a user of a stream can have.
+pub fn text_is_read()
+    ensures { TextIsRead }
+{
+    text::what_ends_a_number();
+    text::what_ends_a_symbol();
+    text::what_begins_a_token();
+    text::null_text_is_read();
+    text::bool_text_is_read();
+    text::int_text_is_read();
+    text::decimal_text_is_read();
+    text::timestamp_text_is_read();
+    text::string_text_is_read();
+    text::quoted_symbol_is_read();
+    text::plain_symbol_is_read();
+    text::clob_text_is_read();
+    text::base64_is_read();
+}
+
+/// The user values of each stream are such values: numbers in their ranges, texts in UTF-8, fields in
+/// structs alone, and no declaration. It holds of bytes, where the texts of the catalogue are UTF-8.
+pub fn values_of_streams()
+    ensures { ValuesOfStreams }
+{
+    text::what_begins_a_token();
+    binary::bodies_are_read();
+}
+
+/// What is written of the user values of a stream is a stream of these values, in text, and in binary
+/// too where it is not longer than a header can say. The catalogue by which it is read again may be
+/// any.
+pub fn round_trip()
+    ensures { RoundTrip }
+{
+    values_of_streams();
+    text_is_read();
+    binary::the_form_is_read();
+}
+
+/// A run to text over what a run to text wrote writes the same bytes, where both are accepted.
+pub fn show_once()
+    ensures { ShowOnce }
+{
+    values_of_streams();
+    text_is_read();
+    text::one_stream();
+}
+
+/// A run to text over the binary that was written of a text writes what a run to text over that text
+/// does, where all three are accepted.
+pub fn there_and_back()
+    ensures { ThereAndBack }
+{
+    values_of_streams();
+    binary::the_form_is_read();
+    text_is_spelled_once();
+    binary_is_spelled_once();
+    text_is_sound();
+    faultless_paths_are_read();
+    binary::items_are_refused_as_in_trees();
+    binary::none_is_refused_within();
 }

@@ -1,0 +1,10 @@
+use Rattle.ion_transcode.proofs.ReadAgain.{there-and-back}
+use Rattle.ion_transcode.proofs.ShortRuns.{short-runs}
+use Rattle.ion_transcode.proofs.laws.there_and_back.Goals as goal
+
+pub returns : goal.returns
+returns c =
+    there-and-back c.values_of_streams.ensures c.the_form_is_read.ensures
+    (short-runs c.text_is_sound.ensures c.faultless_paths_are_read.ensures c.items_are_refused_as_in_trees.ensures
+    c.none_is_refused_within.ensures c.text_is_spelled_once.ensures.stream)
+    c.text_is_spelled_once.ensures.stream c.binary_is_spelled_once.ensures.stream

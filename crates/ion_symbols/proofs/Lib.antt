@@ -18,11 +18,15 @@ mod DeclarationReadings
 mod Yields
 mod DeclarationLists
 pub mod DeclarationMeaning
+mod AllAppended
 mod StandingSymbols
 mod IdsAbove
 mod Accepted
 mod Costly
 mod UserReadings
+mod OtherSymbols
+mod TextTables
+mod RawUsers
 mod OpenDeclarations
 mod OpenUsers
 mod RefusedUsers

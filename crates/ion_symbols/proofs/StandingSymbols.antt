@@ -1,5 +1,5 @@
 -- Where no item of a value is at fault, each of its symbols stands in the table.
-use Rattle.std.proofs.Common.{◌≡◌, ℕ, true, List, [], ◌∷◌, ◌++◌, Option, Some, None, refl}
+use Rattle.std.proofs.Common.{◌≡◌, ℕ, true, List, [], ◌∷◌, Option, Some, None, refl}
 use Rattle.std.specs.List.{AllByRecursion}
 use Rattle.ion_value.specs.Value as value
 use Rattle.ion_value.specs.Value.{Symbol, SymbolAt, Scalar, Value, Members, scalar, container, nothing, member, PlacedItem, value_items, member_items, bare_item}
@@ -8,22 +8,15 @@ use Rattle.ion_symbols.specs.Table.{Slot, Table, slot_of}
 use Rattle.ion_symbols.specs.Users.{Checked, fine, bad, or_else, slot_checked, symbol_checked, at_checked, field_checked, annotations_checked, scalar_checked, head_checked, checked}
 use Rattle.ion_symbols.specs.Tree.{first_of, head_of}
 use Rattle.ion_symbols.specs.Laws.{IsSlot, SymbolStands, Stands, FieldStands, ScalarStands, ValueStands, MembersStand}
+use Rattle.ion_symbols.proofs.AllAppended.{AllByRecursion-before, AllByRecursion-behind}
 
--- no item is at fault as one of a user value
+-- an item is not at fault as one of a user value
+abbrev pub IsFine : Table → PlacedItem → Type 0
+IsFine t i = checked t true i ≡ fine
+
+-- no item is
 abbrev pub AllFine : Table → List PlacedItem → Type 0
-AllFine t is = AllByRecursion (λ i. checked t true i ≡ fine) is
-
-pub AllFine-append : (t : Table) (is js : List PlacedItem) → AllFine t is → AllFine t js → AllFine t (is ++ js)
-AllFine-append t [] js h k = k
-AllFine-append t (i ∷ is) js h k = (h.0, AllFine-append t is js h.1 k)
-
-AllFine-before : (t : Table) (is js : List PlacedItem) → AllFine t (is ++ js) → AllFine t is
-AllFine-before t [] js h = tt
-AllFine-before t (i ∷ is) js h = (h.0, AllFine-before t is js h.1)
-
-AllFine-behind : (t : Table) (is js : List PlacedItem) → AllFine t (is ++ js) → AllFine t js
-AllFine-behind t [] js h = h
-AllFine-behind t (i ∷ is) js h = AllFine-behind t is js h.1
+AllFine t is = AllByRecursion (IsFine t) is
 
 -- one check after another
 else_fine : (a b : Checked) → or_else a b ≡ fine → (a ≡ fine) × (b ≡ fine)
@@ -71,10 +64,13 @@ mutual
       (first.0, first.1, scalar-stands t body first.2)
   value-stands t top field annotations place (container k members last) h =
       let first = first-stands t top field annotations place (container k members last) h.0 in
-      (first.0, first.1, members-stand t top members (AllFine-before t (member_items top members) (bare_item value.end last top ∷ []) h.1))
+      let inside = AllByRecursion-before (IsFine t) (member_items top members) (bare_item value.end last top ∷ []) h.1 in
+      (first.0, first.1, members-stand t top members inside)
 
   members-stand : (t : Table) (top : ℕ) (members : Members SymbolAt ℕ) → AllFine t (member_items top members) → MembersStand t members
   members-stand t top nothing h = tt
   members-stand t top (member before field annotations place x) h =
-      let here = value-stands t top field annotations place x (AllFine-behind t (member_items top before) (value_items top field annotations place x) h) in
-      (members-stand t top before (AllFine-before t (member_items top before) (value_items top field annotations place x) h), here.0, here.1, here.2)
+      let earlier = AllByRecursion-before (IsFine t) (member_items top before) (value_items top field annotations place x) h in
+      let own = AllByRecursion-behind (IsFine t) (member_items top before) (value_items top field annotations place x) h in
+      let here = value-stands t top field annotations place x own in
+      (members-stand t top before earlier, here.0, here.1, here.2)

@@ -17,7 +17,8 @@ use Rattle.ion_symbols.specs.Users.{Checked, fine, bad, checked, resolve, plain,
 use Rattle.ion_symbols.specs.Tree.{first_of, content_of, next_table, declared, user_at, declares_table, user_tops}
 use Rattle.ion_symbols.specs.Laws.{by_declared, WhatIsDeclared, UsersAreRead, table_behind, UsersStand, SymbolsStand}
 use Rattle.ion_value.specs.Value.{user_item}
-use Rattle.ion_symbols.proofs.StandingSymbols.{AllFine, AllFine-append, value-stands}
+use Rattle.ion_symbols.proofs.AllAppended.{AllByRecursion-append}
+use Rattle.ion_symbols.proofs.StandingSymbols.{IsFine, AllFine, value-stands}
 use Rattle.ion_symbols.proofs.DeclarationReadings.{behind_append, declarations_are_read}
 
 -- ---- the items of a value as a user knows them
@@ -138,7 +139,7 @@ both_pass catalog limit t m n is js rest items p q = record {
   items_are =
       p.items_are ∙ (ap (λ l. map (resolve t) is ++ l) q.items_are
       ∙ (sym (append_assoc (map (resolve t) is) (map (resolve t) js) q.later) ∙ ap (λ l. l ++ q.later) (sym (map-append (resolve t) is js))));
-  checks = AllFine-append t is js p.checks q.checks;
+  checks = AllByRecursion-append (IsFine t) is js p.checks q.checks;
 }
 
 -- nothing stands in front
@@ -236,7 +237,7 @@ TopsAreRead catalog limit tops ending = (t : Table) (items : List PlacedItem) �
     → AreRead catalog limit t tops ending items
 
 -- a value as a user knows it
-abbrev user_tree : Table → ℕ → List SymbolAt → ℕ → Value SymbolAt ℕ → Top UserSymbol ℕ
+abbrev pub user_tree : Table → ℕ → List SymbolAt → ℕ → Value SymbolAt ℕ → Top UserSymbol ℕ
 user_tree t first annotations place x = tree first (map (user_at t) annotations) place (map_value (user_at t) (λ p. p) x)
 
 -- a value that is no declaration stands in front of the others

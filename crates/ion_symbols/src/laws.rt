@@ -1,6 +1,7 @@
 //! Laws of the definitions of symbol tables, each the contract of a function that does nothing.
 ghost use Rattle.ion_symbols.specs.CatalogLaws.{CatalogsAreRead, CatalogsAreTables, WhyCatalogsAreRefused};
 ghost use Rattle.ion_symbols.specs.Laws.{DeclarationsAreRead, OpenUsersAreRead, SymbolsStand, UsersAreRead, WhatIsAccepted, WhatIsDeclared, WhyRefused, WhyUsersStop};
+ghost use Rattle.ion_symbols.specs.UserValues.{UsersOfRawValues};
 
 /// The streaming and the tree definitions of a declaration agree: its items give the table that its
 /// tree gives, or its tree's first fault, at each item first its symbols, then what it means.
@@ -48,6 +49,12 @@ pub fn symbols_stand()
 /// declaration, for what the item means.
 pub fn why_users_stop()
     ensures { WhyUsersStop }
+{}
+
+/// The user values of what a reader gives are such that a user can have: numbers in range, texts in
+/// UTF-8, bytes below 256, and no declaration; where the texts of the catalogue are UTF-8.
+pub fn users_of_raw_values()
+    ensures { UsersOfRawValues }
 {}
 
 /// The items of whole user values lead to the same catalogue as their trees, or to the same reason

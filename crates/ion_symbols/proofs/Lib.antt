@@ -24,6 +24,7 @@ mod IdsAbove
 mod Accepted
 mod Costly
 mod UserReadings
+mod ResolvedUsers
 mod OtherSymbols
 mod TextTables
 mod RawUsers

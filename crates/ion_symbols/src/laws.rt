@@ -1,6 +1,7 @@
 //! Laws of the definitions of symbol tables, each the contract of a function that does nothing.
 ghost use Rattle.ion_symbols.specs.CatalogLaws.{CatalogsAreRead, CatalogsAreTables, WhyCatalogsAreRefused};
 ghost use Rattle.ion_symbols.specs.Laws.{DeclarationsAreRead, OpenUsersAreRead, SymbolsStand, UsersAreRead, WhatIsAccepted, WhatIsDeclared, WhyRefused, WhyUsersStop};
+ghost use Rattle.ion_symbols.specs.Resolved.{WhatIsAcceptedIsResolved, WhatIsResolvedIsAccepted};
 ghost use Rattle.ion_symbols.specs.UserValues.{UsersOfRawValues};
 
 /// The streaming and the tree definitions of a declaration agree: its items give the table that its
@@ -49,6 +50,18 @@ pub fn symbols_stand()
 /// declaration, for what the item means.
 pub fn why_users_stop()
     ensures { WhyUsersStop }
+{}
+
+/// A stream is accepted where its symbols are all resolved: no symbol of a user value is above its
+/// table or in a gap of it, no annotation of a declaration is above the table before it, and each
+/// declaration leaves a table.
+pub fn what_is_resolved_is_accepted()
+    ensures { WhatIsResolvedIsAccepted }
+{}
+
+/// And no other stream is accepted.
+pub fn what_is_accepted_is_resolved()
+    ensures { WhatIsAcceptedIsResolved }
 {}
 
 /// The user values of what a reader gives are such that a user can have: numbers in range, texts in

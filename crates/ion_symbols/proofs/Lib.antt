@@ -45,3 +45,4 @@ mod CatalogCosts
 mod CatalogSteps
 mod CatalogMeaning
 mod CatalogRefusals
+mod CatalogTexts

@@ -21,7 +21,7 @@ use Rattle.ion_symbols.specs.UserValues.{SlotIsText, CatalogIsText}
 use Rattle.ion_symbols.proofs.AllAppended.{AllByRecursion-append}
 
 -- the texts of slots are UTF-8
-abbrev AreTexts : Slots → Type 0
+abbrev pub AreTexts : Slots → Type 0
 AreTexts slots = AllByRecursion SlotIsText slots
 
 -- so are those of imports
@@ -90,8 +90,8 @@ slot_of-text t id h =
 
 -- ---- the tables of a catalogue
 
--- a table that was found, if any
-abbrev FoundIsText : Option Shared → Type 0
+-- the texts of a table that was found, if any
+abbrev pub FoundIsText : Option Shared → Type 0
 FoundIsText found = IfSome found (λ s. AreTexts s.slots)
 
 -- one of two such tables
@@ -182,17 +182,18 @@ locals_of-text : (field : Option (Value SymbolAt ℕ)) → IfSome field IsWritab
 locals_of-text (Some (container kind.List members last)) h = elements-text kind.List members h
 locals_of-text field h = tt
 
+-- the first of two values, and the second where a test holds
+pub or_later-writable : {S : Type 0} (earlier : Option (Value S ℕ)) (b : Bool) (x : Value S ℕ) → IfSome earlier IsWritable → IsWritable x
+    → IfSome (or_later earlier (if b then Some x else None)) IsWritable
+or_later-writable (Some y) b x h k = h
+or_later-writable None true x h k = k
+or_later-writable None false x h k = tt
+
 value_of-writable : (texts : ℕ → Option (List ℕ)) (w : Word) (kind : Kind) (members : Members SymbolAt ℕ) → AreWritable kind members
     → IfSome (value_of texts w members) IsWritable
 value_of-writable texts w kind nothing h = tt
 value_of-writable texts w kind (member before field annotations place x) h =
-    by (value_of texts w before) (same_word (field_word texts field) w) (value_of-writable texts w kind before h.0)
-  where
-    by : (earlier : Option (Value SymbolAt ℕ)) (b : Bool) → IfSome earlier IsWritable
-        → IfSome (or_later earlier (if b then Some x else None)) IsWritable
-    by (Some y) b k = k
-    by None true k = h.1.1
-    by None false k = tt
+    or_later-writable (value_of texts w before) (same_word (field_word texts field) w) x (value_of-writable texts w kind before h.0) h.1.1
 
 -- ---- what a declaration leaves
 

@@ -1,5 +1,5 @@
 //! Laws of the definitions of symbol tables, each the contract of a function that does nothing.
-ghost use Rattle.ion_symbols.specs.CatalogLaws.{CatalogsAreRead, CatalogsAreTables, WhyCatalogsAreRefused};
+ghost use Rattle.ion_symbols.specs.CatalogLaws.{CatalogsAreRead, CatalogsAreTables, TablesOfUsersAreText, WhyCatalogsAreRefused};
 ghost use Rattle.ion_symbols.specs.Laws.{DeclarationsAreRead, OpenUsersAreRead, SymbolsStand, UsersAreRead, WhatIsAccepted, WhatIsDeclared, WhyRefused, WhyUsersStop};
 ghost use Rattle.ion_symbols.specs.Resolved.{WhatIsAcceptedIsResolved, WhatIsResolvedIsAccepted};
 ghost use Rattle.ion_symbols.specs.UserValues.{UsersOfRawValues};
@@ -87,4 +87,9 @@ pub fn catalogs_are_tables()
 /// `SymbolLimit` where its name and slots cost more than the limit with the tables before it.
 pub fn why_catalogs_are_refused()
     ensures { WhyCatalogsAreRefused }
+{}
+
+/// The texts of the tables that user values are, are UTF-8.
+pub fn tables_of_users_are_text()
+    ensures { TablesOfUsersAreText }
 {}

@@ -6,6 +6,7 @@ use Rattle.ion_value.specs.declared.ion_type.Kind.{Kind}
 use Rattle.ion_value.specs.declared.ion_type.Kind.TheVariants as kind
 use Rattle.ion_value.specs.Value as value
 use Rattle.ion_value.specs.Value.{Symbol, Id, SymbolAt, UserSymbol, Known, Unknown, Scalar, Value, Members, scalar, container, nothing, member, map_scalar, map_value, map_members, no_place}
+use Rattle.ion_value.specs.Writable.{AreWritable, IsWritable}
 use Rattle.ion_symbols.specs.Output.{position, system_texts, or_given}
 use Rattle.ion_symbols.specs.Declaration.{Ground}
 use Rattle.ion_symbols.specs.Laws.{IsCostly, IsDoubled, SomeAbove}
@@ -16,7 +17,6 @@ use Rattle.ion_symbols.proofs.DeclarationMeaning.{what_is_said, why_it_is_refuse
 use Rattle.ion_symbols.proofs.Keeping.{cost_append}
 use Rattle.ion_binary.specs.Canonical.{declaration, declaring, id_in, string_members}
 use Rattle.ion_binary.specs.Spelling.{IsSpelledAt, DeclarationsAreAccepted, WrittenDeclarationsAreRead, HasRoom, bare_symbol, with_id, with_texts}
-use Rattle.ion_value.specs.Writable.{AreWritable, IsWritable}
 use Rattle.ion_binary.proofs.WrittenSpelled.{value-spelled}
 
 -- ---- ids are small

@@ -15,6 +15,7 @@ use Rattle.ion_value.specs.Scalar as numbered
 use Rattle.ion_value.specs.Standing.{InRange, in_struct}
 use Rattle.ion_value.specs.Value as value
 use Rattle.ion_value.specs.Value.{Symbol, Id, SymbolAt, UserSymbol, Scalar, Value, Members, scalar, container, nothing, member, map_scalar, map_value, map_members, no_place}
+use Rattle.ion_value.specs.Writable.{HasText, IsWritable, AreWritable}
 use Rattle.ion_value.proofs.Octets.{digits_in-Digits}
 use Rattle.ion_value.proofs.VarOctets.{var_uint_octets-VarUInt}
 use Rattle.ion_value.proofs.DecimalOctets.{decimal_body-DecimalBody}
@@ -23,7 +24,6 @@ use Rattle.ion_binary.specs.Positions.{symbol_id, placed_scalar}
 use Rattle.ion_binary.specs.Grammar.{Descriptor, IsNullOf, Body, Plain, Ids, Field, Header, Wrapper, Annotated, Bin, Inside, type_code}
 use Rattle.ion_binary.specs.Canonical.{annotation_octets, field_octets, header, headed, id_octets, length_octets, members_octets, scalar_octets, value_octets, wrapped}
 use Rattle.ion_binary.specs.Spelling.{IsSpelledAt, ValuesAreSpelled, bare_symbol, with_id}
-use Rattle.ion_value.specs.Writable.{HasText, IsWritable, AreWritable}
 use Rattle.ion_binary.proofs.TimestampsRead.{timestamp_of_bytes-body}
 
 -- ---- headers

@@ -11,17 +11,16 @@ use Rattle.ion_value.specs.declared.ion_type.Kind.TheVariants as kind
 use Rattle.ion_value.specs.Items.{named, text_or_id}
 use Rattle.ion_value.specs.Value as value
 use Rattle.ion_value.specs.Value.{Symbol, Text, Id, SymbolAt, UserSymbol, Known, Unknown, user_symbol, Scalar, Value, Members, scalar, container, nothing, member, Top, version, tree, map_scalar, map_value, map_members, no_place, unplaced_top}
+use Rattle.ion_value.specs.Writable.{IsText, field_symbols, members_symbols, scalar_symbols, value_symbols}
 use Rattle.ion_symbols.specs.Output.{position, system_texts, or_given, known_id}
 use Rattle.ion_symbols.specs.Declaration.{word_by_id}
 use Rattle.ion_symbols.specs.Table.{Shared, Slots, Table, system, system_slots, local_slot, slot_in, text_of_slot, text_at}
 use Rattle.ion_symbols.specs.Tree.{declares_table, next_table, user_at, user_tops}
 use Rattle.ion_symbols.specs.Users.{is_declaration}
+use Rattle.ion_symbols.specs.UserValues.{IsUser, is_declaring}
 use Rattle.ion_binary.specs.Grammar.{Bin, Tops}
 use Rattle.ion_binary.specs.Canonical.{declaration, id_in, is_over, marker_if, marker_octets, member_octets, octets_behind, texts_kept, tree_octets, value_octets, with_symbol, with_symbols, with_text}
-use Rattle.ion_value.specs.Writable.{value_symbols, members_symbols, field_symbols, scalar_symbols}
 use Rattle.ion_binary.specs.Spelling.{AreShort, IsDeclared, TheFormIsRead, bare_symbol, with_id, with_texts}
-use Rattle.ion_value.specs.Writable.{IsText}
-use Rattle.ion_symbols.specs.UserValues.{IsUser, is_declaring}
 use Rattle.ion_binary.proofs.KnownIds.{AreKnown, IsKnown, all_known, known_left}
 use Rattle.ion_binary.proofs.WrittenSpelled.{value-spelled}
 use Rattle.ion_binary.proofs.WrittenDeclarations.{written_declarations_are_read, id_in-lt, position-lt}

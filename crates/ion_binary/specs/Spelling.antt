@@ -1,16 +1,16 @@
 -- What is written can be read: the octets of values as the grammar has them.
-use Rattle.std.specs.Prelude.{◌≡◌, ℕ, ◌^◌, ◌<◌, ◌≤◌, Bool, false, List, [], ◌∷◌, ◌++◌, length, drop, map, Some, None, Ok, is_some, IsUtf8, ⊤}
+use Rattle.std.specs.Prelude.{◌≡◌, ℕ, ◌^◌, ◌<◌, ◌≤◌, List, [], ◌∷◌, ◌++◌, length, drop, map, Some, None, Ok, IsUtf8, ⊤}
 use Rattle.std.specs.List.{AllByRecursion}
-use Rattle.ion_value.specs.Value.{Symbol, Id, SymbolAt, UserSymbol, Known, Unknown, Scalar, Value, Members, scalar, container, nothing, member, Top, version, tree, map_value, no_place, unplaced_top}
-use Rattle.ion_binary.specs.Grammar.{Bin, Descriptor, Stream}
-use Rattle.ion_symbols.specs.UserValues.{IsUser}
-use Rattle.ion_symbols.specs.Declaration.{Ground}
-use Rattle.ion_symbols.specs.Table.{Shared, Table, system, text_at, word_of, table_cost, count_of, most_slots}
-use Rattle.ion_symbols.specs.Tree.{declared, declares_table, next_table, user_tops}
-use Rattle.ion_binary.specs.Canonical.{binary, declaration, header, id_in, is_over, member_octets, texts_kept, value_octets, with_symbols}
+use Rattle.ion_value.specs.Value.{Symbol, Id, SymbolAt, UserSymbol, Value, Members, Top, version, tree, map_value, no_place, unplaced_top}
 use Rattle.ion_value.specs.Writable.{IsWritable, value_symbols}
+use Rattle.ion_symbols.specs.Declaration.{Ground}
+use Rattle.ion_symbols.specs.Table.{Shared, Table, system, text_at, table_cost, count_of, most_slots}
+use Rattle.ion_symbols.specs.Tree.{declared, declares_table, next_table, user_tops}
+use Rattle.ion_symbols.specs.UserValues.{IsUser}
+use Rattle.ion_binary.specs.Grammar.{Bin, Descriptor, Stream}
+use Rattle.ion_binary.specs.Canonical.{binary, declaration, header, id_in, is_over, member_octets, texts_kept, value_octets, with_symbols}
 
--- ---- what they are in the grammar
+-- ---- headers and values
 
 -- no descriptor with the same type code and length has fewer octets than the header
 abbrev pub HeadersAreShortest : Type 0

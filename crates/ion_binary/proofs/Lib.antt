@@ -45,3 +45,5 @@ mod Annotations
 mod ValueParts
 mod ReaderParts
 mod ShortInts
+mod RawStreams
+mod ShortValues

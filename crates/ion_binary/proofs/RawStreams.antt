@@ -12,21 +12,8 @@ use Rattle.ion_value.proofs.TimestampOctets.{bytes-reading}
 use Rattle.ion_binary.specs.Grammar.{TimestampBody, Body, Plain, Ids, Field, Wrapper, Annotated, Bin, Inside, Tops}
 use Rattle.ion_binary.specs.Laws.{StreamsAreRaw}
 use Rattle.ion_binary.specs.Positions.{placed_scalar}
+use Rattle.ion_binary.proofs.Elements.{all-append, all-left, all-right}
 use Rattle.ion_binary.proofs.TimestampsSpelled.{TimestampBody-read}
-
--- ---- what holds of each element
-
-pub all-append : {A : Type 0} (P : A → Type 0) (xs ys : List A) → AllByRecursion P xs → AllByRecursion P ys → AllByRecursion P (xs ++ ys)
-all-append P [] ys h k = k
-all-append P (x ∷ xs) ys h k = (h.0, all-append P xs ys h.1 k)
-
-pub all-left : {A : Type 0} (P : A → Type 0) (xs ys : List A) → AllByRecursion P (xs ++ ys) → AllByRecursion P xs
-all-left P [] ys h = tt
-all-left P (x ∷ xs) ys h = (h.0, all-left P xs ys h.1)
-
-pub all-right : {A : Type 0} (P : A → Type 0) (xs ys : List A) → AllByRecursion P (xs ++ ys) → AllByRecursion P ys
-all-right P [] ys h = h
-all-right P (x ∷ xs) ys h = all-right P xs ys h.1
 
 abbrev Small : ℕ → Type 0
 Small b = b < 256

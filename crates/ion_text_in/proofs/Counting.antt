@@ -268,7 +268,7 @@ chosen-most b n bytes true ends x y lx ly = lx
 chosen-most b n bytes false true x y lx ly = omega arith
 chosen-most b n bytes false false x y lx ly = omega (arith, ly)
 
-group-most : (n : ℕ) (bytes : List ℕ) → length (group_of n bytes).0 ≤ n
+pub group-most : (n : ℕ) (bytes : List ℕ) → length (group_of n bytes).0 ≤ n
 unfolding group_of
 group-most zero bytes = omega arith
 group-most (suc n) [] = omega arith

@@ -14,6 +14,11 @@ mod Meaning
 mod Texts
 mod Blobs
 mod Strings
+mod WentWell
+mod DecodedBytes
+mod LobBytes
+mod RawTokens
+mod RawStreams
 mod Narrow
 mod Refused
 mod TokenFaults

@@ -1,10 +1,12 @@
 -- What is true of the grammar and the reading: laws that contracts cite.
 use Rattle.std.specs.Prelude.{◌≡◌, ℕ, ◌<◌, ◌≤◌, ◌⊎◌, Bool, List, [], ◌∷◌, ◌++◌, length, sum_by, Option, Some, Err}
+use Rattle.std.specs.List.{AllByRecursion}
 use Rattle.ion_meter.specs.declared.fault.Reason.{Reason}
 use Rattle.ion_meter.specs.declared.fault.Reason.TheVariants.{DepthLimit, ScalarLimit, AnnotationLimit}
 use Rattle.ion_meter.specs.declared.limits.Limits.{Limits}
 use Rattle.ion_value.specs.declared.ion_type.Kind.{Kind}
 use Rattle.ion_value.specs.Value.{Symbol, SymbolAt, Top}
+use Rattle.ion_value.specs.Writable.{IsRaw}
 use Rattle.ion_value.specs.Path.{Path, closed, path_items}
 use Rattle.ion_value.specs.Reading.{Reading, Finished, Stopped, Shrinks, items_of, behind, reading_by}
 use Rattle.ion_value.specs.ReadingLaws.{ending_of, IsLimit, Allows, AreWithin, IsBegun}
@@ -61,6 +63,13 @@ pub data Passes (limits : Limits) (s : State) (place : ℕ) : Reason → Type 0 
       → Tok (in_sexp (innermost s.kinds)) d colons q e → limits.scalar < sum_by cost (annotations ++ at symbol place ∷ [])
       → Passes limits s place AnnotationLimit
 
+-- a stream that passes no limit at any place is read to its end
+abbrev pub WithinLimitsAreRead : Type 0
+WithinLimitsAreRead =
+    (limits : Limits) (bytes : List ℕ) (tops : List (Top SymbolAt ℕ)) → Stream bytes tops
+    → ((path : Path SymbolAt ℕ) (s : State) (reason : Reason) (place : ℕ) → At bytes path s → Passes limits s place reason → ⊥)
+    → reading limits bytes ≡ behind (path_items (closed tops)) Finished
+
 -- two readings come to one state with the same items; there one stops, since its limits are passed, and the other goes
 -- on
 pub record IsCut (limits wide : Limits) (bytes : List ℕ) : Type 0 where
@@ -108,3 +117,7 @@ OnePath =
 -- the same bytes are one list of version markers and values
 abbrev pub OneStream : Type 0
 OneStream = (bytes : List ℕ) (a b : List (Top SymbolAt ℕ)) → Stream bytes a → Stream bytes b → a ≡ b
+
+-- what a stream has at top level is raw: numbers in range, texts in UTF-8, lobs of bytes, fields in structs alone
+abbrev pub StreamsAreRaw : Type 0
+StreamsAreRaw = (bytes : List ℕ) (tops : List (Top SymbolAt ℕ)) → Stream bytes tops → AllByRecursion IsRaw tops

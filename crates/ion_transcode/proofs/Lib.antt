@@ -23,15 +23,6 @@ mod ScalarTokens
 mod TokensInText
 mod ValuesAreSpelled
 mod TextOfValuesIsRead
-mod StreamValues
 mod ReadAgain
 mod ShortRuns
-mod WithinIsShort
-mod UsersOfRawValues
-mod TextTables
-mod BinaryIsRaw
-mod TextIsRaw
-mod TokensAreRaw
-mod LobsAreRaw
-mod DecodedAreBytes
 mod NeededPremises

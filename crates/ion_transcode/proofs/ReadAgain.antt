@@ -21,10 +21,19 @@ use Rattle.ion_transcode.specs.Encoding.{Encoding}
 use Rattle.ion_transcode.specs.Forms.{encoding_of, form_of}
 use Rattle.ion_transcode.specs.Outputs.{Outputs, outputs_of, resolved}
 use Rattle.ion_transcode.specs.Verdict.{HasVerdict, HasVerdictAs, HasVerdictFrom, whole, refused}
-use Rattle.ion_symbols.specs.UserValues.{AreUsers}
+use Rattle.ion_symbols.specs.UserValues.{AreUsers, UsersOfRawValues}
 use Rattle.ion_transcode.specs.RoundTrip.{ValuesOfStreams, TextIsRead, RoundTrip, ShowOnce, ThereAndBack}
 use Rattle.ion_transcode.proofs.ShortRuns.{ShortRuns}
 use Rattle.ion_transcode.proofs.ValuesAreSpelled.{id-map}
+
+-- ---- values of streams
+
+-- by what is true of them before their ids are resolved
+pub values-of-streams : UsersOfRawValues → binary_laws.StreamsAreRaw → text_laws.StreamsAreRaw → ValuesOfStreams
+values-of-streams users binary_raw text_raw form.Binary catalog bytes tops us small texts stream are =
+    users catalog tops us texts (binary_raw bytes tops small stream) are
+values-of-streams users binary_raw text_raw form.Text catalog bytes tops us small texts stream are =
+    users catalog tops us texts (text_raw bytes tops stream) are
 
 -- ---- the round trip
 

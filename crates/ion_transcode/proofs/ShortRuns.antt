@@ -12,7 +12,7 @@ use Rattle.ion_symbols.specs.Table.{Shared, system}
 use Rattle.ion_symbols.specs.Tree.{user_tops}
 use Rattle.ion_symbols.specs.Users as users
 use Rattle.ion_binary.specs.Refusals.{refused_behind, ItemsAreRefusedAsInTrees, NoneIsRefused, AreWithin, NoneIsRefusedWithin}
-use Rattle.ion_binary.specs.Spelling.{AreShort}
+use Rattle.ion_binary.specs.Spelling.{AreShort, WhatIsWithinIsShort}
 use Rattle.ion_binary.specs.Writing.{binary_refusal}
 use Rattle.ion_text_in.specs.Laws as text_laws
 use Rattle.ion_transcode.specs.declared.to.Form.{Form}
@@ -25,7 +25,6 @@ use Rattle.ion_transcode.specs.Laws.{TextIsSound}
 use Rattle.ion_transcode.specs.Outputs.{outputs_of, resolved}
 use Rattle.ion_transcode.specs.UserPaths.{IsUserPath, none_open, value_open, declaration_open, FaultlessPathsAreRead}
 use Rattle.ion_transcode.specs.Verdict.{Faultless, HasVerdict, HasVerdictAs, HasVerdictFrom, whole, refused}
-use Rattle.ion_transcode.proofs.WithinIsShort.{short-within, declaration-is-short}
 
 -- where a run to binary accepts a text, its user values and their declarations are as short as the limits allow
 abbrev pub ShortRuns : Type 0
@@ -151,8 +150,8 @@ module _ (sound : TextIsSound) (along : FaultlessPathsAreRead) (trees : ItemsAre
       within law others us mine s u fine (ap (user_tops catalog system) same ∙ users)
   within-by law one v mid n is (refused path mine s u reason place at faultless fault) tops us st users = absurd (cc is)
 
-pub short-runs : TextIsSound → FaultlessPathsAreRead → ItemsAreRefusedAsInTrees → NoneIsRefusedWithin → text_laws.OneStream → ShortRuns
-short-runs sound along trees law one catalog limits bytes mid n tops us checked is_text verdict stream users =
+pub short-runs : TextIsSound → FaultlessPathsAreRead → ItemsAreRefusedAsInTrees → NoneIsRefusedWithin → WhatIsWithinIsShort → text_laws.OneStream → ShortRuns
+short-runs sound along trees law short one catalog limits bytes mid n tops us checked is_text verdict stream users =
     let as_text : HasVerdictAs (resolved form.Text to.Binary) form.Text catalog limits bytes (Accepted n) mid =
     subst (λ (f : Form). HasVerdictAs (resolved f to.Binary) f catalog limits bytes (Accepted n) mid) is_text verdict in
-    short-within declaration-is-short limits checked [] us (within-by sound along trees catalog limits bytes law one (Accepted n) mid n refl as_text tops us stream users)
+    short limits us checked (within-by sound along trees catalog limits bytes law one (Accepted n) mid n refl as_text tops us stream users)

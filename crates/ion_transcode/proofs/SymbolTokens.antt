@@ -15,7 +15,7 @@ use Rattle.ion_symbols.specs.Tree.{user_at}
 use Rattle.ion_value.specs.Writable.{IsText, AreBytes}
 use Rattle.ion_text_in.specs.Beginnings.{EndsIdentifier, NumbersEnd, IdentifiersEnd, WhatBegins, IsOneOf}
 use Rattle.ion_text_in.specs.Grammar.{IsVersionWord, bare}
-use Rattle.ion_text_in.specs.Meaning.{at, Means, EndsSymbol, Chars, quoted, NullTextIsRead, BoolTextIsRead, PlainSymbolIsRead, IntTextIsRead, DecimalTextIsRead, TimestampTextIsRead, StringTextIsRead, QuotedSymbolIsRead, ClobTextIsRead, Base64IsRead}
+use Rattle.ion_text_in.specs.Meaning.{at, Means, EndsSymbol, Chars, quoted, NullTextIsRead, BoolTextIsRead, PlainSymbolIsRead, IdWordIsRead, IntTextIsRead, DecimalTextIsRead, TimestampTextIsRead, StringTextIsRead, QuotedSymbolIsRead, ClobTextIsRead, Base64IsRead}
 use Rattle.ion_text_in.specs.Positions as positions
 use Rattle.ion_text_in.specs.Token.{First, a_run, a_word, a_quoted, a_short, a_long, a_lob, an_operator, an_infinity, a_begin, an_end, a_comma, a_colon, two_colons, no_token, first_at, Token, plain, name, text, colon, colons, in_word, with_type, counted, word_of, word_token, token_of, token_at}
 use Rattle.ion_text_in.specs.Places.{run_of}
@@ -39,6 +39,7 @@ pub record TextLaws : Type 0 where
   pub strings : StringTextIsRead
   pub quoted_symbols : QuotedSymbolIsRead
   pub plain_symbols : PlainSymbolIsRead
+  pub ids : IdWordIsRead
   pub clobs : ClobTextIsRead
   pub blobs : Base64IsRead
 
@@ -175,30 +176,12 @@ known-by laws s utf8 small false is f e g = record {
 known-is : TextLaws → (s : List ℕ) → IsUtf8 s → AreBytes s → SymbolIs (Known s)
 known-is laws s utf8 small = known-by laws s utf8 small (is_plain s) refl _ refl refl
 
--- `$0`
-zero-run : (rest : List ℕ) → in_word rest ≡ false → run_of in_word (48 ∷ rest) ≡ (48 ∷ [], rest)
-unfolding run_of
-zero-run [] e = refl
-zero-run (b ∷ bytes) e = rw (run_of, e) refl
-
-zero-word : (rest : List ℕ) → in_word rest ≡ false → word_of (codes "$0" ++ rest) ≡ codes "$0"
-zero-word rest ends = ap (λ (z : List ℕ × List ℕ). with_type (36 ∷ z.0) z.1) (zero-run rest ends)
-
-zero-token : word_token (codes "$0") ≡ Ok (name false (Id 0))
-unfolding word_token
-zero-token = refl
-
-zero-means : (sexp : Bool) (place : ℕ) (rest : List ℕ) → in_word rest ≡ false → token_at None sexp (at place (codes "$0" ++ rest)) ≡ Ok (name false (Id 0), at (place + 2) rest)
-unfolding first_at token_of
-zero-means sexp place rest ends =
-    ap (λ (w : List ℕ). counted None w (at place (codes "$0" ++ rest)) >>= (λ w. word_token w.0 >>= (λ t. got t w.1))) (zero-word rest ends)
-    ∙ ap (λ (o : Result Token Reason). o >>= (λ t. got t (at (place + 2) rest))) zero-token
-
+-- a symbol that has no text is the id 0
 unknown-is : TextLaws → SymbolIs Unknown
 unknown-is laws = record {
   quoted = false;
   symbol = Id 0;
-  token = record { speaks = refl; read = λ sexp place rest after. zero-means sexp place rest ((laws.identifiers_end rest).1 (ends-identifier laws.identifiers_end rest after)) };
+  token = means-token _ EndsIdentifier BehindSymbol _ _ refl (λ rest after. ends-identifier laws.identifiers_end rest after) (laws.ids (codes "$0") refl);
   user = λ t place. refl;
   no_version = λ k annotations v. none k annotations v;
 }

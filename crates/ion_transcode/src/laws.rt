@@ -8,6 +8,7 @@ ghost use Rattle.ion_transcode.specs.UserPaths.{FaultlessPathsAreRead, RefusedOu
 use ion_binary::laws as binary;
 use ion_symbols::laws::{
     catalogs_are_read, catalogs_are_tables, open_users_are_read, users_are_read,
+    users_of_raw_values,
 };
 use ion_text_in::laws as text;
 use ion_text_out::laws::{path_text_is_that_of_items, text_is_that_of_items};
@@ -176,6 +177,7 @@ pub fn text_is_read()
     text::string_text_is_read();
     text::quoted_symbol_is_read();
     text::plain_symbol_is_read();
+    text::id_is_read();
     text::clob_text_is_read();
     text::base64_is_read();
 }
@@ -185,8 +187,9 @@ pub fn text_is_read()
 pub fn values_of_streams()
     ensures { ValuesOfStreams }
 {
-    text::what_begins_a_token();
-    binary::bodies_are_read();
+    users_of_raw_values();
+    binary::streams_are_raw();
+    text::streams_are_raw();
 }
 
 /// What is written of the user values of a stream is a stream of these values, in text, and in binary
@@ -222,4 +225,5 @@ pub fn there_and_back()
     faultless_paths_are_read();
     binary::items_are_refused_as_in_trees();
     binary::none_is_refused_within();
+    binary::what_is_within_is_short();
 }

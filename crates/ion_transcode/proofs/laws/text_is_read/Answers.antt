@@ -14,6 +14,7 @@ returns c = text-is-read (record {
   strings = c.string_text_is_read.ensures;
   quoted_symbols = c.quoted_symbol_is_read.ensures;
   plain_symbols = c.plain_symbol_is_read.ensures;
+  ids = c.id_is_read.ensures.words;
   clobs = c.clob_text_is_read.ensures;
   blobs = c.base64_is_read.ensures;
 })

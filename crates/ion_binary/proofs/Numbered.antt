@@ -13,10 +13,10 @@ use Rattle.ion_value.specs.Number.{var_uint_octets}
 use Rattle.ion_value.specs.Shares.{Charges, MemoryCauses, WriteCauses, fault_of}
 use Rattle.ion_value.specs.Value as value
 use Rattle.ion_value.specs.Value.{SymbolAt, UserSymbol, Known, Unknown, user_symbol_at, user_item, map_head, map_scalar, Head, Scalar, Item, PlacedItem}
+use Rattle.ion_value.specs.Writable.{field_symbols, scalar_symbols}
 use Rattle.ion_symbols.specs.Output.{Output, texts_cost, id_given}
 use Rattle.ion_binary.specs.declared.front.Front.{Front}
 use Rattle.ion_binary.specs.Canonical.{field_octets, id_in, id_octets, with_symbol, with_symbols}
-use Rattle.ion_value.specs.Writable.{field_symbols, scalar_symbols}
 use Rattle.ion_binary.specs.ItemOctets.{head_name}
 use Rattle.ion_binary.specs.Numbering.{CanNumber, IsFront, Numbering, Numbers, PutsWithin, held_by, numbering, users}
 use Rattle.ion_binary.specs.Writing.{first_over, head_symbols, item_symbols}

@@ -7,8 +7,8 @@ use Rattle.ion_value.specs.Scalar as numbered
 use Rattle.ion_value.specs.Scalar.{scalar_body, scalar_code}
 use Rattle.ion_value.specs.Value as value
 use Rattle.ion_value.specs.Value.{UserSymbol, Known, Unknown, Scalar, Value, Members, scalar, container, nothing, member, Top, version, tree, Head, Item}
-use Rattle.ion_symbols.specs.Output.{known_id, texts_cost}
 use Rattle.ion_value.specs.Writable.{value_symbols}
+use Rattle.ion_symbols.specs.Output.{known_id, texts_cost}
 use Rattle.ion_binary.specs.Grammar.{type_code}
 
 -- ---- headers

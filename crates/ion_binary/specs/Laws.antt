@@ -1,5 +1,6 @@
 -- What is true of the grammar and the reading: laws that contracts cite.
 use Rattle.std.specs.Prelude.{◌≡◌, ◌≢◌, ℕ, ◌+◌, ◌*◌, ◌<◌, ◌≤◌, ◌⊎◌, List, [], ◌++◌, length, Ok}
+use Rattle.std.specs.List.{AllByRecursion}
 use Rattle.ion_meter.specs.declared.fault.Reason.{Reason}
 use Rattle.ion_meter.specs.declared.fault.Reason.TheVariants.{Truncated, DepthLimit, ScalarLimit, AnnotationLimit}
 use Rattle.ion_meter.specs.declared.limits.Limits.{Limits}
@@ -11,6 +12,7 @@ use Rattle.ion_value.specs.Value.{Symbol, SymbolAt, Scalar, Top, PlacedItem}
 use Rattle.ion_value.specs.Path.{Path, closed, path_items}
 use Rattle.ion_value.specs.Reading.{Reading, Finished, Stopped, Shrinks, items_of, behind}
 use Rattle.ion_value.specs.ReadingLaws.{ending_of, IsLimit, Allows, AreWithin, IsBegun}
+use Rattle.ion_value.specs.Writable.{AreBytes, IsRaw}
 use Rattle.ion_binary.specs.Bodies.{IsBodyTypeCode}
 use Rattle.ion_binary.specs.Grammar.{Descriptor, Body, Ids, Header, Tops, Stream}
 use Rattle.ion_binary.specs.Paths.{IsPath, At, Follows}
@@ -53,6 +55,10 @@ abbrev pub StreamsAreRead : Type 0
 StreamsAreRead =
     (limits : Limits) (bytes : List ℕ) (ts : List (Top SymbolAt ℕ)) → Allows limits bytes → Tops ts bytes
     → reading limits bytes ≡ behind (path_items (closed ts)) Finished
+
+-- the values of a stream of bytes are as streams have them: their numbers are in range, strings are text, and clobs and blobs bytes
+abbrev pub StreamsAreRaw : Type 0
+StreamsAreRaw = (bytes : List ℕ) (tops : List (Top SymbolAt ℕ)) → AreBytes bytes → Stream bytes tops → AllByRecursion IsRaw tops
 
 -- a reading is a prefix of another, up to a limit's fault
 pub data IsCut : Reading → Reading → Type 0 where

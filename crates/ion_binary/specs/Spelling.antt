@@ -1,16 +1,19 @@
 -- What is written can be read: the octets of values as the grammar has them.
-use Rattle.std.specs.Prelude.{◌≡◌, ℕ, ◌^◌, ◌<◌, ◌≤◌, Bool, false, List, [], ◌∷◌, ◌++◌, length, drop, map, Some, None, Ok, is_some, IsUtf8, ⊤}
+use Rattle.std.specs.Prelude.{◌≡◌, ℕ, ◌^◌, ◌<◌, ◌≤◌, List, [], ◌∷◌, ◌++◌, length, drop, map, Some, None, Ok, IsUtf8, ⊤}
 use Rattle.std.specs.List.{AllByRecursion}
-use Rattle.ion_value.specs.Value.{Symbol, Id, SymbolAt, UserSymbol, Known, Unknown, Scalar, Value, Members, scalar, container, nothing, member, Top, version, tree, map_value, no_place, unplaced_top}
-use Rattle.ion_binary.specs.Grammar.{Bin, Descriptor, Stream}
-use Rattle.ion_symbols.specs.UserValues.{IsUser}
-use Rattle.ion_symbols.specs.Declaration.{Ground}
-use Rattle.ion_symbols.specs.Table.{Shared, Table, system, text_at, word_of, table_cost, count_of, most_slots}
-use Rattle.ion_symbols.specs.Tree.{declared, declares_table, next_table, user_tops}
-use Rattle.ion_binary.specs.Canonical.{binary, declaration, header, id_in, is_over, member_octets, texts_kept, value_octets, with_symbols}
+use Rattle.ion_meter.specs.Limits.{AreChecked}
+use Rattle.ion_meter.specs.declared.limits.Limits.{Limits}
+use Rattle.ion_value.specs.Value.{Symbol, Id, SymbolAt, UserSymbol, Value, Members, Top, version, tree, map_value, no_place, unplaced_top}
 use Rattle.ion_value.specs.Writable.{IsWritable, value_symbols}
+use Rattle.ion_symbols.specs.Declaration.{Ground}
+use Rattle.ion_symbols.specs.Table.{Shared, Table, system, text_at, table_cost, count_of, most_slots}
+use Rattle.ion_symbols.specs.Tree.{declared, declares_table, next_table, user_tops}
+use Rattle.ion_symbols.specs.UserValues.{IsUser}
+use Rattle.ion_binary.specs.Grammar.{Bin, Descriptor, Stream}
+use Rattle.ion_binary.specs.Canonical.{binary, declaration, header, id_in, is_over, member_octets, texts_kept, value_octets, with_symbols}
+use Rattle.ion_binary.specs.Refusals.{AreWithin}
 
--- ---- what they are in the grammar
+-- ---- headers and values
 
 -- no descriptor with the same type code and length has fewer octets than the header
 abbrev pub HeadersAreShortest : Type 0
@@ -95,6 +98,10 @@ AreShort limit texts (tree first annotations place x ∷ ts) =
     (length (declaration (drop (length kept) all)) < 2 ^ 62)
     × ((length (member_octets (id_in all) None annotations (value_octets (id_in all) x)) < 2 ^ 62)
     × ((length all ≤ 2 ^ 30) × AreShort limit all ts))
+
+-- values of which a writer refuses nothing under checked limits are so short
+abbrev pub WhatIsWithinIsShort : Type 0
+WhatIsWithinIsShort = (limits : Limits) (tops : List (Top UserSymbol ℕ)) → AreChecked limits → AreWithin limits [] tops → AreShort limits.symbols [] tops
 
 -- the canonical form of values is a stream of which they are the user values, under every catalogue
 pub record IsRead (catalog : List Shared) (limit : ℕ) (tops : List (Top UserSymbol ℕ)) : Type 0 where

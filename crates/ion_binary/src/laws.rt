@@ -1,11 +1,12 @@
 //! Laws of the grammar and the reading of the binary form, each the contract of a function that
 //! does nothing.
-ghost use Rattle.ion_binary.specs.Laws.{Bodies, Complete, EachStepFalls, EachStepFollows, ExactLimits, Narrow, NoStreamBegins, OnePath, OneStream, RightlyRefused, Sound, Stable, StreamsAreRead};
+ghost use Rattle.ion_binary.specs.Laws.{Bodies, Complete, EachStepFalls, EachStepFollows, ExactLimits, Narrow, NoStreamBegins, OnePath, OneStream, RightlyRefused, Sound, Stable, StreamsAreRaw, StreamsAreRead};
 ghost use Rattle.ion_binary.specs.WritingLaws.{ClosedSizeIsThatOfTheClosing, IdsAreGiven, ItemsAddTheirOctets, ItemsPutTheForm, OpenItemsPutWhatIsWhole, RefusedItemsAddNothing};
 ghost use Rattle.ion_binary.specs.Refusals.{ItemsAreRefusedAsInTrees, NoneIsRefusedWithin};
 ghost use Rattle.ion_binary.specs.Held.{WhatIsHeldMoves};
 ghost use Rattle.ion_binary.specs.Places.{ClosedSizeByCounts, ClosedSizeByPlaces};
-ghost use Rattle.ion_binary.specs.Spelling.{DeclarationsAreAccepted, WrittenDeclarationsAreRead, HeadersAreShortest, TheFormIsRead, ValuesAreSpelled};
+ghost use Rattle.ion_binary.specs.WrittenLimits.{WhatIsWrittenIsWithinLimits};
+ghost use Rattle.ion_binary.specs.Spelling.{DeclarationsAreAccepted, WrittenDeclarationsAreRead, HeadersAreShortest, TheFormIsRead, ValuesAreSpelled, WhatIsWithinIsShort};
 
 /// Every body of a scalar that the grammar has is read to its value, and no other body is read.
 pub fn bodies_are_read()
@@ -43,6 +44,13 @@ pub fn what_is_spelled_is_read()
 /// allow it.
 pub fn streams_are_read()
     ensures { StreamsAreRead }
+{}
+
+/// The values of a stream are as streams have them: their ints, decimals and timestamps are in
+/// range, strings are UTF-8, fields stand in structs alone, and clobs and blobs are bytes where the
+/// input is.
+pub fn streams_are_raw()
+    ensures { StreamsAreRaw }
 {}
 
 /// Of two paths of one input, the items of one begin the other's.
@@ -174,4 +182,17 @@ pub fn declarations_are_accepted()
 /// ids at once.
 pub fn the_form_is_read()
     ensures { TheFormIsRead }
+{}
+
+/// Values of which a writer refuses nothing under checked limits are short enough for that: each
+/// value and declaration, and the number of texts that have ids at once.
+pub fn what_is_within_is_short()
+    ensures { WhatIsWithinIsShort }
+{}
+
+/// What is written of values is read to its end under the limits of the writer, where it refuses
+/// nothing of them and they fit: by the depth of their containers, the length of their scalars and
+/// of the texts of their symbols, and the number of annotations of each.
+pub fn what_is_written_is_within_limits()
+    ensures { WhatIsWrittenIsWithinLimits }
 {}

@@ -5,6 +5,7 @@ pub mod Tree
 pub mod UserValues
 pub mod Output
 pub mod Laws
+pub mod Resolved
 pub mod Kept
 pub mod Catalogue
 pub mod Present

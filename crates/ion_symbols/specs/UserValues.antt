@@ -1,10 +1,10 @@
 -- What is true of the values that a user of a stream has, whatever encoding it is in.
-use Rattle.std.specs.Prelude.{◌≡◌, ℕ, Bool, false, List, [], ◌∷◌, Option, Some, None, IsUtf8, ⊤}
+use Rattle.std.specs.Prelude.{◌≡◌, ℕ, Bool, false, List, ◌∷◌, Option, Some, None, IsUtf8, ⊤}
 use Rattle.std.specs.List.{AllByRecursion}
 use Rattle.ion_value.specs.declared.ion_type.Kind.TheVariants as kind
 use Rattle.ion_value.specs.Value.{SymbolAt, UserSymbol, Known, Value, container, Top, version, tree}
 use Rattle.ion_value.specs.Writable.{IsRaw, IsText, IsWritable, TopHasBytes, value_symbols}
-use Rattle.ion_symbols.specs.Table.{Shared, Table, system, word_of}
+use Rattle.ion_symbols.specs.Table.{Shared, system, word_of}
 use Rattle.ion_symbols.specs.Tree.{user_tops}
 use Rattle.ion_symbols.specs.Users.{is_declaration}
 

@@ -15,3 +15,15 @@ mod Following
 mod Copying
 mod LoadParts
 mod TableStreams
+mod BehindValues
+mod QuotedBytes
+mod Utf8Bytes
+mod SymbolTokens
+mod ScalarTokens
+mod TokensInText
+mod ValuesAreSpelled
+mod TextOfValuesIsRead
+mod TextWithoutPlaces
+mod ReadAgain
+mod ShortRuns
+mod NeededPremises

@@ -10,4 +10,5 @@ pub mod ByItem
 pub mod Catalogues
 pub mod Laws
 pub mod UserPaths
+pub mod RoundTrip
 pub mod Calls

@@ -1,6 +1,6 @@
 //! Laws of the grammar and the reading of the binary form, each the contract of a function that
 //! does nothing.
-ghost use Rattle.ion_binary.specs.Laws.{Bodies, Complete, EachStepFalls, EachStepFollows, ExactLimits, Narrow, NoStreamBegins, OnePath, OneStream, RightlyRefused, Sound, Stable, StreamsAreRaw, StreamsAreRead};
+ghost use Rattle.ion_binary.specs.Laws.{Bodies, Complete, EachStepFalls, EachStepFollows, ExactLimits, Narrow, NoStreamBegins, OnePath, OneStream, RightlyRefused, Sound, Stable, StreamsAreRaw, StreamsAreRead, WithinLimitsAreRead};
 ghost use Rattle.ion_binary.specs.WritingLaws.{ClosedSizeIsThatOfTheClosing, IdsAreGiven, ItemsAddTheirOctets, ItemsPutTheForm, OpenItemsPutWhatIsWhole, RefusedItemsAddNothing};
 ghost use Rattle.ion_binary.specs.Refusals.{ItemsAreRefusedAsInTrees, NoneIsRefusedWithin};
 ghost use Rattle.ion_binary.specs.Held.{WhatIsHeldMoves};
@@ -79,10 +79,16 @@ pub fn no_stream_begins()
     ensures { NoStreamBegins }
 {}
 
-/// A reading stops at a limit only where the limit is passed: at the header of a container where so
-/// many are open, at a scalar that announces a longer body, or at the annotation that passes it.
+/// A reading stops at a limit only where the limit is passed, at the next value behind what it has
+/// read: at the header of a container where so many are open, at a scalar that announces a longer
+/// body, or at the annotation that passes it.
 pub fn limits_are_exact()
     ensures { ExactLimits }
+{}
+
+/// A stream that passes no limit at any place is read to its end.
+pub fn streams_within_limits_are_read()
+    ensures { WithinLimitsAreRead }
 {}
 
 /// The items of whole values put the canonical form of the values, whatever the limit of symbol

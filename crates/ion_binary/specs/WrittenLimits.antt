@@ -3,10 +3,12 @@ use Rattle.std.specs.Prelude.{◌≡◌, ℕ, suc, ◌*◌, ◌<◌, ◌≤◌, 
 use Rattle.std.specs.List.{AllByRecursion}
 use Rattle.ion_meter.specs.Limits.{AreChecked}
 use Rattle.ion_meter.specs.declared.limits.Limits.{Limits}
-use Rattle.ion_value.specs.Decimal.{decimal_body}
+use Rattle.ion_value.specs.declared.decimal.Decimal.{Decimal}
+use Rattle.ion_value.specs.declared.timestamp.Timestamp.{Timestamp}
+use Rattle.ion_value.specs.Decimal.{IsDecimal, decimal_body}
 use Rattle.ion_value.specs.Path.{closed, path_items}
 use Rattle.ion_value.specs.Reading.{Finished, behind}
-use Rattle.ion_value.specs.Timestamp.{timestamp_body}
+use Rattle.ion_value.specs.Timestamp.{IsTimestamp, timestamp_body}
 use Rattle.ion_value.specs.Value as value
 use Rattle.ion_value.specs.Value.{SymbolAt, UserSymbol, Known, Unknown, Scalar, Value, Members, scalar, container, nothing, member, Top, version, tree}
 use Rattle.ion_value.specs.Writable.{value_symbols}
@@ -28,6 +30,12 @@ ScalarFits limits (value.symbol name) = ⊤
 ScalarFits limits (value.string bytes) = length bytes ≤ limits.scalar
 ScalarFits limits (value.clob bytes) = length bytes ≤ limits.scalar
 ScalarFits limits (value.blob bytes) = length bytes ≤ limits.scalar
+
+-- so decimals and timestamps are where the limit is 26 or more
+abbrev pub NumbersFit : Type 0
+NumbersFit =
+    (limits : Limits) → 26 ≤ limits.scalar
+    → ((d : Decimal) → IsDecimal d → ScalarFits limits (value.decimal d)) × ((t : Timestamp) → IsTimestamp t → ScalarFits limits (value.timestamp t))
 
 -- annotations, each counting 16, cost no more than the limit on scalars
 abbrev pub AnnotationsFit : {S : Type 0} → Limits → List S → Type 0

@@ -5,7 +5,7 @@ ghost use Rattle.ion_binary.specs.WritingLaws.{ClosedSizeIsThatOfTheClosing, Ids
 ghost use Rattle.ion_binary.specs.Refusals.{ItemsAreRefusedAsInTrees, NoneIsRefusedWithin};
 ghost use Rattle.ion_binary.specs.Held.{WhatIsHeldMoves};
 ghost use Rattle.ion_binary.specs.Places.{ClosedSizeByCounts, ClosedSizeByPlaces};
-ghost use Rattle.ion_binary.specs.WrittenLimits.{WhatIsWrittenIsWithinLimits};
+ghost use Rattle.ion_binary.specs.WrittenLimits.{NumbersFit, WhatIsWrittenIsWithinLimits};
 ghost use Rattle.ion_binary.specs.Spelling.{DeclarationsAreAccepted, WrittenDeclarationsAreRead, HeadersAreShortest, TheFormIsRead, ValuesAreSpelled, WhatIsWithinIsShort};
 
 /// Every body of a scalar that the grammar has is read to its value, and no other body is read.
@@ -194,6 +194,11 @@ pub fn the_form_is_read()
 /// value and declaration, and the number of texts that have ids at once.
 pub fn what_is_within_is_short()
     ensures { WhatIsWithinIsShort }
+{}
+
+/// Each decimal and each timestamp in range fits a limit on scalars of 26 or more, as it is written.
+pub fn numbers_fit()
+    ensures { NumbersFit }
 {}
 
 /// What is written of values is read to its end under the limits of the writer, where it refuses

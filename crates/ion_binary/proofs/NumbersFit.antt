@@ -86,8 +86,13 @@ module _ (t u : Timestamp) (h : IsTimestamp t) (i : InUtc t u) where
       let few : u.fraction < 10 ^ n = rw i.same_fraction keeps.2 in
       let fraction : length (coefficient_octets false u.fraction) ≤ 16 = fraction-short n u.fraction keeps.1 few in
       let parts : whole_octets u ++ (var_int_octets true n ++ coefficient_octets false u.fraction) ≡ timestamp_body t = body-fraction t u n i.is_utc i.moment e in
-      omega (arith, whole-few, ap length parts, length-append (whole_octets u) (var_int_octets true n ++ coefficient_octets false u.fraction),
-      length-append (var_int_octets true n) (coefficient_octets false u.fraction))
+      omega (
+        arith,
+        whole-few,
+        ap length parts,
+        length-append (whole_octets u) (var_int_octets true n ++ coefficient_octets false u.fraction),
+        length-append (var_int_octets true n) (coefficient_octets false u.fraction),
+      )
 
   body-short : (p : Precision) → u.precision ≡ p → length (timestamp_body t) ≤ 26
   body-short (Fraction n) e = with-fraction n e

@@ -138,8 +138,8 @@ pub record PassesLimit (limits : Limits) (s : State) (place : ℕ) : Type 0 wher
   pub within : 16 * length annotations ≤ limits.scalar
   pub above : limits.scalar < 16 * (length annotations + 1)
 
--- a limit is passed where a reading stands, at a place of the next value: by the header of one more container, by the descriptor of a scalar that
--- announces a longer body, or by an annotation
+-- a limit is passed where a reading stands, at a place of the next value: by the header of one more container, by the descriptor of a
+-- scalar that announces a longer body, or by an annotation
 pub data Passes (limits : Limits) (s : State) (place : ℕ) : Reason → Type 0 where
   container : (k : Kind) (n : ℕ) (header : List ℕ) → BeginNext s place header → Header k n header → limits.depth ≤ length s.frames
       → Passes limits s place DepthLimit

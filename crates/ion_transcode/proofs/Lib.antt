@@ -19,6 +19,7 @@ mod BehindValues
 mod QuotedBytes
 mod Utf8Bytes
 mod SymbolTokens
+mod ShortTexts
 mod ScalarTokens
 mod TokensInText
 mod ValuesAreSpelled

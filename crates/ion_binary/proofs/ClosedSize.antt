@@ -7,8 +7,9 @@ use Rattle.ion_value.specs.Value.{UserSymbol, Scalar, Value, scalar, container, 
 use Rattle.ion_value.specs.Path.{Nest, outermost, inner, Path, closed, opened, begin_item, close_all, closing, nest_items, path_items, with_head, with_item}
 use Rattle.ion_value.specs.Path as path
 use Rattle.ion_value.specs.Standing.{Fits, is_marker}
+use Rattle.ion_value.specs.Writable.{field_symbols, members_symbols}
 use Rattle.ion_binary.specs.Grammar.{type_code}
-use Rattle.ion_binary.specs.Canonical.{binary, field_symbols, headed, id_in, is_over, marker_octets, member_octets, members_octets, members_symbols, texts_kept, value_octets, with_symbols}
+use Rattle.ion_binary.specs.Canonical.{binary, headed, id_in, is_over, marker_octets, member_octets, members_octets, texts_kept, value_octets, with_symbols}
 use Rattle.ion_binary.specs.Writing.{Unclosed, Written, after_all, all_closed, at_begin, closed_size, item_symbols, with_ids_given, opened_with, own_octets}
 use Rattle.ion_binary.specs.WritingLaws.{ClosedSizeIsThatOfTheClosing, OpenItemsPutWhatIsWhole, last_size, size_behind, top_size}
 use Rattle.ion_binary.specs.Refusals.{texts_behind}

@@ -11,12 +11,13 @@ use Rattle.ion_value.specs.ReadingLaws.{Allows}
 use Rattle.ion_value.proofs.ReadingLaws.{prefixes}
 use Rattle.ion_value.proofs.Readings.{behind-append, reading_by-ends, reading_by-gives, reading_by-goes_on, items_of-behind}
 use Rattle.ion_value.proofs.Paths.{same_path}
-use Rattle.ion_binary.specs.Grammar.{IsNopPad, type_code, Header, Annotated, Bin, Inside, Tops}
+use Rattle.ion_binary.specs.Grammar.{IsNopPad, Annotated, Bin, Inside, Tops}
 use Rattle.ion_binary.specs.Laws.{Bodies, Complete, StreamsAreRead, OnePath, OneStream}
 use Rattle.ion_binary.specs.Paths.{FieldIn, Within, frame_of, open_in, Spells}
 use Rattle.ion_binary.specs.Positions.{placed_scalar, Frame, State}
 use Rattle.ion_binary.specs.Reading.{Around, TypedValue, a_nop_pad, a_marker, a_scalar, a_container, placed_item, step_for, region_of, top_of, step, size, start, reading}
-use Rattle.ion_binary.proofs.Spelled.{cursor_at, Holds, Holds-before, Holds-within, Descriptor-headed}
+use Rattle.ion_binary.proofs.Fitting.{BinFits, InsideFits, TopsFit, SpellsFit, Tops-allowed, Spells-allowed}
+use Rattle.ion_binary.proofs.Spelled.{cursor_at, Holds, Holds-before, Holds-within}
 use Rattle.ion_binary.proofs.SpelledParts.{Suits, Finds, Plain-found, IsNopPad-found, marker-found, Header-found}
 use Rattle.ion_binary.proofs.SpelledMembers.{unwrapped, wrapped_to, value_at-bare, value_at-spelled, member_at-spelled, state, step-member, step-end, step-ends}
 
@@ -61,13 +62,9 @@ Within-before : (frames : List Frame) (p q : ℕ) → Within frames q → p ≤ 
 Within-before [] p q h le = tt
 Within-before (frame ∷ frames) p q h le = omega arith
 
-Header-pos : (k : Kind) (n : ℕ) (header : List ℕ) → Header k n header → 0 < length header
-Header-pos _ _ _ (Header.plain k n head descriptor other) = let headed = Descriptor-headed (type_code k) n head descriptor in omega (arith, ap length headed.is)
-Header-pos _ _ _ (Header.sorted n len spells some) = omega arith
-
 -- a value of n octets, of which what is found is the header, is read in one step
 value_step : (limits : Limits) (frames : List Frame) (top p : ℕ) (f : Option SymbolAt) (b : List ℕ) (q : ℕ) (annotations : List SymbolAt) (n : ℕ) (v : TypedValue) (w x rest : List ℕ)
-    → FieldIn frames p f b → q ≡ p + length b → Annotated q annotations n w → 16 * length w ≤ limits.scalar → Within frames (q + length w + n) → length x ≤ n
+    → FieldIn frames p f b → q ≡ p + length b → Annotated q annotations n w → 16 * length annotations ≤ limits.scalar → Within frames (q + length w + n) → length x ≤ n
     → ((a : Around) → a.depth ≡ length frames → Suits a (q + length w + n) → Finds limits a (q + length w) v x)
     → step limits (state frames top (cursor_at p (b ++ (w ++ (x ++ rest))))) ≡ step_for frames (top_of frames top p) f annotations (q + length w) v (cursor_at (q + length w + length x) rest)
 value_step limits frames top p f b q annotations n v w x rest field place annotated limit within fits found =
@@ -145,28 +142,27 @@ module _ (bodies : Bodies) (limits : Limits) (shrinks : Shrinks (step limits) si
 
   mutual
     -- a value's items are read, and reading stands behind it
-    Bin-reads : (q : ℕ) (annotations : List SymbolAt) (h : ℕ) (v : Value SymbolAt ℕ) (x : List ℕ) → Bin q annotations h v x
+    Bin-reads : (q : ℕ) (annotations : List SymbolAt) (h : ℕ) (v : Value SymbolAt ℕ) (x : List ℕ) (bin : Bin q annotations h v x)
         → (frames : List Frame) (top p : ℕ) (f : Option SymbolAt) (b rest : List ℕ) → FieldIn frames p f b → q ≡ p + length b → Within frames (q + length x)
-        → length frames + length x ≤ limits.depth → 16 * length x ≤ limits.scalar
+        → BinFits limits (length frames) bin
         → Reads limits (state frames top (cursor_at p (b ++ (x ++ rest)))) (value_items (top_of frames top p) f annotations h v) (state frames (top_of frames top p) (cursor_at (q + length x) rest))
-    Bin-reads _ _ _ _ _ (Bin.scalar q annotations v w x annotated plain) frames top p f b rest field place within deep limit =
+    Bin-reads _ _ _ _ _ (Bin.scalar q annotations v w x annotated plain) frames top p f b rest field place within fits =
         let long : length (w ++ x) ≡ length w + length x = length-append w x in
         let end : q + length w + length x ≡ q + length (w ++ x) = omega arith in
-        let once = value_step limits frames top p f b q annotations (length x) (a_scalar v) w x rest field place annotated (omega arith) (rw end within) (omega arith)
-        (λ a same suits. Plain-found bodies limits a (q + length w) v x plain suits (omega arith)) in
+        let once = value_step limits frames top p f b q annotations (length x) (a_scalar v) w x rest field place annotated fits.0 (rw end within) (omega arith)
+        (λ a same suits. Plain-found bodies limits a (q + length w) v x plain suits fits.1) in
         rw (append_assoc w x rest)
         (Reads-gives limits shrinks (state frames top (cursor_at p (b ++ (w ++ (x ++ rest))))) (state frames (top_of frames top p) (cursor_at (q + length (w ++ x)) rest))
         (placed_item (top_of frames top p) f annotations (q + length w) (value.whole (placed_scalar (q + length w) v))) (rw end at once))
-    Bin-reads _ _ _ _ _ (Bin.container q annotations k ms w header x annotated is_header inside) frames top p f b rest field place within deep limit =
-        let some : 0 < length header = Header-pos k (length x) header is_header in
+    Bin-reads _ _ _ _ _ (Bin.container q annotations k ms w header x annotated is_header inside) frames top p f b rest field place within fits =
         let long : length (w ++ header) ≡ length w + length header = length-append w header in
         let whole : length ((w ++ header) ++ x) ≡ length (w ++ header) + length x = length-append (w ++ header) x in
         let first : q + length w + length header ≡ q + length (w ++ header) = omega arith in
         let last : q + length w + length header + length x ≡ q + length ((w ++ header) ++ x) = omega arith in
         let sum : q + length w + (length header + length x) ≡ q + length w + length header + length x = omega arith in
-        let once = value_step limits frames top p f b q annotations (length header + length x) (a_container k (q + length w + length header + length x)) w header (x ++ rest) field place annotated (omega arith)
+        let once = value_step limits frames top p f b q annotations (length header + length x) (a_container k (q + length w + length header + length x)) w header (x ++ rest) field place annotated fits.0
         (rw (sum, last) within) (omega arith)
-        (λ a same suits. Header-found limits a (q + length w) k (length x) header is_header (rw sum at suits) (omega arith)) in
+        (λ a same suits. Header-found limits a (q + length w) k (length x) header is_header (rw sum at suits) (omega (arith, fits.1))) in
         let start_in : State = state (frame_of k (q + length ((w ++ header) ++ x)) ∷ frames) (top_of frames top p) (cursor_at (q + length (w ++ header)) (x ++ rest)) in
         let end_in : State = state (frame_of k (q + length ((w ++ header) ++ x)) ∷ frames) (top_of frames top p) (cursor_at (q + length ((w ++ header) ++ x)) rest) in
         let after : State = state frames (top_of frames top p) (cursor_at (q + length ((w ++ header) ++ x)) rest) in
@@ -176,46 +172,46 @@ module _ (bodies : Bodies) (limits : Limits) (shrinks : Shrinks (step limits) si
         let begins : Reads limits before (begin ∷ []) start_in = Reads-gives limits shrinks before start_in begin (rw (last, first) at once) in
         let place_in : q + length (w ++ header) + length x ≡ q + length ((w ++ header) ++ x) = omega arith in
         let members : Reads limits start_in (member_items (top_of frames top p) ms) end_in =
-        rw place_in at (Inside-reads k (q + length (w ++ header)) ms x inside frames (top_of frames top p) (q + length ((w ++ header) ++ x)) rest (omega arith) (omega arith) (omega arith)) in
+        rw place_in at (Inside-reads k (q + length (w ++ header)) ms x inside frames (top_of frames top p) (q + length ((w ++ header) ++ x)) rest (omega arith) fits.2) in
         let ends : Reads limits end_in (end ∷ []) after = Reads-gives limits shrinks end_in after end (step-end limits k frames (top_of frames top p) (q + length ((w ++ header) ++ x)) rest) in
         rw (append_assoc (w ++ header) x rest, append_assoc w header (x ++ rest))
         (Reads-then limits before start_in after (begin ∷ []) (member_items (top_of frames top p) ms ++ end ∷ []) begins
         (Reads-then limits start_in end_in after (member_items (top_of frames top p) ms) (end ∷ []) members ends))
 
     -- and so are those of a container's members
-    Inside-reads : (k : Kind) (q : ℕ) (ms : Members SymbolAt ℕ) (x : List ℕ) → Inside k q ms x
-        → (frames : List Frame) (top end : ℕ) (rest : List ℕ) → q + length x ≤ end → suc (length frames) + length x ≤ limits.depth → 16 * length x ≤ limits.scalar
+    Inside-reads : (k : Kind) (q : ℕ) (ms : Members SymbolAt ℕ) (x : List ℕ) (inside : Inside k q ms x)
+        → (frames : List Frame) (top end : ℕ) (rest : List ℕ) → q + length x ≤ end → InsideFits limits (suc (length frames)) inside
         → Reads limits (state (frame_of k end ∷ frames) top (cursor_at q (x ++ rest))) (member_items top ms) (state (frame_of k end ∷ frames) top (cursor_at (q + length x) rest))
-    Inside-reads _ _ _ _ (Inside.nothing k q) frames top end rest within deep limit = let same : q + 0 ≡ q = omega arith in rw same refl
-    Inside-reads _ _ _ _ (Inside.nop_pad k q f ms c b p more field is) frames top end rest within deep limit =
+    Inside-reads _ _ _ _ (Inside.nothing k q) frames top end rest within fits = let same : q + 0 ≡ q = omega arith in rw same refl
+    Inside-reads _ _ _ _ (Inside.nop_pad k q f ms c b p more field is) frames top end rest within fits =
         let long : length (c ++ (b ++ p)) ≡ length c + length (b ++ p) = length-append c (b ++ p) in
         let place : q + length c + length (b ++ p) ≡ q + length (c ++ (b ++ p)) = omega arith in
         let open_ones : List Frame = frame_of k end ∷ frames in
-        let members = Inside-reads k q ms c more frames top end ((b ++ p) ++ rest) (omega arith) (omega arith) (omega arith) in
+        let members = Inside-reads k q ms c more frames top end ((b ++ p) ++ rest) (omega arith) fits in
         let skipped = nop_pad-reads open_ones top (q + length c) f b p rest field (omega arith) is in
         rw append_assoc
         (Reads-silent limits (state open_ones top (cursor_at q (c ++ ((b ++ p) ++ rest)))) (state open_ones top (cursor_at (q + length c) ((b ++ p) ++ rest)))
         (state open_ones top (cursor_at (q + length (c ++ (b ++ p))) rest)) (member_items top ms) members (rw place at skipped))
-    Inside-reads _ _ _ _ (Inside.with_value k q h f annotations v ms c b x more field bin) frames top end rest within deep limit =
+    Inside-reads _ _ _ _ (Inside.with_value k q h f annotations v ms c b x more field bin) frames top end rest within fits =
         let long : length (c ++ (b ++ x)) ≡ length c + length (b ++ x) = length-append c (b ++ x) in
         let longer : length (b ++ x) ≡ length b + length x = length-append b x in
         let header : length (c ++ b) ≡ length c + length b = length-append c b in
         let place : q + length (c ++ b) + length x ≡ q + length (c ++ (b ++ x)) = omega arith in
         let open_ones : List Frame = frame_of k end ∷ frames in
-        let members = Inside-reads k q ms c more frames top end (b ++ (x ++ rest)) (omega arith) (omega arith) (omega arith) in
-        let one = Bin-reads (q + length (c ++ b)) annotations h v x bin open_ones top (q + length c) f b rest field (omega arith) (omega arith) (omega arith) (omega arith) in
+        let members = Inside-reads k q ms c more frames top end (b ++ (x ++ rest)) (omega arith) fits.0 in
+        let one = Bin-reads (q + length (c ++ b)) annotations h v x bin open_ones top (q + length c) f b rest field (omega arith) (omega arith) fits.1 in
         rw (append_assoc c (b ++ x) rest, append_assoc b x rest)
         (Reads-then limits (state open_ones top (cursor_at q (c ++ (b ++ (x ++ rest))))) (state open_ones top (cursor_at (q + length c) (b ++ (x ++ rest))))
         (state open_ones top (cursor_at (q + length (c ++ (b ++ x))) rest)) (member_items top ms) (value_items top f annotations h v) members (rw place at one))
 
   -- the items of what is spelled at top level are read
-  Tops-reads : (ts : List (Top SymbolAt ℕ)) (b : List ℕ) → Tops ts b → length b ≤ limits.depth → 16 * length b ≤ limits.scalar
+  Tops-reads : (ts : List (Top SymbolAt ℕ)) (b : List ℕ) (tops : Tops ts b) → TopsFit limits tops
       → (rest : List ℕ) → (top : ℕ) × Reads limits (start (b ++ rest)) (top_items ts) (state [] top (cursor_at (length b) rest))
-  Tops-reads _ _ Tops.nothing deep limit rest = (0, refl)
-  Tops-reads _ _ (Tops.marker ts b more) deep limit rest =
+  Tops-reads _ _ Tops.nothing fits rest = (0, refl)
+  Tops-reads _ _ (Tops.marker ts b more) fits rest =
       let four : List ℕ = 224 ∷ 1 ∷ 0 ∷ 234 ∷ [] in
       let long : length (b ++ four) ≡ length b + 4 = length-append b four in
-      let before = Tops-reads ts b more (omega arith) (omega arith) (224 ∷ 1 ∷ 0 ∷ 234 ∷ rest) in
+      let before = Tops-reads ts b more fits (224 ∷ 1 ∷ 0 ∷ 234 ∷ rest) in
       let same : length b + 0 ≡ length b = omega arith in
       let found : Finds limits (unwrapped []) (length b + 0) a_marker four = marker-found limits (unwrapped []) (length b + 0) refl refl in
       let once = bare_step limits [] before.0 (length b) None [] a_marker four rest (refl, refl) tt found in
@@ -227,38 +223,37 @@ module _ (bodies : Bodies) (limits : Limits) (shrinks : Shrinks (step limits) si
         rw (append_assoc b four rest, top_items-append ts (value.version (length b)))
             (Reads-then limits (start (b ++ (four ++ rest))) s t (top_items ts) (item ∷ []) before.1 one),
       )
-  Tops-reads _ _ (Tops.nop_pad ts b p more is) deep limit rest =
+  Tops-reads _ _ (Tops.nop_pad ts b p more is) fits rest =
       let long : length (b ++ p) ≡ length b + length p = length-append b p in
-      let before = Tops-reads ts b more (omega arith) (omega arith) (p ++ rest) in
+      let before = Tops-reads ts b more fits (p ++ rest) in
       let s : State = state [] before.0 (cursor_at (length b) (p ++ rest)) in
       let t : State = state [] (length b) (cursor_at (length (b ++ p)) rest) in
       let one : Reads limits s [] t = rw (← long) at (nop_pad-reads [] before.0 (length b) None [] p rest (refl, refl) tt is) in
       (length b, rw (append_assoc b p rest) (Reads-silent limits (start (b ++ (p ++ rest))) s t (top_items ts) before.1 one))
-  Tops-reads _ _ (Tops.with_value ts h annotations v b x more bin) deep limit rest =
+  Tops-reads _ _ (Tops.with_value ts h annotations v b x more bin) fits rest =
       let long : length (b ++ x) ≡ length b + length x = length-append b x in
-      let before = Tops-reads ts b more (omega arith) (omega arith) (x ++ rest) in
+      let before = Tops-reads ts b more fits.0 (x ++ rest) in
       let s : State = state [] before.0 (cursor_at (length b) (x ++ rest)) in
       let t : State = state [] (length b) (cursor_at (length (b ++ x)) rest) in
       let one : Reads limits s (value_items (length b) None annotations h v) t =
-      rw (← long) at (Bin-reads (length b) annotations h v x bin [] before.0 (length b) None [] rest (refl, refl) (omega arith) tt (omega arith) (omega arith)) in (
+      rw (← long) at (Bin-reads (length b) annotations h v x bin [] before.0 (length b) None [] rest (refl, refl) (omega arith) tt fits.1) in (
         length b,
         rw (append_assoc b x rest, top_items-append ts (value.tree (length b) annotations h v))
             (Reads-then limits (start (b ++ (x ++ rest))) s t (top_items ts) (value_items (length b) None annotations h v) before.1 one),
       )
 
   -- the bytes of a path are read to where it stands: its frames are open, and its items are read
-  Spells-reads : (path : Path SymbolAt ℕ) (frames : List Frame) (b : List ℕ) → Spells path frames b → length b ≤ limits.depth → 16 * length b ≤ limits.scalar
-      → (rest : List ℕ) → (top : ℕ) × IsTopIn path frames top × (length frames ≤ length b) × Reads limits (start (b ++ rest)) (path_items path) (state frames top (cursor_at (length b) rest))
-  Spells-reads _ _ _ (Spells.top ts b tops) deep limit rest =
-      let whole = Tops-reads ts b tops deep limit rest in
-      (whole.0, refl, omega arith, whole.1)
-  Spells-reads _ _ _ (Spells.inside path frames f annotations k ms n b x w header c spells field annotated is_header inside fits within) deep limit rest =
-      let some : 0 < length header = Header-pos k n header is_header in
+  Spells-reads : (path : Path SymbolAt ℕ) (frames : List Frame) (b : List ℕ) (spells : Spells path frames b) → SpellsFit limits spells
+      → (rest : List ℕ) → (top : ℕ) × IsTopIn path frames top × Reads limits (start (b ++ rest)) (path_items path) (state frames top (cursor_at (length b) rest))
+  Spells-reads _ _ _ (Spells.top ts b tops) fits rest =
+      let whole = Tops-reads ts b tops fits rest in
+      (whole.0, refl, whole.1)
+  Spells-reads _ _ _ (Spells.inside path frames f annotations k ms n b x w header c spells field annotated is_header inside short within) fits rest =
       let l1 : length (b ++ x) ≡ length b + length x = length-append b x in
       let l2 : length (w ++ header) ≡ length w + length header = length-append w header in
       let l3 : length ((b ++ x) ++ (w ++ header)) ≡ length (b ++ x) + length (w ++ header) = length-append (b ++ x) (w ++ header) in
       let l4 : length (((b ++ x) ++ (w ++ header)) ++ c) ≡ length ((b ++ x) ++ (w ++ header)) + length c = length-append ((b ++ x) ++ (w ++ header)) c in
-      let before = Spells-reads path frames b spells (omega arith) (omega arith) (x ++ (w ++ (header ++ (c ++ rest)))) in
+      let before = Spells-reads path frames b spells fits.0 (x ++ (w ++ (header ++ (c ++ rest)))) in
       let l5 : length ((b ++ x) ++ w) ≡ length (b ++ x) + length w = length-append (b ++ x) w in
       let top : ℕ = top_of frames before.0 (length b) in
       let end : ℕ = length ((b ++ x) ++ (w ++ header)) + n in
@@ -269,19 +264,18 @@ module _ (bodies : Bodies) (limits : Limits) (shrinks : Shrinks (step limits) si
       let t : State = state (frame_of k end ∷ frames) top (cursor_at (length ((b ++ x) ++ (w ++ header))) (c ++ rest)) in
       let u : State = state (frame_of k end ∷ frames) top (cursor_at (length (((b ++ x) ++ (w ++ header)) ++ c)) rest) in
       let begin : PlacedItem = placed_item top f annotations (length ((b ++ x) ++ w)) (value.begin k) in
-      let once = value_step limits frames before.0 (length b) f x (length (b ++ x)) annotations (length header + n) (a_container k (head + length header + n)) w header (c ++ rest) field l1 annotated (omega arith)
+      let once = value_step limits frames before.0 (length b) f x (length (b ++ x)) annotations (length header + n) (a_container k (head + length header + n)) w header (c ++ rest) field l1 annotated fits.1
       (rw (sum, first) within) (omega arith)
-      (λ a same suits. Header-found limits a head k n header is_header (rw sum at suits) (omega arith)) in
+      (λ a same suits. Header-found limits a head k n header is_header (rw sum at suits) (omega (arith, fits.2))) in
       let begins : Reads limits s (begin ∷ []) t = Reads-gives limits shrinks s t begin (rw (first, ← l5) at once) in
-      let members : Reads limits t (member_items top ms) u = rw (← l4) at (Inside-reads k (length ((b ++ x) ++ (w ++ header))) ms c inside frames top end rest (omega arith) (omega arith) (omega arith)) in
+      let members : Reads limits t (member_items top ms) u = rw (← l4) at (Inside-reads k (length ((b ++ x) ++ (w ++ header))) ms c inside frames top end rest (omega arith) fits.3) in
       let parts : (((b ++ x) ++ (w ++ header)) ++ c) ++ rest ≡ b ++ (x ++ (w ++ (header ++ (c ++ rest)))) =
       append_assoc ((b ++ x) ++ (w ++ header)) c rest ∙ append_assoc (b ++ x) (w ++ header) (c ++ rest) ∙ append_assoc b x ((w ++ header) ++ (c ++ rest))
       ∙ ap (λ l. b ++ (x ++ l)) (append_assoc w header (c ++ rest)) in (
         top,
         open_in-IsTopIn path (frame_of k end) frames before.0 (length b) f annotations (length ((b ++ x) ++ w)) k ms before.1,
-        omega (arith, before.2),
         rw (parts, open_in-items path frames before.0 (length b) f x annotations (length ((b ++ x) ++ w)) k ms before.1 field)
-            (Reads-then limits (start (b ++ (x ++ (w ++ (header ++ (c ++ rest)))))) s u (path_items path) (begin ∷ member_items top ms) before.3
+            (Reads-then limits (start (b ++ (x ++ (w ++ (header ++ (c ++ rest)))))) s u (path_items path) (begin ∷ member_items top ms) before.2
             (Reads-then limits s t u (begin ∷ []) (member_items top ms) begins members)),
       )
 
@@ -291,15 +285,21 @@ module _ (bodies : Bodies) (limits : Limits) (shrinks : Shrinks (step limits) si
 pub complete : Bodies → Shrinking → Complete
 complete bodies shrinks limits bytes q path allows is =
     let short : length bytes ≡ length is.before + length is.rest = ap length is.split ∙ length-append is.before is.rest in
-    let there = Spells-reads bodies limits (shrinks limits) path is.frames is.before is.spells (omega (arith, allows.0)) (omega (arith, allows.1)) is.rest in
-    (read_from limits (state is.frames there.0 (cursor_at (length is.before) is.rest)), reading-read_from limits bytes ∙ ap (λ l. read_from limits (start l)) is.split ∙ there.3)
+    let there = Spells-reads bodies limits (shrinks limits) path is.frames is.before is.spells
+    (Spells-allowed limits path is.frames is.before is.spells (omega (arith, allows.0)) (omega (arith, allows.1))) is.rest in
+    (read_from limits (state is.frames there.0 (cursor_at (length is.before) is.rest)), reading-read_from limits bytes ∙ ap (λ l. read_from limits (start l)) is.split ∙ there.2)
 
--- and a stream is read to its end
-pub streams : Bodies → Shrinking → StreamsAreRead
-streams bodies shrinks limits bytes ts allows tops =
-    let there = Tops-reads bodies limits (shrinks limits) ts bytes tops allows.0 allows.1 [] in
+-- and a stream is read to its end, where each of its parts is within the limits
+pub fitting_streams : Bodies → Shrinking → (limits : Limits) (bytes : List ℕ) (ts : List (Top SymbolAt ℕ)) (tops : Tops ts bytes) → TopsFit limits tops
+    → reading limits bytes ≡ behind (path_items (closed ts)) Finished
+fitting_streams bodies shrinks limits bytes ts tops fits =
+    let there = Tops-reads bodies limits (shrinks limits) ts bytes tops fits [] in
     reading-read_from limits bytes ∙ ap (λ l. read_from limits (start l)) (sym (append-nil bytes)) ∙ there.1
     ∙ ap (behind (top_items ts)) (read_from-ends limits (shrinks limits) (state [] there.0 (cursor_at (length bytes) [])) (step-ends limits there.0 (length bytes)))
+
+-- so it is of all where the limits allow the bytes
+pub streams : Bodies → Shrinking → StreamsAreRead
+streams bodies shrinks limits bytes ts allows tops = fitting_streams bodies shrinks limits bytes ts tops (Tops-allowed limits ts bytes tops allows.0 allows.1)
 
 -- limits that allow whatever stands in these bytes
 wide : List ℕ → Limits

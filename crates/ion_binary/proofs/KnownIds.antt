@@ -6,8 +6,9 @@ use Rattle.std.proofs.lemmas.Slice.Eq.{bytes_eq-Decides}
 use Rattle.ion_value.specs.Number.{var_uint_octets}
 use Rattle.ion_value.specs.Value as value
 use Rattle.ion_value.specs.Value.{UserSymbol, Known, Unknown, Scalar}
+use Rattle.ion_value.specs.Writable.{field_symbols, scalar_symbols}
 use Rattle.ion_symbols.specs.Output.{position, system_id, or_given, known_id}
-use Rattle.ion_binary.specs.Canonical.{id_octets, annotation_octets, field_octets, scalar_octets, id_in, with_text, with_symbol, with_symbols, field_symbols, scalar_symbols}
+use Rattle.ion_binary.specs.Canonical.{id_octets, annotation_octets, field_octets, scalar_octets, id_in, with_text, with_symbol, with_symbols}
 
 -- ---- texts with more behind them
 

@@ -1,4 +1,5 @@
 mod Rows
+mod Elements
 mod Termination
 mod VarLoop
 mod TimestampsSpelled
@@ -18,6 +19,7 @@ pub mod Sound
 mod Spelled
 mod SpelledParts
 mod SpelledMembers
+mod Fitting
 mod Complete
 mod WritingRows
 mod KnownIds
@@ -45,3 +47,6 @@ mod Annotations
 mod ValueParts
 mod ReaderParts
 mod ShortInts
+mod RawStreams
+mod ShortValues
+mod NumbersFit

@@ -9,7 +9,8 @@ use Rattle.ion_value.specs.Value.{SymbolAt, UserSymbol, Scalar, Value, scalar, c
 use Rattle.ion_value.specs.Path.{Nest, outermost, inner, Path, closed, opened, begin_item, close_all, closing, nest_items, path_items, with_item}
 use Rattle.ion_value.specs.Path as path
 use Rattle.ion_value.specs.Standing.{is_marker}
-use Rattle.ion_binary.specs.Canonical.{binary, field_symbols, id_in, is_over, member_octets, members_symbols, value_octets, value_symbols, with_symbols}
+use Rattle.ion_value.specs.Writable.{field_symbols, members_symbols, value_symbols}
+use Rattle.ion_binary.specs.Canonical.{binary, id_in, is_over, member_octets, value_octets, with_symbols}
 use Rattle.ion_binary.specs.Writing.{Written, after_all, all_closed, at_begin, first_over, head_symbols, item_symbols, own_octets, refused_at, refused_by, too_long}
 use Rattle.ion_binary.specs.WritingLaws.{last_size}
 use Rattle.ion_binary.specs.Refusals.{ItemsAreRefusedAsInTrees, refused_behind, texts_behind, texts_left}

@@ -105,9 +105,9 @@ Descriptor-headed t n _ (Descriptor.long len spells) = record {
 
 -- ---- annotation ids
 
--- the ids of a wrapper are read, where the limit allows 16 for each octet of them
+-- the ids of a wrapper are read, where the limit allows 16 for each of them
 pub ids_at-spelled : (limits : Limits) (most end count q : ℕ) (annotations : List SymbolAt) (ids rest : List ℕ) → Ids q annotations ids → end ≡ q + length ids → length ids ≤ most
-    → 16 * (count + length ids) ≤ limits.scalar → ids_at most limits end count (cursor_at q (ids ++ rest)) ≡ Ok (annotations, cursor_at end rest)
+    → 16 * (count + length annotations) ≤ limits.scalar → ids_at most limits end count (cursor_at q (ids ++ rest)) ≡ Ok (annotations, cursor_at end rest)
 unfolding ids_at
 ids_at-spelled limits zero end count _ _ _ rest (Ids.nothing q) e enough limit = let same : end ≡ q = omega arith in rw same refl
 ids_at-spelled limits (suc most) end count _ _ _ rest (Ids.nothing q) e enough limit =

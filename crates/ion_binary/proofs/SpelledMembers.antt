@@ -30,7 +30,7 @@ wrapper_at-spelled r length_code all p k n c len rest head whole long ids value 
     rw (head, lengths, passes-not r p all h, le-ltb all 3 long, ne_eqb k 0 (omega arith), within) refl
 
 annotated_at-spelled : (limits : Limits) (frames : List Frame) (top : ℕ) (f : Option SymbolAt) (q length_code ids_end end p : ℕ) (c : Cursor) (annotations : List SymbolAt) (ids rest : List ℕ)
-    → wrapper_at (region_of frames) length_code c ≡ Ok (record { ids = ids_end; end = end }, cursor_at p (ids ++ rest)) → Ids p annotations ids → ids_end ≡ p + length ids → 16 * length ids ≤ limits.scalar
+    → wrapper_at (region_of frames) length_code c ≡ Ok (record { ids = ids_end; end = end }, cursor_at p (ids ++ rest)) → Ids p annotations ids → ids_end ≡ p + length ids → 16 * length annotations ≤ limits.scalar
     → annotated_at limits frames top f q length_code c ≡ inner_at limits frames top f annotations end (cursor_at ids_end rest)
 unfolding annotated_at
 annotated_at-spelled limits frames top f q length_code ids_end end p c annotations ids rest wraps spells e limit =
@@ -57,7 +57,7 @@ kept-long : (length_code all : ℕ) (more : List ℕ) → ((length_code ≡ all)
 kept-long length_code all more (inl kept) long = omega (arith, kept.0)
 kept-long length_code all more (inr kept) long = omega arith
 
-pub Wrapper-wraps : (limits : Limits) (q : ℕ) (annotations : List SymbolAt) (n : ℕ) (w : List ℕ) → Wrapper q annotations n w → 16 * length w ≤ limits.scalar → Wraps limits q annotations n w
+pub Wrapper-wraps : (limits : Limits) (q : ℕ) (annotations : List SymbolAt) (n : ℕ) (w : List ℕ) → Wrapper q annotations n w → 16 * length annotations ≤ limits.scalar → Wraps limits q annotations n w
 Wrapper-wraps limits _ _ _ _ (Wrapper.wrapper q annotations n head len ids descriptor long some_ids some_value spells ids_spell) limit =
     let headed = Descriptor-headed 14 (length len + length ids + n) head descriptor in
     let small : headed.length_code < 16 = omega (arith, headed.small) in
@@ -144,7 +144,7 @@ value_at-wrapped limits frames top f q annotations n v w x rest wraps found h =
 
 -- what stands before a value and what is found are read, where the value's n octets lie within the containers that are open
 pub value_at-spelled : (limits : Limits) (frames : List Frame) (top : ℕ) (f : Option SymbolAt) (q : ℕ) (annotations : List SymbolAt) (n : ℕ) (v : TypedValue) (w x rest : List ℕ)
-    → Annotated q annotations n w → 16 * length w ≤ limits.scalar → Holds (region_of frames) (q + length w + n) → length x ≤ n
+    → Annotated q annotations n w → 16 * length annotations ≤ limits.scalar → Holds (region_of frames) (q + length w + n) → length x ≤ n
     → ((a : Around) → a.depth ≡ length frames → Suits a (q + length w + n) → Finds limits a (q + length w) v x)
     → value_at limits frames top f (cursor_at q (w ++ (x ++ rest))) ≡ Ok (step_for frames top f annotations (q + length w) v (cursor_at (q + length w + length x) rest))
 value_at-spelled limits frames top f _ _ _ v _ x rest (Annotated.bare q n) limit h within found =

@@ -15,6 +15,7 @@ use Rattle.ion_binary.specs.Descriptor.{Region, passes, falls_short, var_uint_at
 use Rattle.ion_binary.specs.Grammar.{IsNullOf, Body, Plain, IsNopPad, Header, type_code}
 use Rattle.ion_binary.specs.Laws.{Bodies}
 use Rattle.ion_binary.specs.Reading.{Around, TypedValue, a_nop_pad, a_marker, a_scalar, a_container, marker_at, bare_at, nop_pad_at, body_at, scalar_at, begin_at, container_at, sorted_at, read_by_descriptor, typed_value_at, wrapper_length}
+use Rattle.ion_binary.proofs.Fitting.{PlainFits}
 use Rattle.ion_binary.proofs.Spelled.{cursor_at, Holds, Holds-before, var_uint_at-spelled, Headed, Descriptor-headed}
 
 -- ---- descriptor octets
@@ -224,14 +225,13 @@ body-found limits a t q v head b headed shapes codes means h limit =
     }
 
 -- a scalar without annotations is found
-pub Plain-found : Bodies → (limits : Limits) (a : Around) (q : ℕ) (v : Scalar Symbol) (x : List ℕ) → Plain v x → Suits a (q + length x) → length x ≤ limits.scalar → Finds limits a q (a_scalar v) x
+pub Plain-found : Bodies → (limits : Limits) (a : Around) (q : ℕ) (v : Scalar Symbol) (x : List ℕ) (plain : Plain v x) → Suits a (q + length x) → PlainFits limits plain → Finds limits a q (a_scalar v) x
 Plain-found bodies limits a q _ _ (Plain.null t n is) h limit =
     octet-found limits a q (16 * n + 15) (null t) (value.null t) (shape_of-parts n 15 (omega arith) ∙ null_shape t n is) refl (wrappable n 15 (omega arith) (null_code t n is) (omega arith)) (read_by_descriptor-null limits a t) h
 Plain-found bodies limits a q _ _ Plain.no h limit = octet-found limits a q 16 (bool false) (value.bool false) no_shape refl refl (read_by_descriptor-bool limits a false) h
 Plain-found bodies limits a q _ _ Plain.yes h limit = octet-found limits a q 17 (bool true) (value.bool true) yes_shape refl refl (read_by_descriptor-bool limits a true) h
 Plain-found bodies limits a q _ _ (Plain.body t v head b descriptor is) h limit =
-    body-found limits a t q v head b (Descriptor-headed t (length b) head descriptor) (λ length_code small. body_shape t length_code v b is small) (body_code t v b is) ((bodies t v b).0 is) h
-    (omega (arith, length-append head b))
+    body-found limits a t q v head b (Descriptor-headed t (length b) head descriptor) (λ length_code small. body_shape t length_code v b is small) (body_code t v b is) ((bodies t v b).0 is) h limit
 
 -- ---- NOP pads and markers
 

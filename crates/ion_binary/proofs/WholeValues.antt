@@ -3,8 +3,9 @@ use Rattle.std.proofs.Common.{◌≡◌, ℕ, Bool, true, false, List, [], ◌�
 use Rattle.ion_value.specs.declared.ion_type.Kind.{Kind}
 use Rattle.ion_value.specs.Value as value
 use Rattle.ion_value.specs.Value.{UserSymbol, Scalar, Value, scalar, container, Members, nothing, member, Top, version, tree, Item, bare_item, value_items, member_items, one_top, top_items}
+use Rattle.ion_value.specs.Writable.{field_symbols, members_symbols, scalar_symbols, value_symbols}
 use Rattle.ion_binary.specs.Grammar.{type_code}
-use Rattle.ion_binary.specs.Canonical.{annotation_octets, binary, declaration, field_octets, field_symbols, headed, id_in, is_over, marker_if, marker_octets, member_octets, members_octets, members_symbols, octets_behind, scalar_octets, scalar_symbols, texts_kept, tree_octets, value_octets, value_symbols, with_symbols, wrapped}
+use Rattle.ion_binary.specs.Canonical.{annotation_octets, binary, declaration, field_octets, headed, id_in, is_over, marker_if, marker_octets, member_octets, members_octets, octets_behind, scalar_octets, texts_kept, tree_octets, value_octets, with_symbols, wrapped}
 use Rattle.ion_binary.specs.Writing.{Unclosed, Written, after_all, at_begin, forgetting, opened_with, with_head}
 use Rattle.ion_binary.specs.WritingLaws.{ItemsPutTheForm}
 use Rattle.ion_binary.specs.Refusals.{texts_behind}

@@ -1,11 +1,13 @@
 -- The octets of a declaration are a declaration, which adds its texts to the table before it.
-use Rattle.std.proofs.Common.{◌≡◌, ℕ, suc, ◌+◌, ◌^◌, ◌<◌, Bool, true, false, inl, inr, List, [], ◌∷◌, ◌++◌, length, map, Result, Ok, Err, Option, Some, None, option_map, unwrap_or, if◌then◌else◌, IsUtf8, refl, ap, ap₂, sym, ◌∙◌, subst, append_assoc, append-nil, length-append, arith, codes}
+use Rattle.std.proofs.Common.{◌≡◌, ℕ, suc, ◌+◌, ◌^◌, ◌<◌, ◌≤◌, Bool, true, false, inl, inr, List, [], ◌∷◌, ◌++◌, length, map, Result, Ok, Err, Option, Some, None, option_map, unwrap_or, if◌then◌else◌, IsUtf8, refl, ap, ap₂, sym, ◌∙◌, subst, append_assoc, append-nil, length-append, arith, codes}
 use Rattle.std.specs.Bool.{⊤}
 use Rattle.std.specs.List.{AllByRecursion}
+use Rattle.ion_meter.specs.declared.limits.Limits.{Limits}
 use Rattle.ion_value.specs.declared.ion_type.Kind.{Kind}
 use Rattle.ion_value.specs.declared.ion_type.Kind.TheVariants as kind
 use Rattle.ion_value.specs.Value as value
-use Rattle.ion_value.specs.Value.{Symbol, Id, SymbolAt, UserSymbol, Known, Unknown, Scalar, Value, Members, scalar, container, nothing, member, map_scalar, map_value, map_members}
+use Rattle.ion_value.specs.Value.{Symbol, Id, SymbolAt, UserSymbol, Known, Unknown, Scalar, Value, Members, scalar, container, nothing, member, map_scalar, map_value, map_members, no_place}
+use Rattle.ion_value.specs.Writable.{AreWritable, IsWritable}
 use Rattle.ion_symbols.specs.Output.{position, system_texts, or_given}
 use Rattle.ion_symbols.specs.Declaration.{Ground}
 use Rattle.ion_symbols.specs.Laws.{IsCostly, IsDoubled, SomeAbove}
@@ -15,8 +17,10 @@ use Rattle.ion_meter.specs.declared.fault.Reason.{Reason}
 use Rattle.ion_symbols.proofs.DeclarationMeaning.{what_is_said, why_it_is_refused}
 use Rattle.ion_symbols.proofs.Keeping.{cost_append}
 use Rattle.ion_binary.specs.Canonical.{declaration, declaring, id_in, string_members}
-use Rattle.ion_binary.specs.Spelling.{AreWritable, IsWritable, IsSpelledAt, DeclarationsAreAccepted, WrittenDeclarationsAreRead, HasRoom, bare_symbol, no_place, with_id, with_texts}
-use Rattle.ion_binary.proofs.WrittenSpelled.{value-spelled}
+use Rattle.ion_binary.specs.Spelling.{IsDeclared, DeclarationsAreAccepted, WrittenDeclarationsAreRead, HasRoom, bare_symbol, with_id, with_texts}
+use Rattle.ion_binary.specs.WrittenLimits.{AllowDeclarations, MembersFit, ValueFits}
+use Rattle.ion_binary.proofs.Fitting.{BinFits}
+use Rattle.ion_binary.proofs.WrittenSpelled.{SpelledWithin, value-spelled}
 
 -- ---- ids are small
 
@@ -384,31 +388,56 @@ what-is-said catalog old texts (s ∷ ss) raw n e =
     }
 
 -- what is written of a declaration
-pub declaration-spelled : (q : ℕ) (t : List ℕ) (ts : List (List ℕ)) → AllByRecursion IsUtf8 (t ∷ ts) → length (declaration (t ∷ ts)) < 2 ^ 62
-    → IsSpelledAt (id_in []) q (Known (codes "$ion_symbol_table") ∷ []) (declaring (t ∷ ts)) (declaration (t ∷ ts))
+declaration-spelled : (q : ℕ) (t : List ℕ) (ts : List (List ℕ)) → AllByRecursion IsUtf8 (t ∷ ts) → length (declaration (t ∷ ts)) < 2 ^ 62
+    → SpelledWithin (id_in []) q (Known (codes "$ion_symbol_table") ∷ []) (declaring (t ∷ ts)) (declaration (t ∷ ts))
 unfolding declaration
 declaration-spelled q t ts h short =
     value-spelled (id_in []) q (Known (codes "$ion_symbol_table") ∷ []) (declaring (t ∷ ts)) (λ s. omega (arith, id_in-lt [] s)) (declaring-writable (t ∷ ts) h) short
 
-pub written_declarations_are_read : WrittenDeclarationsAreRead
-written_declarations_are_read catalog old q [] some h short = absurd (omega (arith, some))
-written_declarations_are_read catalog old q (t ∷ ts) some h short =
+-- no text is longer than the limit on scalars
+abbrev pub TextsFit : Limits → List (List ℕ) → Type 0
+TextsFit limits texts = AllByRecursion (λ t. length t ≤ limits.scalar) texts
+
+strings-fit : (limits : Limits) (depth : ℕ) (before : Members UserSymbol ⊤) (texts : List (List ℕ)) → MembersFit limits depth before → TextsFit limits texts
+    → MembersFit limits depth (string_members before texts)
+strings-fit limits depth before [] fits texts = fits
+strings-fit limits depth before (t ∷ ts) fits texts = strings-fit limits depth (member before None [] tt (scalar (value.string t))) ts (fits, omega arith, texts.0) texts.1
+
+declaring-fits : (limits : Limits) (texts : List (List ℕ)) → AllowDeclarations limits → TextsFit limits texts → ValueFits limits 0 (declaring texts)
+declaring-fits limits texts allow fits =
+    (omega (arith, allow.depth), ((tt, omega arith, tt), omega arith, (omega (arith, allow.depth), strings-fit limits 2 nothing texts tt fits)))
+
+-- what is written of a declaration is one, within limits that allow declarations and its texts
+pub record DeclaredWithin (catalog : List Shared) (old : Table) (q : ℕ) (texts : List (List ℕ)) : Type 0 where
+  pub at : IsDeclared catalog old q texts
+  pub fits : (limits : Limits) → AllowDeclarations limits → TextsFit limits texts → BinFits limits 0 at.spells
+
+pub declared-within : (catalog : List Shared) (old : Table) (q : ℕ) (texts : List (List ℕ)) → 0 < length texts → AllByRecursion IsUtf8 texts
+    → length (declaration texts) < 2 ^ 62 → DeclaredWithin catalog old q texts
+declared-within catalog old q [] some h short = absurd (omega (arith, some))
+declared-within catalog old q (t ∷ ts) some h short =
     let d = declaration-spelled q t ts h short in
-    let s = what-is-said catalog old (t ∷ ts) d.own d.raw (d.annotations_are ∙ ap (λ (n : ℕ). Id n ∷ []) table-id) (d.value_is ∙ said-is (t ∷ ts)) in
+    let s = what-is-said catalog old (t ∷ ts) d.at.own d.at.raw (d.at.annotations_are ∙ ap (λ (n : ℕ). Id n ∷ []) table-id) (d.at.value_is ∙ said-is (t ∷ ts)) in
     record {
-      own = d.own;
-      place = d.place;
-      raw = d.raw;
-      members = s.members;
-      spells = d.spells;
-      is_declaration = s.is_declaration;
-      leaves = s.leaves;
+      at = record {
+        own = d.at.own;
+        place = d.at.place;
+        raw = d.at.raw;
+        members = s.members;
+        spells = d.at.spells;
+        is_declaration = s.is_declaration;
+        leaves = s.leaves;
+      };
+      fits = λ limits allow fits. d.fits limits 0 allow.scalar (omega (arith, allow.scalar)) (declaring-fits limits (t ∷ ts) allow fits);
     }
+
+pub written_declarations_are_read : WrittenDeclarationsAreRead
+written_declarations_are_read catalog old q texts some h short = (declared-within catalog old q texts some h short).at
 
 pub declarations_are_accepted : DeclarationsAreAccepted
 declarations_are_accepted g q [] some h short room = absurd (omega (arith, some))
 declarations_are_accepted g q (t ∷ ts) some h short room =
-    let d = declaration-spelled q t ts h short in
+    let d = (declaration-spelled q t ts h short).at in
     let s = what-is-said g.catalog g.old (t ∷ ts) d.own d.raw (d.annotations_are ∙ ap (λ (n : ℕ). Id n ∷ []) table-id) (d.value_is ∙ said-is (t ∷ ts)) in
     record {
       own = d.own;

@@ -1,6 +1,8 @@
 -- The octets of a value are those of the grammar, with each symbol as its id.
-use Rattle.std.proofs.Common.{◌≡◌, ◌≢◌, ℕ, ◌+◌, ◌*◌, ◌^◌, ◌<◌, ◌≤◌, Bool, true, false, nat_lt, is_some, if◌then◌else◌, List, [], ◌∷◌, ◌++◌, length, map, Option, Some, None, option_map, refl, ap, ap₂, sym, subst, ◌∙◌, inl, append_assoc, arith, length-append, ltb-true}
+use Rattle.std.proofs.Common.{◌≡◌, ◌≢◌, ℕ, suc, ◌+◌, ◌*◌, ◌^◌, ◌<◌, ◌≤◌, Bool, true, false, nat_lt, is_some, if◌then◌else◌, List, [], ◌∷◌, ◌++◌, length, map, Option, Some, None, option_map, refl, ap, ap₂, sym, subst, ◌∙◌, inl, append_assoc, arith, length-append, ltb-true}
+use Rattle.std.proofs.lemmas.List.{length-map}
 use Rattle.std.specs.Bool.{⊤}
+use Rattle.ion_meter.specs.declared.limits.Limits.{Limits}
 use Rattle.ion_value.specs.declared.ion_type.IonType.{IonType}
 use Rattle.ion_value.specs.declared.ion_type.IonType.TheVariants as type
 use Rattle.ion_value.specs.declared.ion_type.Kind.{Kind}
@@ -14,15 +16,18 @@ use Rattle.ion_value.specs.Name.{raw_id}
 use Rattle.ion_value.specs.Scalar as numbered
 use Rattle.ion_value.specs.Standing.{InRange, in_struct}
 use Rattle.ion_value.specs.Value as value
-use Rattle.ion_value.specs.Value.{Symbol, Id, SymbolAt, UserSymbol, Scalar, Value, Members, scalar, container, nothing, member, map_scalar, map_value, map_members}
-use Rattle.ion_value.proofs.Octets.{digits_in-Digits}
+use Rattle.ion_value.specs.Value.{Symbol, Id, SymbolAt, UserSymbol, Scalar, Value, Members, scalar, container, nothing, member, map_scalar, map_value, map_members, no_place}
+use Rattle.ion_value.specs.Writable.{HasText, IsWritable, AreWritable}
+use Rattle.ion_value.proofs.Octets.{Digits-fewest, digits_in-Digits}
 use Rattle.ion_value.proofs.VarOctets.{var_uint_octets-VarUInt}
 use Rattle.ion_value.proofs.DecimalOctets.{decimal_body-DecimalBody}
 use Rattle.ion_value.proofs.TimestampBodies.{bytes-back}
 use Rattle.ion_binary.specs.Positions.{symbol_id, placed_scalar}
 use Rattle.ion_binary.specs.Grammar.{Descriptor, IsNullOf, Body, Plain, Ids, Field, Header, Wrapper, Annotated, Bin, Inside, type_code}
 use Rattle.ion_binary.specs.Canonical.{annotation_octets, field_octets, header, headed, id_octets, length_octets, members_octets, scalar_octets, value_octets, wrapped}
-use Rattle.ion_binary.specs.Spelling.{HasText, IsWritable, AreWritable, IsSpelledAt, ValuesAreSpelled, bare_symbol, no_place, with_id}
+use Rattle.ion_binary.specs.Spelling.{IsSpelledAt, ValuesAreSpelled, bare_symbol, with_id}
+use Rattle.ion_binary.specs.WrittenLimits.{AnnotationsFit, MembersFit, ScalarFits, ValueFits}
+use Rattle.ion_binary.proofs.Fitting.{BinFits, InsideFits, PlainFits}
 use Rattle.ion_binary.proofs.TimestampsRead.{timestamp_of_bytes-body}
 
 -- ---- headers
@@ -92,15 +97,37 @@ null-code type.List = refl
 null-code type.Sexp = refl
 null-code type.Struct = refl
 
+-- octets are a scalar, within the limits within which a scalar of a user is
+record PlainAt (u : Scalar UserSymbol) (v : Scalar Symbol) (x : List ℕ) : Type 0 where
+  pub spells : Plain v x
+  pub fits : (limits : Limits) → 16 ≤ limits.scalar → ScalarFits limits u → PlainFits limits spells
+
 -- a body behind its header
-headed-Plain : (t : ℕ) (v : Scalar Symbol) (b : List ℕ) → Body t v b → length (headed t b) < 2 ^ 62 → Plain v (headed t b)
-headed-Plain t v b spells short =
-    Plain.body t v (header t (length b)) b (header-Descriptor t (length b) (omega (arith, short, headed-length t b))) spells
+headed-Plain : (u : Scalar UserSymbol) (t : ℕ) (v : Scalar Symbol) (b : List ℕ) → Body t v b → length (headed t b) < 2 ^ 62
+    → ((limits : Limits) → 16 ≤ limits.scalar → ScalarFits limits u → length b ≤ limits.scalar) → PlainAt u v (headed t b)
+headed-Plain u t v b spells short fits = record {
+  spells = Plain.body t v (header t (length b)) b (header-Descriptor t (length b) (omega (arith, short, headed-length t b))) spells;
+  fits = fits;
+}
+
+-- a number below 256^k has k octets at most: an id four, an int 16
+uint-short : (n : ℕ) (octets : List ℕ) → n < 256 ^ length octets → length (uint_octets n) ≤ length octets
+uint-short n octets small = Digits-fewest 256 n (uint_octets n) octets (digits_in-Digits 256 n (omega arith)) small
+
+id-short : (n : ℕ) → n < 2 ^ 31 → length (uint_octets n) ≤ 4
+id-short n small = uint-short n (0 ∷ 0 ∷ 0 ∷ 0 ∷ []) (omega (arith, small))
+
+int-short : (i : Int) → IsInt i → length (uint_octets i.magnitude) ≤ 16
+int-short i range = uint-short i.magnitude (0 ∷ 0 ∷ 0 ∷ 0 ∷ 0 ∷ 0 ∷ 0 ∷ 0 ∷ 0 ∷ 0 ∷ 0 ∷ 0 ∷ 0 ∷ 0 ∷ 0 ∷ 0 ∷ []) (omega (arith, range.fits))
 
 int-Plain : (sign : Bool) (i : Int) → i.negative ≡ sign → IsInt i → length (headed (if sign then 3 else 2) (uint_octets i.magnitude)) < 2 ^ 62
-    → Plain (value.int i) (headed (if sign then 3 else 2) (uint_octets i.magnitude))
-int-Plain true i e range short = headed-Plain 3 (value.int i) (uint_octets i.magnitude) (Body.negative i (uint_octets i.magnitude) e (sym (uint-back i.magnitude)) range) short
-int-Plain false i e range short = headed-Plain 2 (value.int i) (uint_octets i.magnitude) (Body.positive i (uint_octets i.magnitude) e (sym (uint-back i.magnitude)) range) short
+    → PlainAt (value.int i) (value.int i) (headed (if sign then 3 else 2) (uint_octets i.magnitude))
+int-Plain true i e range short =
+    headed-Plain (value.int i) 3 (value.int i) (uint_octets i.magnitude) (Body.negative i (uint_octets i.magnitude) e (sym (uint-back i.magnitude)) range) short
+    (λ limits least fits. omega (arith, least, int-short i range))
+int-Plain false i e range short =
+    headed-Plain (value.int i) 2 (value.int i) (uint_octets i.magnitude) (Body.positive i (uint_octets i.magnitude) e (sym (uint-back i.magnitude)) range) short
+    (λ limits least fits. omega (arith, least, int-short i range))
 
 symbol-Body : (n : ℕ) → n < 2 ^ 31 → Body 7 (value.symbol (Id n)) (uint_octets n)
 symbol-Body n small =
@@ -111,19 +138,22 @@ abbrev AreSmall : (UserSymbol → ℕ) → Type 0
 AreSmall ids = (s : UserSymbol) → ids s < 2 ^ 31
 
 scalar-Plain : (ids : UserSymbol → ℕ) (v : Scalar UserSymbol) → AreSmall ids → InRange v → HasText v → length (scalar_octets ids v) < 2 ^ 62
-    → Plain (map_scalar (with_id ids) v) (scalar_octets ids v)
-scalar-Plain ids (value.null t) small range text short = Plain.null t (numbered.type_code t) (null-code t)
-scalar-Plain ids (value.bool true) small range text short = Plain.yes
-scalar-Plain ids (value.bool false) small range text short = Plain.no
+    → PlainAt v (map_scalar (with_id ids) v) (scalar_octets ids v)
+scalar-Plain ids (value.null t) small range text short = record { spells = Plain.null t (numbered.type_code t) (null-code t); fits = λ limits least fits. tt }
+scalar-Plain ids (value.bool true) small range text short = record { spells = Plain.yes; fits = λ limits least fits. tt }
+scalar-Plain ids (value.bool false) small range text short = record { spells = Plain.no; fits = λ limits least fits. tt }
 scalar-Plain ids (value.int i) small range text short = int-Plain i.negative i refl range short
 scalar-Plain ids (value.decimal d) small range text short =
-    headed-Plain 5 (value.decimal d) (decimal_body d) (Body.decimal d (decimal_body d) (decimal_body-DecimalBody d range) range) short
+    headed-Plain (value.decimal d) 5 (value.decimal d) (decimal_body d) (Body.decimal d (decimal_body d) (decimal_body-DecimalBody d range) range) short (λ limits least fits. fits)
 scalar-Plain ids (value.timestamp t) small range text short =
-    headed-Plain 6 (value.timestamp t) (timestamp_body t) (Body.timestamp t (timestamp_body t) (timestamp_of_bytes-body t (timestamp_body t) (bytes-back t range))) short
-scalar-Plain ids (value.symbol s) small range text short = headed-Plain 7 (value.symbol (Id (ids s))) (uint_octets (ids s)) (symbol-Body (ids s) (small s)) short
-scalar-Plain ids (value.string b) small range text short = headed-Plain 8 (value.string b) b (Body.string b text) short
-scalar-Plain ids (value.clob b) small range text short = headed-Plain 9 (value.clob b) b (Body.clob b) short
-scalar-Plain ids (value.blob b) small range text short = headed-Plain 10 (value.blob b) b (Body.blob b) short
+    headed-Plain (value.timestamp t) 6 (value.timestamp t) (timestamp_body t) (Body.timestamp t (timestamp_body t) (timestamp_of_bytes-body t (timestamp_body t) (bytes-back t range))) short
+    (λ limits least fits. fits)
+scalar-Plain ids (value.symbol s) small range text short =
+    headed-Plain (value.symbol s) 7 (value.symbol (Id (ids s))) (uint_octets (ids s)) (symbol-Body (ids s) (small s)) short
+    (λ limits least fits. omega (arith, least, id-short (ids s) (small s)))
+scalar-Plain ids (value.string b) small range text short = headed-Plain (value.string b) 8 (value.string b) b (Body.string b text) short (λ limits least fits. fits)
+scalar-Plain ids (value.clob b) small range text short = headed-Plain (value.clob b) 9 (value.clob b) b (Body.clob b) short (λ limits least fits. fits)
+scalar-Plain ids (value.blob b) small range text short = headed-Plain (value.blob b) 10 (value.blob b) b (Body.blob b) short (λ limits least fits. fits)
 
 -- each value has an octet
 headed-some : (t : ℕ) (b : List ℕ) → 0 < length (headed t b)
@@ -258,29 +288,58 @@ not_one ids kind.Struct ms w = not_one-struct ids ms w
 not_one ids kind.List ms w = tt
 not_one ids kind.Sexp ms w = tt
 
+-- a member by its parts
+pub same_member : {S P : Type 0} (b c : Members S P) (f g : Option S) (a d : List S) (p : P) (x y : Value S P) → b ≡ c → f ≡ g → a ≡ d → x ≡ y → member b f a p x ≡ member c g d p y
+same_member b c f g a d p x y h i j k =
+    ap₂ (λ m n. member m n a p x) h i ∙ ap₂ (λ l z. member c g l p z) j k
+
 record MembersAt {P : Type 0} (ids : UserSymbol → ℕ) (k : Kind) (q : ℕ) (ms : Members UserSymbol P) : Type 0 where
   pub raw : Members SymbolAt ℕ
   pub spells : Inside k q raw (members_octets ids ms)
   pub are : map_members bare_symbol no_place raw ≡ map_members (with_id ids) no_place ms
+  pub fits : (limits : Limits) (depth : ℕ) → 16 ≤ limits.scalar → MembersFit limits depth ms → InsideFits limits depth spells
+
+-- so many annotations, and no others
+few-own : (ids : UserSymbol → ℕ) (own : List SymbolAt) (annotations : List UserSymbol) → map bare_symbol own ≡ map (with_id ids) annotations → length own ≡ length annotations
+few-own ids own annotations are = sym (length-map own bare_symbol) ∙ ap length are ∙ length-map annotations (with_id ids)
+
+-- octets are a value, within the limits within which a value of a user is
+record BinAt {P : Type 0} (annotations : List UserSymbol) (x : Value UserSymbol P) (q : ℕ) (own : List SymbolAt) (place : ℕ) (raw : Value SymbolAt ℕ) (bytes : List ℕ) : Type 0 where
+  pub spells : Bin q own place raw bytes
+  pub fits : (limits : Limits) (depth : ℕ) → 16 ≤ limits.scalar → AnnotationsFit limits annotations → ValueFits limits depth x → BinFits limits depth spells
+
+-- what is written of a value is spelled, within the limits within which the value is
+pub record SpelledWithin {P : Type 0} (ids : UserSymbol → ℕ) (q : ℕ) (annotations : List UserSymbol) (x : Value UserSymbol P) (bytes : List ℕ) : Type 0 where
+  pub at : IsSpelledAt ids q annotations x bytes
+  pub fits : (limits : Limits) (depth : ℕ) → 16 ≤ limits.scalar → AnnotationsFit limits annotations → ValueFits limits depth x → BinFits limits depth at.spells
 
 mutual
   pub value-spelled : {P : Type 0} (ids : UserSymbol → ℕ) (q : ℕ) (annotations : List UserSymbol) (x : Value UserSymbol P) → AreSmall ids → IsWritable x
       → length (wrapped (annotation_octets ids annotations) (value_octets ids x)) < 2 ^ 62
-      → IsSpelledAt ids q annotations x (wrapped (annotation_octets ids annotations) (value_octets ids x))
-  value-spelled ids q annotations (scalar v) small w short =
+      → SpelledWithin ids q annotations x (wrapped (annotation_octets ids annotations) (value_octets ids x))
+  value-spelled {P = P} ids q annotations (scalar v) small w short =
       let o : List ℕ = scalar_octets ids v in
       let a = annotated ids q annotations o small (scalar-some ids v) short in
       let fits : length o < 2 ^ 62 = omega (arith, short, wrapped-within (annotation_octets ids annotations) o) in
       let place : ℕ = q + length a.before in
       let raw : Value SymbolAt ℕ = scalar (placed_scalar place (map_scalar (with_id ids) v)) in
+      let p = scalar-Plain ids v small w.0 w.1 fits in
+      let own_few = few-own ids a.own annotations a.are in
+      let here : BinAt {P = P} annotations (scalar v) q a.own place raw (a.before ++ o) = record {
+        spells = Bin.scalar q a.own (map_scalar (with_id ids) v) a.before o a.spells p.spells;
+        fits = λ limits depth least few body. (omega (arith, own_few, few), p.fits limits least body);
+      } in
+      let there = subst (λ (b : List ℕ). BinAt {P = P} annotations (scalar v) q a.own place raw b) (sym a.is) here in
       record {
-        own = a.own;
-        place = place;
-        raw = raw;
-        spells = subst (λ (b : List ℕ). Bin q a.own place raw b) (sym a.is)
-            (Bin.scalar q a.own (map_scalar (with_id ids) v) a.before o a.spells (scalar-Plain ids v small w.0 w.1 fits));
-        annotations_are = a.are;
-        value_is = ap (λ (s : Scalar Symbol). scalar s) (unplaced place (map_scalar (with_id ids) v));
+        at = record {
+          own = a.own;
+          place = place;
+          raw = raw;
+          spells = there.spells;
+          annotations_are = a.are;
+          value_is = ap (λ (s : Scalar Symbol). scalar s) (unplaced place (map_scalar (with_id ids) v));
+        };
+        fits = there.fits;
       }
   value-spelled ids q annotations (container k ms last) small w short =
       let c : List ℕ = members_octets ids ms in
@@ -291,19 +350,27 @@ mutual
       let m = members-spelled ids k (q + length (a.before ++ h)) ms small w inside in
       let raw : Value SymbolAt ℕ = container k m.raw (q + length ((a.before ++ h) ++ c)) in
       let before : Annotated q a.own (length h + length c) a.before = subst (λ (n : ℕ). Annotated q a.own n a.before) (length-append h c) a.spells in
+      let own_few = few-own ids a.own annotations a.are in
+      let here : BinAt annotations (container k ms last) q a.own (q + length a.before) raw ((a.before ++ h) ++ c) = record {
+        spells = Bin.container q a.own k m.raw a.before h c before (header-Header k (length c) (not_one ids k ms w) (omega (arith, inside))) m.spells;
+        fits = λ limits depth least few deep. (omega (arith, own_few, few), deep.0, m.fits limits (suc depth) least deep.1);
+      } in
+      let there = subst (λ (b : List ℕ). BinAt annotations (container k ms last) q a.own (q + length a.before) raw b) (append_assoc a.before h c ∙ sym a.is) here in
       record {
-        own = a.own;
-        place = q + length a.before;
-        raw = raw;
-        spells = subst (λ (b : List ℕ). Bin q a.own (q + length a.before) raw b) (append_assoc a.before h c ∙ sym a.is)
-            (Bin.container q a.own k m.raw a.before h c before (header-Header k (length c) (not_one ids k ms w) (omega (arith, inside))) m.spells);
-        annotations_are = a.are;
-        value_is = ap (λ (ns : Members Symbol ⊤). container k ns tt) m.are;
+        at = record {
+          own = a.own;
+          place = q + length a.before;
+          raw = raw;
+          spells = there.spells;
+          annotations_are = a.are;
+          value_is = ap (λ (ns : Members Symbol ⊤). container k ns tt) m.are;
+        };
+        fits = there.fits;
       }
 
   members-spelled : {P : Type 0} (ids : UserSymbol → ℕ) (k : Kind) (q : ℕ) (ms : Members UserSymbol P) → AreSmall ids → AreWritable k ms
       → length (members_octets ids ms) < 2 ^ 62 → MembersAt ids k q ms
-  members-spelled ids k q nothing small w short = record { raw = nothing; spells = Inside.nothing k q; are = refl }
+  members-spelled ids k q nothing small w short = record { raw = nothing; spells = Inside.nothing k q; are = refl; fits = λ limits depth least fits. tt }
   members-spelled ids k q (member before f annotations place x) small w short =
       let c : List ℕ = members_octets ids before in
       let b : List ℕ = field_octets ids f in
@@ -315,11 +382,11 @@ mutual
       let v = value-spelled ids (q + length (c ++ b)) annotations x small w.1.1 (omega (arith, short, whole, part)) in
       let other : Value Symbol ⊤ = map_value (with_id ids) no_place x in
       record {
-        raw = member m.raw g.name v.own v.place v.raw;
-        spells = Inside.with_value k q v.place g.name v.own v.raw m.raw c b y m.spells g.spells v.spells;
-        are = ap₂ (λ (ns : Members Symbol ⊤) (n : Option Symbol). member ns n (map bare_symbol v.own) tt (map_value bare_symbol no_place v.raw)) m.are g.is
-            ∙ ap₂ (λ (own : List Symbol) (z : Value Symbol ⊤). member (map_members (with_id ids) no_place before) (option_map (with_id ids) f) own tt z) v.annotations_are v.value_is;
+        raw = member m.raw g.name v.at.own v.at.place v.at.raw;
+        spells = Inside.with_value k q v.at.place g.name v.at.own v.at.raw m.raw c b y m.spells g.spells v.at.spells;
+        are = same_member _ _ _ _ _ _ tt _ _ m.are g.is v.at.annotations_are v.at.value_is;
+        fits = λ limits depth least fits. (m.fits limits depth least fits.0, v.fits limits depth least fits.1 fits.2);
       }
 
 pub values_are_spelled : ValuesAreSpelled
-values_are_spelled = λ ids q annotations x small w short. value-spelled ids q annotations x small w short
+values_are_spelled = λ ids q annotations x small w short. (value-spelled ids q annotations x small w short).at

@@ -1,4 +1,4 @@
--- The canonical form of values is a stream of which they are the user values.
+-- The canonical form of values is a stream of which they are the user values, and it is read to its end where the values are within limits.
 use Rattle.std.proofs.Common.{◌≡◌, ℕ, suc, ◌+◌, ◌-◌, ◌^◌, ◌<◌, ◌≤◌, Bool, true, false, List, [], ◌∷◌, ◌++◌, length, drop, map, slice_get, Option, Some, None, option_map, unwrap_or, if◌then◌else◌, nat_lt, IsUtf8, refl, ap, ap₂, sym, subst, ◌∙◌, append_assoc, append-nil, arith, lt-ltb, le-ltb}
 use Rattle.std.specs.Bool.{⊤}
 use Rattle.std.specs.Str.{bytes_eq}
@@ -7,21 +7,32 @@ use Rattle.std.proofs.lemmas.List.{map-append}
 use Rattle.std.proofs.lemmas.Slice.Eq.{bytes_eq-Decides}
 use Rattle.std.proofs.lemmas.Iterator.Adapters.{option_map_id}
 use Rattle.std.proofs.Math.Seq.{drop-append_seam}
+use Rattle.ion_meter.specs.declared.limits.Limits.{Limits}
 use Rattle.ion_value.specs.declared.ion_type.Kind.TheVariants as kind
 use Rattle.ion_value.specs.Items.{named, text_or_id}
+use Rattle.ion_value.specs.Path.{closed, path_items}
+use Rattle.ion_value.specs.Reading.{Finished, behind}
 use Rattle.ion_value.specs.Value as value
-use Rattle.ion_value.specs.Value.{Symbol, Text, Id, SymbolAt, UserSymbol, Known, Unknown, user_symbol, Scalar, Value, Members, scalar, container, nothing, member, Top, version, tree, map_scalar, map_value, map_members}
-use Rattle.ion_symbols.specs.Output.{position, system_texts, or_given, known_id}
+use Rattle.ion_value.specs.Value.{Symbol, Text, Id, SymbolAt, UserSymbol, Known, Unknown, user_symbol, Scalar, Value, Members, scalar, container, nothing, member, Top, version, tree, map_scalar, map_value, map_members, no_place, unplaced_top}
+use Rattle.ion_value.specs.Writable.{IsText, field_symbols, members_symbols, scalar_symbols, value_symbols}
+use Rattle.ion_symbols.specs.Output.{position, system_id, system_texts, or_given, known_id}
 use Rattle.ion_symbols.specs.Declaration.{word_by_id}
 use Rattle.ion_symbols.specs.Table.{Shared, Slots, Table, system, system_slots, local_slot, slot_in, text_of_slot, text_at}
 use Rattle.ion_symbols.specs.Tree.{declares_table, next_table, user_at, user_tops}
 use Rattle.ion_symbols.specs.Users.{is_declaration}
-use Rattle.ion_binary.specs.Grammar.{Bin, Tops}
-use Rattle.ion_binary.specs.Canonical.{declaration, id_in, is_over, marker_if, marker_octets, member_octets, octets_behind, texts_kept, tree_octets, value_octets, value_symbols, members_symbols, field_symbols, scalar_symbols, with_symbol, with_symbols, with_text}
-use Rattle.ion_binary.specs.Spelling.{AreShort, IsText, IsUser, IsDeclared, TheFormIsRead, bare_symbol, is_declaring, no_place, unplaced_top, with_id, with_texts}
+use Rattle.ion_symbols.specs.UserValues.{IsUser, is_declaring}
+use Rattle.ion_binary.specs.Grammar.{Bin, Stream, Tops}
+use Rattle.ion_binary.specs.Laws.{Bodies}
+use Rattle.ion_binary.specs.Canonical.{binary, declaration, id_in, is_over, marker_if, marker_octets, member_octets, octets_behind, texts_kept, tree_octets, value_octets, with_symbol, with_symbols, with_text}
+use Rattle.ion_binary.specs.Spelling.{AreShort, IsDeclared, TheFormIsRead, bare_symbol, with_id, with_texts}
+use Rattle.ion_binary.specs.WrittenLimits.{AllowDeclarations, FitsBinary, SymbolFits, WhatIsWrittenIsWithinLimits}
+use Rattle.ion_binary.proofs.Complete.{Shrinking, fitting_streams, one_stream}
+use Rattle.ion_binary.proofs.Elements.{all-append, all-left, all-right}
+use Rattle.ion_binary.proofs.Fitting.{BinFits, TopsFit}
+use Rattle.ion_binary.proofs.ShortValues.{what_is_within_is_short}
 use Rattle.ion_binary.proofs.KnownIds.{AreKnown, IsKnown, all_known, known_left}
-use Rattle.ion_binary.proofs.WrittenSpelled.{value-spelled}
-use Rattle.ion_binary.proofs.WrittenDeclarations.{written_declarations_are_read, id_in-lt, position-lt}
+use Rattle.ion_binary.proofs.WrittenSpelled.{same_member, value-spelled}
+use Rattle.ion_binary.proofs.WrittenDeclarations.{TextsFit, declared-within, id_in-lt, position-lt}
 
 -- ---- the table of texts, in which their ids stand for them
 
@@ -116,10 +127,6 @@ scalar-then f g (value.string b) = refl
 scalar-then f g (value.clob b) = refl
 scalar-then f g (value.blob b) = refl
 
-same_member : {S P : Type 0} (b c : Members S P) (f g : Option S) (a d : List S) (p : P) (x y : Value S P) → b ≡ c → f ≡ g → a ≡ d → x ≡ y → member b f a p x ≡ member c g d p y
-same_member b c f g a d p x y h i j k =
-    ap₂ (λ m n. member m n a p x) h i ∙ ap₂ (λ l z. member c g l p z) j k
-
 mutual
   value-then : {A B C P Q R : Type 0} (f : B → C) (g : A → B) (h : Q → R) (i : P → Q) (x : Value A P) → map_value f h (map_value g i x) ≡ map_value (λ s. f (g s)) (λ p. h (i p)) x
   value-then f g h i (scalar v) = ap (λ w. scalar w) (scalar-then f g v)
@@ -130,17 +137,12 @@ mutual
   members-then f g h i (member before name annotations p x) =
       same_member _ _ _ _ _ _ (h (i p)) _ _ (members-then f g h i before) (option-then f g name) (map-then f g annotations) (value-then f g h i x)
 
--- all of these symbols stay as they are
+-- a symbol stays as it is, and all of these do
+abbrev Stays : (UserSymbol → UserSymbol) → UserSymbol → Type 0
+Stays f s = f s ≡ s
+
 abbrev Stay : (UserSymbol → UserSymbol) → List UserSymbol → Type 0
-Stay f ss = AllByRecursion (λ s. f s ≡ s) ss
-
-stay_left : (f : UserSymbol → UserSymbol) (ss rest : List UserSymbol) → Stay f (ss ++ rest) → Stay f ss
-stay_left f [] rest h = tt
-stay_left f (s ∷ ss) rest h = (h.0, stay_left f ss rest h.1)
-
-stay_right : (f : UserSymbol → UserSymbol) (ss rest : List UserSymbol) → Stay f (ss ++ rest) → Stay f rest
-stay_right f [] rest h = h
-stay_right f (s ∷ ss) rest h = stay_right f ss rest h.1
+Stay f ss = AllByRecursion (Stays f) ss
 
 stay-map : (f : UserSymbol → UserSymbol) (ss : List UserSymbol) → Stay f ss → map f ss ≡ ss
 stay-map f [] h = refl
@@ -180,28 +182,28 @@ mutual
   stay-value : (f : UserSymbol → UserSymbol) (name : Option UserSymbol) (annotations : List UserSymbol) (x : Value UserSymbol ℕ) → Stay f (value_symbols name annotations x)
       → map_value f no_place x ≡ map_value (λ s. s) no_place x
   stay-value f name annotations (scalar v) h =
-      ap (λ w. scalar w) (stay-scalar f v (stay_right f annotations (scalar_symbols v) (stay_right f (field_symbols name) (annotations ++ scalar_symbols v) h)) ∙ sym (id-scalar v))
+      ap (λ w. scalar w) (stay-scalar f v (all-right (Stays f) annotations (scalar_symbols v) (all-right (Stays f) (field_symbols name) (annotations ++ scalar_symbols v) h)) ∙ sym (id-scalar v))
   stay-value f name annotations (container k ms last) h =
-      ap (λ ns. container k ns tt) (stay-members f ms (stay_right f (field_symbols name ++ (annotations ++ [])) (members_symbols ms) h))
+      ap (λ ns. container k ns tt) (stay-members f ms (all-right (Stays f) (field_symbols name ++ (annotations ++ [])) (members_symbols ms) h))
 
   stay-members : (f : UserSymbol → UserSymbol) (ms : Members UserSymbol ℕ) → Stay f (members_symbols ms) → map_members f no_place ms ≡ map_members (λ s. s) no_place ms
   stay-members f nothing h = refl
   stay-members f (member before name annotations p x) h =
-      let own : Stay f (value_symbols name annotations x) = stay_right f (members_symbols before) (value_symbols name annotations x) h in
-      same_member _ _ _ _ _ _ tt _ _ (stay-members f before (stay_left f (members_symbols before) (value_symbols name annotations x) h))
+      let own : Stay f (value_symbols name annotations x) = all-right (Stays f) (members_symbols before) (value_symbols name annotations x) h in
+      same_member _ _ _ _ _ _ tt _ _ (stay-members f before (all-left (Stays f) (members_symbols before) (value_symbols name annotations x) h))
       (stay-field f name (own-field f name annotations x own) ∙ sym (option_map_id name))
       (stay-map f annotations (own-annotations f name annotations x own) ∙ sym (id-map annotations))
       (stay-value f name annotations x own)
 
   own-field : (f : UserSymbol → UserSymbol) (name : Option UserSymbol) (annotations : List UserSymbol) (x : Value UserSymbol ℕ) → Stay f (value_symbols name annotations x) → Stay f (field_symbols name)
-  own-field f name annotations (scalar v) h = stay_left f (field_symbols name) (annotations ++ scalar_symbols v) h
+  own-field f name annotations (scalar v) h = all-left (Stays f) (field_symbols name) (annotations ++ scalar_symbols v) h
   own-field f name annotations (container k ms last) h =
-      stay_left f (field_symbols name) (annotations ++ []) (stay_left f (field_symbols name ++ (annotations ++ [])) (members_symbols ms) h)
+      all-left (Stays f) (field_symbols name) (annotations ++ []) (all-left (Stays f) (field_symbols name ++ (annotations ++ [])) (members_symbols ms) h)
 
   own-annotations : (f : UserSymbol → UserSymbol) (name : Option UserSymbol) (annotations : List UserSymbol) (x : Value UserSymbol ℕ) → Stay f (value_symbols name annotations x) → Stay f annotations
-  own-annotations f name annotations (scalar v) h = stay_left f annotations (scalar_symbols v) (stay_right f (field_symbols name) (annotations ++ scalar_symbols v) h)
+  own-annotations f name annotations (scalar v) h = all-left (Stays f) annotations (scalar_symbols v) (all-right (Stays f) (field_symbols name) (annotations ++ scalar_symbols v) h)
   own-annotations f name annotations (container k ms last) h =
-      stay_left f annotations [] (stay_right f (field_symbols name) (annotations ++ []) (stay_left f (field_symbols name ++ (annotations ++ [])) (members_symbols ms) h))
+      all-left (Stays f) annotations [] (all-right (Stays f) (field_symbols name) (annotations ++ []) (all-left (Stays f) (field_symbols name ++ (annotations ++ [])) (members_symbols ms) h))
 
 -- symbols with ids are seen as they are
 stay-known : (texts : List (List ℕ)) (ss : List UserSymbol) → AreKnown texts ss → Stay (λ s. seen_in (table_of texts) (Id (id_in texts s))) ss
@@ -236,83 +238,42 @@ leads-value : (catalog : List Shared) (t : Table) (p h : ℕ) (own : List Symbol
     → Leads catalog t (tree p own h raw ∷ []) (tree p (map (user_at t) own) h (map_value (user_at t) (λ q. q) raw) ∷ []) t
 leads-value catalog t p h own raw none more = rw (none, user_tops) refl
 
--- the bytes so far spell a stream; these values were written, and the table behind them is this one
-record Sofar (catalog : List Shared) (t : Table) (b : List ℕ) (done : List (Top UserSymbol ℕ)) : Type 0 where
-  pub raw : List (Top SymbolAt ℕ)
-  pub users : List (Top UserSymbol ℕ)
-  pub spells : Tops raw b
-  pub leads : Leads catalog system raw users t
-  pub same : map unplaced_top users ≡ map unplaced_top done
-
-with-marker : (catalog : List Shared) (t : Table) (b : List ℕ) (done : List (Top UserSymbol ℕ)) → Sofar catalog t b done → Sofar catalog system (b ++ marker_octets) done
-with-marker catalog t b done s = record {
-  raw = s.raw ++ version (length b) ∷ [];
-  users = s.users ++ [];
-  spells = Tops.marker s.raw b s.spells;
-  leads = leads-then catalog system t system s.raw (version (length b) ∷ []) s.users [] s.leads (leads-marker catalog t (length b));
-  same = ap (map unplaced_top) (append-nil s.users) ∙ s.same;
-}
-
-with-declaration : (catalog : List Shared) (t : Table) (b : List ℕ) (done : List (Top UserSymbol ℕ)) (texts : List (List ℕ)) → IsDeclared catalog t (length b) texts → Sofar catalog t b done
-    → Sofar catalog (with_texts t texts) (b ++ declaration texts) done
-with-declaration catalog t b done texts d s = record {
-  raw = s.raw ++ tree (length b) d.own d.place d.raw ∷ [];
-  users = s.users ++ [];
-  spells = Tops.with_value s.raw d.place d.own d.raw b (declaration texts) s.spells d.spells;
-  leads = leads-then catalog system t (with_texts t texts) s.raw (tree (length b) d.own d.place d.raw ∷ []) s.users [] s.leads
-      (leads-declaration catalog t (with_texts t texts) (length b) d.place d.own d.raw d.members d.is_declaration d.leaves);
-  same = ap (map unplaced_top) (append-nil s.users) ∙ s.same;
-}
-
-with-value : (catalog : List Shared) (t : Table) (b x : List ℕ) (done : List (Top UserSymbol ℕ)) (own : List SymbolAt) (h : ℕ) (raw : Value SymbolAt ℕ) (top : Top UserSymbol ℕ)
-    → Bin (length b) own h raw x → declares_table t own raw ≡ None
-    → unplaced_top (tree (length b) (map (user_at t) own) h (map_value (user_at t) (λ q. q) raw)) ≡ unplaced_top top
-    → Sofar catalog t b done → Sofar catalog t (b ++ x) (done ++ top ∷ [])
-with-value catalog t b x done own h raw top spells none is s =
-    let user : Top UserSymbol ℕ = tree (length b) (map (user_at t) own) h (map_value (user_at t) (λ q. q) raw) in
-    record {
-      raw = s.raw ++ tree (length b) own h raw ∷ [];
-      users = s.users ++ user ∷ [];
-      spells = Tops.with_value s.raw h own raw b x s.spells spells;
-      leads = leads-then catalog system t t s.raw (tree (length b) own h raw ∷ []) s.users (user ∷ []) s.leads (leads-value catalog t (length b) h own raw none);
-      same = map-append unplaced_top s.users (user ∷ [])
-          ∙ (ap₂ (λ l u. l ++ u ∷ []) s.same is ∙ sym (map-append unplaced_top done (top ∷ [])));
-    }
-
-moved : (catalog : List Shared) (t u : Table) (b c : List ℕ) (done all : List (Top UserSymbol ℕ)) → t ≡ u → b ≡ c → done ≡ all → Sofar catalog t b done → Sofar catalog u c all
-moved catalog t u b c done all e f g s =
-    subst (λ w. Sofar catalog w c all) e (subst (λ x. Sofar catalog t x all) f (subst (λ l. Sofar catalog t b l) g s))
-
 -- ---- a value more
 
--- the new texts of symbols
-record News (kept all : List (List ℕ)) : Type 0 where
+-- the new texts of symbols, which are no longer than limits that the symbols are within
+record News (kept all : List (List ℕ)) (ss : List UserSymbol) : Type 0 where
   pub more : List (List ℕ)
   pub is : all ≡ kept ++ more
   pub texts : AllByRecursion IsUtf8 more
+  pub fits : (limits : Limits) → AllByRecursion (SymbolFits limits) ss → TextsFit limits more
 
-all-texts : (ts us : List (List ℕ)) → AllByRecursion IsUtf8 ts → AllByRecursion IsUtf8 us → AllByRecursion IsUtf8 (ts ++ us)
-all-texts [] us h k = k
-all-texts (t ∷ ts) us h k = (h.0, all-texts ts us h.1 k)
+no-news : (kept : List (List ℕ)) (ss : List UserSymbol) → News kept kept ss
+no-news kept ss = record { more = []; is = sym (append-nil kept); texts = tt; fits = λ limits h. tt }
 
-no-news : (kept : List (List ℕ)) → News kept kept
-no-news kept = record { more = []; is = sym (append-nil kept); texts = tt }
+not-given : (s p : Option ℕ) → or_given s p ≡ None → s ≡ None
+not-given None p e = refl
+not-given (Some n) p e = absurd (cc e)
 
-news-text : (kept : List (List ℕ)) (t : List ℕ) (id : Option ℕ) → IsUtf8 t → News kept (with_text kept t id)
-news-text kept t (Some id) h = no-news kept
-news-text kept t None h = record { more = t ∷ []; is = refl; texts = (h, tt) }
+news-text : (kept : List (List ℕ)) (t : List ℕ) (id : Option ℕ) → known_id kept t ≡ id → IsUtf8 t → News kept (with_text kept t id) (Known t ∷ [])
+news-text kept t (Some id) e h = no-news kept (Known t ∷ [])
+news-text kept t None e h = record { more = t ∷ []; is = refl; texts = (h, tt); fits = λ limits fits. (fits.0 (not-given (system_id t) (position kept t) e), tt) }
 
-news-with : (kept : List (List ℕ)) (s : UserSymbol) → IsText s → News kept (with_symbol kept s)
+news-with : (kept : List (List ℕ)) (s : UserSymbol) → IsText s → News kept (with_symbol kept s) (s ∷ [])
 unfolding with_symbol
-news-with kept (Known t) h = news-text kept t (known_id kept t) h
-news-with kept Unknown h = no-news kept
+news-with kept (Known t) h = news-text kept t (known_id kept t) refl h
+news-with kept Unknown h = no-news kept (Unknown ∷ [])
 
-news : (kept : List (List ℕ)) (ss : List UserSymbol) → AllByRecursion IsText ss → News kept (with_symbols kept ss)
-news kept [] h = no-news kept
+news : (kept : List (List ℕ)) (ss : List UserSymbol) → AllByRecursion IsText ss → News kept (with_symbols kept ss) ss
+news kept [] h = no-news kept []
 news kept (s ∷ ss) h =
     let a = news-with kept s h.0 in
     let b = news (with_symbol kept s) ss h.1 in
-    record { more = a.more ++ b.more; is = b.is ∙ (ap (λ w. w ++ b.more) a.is ∙ append_assoc kept a.more b.more); texts = all-texts a.more b.more a.texts b.texts }
+    record {
+      more = a.more ++ b.more;
+      is = b.is ∙ (ap (λ w. w ++ b.more) a.is ∙ append_assoc kept a.more b.more);
+      texts = all-append IsUtf8 a.more b.more a.texts b.texts;
+      fits = λ limits fits. all-append (λ t. length t ≤ limits.scalar) a.more b.more (a.fits limits (fits.0, tt)) (b.fits limits fits.1);
+    }
 
 table-more : (kept new : List (List ℕ)) → with_texts (table_of kept) new ≡ table_of (kept ++ new)
 table-more kept new = ap (λ (l : Slots). let t : Table = record { imports = []; locals = l } in t) (sym (map-append (λ t. Some t) kept new))
@@ -320,14 +281,6 @@ table-more kept new = ap (λ (l : Slots). let t : Table = record { imports = [];
 no-declaration : declaration [] ≡ []
 unfolding declaration
 no-declaration = refl
-
-with-news : (catalog : List Shared) (kept new : List (List ℕ)) (b : List ℕ) (done : List (Top UserSymbol ℕ)) → AllByRecursion IsUtf8 new → length (declaration new) < 2 ^ 62
-    → Sofar catalog (table_of kept) b done → Sofar catalog (table_of (kept ++ new)) (b ++ declaration new) done
-with-news catalog kept [] b done h short s =
-    moved catalog _ _ _ _ _ _ (ap table_of (sym (append-nil kept))) (sym (append-nil b) ∙ ap (λ x. b ++ x) (sym no-declaration)) refl s
-with-news catalog kept (t ∷ ts) b done h short s =
-    let d = written_declarations_are_read catalog (table_of kept) (length b) (t ∷ ts) (omega arith) h short in
-    moved catalog _ _ _ _ _ _ (table-more kept (t ∷ ts)) refl refl (with-declaration catalog (table_of kept) b done (t ∷ ts) d s)
 
 -- a value that is no declaration is read as none
 abbrev marked_at : Symbol → ℕ → SymbolAt
@@ -394,68 +347,143 @@ same-value texts q first place annotations x own h raw k n e =
     in
     ap₂ (λ (a : List UserSymbol) (y : Value UserSymbol ⊤). tree tt a tt y) annotations_are value_is
 
-with-tree : (catalog : List Shared) (kept : List (List ℕ)) (annotations : List UserSymbol) (x : Value UserSymbol ℕ) (first place : ℕ) (b : List ℕ) (done : List (Top UserSymbol ℕ))
-    → IsUser (tree first annotations place x)
-    → (let all = with_symbols kept (value_symbols None annotations x) in
-    length (declaration (drop (length kept) all)) < 2 ^ 62 → length (member_octets (id_in all) None annotations (value_octets (id_in all) x)) < 2 ^ 62 → length all ≤ 2 ^ 30
-    → Sofar catalog (table_of kept) b done
-    → Sofar catalog (table_of all) (b ++ (declaration (drop (length kept) all) ++ member_octets (id_in all) None annotations (value_octets (id_in all) x))) (done ++ tree first annotations place x ∷ []))
-with-tree catalog kept annotations x first place b done user short_declaration short few s =
-    let symbols : List UserSymbol = value_symbols None annotations x in
-    let all : List (List ℕ) = with_symbols kept symbols in
-    let new = news kept symbols user.1.0 in
-    let new_is : drop (length kept) all ≡ new.more = ap (drop (length kept)) new.is ∙ drop-append_seam kept new.more in
-    let declared : List ℕ = declaration (drop (length kept) all) in
-    let octets : List ℕ = member_octets (id_in all) None annotations (value_octets (id_in all) x) in
-    let before : Sofar catalog (table_of all) (b ++ declared) done =
-    moved catalog _ _ _ _ _ _ (ap table_of (sym new.is)) (ap (λ (n : List (List ℕ)). b ++ declaration n) (sym new_is)) refl
-    (with-news catalog kept new.more b done new.texts (subst (λ (n : List (List ℕ)). length (declaration n) < 2 ^ 62) new_is short_declaration) s)
-    in
-    let known : AreKnown all symbols = all_known kept symbols in
-    let small : (u : UserSymbol) → id_in all u < 2 ^ 31 = λ u. omega (arith, id_in-lt all u, few) in
-    let v = value-spelled (id_in all) (length (b ++ declared)) annotations x small user.0 short in
-    moved catalog _ _ _ _ _ _ refl (append_assoc b declared octets) refl
-    (with-value catalog (table_of all) (b ++ declared) octets done v.own v.place v.raw (tree first annotations place x) v.spells
-    (declares-none all v.own v.raw annotations x v.annotations_are v.value_is (known-annotations all annotations x known) user.1.1)
-    (same-value all (length (b ++ declared)) first place annotations x v.own v.place v.raw known v.annotations_are v.value_is)
-    before)
+-- ---- all values, under limits that they are within where that is wanted
 
-with-marker-if : (over : Bool) (catalog : List Shared) (texts : List (List ℕ)) (b : List ℕ) (done : List (Top UserSymbol ℕ)) → Sofar catalog (table_of texts) b done
-    → Sofar catalog (table_of (texts_kept over texts)) (b ++ marker_if over) done
-with-marker-if true catalog texts b done s = with-marker catalog (table_of texts) b done s
-with-marker-if false catalog texts b done s = moved catalog _ _ _ _ _ _ refl (sym (append-nil b)) refl s
+module _ (limits : Limits) (Wanted : Type 0) (allow : Wanted → AllowDeclarations limits) where
+  -- the bytes so far spell a stream, within the limits where that is wanted; these values were written, and the table behind them is this one
+  record Sofar (catalog : List Shared) (t : Table) (b : List ℕ) (done : List (Top UserSymbol ℕ)) : Type 0 where
+    pub raw : List (Top SymbolAt ℕ)
+    pub users : List (Top UserSymbol ℕ)
+    pub spells : Tops raw b
+    pub leads : Leads catalog system raw users t
+    pub same : map unplaced_top users ≡ map unplaced_top done
+    pub fits : Wanted → TopsFit limits spells
 
--- ---- all values
+  with-marker : (catalog : List Shared) (t : Table) (b : List ℕ) (done : List (Top UserSymbol ℕ)) → Sofar catalog t b done → Sofar catalog system (b ++ marker_octets) done
+  with-marker catalog t b done s = record {
+    raw = s.raw ++ version (length b) ∷ [];
+    users = s.users ++ [];
+    spells = Tops.marker s.raw b s.spells;
+    leads = leads-then catalog system t system s.raw (version (length b) ∷ []) s.users [] s.leads (leads-marker catalog t (length b));
+    same = ap (map unplaced_top) (append-nil s.users) ∙ s.same;
+    fits = s.fits;
+  }
 
-stream : (catalog : List Shared) (limit : ℕ) (texts : List (List ℕ)) (b : List ℕ) (done tops : List (Top UserSymbol ℕ)) → AllByRecursion IsUser tops → AreShort limit texts tops
-    → Sofar catalog (table_of texts) b done → (t : Table) × Sofar catalog t (b ++ octets_behind limit texts tops) (done ++ tops)
-stream catalog limit texts b done [] users short s = (table_of texts, moved catalog _ _ _ _ _ _ refl (sym (append-nil b)) (sym (append-nil done)) s)
-stream catalog limit texts b done (version place ∷ ts) users short s = absurd users.0
-stream catalog limit texts b done (tree first annotations place x ∷ ts) users short s =
-    let over : Bool = is_over limit texts in
-    let kept : List (List ℕ) = texts_kept over texts in
-    let all : List (List ℕ) = with_symbols kept (value_symbols None annotations x) in
-    let octets : List ℕ = declaration (drop (length kept) all) ++ member_octets (id_in all) None annotations (value_octets (id_in all) x) in
-    let whole : List ℕ = tree_octets over kept all annotations x in
-    let one : Sofar catalog (table_of all) ((b ++ marker_if over) ++ octets) (done ++ tree first annotations place x ∷ []) =
-    with-tree catalog kept annotations x first place (b ++ marker_if over) done users.0 short.0 short.1.0 short.1.1.0 (with-marker-if over catalog texts b done s)
-    in
-    let r = stream catalog limit all (b ++ whole) (done ++ tree first annotations place x ∷ []) ts users.1 short.1.1.1
-    (moved catalog _ _ _ _ _ _ refl (append_assoc b (marker_if over) octets) refl one) in
-    (r.0, moved catalog _ _ _ _ _ _ refl (append_assoc b whole (octets_behind limit all ts)) (append_assoc done (tree first annotations place x ∷ []) ts) r.1)
+  with-declaration : (catalog : List Shared) (t : Table) (b : List ℕ) (done : List (Top UserSymbol ℕ)) (texts : List (List ℕ)) (d : IsDeclared catalog t (length b) texts)
+      → (Wanted → BinFits limits 0 d.spells) → Sofar catalog t b done
+      → Sofar catalog (with_texts t texts) (b ++ declaration texts) done
+  with-declaration catalog t b done texts d within s = record {
+    raw = s.raw ++ tree (length b) d.own d.place d.raw ∷ [];
+    users = s.users ++ [];
+    spells = Tops.with_value s.raw d.place d.own d.raw b (declaration texts) s.spells d.spells;
+    leads = leads-then catalog system t (with_texts t texts) s.raw (tree (length b) d.own d.place d.raw ∷ []) s.users [] s.leads
+        (leads-declaration catalog t (with_texts t texts) (length b) d.place d.own d.raw d.members d.is_declaration d.leaves);
+    same = ap (map unplaced_top) (append-nil s.users) ∙ s.same;
+    fits = λ wanted. (s.fits wanted, within wanted);
+  }
 
-at-start : (catalog : List Shared) → Sofar catalog system marker_octets []
-at-start catalog = record {
-  raw = version 0 ∷ [];
-  users = [];
-  spells = Tops.marker [] [] Tops.nothing;
-  leads = leads-marker catalog system 0;
-  same = refl;
-}
+  with-value : (catalog : List Shared) (t : Table) (b x : List ℕ) (done : List (Top UserSymbol ℕ)) (own : List SymbolAt) (h : ℕ) (raw : Value SymbolAt ℕ) (top : Top UserSymbol ℕ)
+      → (spells : Bin (length b) own h raw x) → (Wanted → BinFits limits 0 spells) → declares_table t own raw ≡ None
+      → unplaced_top (tree (length b) (map (user_at t) own) h (map_value (user_at t) (λ q. q) raw)) ≡ unplaced_top top
+      → Sofar catalog t b done → Sofar catalog t (b ++ x) (done ++ top ∷ [])
+  with-value catalog t b x done own h raw top spells within none is s =
+      let user : Top UserSymbol ℕ = tree (length b) (map (user_at t) own) h (map_value (user_at t) (λ q. q) raw) in
+      record {
+        raw = s.raw ++ tree (length b) own h raw ∷ [];
+        users = s.users ++ user ∷ [];
+        spells = Tops.with_value s.raw h own raw b x s.spells spells;
+        leads = leads-then catalog system t t s.raw (tree (length b) own h raw ∷ []) s.users (user ∷ []) s.leads (leads-value catalog t (length b) h own raw none);
+        same = map-append unplaced_top s.users (user ∷ [])
+            ∙ (ap₂ (λ l u. l ++ u ∷ []) s.same is ∙ sym (map-append unplaced_top done (top ∷ [])));
+        fits = λ wanted. (s.fits wanted, within wanted);
+      }
+
+  moved : (catalog : List Shared) (t u : Table) (b c : List ℕ) (done all : List (Top UserSymbol ℕ)) → t ≡ u → b ≡ c → done ≡ all → Sofar catalog t b done → Sofar catalog u c all
+  moved catalog t u b c done all e f g s =
+      subst (λ w. Sofar catalog w c all) e (subst (λ x. Sofar catalog t x all) f (subst (λ l. Sofar catalog t b l) g s))
+
+  with-news : (catalog : List Shared) (kept new : List (List ℕ)) (b : List ℕ) (done : List (Top UserSymbol ℕ)) → AllByRecursion IsUtf8 new → length (declaration new) < 2 ^ 62
+      → (Wanted → TextsFit limits new)
+      → Sofar catalog (table_of kept) b done → Sofar catalog (table_of (kept ++ new)) (b ++ declaration new) done
+  with-news catalog kept [] b done h short within s =
+      moved catalog _ _ _ _ _ _ (ap table_of (sym (append-nil kept))) (sym (append-nil b) ∙ ap (λ x. b ++ x) (sym no-declaration)) refl s
+  with-news catalog kept (t ∷ ts) b done h short within s =
+      let d = declared-within catalog (table_of kept) (length b) (t ∷ ts) (omega arith) h short in
+      moved catalog _ _ _ _ _ _ (table-more kept (t ∷ ts)) refl refl (with-declaration catalog (table_of kept) b done (t ∷ ts) d.at (λ wanted. d.fits limits (allow wanted) (within wanted)) s)
+
+  with-tree : (catalog : List Shared) (kept : List (List ℕ)) (annotations : List UserSymbol) (x : Value UserSymbol ℕ) (first place : ℕ) (b : List ℕ) (done : List (Top UserSymbol ℕ))
+      → IsUser (tree first annotations place x) → (Wanted → FitsBinary limits (tree first annotations place x))
+      → (let all = with_symbols kept (value_symbols None annotations x) in
+      length (declaration (drop (length kept) all)) < 2 ^ 62 → length (member_octets (id_in all) None annotations (value_octets (id_in all) x)) < 2 ^ 62 → length all ≤ 2 ^ 30
+      → Sofar catalog (table_of kept) b done
+      → Sofar catalog (table_of all) (b ++ (declaration (drop (length kept) all) ++ member_octets (id_in all) None annotations (value_octets (id_in all) x))) (done ++ tree first annotations place x ∷ []))
+  with-tree catalog kept annotations x first place b done user within short_declaration short few s =
+      let symbols : List UserSymbol = value_symbols None annotations x in
+      let all : List (List ℕ) = with_symbols kept symbols in
+      let new = news kept symbols user.1.0 in
+      let new_is : drop (length kept) all ≡ new.more = ap (drop (length kept)) new.is ∙ drop-append_seam kept new.more in
+      let declared : List ℕ = declaration (drop (length kept) all) in
+      let octets : List ℕ = member_octets (id_in all) None annotations (value_octets (id_in all) x) in
+      let before : Sofar catalog (table_of all) (b ++ declared) done =
+      moved catalog _ _ _ _ _ _ (ap table_of (sym new.is)) (ap (λ (n : List (List ℕ)). b ++ declaration n) (sym new_is)) refl
+      (with-news catalog kept new.more b done new.texts (subst (λ (n : List (List ℕ)). length (declaration n) < 2 ^ 62) new_is short_declaration)
+      (λ wanted. let fits = within wanted in new.fits limits fits.2) s)
+      in
+      let known : AreKnown all symbols = all_known kept symbols in
+      let small : (u : UserSymbol) → id_in all u < 2 ^ 31 = λ u. omega (arith, id_in-lt all u, few) in
+      let v = value-spelled (id_in all) (length (b ++ declared)) annotations x small user.0 short in
+      moved catalog _ _ _ _ _ _ refl (append_assoc b declared octets) refl
+      (with-value catalog (table_of all) (b ++ declared) octets done v.at.own v.at.place v.at.raw (tree first annotations place x) v.at.spells
+      (λ wanted. let fits = within wanted in v.fits limits 0 (allow wanted).scalar fits.0 fits.1)
+      (declares-none all v.at.own v.at.raw annotations x v.at.annotations_are v.at.value_is (known-annotations all annotations x known) user.1.1)
+      (same-value all (length (b ++ declared)) first place annotations x v.at.own v.at.place v.at.raw known v.at.annotations_are v.at.value_is)
+      before)
+
+  with-marker-if : (over : Bool) (catalog : List Shared) (texts : List (List ℕ)) (b : List ℕ) (done : List (Top UserSymbol ℕ)) → Sofar catalog (table_of texts) b done
+      → Sofar catalog (table_of (texts_kept over texts)) (b ++ marker_if over) done
+  with-marker-if true catalog texts b done s = with-marker catalog (table_of texts) b done s
+  with-marker-if false catalog texts b done s = moved catalog _ _ _ _ _ _ refl (sym (append-nil b)) refl s
+
+  stream : (catalog : List Shared) (limit : ℕ) (texts : List (List ℕ)) (b : List ℕ) (done tops : List (Top UserSymbol ℕ)) → AllByRecursion IsUser tops → (Wanted → AllByRecursion (FitsBinary limits) tops)
+      → AreShort limit texts tops
+      → Sofar catalog (table_of texts) b done → (t : Table) × Sofar catalog t (b ++ octets_behind limit texts tops) (done ++ tops)
+  stream catalog limit texts b done [] users within short s = (table_of texts, moved catalog _ _ _ _ _ _ refl (sym (append-nil b)) (sym (append-nil done)) s)
+  stream catalog limit texts b done (version place ∷ ts) users within short s = absurd users.0
+  stream catalog limit texts b done (tree first annotations place x ∷ ts) users within short s =
+      let over : Bool = is_over limit texts in
+      let kept : List (List ℕ) = texts_kept over texts in
+      let all : List (List ℕ) = with_symbols kept (value_symbols None annotations x) in
+      let octets : List ℕ = declaration (drop (length kept) all) ++ member_octets (id_in all) None annotations (value_octets (id_in all) x) in
+      let whole : List ℕ = tree_octets over kept all annotations x in
+      let one : Sofar catalog (table_of all) ((b ++ marker_if over) ++ octets) (done ++ tree first annotations place x ∷ []) =
+      with-tree catalog kept annotations x first place (b ++ marker_if over) done users.0 (λ wanted. let fits = within wanted in fits.0) short.0 short.1.0 short.1.1.0 (with-marker-if over catalog texts b done s)
+      in
+      let r = stream catalog limit all (b ++ whole) (done ++ tree first annotations place x ∷ []) ts users.1
+      (λ wanted. let fits = within wanted in fits.1) short.1.1.1
+      (moved catalog _ _ _ _ _ _ refl (append_assoc b (marker_if over) octets) refl one) in
+      (r.0, moved catalog _ _ _ _ _ _ refl (append_assoc b whole (octets_behind limit all ts)) (append_assoc done (tree first annotations place x ∷ []) ts) r.1)
+
+  at-start : (catalog : List Shared) → Sofar catalog system marker_octets []
+  at-start catalog = record {
+    raw = version 0 ∷ [];
+    users = [];
+    spells = Tops.marker [] [] Tops.nothing;
+    leads = leads-marker catalog system 0;
+    same = refl;
+    fits = λ wanted. tt;
+  }
+
+-- the stream of all values, under any limits
+whole : (limits : Limits) (Wanted : Type 0) (allow : Wanted → AllowDeclarations limits) (catalog : List Shared) (limit : ℕ) (tops : List (Top UserSymbol ℕ))
+    → AllByRecursion IsUser tops → (Wanted → AllByRecursion (FitsBinary limits) tops) → AreShort limit [] tops
+    → (t : Table) × Sofar limits Wanted allow catalog t (binary limit tops) tops
+whole limits Wanted allow catalog limit tops users within short =
+    stream limits Wanted allow catalog limit [] marker_octets [] tops users within short (at-start limits Wanted allow catalog)
 
 pub the_form_is_read : TheFormIsRead
 the_form_is_read catalog limit tops users short =
-    let r = (stream catalog limit [] marker_octets [] tops users short (at-start catalog)).1 in
+    let none : Limits = record { depth = 0; scalar = 0; symbols = 0; value = 0; input = 0 } in
+    let r = (whole none ⊥ (λ wanted. absurd wanted) catalog limit tops users (λ wanted. absurd wanted) short).1 in
     record {
       raw = r.raw;
       users = r.users ++ [];
@@ -463,3 +491,12 @@ the_form_is_read catalog limit tops users short =
       users_are = ap (user_tops catalog system) (sym (append-nil r.raw)) ∙ r.leads [];
       same = ap (map unplaced_top) (append-nil r.users) ∙ r.same;
     }
+
+-- what is written of values that fit is read to its end
+pub what_is_written_is_within_limits : Bodies → Shrinking → WhatIsWrittenIsWithinLimits
+what_is_written_is_within_limits bodies shrinks limits us raw checked allow users within fits stream =
+    let r = (whole limits ⊤ (λ wanted. allow) [] limits.symbols us users (λ wanted. fits) (what_is_within_is_short limits us checked within)).1 in
+    let spelled : Stream (binary limits.symbols us) r.raw = record { begins = stream.begins; spells = r.spells } in
+    let same : r.raw ≡ raw = one_stream bodies shrinks (binary limits.symbols us) r.raw raw spelled stream in
+    fitting_streams bodies shrinks limits (binary limits.symbols us) r.raw r.spells (r.fits tt)
+    ∙ ap (λ (tops : List (Top SymbolAt ℕ)). behind (path_items (closed tops)) Finished) same

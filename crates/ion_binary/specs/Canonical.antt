@@ -7,6 +7,7 @@ use Rattle.ion_value.specs.Scalar as numbered
 use Rattle.ion_value.specs.Scalar.{scalar_body, scalar_code}
 use Rattle.ion_value.specs.Value as value
 use Rattle.ion_value.specs.Value.{UserSymbol, Known, Unknown, Scalar, Value, Members, scalar, container, nothing, member, Top, version, tree, Head, Item}
+use Rattle.ion_value.specs.Writable.{value_symbols}
 use Rattle.ion_symbols.specs.Output.{known_id, texts_cost}
 use Rattle.ion_binary.specs.Grammar.{type_code}
 
@@ -91,34 +92,6 @@ with_symbol texts Unknown = texts
 abbrev pub with_symbols : List (List ℕ) → List UserSymbol → List (List ℕ)
 with_symbols texts [] = texts
 with_symbols texts (s ∷ ss) = with_symbols (with_symbol texts s) ss
-
--- the symbol of a field, and none where there is no field
-abbrev pub field_symbols : {S : Type 0} → Option S → List S
-field_symbols None = []
-field_symbols (Some s) = s ∷ []
-
--- the symbol of a symbol value, and none of any other scalar
-abbrev pub scalar_symbols : {S : Type 0} → Scalar S → List S
-scalar_symbols (value.symbol name) = name ∷ []
-scalar_symbols (value.null type) = []
-scalar_symbols (value.bool truth) = []
-scalar_symbols (value.int number) = []
-scalar_symbols (value.decimal number) = []
-scalar_symbols (value.timestamp moment) = []
-scalar_symbols (value.string bytes) = []
-scalar_symbols (value.clob bytes) = []
-scalar_symbols (value.blob bytes) = []
-
-abbrev mutual
-  -- the symbols of a value with this field and these annotations, and behind them those of its members
-  pub value_symbols : {S P : Type 0} → Option S → List S → Value S P → List S
-  value_symbols f annotations (scalar body) = field_symbols f ++ (annotations ++ scalar_symbols body)
-  value_symbols f annotations (container kind members last) = (field_symbols f ++ (annotations ++ [])) ++ members_symbols members
-
-  -- the symbols of the members of a container, one member after the other
-  pub members_symbols : {S P : Type 0} → Members S P → List S
-  members_symbols nothing = []
-  members_symbols (member before f annotations place x) = members_symbols before ++ value_symbols f annotations x
 
 -- ---- declarations
 

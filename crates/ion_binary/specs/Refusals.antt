@@ -5,8 +5,9 @@ use Rattle.ion_meter.specs.declared.fault.Reason.{Reason}
 use Rattle.ion_meter.specs.declared.limits.Limits.{Limits}
 use Rattle.ion_value.specs.Path.{Path, closed, opened, closing, path_items, with_item}
 use Rattle.ion_value.specs.Value.{UserSymbol, Top, version, tree, Item, PlacedItem, top_items, user_item, user_items}
+use Rattle.ion_value.specs.Writable.{value_symbols}
 use Rattle.ion_symbols.specs.Output.{texts_cost}
-use Rattle.ion_binary.specs.Canonical.{id_in, is_over, member_octets, texts_kept, value_octets, value_symbols, with_symbols}
+use Rattle.ion_binary.specs.Canonical.{id_in, is_over, member_octets, texts_kept, value_octets, with_symbols}
 use Rattle.ion_binary.specs.Writing.{binary_refusal, first_over, item_symbols, refused_by}
 use Rattle.ion_binary.specs.WritingLaws.{last_size}
 

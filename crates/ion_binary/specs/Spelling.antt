@@ -1,44 +1,19 @@
 -- What is written can be read: the octets of values as the grammar has them.
-use Rattle.std.specs.Prelude.{◌≡◌, ℕ, ◌^◌, ◌<◌, ◌≤◌, Bool, false, List, [], ◌∷◌, ◌++◌, length, drop, map, Some, None, Ok, is_some, IsUtf8, ⊤}
+use Rattle.std.specs.Prelude.{◌≡◌, ℕ, ◌^◌, ◌<◌, ◌≤◌, List, [], ◌∷◌, ◌++◌, length, drop, map, Some, None, Ok, IsUtf8, ⊤}
 use Rattle.std.specs.List.{AllByRecursion}
-use Rattle.ion_value.specs.declared.ion_type.Kind.{Kind}
-use Rattle.ion_value.specs.declared.ion_type.Kind.TheVariants as kind
-use Rattle.ion_value.specs.Standing.{InRange, in_struct}
-use Rattle.ion_value.specs.Value as value
-use Rattle.ion_value.specs.Value.{Symbol, Id, SymbolAt, UserSymbol, Known, Unknown, Scalar, Value, Members, scalar, container, nothing, member, Top, version, tree, map_value}
-use Rattle.ion_binary.specs.Grammar.{Bin, Descriptor, Stream}
+use Rattle.ion_meter.specs.Limits.{AreChecked}
+use Rattle.ion_meter.specs.declared.limits.Limits.{Limits}
+use Rattle.ion_value.specs.Value.{Symbol, Id, SymbolAt, UserSymbol, Value, Members, Top, version, tree, map_value, no_place, unplaced_top}
+use Rattle.ion_value.specs.Writable.{IsWritable, value_symbols}
 use Rattle.ion_symbols.specs.Declaration.{Ground}
-use Rattle.ion_symbols.specs.Table.{Shared, Table, system, text_at, word_of, table_cost, count_of, most_slots}
+use Rattle.ion_symbols.specs.Table.{Shared, Table, system, text_at, table_cost, count_of, most_slots}
 use Rattle.ion_symbols.specs.Tree.{declared, declares_table, next_table, user_tops}
-use Rattle.ion_symbols.specs.Users.{is_declaration}
-use Rattle.ion_binary.specs.Canonical.{binary, declaration, header, id_in, is_over, member_octets, texts_kept, value_octets, value_symbols, with_symbols}
+use Rattle.ion_symbols.specs.UserValues.{IsUser}
+use Rattle.ion_binary.specs.Grammar.{Bin, Descriptor, Stream}
+use Rattle.ion_binary.specs.Canonical.{binary, declaration, header, id_in, is_over, member_octets, texts_kept, value_octets, with_symbols}
+use Rattle.ion_binary.specs.Refusals.{AreWithin}
 
--- ---- which values are written
-
--- a string whose bytes are UTF-8, or any other scalar
-abbrev pub HasText : {S : Type 0} → Scalar S → Type 0
-HasText (value.string bytes) = IsUtf8 bytes
-HasText (value.null type) = ⊤
-HasText (value.bool truth) = ⊤
-HasText (value.int number) = ⊤
-HasText (value.decimal number) = ⊤
-HasText (value.timestamp moment) = ⊤
-HasText (value.symbol name) = ⊤
-HasText (value.clob bytes) = ⊤
-HasText (value.blob bytes) = ⊤
-
-abbrev mutual
-  -- numbers and timestamps are those of this library, strings are text, and the members of structs alone have fields
-  pub IsWritable : {S P : Type 0} → Value S P → Type 0
-  IsWritable (scalar body) = InRange body × HasText body
-  IsWritable (container kind members last) = AreWritable kind members
-
-  -- so are the members of a container of this kind, each with a field exactly where the kind is a struct
-  pub AreWritable : {S P : Type 0} → Kind → Members S P → Type 0
-  AreWritable kind nothing = ⊤
-  AreWritable kind (member before f annotations place x) = AreWritable kind before × ((is_some f ≡ in_struct (kind ∷ [])) × IsWritable x)
-
--- ---- what they are in the grammar
+-- ---- headers and values
 
 -- no descriptor with the same type code and length has fewer octets than the header
 abbrev pub HeadersAreShortest : Type 0
@@ -51,10 +26,6 @@ bare_symbol s = s.symbol
 -- a symbol as the id that the first argument gives it
 abbrev pub with_id : (UserSymbol → ℕ) → UserSymbol → Symbol
 with_id ids s = Id (ids s)
-
--- a place is forgotten, so that trees are compared without their places
-abbrev pub no_place : {P : Type 0} → P → ⊤
-no_place place = tt
 
 -- from a place on the bytes spell annotations and a value, of which each symbol has its id
 pub record IsSpelledAt {P : Type 0} (ids : UserSymbol → ℕ) (q : ℕ) (annotations : List UserSymbol) (x : Value UserSymbol P) (bytes : List ℕ) : Type 0 where
@@ -117,21 +88,6 @@ DeclarationsAreAccepted =
 
 -- ---- streams
 
--- the texts that are symbols
-abbrev pub IsText : UserSymbol → Type 0
-IsText (Known t) = IsUtf8 t
-IsText Unknown = ⊤
-
--- a struct whose first annotation is `$ion_symbol_table` is read as a declaration
-abbrev pub is_declaring : {P : Type 0} → List UserSymbol → Value UserSymbol P → Bool
-is_declaring (Known t ∷ ss) (container kind.Struct members last) = is_declaration (word_of t)
-is_declaring _ _ = false
-
--- values that a user of a stream can have
-abbrev pub IsUser : {P : Type 0} → Top UserSymbol P → Type 0
-IsUser (version place) = ⊥
-IsUser (tree first annotations place x) = IsWritable x × (AllByRecursion IsText (value_symbols None annotations x) × (is_declaring annotations x ≡ false))
-
 -- each declaration and each value is shorter than 2^62 octets, and at most 2^30 texts have ids at once
 abbrev pub AreShort : {P : Type 0} → ℕ → List (List ℕ) → List (Top UserSymbol P) → Type 0
 AreShort limit texts [] = ⊤
@@ -143,10 +99,10 @@ AreShort limit texts (tree first annotations place x ∷ ts) =
     × ((length (member_octets (id_in all) None annotations (value_octets (id_in all) x)) < 2 ^ 62)
     × ((length all ≤ 2 ^ 30) × AreShort limit all ts))
 
--- values at top level without their places
-abbrev pub unplaced_top : {S P : Type 0} → Top S P → Top S ⊤
-unplaced_top (version place) = version tt
-unplaced_top (tree first annotations place x) = tree tt annotations tt (map_value (λ s. s) no_place x)
+-- values of which a writer refuses nothing under checked limits are so short
+abbrev pub WhatIsWithinIsShort : Type 0
+WhatIsWithinIsShort =
+    (limits : Limits) (tops : List (Top UserSymbol ℕ)) → AreChecked limits → AreWithin limits [] tops → AreShort limits.symbols [] tops
 
 -- the canonical form of values is a stream of which they are the user values, under every catalogue
 pub record IsRead (catalog : List Shared) (limit : ℕ) (tops : List (Top UserSymbol ℕ)) : Type 0 where

@@ -7,9 +7,10 @@ use Rattle.ion_value.specs.declared.ion_type.Kind.{Kind}
 use Rattle.ion_value.specs.Standing.{is_marker}
 use Rattle.ion_value.specs.Value as value
 use Rattle.ion_value.specs.Value.{SymbolAt, UserSymbol, user_symbol_at, user_item, user_items, Head, Item, PlacedItem}
+use Rattle.ion_value.specs.Writable.{field_symbols, scalar_symbols}
 use Rattle.ion_symbols.specs.Output.{texts_cost}
 use Rattle.ion_binary.specs.Grammar.{type_code}
-use Rattle.ion_binary.specs.Canonical.{annotation_octets, declaration, field_octets, field_symbols, headed, id_in, is_over, marker_if, marker_octets, member_octets, scalar_octets, scalar_symbols, with_symbol, with_symbols, wrapped}
+use Rattle.ion_binary.specs.Canonical.{annotation_octets, declaration, field_octets, headed, id_in, is_over, marker_if, marker_octets, member_octets, scalar_octets, with_symbol, with_symbols, wrapped}
 
 -- ---- open containers
 

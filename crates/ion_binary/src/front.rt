@@ -5,8 +5,9 @@ ghost use Rattle.ion_value.specs.Items.{annotations_of, item_of, raw_field, raw_
 ghost use Rattle.ion_value.specs.Number.{var_uint_octets};
 ghost use Rattle.ion_value.specs.Shares.{Charges, MemoryCauses, fault_of};
 ghost use Rattle.ion_value.specs.Value.{user_item, user_symbol_at};
+ghost use Rattle.ion_value.specs.Writable.{field_symbols};
 ghost use Rattle.ion_symbols.specs.Output.{CanAdd, texts_cost};
-ghost use Rattle.ion_binary.specs.Canonical.{field_symbols, id_in, id_octets, with_symbols};
+ghost use Rattle.ion_binary.specs.Canonical.{id_in, id_octets, with_symbols};
 ghost use Rattle.ion_binary.specs.ItemOctets.{head_name, user_head};
 ghost use Rattle.ion_binary.specs.Numbering.{CanNumber, IsFront, Numbers, PutsWithin, numbering, users};
 ghost use Rattle.ion_binary.specs.Writing.{head_symbols, item_symbols};

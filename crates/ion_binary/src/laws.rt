@@ -1,11 +1,12 @@
 //! Laws of the grammar and the reading of the binary form, each the contract of a function that
 //! does nothing.
-ghost use Rattle.ion_binary.specs.Laws.{Bodies, Complete, EachStepFalls, EachStepFollows, ExactLimits, Narrow, NoStreamBegins, OnePath, OneStream, RightlyRefused, Sound, Stable, StreamsAreRead};
+ghost use Rattle.ion_binary.specs.Laws.{Bodies, Complete, EachStepFalls, EachStepFollows, ExactLimits, Narrow, NoStreamBegins, OnePath, OneStream, RightlyRefused, Sound, Stable, StreamsAreRaw, StreamsAreRead, WithinLimitsAreRead};
 ghost use Rattle.ion_binary.specs.WritingLaws.{ClosedSizeIsThatOfTheClosing, IdsAreGiven, ItemsAddTheirOctets, ItemsPutTheForm, OpenItemsPutWhatIsWhole, RefusedItemsAddNothing};
 ghost use Rattle.ion_binary.specs.Refusals.{ItemsAreRefusedAsInTrees, NoneIsRefusedWithin};
 ghost use Rattle.ion_binary.specs.Held.{WhatIsHeldMoves};
 ghost use Rattle.ion_binary.specs.Places.{ClosedSizeByCounts, ClosedSizeByPlaces};
-ghost use Rattle.ion_binary.specs.Spelling.{DeclarationsAreAccepted, WrittenDeclarationsAreRead, HeadersAreShortest, TheFormIsRead, ValuesAreSpelled};
+ghost use Rattle.ion_binary.specs.WrittenLimits.{NumbersFit, WhatIsWrittenIsWithinLimits};
+ghost use Rattle.ion_binary.specs.Spelling.{DeclarationsAreAccepted, WrittenDeclarationsAreRead, HeadersAreShortest, TheFormIsRead, ValuesAreSpelled, WhatIsWithinIsShort};
 
 /// Every body of a scalar that the grammar has is read to its value, and no other body is read.
 pub fn bodies_are_read()
@@ -45,6 +46,13 @@ pub fn streams_are_read()
     ensures { StreamsAreRead }
 {}
 
+/// The values of a stream are as streams have them: their ints, decimals and timestamps are in
+/// range, strings are UTF-8, fields stand in structs alone, and clobs and blobs are bytes where the
+/// input is.
+pub fn streams_are_raw()
+    ensures { StreamsAreRaw }
+{}
+
 /// Of two paths of one input, the items of one begin the other's.
 pub fn one_path()
     ensures { OnePath }
@@ -71,10 +79,16 @@ pub fn no_stream_begins()
     ensures { NoStreamBegins }
 {}
 
-/// A reading stops at a limit only where the limit is passed: at the header of a container where so
-/// many are open, at a scalar that announces a longer body, or at the annotation that passes it.
+/// A reading stops at a limit only where the limit is passed, at the next value behind what it has
+/// read: at the header of a container where so many are open, at a scalar that announces a longer
+/// body, or at the annotation that passes it.
 pub fn limits_are_exact()
     ensures { ExactLimits }
+{}
+
+/// A stream that passes no limit at any place is read to its end.
+pub fn streams_within_limits_are_read()
+    ensures { WithinLimitsAreRead }
 {}
 
 /// The items of whole values put the canonical form of the values, whatever the limit of symbol
@@ -174,4 +188,22 @@ pub fn declarations_are_accepted()
 /// ids at once.
 pub fn the_form_is_read()
     ensures { TheFormIsRead }
+{}
+
+/// Values of which a writer refuses nothing under checked limits are short enough for that: each
+/// value and declaration, and the number of texts that have ids at once.
+pub fn what_is_within_is_short()
+    ensures { WhatIsWithinIsShort }
+{}
+
+/// Each decimal and each timestamp in range fits a limit on scalars of 26 or more, as it is written.
+pub fn numbers_fit()
+    ensures { NumbersFit }
+{}
+
+/// What is written of values is read to its end under the limits of the writer, where it refuses
+/// nothing of them and they fit: by the depth of their containers, the length of their scalars and
+/// of the texts of their symbols, and the number of annotations of each.
+pub fn what_is_written_is_within_limits()
+    ensures { WhatIsWrittenIsWithinLimits }
 {}

@@ -1,5 +1,5 @@
 -- A declaration is refused for a symbol exactly where some id in it is above the table before it, as far as it is read.
-use Rattle.std.proofs.Common.{◌≡◌, ℕ, ◌⊎◌, inl, inr, refl, Bool, true, false, ◌&&◌, if◌then◌else◌, List, [], ◌∷◌, ◌++◌, Option, Some, None, Ok, Err, nat_le, ◌+◌, length}
+use Rattle.std.proofs.Common.{◌≡◌, ℕ, ◌⊎◌, inl, inr, ◌↔◌, refl, Bool, true, false, ◌&&◌, if◌then◌else◌, List, [], ◌∷◌, ◌++◌, Option, Some, None, Ok, Err, nat_le, ◌+◌, length}
 use Rattle.ion_meter.specs.declared.fault.Reason.TheVariants.{BadSymbol, BadTable, SymbolLimit}
 use Rattle.ion_value.specs.declared.ion_type.Kind.{Kind}
 use Rattle.ion_value.specs.declared.ion_type.Kind.TheVariants as kind
@@ -82,6 +82,19 @@ first_tells : (t : Table) (top : ℕ) (field : Option SymbolAt) (annotations : L
 first_tells t top field annotations place x =
     else_tells (field_checked t false field) (or_else (annotations_checked t false annotations) (head_checked t false (head_of x))) (field_tells t field)
     (else_tells (annotations_checked t false annotations) (head_checked t false (head_of x)) (annotations_tell t annotations) (head_tells t x))
+
+told : {A : Type 0} (c : Checked) → CheckTells A c → (c ≡ fine) ↔ (A → ⊥)
+told fine h = (λ e. h.so, λ no. refl)
+told (bad reason place) h = (λ e. absurd (cc e), λ no. absurd (no h.so))
+
+-- the first item of a declaration
+pub begins_fine : (t : Table) (top : ℕ) (annotations : List SymbolAt) (place : ℕ) (k : Kind) (members : Members SymbolAt ℕ) (last : ℕ)
+    → (checked t false (first_of top None annotations place (container k members last)) ≡ fine) ↔ (AnyAbove t annotations → ⊥)
+begins_fine t top annotations place k members last =
+    let c : Checked = checked t false (first_of top None annotations place (container k members last)) in
+    told c
+    (check_same c (λ h. elim h [ inl a ↦ absurd a | inr b ↦ elim b [ inl h ↦ h | inr d ↦ absurd d ] ]) (λ h. inr (inl h))
+    (first_tells t top None annotations place (container k members last)))
 
 -- a value is its first item and its content
 value_parts : (t : Table) (x : Value SymbolAt ℕ) → HeadAbove t x ⊎ ContentAbove t x → ValueAbove t x

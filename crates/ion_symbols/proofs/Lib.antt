@@ -18,11 +18,16 @@ mod DeclarationReadings
 mod Yields
 mod DeclarationLists
 pub mod DeclarationMeaning
+mod AllAppended
 mod StandingSymbols
 mod IdsAbove
 mod Accepted
 mod Costly
 mod UserReadings
+mod ResolvedUsers
+mod OtherSymbols
+mod TextTables
+mod RawUsers
 mod OpenDeclarations
 mod OpenUsers
 mod RefusedUsers
@@ -40,3 +45,4 @@ mod CatalogCosts
 mod CatalogSteps
 mod CatalogMeaning
 mod CatalogRefusals
+mod CatalogTexts

@@ -1,5 +1,6 @@
--- Where no item of a value is at fault, each of its symbols stands in the table.
-use Rattle.std.proofs.Common.{◌≡◌, ℕ, true, List, [], ◌∷◌, ◌++◌, Option, Some, None, refl}
+-- No item of a value is at fault exactly where each of its symbols stands in the table.
+use Rattle.std.proofs.Common.{◌≡◌, ℕ, true, List, [], ◌∷◌, Option, Some, None, refl}
+use Rattle.std.specs.Prelude.{◌↔◌, ⊤}
 use Rattle.std.specs.List.{AllByRecursion}
 use Rattle.ion_value.specs.Value as value
 use Rattle.ion_value.specs.Value.{Symbol, SymbolAt, Scalar, Value, Members, scalar, container, nothing, member, PlacedItem, value_items, member_items, bare_item}
@@ -8,73 +9,99 @@ use Rattle.ion_symbols.specs.Table.{Slot, Table, slot_of}
 use Rattle.ion_symbols.specs.Users.{Checked, fine, bad, or_else, slot_checked, symbol_checked, at_checked, field_checked, annotations_checked, scalar_checked, head_checked, checked}
 use Rattle.ion_symbols.specs.Tree.{first_of, head_of}
 use Rattle.ion_symbols.specs.Laws.{IsSlot, SymbolStands, Stands, FieldStands, ScalarStands, ValueStands, MembersStand}
+use Rattle.ion_symbols.proofs.AllAppended.{AllByRecursion-append, AllByRecursion-before, AllByRecursion-behind}
 
--- no item is at fault as one of a user value
+-- an item is not at fault as one of a user value
+abbrev pub IsFine : Table → PlacedItem → Type 0
+IsFine t i = checked t true i ≡ fine
+
+-- no item is
 abbrev pub AllFine : Table → List PlacedItem → Type 0
-AllFine t is = AllByRecursion (λ i. checked t true i ≡ fine) is
-
-pub AllFine-append : (t : Table) (is js : List PlacedItem) → AllFine t is → AllFine t js → AllFine t (is ++ js)
-AllFine-append t [] js h k = k
-AllFine-append t (i ∷ is) js h k = (h.0, AllFine-append t is js h.1 k)
-
-AllFine-before : (t : Table) (is js : List PlacedItem) → AllFine t (is ++ js) → AllFine t is
-AllFine-before t [] js h = tt
-AllFine-before t (i ∷ is) js h = (h.0, AllFine-before t is js h.1)
-
-AllFine-behind : (t : Table) (is js : List PlacedItem) → AllFine t (is ++ js) → AllFine t js
-AllFine-behind t [] js h = h
-AllFine-behind t (i ∷ is) js h = AllFine-behind t is js h.1
+AllFine t is = AllByRecursion (IsFine t) is
 
 -- one check after another
-else_fine : (a b : Checked) → or_else a b ≡ fine → (a ≡ fine) × (b ≡ fine)
-else_fine fine b e = (refl, e)
-else_fine (bad reason place) b e = absurd (cc e)
+pub or_else-fine : (a b : Checked) → (or_else a b ≡ fine) ↔ ((a ≡ fine) × (b ≡ fine))
+or_else-fine fine b = (λ e. (refl, e), λ h. h.1)
+or_else-fine (bad reason place) b = (λ e. absurd (cc e), λ h. absurd (cc h.0))
 
-slot-stands : (place : ℕ) (s : Slot) → slot_checked true place s ≡ fine → IsSlot s
-slot-stands place slot.above e = absurd (cc e)
-slot-stands place slot.gap e = absurd (cc e)
-slot-stands place slot.unknown e = tt
-slot-stands place (slot.known t) e = tt
+slot-stands : (place : ℕ) (s : Slot) → (slot_checked true place s ≡ fine) ↔ IsSlot s
+slot-stands place slot.above = (λ e. absurd (cc e), λ h. absurd h)
+slot-stands place slot.gap = (λ e. absurd (cc e), λ h. absurd h)
+slot-stands place slot.unknown = (λ e. tt, λ h. refl)
+slot-stands place (slot.known t) = (λ e. tt, λ h. refl)
 
-symbol-stands : (t : Table) (place : ℕ) (s : Symbol) → symbol_checked t true place s ≡ fine → SymbolStands t s
-symbol-stands t place (value.Text bytes) e = tt
-symbol-stands t place (value.Id id) e = slot-stands place (slot_of t id) e
+symbol-stands : (t : Table) (place : ℕ) (s : Symbol) → (symbol_checked t true place s ≡ fine) ↔ SymbolStands t s
+symbol-stands t place (value.Text bytes) = (λ e. tt, λ h. refl)
+symbol-stands t place (value.Id id) = slot-stands place (slot_of t id)
 
-field-stands : (t : Table) (f : Option SymbolAt) → field_checked t true f ≡ fine → FieldStands t f
-field-stands t None e = tt
-field-stands t (Some s) e = symbol-stands t s.place s.symbol e
+field-stands : (t : Table) (f : Option SymbolAt) → (field_checked t true f ≡ fine) ↔ FieldStands t f
+field-stands t None = (λ e. tt, λ h. refl)
+field-stands t (Some s) = symbol-stands t s.place s.symbol
 
-annotations-stand : (t : Table) (annotations : List SymbolAt) → annotations_checked t true annotations ≡ fine → AllByRecursion (Stands t) annotations
-annotations-stand t [] e = tt
-annotations-stand t (s ∷ ss) e =
-    let both = else_fine (at_checked t true s) (annotations_checked t true ss) e in
-    (symbol-stands t s.place s.symbol both.0, annotations-stand t ss both.1)
+annotations-stand : (t : Table) (annotations : List SymbolAt)
+    → (annotations_checked t true annotations ≡ fine) ↔ AllByRecursion (Stands t) annotations
+annotations-stand t [] = (λ e. tt, λ h. refl)
+annotations-stand t (s ∷ ss) =
+    let both = or_else-fine (at_checked t true s) (annotations_checked t true ss) in
+    let one = symbol-stands t s.place s.symbol in
+    let more = annotations-stand t ss in
+    (λ e. (one.0 (both.0 e).0, more.0 (both.0 e).1), λ h. both.1 (one.1 h.0, more.1 h.1))
 
-scalar-stands : (t : Table) (body : Scalar SymbolAt) → scalar_checked t true body ≡ fine → ScalarStands t body
-scalar-stands t (value.symbol s) e = symbol-stands t s.place s.symbol e
-scalar-stands t body e = tt
+-- the symbol that a value is
+abbrev HeadStands : Table → Value SymbolAt ℕ → Type 0
+HeadStands t (scalar body) = ScalarStands t body
+HeadStands t (container k members last) = ⊤
 
--- the first item of a value has its field and annotations
+scalar-stands : (t : Table) (body : Scalar SymbolAt) → (scalar_checked t true body ≡ fine) ↔ ScalarStands t body
+scalar-stands t (value.symbol s) = symbol-stands t s.place s.symbol
+scalar-stands t body = (λ e. tt, λ h. refl)
+
+head-stands : (t : Table) (x : Value SymbolAt ℕ) → (head_checked t true (head_of x) ≡ fine) ↔ HeadStands t x
+head-stands t (scalar body) = scalar-stands t body
+head-stands t (container k members last) = (λ e. tt, λ h. refl)
+
+-- the first item of a value has its field, its annotations and its head
 first-stands : (t : Table) (top : ℕ) (field : Option SymbolAt) (annotations : List SymbolAt) (place : ℕ) (x : Value SymbolAt ℕ)
-    → checked t true (first_of top field annotations place x) ≡ fine
-    → FieldStands t field × AllByRecursion (Stands t) annotations × (head_checked t true (head_of x) ≡ fine)
-first-stands t top field annotations place x e =
-    let both = else_fine (field_checked t true field) (or_else (annotations_checked t true annotations) (head_checked t true (head_of x))) e in
-    let others = else_fine (annotations_checked t true annotations) (head_checked t true (head_of x)) both.1 in
-    (field-stands t field both.0, annotations-stand t annotations others.0, others.1)
+    → IsFine t (first_of top field annotations place x)
+    ↔ (FieldStands t field × AllByRecursion (Stands t) annotations × HeadStands t x)
+first-stands t top field annotations place x =
+    let behind : Checked = or_else (annotations_checked t true annotations) (head_checked t true (head_of x)) in
+    let others = or_else-fine (annotations_checked t true annotations) (head_checked t true (head_of x)) in
+    let all = or_else-fine (field_checked t true field) behind in
+    let f = field-stands t field in
+    let a = annotations-stand t annotations in
+    let h = head-stands t x in (
+      λ e. let two = others.0 (all.0 e).1 in (f.0 (all.0 e).0, a.0 two.0, h.0 two.1),
+      λ s. all.1 (f.1 s.0, others.1 (a.1 s.1, h.1 s.2)),
+    )
 
 mutual
-  pub value-stands : (t : Table) (top : ℕ) (field : Option SymbolAt) (annotations : List SymbolAt) (place : ℕ) (x : Value SymbolAt ℕ)
-      → AllFine t (value_items top field annotations place x) → FieldStands t field × AllByRecursion (Stands t) annotations × ValueStands t x
-  value-stands t top field annotations place (scalar body) h =
-      let first = first-stands t top field annotations place (scalar body) h.0 in
-      (first.0, first.1, scalar-stands t body first.2)
-  value-stands t top field annotations place (container k members last) h =
-      let first = first-stands t top field annotations place (container k members last) h.0 in
-      (first.0, first.1, members-stand t top members (AllFine-before t (member_items top members) (bare_item value.end last top ∷ []) h.1))
+  pub value-stands : (t : Table) (top : ℕ) (field : Option SymbolAt) (annotations : List SymbolAt) (place : ℕ)
+      (x : Value SymbolAt ℕ)
+      → AllFine t (value_items top field annotations place x)
+      ↔ (FieldStands t field × AllByRecursion (Stands t) annotations × ValueStands t x)
+  value-stands t top field annotations place (scalar body) =
+      let first = first-stands t top field annotations place (scalar body) in
+      (λ h. first.0 h.0, λ s. (first.1 s, tt))
+  value-stands t top field annotations place (container k members last) =
+      let first = first-stands t top field annotations place (container k members last) in
+      let inside = members-stand t top members in
+      let all = member_items top members in
+      let last_item = bare_item value.end last top ∷ [] in (
+        λ h. let s = first.0 h.0 in (s.0, s.1, inside.0 (AllByRecursion-before (IsFine t) all last_item h.1)),
+        λ s. (first.1 (s.0, s.1, tt), AllByRecursion-append (IsFine t) all last_item (inside.1 s.2) (refl, tt)),
+      )
 
-  members-stand : (t : Table) (top : ℕ) (members : Members SymbolAt ℕ) → AllFine t (member_items top members) → MembersStand t members
-  members-stand t top nothing h = tt
-  members-stand t top (member before field annotations place x) h =
-      let here = value-stands t top field annotations place x (AllFine-behind t (member_items top before) (value_items top field annotations place x) h) in
-      (members-stand t top before (AllFine-before t (member_items top before) (value_items top field annotations place x) h), here.0, here.1, here.2)
+  members-stand : (t : Table) (top : ℕ) (members : Members SymbolAt ℕ)
+      → AllFine t (member_items top members) ↔ MembersStand t members
+  members-stand t top nothing = (λ h. tt, λ s. tt)
+  members-stand t top (member before field annotations place x) =
+      let earlier = members-stand t top before in
+      let own = value-stands t top field annotations place x in
+      let is = member_items top before in
+      let js = value_items top field annotations place x in (
+        λ h.
+            let s = own.0 (AllByRecursion-behind (IsFine t) is js h) in
+            (earlier.0 (AllByRecursion-before (IsFine t) is js h), s.0, s.1, s.2),
+        λ s. AllByRecursion-append (IsFine t) is js (earlier.1 s.0) (own.1 (s.1, s.2, s.3)),
+      )

@@ -15,9 +15,12 @@ use Rattle.ion_symbols.specs.Table.{Shared, Table, system, text_at}
 use Rattle.ion_symbols.specs.Declaration.{start, word_in}
 use Rattle.ion_symbols.specs.Users.{Checked, fine, bad, checked, resolve, plain, declaring, users, by_step, after_check, level_after, begins_declaration, is_struct, declares, is_declaration}
 use Rattle.ion_symbols.specs.Tree.{first_of, content_of, next_table, declared, user_at, declares_table, user_tops}
-use Rattle.ion_symbols.specs.Laws.{by_declared, WhatIsDeclared, UsersAreRead, table_behind, UsersStand, SymbolsStand}
+use Rattle.ion_symbols.specs.Laws.{by_declared, WhatIsDeclared, UsersAreRead, AnyAbove, table_behind, UsersStand, SymbolsStand}
+use Rattle.ion_symbols.specs.Resolved.{AreResolved, WhatIsAcceptedIsResolved}
 use Rattle.ion_value.specs.Value.{user_item}
-use Rattle.ion_symbols.proofs.StandingSymbols.{AllFine, AllFine-append, value-stands}
+use Rattle.ion_symbols.proofs.AllAppended.{AllByRecursion-append}
+use Rattle.ion_symbols.proofs.IdsAbove.{begins_fine}
+use Rattle.ion_symbols.proofs.StandingSymbols.{IsFine, AllFine, value-stands}
 use Rattle.ion_symbols.proofs.DeclarationReadings.{behind_append, declarations_are_read}
 
 -- ---- the items of a value as a user knows them
@@ -138,7 +141,7 @@ both_pass catalog limit t m n is js rest items p q = record {
   items_are =
       p.items_are ∙ (ap (λ l. map (resolve t) is ++ l) q.items_are
       ∙ (sym (append_assoc (map (resolve t) is) (map (resolve t) js) q.later) ∙ ap (λ l. l ++ q.later) (sym (map-append (resolve t) is js))));
-  checks = AllFine-append t is js p.checks q.checks;
+  checks = AllByRecursion-append (IsFine t) is js p.checks q.checks;
 }
 
 -- nothing stands in front
@@ -229,6 +232,7 @@ pub record AreRead (catalog : List Shared) (limit : ℕ) (t : Table) (tops : Lis
   pub goes_on : sees catalog limit table 0 ending ≡ behind later Finished
   pub items_are : map user_item items ≡ top_items us ++ map user_item later
   pub stand : UsersStand catalog t tops
+  pub resolved : AreResolved catalog limit t tops
 
 -- they are so from each table on
 abbrev pub TopsAreRead : List Shared → ℕ → List (Top SymbolAt ℕ) → Reading → Type 0
@@ -236,7 +240,7 @@ TopsAreRead catalog limit tops ending = (t : Table) (items : List PlacedItem) �
     → AreRead catalog limit t tops ending items
 
 -- a value as a user knows it
-abbrev user_tree : Table → ℕ → List SymbolAt → ℕ → Value SymbolAt ℕ → Top UserSymbol ℕ
+abbrev pub user_tree : Table → ℕ → List SymbolAt → ℕ → Value SymbolAt ℕ → Top UserSymbol ℕ
 user_tree t first annotations place x = tree first (map (user_at t) annotations) place (map_value (user_at t) (λ p. p) x)
 
 -- a value that is no declaration stands in front of the others
@@ -257,7 +261,7 @@ plain_read catalog limit t first annotations place x tops ending items b none mo
     = top_passes catalog limit t first annotations place x (behind (top_items tops) ending) items b
     (ap (sees catalog limit t 0) (sym (behind_append (value_items first None annotations place x) (top_items tops) ending)) ∙ e) in
     let r : AreRead catalog limit t tops ending p.later = more t p.later p.goes_on in
-    let stands = value-stands t first None annotations place x p.checks in
+    let stands = (value-stands t first None annotations place x).0 p.checks in
     let shown : List (Item UserSymbol ℕ) = value_items first None (map (user_at t) annotations) place (map_value (user_at t) (λ (q : ℕ). q) x) in
     record {
       us = user_tree t first annotations place x ∷ r.us;
@@ -273,6 +277,7 @@ plain_read catalog limit t first annotations place x tops ending items b none mo
           (resolve-seen_all t (value_items first None annotations place x) ∙ value_items-map (user_at t) first None annotations place x)
           ∙ (ap (λ is. shown ++ is) r.items_are ∙ sym (append_assoc shown (top_items r.us) (map user_item r.later)))));
       stand = rw (none, UsersStand) (stands.1, stands.2, r.stand);
+      resolved = rw (none, AreResolved) (stands.1, stands.2, r.resolved);
     }
 
 -- a declaration leaves its table to those behind it
@@ -287,10 +292,10 @@ by_declared_read : WhatIsDeclared
     → (catalog : List Shared) (limit : ℕ) (t : Table) (first : ℕ) (annotations : List SymbolAt) (place : ℕ) (x : Value SymbolAt ℕ) (members : Members SymbolAt ℕ)
     (tops : List (Top SymbolAt ℕ)) (ending : Reading) (items : List PlacedItem) (d : Result Table (Reason × ℕ))
     → declared (record { catalog = catalog; limit = limit; old = t }) first members ≡ d
-    → declares_table t annotations x ≡ Some members → TopsAreRead catalog limit tops ending
+    → declares_table t annotations x ≡ Some members → (AnyAbove t annotations → ⊥) → TopsAreRead catalog limit tops ending
     → by_declared d (λ u. sees catalog limit u 0 (behind (top_items tops) ending)) ≡ behind items Finished
     → AreRead catalog limit t (tree first annotations place x ∷ tops) ending items
-by_declared_read what catalog limit t first annotations place x members tops ending items (Ok u) is declares more e =
+by_declared_read what catalog limit t first annotations place x members tops ending items (Ok u) is declares below more e =
     let r : AreRead catalog limit u tops ending items = more u items e in
     let next : next_table catalog (text_at t) t members ≡ Some u = what (record { catalog = catalog; limit = limit; old = t }) first members u is in
     record {
@@ -302,8 +307,9 @@ by_declared_read what catalog limit t first annotations place x members tops end
       goes_on = r.goes_on;
       items_are = r.items_are;
       stand = rw (declares, next, UsersStand) r.stand;
+      resolved = rw (declares, is, AreResolved) (below, r.resolved);
     }
-by_declared_read what catalog limit t first annotations place x members tops ending items (Err why) is declares more e = absurd (not_stopped why.0 why.1 items e)
+by_declared_read what catalog limit t first annotations place x members tops ending items (Err why) is declares below more e = absurd (not_stopped why.0 why.1 items e)
 
 -- a declaration's first item is checked
 pub begun : (catalog : List Shared) (limit : ℕ) (t : Table) (c : Checked) (rest : Reading) (items : List PlacedItem)
@@ -311,6 +317,13 @@ pub begun : (catalog : List Shared) (limit : ℕ) (t : Table) (c : Checked) (res
     → users catalog limit (record { table = t; mode = declaring start }) rest ≡ behind items Finished
 begun catalog limit t fine rest items e = e
 begun catalog limit t (bad reason place) rest items e = absurd (not_stopped reason place items e)
+
+-- and found fine
+begun_fine : (catalog : List Shared) (limit : ℕ) (t : Table) (c : Checked) (rest : Reading) (items : List PlacedItem)
+    → by_step (after_check c (GoesOn (record { table = t; mode = declaring start }))) (λ s. users catalog limit s rest) ≡ behind items Finished
+    → c ≡ fine
+begun_fine catalog limit t fine rest items e = refl
+begun_fine catalog limit t (bad reason place) rest items e = absurd (not_stopped reason place items e)
 
 -- a struct with annotations
 struct_read : WhatIsDeclared → (catalog : List Shared) (limit : ℕ) (t : Table) (first : ℕ) (s : SymbolAt) (annotations : List SymbolAt) (place : ℕ)
@@ -323,12 +336,13 @@ struct_read what catalog limit t first s annotations place members last tops end
 struct_read what catalog limit t first s annotations place members last tops ending items true is more e =
     let rest : Reading = behind (top_items tops) ending in
     let f : PlacedItem = first_of first None (s ∷ annotations) place (container kind.Struct members last) in
-    let begins : users catalog limit (record { table = t; mode = declaring start })
-    (behind (content_of first (container kind.Struct members last) ++ top_items tops) ending) ≡ behind items Finished
-    = begun catalog limit t (checked t false f) (behind (content_of first (container kind.Struct members last) ++ top_items tops) ending) items
-    (rw is at e) in
+    let more_items : Reading = behind (content_of first (container kind.Struct members last) ++ top_items tops) ending in
+    let begins : users catalog limit (record { table = t; mode = declaring start }) more_items ≡ behind items Finished
+    = begun catalog limit t (checked t false f) more_items items (rw is at e) in
+    let is_fine : checked t false f ≡ fine = begun_fine catalog limit t (checked t false f) more_items items (rw is at e) in
     by_declared_read what catalog limit t first (s ∷ annotations) place (container kind.Struct members last) members tops ending items
-    (declared (record { catalog = catalog; limit = limit; old = t }) first members) refl (rw is refl) more
+    (declared (record { catalog = catalog; limit = limit; old = t }) first members) refl (rw is refl)
+    ((begins_fine t first (s ∷ annotations) place kind.Struct members last).0 is_fine) more
     (sym (declarations_are_read catalog limit t first last members rest)
     ∙ (ap (users catalog limit (record { table = t; mode = declaring start }))
     (sym (behind_append (content_of first (container kind.Struct members last)) (top_items tops) ending)) ∙ begins))
@@ -358,7 +372,7 @@ tree_read what catalog limit t first (s ∷ annotations) place (container kind.S
 -- markers and values, from any table on
 pub tops_are_read : WhatIsDeclared → (catalog : List Shared) (limit : ℕ) (tops : List (Top SymbolAt ℕ)) (ending : Reading) → TopsAreRead catalog limit tops ending
 tops_are_read what catalog limit [] ending t items e =
-    record { us = []; table = t; later = items; says = refl; table_is = refl; goes_on = e; items_are = refl; stand = tt }
+    record { us = []; table = t; later = items; says = refl; table_is = refl; goes_on = e; items_are = refl; stand = tt; resolved = tt }
 tops_are_read what catalog limit (value.version place ∷ tops) ending t items e =
     let r : AreRead catalog limit system tops ending items = tops_are_read what catalog limit tops ending system items e in
     record {
@@ -370,6 +384,7 @@ tops_are_read what catalog limit (value.version place ∷ tops) ending t items e
       goes_on = r.goes_on;
       items_are = r.items_are;
       stand = r.stand;
+      resolved = r.resolved;
     }
 tops_are_read what catalog limit (tree first annotations place x ∷ tops) ending t items e =
     tree_read what catalog limit t first annotations place x tops ending items (tops_are_read what catalog limit tops ending) e
@@ -388,3 +403,8 @@ users_are_read_by what catalog limit tops items e =
 -- and their symbols stand in their tables
 pub symbols_stand_by : WhatIsDeclared → SymbolsStand
 symbols_stand_by what catalog limit tops items e = let r = tops_are_read what catalog limit tops Finished system items e in r.stand
+
+-- and they are all resolved
+pub what_is_accepted_is_resolved_by : WhatIsDeclared → WhatIsAcceptedIsResolved
+what_is_accepted_is_resolved_by what catalog limit tops items e =
+    let r = tops_are_read what catalog limit tops Finished system items e in r.resolved

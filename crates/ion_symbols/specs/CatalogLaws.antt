@@ -1,5 +1,6 @@
 -- What is proved of the definitions of a catalogue: laws that contracts cite.
 use Rattle.std.specs.Prelude.{◌≡◌, ◌↔◌, ℕ, ◌+◌, ◌<◌, ◌≤◌, List, [], ◌∷◌, ◌++◌, Some, None, Ok, Err}
+use Rattle.std.specs.List.{AllByRecursion}
 use Rattle.ion_meter.specs.declared.fault.Reason.{Reason}
 use Rattle.ion_meter.specs.declared.fault.Reason.TheVariants.{CatalogEntry, SymbolLimit}
 use Rattle.ion_value.specs.declared.ion_type.Kind.TheVariants as kind
@@ -8,6 +9,7 @@ use Rattle.ion_symbols.specs.declared.catalog_builder.Stage.TheVariants as stage
 use Rattle.ion_symbols.specs.Table.{Shared, slots_cost, catalog_cost}
 use Rattle.ion_symbols.specs.CatalogItems.{behind_tables, name_cost, at, then_load, loaded}
 use Rattle.ion_symbols.specs.CatalogTrees.{shared_in, shared_of, add_table, tops_drafted, tables_of, catalog_of}
+use Rattle.ion_symbols.specs.UserValues.{IsUser, CatalogIsText}
 
 -- the items of whole values lead to what their trees give: the same tables, or the same reason and place
 abbrev pub CatalogsAreRead : Type 0
@@ -52,3 +54,8 @@ abbrev pub WhyCatalogsAreRefused : Type 0
 WhyCatalogsAreRefused =
     (limit : ℕ) (us : List (Top UserSymbol ℕ)) (reason : Reason) (place : ℕ) → catalog_of limit us ≡ Err (reason, place)
     → EntryRefused limit us reason place
+
+-- the texts of the tables that user values are, are UTF-8
+abbrev pub TablesOfUsersAreText : Type 0
+TablesOfUsersAreText =
+    (us : List (Top UserSymbol ℕ)) (tables : List Shared) → AllByRecursion IsUser us → tables_of us ≡ Some tables → CatalogIsText tables

@@ -2,8 +2,10 @@ pub mod Table
 pub mod Declaration
 pub mod Users
 pub mod Tree
+pub mod UserValues
 pub mod Output
 pub mod Laws
+pub mod Resolved
 pub mod Kept
 pub mod Catalogue
 pub mod Present

@@ -1,6 +1,8 @@
 //! Laws of the definitions of symbol tables, each the contract of a function that does nothing.
-ghost use Rattle.ion_symbols.specs.CatalogLaws.{CatalogsAreRead, CatalogsAreTables, WhyCatalogsAreRefused};
+ghost use Rattle.ion_symbols.specs.CatalogLaws.{CatalogsAreRead, CatalogsAreTables, TablesOfUsersAreText, WhyCatalogsAreRefused};
 ghost use Rattle.ion_symbols.specs.Laws.{DeclarationsAreRead, OpenUsersAreRead, SymbolsStand, UsersAreRead, WhatIsAccepted, WhatIsDeclared, WhyRefused, WhyUsersStop};
+ghost use Rattle.ion_symbols.specs.Resolved.{WhatIsAcceptedIsResolved, WhatIsResolvedIsAccepted};
+ghost use Rattle.ion_symbols.specs.UserValues.{UsersOfRawValues};
 
 /// The streaming and the tree definitions of a declaration agree: its items give the table that its
 /// tree gives, or its tree's first fault, at each item first its symbols, then what it means.
@@ -50,6 +52,24 @@ pub fn why_users_stop()
     ensures { WhyUsersStop }
 {}
 
+/// A stream is accepted where its symbols are all resolved: no symbol of a user value is above its
+/// table or in a gap of it, no annotation of a declaration is above the table before it, and each
+/// declaration leaves a table.
+pub fn what_is_resolved_is_accepted()
+    ensures { WhatIsResolvedIsAccepted }
+{}
+
+/// And no other stream is accepted.
+pub fn what_is_accepted_is_resolved()
+    ensures { WhatIsAcceptedIsResolved }
+{}
+
+/// The user values of what a reader gives are such that a user can have: numbers in range, texts in
+/// UTF-8, bytes below 256, and no declaration; where the texts of the catalogue are UTF-8.
+pub fn users_of_raw_values()
+    ensures { UsersOfRawValues }
+{}
+
 /// The items of whole user values lead to the same catalogue as their trees, or to the same reason
 /// and place.
 pub fn catalogs_are_read()
@@ -67,4 +87,9 @@ pub fn catalogs_are_tables()
 /// `SymbolLimit` where its name and slots cost more than the limit with the tables before it.
 pub fn why_catalogs_are_refused()
     ensures { WhyCatalogsAreRefused }
+{}
+
+/// The texts of the tables that user values are, are UTF-8.
+pub fn tables_of_users_are_text()
+    ensures { TablesOfUsersAreText }
 {}

@@ -23,25 +23,11 @@ use Rattle.ion_text_in.specs.Places.{run_of, behind_run}
 use Rattle.ion_text_in.specs.Quoted.{short_quote, long_quote, text_at}
 use Rattle.ion_text_in.specs.Token.{Token, plain, first_at, token_of}
 use Rattle.ion_text_in.specs.Meaning.{Limit, Allows, IsBase64, at, solid, BlobText, BlobsAreBase64, Base64IsRead}
+use Rattle.ion_text_in.proofs.WentWell.{went, passed}
 use Rattle.ion_text_in.proofs.Meaning.{all-append, allowed, allows-fewer, skip-prefix, run-more, run-none}
 use Rattle.ion_value.specs.Digits.{first_is, all_are}
 use Rattle.ion_value.specs.Name.{begins_with}
 use Rattle.ion_value.specs.Value.{SymbolAt, Scalar, blob, clob}
-
--- ---- steps that went well
-
-record Went {A B : Type 0} (o : Result A Reason) (f : A → Result B Reason) (y : B) : Type 0 where
-  value : A
-  first : o ≡ Ok value
-  second : f value ≡ Ok y
-
-went : {A B : Type 0} (o : Result A Reason) (f : A → Result B Reason) (y : B) → (o >>= f) ≡ Ok y → Went o f y
-went (Ok x) f y e = record { value = x; first = refl; second = e }
-went (Err reason) f y e = absurd (cc e)
-
-passed : {B : Type 0} (b : Bool) (reason : Reason) (o : Result B Reason) (y : B) → (refuse b reason >> o) ≡ Ok y → (b ≡ false) × (o ≡ Ok y)
-passed true reason o y e = absurd (cc e)
-passed false reason o y e = (refl, e)
 
 not-true : (b : Bool) → not b ≡ true → b ≡ false
 not-true true e = absurd (false≢true e)
@@ -463,9 +449,6 @@ pub group-decoded : (bytes : List ℕ) → Octets bytes → group_bytes false (e
 group-decoded bytes octets =
     by-decoded false (encode_of standard bytes)
     ∙ ap (by_decoded false) (decoded_of-ok standard (encode_of standard bytes) bytes (decode_of-encode_of standard bytes refl (octets-IsBytes bytes octets)))
-
-closed-braces : (p q : ℕ) (behind : List ℕ) → p + 2 ≡ q → closed_at (at p (125 ∷ 125 ∷ behind)) ≡ Ok (at q behind)
-closed-braces p q behind e = ap (λ (q : ℕ). Ok (at q behind)) e
 
 -- the bytes of a group are those in front of the others, and it has four characters
 record Split (bytes : List ℕ) : Type 0 where

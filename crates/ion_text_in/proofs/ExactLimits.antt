@@ -24,6 +24,7 @@ use Rattle.ion_text_in.specs.Paths.{Spells, in_item, At, Follows}
 use Rattle.ion_text_in.specs.Laws.{Passes, StopsAtLimit, ExactLimits}
 use Rattle.ion_text_in.proofs.Steps.{tok-read, colons-behind, step-follows}
 use Rattle.ion_text_in.proofs.Falling.{each_step_falls}
+use Rattle.ion_text_in.proofs.WentWell.{part-known}
 use Rattle.ion_text_in.proofs.TokenFaults.{FreeAt, Own, blanks-free, token-own}
 
 -- ---- the faults of a step
@@ -195,10 +196,6 @@ module _ (limits : Limits) (s : State) where
   take-right (a_value field annotations) p colons d are tok = bad-right p
 
   -- the token itself
-  part-known : {A : Type 0} (p : ℕ) (o : Result A Reason) (x : A) → part p o ≡ Ok x → o ≡ Ok x
-  part-known p (Ok y) x e = let same : y ≡ x = cc e in ap Ok same
-  part-known p (Err why) x e = absurd (cc e)
-
   token-right : (c : Cursor) (r : Result (Token × Cursor) Reason) → blanks s.cursor ≡ Ok c → token_of (Some limits.scalar) (first_at sexp c.rest) c ≡ r
       → Blames Own r → Blames Right (part c.place r)
   unfolding next_token

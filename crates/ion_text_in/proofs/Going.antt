@@ -1,5 +1,5 @@
 -- What texts mean, with tests of what goes on behind them.
-use Rattle.std.specs.Prelude.{◌≡◌, ℕ, ◌+◌, Bool, true, false, ◌&&◌, ◌||◌, ◌==◌, List, ◌++◌, length, Ok}
+use Rattle.std.specs.Prelude.{◌≡◌, ℕ, ◌+◌, ◌^◌, ◌≤◌, Bool, true, false, ◌&&◌, ◌||◌, ◌==◌, List, ◌∷◌, ◌++◌, length, decimal as digits, Ok}
 use Rattle.std.specs.Str.{is_utf8}
 use Rattle.ion_value.specs.declared.decimal.Decimal.{Decimal}
 use Rattle.ion_value.specs.declared.int.Int.{Int}
@@ -9,9 +9,9 @@ use Rattle.ion_value.specs.declared.timestamp.Timestamp.{Timestamp}
 use Rattle.ion_value.specs.Decimal.{IsDecimal, decimal_text}
 use Rattle.ion_value.specs.Digits.{first_is}
 use Rattle.ion_value.specs.Int.{IsInt, int_text}
-use Rattle.ion_value.specs.Name.{null_text, bool_text, is_plain}
+use Rattle.ion_value.specs.Name.{null_text, bool_text, is_id, id_of, is_plain}
 use Rattle.ion_value.specs.Timestamp.{IsTimestamp, timestamp_text}
-use Rattle.ion_value.specs.Value.{Text, null, bool, int, decimal, timestamp}
+use Rattle.ion_value.specs.Value.{Text, Id, null, bool, int, decimal, timestamp}
 use Rattle.ion_text_in.specs.Token as tokens
 use Rattle.ion_text_in.specs.Token.{Token, plain, in_run, in_word, token_at}
 use Rattle.ion_text_in.specs.Meaning.{Limit, Allows, at, Chars, quoted}
@@ -34,6 +34,12 @@ BoolIf = (truth : Bool) → MeansIf (length (bool_text truth)) in_word (bool_tex
 
 abbrev pub PlainSymbolIf : Type 0
 PlainSymbolIf = (word : List ℕ) → is_plain word ≡ true → MeansIf (length word) in_word word (tokens.name false (Text word))
+
+abbrev pub IdWordIf : Type 0
+IdWordIf = (word : List ℕ) → is_id word ≡ true → MeansIf (length word) in_word word (tokens.name false (Id (id_of word)))
+
+abbrev pub IdIf : Type 0
+IdIf = (id : ℕ) → id ≤ 2 ^ 31 → MeansIf (length (36 ∷ digits id)) in_word (36 ∷ digits id) (tokens.name false (Id id))
 
 abbrev pub IntIf : Type 0
 IntIf = (i : Int) → IsInt i → MeansIf (length (int_text i)) in_run (int_text i) (plain (int i))

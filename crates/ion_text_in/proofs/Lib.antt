@@ -3,8 +3,11 @@ mod Steps
 mod Shrinking
 mod Falling
 pub mod Sound
+mod WentWell
+mod TokenLimits
 mod Tokens
 mod Advancing
+mod Allowing
 mod Complete
 mod TokenCuts
 mod Counting
@@ -14,6 +17,10 @@ mod Meaning
 mod Texts
 mod Blobs
 mod Strings
+mod DecodedBytes
+mod LobBytes
+mod RawTokens
+mod RawStreams
 mod Narrow
 mod Refused
 mod TokenFaults
@@ -36,8 +43,7 @@ pub mod SegmentTexts
 pub mod ScannedTexts
 pub mod TextTokens
 pub mod Shown
-pub mod ShownRuns
-pub mod ShownBlanks
+pub mod BlankRuns
 pub mod ShownPieces
 mod ReadingText
 pub mod Runs

@@ -1,6 +1,6 @@
 -- The texts of scalars that are runs or words are tokens that mean them.
-use Rattle.std.proofs.Common.{◌≡◌, ℕ, zero, suc, ◌+◌, ◌/◌, ◌%◌, ◌^◌, ◌<◌, ◌≤◌, inl, inr, ℤ, pos, negsuc, Bool, true, false, ◌&&◌, ◌||◌, ◌==◌, nat_lt, if◌then◌else◌, List, [], ◌∷◌, ◌++◌, length, drop, codes, decimal, Option, Some, None, Result, Ok, refl, sym, ap, subst, ◌∙◌, append-nil, arith, is_none, not}
-use Rattle.std.proofs.lemmas.Bool.{cases_Bool, le-ltb, and_from, and_parts, or_parts, eqb-true, false≢true}
+use Rattle.std.proofs.Common.{◌≡◌, ℕ, zero, suc, ◌+◌, ◌/◌, ◌%◌, ◌^◌, ◌<◌, ◌≤◌, inl, inr, ℤ, pos, negsuc, Bool, true, false, ◌&&◌, ◌||◌, ◌==◌, nat_lt, if◌then◌else◌, List, [], ◌∷◌, ◌++◌, length, drop, map, codes, decimal, Option, Some, None, Result, Ok, refl, sym, ap, subst, ◌∙◌, append-nil, arith, is_none, not}
+use Rattle.std.proofs.lemmas.Bool.{cases_Bool, le-ltb, lt-ltb, and_from, and_parts, or_parts, eqb-true, false≢true}
 use Rattle.std.proofs.lemmas.Bool.Decides.{nat_tests}
 use Rattle.std.proofs.lemmas.Int.{ints}
 use Rattle.std.proofs.Math.Nat.{div-le_self}
@@ -14,9 +14,10 @@ use Rattle.ion_value.specs.declared.timestamp.Timestamp.{Timestamp}
 use Rattle.ion_value.specs.declared.timestamp.Precision.{Precision}
 use Rattle.ion_value.specs.declared.timestamp.Precision.TheVariants.{Year, Month, Day, Minute, Second, Fraction}
 use Rattle.ion_value.specs.Decimal.{IsExponent, integer_text, magnitude_text, most_places, decimal_text, decimal_of_text}
-use Rattle.ion_value.specs.Digits.{is_digit, first_is, all_are, fixed_digits}
+use Rattle.ion_value.specs.Digits.{is_digit, digit_value, first_is, all_are, fixed_digits}
 use Rattle.ion_value.specs.Int.{int_text, int_of_text}
-use Rattle.ion_value.specs.Name.{is_identifier, is_version, keyword, is_id, id_of, is_identifier_start, is_identifier_byte, is_one_of, null_text, bool_text}
+use Rattle.ion_value.specs.Number.{number}
+use Rattle.ion_value.specs.Name.{is_identifier, is_version, keyword, is_id, raw_id, id_of, is_identifier_start, is_identifier_byte, is_one_of, null_text, bool_text}
 use Rattle.ion_value.specs.declared.ion_type.IonType.{IonType}
 use Rattle.ion_value.specs.declared.ion_type.IonType.TheVariants as type
 use Rattle.std.specs.Str.{bytes_eq}
@@ -26,7 +27,7 @@ use Rattle.ion_value.specs.Timestamp.{day_text, minute_text, second_text, minute
 use Rattle.ion_value.specs.Value.{SymbolAt, Scalar, int, timestamp}
 use Rattle.ion_value.specs.Value as value
 use Rattle.ion_value.specs.Parts.{◌>>=◌}
-use Rattle.ion_value.proofs.TextDecimals.{int_text-is_read, one-shape, spells}
+use Rattle.ion_value.proofs.TextDecimals.{int_text-is_read, one-shape, spells, all-filter, all-value}
 use Rattle.ion_value.proofs.DecimalRoundTrip.{decimal_text-is_read}
 use Rattle.ion_value.proofs.TextRoundTrip.{text-read, fixed_digits-are}
 use Rattle.ion_value.proofs.TextKinds.{timestamp-no_number}
@@ -36,7 +37,7 @@ use Rattle.ion_text_in.specs.Blanks.{is_white}
 use Rattle.ion_text_in.specs.Token as tokens
 use Rattle.ion_text_in.specs.Token.{First, a_run, a_word, first_at, begins_run, in_run, in_word, bytes_of, with_type, word_of, word_token, counted, run_token, Token, plain, token_of}
 use Rattle.ion_text_in.specs.Meaning.{Limit, Allows, at}
-use Rattle.ion_text_in.proofs.Going.{MeansIf, behind_null, NullIf, BoolIf, PlainSymbolIf, IntIf, DecimalIf, TimestampIf}
+use Rattle.ion_text_in.proofs.Going.{MeansIf, behind_null, NullIf, BoolIf, PlainSymbolIf, IdWordIf, IdIf, IntIf, DecimalIf, TimestampIf}
 
 -- ---- limits and cursors
 
@@ -397,13 +398,13 @@ not-id : (b : Bool) → not b ≡ true → b ≡ false
 not-id true e = absurd (false≢true e)
 not-id false e = refl
 
-symbol-token : (word : List ℕ) → keyword word ≡ None → is_id word ≡ false → word_token word ≡ Ok (tokens.name false (value.Text word))
+abbrev named : value.Symbol → Result Token Reason
+named s = Ok (tokens.name false s)
+
+-- a word that is no keyword is a symbol
+symbol-token : (word : List ℕ) (id : Bool) → keyword word ≡ None → is_id word ≡ id → word_token word ≡ named (if id then value.Id (id_of word) else value.Text word)
 unfolding word_token
-symbol-token word none no_id =
-    ap (λ k. tokens.by_keyword k word) none ∙ ap (λ (id : Bool). ok_name (if id then value.Id (id_of word) else value.Text word)) no_id
-  where
-    ok_name : value.Symbol → Result Token Reason
-    ok_name s = Ok (tokens.name false s)
+symbol-token word id none is = ap (λ k. tokens.by_keyword k word) none ∙ ap (λ (id : Bool). named (if id then value.Id (id_of word) else value.Text word)) is
 
 pub plain-symbol-means : PlainSymbolIf
 unfolding first_at
@@ -418,7 +419,39 @@ plain-symbol-means (b ∷ word) is =
     word-means in_word (b ∷ word) (tokens.name false (value.Text (b ∷ word)))
     (λ rest ends. whole-word b word rest others.1 ends (ap (λ (n : Bool). n && first_is (λ b. b == 46) rest) no_null))
     (λ sexp rest. begins sexp (word ++ rest) bytes.0)
-    (symbol-token (b ∷ word) (none-is (keyword (b ∷ word)) one.1) (not-id (is_id (b ∷ word)) two.1))
+    (symbol-token (b ∷ word) false (none-is (keyword (b ∷ word)) one.1) (not-id (is_id (b ∷ word)) two.1))
   where
     begins : (sexp : Bool) (more : List ℕ) → is_identifier_start b ≡ true → first_at sexp (b ∷ more) ≡ a_word
     begins sexp more e = rw (first_at, e) refl
+
+-- ---- ids
+
+digits-identifier : (digits : List ℕ) → all_are is_digit digits ≡ true → all_are is_identifier_byte digits ≡ true
+digits-identifier [] e = refl
+digits-identifier (d ∷ digits) e =
+    let parts = and_parts (is_digit d) (all_are is_digit digits) e in
+    let first : is_identifier_byte d ≡ true = grind (arith, nat_tests) in
+    and_from (is_identifier_byte d) (all_are is_identifier_byte digits) first (digits-identifier digits parts.1)
+
+pub id_word-means : IdWordIf
+unfolding first_at
+id_word-means [] is = absurd (false≢true is)
+id_word-means (b ∷ word) is =
+    let two = and_parts (first_is (λ b. b == 36) (b ∷ word) && nat_lt 1 (length (b ∷ word))) (all_are is_digit word) is in
+    let dollar : b ≡ 36 = eqb-true b 36 (and_parts (b == 36) (nat_lt 1 (length (b ∷ word))) two.0).0 in
+    subst (λ (b : ℕ). MeansIf (length (b ∷ word)) in_word (b ∷ word) (tokens.name false (value.Id (id_of (b ∷ word))))) (sym dollar)
+    (word-means in_word (36 ∷ word) (tokens.name false (value.Id (id_of (36 ∷ word))))
+    (λ rest ends. whole-word 36 word rest (digits-identifier word two.1) ends refl) (λ sexp rest. refl)
+    (symbol-token (36 ∷ word) true refl (subst (λ (b : ℕ). is_id (b ∷ word) ≡ true) dollar is)))
+
+id-digits : (ds : List ℕ) → 0 < length ds → all_are is_digit ds ≡ true → is_id (36 ∷ ds) ≡ true
+id-digits ds some digits = and_from (nat_lt 1 (length (36 ∷ ds))) (all_are is_digit ds) (lt-ltb 1 (length (36 ∷ ds)) (omega (arith, some))) digits
+
+pub id-means : IdIf
+id-means id most =
+    let w = spells id (omega (arith, most)) in
+    let value_is : number 10 (map digit_value (decimal id)) ≡ id
+    = ap (λ (ds : List ℕ). number 10 (map digit_value ds)) (sym (all-filter (decimal id) w.digits)) ∙ sym (all-value (decimal id) w.digits) ∙ w.value in
+    let id_is : id_of (36 ∷ decimal id) ≡ id = ap raw_id value_is ∙ omega (arith, most) in
+    subst (λ (n : ℕ). MeansIf (length (36 ∷ decimal id)) in_word (36 ∷ decimal id) (tokens.name false (value.Id n))) id_is
+    (id_word-means (36 ∷ decimal id) (id-digits (decimal id) w.some w.digits))

@@ -23,6 +23,7 @@ use Rattle.ion_text_in.specs.Laws.{Passes, IsCut, Narrow}
 use Rattle.ion_text_in.proofs.TokenCuts.{Cut, same, limit, IsScalarLimit, token-cut}
 use Rattle.ion_text_in.proofs.Steps.{tok-read, colons-behind, step-follows}
 use Rattle.ion_text_in.proofs.Falling.{each_step_falls}
+use Rattle.ion_text_in.proofs.WentWell.{part-known}
 
 -- ---- a step, or a limit's fault in its place
 
@@ -42,11 +43,6 @@ known-Cut : {A B E : Type 0} (L : E → Type 0) (r w : Result A E) (f g : A → 
 known-Cut L _ _ f g (same (Ok x)) h = h x refl
 known-Cut L _ _ f g (same (Err e)) h = same (Err e)
 known-Cut L _ _ f g (limit e w is) h = limit e (w >>= g) is
-
--- a part that is well is so without its place
-part-known : {A : Type 0} (p : ℕ) (o : Result A Reason) (x : A) → part p o ≡ Ok x → o ≡ Ok x
-part-known p (Ok y) x e = let same : y ≡ x = cc e in ap Ok same
-part-known p (Err reason) x e = absurd (cc e)
 
 data StepCut (limits : Limits) (s : State) : Step State → Step State → Type 0 where
   same_step : (o : Step State) → StepCut limits s o o

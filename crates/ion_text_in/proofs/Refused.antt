@@ -1,5 +1,5 @@
--- Where a reading stops, and not at a limit, the bytes are no stream.
-use Rattle.std.proofs.Common.{◌≡◌, ℕ, ◌+◌, ◌*◌, inl, inr, length, refl, sym, ap, ◌∙◌, arith, subst}
+-- Where a reading stops, and not at a limit, the bytes are no stream; a stream that passes no limit is read to its end.
+use Rattle.std.proofs.Common.{◌≡◌, ℕ, ◌+◌, ◌*◌, inl, inr, List, length, refl, sym, ap, ◌∙◌, arith, subst}
 use Rattle.ion_meter.specs.declared.fault.Reason.{Reason}
 use Rattle.ion_meter.specs.declared.limits.Limits.{Limits}
 use Rattle.ion_value.specs.Value.{top_items}
@@ -8,7 +8,7 @@ use Rattle.ion_value.specs.Path.{path_items}
 use Rattle.ion_text_in.specs.Positions.{State}
 use Rattle.ion_value.specs.ReadingLaws.{ending_of, IsLimit}
 use Rattle.ion_value.proofs.ReadingLaws.{ending_of-behind}
-use Rattle.ion_text_in.specs.Laws.{Passes, RightlyRefused}
+use Rattle.ion_text_in.specs.Laws.{Passes, RightlyRefused, WithinLimitsAreRead}
 use Rattle.ion_text_in.proofs.Narrow.{narrow}
 use Rattle.ion_text_in.proofs.Complete.{streams_are_read}
 
@@ -18,9 +18,13 @@ passes-limit limits s place _ (Passes.token is) = inr (inl refl)
 passes-limit limits s place _ (Passes.container k d tok full) = inl refl
 passes-limit limits s place _ (Passes.annotations field annotations quoted symbol q d e are tok after more) = inr (inr refl)
 
+-- limits that these are within, and that allow what stands in these bytes
+abbrev with_room : Limits → List ℕ → Limits
+with_room limits bytes = record { depth = limits.depth + length bytes; scalar = limits.scalar + 16 * length bytes; symbols = 0; value = 0; input = 0 }
+
 pub rightly_refused : RightlyRefused
 rightly_refused limits bytes reason place tops stops no_limit stream =
-    let wide : Limits = record { depth = limits.depth + length bytes; scalar = limits.scalar + 16 * length bytes; symbols = 0; value = 0; input = 0 } in
+    let wide : Limits = with_room limits bytes in
     let read = streams_are_read wide bytes tops (omega arith, omega arith) stream in
     elim (narrow limits wide bytes (record { depth = omega arith; scalar = omega arith })) [
       | inl same ↦
@@ -30,4 +34,13 @@ rightly_refused limits bytes reason place tops stops no_limit stream =
           let ends : Stopped cut.reason cut.place ≡ Stopped reason place = sym (ending_of-behind (path_items cut.path) (Stopped cut.reason cut.place)) ∙ sym (ap ending_of cut.short) ∙ stops in
           let same : cut.reason ≡ reason = cc ends in
           no_limit (subst IsLimit same (passes-limit limits cut.state cut.place cut.reason cut.passes))
+    ]
+
+-- a stream that passes no limit is read to its end
+pub streams_within_limits : WithinLimitsAreRead
+streams_within_limits limits bytes tops stream none =
+    let wide : Limits = with_room limits bytes in
+    elim (narrow limits wide bytes (record { depth = omega arith; scalar = omega arith })) [
+      | inl same ↦ same ∙ streams_are_read wide bytes tops (omega arith, omega arith) stream
+      | inr cut ↦ absurd (none cut.path cut.state cut.reason cut.place cut.stands cut.passes)
     ]

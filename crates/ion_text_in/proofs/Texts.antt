@@ -1,5 +1,5 @@
 -- The texts of scalars are tokens that mean them, where something ends them.
-use Rattle.std.proofs.Common.{◌≡◌, ℕ, suc, arith, Bool, true, false, ◌&&◌, ◌||◌, ◌==◌, List, [], ◌∷◌, length, refl, ap, ◌∙◌}
+use Rattle.std.proofs.Common.{◌≡◌, ℕ, suc, arith, Bool, true, false, ◌&&◌, ◌||◌, ◌==◌, List, [], ◌∷◌, length, decimal, refl, ap, ◌∙◌}
 use Rattle.std.proofs.lemmas.Bool.{not-true, ne_eqb}
 use Rattle.ion_value.specs.declared.ion_type.IonType.{IonType}
 use Rattle.ion_value.specs.declared.ion_type.IonType.TheVariants as type
@@ -8,9 +8,9 @@ use Rattle.ion_value.specs.Name.{is_identifier_byte}
 use Rattle.ion_value.specs.Value.{Text}
 use Rattle.ion_text_in.specs.Token.{Token, name, in_run, in_word}
 use Rattle.ion_text_in.specs.Beginnings.{EndsIdentifier, EndsNumber}
-use Rattle.ion_text_in.specs.Meaning.{Means, quoted, EndsNull, EndsSymbol, NullTextIsRead, BoolTextIsRead, PlainSymbolIsRead, IntTextIsRead, DecimalTextIsRead, TimestampTextIsRead, QuotedSymbolIsRead}
+use Rattle.ion_text_in.specs.Meaning.{Means, quoted, EndsNull, EndsSymbol, NullTextIsRead, BoolTextIsRead, PlainSymbolIsRead, IdWordIsRead, IdIsRead, IntTextIsRead, DecimalTextIsRead, TimestampTextIsRead, QuotedSymbolIsRead}
 use Rattle.ion_text_in.proofs.Going.{MeansIf, behind_null, behind_symbol}
-use Rattle.ion_text_in.proofs.Meaning.{null-means, bool-means, plain-symbol-means, int-means, decimal-means, timestamp-means}
+use Rattle.ion_text_in.proofs.Meaning.{null-means, bool-means, plain-symbol-means, id_word-means, id-means, int-means, decimal-means, timestamp-means}
 use Rattle.ion_text_in.proofs.NumberEnds.{numbers-end}
 use Rattle.ion_text_in.proofs.Strings.{symbol-means}
 use Rattle.ion_text_in.proofs.TokenBegins.{ends-from, no-first}
@@ -47,6 +47,12 @@ bool-read truth = means-where _ in_word EndsIdentifier _ _ word-ends (bool-means
 
 pub plain-symbol-read : PlainSymbolIsRead
 plain-symbol-read word is = means-where _ in_word EndsIdentifier _ _ word-ends (plain-symbol-means word is)
+
+pub id_word-read : IdWordIsRead
+id_word-read word is = means-where _ in_word EndsIdentifier _ _ word-ends (id_word-means word is)
+
+pub id-read : IdIsRead
+id-read id most = means-where _ in_word EndsIdentifier (36 ∷ decimal id) _ word-ends (id-means id most)
 
 -- ---- numbers and timestamps
 

@@ -1,10 +1,12 @@
 -- What is true of the grammar and the reading: laws that contracts cite.
 use Rattle.std.specs.Prelude.{◌≡◌, ℕ, ◌<◌, ◌≤◌, ◌⊎◌, Bool, List, [], ◌∷◌, ◌++◌, length, sum_by, Option, Some, Err}
+use Rattle.std.specs.List.{AllByRecursion}
 use Rattle.ion_meter.specs.declared.fault.Reason.{Reason}
 use Rattle.ion_meter.specs.declared.fault.Reason.TheVariants.{DepthLimit, ScalarLimit, AnnotationLimit}
 use Rattle.ion_meter.specs.declared.limits.Limits.{Limits}
 use Rattle.ion_value.specs.declared.ion_type.Kind.{Kind}
 use Rattle.ion_value.specs.Value.{Symbol, SymbolAt, Top}
+use Rattle.ion_value.specs.Writable.{IsRaw}
 use Rattle.ion_value.specs.Path.{Path, closed, path_items}
 use Rattle.ion_value.specs.Reading.{Reading, Finished, Stopped, Shrinks, items_of, behind, reading_by}
 use Rattle.ion_value.specs.ReadingLaws.{ending_of, IsLimit, Allows, AreWithin, IsBegun}
@@ -14,6 +16,7 @@ use Rattle.ion_text_in.specs.Positions.{State, a_value, innermost, in_sexp, at}
 use Rattle.ion_text_in.specs.Reading.{cost, step, size, reading}
 use Rattle.ion_text_in.specs.Grammar.{Tok, Stream}
 use Rattle.ion_text_in.specs.Paths.{IsPath, At, Follows}
+use Rattle.ion_text_in.specs.Within.{PathWithin, TopsWithin}
 
 -- what is read is a path of the bytes, and a stream where reading finishes
 pub record IsRead (bytes : List ℕ) (r : Reading) : Type 0 where
@@ -49,6 +52,18 @@ StreamsAreRead =
     (limits : Limits) (bytes : List ℕ) (tops : List (Top SymbolAt ℕ)) → Allows limits bytes → Stream bytes tops
     → reading limits bytes ≡ behind (path_items (closed tops)) Finished
 
+-- a path is read first under limits that allow what stands in it: tokens, annotations and depth
+abbrev pub PathsWithinAreRead : Type 0
+PathsWithinAreRead =
+    (limits : Limits) (bytes : List ℕ) (q : ℕ) (path : Path SymbolAt ℕ) (is : IsPath bytes q path) → PathWithin limits is.spells
+    → (rest : Reading) × (reading limits bytes ≡ behind (path_items path) rest)
+
+-- and so is a stream to its end
+abbrev pub StreamsWithinAreRead : Type 0
+StreamsWithinAreRead =
+    (limits : Limits) (bytes : List ℕ) (tops : List (Top SymbolAt ℕ)) (is : Stream bytes tops) → TopsWithin limits is.spells
+    → reading limits bytes ≡ behind (path_items (closed tops)) Finished
+
 -- a limit is passed where a reading stands, at the place of the next token: by this token, by the container that it
 -- begins, or by the annotations with the one that it is
 pub data Passes (limits : Limits) (s : State) (place : ℕ) : Reason → Type 0 where
@@ -60,6 +75,13 @@ pub data Passes (limits : Limits) (s : State) (place : ℕ) : Reason → Type 0 
       → s.wants ≡ a_value field annotations → Tok (in_sexp (innermost s.kinds)) s.cursor (name quoted symbol) place d
       → Tok (in_sexp (innermost s.kinds)) d colons q e → limits.scalar < sum_by cost (annotations ++ at symbol place ∷ [])
       → Passes limits s place AnnotationLimit
+
+-- a stream that passes no limit at any place is read to its end
+abbrev pub WithinLimitsAreRead : Type 0
+WithinLimitsAreRead =
+    (limits : Limits) (bytes : List ℕ) (tops : List (Top SymbolAt ℕ)) → Stream bytes tops
+    → ((path : Path SymbolAt ℕ) (s : State) (reason : Reason) (place : ℕ) → At bytes path s → Passes limits s place reason → ⊥)
+    → reading limits bytes ≡ behind (path_items (closed tops)) Finished
 
 -- two readings come to one state with the same items; there one stops, since its limits are passed, and the other goes
 -- on
@@ -108,3 +130,7 @@ OnePath =
 -- the same bytes are one list of version markers and values
 abbrev pub OneStream : Type 0
 OneStream = (bytes : List ℕ) (a b : List (Top SymbolAt ℕ)) → Stream bytes a → Stream bytes b → a ≡ b
+
+-- what a stream has at top level is raw: numbers in range, texts in UTF-8, lobs of bytes, fields in structs alone
+abbrev pub StreamsAreRaw : Type 0
+StreamsAreRaw = (bytes : List ℕ) (tops : List (Top SymbolAt ℕ)) → Stream bytes tops → AllByRecursion IsRaw tops

@@ -1,8 +1,9 @@
--- What a token means: the text of a scalar is read as that scalar, whatever stands behind it that ends it, and the characters of a blob are the base64 of its bytes.
-use Rattle.std.specs.Prelude.{◌≡◌, ◌≢◌, ℕ, ◌+◌, ◌*◌, ◌<◌, ◌≤◌, Bool, true, false, not, List, [], ◌∷◌, ◌++◌, All, length, filter, codes, Option, Some, None, Ok}
+-- What a token means: the text of a scalar is read as that scalar, whatever stands behind it that ends it; the characters of a blob are the base64 of its bytes; what each token means is raw. And what it counts under a limit.
+use Rattle.std.specs.Prelude.{◌≡◌, ◌≢◌, ℕ, ◌+◌, ◌-◌, ◌*◌, ◌^◌, ◌<◌, ◌≤◌, Bool, true, false, not, nat_lt, if◌then◌else◌, List, [], ◌∷◌, ◌++◌, All, length, filter, codes, decimal as digits, Option, Some, None, IsUtf8, ⊤, Ok, Err}
 use Rattle.std.specs.Str.{is_utf8}
 use Rattle.base64.specs.Engines.{standard}
 use Rattle.base64.specs.GeneralPurpose.{encode_of}
+use Rattle.ion_meter.specs.declared.fault.Reason.TheVariants.{ScalarLimit}
 use Rattle.ion_meter.specs.Sources.{Cursor}
 use Rattle.ion_value.specs.declared.decimal.Decimal.{Decimal}
 use Rattle.ion_value.specs.declared.int.Int.{Int}
@@ -12,13 +13,16 @@ use Rattle.ion_value.specs.declared.timestamp.Timestamp.{Timestamp}
 use Rattle.ion_value.specs.Decimal.{IsDecimal, decimal_text}
 use Rattle.ion_value.specs.Digits.{is_hex_digit, digit_value, all_are}
 use Rattle.ion_value.specs.Int.{IsInt, int_text}
-use Rattle.ion_value.specs.Name.{null_text, bool_text, is_plain}
+use Rattle.ion_value.specs.Name.{null_text, bool_text, is_id, id_of, is_plain}
 use Rattle.ion_value.specs.Timestamp.{IsTimestamp, timestamp_text}
-use Rattle.ion_value.specs.Value.{Text, null, bool, int, decimal, timestamp, clob, blob}
+use Rattle.ion_value.specs.Standing.{InRange}
+use Rattle.ion_value.specs.Value.{SymbolAt, Scalar, Text, Id, null, bool, int, decimal, timestamp, clob, blob}
+use Rattle.ion_value.specs.Writable.{HasText, HasBytes, SymbolIsText, scalar_symbols}
 use Rattle.ion_text_in.specs.Blanks.{is_white}
 use Rattle.ion_text_in.specs.Beginnings.{BeginsNot, EndsIdentifier, EndsNumber}
+use Rattle.ion_text_in.specs.Grammar.{Tok}
 use Rattle.ion_text_in.specs.Token as tokens
-use Rattle.ion_text_in.specs.Token.{Token, plain, token_at}
+use Rattle.ion_text_in.specs.Token.{Token, plain, cut, token_at, next_token}
 
 -- a limit on what a token counts, where there is one
 abbrev pub Limit : Type 0
@@ -63,6 +67,14 @@ BoolTextIsRead = (truth : Bool) → Means (length (bool_text truth)) EndsIdentif
 abbrev pub PlainSymbolIsRead : Type 0
 PlainSymbolIsRead =
     (word : List ℕ) → is_plain word ≡ true → Means (length word) EndsIdentifier word (tokens.name false (Text word))
+
+-- `$` and digits alone are the symbol of the id that they say
+abbrev pub IdWordIsRead : Type 0
+IdWordIsRead = (word : List ℕ) → is_id word ≡ true → Means (length word) EndsIdentifier word (tokens.name false (Id (id_of word)))
+
+-- so `$` and the digits of each id are the symbol of that id
+abbrev pub IdIsRead : Type 0
+IdIsRead = (id : ℕ) → id ≤ 2 ^ 31 → Means (length (36 ∷ digits id)) EndsIdentifier (36 ∷ digits id) (tokens.name false (Id id))
 
 -- ---- runs
 
@@ -170,3 +182,46 @@ ClobTextIsRead =
     → all_are is_white prefix ≡ true → Chars 34 true chars bytes → all_are is_white back ≡ true
     → Means (length bytes) Anything (codes "{{" ++ (prefix ++ (quoted 34 chars ++ (back ++ codes "}}"))))
     (plain (clob bytes))
+
+-- ---- what a token means is raw
+
+-- a scalar that is no symbol: its number is in range, its text is UTF-8, its bytes are below 256
+pub record IsRawScalar (body : Scalar SymbolAt) : Type 0 where
+  pub in_range : InRange body
+  pub text : HasText body
+  pub bytes : HasBytes body
+  pub no_symbol : scalar_symbols body ≡ []
+
+-- what a token means is such a scalar, or text in UTF-8; punctuation means nothing
+abbrev pub IsRawToken : Token → Type 0
+IsRawToken (plain body) = IsRawScalar body
+IsRawToken (tokens.name quoted symbol) = SymbolIsText symbol
+IsRawToken (tokens.text bytes) = IsUtf8 bytes
+IsRawToken (tokens.operator bytes) = IsUtf8 bytes
+IsRawToken t = ⊤
+
+-- so it is with each token
+abbrev pub TokensAreRaw : Type 0
+TokensAreRaw = (sexp : Bool) (c d : Cursor) (t : Token) (p : ℕ) → Tok sexp c t p d → IsRawToken t
+
+-- ---- what a token counts
+
+-- so many bytes a token counts that goes from one place to another: those that it means, for what stands between quotes or is a
+-- lob; none, for punctuation; and else all its bytes
+abbrev pub counts : Token → ℕ → ℕ → ℕ
+counts (tokens.text bytes) p q = length bytes
+counts (tokens.name true (Text bytes)) p q = length bytes
+counts (plain (clob bytes)) p q = length bytes
+counts (plain (blob bytes)) p q = length bytes
+counts (tokens.begin kind) p q = 0
+counts (tokens.end kind) p q = 0
+counts tokens.comma p q = 0
+counts tokens.colon p q = 0
+counts tokens.colons p q = 0
+counts t p q = q - p
+
+-- under a limit a token is read where it counts no more, and else refused at its first byte
+abbrev pub TokensWithinAreRead : Type 0
+TokensWithinAreRead =
+    (limit : ℕ) (sexp : Bool) (c d : Cursor) (t : Token) (p : ℕ) → Tok sexp c t p d
+    → next_token (Some limit) sexp c ≡ (if nat_lt limit (counts t p d.place) then Err (ScalarLimit, p) else Ok (cut t p d))

@@ -15,3 +15,16 @@ mod Following
 mod Copying
 mod LoadParts
 mod TableStreams
+mod BehindValues
+mod QuotedBytes
+mod Utf8Bytes
+mod SymbolTokens
+mod ShortTexts
+mod ScalarTokens
+mod TokensInText
+mod ValuesAreSpelled
+mod TextOfValuesIsRead
+mod TextWithoutPlaces
+mod ReadAgain
+mod ShortRuns
+mod NeededPremises

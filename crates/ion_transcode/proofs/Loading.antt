@@ -20,7 +20,7 @@ use Rattle.ion_transcode.specs.declared.to.Form.TheVariants as form
 use Rattle.ion_transcode.specs.Encoding.{Encoding, IsSound}
 use Rattle.ion_transcode.specs.Outputs.{Outputs, Agrees}
 use Rattle.ion_transcode.specs.Forms.{IsBinary, form_of, text_encoding, encoding_of, reading_of}
-use Rattle.ion_transcode.specs.Verdict.{Faultless, HasVerdictFrom, whole, own_fault, symbol_fault, writer_fault}
+use Rattle.ion_transcode.specs.Verdict.{Faultless, HasVerdictFrom, whole, refused}
 use Rattle.ion_transcode.specs.Laws.{BinaryIsSound, TextIsSound}
 use Rattle.ion_transcode.specs.Catalogues.{as_catalog, IsCatalogIn, catalog_users, catalog_verdict, Loads, CatalogVerdictsAreRead, CatalogsAreLoaded, OneCatalogVerdict}
 use Rattle.ion_transcode.proofs.Faultless.{raw_in, user-step, faultless-prefixes, faultless-tops}
@@ -57,9 +57,7 @@ pub whole-of : (e : Encoding) (target : Outputs) (limits : Limits) (bytes : List
     → WholeOf e target limits bytes
 whole-of e target limits bytes _ _ n (whole tops us mine s u spelled faultless ends users_are) is =
     record { tops = tops; mine = mine; s = s; u = u; spelled = spelled; faultless = faultless; ends = ends }
-whole-of e target limits bytes _ _ n (own_fault path mine s u reason place at_path faultless stops) is = cc
-whole-of e target limits bytes _ _ n (symbol_fault path mine item s t u reason place at_path faultless gives stops) is = cc
-whole-of e target limits bytes _ _ n (writer_fault path mine item own s t u v reason place at_path faultless gives user refused) is = cc
+whole-of e target limits bytes _ _ n (refused path mine s u reason place at_path faultless fault) is = cc
 
 abbrev loading_or : Loading → Loaded → Loading
 loading_or s (Ok t) = t

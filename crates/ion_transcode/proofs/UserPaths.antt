@@ -5,11 +5,11 @@ use Rattle.ion_meter.specs.declared.fault.Reason.{Reason}
 use Rattle.ion_meter.specs.declared.limits.Limits.{Limits}
 use Rattle.ion_value.specs.Value.{SymbolAt, UserSymbol, Members, Top, PlacedItem, top_items, user_items}
 use Rattle.ion_value.specs.Path.{Path, Nest, closed, opened, path_items}
-use Rattle.ion_value.specs.Reading.{Reading, Finished, More, behind}
+use Rattle.ion_value.specs.Reading.{Reading, Finished, More, behind, Step, Ends, Stops, Gives, GoesOn}
 use Rattle.ion_value.specs.Outcome.{Verdict, Accepted, Rejected}
 use Rattle.ion_symbols.specs.Table.{Shared, Table, system}
 use Rattle.ion_symbols.specs.Users as users
-use Rattle.ion_symbols.specs.Users.{at_start, by_step}
+use Rattle.ion_symbols.specs.Users.{at_start, by_step, user_step}
 use Rattle.ion_symbols.specs.Tree.{user_at, user_tops}
 use Rattle.ion_symbols.specs.Laws.{UsersAreRead, OpenUsersAreRead, table_behind, map_nest, open_declaration}
 use Rattle.ion_binary.specs.Canonical.{binary}
@@ -22,8 +22,8 @@ use Rattle.ion_transcode.specs.declared.to.Target.TheVariants as target
 use Rattle.ion_transcode.specs.Encoding.{Encoding}
 use Rattle.ion_transcode.specs.Outputs.{Outputs, outputs_of, whole_tops}
 use Rattle.ion_transcode.specs.Forms.{form_of, encoding_of}
-use Rattle.ion_transcode.specs.Verdict.{Faultless, nothing, goes_on, taken_in, user, HasVerdictFrom, whole, own_fault, symbol_fault, writer_fault, HasVerdictAs}
-use Rattle.ion_transcode.specs.UserPaths.{none_open, value_open, declaration_open, UsersAlong, FaultlessPathsAreRead, IsFaultBehind, IsRefusedOutput, RefusedOutputIsThatOfAPath, path_output, path_refusal}
+use Rattle.ion_transcode.specs.Verdict.{Faultless, nothing, goes_on, taken_in, user, step_fault, next_fault, HasVerdictFrom, whole, refused, HasVerdictAs}
+use Rattle.ion_transcode.specs.UserPaths.{none_open, value_open, declaration_open, UsersAlong, FaultlessPathsAreRead, IsRefusedOutput, RefusedOutputIsThatOfAPath, path_output, path_refusal}
 use Rattle.ion_transcode.proofs.Agreeing.{path-is}
 use Rattle.ion_transcode.proofs.Faultless.{behind_append}
 
@@ -91,6 +91,18 @@ refusal-is target.Text limits path mine own e = refl
 refusal-is target.Binary limits path mine own e = ap (λ (p : Path UserSymbol ℕ). refused_behind limits p own) (sym (path-is path mine e))
 refusal-is target.Nothing limits path mine own e = refl
 
+-- where two writers refuse the same, an item has the same first fault
+step_fault-same : {T : Type 0} (a b : PlacedItem → Option (Reason × ℕ)) → ((item : PlacedItem) → a item ≡ b item) → (o : Step T) → step_fault a o ≡ step_fault b o
+step_fault-same a b same Ends = refl
+step_fault-same a b same (Stops reason place) = refl
+step_fault-same a b same (Gives item after) = same item
+step_fault-same a b same (GoesOn after) = refl
+
+next_fault-same : (e : Encoding) (catalog : List Shared) (limits : Limits) (s : e.State) (u : users.State) (a b : PlacedItem → Option (Reason × ℕ))
+    → ((own : PlacedItem) → a own ≡ b own) → next_fault e a catalog limits s u ≡ next_fault e b catalog limits s u
+next_fault-same e catalog limits s u a b same =
+    step_fault-same _ _ (λ item. step_fault-same a b same (user_step catalog limits.symbols u item)) (e.step limits s)
+
 module _ (read : FaultlessPathsAreRead) (texts : PathTextIsThatOfItems) (form : Form) (to : Target) (catalog : List Shared) (limits : Limits) (bytes : List ℕ) where
   abbrev e : Encoding
   e = encoding_of form
@@ -98,9 +110,9 @@ module _ (read : FaultlessPathsAreRead) (texts : PathTextIsThatOfItems) (form : 
   -- what there is behind a path that is faultless
   refused-behind : (path : Path SymbolAt ℕ) (mine : List PlacedItem) (s : e.State) (u : users.State) (reason : Reason) (place : ℕ)
       → e.At bytes path s → Faultless e (outputs_of to limits) catalog limits bytes (path_items path) s u mine
-      → ((user_path : Path UserSymbol ℕ) → user_items mine ≡ path_items user_path → IsFaultBehind e (path_refusal to limits user_path) catalog limits s u reason place)
+      → next_fault e ((outputs_of to limits).refusal mine) catalog limits s u ≡ Some (reason, place)
       → IsRefusedOutput e to catalog limits bytes reason place ((outputs_of to limits).open_output mine)
-  refused-behind path mine s u reason place at faultless why =
+  refused-behind path mine s u reason place at faultless fault =
       let along = read form to catalog limits bytes path mine s u faultless in
       record {
         path = path;
@@ -110,7 +122,7 @@ module _ (read : FaultlessPathsAreRead) (texts : PathTextIsThatOfItems) (form : 
         user_state = u;
         spelled = at;
         faultless = faultless;
-        fault = why along.user_path along.items;
+        fault = next_fault-same e catalog limits s u _ _ (λ own. refusal-is to limits along.user_path mine own along.items) ∙ fault;
         is_user_path = along.is_user_path;
         output = output-is texts to limits along.user_path mine along.items;
       }
@@ -122,13 +134,7 @@ module _ (read : FaultlessPathsAreRead) (texts : PathTextIsThatOfItems) (form : 
 
   refused-as : (v : Verdict) (out : List ℕ) → HasVerdictFrom e (outputs_of to limits) catalog limits bytes v out → RefusedAs v out
   refused-as _ _ (whole tops us mine s u stream faultless ends told) = tt
-  refused-as _ _ (own_fault path mine s u reason place at faultless stops) =
-      refused-behind path mine s u reason place at faultless (λ user_path items. IsFaultBehind.own stops)
-  refused-as _ _ (symbol_fault path mine item s t u reason place at faultless gives stops) =
-      refused-behind path mine s u reason place at faultless (λ user_path items. IsFaultBehind.symbol item t gives stops)
-  refused-as _ _ (writer_fault path mine item own s t u v reason place at faultless gives told refused) =
-      refused-behind path mine s u reason place at faultless
-      (λ user_path items. IsFaultBehind.writer item own t v gives told (refusal-is to limits user_path mine own items ∙ refused))
+  refused-as _ _ (refused path mine s u reason place at faultless fault) = refused-behind path mine s u reason place at faultless fault
 
 pub refused_output_is_that_of_a_path : FaultlessPathsAreRead → PathTextIsThatOfItems → RefusedOutputIsThatOfAPath
 refused_output_is_that_of_a_path read texts catalog limits to bytes target reason place out is has =

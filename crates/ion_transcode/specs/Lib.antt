@@ -10,4 +10,6 @@ pub mod ByItem
 pub mod Catalogues
 pub mod Laws
 pub mod UserPaths
+pub mod RoundTrip
+pub mod ShownAgain
 pub mod Calls

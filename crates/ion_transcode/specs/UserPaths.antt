@@ -4,11 +4,9 @@ use Rattle.ion_meter.specs.declared.fault.Reason.{Reason}
 use Rattle.ion_meter.specs.declared.limits.Limits.{Limits}
 use Rattle.ion_value.specs.Value.{SymbolAt, UserSymbol, Members, Top, PlacedItem, user_items}
 use Rattle.ion_value.specs.Path.{Path, Nest, closed, opened, path_items}
-use Rattle.ion_value.specs.Reading.{Stops, Gives}
 use Rattle.ion_value.specs.Outcome.{Rejected}
 use Rattle.ion_symbols.specs.Table.{Shared, Table, system}
 use Rattle.ion_symbols.specs.Users as users
-use Rattle.ion_symbols.specs.Users.{user_step}
 use Rattle.ion_symbols.specs.Tree.{user_at, user_tops}
 use Rattle.ion_symbols.specs.Laws.{table_behind, map_nest, open_declaration}
 use Rattle.ion_binary.specs.Canonical.{binary}
@@ -21,7 +19,7 @@ use Rattle.ion_transcode.specs.declared.to.Target.TheVariants as target
 use Rattle.ion_transcode.specs.Encoding.{Encoding}
 use Rattle.ion_transcode.specs.Outputs.{outputs_of, resolved, whole_tops}
 use Rattle.ion_transcode.specs.Forms.{form_of, encoding_of}
-use Rattle.ion_transcode.specs.Verdict.{Faultless, HasVerdict}
+use Rattle.ion_transcode.specs.Verdict.{Faultless, next_fault, HasVerdict}
 
 -- the user values of a path: its whole values without version markers and declarations, and the containers that are open with their symbols as
 -- they are in the table behind these, unless they are a declaration's
@@ -63,16 +61,8 @@ path_refusal target.Text limits path item = None
 path_refusal target.Binary limits path item = refused_behind limits path item
 path_refusal target.Nothing limits path item = None
 
--- a fault stands behind a path, by itself or in the item behind it: in one of its parts, in its symbols, or as its writer refuses it
-pub data IsFaultBehind (e : Encoding) (refusal : PlacedItem → Option (Reason × ℕ)) (catalog : List Shared) (limits : Limits) (s : e.State) (u : users.State) (reason : Reason) (place : ℕ) : Type 0 where
-  own : e.step limits s ≡ Stops reason place → IsFaultBehind e refusal catalog limits s u reason place
-  symbol : (item : PlacedItem) (t : e.State) → e.step limits s ≡ Gives item t → user_step catalog limits.symbols u item ≡ Stops reason place
-      → IsFaultBehind e refusal catalog limits s u reason place
-  writer : (item user : PlacedItem) (t : e.State) (v : users.State) → e.step limits s ≡ Gives item t → user_step catalog limits.symbols u item ≡ Gives user v
-      → refusal user ≡ Some (reason, place) → IsFaultBehind e refusal catalog limits s u reason place
-
--- the output of a stream that is refused is that of the user values of a path that its bytes spell, which is faultless, and behind which the
--- fault stands
+-- the output of a stream that is refused is that of the user values of a path that its bytes spell, which is faultless, and behind
+-- which the next item has this fault as its first one
 pub record IsRefusedOutput (e : Encoding) (to : Target) (catalog : List Shared) (limits : Limits) (bytes : List ℕ) (reason : Reason) (place : ℕ) (out : List ℕ) : Type 0 where
   pub path : Path SymbolAt ℕ
   pub user_path : Path UserSymbol ℕ
@@ -81,7 +71,7 @@ pub record IsRefusedOutput (e : Encoding) (to : Target) (catalog : List Shared) 
   pub user_state : users.State
   pub spelled : e.At bytes path state
   pub faultless : Faultless e (outputs_of to limits) catalog limits bytes (path_items path) state user_state mine
-  pub fault : IsFaultBehind e (path_refusal to limits user_path) catalog limits state user_state reason place
+  pub fault : next_fault e (path_refusal to limits user_path) catalog limits state user_state ≡ Some (reason, place)
   pub is_user_path : IsUserPath catalog path user_path
   pub output : out ≡ path_output to limits user_path
 

@@ -2,11 +2,13 @@
 ghost use Rattle.ion_transcode.specs.Catalogues.{CatalogVerdictsAreRead, CatalogsAreLoaded, OneCatalog, OneCatalogVerdict, TablesAreCatalogs};
 ghost use Rattle.ion_transcode.specs.Forms.{binary_encoding, text_encoding};
 ghost use Rattle.ion_transcode.specs.Laws.{BinaryIsComplete, BinaryIsSound, OneSpelling, OneVerdict, SpellsOnce, StreamsAreRead, TextIsComplete, TextIsSound};
+ghost use Rattle.ion_transcode.specs.RoundTrip.{RoundTrip, ShowOnce, TextIsRead, ThereAndBack, ValuesOfStreams};
 ghost use Rattle.ion_transcode.specs.UserPaths.{FaultlessPathsAreRead, RefusedOutputIsThatOfAPath};
 
 use ion_binary::laws as binary;
 use ion_symbols::laws::{
     catalogs_are_read, catalogs_are_tables, open_users_are_read, users_are_read,
+    users_of_raw_values,
 };
 use ion_text_in::laws as text;
 use ion_text_out::laws::{path_text_is_that_of_items, text_is_that_of_items};
@@ -157,4 +159,73 @@ pub fn one_catalog()
     ensures { OneCatalog }
 {
     one_spelling();
+}
+
+/// The canonical text of values is a stream of text, and its user values are these values, whatever
+/// the catalogue: of all values that a user of a stream can have.
+pub fn text_is_read()
+    ensures { TextIsRead }
+{
+    text::what_ends_a_number();
+    text::what_ends_a_symbol();
+    text::what_begins_a_token();
+    text::null_text_is_read();
+    text::bool_text_is_read();
+    text::int_text_is_read();
+    text::decimal_text_is_read();
+    text::timestamp_text_is_read();
+    text::string_text_is_read();
+    text::quoted_symbol_is_read();
+    text::plain_symbol_is_read();
+    text::id_is_read();
+    text::clob_text_is_read();
+    text::base64_is_read();
+}
+
+/// The user values of each stream are such values: numbers in their ranges, texts in UTF-8, fields in
+/// structs alone, and no declaration. It holds of bytes, where the texts of the catalogue are UTF-8.
+pub fn values_of_streams()
+    ensures { ValuesOfStreams }
+{
+    users_of_raw_values();
+    binary::streams_are_raw();
+    text::streams_are_raw();
+}
+
+/// What is written of the user values of a stream is a stream of these values, in text, and in binary
+/// too where it is not longer than a header can say. The catalogue by which it is read again may be
+/// any.
+pub fn round_trip()
+    ensures { RoundTrip }
+{
+    values_of_streams();
+    text_is_read();
+    binary::the_form_is_read();
+}
+
+/// A run to text over what a run to text wrote writes the same bytes, where both are accepted.
+pub fn show_once()
+    ensures { ShowOnce }
+{
+    values_of_streams();
+    text_is_read();
+    text::one_stream();
+}
+
+/// A run to text over the binary that was written of a text writes what a run to text over that text
+/// does, where all three are accepted.
+pub fn there_and_back()
+    ensures { ThereAndBack }
+{
+    users_of_raw_values();
+    text::streams_are_raw();
+    binary::the_form_is_read();
+    text_is_spelled_once();
+    binary_is_spelled_once();
+    text_is_sound();
+    users_are_read();
+    faultless_paths_are_read();
+    binary::items_are_refused_as_in_trees();
+    binary::none_is_refused_within();
+    binary::what_is_within_is_short();
 }

@@ -15,6 +15,7 @@ pub mod Answers
 pub mod Shares
 pub mod Calls
 pub mod Standing
+pub mod Writable
 pub mod Outcome
 pub mod TimestampFields
 pub mod TimestampRuns

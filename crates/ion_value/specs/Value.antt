@@ -1,5 +1,5 @@
 -- What an Ion value is: a tree of annotations and values, and its items in order (Ion specification, "The Ion Data Model").
-use Rattle.std.specs.Prelude.{ℕ, Bool, List, [], ◌∷◌, ◌++◌, map, Option, None, option_map}
+use Rattle.std.specs.Prelude.{ℕ, Bool, List, [], ◌∷◌, ◌++◌, map, Option, None, option_map, ⊤}
 use Rattle.ion_value.specs.declared.ion_type.IonType.{IonType}
 use Rattle.ion_value.specs.declared.ion_type.Kind.{Kind}
 use Rattle.ion_value.specs.declared.int.Int.{Int}
@@ -134,6 +134,15 @@ abbrev mutual
   map_members f g nothing = nothing
   map_members f g (member before field annotations place value) =
       member (map_members f g before) (option_map f field) (map f annotations) (g place) (map_value f g value)
+
+-- a place is forgotten, so that trees are compared without their places
+abbrev pub no_place : {P : Type 0} → P → ⊤
+no_place place = tt
+
+-- a value at top level without its places
+abbrev pub unplaced_top : {S P : Type 0} → Top S P → Top S ⊤
+unplaced_top (version place) = version tt
+unplaced_top (tree first annotations place value) = tree tt annotations tt (map_value (λ s. s) no_place value)
 
 -- what a symbol is to a user who knows no other texts: an id is unknown
 abbrev pub user_symbol : Symbol → UserSymbol

@@ -1,6 +1,7 @@
 use Rattle.std.proofs.Common.{◌++◌, ◌∙◌, ap, refl, length, append_assoc}
 use Rattle.ion_value.specs.Items.{annotations_of, item_of, raw_field, raw_head}
-use Rattle.ion_binary.specs.Canonical.{field_symbols, with_symbols}
+use Rattle.ion_value.specs.Writable.{field_symbols}
+use Rattle.ion_binary.specs.Canonical.{with_symbols}
 use Rattle.ion_binary.specs.Writing.{head_symbols}
 use Rattle.ion_binary.proofs.Numbered.{can-then, front-is, item-symbols, numbers-as, numbers-beside, numbers-cut, numbers-err, numbers-ok, numbers-then, users-item}
 use Rattle.ion_binary.proofs.front.put_front.Goals as goal

@@ -1,0 +1,5 @@
+use Rattle.ion_text_in.proofs.Texts as whole
+use Rattle.ion_text_in.proofs.laws.id_is_read.Goals as goal
+
+pub returns : goal.returns
+returns c = record { words = whole.id_word-read; ids = whole.id-read }

@@ -26,4 +26,4 @@ mod TextOfValuesIsRead
 mod TextWithoutPlaces
 mod ReadAgain
 mod ShortRuns
-mod NeededPremises
+mod TopRows

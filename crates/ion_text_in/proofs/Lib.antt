@@ -3,8 +3,11 @@ mod Steps
 mod Shrinking
 mod Falling
 pub mod Sound
+mod WentWell
+mod TokenLimits
 mod Tokens
 mod Advancing
+mod Allowing
 mod Complete
 mod TokenCuts
 mod Counting
@@ -14,7 +17,6 @@ mod Meaning
 mod Texts
 mod Blobs
 mod Strings
-mod WentWell
 mod DecodedBytes
 mod LobBytes
 mod RawTokens
@@ -41,8 +43,7 @@ pub mod SegmentTexts
 pub mod ScannedTexts
 pub mod TextTokens
 pub mod Shown
-pub mod ShownRuns
-pub mod ShownBlanks
+pub mod BlankRuns
 pub mod ShownPieces
 mod ReadingText
 pub mod Runs

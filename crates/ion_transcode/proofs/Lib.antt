@@ -27,4 +27,4 @@ mod TextOfValuesIsRead
 mod TextWithoutPlaces
 mod ReadAgain
 mod ShortRuns
-mod NeededPremises
+mod TopRows

@@ -112,7 +112,8 @@ CatalogsAreLoaded = (limits : Limits) (bytes : List ℕ) (tables : List Shared) 
 
 -- the texts of the catalogue of a stream of bytes are UTF-8
 abbrev pub CatalogsAreText : Type 0
-CatalogsAreText = (limits : Limits) (bytes : List ℕ) (tables : List Shared) → AreBytes bytes → IsCatalog limits bytes tables → CatalogIsText tables
+CatalogsAreText =
+    (limits : Limits) (bytes : List ℕ) (tables : List Shared) → AreBytes bytes → IsCatalog limits bytes tables → CatalogIsText tables
 
 -- where a run to nothing under the empty catalogue accepts a stream, and its user values are tables within the limit, it is their catalogue
 abbrev pub TablesAreCatalogs : Type 0

@@ -138,10 +138,6 @@ imports_keep g top nothing p h = yields_ok h
 imports_keep g top (member before field annotations place x) p h =
     yields_then (imports_keep g top before p h) (λ f. f) (λ q b. yields_fine g.old (first_of top field annotations place x) (import_keeps g top place x q b))
 
-kept-most : (b : Bool) (n : ℕ) → kept b n ≤ n
-kept-most true n = omega arith
-kept-most false n = omega arith
-
 keeping_keeps : (g : Ground) (place : ℕ) (w : Word) (p : Pending) → Bounded g p → Keeps g (keeping_by g place w p)
 keeping_keeps g place word.Declaration p h =
     counted g place (table_cost g.old) (count_of g.old) (record p { keeps = true }) (λ cost most. record {

@@ -38,10 +38,6 @@ if-ok : (b : Bool) (d e : Draft) (why : Reason × ℕ) → (if b then Ok d else 
 if-ok true d e why is = (refl, ok-same d e is)
 if-ok false d e why is = cc
 
-unless-ok : (b : Bool) (r : Drafted) (e : Draft) (why : Reason × ℕ) → (if b then Err why else r) ≡ Ok e → (b ≡ false) × (r ≡ Ok e)
-unless-ok true r e why is = cc
-unless-ok false r e why is = (refl, is)
-
 when-ok : (b : Bool) (r : Drafted) (e : Draft) (why : Reason × ℕ) → (if b then r else Err why) ≡ Ok e → (b ≡ true) × (r ≡ Ok e)
 when-ok true r e why is = (refl, is)
 when-ok false r e why is = cc
@@ -96,10 +92,6 @@ pub record Drawn (limit : ℕ) (tables : List Shared) (name version symbols : Me
   pub version_once : v ≤ 1
   pub symbols_once : s ≤ 1
   pub no_imports : i ≤ 0
-
-keep : (o : Met) → o ≡ or_later o None
-keep None = refl
-keep (Some x) = refl
 
 kept : {limit : ℕ} {tables : List Shared} {n v s i : ℕ} {e : Draft} (name version symbols : Met) → Drawn limit tables name version symbols n v s i e
     → Drawn limit tables (or_later name None) (or_later version None) (or_later symbols None) n v s i e

@@ -14,9 +14,9 @@ use Rattle.ion_symbols.specs.Tree.{same_word}
 use Rattle.ion_symbols.specs.CatalogItems.{user_field, is_shared}
 use Rattle.ion_symbols.specs.CatalogTrees.{seen, value_of, fields_fit, elements, slots_of, shared_in, shared_of, add_table, and_tables, tables_behind}
 use Rattle.ion_symbols.specs.CatalogLaws.{TablesOfUsersAreText}
-use Rattle.ion_symbols.specs.UserValues.{IsUser, SlotIsText, CatalogIsText}
+use Rattle.ion_symbols.specs.UserValues.{IsUser, SlotIsText, SlotsAreText, CatalogIsText}
 use Rattle.ion_symbols.proofs.AllAppended.{AllByRecursion-append}
-use Rattle.ion_symbols.proofs.TextTables.{AreTexts, FoundIsText, or_later-writable}
+use Rattle.ion_symbols.proofs.TextTables.{FoundIsText, or_later-writable}
 
 -- ---- one table
 
@@ -24,7 +24,7 @@ string_in-text : (x : Value UserSymbol ℕ) → IsWritable x → SlotIsText (str
 string_in-text (scalar (value.string t)) h = h.1
 string_in-text x h = tt
 
-elements-text : (kind : Kind) (members : Members UserSymbol ℕ) → AreWritable kind members → AreTexts (elements members)
+elements-text : (kind : Kind) (members : Members UserSymbol ℕ) → AreWritable kind members → SlotsAreText (elements members)
 elements-text kind nothing h = tt
 elements-text kind (member before field annotations place x) h =
     AllByRecursion-append SlotIsText (elements before) (string_in (seen x) ∷ []) (elements-text kind before h.0)
@@ -36,7 +36,7 @@ value_of-writable w kind nothing h = tt
 value_of-writable w kind (member before field annotations place x) h =
     or_later-writable (value_of w before) (same_word (user_field field) w) x (value_of-writable w kind before h.0) h.1.1
 
-slots_of-text : (field : Option (Value UserSymbol ℕ)) → IfSome field IsWritable → AreTexts (slots_of field)
+slots_of-text : (field : Option (Value UserSymbol ℕ)) → IfSome field IsWritable → SlotsAreText (slots_of field)
 slots_of-text (Some (container kind.List members last)) h = elements-text kind.List members h
 slots_of-text field h = tt
 
@@ -57,7 +57,7 @@ add_table-text tables None c h = tt
 add_table-text tables (Some s) c h = by (may_stand tables s)
   where
     by : (b : Bool) → IfSome (if b then Some (tables ++ s ∷ []) else None) CatalogIsText
-    by true = AllByRecursion-append (λ (s : Shared). AreTexts s.slots) tables (s ∷ []) c (h, tt)
+    by true = AllByRecursion-append (λ (s : Shared). SlotsAreText s.slots) tables (s ∷ []) c (h, tt)
     by false = tt
 
 and_tables-text : (tables : Option (List Shared)) (later : List Shared → Option (List Shared)) → IfSome tables CatalogIsText

@@ -1,6 +1,6 @@
 -- The import that a slot stands in.
 use Rattle.std.proofs.Common.{◌≡◌, ℕ, zero, suc, ◌+◌, ◌-◌, ◌<◌, ◌≤◌, true, false, nat_lt, List, [], ◌∷◌, length, slice_get, slice_index_or, Option, None, MatchOption, refl, ap, sym, subst, ◌∙◌, arith, lt-ltb, le-ltb}
-use Rattle.ion_symbols.specs.Table.{Slots, Shared, Table, slot_in, slot_of, import_slot, local_slot, system_slots, import_count, count_of}
+use Rattle.ion_symbols.specs.Table.{Slots, Shared, Table, slot_in, slot_of, import_slot, local_slot, import_count, count_of}
 use Rattle.ion_symbols.specs.Present.{Starts, imports_in, slots_at}
 use Rattle.ion_symbols.specs.declared.symbols.FoundImport.{FoundImport}
 use Rattle.ion_symbols.proofs.Listed.{got_at}
@@ -114,10 +114,7 @@ past_imports catalog locals fs end place h b =
     let e : place ≡ place - 0 = omega arith in
     ap (slot_in (imports_in catalog fs) locals) e ∙ past_all catalog locals 0 fs end place h b
 
--- an id of the system table, and one behind it
-pub system_id : (t : Table) (id : ℕ) → id < 10 → slot_of t id ≡ local_slot (slice_get system_slots id)
-system_id t id h = let e : nat_lt id 10 ≡ true = lt-ltb id 10 h in rw e refl
-
+-- an id behind the system table
 pub user_id : (t : Table) (id : ℕ) → 10 ≤ id → slot_of t id ≡ slot_in t.imports t.locals (id - 10)
 user_id t id h = let e : nat_lt id 10 ≡ false = le-ltb id 10 h in rw e refl
 

@@ -17,21 +17,17 @@ use Rattle.ion_symbols.specs.Table as slot
 use Rattle.ion_symbols.specs.Table.{Slots, Slot, Shared, Import, Table, system, system_slots, local_slot, import_slot, slot_in, slot_of, is_table, find, greater, greatest_from}
 use Rattle.ion_symbols.specs.Declaration.{field_word, word_in, slots_found, whole_import, or_greatest, import_of, is_ignored}
 use Rattle.ion_symbols.specs.Tree.{same_word, or_later, value_of, element, elements, locals_of, name_of, version_of, max_of, import_by, value_import, both, imports_in, with_imports, by_word, by_imports, next_table}
-use Rattle.ion_symbols.specs.UserValues.{SlotIsText, CatalogIsText}
+use Rattle.ion_symbols.specs.UserValues.{SlotIsText, SlotsAreText, CatalogIsText}
 use Rattle.ion_symbols.proofs.AllAppended.{AllByRecursion-append}
 
--- the texts of slots are UTF-8
-abbrev pub AreTexts : Slots → Type 0
-AreTexts slots = AllByRecursion SlotIsText slots
-
--- so are those of imports
+-- the texts of imports are UTF-8
 abbrev ImportsAreText : List Import → Type 0
-ImportsAreText imports = AllByRecursion (λ (i : Import). AreTexts i.slots) imports
+ImportsAreText imports = AllByRecursion (λ (i : Import). SlotsAreText i.slots) imports
 
--- and those of a table
+-- and all of a table
 pub record TableIsText (t : Table) : Type 0 where
   pub imports : ImportsAreText t.imports
-  pub locals : AreTexts t.locals
+  pub locals : SlotsAreText t.locals
 
 -- ---- the slots of a table
 
@@ -43,13 +39,13 @@ abbrev pub KnownIsText : Slot → Type 0
 KnownIsText (slot.known t) = IsUtf8 t
 KnownIsText _ = ⊤
 
-local_slot-text : (slots : Slots) (place : ℕ) → AreTexts slots → KnownIsText (local_slot (slice_get slots place))
+local_slot-text : (slots : Slots) (place : ℕ) → SlotsAreText slots → KnownIsText (local_slot (slice_get slots place))
 local_slot-text [] place h = tt
 local_slot-text (None ∷ slots) zero h = tt
 local_slot-text (Some t ∷ slots) zero h = h.0
 local_slot-text (s ∷ slots) (suc place) h = local_slot-text slots place h.1
 
-import_slot-text : (slots : Slots) (place : ℕ) → AreTexts slots → KnownIsText (import_slot (slice_get slots place))
+import_slot-text : (slots : Slots) (place : ℕ) → SlotsAreText slots → KnownIsText (import_slot (slice_get slots place))
 import_slot-text [] place h = tt
 import_slot-text (None ∷ slots) zero h = tt
 import_slot-text (Some t ∷ slots) zero h = h.0
@@ -60,7 +56,7 @@ if-text : (b : Bool) (x y : Slot) → KnownIsText x → KnownIsText y → KnownI
 if-text true x y h k = h
 if-text false x y h k = k
 
-slot_in-text : (imports : List Import) (locals : Slots) (place : ℕ) → ImportsAreText imports → AreTexts locals
+slot_in-text : (imports : List Import) (locals : Slots) (place : ℕ) → ImportsAreText imports → SlotsAreText locals
     → KnownIsText (slot_in imports locals place)
 slot_in-text [] locals place h k = local_slot-text locals place k
 slot_in-text (i ∷ is) locals place h k =
@@ -72,14 +68,14 @@ is_text : Option (List ℕ) → Bool
 is_text None = true
 is_text (Some t) = is_utf8 t
 
-slots-text : (slots : Slots) → list_all is_text slots ≡ true → AreTexts slots
+slots-text : (slots : Slots) → list_all is_text slots ≡ true → SlotsAreText slots
 unfolding is_text
 slots-text [] e = tt
 slots-text (None ∷ slots) e = (tt, slots-text slots e)
 slots-text (Some t ∷ slots) e =
     let both = and_parts (is_utf8 t) (list_all is_text slots) e in (IsUtf8-from_is_utf8 t both.0, slots-text slots both.1)
 
-system_slots-text : AreTexts system_slots
+system_slots-text : SlotsAreText system_slots
 unfolding is_text is_utf8 chars encode
 system_slots-text = slots-text system_slots refl
 
@@ -92,7 +88,7 @@ slot_of-text t id h =
 
 -- the texts of a table that was found, if any
 abbrev pub FoundIsText : Option Shared → Type 0
-FoundIsText found = IfSome found (λ s. AreTexts s.slots)
+FoundIsText found = IfSome found (λ s. SlotsAreText s.slots)
 
 -- one of two such tables
 if-found : (b : Bool) (s t : Option Shared) → FoundIsText s → FoundIsText t → FoundIsText (if b then s else t)
@@ -104,7 +100,7 @@ find-text [] name version h = tt
 find-text (s ∷ ss) name version h =
     if-found (is_table name version s) (Some s) (find ss name version) h.0 (find-text ss name version h.1)
 
-greater-text : (name : List ℕ) (best : Option Shared) (s : Shared) → FoundIsText best → AreTexts s.slots
+greater-text : (name : List ℕ) (best : Option Shared) (s : Shared) → FoundIsText best → SlotsAreText s.slots
     → FoundIsText (greater name best s)
 greater-text name None s h k = if-found (bytes_eq s.name name) (Some s) None k tt
 greater-text name (Some b) s h k = if-found (bytes_eq s.name name && nat_lt b.version s.version) (Some s) (Some b) k h
@@ -121,16 +117,16 @@ or_greatest-text catalog name (Some s) h k = k
 
 -- ---- imports
 
-whole_import-text : (found : Option Shared) → FoundIsText found → IfSome (whole_import found) (λ i. AreTexts i.slots)
+whole_import-text : (found : Option Shared) → FoundIsText found → IfSome (whole_import found) (λ i. SlotsAreText i.slots)
 whole_import-text None h = tt
 whole_import-text (Some s) h = h
 
-slots_found-text : (found : Option Shared) → FoundIsText found → AreTexts (slots_found found)
+slots_found-text : (found : Option Shared) → FoundIsText found → SlotsAreText (slots_found found)
 slots_found-text None h = tt
 slots_found-text (Some s) h = h
 
 import_of-text : (catalog : List Shared) (name : List ℕ) (version : ℕ) (most : Option ℕ) → CatalogIsText catalog
-    → IfSome (import_of catalog name version most) (λ i. AreTexts i.slots)
+    → IfSome (import_of catalog name version most) (λ i. SlotsAreText i.slots)
 import_of-text catalog name version None h = whole_import-text (find catalog name version) (find-text catalog name version h)
 import_of-text catalog name version (Some count) h =
     slots_found-text (or_greatest catalog name (find catalog name version))
@@ -141,7 +137,7 @@ import_by-text : (catalog : List Shared) (name : List ℕ) (version : ℕ) (most
 import_by-text catalog name version most h =
     by (is_ignored name) (import_of catalog name version most) (import_of-text catalog name version most h)
   where
-    by : (b : Bool) (found : Option Import) → IfSome found (λ i. AreTexts i.slots)
+    by : (b : Bool) (found : Option Import) → IfSome found (λ i. SlotsAreText i.slots)
         → IfSome (if b then Some [] else option_map (λ i. i ∷ []) found) ImportsAreText
     by true found k = tt
     by false None k = tt
@@ -158,7 +154,7 @@ both-text : (these those : Option (List Import)) → IfSome these ImportsAreText
     → IfSome (both these those) ImportsAreText
 both-text None those h k = tt
 both-text (Some xs) None h k = tt
-both-text (Some xs) (Some ys) h k = AllByRecursion-append (λ (i : Import). AreTexts i.slots) xs ys h k
+both-text (Some xs) (Some ys) h k = AllByRecursion-append (λ (i : Import). SlotsAreText i.slots) xs ys h k
 
 imports_in-text : (catalog : List Shared) (texts : ℕ → Option (List ℕ)) (members : Members SymbolAt ℕ) → CatalogIsText catalog
     → IfSome (imports_in catalog texts members) ImportsAreText
@@ -173,17 +169,18 @@ element-text : (x : Value SymbolAt ℕ) → IsWritable x → SlotIsText (element
 element-text (scalar (value.string t)) h = h.1
 element-text x h = tt
 
-elements-text : (kind : Kind) (members : Members SymbolAt ℕ) → AreWritable kind members → AreTexts (elements members)
+elements-text : (kind : Kind) (members : Members SymbolAt ℕ) → AreWritable kind members → SlotsAreText (elements members)
 elements-text kind nothing h = tt
 elements-text kind (member before field annotations place x) h =
     AllByRecursion-append SlotIsText (elements before) (element x ∷ []) (elements-text kind before h.0) (element-text x h.1.1, tt)
 
-locals_of-text : (field : Option (Value SymbolAt ℕ)) → IfSome field IsWritable → AreTexts (locals_of field)
+locals_of-text : (field : Option (Value SymbolAt ℕ)) → IfSome field IsWritable → SlotsAreText (locals_of field)
 locals_of-text (Some (container kind.List members last)) h = elements-text kind.List members h
 locals_of-text field h = tt
 
 -- the first of two values, and the second where a test holds
-pub or_later-writable : {S : Type 0} (earlier : Option (Value S ℕ)) (b : Bool) (x : Value S ℕ) → IfSome earlier IsWritable → IsWritable x
+pub or_later-writable : {S : Type 0} (earlier : Option (Value S ℕ)) (b : Bool) (x : Value S ℕ) → IfSome earlier IsWritable
+    → IsWritable x
     → IfSome (or_later earlier (if b then Some x else None)) IsWritable
 or_later-writable (Some y) b x h k = h
 or_later-writable None true x h k = k
@@ -193,24 +190,25 @@ value_of-writable : (texts : ℕ → Option (List ℕ)) (w : Word) (kind : Kind)
     → IfSome (value_of texts w members) IsWritable
 value_of-writable texts w kind nothing h = tt
 value_of-writable texts w kind (member before field annotations place x) h =
-    or_later-writable (value_of texts w before) (same_word (field_word texts field) w) x (value_of-writable texts w kind before h.0) h.1.1
+    or_later-writable (value_of texts w before) (same_word (field_word texts field) w) x
+    (value_of-writable texts w kind before h.0) h.1.1
 
 -- ---- what a declaration leaves
 
-by_word-text : (old : Table) (locals : Slots) (w : Word) → TableIsText old → AreTexts locals
+by_word-text : (old : Table) (locals : Slots) (w : Word) → TableIsText old → SlotsAreText locals
     → IfSome (by_word old locals w) TableIsText
 by_word-text old locals word.Declaration h k =
     record { imports = h.imports; locals = AllByRecursion-append SlotIsText old.locals locals h.locals k }
 by_word-text old locals w h k = record { imports = tt; locals = k }
 
-with_imports-text : (locals : Slots) (imports : Option (List Import)) → AreTexts locals → IfSome imports ImportsAreText
+with_imports-text : (locals : Slots) (imports : Option (List Import)) → SlotsAreText locals → IfSome imports ImportsAreText
     → IfSome (with_imports locals imports) TableIsText
 with_imports-text locals None h k = tt
 with_imports-text locals (Some imports) h k = record { imports = k; locals = h }
 
 by_imports-text : (catalog : List Shared) (texts : ℕ → Option (List ℕ)) (old : Table) (locals : Slots)
     (field : Option (Value SymbolAt ℕ))
-    → CatalogIsText catalog → TableIsText old → AreTexts locals → IfSome (by_imports catalog texts old locals field) TableIsText
+    → CatalogIsText catalog → TableIsText old → SlotsAreText locals → IfSome (by_imports catalog texts old locals field) TableIsText
 by_imports-text catalog texts old locals (Some (container kind.List members last)) c h k =
     with_imports-text locals (imports_in catalog texts members) k (imports_in-text catalog texts members c)
 by_imports-text catalog texts old locals (Some (scalar (value.symbol s))) c h k =

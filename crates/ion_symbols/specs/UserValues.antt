@@ -4,7 +4,7 @@ use Rattle.std.specs.List.{AllByRecursion}
 use Rattle.ion_value.specs.declared.ion_type.Kind.TheVariants as kind
 use Rattle.ion_value.specs.Value.{SymbolAt, UserSymbol, Known, Value, container, Top, version, tree}
 use Rattle.ion_value.specs.Writable.{IsRaw, IsText, IsWritable, TopHasBytes, value_symbols}
-use Rattle.ion_symbols.specs.Table.{Shared, system, word_of}
+use Rattle.ion_symbols.specs.Table.{Slots, Shared, system, word_of}
 use Rattle.ion_symbols.specs.Tree.{user_tops}
 use Rattle.ion_symbols.specs.Users.{is_declaration}
 
@@ -28,6 +28,10 @@ AreUsers us = AllByRecursion IsUser us × AllByRecursion TopHasBytes us
 abbrev pub SlotIsText : Option (List ℕ) → Type 0
 SlotIsText None = ⊤
 SlotIsText (Some t) = IsUtf8 t
+
+-- so are the texts of slots
+abbrev pub SlotsAreText : Slots → Type 0
+SlotsAreText slots = AllByRecursion SlotIsText slots
 
 -- so are the texts of all tables of a catalogue
 abbrev pub CatalogIsText : List Shared → Type 0

@@ -9,6 +9,7 @@ ghost use Rattle.ion_value.specs.Items.{is_none_left};
 ghost use Rattle.ion_symbols.specs.Table.{catalog_cost, find, greatest, may_stand};
 ghost use Rattle.ion_symbols.specs.Present.{slots_at};
 ghost use Rattle.ion_symbols.specs.Declaration.{import_of, is_ignored};
+ghost use Rattle.ion_symbols.specs.UserValues.{CatalogIsText, SlotsAreText};
 ghost use Rattle.ion_symbols.specs.Catalogue.{FoundAs, Points, WhyNotAdded};
 
 use crate::shared::SharedTable;
@@ -81,6 +82,8 @@ impl<A: Allocator + Copy> Catalog<A> {
         requires countable { meter.old.refused < 2 ^ 64 - 1 }
         ensures ok { OnOk result ((self.new ≡ self.old ++ table ∷ [])
             × (may_stand self.old table ≡ true)) }
+        ensures is_text { SlotsAreText table.slots → CatalogIsText self.old
+            → CatalogIsText self.new }
         ensures cost { OnOk result (Grows meter.old meter.new 32) }
         ensures returned { IfErr result (λ failed. failed.0 ≡ table) }
         ensures err { OnErr result (self.new ≡ self.old) }

@@ -6,6 +6,7 @@ ghost use Rattle.ion_value.specs.Items.{is_none_left};
 ghost use Rattle.ion_symbols.specs.Table.{shared_cost, text_length};
 ghost use Rattle.ion_symbols.specs.Kept.{IsUndone, Renames, text_in};
 ghost use Rattle.ion_symbols.specs.CatalogItems.{blank};
+ghost use Rattle.ion_symbols.specs.UserValues.{SlotsAreText};
 
 use crate::slots::Slots;
 use ion_meter::buf::Buf;
@@ -74,6 +75,7 @@ impl<A: Allocator + Copy> SharedTable<A> {
         ensures ok { OnOk result (self.new ≡ record self.old {
           slots = self.old.slots ++ option_map (λ t. t.now) text.entry ∷ [];
         }) }
+        ensures is_text { SlotsAreText self.old.slots → SlotsAreText self.new.slots }
         ensures cost { OnOk result (Grows meter.old meter.new
             (16 + text_length (option_map (λ t. t.now) text.entry))) }
         ensures memory { IfErr result (λ fault. fault ≡ Memory) }

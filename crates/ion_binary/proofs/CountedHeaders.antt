@@ -1,5 +1,5 @@
 -- Counts of headers tell the closed size, and stay right as octets come and headers go in.
-use Rattle.std.proofs.Common.{◌≡◌, ◌≢◌, ◌++◌, reverse, length-append, ℕ, zero, suc, ◌+◌, ◌-◌, ◌^◌, ◌<◌, ◌≤◌, ◌⊎◌, inl, inr, min, nat_lt, nat_eq, Bool, true, false, if◌then◌else◌, List, [], ◌∷◌, length, map, sum, get_or, set, refl, ap, sym, ◌∙◌, arith, ltb-true, ltb-false, eq-eqb, ne_eqb, lit<}
+use Rattle.std.proofs.Common.{◌≡◌, ◌≢◌, ◌++◌, reverse, length-append, ℕ, zero, suc, ◌+◌, ◌-◌, ◌^◌, ◌<◌, ◌≤◌, ◌⊎◌, inl, inr, min, nat_lt, nat_eq, Bool, true, false, if◌then◌else◌, List, [], ◌∷◌, length, map, sum, get_or, set, refl, ap, sym, ◌∙◌, arith, ltb-true, ltb-false, eq-eqb, ne_eqb}
 use Rattle.std.specs.List.{AllByRecursion}
 use Rattle.std.proofs.lemmas.Bool.{cases_lt, cases_eq}
 use Rattle.std.proofs.lemmas.List.{get_or-set_same, get_or-set_other, length-set, length-map, reverse-append}
@@ -102,42 +102,6 @@ most-within ns n hs (suc c) r = r.within c
 pub most-same : (ns : List ℕ) (total c : ℕ) → most_at (raised ns c) total c ≡ most_at ns total c
 most-same ns total zero = refl
 most-same ns total (suc c) = get_or-set_other ns (suc c) c (get_or ns (suc c) 0 + 1) 0 (λ e. absurd (omega (arith, e)))
-
-thresholds-ascend : (c : ℕ) → suc c < 5 → get_or thresholds c 0 < get_or thresholds (suc c) 0
-thresholds-ascend zero h = lit< tt
-thresholds-ascend (suc zero) h = lit< tt
-thresholds-ascend (suc (suc zero)) h = lit< tt
-thresholds-ascend (suc (suc (suc zero))) h = lit< tt
-thresholds-ascend (suc (suc (suc (suc c)))) h = absurd (omega (arith, h))
-
--- a level is done where the next header does not reach its threshold, or the level before counts no more
-here-settled : (ns : List ℕ) (n : ℕ) (hs : List HeaderPlace) (c : ℕ) → AreReached ns n hs → c < 5 → AreSettledTo c ns n hs
-    → (most_at ns (length hs) c ≤ get_or ns c 0) ⊎ (content_around ns n hs (get_or ns c 0) < get_or thresholds c 0)
-    → get_or ns c 0 < length hs → content_around ns n hs (get_or ns c 0) < get_or thresholds c 0
-here-settled ns n hs c r five s (inr short) small = short
-here-settled ns n hs zero r five s (inl all) small = absurd (omega (arith, all, small))
-here-settled ns n hs (suc c) r five s (inl all) small =
-    let d = r.descend c (suc c) (omega arith) in
-    let same : get_or ns (suc c) 0 ≡ get_or ns c 0 = omega (arith, d, all) in
-    let x : content_around ns n hs (get_or ns (suc c) 0) ≡ content_around ns n hs (get_or ns c 0) = ap (content_around ns n hs) same in
-    let before = s c (omega arith) (omega (arith, same, small)) in
-    let t = thresholds-ascend c five in
-    omega (arith, x, before, t)
-
-pub level-settled : (ns : List ℕ) (n : ℕ) (hs : List HeaderPlace) (c : ℕ) → AreReached ns n hs → c < 5 → AreSettledTo c ns n hs
-    → (most_at ns (length hs) c ≤ get_or ns c 0) ⊎ (content_around ns n hs (get_or ns c 0) < get_or thresholds c 0)
-    → AreSettledTo (c + 1) ns n hs
-level-settled ns n hs c r five s last d lt small =
-    elim (cases_lt d c) [
-      | inl less ↦ s d less small
-      | inr more ↦
-          let e : d ≡ c = omega (arith, lt, more) in
-          let k : get_or ns d 0 ≡ get_or ns c 0 = ap (λ i. get_or ns i 0) e in
-          let t : get_or thresholds d 0 ≡ get_or thresholds c 0 = ap (λ i. get_or thresholds i 0) e in
-          let x : content_around ns n hs (get_or ns d 0) ≡ content_around ns n hs (get_or ns c 0) = ap (content_around ns n hs) k in
-          let h = here-settled ns n hs c r five s last (omega (arith, small, k)) in
-          omega (arith, x, t, h)
-    ]
 
 -- ---- more octets, more headers
 

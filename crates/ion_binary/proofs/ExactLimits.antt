@@ -1,5 +1,5 @@
 -- A reading stops at a limit only where the limit is passed.
-use Rattle.std.proofs.Common.{◌≡◌, ℕ, zero, suc, ◌+◌, ◌*◌, ◌<◌, ◌≤◌, Bool, true, false, not, ◌&&◌, ◌||◌, if◌then◌else◌, nat_le, nat_lt, nat_eq, eqb, List, [], ◌∷◌, ◌++◌, length, take, drop, Option, Some, None, Result, Ok, Err, refl, sym, ap, subst, ◌∙◌, append_assoc, arith}
+use Rattle.std.proofs.Common.{◌≡◌, ℕ, zero, suc, ◌+◌, ◌-◌, ◌*◌, ◌<◌, ◌≤◌, Bool, true, false, not, ◌&&◌, ◌||◌, if◌then◌else◌, nat_le, nat_lt, nat_eq, eqb, List, [], ◌∷◌, ◌++◌, length, take, drop, Option, Some, None, Result, Ok, Err, refl, sym, ap, subst, ◌∙◌, append_assoc, arith}
 use Rattle.std.proofs.lemmas.Bool.{ltb-true, ltb-false, leb-true, eqb-false}
 use Rattle.std.proofs.lemmas.List.{length-append}
 use Rattle.ion_meter.specs.declared.fault.Reason.{Reason}
@@ -11,25 +11,26 @@ use Rattle.ion_value.specs.Number.{VarUInt}
 use Rattle.ion_value.specs.Scalar.{scalar_of_body}
 use Rattle.ion_value.specs.Value as value
 use Rattle.ion_value.specs.Value.{Symbol, SymbolAt, Scalar, PlacedItem}
-use Rattle.ion_value.specs.Path.{Path, closed}
+use Rattle.ion_value.specs.Path.{Path, closed, path_items}
 use Rattle.ion_value.specs.Standing.{open_after, open_behind}
 use Rattle.ion_value.specs.Reading.{Reading, Stopped, behind, Step, Ends, Stops, Gives, GoesOn, next_reading, reading_for}
 use Rattle.ion_meter.specs.Sources.{Cursor}
 use Rattle.ion_value.specs.Parts.{◌>>=◌, ◌>>◌, refuse, Placed, part}
 use Rattle.ion_binary.specs.Positions.{symbol_id, Frame, State}
 use Rattle.ion_binary.specs.Descriptor.{Region, passes, falls_short, octet_at, var_uint_at, length_at, Shape, shape_of, is_unwrappable}
-use Rattle.ion_binary.specs.Reading.{Around, TypedValue, a_nop_pad, a_marker, a_scalar, a_container, is_top, marker_rest, marker_at, fits, bare_at, nop_pad_at, body_at, scalar_at, begin_at, container_at, sorted_at, read_by_descriptor, typed_value_at, wrapper_at, ids_at, region_of, field_in, field_at, placed_item, step_for, plain_at, inner_at, annotated_at, wrapper_length, by_wrapper, value_at, top_of, member_at, step_of, top_step, step_in, step, size, start, reading}
+use Rattle.ion_binary.specs.Reading.{Around, TypedValue, a_nop_pad, a_marker, a_scalar, a_container, is_top, marker_rest, marker_at, fits, bare_at, nop_pad_at, body_at, scalar_at, begin_at, container_at, sorted_at, read_by_descriptor, typed_value_at, Wrapped, wrapper_at, ids_at, region_of, field_in, field_at, placed_item, step_for, plain_at, inner_at, annotated_at, wrapper_length, by_wrapper, value_at, top_of, member_at, step_of, top_step, step_in, step, size, start, reading}
 use Rattle.ion_binary.specs.Bodies.{IsBodyTypeCode}
-use Rattle.ion_binary.specs.Grammar.{Descriptor, Ids, Header, type_code, Tops}
-use Rattle.ion_binary.specs.Paths.{Spells, At, Follows}
-use Rattle.ion_value.specs.ReadingLaws.{IsLimit}
-use Rattle.ion_binary.specs.Laws.{Bodies, StandAt, Passes, ExactLimits}
+use Rattle.ion_binary.specs.Grammar.{Descriptor, Ids, Header, Annotated, type_code, Tops}
+use Rattle.ion_binary.specs.Paths.{FieldIn, Spells, At, Follows}
+use Rattle.ion_value.specs.ReadingLaws.{ending_of, IsLimit}
+use Rattle.ion_binary.specs.Laws.{Bodies, StandNext, BeginNext, Passes, StopsAtLimit, ExactLimits}
+use Rattle.ion_value.proofs.Readings.{behind-append}
 use Rattle.ion_value.proofs.Faults.{Blames, bind_blames, then_blames, refuse_blames, blames_more, part_blames, if_blames, Free, free, refuse_free}
 use Rattle.ion_binary.proofs.Free.{octet_at-free, var_uint_at-free, length_at-free, scalar_of_body-free}
 use Rattle.ion_binary.proofs.Taken.{part_ok, Took, Took-then, octet_at-taken, var_uint_at-taken, length_at-taken}
 use Rattle.ion_binary.proofs.TypedValueSound.{IsShape, shape_of-is}
-use Rattle.ion_binary.proofs.WrapperSound.{wrapper_at-taken, ids_at-taken, field_at-taken}
-use Rattle.ion_binary.proofs.StepPreservesPath.{wrapper_is, step-follows}
+use Rattle.ion_binary.proofs.WrapperSound.{TookWrapper, wrapper_at-taken, TookIds, ids_at-taken, field_at-taken}
+use Rattle.ion_binary.proofs.StepPreservesPath.{wrapper_is, before_end, header_octets, header_took, header_wrapped, step-follows}
 
 -- a fault is a limit's only where something holds
 abbrev Limited : (Reason → Type 0) → Reason → Type 0
@@ -146,24 +147,43 @@ module _ (limits : Limits) where
       then_blames (Limited (TypedPass limits a b c)) (refuse (a.wrapped && is_unwrappable b) BadAnnotation) _ (from_free _ _ (refuse_free _ BadAnnotation refl))
       (read_by_descriptor-limited a b (shape_of b) c (shape_of-is b))
 
--- ---- what stands in the bytes
+-- ---- what stands next
 
--- a cursor in the bytes
-record Reaches (bytes : List ℕ) (c : Cursor) : Type 0 where
-  before : List ℕ
-  split : bytes ≡ before ++ c.rest
-  place_is : c.place ≡ length before
+-- a cursor behind the field of the next member, and one behind what stands before its value
+record Next (s : State) (c : Cursor) : Type 0 where
+  field : Option SymbolAt
+  name : List ℕ
+  field_is : FieldIn s.frames s.cursor.place field name
+  split : s.cursor.rest ≡ name ++ c.rest
+  place_is : c.place ≡ s.cursor.place + length name
 
-reach : (bytes : List ℕ) (r : Region) (c : Cursor) (x : List ℕ) (d : Cursor) → Reaches bytes c → Took r c x d → Reaches bytes d
-reach bytes r c x d h t = record {
-  before = h.before ++ x;
-  split = h.split ∙ ap (λ (l : List ℕ). h.before ++ l) t.parts ∙ sym (append_assoc h.before x d.rest);
-  place_is = omega (arith, t.place, h.place_is, length-append h.before x);
+record Begins (s : State) (c : Cursor) : Type 0 where
+  first : Cursor
+  next : Next s first
+  annotations : List SymbolAt
+  n : ℕ
+  wrapper : List ℕ
+  before : Annotated first.place annotations n wrapper
+  split : first.rest ≡ wrapper ++ c.rest
+  place_is : c.place ≡ first.place + length wrapper
+
+bare-begins : (s : State) (c : Cursor) → Next s c → Begins s c
+bare-begins s c h = record { first = c; next = h; annotations = []; n = 0; wrapper = []; before = Annotated.bare c.place 0; split = refl; place_is = omega arith }
+
+stand : (s : State) (c : Cursor) (x rest : List ℕ) → Next s c → c.rest ≡ x ++ rest → StandNext s c.place x
+stand s c x rest h is =
+    record { field = h.field; name = h.name; rest = rest; field_is = h.field_is; split = h.split ∙ ap (λ (l : List ℕ). h.name ++ l) is; place_is = h.place_is }
+
+begin : (s : State) (r : Region) (c : Cursor) (x : List ℕ) (d : Cursor) → Begins s c → Took r c x d → BeginNext s c.place x
+begin s r c x d h took = record {
+  first = h.first.place;
+  annotations = h.annotations;
+  n = h.n;
+  wrapper = h.wrapper;
+  stand = stand s h.first (h.wrapper ++ x) d.rest h.next (h.split ∙ ap (λ (l : List ℕ). h.wrapper ++ l) took.parts ∙ sym (append_assoc h.wrapper x d.rest));
+  before = h.before;
+  place_is = h.place_is;
 }
-
-stand : (bytes : List ℕ) (r : Region) (c : Cursor) (x : List ℕ) (d : Cursor) → Reaches bytes c → Took r c x d → StandAt bytes c.place x
-stand bytes r c x d h t =
-    record { before = h.before; rest = d.rest; split = h.split ∙ ap (λ (l : List ℕ). h.before ++ l) t.parts; place_is = h.place_is }
 
 -- ---- an item
 
@@ -257,65 +277,83 @@ field_at-free (f ∷ frames) c = by_kind f.kind
     by_kind kind.Sexp = record { so = tt }
     by_kind kind.Struct = bind_blames Free (var_uint_at (Some f.end) c) _ (var_uint_at-free (Some f.end) c) (λ i _. record { so = tt })
 
-module _ (limits : Limits) (bytes : List ℕ) (frames : List Frame) where
+module _ (limits : Limits) (now : State) where
+  abbrev frames : List Frame
+  frames = now.frames
+
   abbrev PassesAt : ℕ → Reason → Type 0
-  PassesAt place why = Passes limits bytes (length frames) place why
+  PassesAt place why = Passes limits now place why
 
   abbrev L : Reason × ℕ → Type 0
   L fault = PlacedLimited PassesAt fault
 
   -- what stands behind a descriptor octet stands with it
-  typed-passes : (a : Around) (s : Cursor) (b : ℕ) (c : Cursor) (why : Reason) → a.depth ≡ length frames → Reaches bytes s → Took a.region s (b ∷ []) c
-      → TypedPass limits a b c why → Passes limits bytes (length frames) s.place why
-  typed-passes a s b c _ deep reaches first (TypedPass.body t n octets d took descriptor scalar more) =
-      Passes.body t n (b ∷ octets) (stand bytes a.region s (b ∷ octets) d reaches (Took-then a.region s c d (b ∷ []) octets first took)) descriptor scalar more
-  typed-passes a s b c _ deep reaches first (TypedPass.container k n octets d took header full) =
-      Passes.container k n (b ∷ octets) (stand bytes a.region s (b ∷ octets) d reaches (Took-then a.region s c d (b ∷ []) octets first took)) header
+  typed-passes : (a : Around) (s : Cursor) (b : ℕ) (c : Cursor) (why : Reason) → a.depth ≡ length frames → Begins now s → Took a.region s (b ∷ []) c
+      → TypedPass limits a b c why → Passes limits now s.place why
+  typed-passes a s b c _ deep begins first (TypedPass.body t n octets d took descriptor scalar more) =
+      Passes.body t n (b ∷ octets) (begin now a.region s (b ∷ octets) d begins (Took-then a.region s c d (b ∷ []) octets first took)) descriptor scalar more
+  typed-passes a s b c _ deep begins first (TypedPass.container k n octets d took header full) =
+      Passes.container k n (b ∷ octets) (begin now a.region s (b ∷ octets) d begins (Took-then a.region s c d (b ∷ []) octets first took)) header
       (omega (arith, full, deep))
 
-  typed-limited : (a : Around) (s : Cursor) (b : ℕ) (c : Cursor) → a.depth ≡ length frames → Reaches bytes s → Took a.region s (b ∷ []) c
+  typed-limited : (a : Around) (s : Cursor) (b : ℕ) (c : Cursor) → a.depth ≡ length frames → Begins now s → Took a.region s (b ∷ []) c
       → Blames L (part s.place (typed_value_at limits a b c))
-  typed-limited a s b c deep reaches first =
+  typed-limited a s b c deep begins first =
       part_limited PassesAt s.place (typed_value_at limits a b c)
       (blames_more (Limited (TypedPass limits a b c)) (Limited (PassesAt s.place)) (typed_value_at limits a b c) (typed_value_at-limited limits a b c)
-      (λ why p is. typed-passes a s b c why deep reaches first (p is)))
+      (λ why p is. typed-passes a s b c why deep begins first (p is)))
 
-  plain_at-limited : (top : ℕ) (f : Option SymbolAt) (s : Cursor) (b : ℕ) (c : Cursor) → Reaches bytes s → Took (region_of frames) s (b ∷ []) c
+  plain_at-limited : (top : ℕ) (f : Option SymbolAt) (s : Cursor) (b : ℕ) (c : Cursor) → Next now s → Took (region_of frames) s (b ∷ []) c
       → Blames L (plain_at limits frames top f s.place b c)
   unfolding plain_at
-  plain_at-limited top f s b c reaches first =
+  plain_at-limited top f s b c next first =
       bind_blames L (part s.place (typed_value_at limits (record { wrapped = false; region = region_of frames; depth = length frames }) b c)) _
-      (typed-limited (record { wrapped = false; region = region_of frames; depth = length frames }) s b c refl reaches first) (λ v _. record { so = tt })
+      (typed-limited (record { wrapped = false; region = region_of frames; depth = length frames }) s b c refl (bare-begins now s next) first) (λ v _. record { so = tt })
 
-  inner_at-limited : (top : ℕ) (f : Option SymbolAt) (annotations : List SymbolAt) (end : ℕ) (c : Cursor) → Reaches bytes c
+  inner_at-limited : (top : ℕ) (f : Option SymbolAt) (annotations : List SymbolAt) (end : ℕ) (c : Cursor) → Begins now c
       → Blames L (inner_at limits frames top f annotations end c)
   unfolding inner_at
-  inner_at-limited top f annotations end c reaches =
+  inner_at-limited top f annotations end c begins =
       bind_blames L (part c.place (octet_at (Some end) c)) _ (part_free PassesAt c.place _ (octet_at-free (Some end) c)) (λ b e.
       bind_blames L (part c.place (typed_value_at limits (record { wrapped = true; region = Some end; depth = length frames }) b.0 b.1)) _
-      (typed-limited (record { wrapped = true; region = Some end; depth = length frames }) c b.0 b.1 refl reaches (octet_at-taken (Some end) c b (part_ok c.place _ _ e)))
+      (typed-limited (record { wrapped = true; region = Some end; depth = length frames }) c b.0 b.1 refl begins (octet_at-taken (Some end) c b (part_ok c.place _ _ e)))
       (λ v _. record { so = tt }))
 
-  annotated_at-limited : (top : ℕ) (f : Option SymbolAt) (s : Cursor) (b length_code : ℕ) (c : Cursor) → Reaches bytes s → Took (region_of frames) s (b ∷ []) c
+  annotated_at-limited : (top : ℕ) (f : Option SymbolAt) (s : Cursor) (b length_code : ℕ) (c : Cursor) → Next now s → Took (region_of frames) s (b ∷ []) c
       → b ≡ 16 * 14 + length_code → length_code < 15 → Blames L (annotated_at limits frames top f s.place length_code c)
   unfolding annotated_at
-  annotated_at-limited top f s b length_code c reaches first is lt =
+  annotated_at-limited top f s b length_code c next first is lt =
       let r : Region = region_of frames in
       bind_blames L (part s.place (wrapper_at r length_code c)) _ (part_free PassesAt s.place _ (wrapper_at-free r length_code c)) (λ w e.
       let lengths = wrapper_at-taken r length_code c w lt (part_ok s.place _ _ e) in
       let header : Took r s ((b ∷ lengths.head) ++ lengths.len) w.1 = Took-then r s c w.1 (b ∷ []) (lengths.head ++ lengths.len) first lengths.took in
-      let behind : Reaches bytes w.1 = reach bytes r s ((b ∷ lengths.head) ++ lengths.len) w.1 reaches header in
       bind_blames L (ids_at w.0.ids limits w.0.ids 0 w.1) _
       (blames_more (PlacedLimited (OfIds limits w.0.ids 0 w.1)) L _ (ids_at-limited limits w.0.ids w.0.ids 0 w.1 (omega arith))
       (λ fault p k. in_wrapper s ((b ∷ lengths.head) ++ lengths.len) (b ∷ lengths.head) lengths.len (length lengths.len + lengths.ids_length + lengths.rest_length) lengths.ids_length w.0.ids w.1
-      fault.1 fault.0 refl reaches header (rw is lengths.descriptor) lengths.spells (p k)))
-      (λ annotations e.
-      let ids = ids_at-taken w.0.ids limits w.0.ids 0 w.1 annotations (omega arith) e in
-      inner_at-limited top f annotations.0 w.0.end annotations.1 (reach bytes (Some w.0.ids) w.1 ids.octets annotations.1 behind ids.took)))
+      fault.1 fault.0 refl next header (rw is lengths.descriptor) lengths.spells (p k)))
+      (λ annotations e. inner_at-limited top f annotations.0 w.0.end annotations.1
+      (in-wrapper r length_code b s c w annotations.0 annotations.1 is next first lengths (ids_at-taken w.0.ids limits w.0.ids 0 w.1 annotations (omega arith) e))))
     where
-      in_wrapper : (s : Cursor) (header head len : List ℕ) (m n end : ℕ) (c : Cursor) (place : ℕ) (why : Reason) → header ≡ head ++ len → Reaches bytes s
-          → Took (region_of frames) s header c → Descriptor 14 m head → VarUInt n len → OfIds limits end 0 c place why → Passes limits bytes (length frames) place why
-      in_wrapper s header head len m n end c place _ same reaches took descriptor spells (annotation p) =
+      in-wrapper : (r : Region) (length_code b : ℕ) (s after : Cursor) (w : Wrapped × Cursor) (annotations : List SymbolAt) (here : Cursor) → b ≡ 16 * 14 + length_code → Next now s
+          → Took r s (b ∷ []) after → TookWrapper r length_code after w → TookIds w.0.ids w.1 (annotations, here) → Begins now here
+      in-wrapper r length_code b s after w annotations here is next first lengths ids =
+          let took = header_took r length_code b s after w annotations here is first lengths ids in
+          let within = before_end r length_code b s after w annotations here is first lengths ids in
+          let n : ℕ = w.0.end - here.place in
+          record {
+            first = s;
+            next = next;
+            annotations = annotations;
+            n = n;
+            wrapper = header_octets r length_code b s after w annotations here is first lengths ids;
+            before = header_wrapped r length_code b s after w annotations here is first lengths ids n (omega arith) (omega arith);
+            split = took.parts;
+            place_is = took.place;
+          }
+
+      in_wrapper : (s : Cursor) (header head len : List ℕ) (m n end : ℕ) (c : Cursor) (place : ℕ) (why : Reason) → header ≡ head ++ len → Next now s
+          → Took (region_of frames) s header c → Descriptor 14 m head → VarUInt n len → OfIds limits end 0 c place why → Passes limits now place why
+      in_wrapper s header head len m n end c place _ same next took descriptor spells (annotation p) =
           Passes.annotation (record {
             first = s.place;
             size = m;
@@ -326,13 +364,8 @@ module _ (limits : Limits) (bytes : List ℕ) (frames : List Frame) where
             annotations = p.annotations;
             id = p.id;
             octets = p.octets;
-            stands = record {
-              before = reaches.before;
-              rest = p.after.rest;
-              split = reaches.split ∙ ap (λ (l : List ℕ). reaches.before ++ l) (took.parts ∙ ap (λ (l : List ℕ). header ++ l) p.took.parts
-                  ∙ rw same (simp append_assoc));
-              place_is = reaches.place_is;
-            };
+            stands = stand now s (((head ++ len) ++ p.ids) ++ p.octets) p.after.rest next
+                (took.parts ∙ ap (λ (l : List ℕ). header ++ l) p.took.parts ∙ rw same (simp append_assoc));
             descriptor = descriptor;
             ids_length = spells;
             before = subst (λ (q : ℕ). Ids q p.annotations p.ids) (took.place ∙ ap (λ (l : List ℕ). s.place + length l) same) p.before;
@@ -342,22 +375,23 @@ module _ (limits : Limits) (bytes : List ℕ) (frames : List Frame) where
             above = omega (arith, p.above);
           })
 
-  choice-limited : (m : Option ℕ) (top : ℕ) (f : Option SymbolAt) (s : Cursor) (b : ℕ) (c : Cursor) → wrapper_length (shape_of b) ≡ m → Reaches bytes s
+  choice-limited : (m : Option ℕ) (top : ℕ) (f : Option SymbolAt) (s : Cursor) (b : ℕ) (c : Cursor) → wrapper_length (shape_of b) ≡ m → Next now s
       → Took (region_of frames) s (b ∷ []) c
       → Blames L (by_wrapper m (λ length_code. annotated_at limits frames top f s.place length_code c) (plain_at limits frames top f s.place b c))
-  choice-limited None top f s b c is reaches first = plain_at-limited top f s b c reaches first
-  choice-limited (Some length_code) top f s b c is reaches first =
+  choice-limited None top f s b c is next first = plain_at-limited top f s b c next first
+  choice-limited (Some length_code) top f s b c is next first =
       let w = wrapper_is b length_code is in
-      annotated_at-limited top f s b length_code c reaches first w.0 w.1
+      annotated_at-limited top f s b length_code c next first w.0 w.1
 
-  member_at-limited : (top : ℕ) (c : Cursor) → Reaches bytes c → Blames L (member_at limits frames top c)
+  member_at-limited : (top : ℕ) → Blames L (member_at limits frames top now.cursor)
   unfolding member_at value_at
-  member_at-limited top c reaches =
+  member_at-limited top =
+      let c : Cursor = now.cursor in
       bind_blames L (part c.place (field_at frames c)) _ (part_free PassesAt c.place _ (field_at-free frames c)) (λ f e.
       let field = field_at-taken frames c f (part_ok c.place _ _ e) in
-      let behind : Reaches bytes f.1 = reach bytes (region_of frames) c field.octets f.1 reaches field.took in
+      let next : Next now f.1 = record { field = f.0; name = field.octets; field_is = field.spells; split = field.took.parts; place_is = field.took.place } in
       bind_blames L (part f.1.place (octet_at (region_of frames) f.1)) _ (part_free PassesAt f.1.place _ (octet_at-free (region_of frames) f.1)) (λ b e.
-      choice-limited (wrapper_length (shape_of b.0)) (top_of frames top c.place) f.0 f.1 b.0 b.1 refl behind
+      choice-limited (wrapper_length (shape_of b.0)) (top_of frames top c.place) f.0 f.1 b.0 b.1 refl next
       (octet_at-taken (region_of frames) f.1 b (part_ok f.1.place _ _ e))))
 
   -- ---- a step
@@ -365,7 +399,7 @@ module _ (limits : Limits) (bytes : List ℕ) (frames : List Frame) where
   -- it stops at a limit only where that is passed; and its item opens or ends a container where one is opened or ended
   abbrev Right : Step State → Type 0
   Right Ends = Unit {0}
-  Right (Stops why place) = IsLimit why → Passes limits bytes (length frames) place why
+  Right (Stops why place) = IsLimit why → Passes limits now place why
   Right (Gives item after) = (kinds : List Kind) → length kinds ≡ length frames → length (open_after kinds item.head) ≡ length after.frames
   Right (GoesOn after) = length frames ≡ length after.frames
 
@@ -423,70 +457,82 @@ module _ (limits : Limits) (bytes : List ℕ) (frames : List Frame) where
   step_of-right (Ok s) c h = h.so s refl
   step_of-right (Err why) c h = c.so
 
-top_step-right : (limits : Limits) (bytes : List ℕ) (top : ℕ) (c : Cursor) (rest : List ℕ) → Reaches bytes c → Right limits bytes [] (top_step limits top c rest)
-top_step-right limits bytes top c [] reaches = tt
-top_step-right limits bytes top c (b ∷ rest) reaches =
-    step_of-right limits bytes [] (member_at limits [] top c) (member_at-limited limits bytes [] top c reaches) (member_at-leads limits bytes [] top c)
+top_step-right : (limits : Limits) (s : State) (rest : List ℕ) → s.frames ≡ [] → Right limits s (top_step limits s.top s.cursor rest)
+top_step-right limits s [] none = tt
+top_step-right limits s (b ∷ rest) none =
+    subst (λ (frames : List Frame). Right limits s (step_of (member_at limits frames s.top s.cursor))) none
+    (step_of-right limits s (member_at limits s.frames s.top s.cursor) (member_at-limited limits s s.top) (member_at-leads limits s s.top s.cursor))
 
 one_less : (kinds : List Kind) (n : ℕ) → length kinds ≡ suc n → length (drop 1 kinds) ≡ n
 one_less [] n e = absurd (omega (arith, e))
 one_less (k ∷ kinds) n e = omega (arith, e)
 
-step_in-right : (limits : Limits) (bytes : List ℕ) (frames : List Frame) (top : ℕ) (c : Cursor) → Reaches bytes c → Right limits bytes frames (step_in limits frames top c)
-step_in-right limits bytes [] top c reaches = top_step-right limits bytes top c c.rest reaches
-step_in-right limits bytes (f ∷ frames) top c reaches = by_end (nat_le f.end c.place)
+step_in-right : (limits : Limits) (s : State) (frames : List Frame) → s.frames ≡ frames → Right limits s (step_in limits frames s.top s.cursor)
+step_in-right limits s [] e = top_step-right limits s s.cursor.rest e
+step_in-right limits s (f ∷ frames) e = by_end (nat_le f.end s.cursor.place)
   where
-    by_end : (b : Bool) → Right limits bytes (f ∷ frames)
-        (if b then Gives (placed_item top None [] c.place value.end) (record { frames = frames; top = top; cursor = c })
-        else step_of (member_at limits (f ∷ frames) top c))
-    by_end true = λ kinds e. one_less kinds (length frames) e
+    by_end : (b : Bool) → Right limits s
+        (if b then Gives (placed_item s.top None [] s.cursor.place value.end) (record { frames = frames; top = s.top; cursor = s.cursor })
+        else step_of (member_at limits (f ∷ frames) s.top s.cursor))
+    by_end true = λ kinds level. one_less kinds (length frames) (level ∙ ap length e)
     by_end false =
-        step_of-right limits bytes (f ∷ frames) (member_at limits (f ∷ frames) top c) (member_at-limited limits bytes (f ∷ frames) top c reaches)
-        (member_at-leads limits bytes (f ∷ frames) top c)
+        subst (λ (open_ones : List Frame). Right limits s (step_of (member_at limits open_ones s.top s.cursor))) e
+        (step_of-right limits s (member_at limits s.frames s.top s.cursor) (member_at-limited limits s s.top) (member_at-leads limits s s.top s.cursor))
 
-step-right : (limits : Limits) (bytes : List ℕ) (s : State) → Reaches bytes s.cursor → Right limits bytes s.frames (step limits s)
+step-right : (limits : Limits) (s : State) → Right limits s (step limits s)
 unfolding step
-step-right limits bytes s reaches = step_in-right limits bytes s.frames s.top s.cursor reaches
+step-right limits s = step_in-right limits s s.frames refl
 
 -- ---- a reading
 
+open_behind-append : (kinds : List Kind) (items more : List PlacedItem) → open_behind kinds (items ++ more) ≡ open_behind (open_behind kinds items) more
+open_behind-append kinds [] more = refl
+open_behind-append kinds (i ∷ items) more = open_behind-append (open_after kinds i.head) items more
+
 module _ (bodies : Bodies) (limits : Limits) (bytes : List ℕ) (reason : Reason) (place : ℕ) (is : IsLimit reason) where
-  stopped-holds : (frames kinds : ℕ) (why : Reason) (q : ℕ) → (IsLimit why → Passes limits bytes frames q why) → kinds ≡ frames → Stopped why q ≡ Stopped reason place
-      → Passes limits bytes kinds place reason
-  stopped-holds frames kinds why q passes same e =
+  -- what is read before a path, and what is read behind it
+  abbrev ReadTo : Path SymbolAt ℕ → Reading → Type 0
+  ReadTo path r = reading limits bytes ≡ behind (path_items path) r
+
+  abbrev Level : Path SymbolAt ℕ → State → Type 0
+  Level path s = length (open_behind [] (path_items path)) ≡ length s.frames
+
+  next-exact : (path : Path SymbolAt ℕ) (s : State) (x : Step State) (later : State → Reading) → At bytes path s → Level path s → Right limits s x
+      → Follows bytes path s.frames s.cursor x
+      → ((next : Path SymbolAt ℕ) (after : State) → At bytes next after → Level next after → ending_of (later after) ≡ Stopped reason place → ReadTo next (later after)
+      → StopsAtLimit limits bytes reason place)
+      → ending_of (next_reading later x) ≡ Stopped reason place → ReadTo path (next_reading later x) → StopsAtLimit limits bytes reason place
+  next-exact path s Ends later at level right follows h e read = absurd (cc e)
+  next-exact path s (Stops why q) later at level right follows h e read =
       let why_is : why ≡ reason = cc e in
       let place_is : q ≡ place = cc e in
-      rw (same, ← why_is, ← place_is) (passes (rw why_is is))
+      record {
+        path = path;
+        state = s;
+        stands = at;
+        level = level;
+        passes = rw (← why_is, ← place_is) (right (rw why_is is));
+        read = read ∙ ap (behind (path_items path)) e;
+      }
+  next-exact path s (Gives item after) later at level right follows h e read =
+      let items : path_items follows.0 ≡ path_items path ++ item ∷ [] = follows.2 in
+      let opened : Level follows.0 after =
+      ap (λ (l : List PlacedItem). length (open_behind [] l)) items ∙ ap length (open_behind-append [] (path_items path) (item ∷ []))
+      ∙ right (open_behind [] (path_items path)) level
+      in
+      h follows.0 after follows.1 opened e
+      (read ∙ sym (behind-append (path_items path) (item ∷ []) (later after)) ∙ ap (λ (l : List PlacedItem). behind l (later after)) (sym items))
+  next-exact path s (GoesOn after) later at level right follows h e read = h path after follows (level ∙ right) e read
 
-  next-exact : (path : Path SymbolAt ℕ) (s : State) (x : Step State) (later : State → Reading) → Right limits bytes s.frames x → Follows bytes path s.frames s.cursor x
-      → ((next : Path SymbolAt ℕ) (after : State) (kinds : List Kind) (items : List PlacedItem) → At bytes next after → length kinds ≡ length after.frames
-      → later after ≡ behind items (Stopped reason place) → Passes limits bytes (length (open_behind kinds items)) place reason)
-      → (kinds : List Kind) (items : List PlacedItem) → length kinds ≡ length s.frames → next_reading later x ≡ behind items (Stopped reason place)
-      → Passes limits bytes (length (open_behind kinds items)) place reason
-  next-exact path s Ends later right follows h kinds [] level e = absurd (cc e)
-  next-exact path s Ends later right follows h kinds (item ∷ items) level e = absurd (cc e)
-  next-exact path s (Stops why q) later right follows h kinds [] level e = stopped-holds (length s.frames) (length kinds) why q right level e
-  next-exact path s (Stops why q) later right follows h kinds (item ∷ items) level e = absurd (cc e)
-  next-exact path s (Gives first after) later right follows h kinds [] level e = absurd (cc e)
-  next-exact path s (Gives first after) later right follows h kinds (item ∷ items) level e =
-      let same : first ≡ item = cc e in
-      let rest : later after ≡ behind items (Stopped reason place) = cc e in
-      let opened : length (open_after kinds item.head) ≡ length after.frames = ap (λ (i : PlacedItem). length (open_after kinds i.head)) (sym same) ∙ right kinds level in
-      h follows.0 after (open_after kinds item.head) items follows.1 opened rest
-  next-exact path s (GoesOn after) later right follows h kinds items level e = h path after kinds items follows (level ∙ right) e
-
-  steps-exact : (steps : ℕ) (path : Path SymbolAt ℕ) (s : State) (kinds : List Kind) (items : List PlacedItem) → At bytes path s → length kinds ≡ length s.frames
-      → reading_for (step limits) steps s ≡ behind items (Stopped reason place) → Passes limits bytes (length (open_behind kinds items)) place reason
-  steps-exact zero path s kinds [] at level e = absurd (cc e)
-  steps-exact zero path s kinds (item ∷ items) at level e = absurd (cc e)
-  steps-exact (suc steps) path s kinds items at level e =
-      next-exact path s (step limits s) (reading_for (step limits) steps)
-      (step-right limits bytes s (record { before = at.0.before; split = at.0.split; place_is = at.0.place }))
-      (step-follows bodies limits bytes path s at) (steps-exact steps) kinds items level e
+  steps-exact : (steps : ℕ) (path : Path SymbolAt ℕ) (s : State) → At bytes path s → Level path s
+      → ending_of (reading_for (step limits) steps s) ≡ Stopped reason place → ReadTo path (reading_for (step limits) steps s) → StopsAtLimit limits bytes reason place
+  steps-exact zero path s at level e read = absurd (cc e)
+  steps-exact (suc steps) path s at level e read =
+      next-exact path s (step limits s) (reading_for (step limits) steps) at level (step-right limits s) (step-follows bodies limits bytes path s at) (steps-exact steps) e read
 
 -- a reading stops at a limit only where it is passed
 pub exact_limits : Bodies → ExactLimits
 unfolding reading
-exact_limits bodies limits bytes items reason place e is =
-    steps-exact bodies limits bytes reason place is (suc (size (start bytes))) (closed []) (start bytes) [] items
-    (record { before = []; split = refl; place = refl; spells = Spells.top [] [] Tops.nothing }, tt) refl e
+exact_limits bodies limits bytes reason place e is =
+    steps-exact bodies limits bytes reason place is (suc (size (start bytes))) (closed []) (start bytes)
+    (record { before = []; split = refl; place = refl; spells = Spells.top [] [] Tops.nothing }, tt) refl e refl

@@ -127,6 +127,9 @@ Spells-allowed limits _ _ _ (Spells.inside path frames f annotations k ms n b x 
     let l1 : length (b ++ x) ≡ length b + length x = length-append b x in
     let l2 : length (w ++ header) ≡ length w + length header = length-append w header in
     let l3 : length ((b ++ x) ++ (w ++ header)) ≡ length (b ++ x) + length (w ++ header) = length-append (b ++ x) (w ++ header) in
-    let l4 : length (((b ++ x) ++ (w ++ header)) ++ c) ≡ length ((b ++ x) ++ (w ++ header)) + length c = length-append ((b ++ x) ++ (w ++ header)) c in
-    (Spells-allowed limits path frames b spells (omega arith) (omega arith), omega arith, omega arith,
-    Inside-allowed limits (suc (length frames)) k (length ((b ++ x) ++ (w ++ header))) ms c inside (omega arith) (omega arith))
+    let l4 : length (((b ++ x) ++ (w ++ header)) ++ c) ≡ length ((b ++ x) ++ (w ++ header)) + length c = length-append ((b ++ x) ++ (w ++ header)) c in (
+      Spells-allowed limits path frames b spells (omega arith) (omega arith),
+      omega arith,
+      omega arith,
+      Inside-allowed limits (suc (length frames)) k (length ((b ++ x) ++ (w ++ header))) ms c inside (omega arith) (omega arith),
+    )

@@ -49,3 +49,4 @@ mod ReaderParts
 mod ShortInts
 mod RawStreams
 mod ShortValues
+mod NumbersFit

@@ -1,13 +1,12 @@
 -- Symbols that are given ids one after the other, and octets that are put as long as they fit.
-use Rattle.std.proofs.Common.{◌≡◌, ℕ, zero, suc, ◌+◌, ◌<◌, ◌≤◌, Bool, true, false, nat_lt, if◌then◌else◌, List, [], ◌∷◌, ◌++◌, length, take, drop, Option, Some, None, option_map, Result, Ok, Err, OnOk, IfErr, refl, ap, ap₂, sym, subst, ◌∙◌, append_assoc, append-nil, length-append, arith}
+use Rattle.std.proofs.Common.{◌≡◌, ℕ, zero, suc, ◌+◌, ◌<◌, ◌≤◌, Bool, true, false, nat_lt, if◌then◌else◌, List, [], ◌∷◌, ◌++◌, length, take, drop, Option, Some, None, option_map, Result, Ok, Err, OnOk, refl, ap, ap₂, sym, subst, ◌∙◌, append_assoc, append-nil, length-append, arith}
 use Rattle.std.specs.Prelude.{slice_get}
-use Rattle.std.proofs.lemmas.Bool.{false≢true, lt-ltb, le-ltb}
+use Rattle.std.proofs.lemmas.Bool.{lt-ltb, le-ltb}
 use Rattle.std.proofs.lemmas.List.{map-append, take-append-drop}
 use Rattle.std.proofs.lemmas.List.Concat.{flat_map-append}
 use Rattle.ion_meter.specs.Counts.{Counts}
 use Rattle.ion_meter.specs.declared.fault.Fault.{Fault}
-use Rattle.ion_meter.specs.declared.fault.Fault.TheVariants.{Refused, Memory, ReadFault, WriteFault, InputLimit}
-use Rattle.ion_meter.specs.declared.fault.Reason.{Reason}
+use Rattle.ion_meter.specs.declared.fault.Fault.TheVariants.{Refused}
 use Rattle.ion_meter.specs.declared.fault.Reason.TheVariants.{SymbolLimit}
 use Rattle.ion_value.specs.Number.{var_uint_octets}
 use Rattle.ion_value.specs.Shares.{Charges, MemoryCauses, WriteCauses, fault_of}
@@ -82,21 +81,7 @@ no_fault m x = record { memory = λ e. absurd (cc e); counted = λ e. refl }
 no_device_fault : {T : Type 0} (x : T) (n : ℕ) → WriteCauses (fault_of {T = T} (Ok x)) n n
 no_device_fault x n = record { device = λ e. absurd (cc e); steady = λ e. refl; no_reads = λ e. absurd (cc e); no_limit = λ e. absurd (cc e) }
 
--- none
-pub numbers-none : {T : Type 0} (most : ℕ) (n : Numbering) (x : T) → CanNumber most n → Numbers {T = T} most n n (Ok x) []
-numbers-none most n x can = record {
-  texts = refl;
-  allowed = refl;
-  refuses = λ r p e. absurd (cc e);
-  limit = refl;
-  share = can.share;
-  within = can.within;
-  charges = no_charge n.meter (held_by n) (n.symbols.limit + most) (omega (arith, can.share, can.within)) can.held;
-  memory = no_fault n.meter x;
-  no_device = no_device_fault x;
-}
-
--- some, and then others
+-- symbols, and then others
 pub numbers-then : {T U : Type 0} {most : ℕ} {a b c : Numbering} {x : T} {first : Result T Fault} {result : Result U Fault} (ss ts : List SymbolAt)
     → CanNumber most a → first ≡ Ok x → Numbers {T = T} most a b first ss → Numbers {T = U} most b c result ts → Numbers {T = U} most a c result (ss ++ ts)
 numbers-then {T} {U} {most} {a} {b} {c} {x} {first} {result} ss ts can e p0 q =
@@ -255,21 +240,6 @@ numbers-over o p a b t s place e at share given limit charges steady =
       no_device = λ n. record { device = λ k. absurd (cc k); steady = λ k. refl; no_reads = λ k. absurd (cc k); no_limit = λ k. absurd (cc k) };
     }
 
--- one for whose text there is no memory
-pub numbers-memory : (o p : Output) (a b : Counts) (s : SymbolAt) → p.limit ≡ o.limit → Charges a b (texts_cost o.texts) (texts_cost p.texts) o.limit → b.refused ≡ a.refused + 1
-    → Numbers {T = ℕ} 0 (numbering o [] a) (numbering p [] b) (Err Memory) (s ∷ [])
-numbers-memory o p a b s limit charges counted = record {
-  texts = _;
-  allowed = _;
-  refuses = λ r q k. absurd (cc k);
-  limit = limit;
-  share = charges.share;
-  within = omega arith;
-  charges = bare_charges a b (texts_cost o.texts) (texts_cost p.texts) o.limit charges;
-  memory = record { memory = λ k. omega (arith, counted); counted = λ k. absurd (k refl) };
-  no_device = λ n. record { device = λ k. absurd (cc k); steady = λ k. refl; no_reads = λ k. absurd (cc k); no_limit = λ k. absurd (cc k) };
-}
-
 -- beside octets that stay
 beside_charges : (a b : Counts) (k l limit most n : ℕ) → n ≤ most → k + n ≤ a.held → Charges a b (k + length {A = ℕ} []) (l + length {A = ℕ} []) (limit + 0) → Charges a b (k + n) (l + n) (limit + most)
 beside_charges a b k l limit most n within held c = record {
@@ -295,67 +265,6 @@ numbers-beside {T} {most} {o} {p} {a} {b} {result} {ss} octets can n = record {
 
 -- ---- octets that are put behind others
 
--- no symbol more
-put_charges : (a b : Counts) (k m n limit most : ℕ) → k ≤ limit → k + m ≤ a.held → m ≤ most → Charges a b m n most → Charges a b (k + m) (k + n) (limit + most)
-put_charges a b k m n limit most share held within c = record {
-  held = omega (arith, c.held);
-  share = omega (arith, c.share, share);
-  peak = omega (arith, c.peak, share, held, within);
-  rises = c.rises;
-}
-
-always_ok : {T E : Type 0} {P : Type 0} (result : Result T E) → P → OnOk result P
-always_ok (Ok x) p = p
-always_ok (Err e) p = tt
-
-not_refused : {T : Type 0} (result : Result T Fault) (r : Reason) (p : ℕ) → IfErr result (λ f. f ≡ Memory) → result ≡ Err (Refused r p) → ⊥
-not_refused (Ok x) r p h e = absurd (cc e)
-not_refused (Err f) r p h e =
-    let g : f ≡ Refused r p = cc e in
-    let k : Memory ≡ Refused r p = sym h ∙ g in
-    absurd (cc k)
-
-only_memory : {T : Type 0} (result : Result T Fault) (n : ℕ) → IfErr result (λ f. f ≡ Memory) → WriteCauses (fault_of result) n n
-only_memory (Ok x) n h = no_device_fault x n
-only_memory (Err f) n h = record {
-  device = λ k. let g : Memory ≡ WriteFault = sym h ∙ cc k in absurd (cc g);
-  steady = λ k. refl;
-  no_reads = λ k. let g : Memory ≡ ReadFault = sym h ∙ cc k in absurd (cc g);
-  no_limit = λ k. let g : Memory ≡ InputLimit = sym h ∙ cc k in absurd (cc g);
-}
-
-pub numbers-of_put : {T : Type 0} {most : ℕ} {o : Output} {a b : Counts} {octets more : List ℕ} {result : Result T Fault}
-    → CanNumber most (numbering o octets a) → Charges a b (length octets) (length more) most → MemoryCauses (fault_of result) a b → IfErr result (λ f. f ≡ Memory)
-    → Numbers {T = T} most (numbering o octets a) (numbering o more b) result []
-numbers-of_put {T} {most} {o} {a} {b} {octets} {more} {result} can charges memory fault = record {
-  texts = always_ok result refl;
-  allowed = always_ok result refl;
-  refuses = λ r p e. absurd (not_refused result r p fault e);
-  limit = refl;
-  share = can.share;
-  within = charges.share;
-  charges = put_charges a b (texts_cost o.texts) (length octets) (length more) o.limit most can.share can.held can.within charges;
-  memory = memory;
-  no_device = λ n. only_memory result n fault;
-}
-
--- a symbol is given its id, and this is put
-pub numbers-put : {T : Type 0} {most : ℕ} {o p : Output} {a b c : Counts} {octets more : List ℕ} {id : ℕ} {first : Result ℕ Fault} {result : Result T Fault} (ss : List SymbolAt)
-    → CanNumber most (numbering o octets a) → first ≡ Ok id → Numbers {T = ℕ} 0 (numbering o [] a) (numbering p [] b) first ss
-    → Charges b c (length octets) (length more) most → MemoryCauses (fault_of result) b c → IfErr result (λ f. f ≡ Memory)
-    → Numbers {T = T} most (numbering o octets a) (numbering p more c) result ss
-numbers-put {T} {most} {o} {p} {a} {b} {c} {octets} {more} {id} {first} {result} ss can e given charges memory fault =
-    let beside : Numbers {T = ℕ} most (numbering o octets a) (numbering p octets b) first ss = numbers-beside octets can given in
-    let put : Numbers {T = T} most (numbering p octets b) (numbering p more c) result [] = numbers-of_put (can-then can e beside) charges memory fault in
-    numbers-as (numbers-then ss [] can e beside put) (append-nil ss)
-
--- nothing
-pub puts-none : (most : ℕ) (before : Bool) (octets : List ℕ) → PutsWithin most before before octets octets []
-puts-none most before octets = record {
-  there = λ e. (e, sym (append-nil octets));
-  over = λ e f. absurd (false≢true (sym e ∙ f));
-}
-
 over-both : (most : ℕ) (before between after : Bool) (x y z xs ys : List ℕ) → PutsWithin most before between x y xs → PutsWithin most between after y z ys
     → after ≡ false → before ≡ true → most < length x + length (xs ++ ys)
 over-both most before true after x y z xs ys p q e f =
@@ -366,7 +275,7 @@ over-both most before false after x y z xs ys p q e f =
     let past : most < length x + length xs = p.over refl f in
     omega (arith, past, length-append xs ys)
 
--- some, and then others
+-- symbols, and then others
 pub puts-then : {most : ℕ} {before between after : Bool} {x y z xs ys : List ℕ} → PutsWithin most before between x y xs → PutsWithin most between after y z ys → PutsWithin most before after x z (xs ++ ys)
 puts-then {most} {before} {between} {after} {x} {y} {z} {xs} {ys} p q = record {
   there = λ e.

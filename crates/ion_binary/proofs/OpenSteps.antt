@@ -1,11 +1,10 @@
 -- The headers that are missing stay right as one goes in, and as containers begin and values come.
-use Rattle.std.proofs.Common.{◌≡◌, ℕ, suc, ◌+◌, ◌-◌, ◌*◌, ◌^◌, ◌<◌, ◌≤◌, inl, inr, Bool, if◌then◌else◌, List, [], ◌∷◌, ◌++◌, length, map, take, drop, get_or, Option, None, refl, ap, sym, subst, ◌∙◌, arith, append_assoc, length-append, ne_eqb, suc-mul, lit<}
+use Rattle.std.proofs.Common.{◌≡◌, ℕ, suc, ◌+◌, ◌-◌, ◌*◌, ◌^◌, ◌<◌, ◌≤◌, inl, inr, Bool, if◌then◌else◌, List, [], ◌∷◌, ◌++◌, length, map, take, drop, get_or, None, refl, ap, sym, subst, ◌∙◌, arith, append_assoc, length-append, ne_eqb, suc-mul}
 use Rattle.std.specs.List.{AllByRecursion}
 use Rattle.std.proofs.lemmas.Bool.{cases_lt}
 use Rattle.std.proofs.lemmas.List.{length-take-le, length-drop}
 use Rattle.ion_meter.specs.Counts.{Counts, Grows, Shrinks}
 use Rattle.ion_meter.specs.Limits.{AreChecked}
-use Rattle.ion_meter.specs.declared.fault.Fault.{Fault}
 use Rattle.ion_meter.specs.declared.limits.Limits.{Limits}
 use Rattle.ion_value.specs.Number.{var_uint_octets}
 use Rattle.ion_value.specs.Shares.{Charges}
@@ -78,31 +77,6 @@ can-step-again limits v w before after c s = record {
   countable = let e = s.memory.counted (λ e. absurd (Prim.cc e)) in let r = c.countable in omega (arith, e, r);
 }
 
--- two steps, one after the other
-pub stepped-then : {A : Type 0} (limits : Limits) (u v w : OpenValue A) (m n o : Counts) (fault : Option Fault)
-    → CanStep limits u m → Stepped limits u v m n None → Stepped limits v w n o fault → Stepped limits u w m o fault
-stepped-then limits u v w m n o fault c s t =
-    let same : n.refused ≡ m.refused = s.memory.counted (λ e. absurd (Prim.cc e)) in
-    record {
-      within = t.within;
-      memory = record {
-        memory = λ e. let r = t.memory.memory e in omega (arith, r, same);
-        counted = λ e. let r = t.memory.counted e in omega (arith, r, same);
-      };
-      alone = t.alone;
-      charges = record {
-        held = let a = s.charges.held in let b = t.charges.held in omega (arith, a, b);
-        share = t.charges.share;
-        peak =
-            let a = s.charges.peak in
-            let b = t.charges.peak in
-            let h = s.charges.held in
-            let r = c.held in
-            omega (arith, a, b, h, r);
-        rises = let a = s.charges.rises in let b = t.charges.rises in omega (arith, a, b);
-      };
-    }
-
 -- something is given back, and then something grows
 pub shrink-grow : (m n o : Counts) (less more before after most : ℕ) → Shrinks m n less → Grows n o more → before + more ≡ after + less → before ≤ m.held → after ≤ most
     → Charges m o before after most
@@ -131,9 +105,6 @@ counted-small ns n hs r few short =
 pub size-counted : (ns : List ℕ) (n : ℕ) (hs : List HeaderPlace) → IsCounted ns n hs → ArePlaced n hs → length hs ≤ 2 ^ 20 → n ≤ 2 ^ 32
     → closed_length n (map place_of_header hs) ≡ counted_length ns n hs
 size-counted ns n hs i p few short = closed-counted ns n hs i p (counted-small ns n hs i.reached few short)
-
-pub more-closed : (n : ℕ) (hs : List HeaderPlace) → n ≤ closed_length n (map place_of_header hs)
-more-closed n hs = omega arith
 
 -- ---- a scalar comes
 
@@ -221,11 +192,6 @@ begun-placed (a ∷ d) place n h hs p le more = (le, (more, p))
 pub begun-few : (d : List ℕ) (place : ℕ) (hs : List HeaderPlace) → length (wrapper_headers d place ++ hs) ≤ suc (length hs)
 begun-few [] place hs = omega arith
 begun-few (a ∷ d) place hs = omega arith
-
-pub begun-codes : (d : List ℕ) (place : ℕ) (h : HeaderPlace) (hs : List HeaderPlace) → h.code < 16 → AllByRecursion (λ g. g.code < 16) hs
-    → AllByRecursion (λ g. g.code < 16) (h ∷ (wrapper_headers d place ++ hs))
-begun-codes [] place h hs small codes = (small, codes)
-begun-codes (a ∷ d) place h hs small codes = (small, (lit< tt, codes))
 
 -- no octet goes away as a container begins
 pub begun-more : (place : ℕ) (o : List ℕ) → place ≤ length o → length o ≤ length (begun_at place o)

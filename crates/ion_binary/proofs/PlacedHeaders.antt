@@ -142,13 +142,6 @@ pub sizes-among : (ns : List ℕ) (k : ℕ) → sizes_of ns k ≡ k + among ns k
 sizes-among ns zero = let r = among-none ns in omega (arith, r)
 sizes-among ns (suc k) = let r = sizes-among ns k in let s = among-suc ns k in omega (arith, r, s)
 
-among-within : (ns : List ℕ) (k : ℕ) → among ns k ≤ sum ns
-among-within [] k = omega arith
-among-within (n ∷ ns) k =
-    let r = among-within ns k in
-    let s : sum (n ∷ ns) ≡ n + sum ns = sum_by-cons (λ i. i) n ns in
-    omega (arith, r, s)
-
 pub among-all : (ns ts xs : List ℕ) → AreSettled ns ts xs → among ns (length xs) ≡ sum ns
 among-all [] [] xs h = refl
 among-all [] (t ∷ ts) xs h = absurd h

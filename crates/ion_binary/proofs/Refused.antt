@@ -1,13 +1,14 @@
--- Where a reading stops, and not at a limit, the bytes are no stream.
-use Rattle.std.proofs.Common.{◌≡◌, ℕ, ◌+◌, ◌*◌, inl, inr, List, ◌++◌, length, sym, ap, ◌∙◌, arith}
+-- Where a reading stops, and not at a limit, the bytes are no stream; and a stream that passes no limit is read to its end.
+use Rattle.std.proofs.Common.{◌≡◌, ℕ, ◌+◌, ◌*◌, inl, inr, List, ◌++◌, length, refl, sym, ap, ◌∙◌, arith}
 use Rattle.ion_meter.specs.declared.fault.Reason.{Reason}
 use Rattle.ion_meter.specs.declared.limits.Limits.{Limits}
 use Rattle.ion_value.specs.Value.{PlacedItem, top_items}
 use Rattle.ion_value.specs.Reading.{Reading, Finished, Stopped, items_of, behind}
 use Rattle.ion_value.specs.ReadingLaws.{ending_of, IsLimit}
 use Rattle.ion_value.proofs.ReadingLaws.{ending_of-behind}
-use Rattle.ion_binary.specs.Laws.{Bodies, IsCut, here, later, RightlyRefused, NoStreamBegins}
+use Rattle.ion_binary.specs.Laws.{Bodies, IsCut, here, later, RightlyRefused, NoStreamBegins, WithinLimitsAreRead}
 use Rattle.ion_binary.specs.Reading.{reading}
+use Rattle.ion_binary.proofs.ExactLimits.{exact_limits}
 use Rattle.ion_binary.proofs.Narrow.{narrow}
 use Rattle.ion_binary.proofs.Stable.{stable}
 use Rattle.ion_binary.proofs.Complete.{Shrinking, streams}
@@ -17,15 +18,35 @@ cut-limit : (r s : Reading) → IsCut r s → (reason : Reason) (place : ℕ) �
 cut-limit _ _ (here why q s is) reason place e = let same : why ≡ reason = cc e in rw (← same) is
 cut-limit _ _ (later item r s cut) reason place e = cut-limit r s cut reason place e
 
+-- and so it ends
+cut-ends : (r s : Reading) → IsCut r s → (reason : Reason) × (place : ℕ) × IsLimit reason × (ending_of r ≡ Stopped reason place)
+cut-ends _ _ (here why q s is) = (why, q, is, refl)
+cut-ends _ _ (later item r s cut) = cut-ends r s cut
+
+-- limits that allow the bytes, and whatever these limits do
+abbrev wider : Limits → List ℕ → Limits
+wider limits bytes = record { depth = limits.depth + length bytes; scalar = limits.scalar + 16 * length bytes; symbols = 0; value = 0; input = 0 }
+
 pub rightly_refused : Bodies → Shrinking → RightlyRefused
 rightly_refused bodies shrinks limits bytes reason place ts stops no_limit stream =
-    let wide : Limits = record { depth = limits.depth + length bytes; scalar = limits.scalar + 16 * length bytes; symbols = 0; value = 0; input = 0 } in
+    let wide : Limits = wider limits bytes in
     let read = streams bodies shrinks wide bytes ts (omega arith, omega arith) stream.spells in
     elim (narrow limits wide bytes (record { depth = omega arith; scalar = omega arith })) [
       | inl same ↦
           let ends : Stopped reason place ≡ Finished = sym stops ∙ ap ending_of (same ∙ read) ∙ ending_of-behind (top_items ts) Finished in
           absurd (cc ends)
       | inr cut ↦ no_limit (cut-limit _ _ cut reason place stops)
+    ]
+
+pub streams_within_limits : Bodies → Shrinking → WithinLimitsAreRead
+streams_within_limits bodies shrinks limits bytes tops stream none =
+    let wide : Limits = wider limits bytes in
+    elim (narrow limits wide bytes (record { depth = omega arith; scalar = omega arith })) [
+      | inl same ↦ same ∙ streams bodies shrinks wide bytes tops (omega arith, omega arith) stream.spells
+      | inr cut ↦
+          let ends = cut-ends _ _ cut in
+          let stop = exact_limits bodies limits bytes ends.0 ends.1 ends.3 ends.2 in
+          absurd (none stop.path stop.state ends.0 ends.1 stop.stands stop.passes)
     ]
 
 -- a reading is its items, and then how it ends

@@ -14,6 +14,7 @@ use Rattle.ion_value.specs.Timestamp.{fields_cut, timestamp_of_bytes, local_of}
 use Rattle.ion_value.specs.Value as value
 use Rattle.ion_value.specs.Value.{SymbolAt, Head, PlacedItem, whole, begin, end, marker}
 use Rattle.ion_value.specs.Reading.{Reading, Finished, Stopped, behind}
+use Rattle.ion_value.specs.ReadingLaws.{ending_of}
 use Rattle.ion_binary.specs.Descriptor.{octet_at, var_at, var_uint_at, length_at, shape_of}
 use Rattle.ion_binary.specs.Positions.{symbol_id}
 use Rattle.ion_binary.specs.Reading.{marker_at, bare_at, nop_pad_at, body_at, scalar_at, begin_at, container_at, sorted_at, read_by_descriptor, typed_value_at, wrapper_at, ids_at, placed_item, plain_at, inner_at, annotated_at, value_at, member_at, step, reading}
@@ -299,6 +300,24 @@ annotation_at_limit = refl
 second_annotation_past_limit : read_behind one_annotation (0xE4 ∷ 0x82 ∷ 0x84 ∷ 0x85 ∷ 0x11 ∷ []) ≡ behind (first ∷ []) (Stopped Reason.AnnotationLimit 7)
 unfolding read
 second_annotation_past_limit = refl
+
+-- the declaration of `a`, which is read within two containers and 16 octets, and no fewer of each
+abbrev declared : ℕ → ℕ → Reading
+declared depth scalar =
+    ending_of (read_behind (record { depth = depth; scalar = scalar; symbols = 1048576; value = 16777216; input = 281474976710656 })
+    (0xEA ∷ 0x81 ∷ 0x83 ∷ 0xD7 ∷ 0x86 ∷ 0x71 ∷ 0x03 ∷ 0x87 ∷ 0xB2 ∷ 0x81 ∷ 0x61 ∷ []))
+
+declaration_within_limits : declared 2 16 ≡ Finished
+unfolding read
+declaration_within_limits = refl
+
+declaration_past_depth : declared 1 16 ≡ Stopped Reason.DepthLimit 12
+unfolding read
+declaration_past_depth = refl
+
+declaration_past_annotations : declared 2 15 ≡ Stopped Reason.AnnotationLimit 6
+unfolding read
+declaration_past_annotations = refl
 
 overrun_before_depth : read_behind shallow (0xB1 ∷ 0xB1 ∷ []) ≡ behind (first ∷ at 4 4 None [] (begin kind.List) ∷ []) (Stopped Reason.Overrun 5)
 unfolding read

@@ -74,11 +74,16 @@ short-behind limits checked texts (tree first annotations place x ∷ ts) w =
     let value = w.1 in
     let behind : texts_cost (drop (length kept) all) ≤ texts_cost all = cost-drop (length kept) all in
     let new : List (List ℕ) = drop (length kept) all in
-    let few : length all ≤ texts_cost all = few-texts all in
-    (declaration-by new (is_none_left new) refl (omega (arith, behind, cost, most)),
-    (omega (arith, value, size),
-    (omega (arith, few, cost, most),
-    short-behind limits checked all ts w.2)))
+    let few : length all ≤ texts_cost all = few-texts all in (
+      declaration-by new (is_none_left new) refl (omega (arith, behind, cost, most)),
+      (
+        omega (arith, value, size),
+        (
+          omega (arith, few, cost, most),
+          short-behind limits checked all ts w.2,
+        ),
+      ),
+    )
 
 pub what_is_within_is_short : WhatIsWithinIsShort
 what_is_within_is_short limits tops checked w = short-behind limits checked [] tops w

@@ -250,20 +250,20 @@ module _ (r : Region) (length_code b : ℕ) (start after : Cursor) (w : Wrapped 
   ids_place : here.place ≡ w.0.ids
   ids_place = let below : here.place ≤ w.0.ids = ids.took.inside (omega (arith, lengths.ids_end)) in omega (arith, ids.all)
 
-  header_octets : List ℕ
+  pub header_octets : List ℕ
   header_octets = ((b ∷ lengths.head) ++ lengths.len) ++ ids.octets
 
-  before_end : here.place ≤ w.0.end
+  pub before_end : here.place ≤ w.0.end
   before_end = omega (arith, ids_place, lengths.end)
 
-  header_took : Took r start header_octets here
+  pub header_took : Took r start header_octets here
   unfolding header_octets
   header_took =
       let one : Took r start (b ∷ (lengths.head ++ lengths.len)) w.1 = Took-then r start after w.1 (b ∷ []) (lengths.head ++ lengths.len) first lengths.took in
       let two : Took r w.1 ids.octets here = Took-wide r w.0.ids w.1 ids.octets here ids.took (omega (arith, lengths.ids_end)) (InRegion-below r w.0.ids w.0.end lengths.inside (omega (arith, lengths.end))) in
       Took-then r start w.1 here (b ∷ (lengths.head ++ lengths.len)) ids.octets one two
 
-  header_wrapped : (n : ℕ) → here.place + n ≤ w.0.end → w.0.end ≤ here.place + n → Annotated start.place annotations n header_octets
+  pub header_wrapped : (n : ℕ) → here.place + n ≤ w.0.end → w.0.end ≤ here.place + n → Annotated start.place annotations n header_octets
   unfolding header_octets
   header_wrapped n le ge =
       let size : lengths.ids_length ≡ length ids.octets = omega (arith, lengths.ids_end, ids.took.place, ids_place) in

@@ -238,10 +238,6 @@ pub on-ok-const : {T E P : Type 0} (r : Result T E) → P → OnOk r P
 on-ok-const (Ok x) p = p
 on-ok-const (Err f) p = tt
 
-pub on-ok-map : {T E P Q : Type 0} (r : Result T E) → (P → Q) → OnOk r P → OnOk r Q
-on-ok-map (Ok x) f p = f p
-on-ok-map (Err g) f p = tt
-
 pub puts-octets : {O T : Type 0} (device : OutputOf O) (s u : Outgoing O) (result : Result T Fault) (octets : List ℕ) → (s.fault ≡ None → IsPut device s u result octets)
     → OnOk result (s.fault ≡ None) → ((f : Fault) → s.fault ≡ Some f → u ≡ s) → PutsOctets device s u result octets
 puts-octets device s u (Ok x) octets put well passed = record { whole = (put well).whole; well = λ e. (put e).well; part = λ e. (put e).part; passed = passed }

@@ -129,7 +129,6 @@ int-Plain false i e range short =
     headed-Plain (value.int i) 2 (value.int i) (uint_octets i.magnitude) (Body.positive i (uint_octets i.magnitude) e (sym (uint-back i.magnitude)) range) short
     (λ limits least fits. omega (arith, least, int-short i range))
 
-
 symbol-Body : (n : ℕ) → n < 2 ^ 31 → Body 7 (value.symbol (Id n)) (uint_octets n)
 symbol-Body n small =
     let P : ℕ → Type 0 = λ k. Body 7 (value.symbol (Id k)) (uint_octets n) in

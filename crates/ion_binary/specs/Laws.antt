@@ -1,5 +1,5 @@
 -- What is true of the grammar and the reading: laws that contracts cite.
-use Rattle.std.specs.Prelude.{◌≡◌, ◌≢◌, ℕ, ◌+◌, ◌*◌, ◌<◌, ◌≤◌, ◌⊎◌, List, [], ◌++◌, length, Ok}
+use Rattle.std.specs.Prelude.{◌≡◌, ◌≢◌, ℕ, ◌+◌, ◌*◌, ◌<◌, ◌≤◌, ◌⊎◌, List, [], ◌++◌, length, Option, Ok}
 use Rattle.std.specs.List.{AllByRecursion}
 use Rattle.ion_meter.specs.declared.fault.Reason.{Reason}
 use Rattle.ion_meter.specs.declared.fault.Reason.TheVariants.{Truncated, DepthLimit, ScalarLimit, AnnotationLimit}
@@ -14,8 +14,8 @@ use Rattle.ion_value.specs.Reading.{Reading, Finished, Stopped, Shrinks, items_o
 use Rattle.ion_value.specs.ReadingLaws.{ending_of, IsLimit, Allows, AreWithin, IsBegun}
 use Rattle.ion_value.specs.Writable.{AreBytes, IsRaw}
 use Rattle.ion_binary.specs.Bodies.{IsBodyTypeCode}
-use Rattle.ion_binary.specs.Grammar.{Descriptor, Body, Ids, Header, Tops, Stream}
-use Rattle.ion_binary.specs.Paths.{IsPath, At, Follows}
+use Rattle.ion_binary.specs.Grammar.{Descriptor, Body, Ids, Header, Annotated, Tops, Stream}
+use Rattle.ion_binary.specs.Paths.{FieldIn, IsPath, At, Follows}
 use Rattle.ion_binary.specs.Positions.{State}
 use Rattle.ion_binary.specs.Reading.{step, size, reading}
 
@@ -99,15 +99,27 @@ NoStreamBegins =
     → ending_of (reading limits bytes) ≡ Stopped reason place → (IsLimit reason → ⊥) → reason ≢ Truncated
     → Stream (bytes ++ more) ts → ⊥
 
--- these octets stand at a place of the bytes
-pub record StandAt (bytes : List ℕ) (place : ℕ) (x : List ℕ) : Type 0 where
-  pub before : List ℕ
+-- these octets stand next at a state, at a place: behind the field of a member, where it has one
+pub record StandNext (s : State) (place : ℕ) (x : List ℕ) : Type 0 where
+  pub field : Option SymbolAt
+  pub name : List ℕ
   pub rest : List ℕ
-  pub split : bytes ≡ before ++ (x ++ rest)
-  pub place_is : place ≡ length before
+  pub field_is : FieldIn s.frames s.cursor.place field name
+  pub split : s.cursor.rest ≡ name ++ (x ++ rest)
+  pub place_is : place ≡ s.cursor.place + length name
 
--- an annotation of a wrapper that begins at a place, behind others: the first with which they cost more than the limit
-pub record PassesLimit (limits : Limits) (bytes : List ℕ) (place : ℕ) : Type 0 where
+-- these begin the next value: behind the header of a wrapper, where it has one
+pub record BeginNext (s : State) (place : ℕ) (x : List ℕ) : Type 0 where
+  pub first : ℕ
+  pub annotations : List SymbolAt
+  pub n : ℕ
+  pub wrapper : List ℕ
+  pub stand : StandNext s first (wrapper ++ x)
+  pub before : Annotated first annotations n wrapper
+  pub place_is : place ≡ first + length wrapper
+
+-- an annotation of the next wrapper, behind others: the first with which they cost more than the limit
+pub record PassesLimit (limits : Limits) (s : State) (place : ℕ) : Type 0 where
   pub first : ℕ
   pub size : ℕ
   pub ids_size : ℕ
@@ -117,7 +129,7 @@ pub record PassesLimit (limits : Limits) (bytes : List ℕ) (place : ℕ) : Type
   pub annotations : List SymbolAt
   pub id : ℕ
   pub octets : List ℕ
-  pub stands : StandAt bytes first (((head ++ len) ++ ids) ++ octets)
+  pub stands : StandNext s first (((head ++ len) ++ ids) ++ octets)
   pub descriptor : Descriptor 14 size head
   pub ids_length : VarUInt ids_size len
   pub before : Ids (first + length (head ++ len)) annotations ids
@@ -126,18 +138,33 @@ pub record PassesLimit (limits : Limits) (bytes : List ℕ) (place : ℕ) : Type
   pub within : 16 * length annotations ≤ limits.scalar
   pub above : limits.scalar < 16 * (length annotations + 1)
 
--- a limit is passed at a place, where so many containers are open: by the header of one more, by the descriptor of a scalar that announces a
--- longer body, or by an annotation
-pub data Passes (limits : Limits) (bytes : List ℕ) (depth place : ℕ) : Reason → Type 0 where
-  container : (k : Kind) (n : ℕ) (header : List ℕ) → StandAt bytes place header → Header k n header → limits.depth ≤ depth
-      → Passes limits bytes depth place DepthLimit
-  body : (t n : ℕ) (head : List ℕ) → StandAt bytes place head → Descriptor t n head → IsBodyTypeCode t → limits.scalar < n
-      → Passes limits bytes depth place ScalarLimit
-  annotation : PassesLimit limits bytes place → Passes limits bytes depth place AnnotationLimit
+-- a limit is passed where a reading stands, at a place of the next value: by the header of one more container, by the descriptor of a
+-- scalar that announces a longer body, or by an annotation
+pub data Passes (limits : Limits) (s : State) (place : ℕ) : Reason → Type 0 where
+  container : (k : Kind) (n : ℕ) (header : List ℕ) → BeginNext s place header → Header k n header → limits.depth ≤ length s.frames
+      → Passes limits s place DepthLimit
+  body : (t n : ℕ) (head : List ℕ) → BeginNext s place head → Descriptor t n head → IsBodyTypeCode t → limits.scalar < n
+      → Passes limits s place ScalarLimit
+  annotation : PassesLimit limits s place → Passes limits s place AnnotationLimit
+
+-- a reading stops behind a path, where so many containers are open, since a limit is passed there
+pub record StopsAtLimit (limits : Limits) (bytes : List ℕ) (reason : Reason) (place : ℕ) : Type 0 where
+  pub path : Path SymbolAt ℕ
+  pub state : State
+  pub stands : At bytes path state
+  pub level : length (open_behind [] (path_items path)) ≡ length state.frames
+  pub passes : Passes limits state place reason
+  pub read : reading limits bytes ≡ behind (path_items path) (Stopped reason place)
 
 -- a reading stops at a limit only where it is passed
 abbrev pub ExactLimits : Type 0
 ExactLimits =
-    (limits : Limits) (bytes : List ℕ) (items : List PlacedItem) (reason : Reason) (place : ℕ)
-    → reading limits bytes ≡ behind items (Stopped reason place) → IsLimit reason
-    → Passes limits bytes (length (open_behind [] items)) place reason
+    (limits : Limits) (bytes : List ℕ) (reason : Reason) (place : ℕ)
+    → ending_of (reading limits bytes) ≡ Stopped reason place → IsLimit reason → StopsAtLimit limits bytes reason place
+
+-- a stream that passes no limit at any place is read to its end
+abbrev pub WithinLimitsAreRead : Type 0
+WithinLimitsAreRead =
+    (limits : Limits) (bytes : List ℕ) (tops : List (Top SymbolAt ℕ)) → Stream bytes tops
+    → ((path : Path SymbolAt ℕ) (s : State) (reason : Reason) (place : ℕ) → At bytes path s → Passes limits s place reason → ⊥)
+    → reading limits bytes ≡ behind (path_items (closed tops)) Finished

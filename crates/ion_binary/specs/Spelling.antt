@@ -101,7 +101,8 @@ AreShort limit texts (tree first annotations place x ∷ ts) =
 
 -- values of which a writer refuses nothing under checked limits are so short
 abbrev pub WhatIsWithinIsShort : Type 0
-WhatIsWithinIsShort = (limits : Limits) (tops : List (Top UserSymbol ℕ)) → AreChecked limits → AreWithin limits [] tops → AreShort limits.symbols [] tops
+WhatIsWithinIsShort =
+    (limits : Limits) (tops : List (Top UserSymbol ℕ)) → AreChecked limits → AreWithin limits [] tops → AreShort limits.symbols [] tops
 
 -- the canonical form of values is a stream of which they are the user values, under every catalogue
 pub record IsRead (catalog : List Shared) (limit : ℕ) (tops : List (Top UserSymbol ℕ)) : Type 0 where

@@ -3,10 +3,12 @@ use Rattle.std.specs.Prelude.{◌≡◌, ℕ, suc, ◌*◌, ◌<◌, ◌≤◌, 
 use Rattle.std.specs.List.{AllByRecursion}
 use Rattle.ion_meter.specs.Limits.{AreChecked}
 use Rattle.ion_meter.specs.declared.limits.Limits.{Limits}
-use Rattle.ion_value.specs.Decimal.{decimal_body}
+use Rattle.ion_value.specs.declared.decimal.Decimal.{Decimal}
+use Rattle.ion_value.specs.declared.timestamp.Timestamp.{Timestamp}
+use Rattle.ion_value.specs.Decimal.{IsDecimal, decimal_body}
 use Rattle.ion_value.specs.Path.{closed, path_items}
 use Rattle.ion_value.specs.Reading.{Finished, behind}
-use Rattle.ion_value.specs.Timestamp.{timestamp_body}
+use Rattle.ion_value.specs.Timestamp.{IsTimestamp, timestamp_body}
 use Rattle.ion_value.specs.Value as value
 use Rattle.ion_value.specs.Value.{SymbolAt, UserSymbol, Known, Unknown, Scalar, Value, Members, scalar, container, nothing, member, Top, version, tree}
 use Rattle.ion_value.specs.Writable.{value_symbols}
@@ -29,6 +31,13 @@ ScalarFits limits (value.string bytes) = length bytes ≤ limits.scalar
 ScalarFits limits (value.clob bytes) = length bytes ≤ limits.scalar
 ScalarFits limits (value.blob bytes) = length bytes ≤ limits.scalar
 
+-- so decimals and timestamps are where the limit is 26 or more
+abbrev pub NumbersFit : Type 0
+NumbersFit =
+    (limits : Limits) → 26 ≤ limits.scalar
+    → ((d : Decimal) → IsDecimal d → ScalarFits limits (value.decimal d))
+    × ((t : Timestamp) → IsTimestamp t → ScalarFits limits (value.timestamp t))
+
 -- annotations, each counting 16, cost no more than the limit on scalars
 abbrev pub AnnotationsFit : {S : Type 0} → Limits → List S → Type 0
 AnnotationsFit limits annotations = 16 * length annotations ≤ limits.scalar
@@ -42,9 +51,11 @@ abbrev mutual
   -- so it is with each member of a container
   pub MembersFit : {P : Type 0} → Limits → ℕ → Members UserSymbol P → Type 0
   MembersFit limits depth nothing = ⊤
-  MembersFit limits depth (member before f annotations place x) = MembersFit limits depth before × AnnotationsFit limits annotations × ValueFits limits depth x
+  MembersFit limits depth (member before f annotations place x) =
+      MembersFit limits depth before × AnnotationsFit limits annotations × ValueFits limits depth x
 
--- the text of a symbol, which a declaration has as a string where it is none of the system symbol table, is no longer than the limit on scalars
+-- the text of a symbol, where the system symbol table has it not, so that a declaration has it as a string, is no longer than the limit
+-- on scalars
 abbrev pub SymbolFits : Limits → UserSymbol → Type 0
 SymbolFits limits (Known t) = system_id t ≡ None → length t ≤ limits.scalar
 SymbolFits limits Unknown = ⊤
@@ -55,7 +66,7 @@ FitsBinary limits (version place) = ⊤
 FitsBinary limits (tree first annotations place x) =
     AnnotationsFit limits annotations × ValueFits limits 0 x × AllByRecursion (SymbolFits limits) (value_symbols None annotations x)
 
--- limits under which a declaration is read, which opens two containers and has one annotation; ints and ids are within them too
+-- limits under which a declaration is read, which opens two containers and has one annotation; ints and ids fit these too
 pub record AllowDeclarations (limits : Limits) : Type 0 where
   pub depth : 2 ≤ limits.depth
   pub scalar : 16 ≤ limits.scalar
@@ -63,6 +74,6 @@ pub record AllowDeclarations (limits : Limits) : Type 0 where
 -- where a writer refuses nothing, and the values fit, what is written of them is read to its end under the same limits
 abbrev pub WhatIsWrittenIsWithinLimits : Type 0
 WhatIsWrittenIsWithinLimits =
-    (limits : Limits) (us : List (Top UserSymbol ℕ)) (raw : List (Top SymbolAt ℕ)) → AreChecked limits → AllowDeclarations limits → AllByRecursion IsUser us
-    → AreWithin limits [] us → AllByRecursion (FitsBinary limits) us → Stream (binary limits.symbols us) raw
+    (limits : Limits) (us : List (Top UserSymbol ℕ)) (raw : List (Top SymbolAt ℕ)) → AreChecked limits → AllowDeclarations limits
+    → AllByRecursion IsUser us → AreWithin limits [] us → AllByRecursion (FitsBinary limits) us → Stream (binary limits.symbols us) raw
     → reading limits (binary limits.symbols us) ≡ behind (path_items (closed raw)) Finished

@@ -1,11 +1,11 @@
 //! Laws of the grammar and the reading of the binary form, each the contract of a function that
 //! does nothing.
-ghost use Rattle.ion_binary.specs.Laws.{Bodies, Complete, EachStepFalls, EachStepFollows, ExactLimits, Narrow, NoStreamBegins, OnePath, OneStream, RightlyRefused, Sound, Stable, StreamsAreRaw, StreamsAreRead};
+ghost use Rattle.ion_binary.specs.Laws.{Bodies, Complete, EachStepFalls, EachStepFollows, ExactLimits, Narrow, NoStreamBegins, OnePath, OneStream, RightlyRefused, Sound, Stable, StreamsAreRaw, StreamsAreRead, WithinLimitsAreRead};
 ghost use Rattle.ion_binary.specs.WritingLaws.{ClosedSizeIsThatOfTheClosing, IdsAreGiven, ItemsAddTheirOctets, ItemsPutTheForm, OpenItemsPutWhatIsWhole, RefusedItemsAddNothing};
 ghost use Rattle.ion_binary.specs.Refusals.{ItemsAreRefusedAsInTrees, NoneIsRefusedWithin};
 ghost use Rattle.ion_binary.specs.Held.{WhatIsHeldMoves};
 ghost use Rattle.ion_binary.specs.Places.{ClosedSizeByCounts, ClosedSizeByPlaces};
-ghost use Rattle.ion_binary.specs.WrittenLimits.{WhatIsWrittenIsWithinLimits};
+ghost use Rattle.ion_binary.specs.WrittenLimits.{NumbersFit, WhatIsWrittenIsWithinLimits};
 ghost use Rattle.ion_binary.specs.Spelling.{DeclarationsAreAccepted, WrittenDeclarationsAreRead, HeadersAreShortest, TheFormIsRead, ValuesAreSpelled, WhatIsWithinIsShort};
 
 /// Every body of a scalar that the grammar has is read to its value, and no other body is read.
@@ -79,10 +79,16 @@ pub fn no_stream_begins()
     ensures { NoStreamBegins }
 {}
 
-/// A reading stops at a limit only where the limit is passed: at the header of a container where so
-/// many are open, at a scalar that announces a longer body, or at the annotation that passes it.
+/// A reading stops at a limit only where the limit is passed, at the next value behind what it has
+/// read: at the header of a container where so many are open, at a scalar that announces a longer
+/// body, or at the annotation that passes it.
 pub fn limits_are_exact()
     ensures { ExactLimits }
+{}
+
+/// A stream that passes no limit at any place is read to its end.
+pub fn streams_within_limits_are_read()
+    ensures { WithinLimitsAreRead }
 {}
 
 /// The items of whole values put the canonical form of the values, whatever the limit of symbol
@@ -188,6 +194,11 @@ pub fn the_form_is_read()
 /// value and declaration, and the number of texts that have ids at once.
 pub fn what_is_within_is_short()
     ensures { WhatIsWithinIsShort }
+{}
+
+/// Each decimal and each timestamp in range fits a limit on scalars of 26 or more, as it is written.
+pub fn numbers_fit()
+    ensures { NumbersFit }
 {}
 
 /// What is written of values is read to its end under the limits of the writer, where it refuses

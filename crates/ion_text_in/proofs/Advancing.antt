@@ -5,14 +5,16 @@ use Rattle.ion_value.specs.declared.ion_type.Kind.{Kind}
 use Rattle.ion_value.specs.Value as value
 use Rattle.ion_value.specs.Value.{Symbol, SymbolAt, Value, Members, Top}
 use Rattle.ion_value.specs.Path.{Path}
+use Rattle.std.proofs.lemmas.Result.{IfOk-at_ok}
 use Rattle.ion_meter.specs.Sources.{Cursor}
 use Rattle.ion_text_in.specs.Token.{Token, name, first_at, token_of}
 use Rattle.ion_text_in.specs.Positions.{at}
+use Rattle.ion_text_in.specs.Meaning.{counts}
 use Rattle.ion_text_in.specs.Reading.{cost}
 use Rattle.ion_text_in.specs.Grammar.{Tok, Annotations, Field, Txt, Inside, Tops}
 use Rattle.ion_text_in.specs.Paths.{Spells}
 use Rattle.ion_text_in.proofs.Shrinking.{Past, blanks-within, token-past}
-use Rattle.ion_text_in.proofs.Counting.{name_length, NameFits, name-fits}
+use Rattle.ion_text_in.proofs.Counting.{name_length, NameFits, name-fits, first-long, token-fits}
 use Rattle.ion_text_in.proofs.Tokens.{got, tok-stands}
 
 -- ---- tokens
@@ -35,6 +37,16 @@ name-taken sexp c d quoted symbol p tok =
     let prefix = (blanks-within c s.prefix s.blank).0 in
     let taken : name_length symbol + length d.rest ≤ length s.prefix.rest = subst (λ o. NameFits s.prefix o) s.token (name-fits (first_at sexp s.prefix.rest) s.prefix) in
     omega (arith, prefix, taken)
+
+-- a token counts no more bytes than there are
+pub tok-fits : (sexp : Bool) (c d : Cursor) (t : Token) (p : ℕ) → Tok sexp c t p d → counts t p d.place ≤ length c.rest
+tok-fits sexp c d t p tok =
+    let s = tok-stands sexp c d t p tok in
+    let b : Cursor = s.prefix in
+    let prefix = (blanks-within c b s.blank).0 in
+    let fits : counts t b.place d.place ≤ length b.rest
+        = IfOk-at_ok (λ (x : Token × Cursor). counts x.0 b.place x.1.place ≤ length b.rest) s.token (token-fits (first_at sexp b.rest) b (first-long sexp b.rest)) in
+    omega (arith, prefix, fits, ap (λ (p : ℕ). counts t p d.place) s.place)
 
 -- ---- annotations and fields
 

@@ -1,6 +1,7 @@
--- Whatever the grammar spells is read, where the limits allow it.
+-- Whatever the grammar spells is read, where limits allow what stands there.
 use Rattle.std.proofs.Common.{◌≡◌, ℕ, suc, ◌+◌, ◌*◌, ◌<◌, ◌≤◌, arith, Bool, true, false, nat_le, nat_lt, sum_by, List, [], ◌∷◌, ◌++◌, length, Option, None, Some, Ok, Result, if◌then◌else◌, refl, sym, ap, subst, ◌∙◌, append_assoc, append-nil}
 use Rattle.std.proofs.lemmas.Bool.{le-ltb, lt-leb}
+use Rattle.std.proofs.lemmas.List.Sums.{sum_by-append}
 use Rattle.ion_meter.specs.declared.fault.Reason.{Reason}
 use Rattle.ion_meter.specs.declared.fault.Reason.TheVariants.{AnnotationLimit, DepthLimit}
 use Rattle.ion_meter.specs.declared.limits.Limits.{Limits}
@@ -16,14 +17,17 @@ use Rattle.ion_value.proofs.Readings.{behind-append, reading_by-ends, reading_by
 use Rattle.ion_meter.specs.Sources.{Cursor}
 use Rattle.ion_value.specs.Parts.{part, refuse, ◌>>=◌, ◌>>◌}
 use Rattle.ion_text_in.specs.Blanks.{blanks}
-use Rattle.ion_text_in.specs.Token.{Token, plain, name, text, operator, begin, end, comma}
+use Rattle.ion_text_in.specs.Token.{Token, plain, name, text, operator, begin, end, comma, colons}
 use Rattle.ion_text_in.specs.Reading as reading
 use Rattle.ion_text_in.specs.Positions.{Wants, a_value, a_field, a_separator, State, innermost, in_sexp, has_commas, at, first_place}
 use Rattle.ion_text_in.specs.Reading.{member_of, at_member, behind_member, top_of, item_of, cost, tells_version, behind_colons, step, step_of, take, size, start}
 use Rattle.ion_text_in.specs.Grammar.{Tok, Annotations, Field, Txt, Inside, Tops, start_of}
 use Rattle.ion_text_in.specs.Paths.{open_in, Spells, IsTop}
 use Rattle.ion_value.specs.ReadingLaws.{Allows}
-use Rattle.ion_text_in.specs.Laws.{Complete, StreamsAreRead}
+use Rattle.ion_text_in.specs.Laws.{Complete, StreamsAreRead, PathsWithinAreRead, StreamsWithinAreRead}
+use Rattle.ion_text_in.specs.Meaning.{counts}
+use Rattle.ion_text_in.specs.Within.{TokenWithin, NamesWithin, AnnotationsWithin, FieldWithin, TxtWithin, InsideWithin, TopsWithin, PathWithin}
+use Rattle.ion_text_in.proofs.Allowing.{tops-allowed, path-allowed}
 use Rattle.ion_text_in.proofs.Growing.{Fits}
 use Rattle.ion_text_in.proofs.Steps.{colons-none, version-none, fits}
 use Rattle.ion_text_in.proofs.Advancing.{annotations-cost, annotations-advance, field-advances, tok-advances, inside-advances, tops-advance, spells-advance}
@@ -57,56 +61,41 @@ read_from-ends limits s e = reading_by-ends (step limits) size (each_step_falls 
 not-refused : (p : ℕ) (b : Bool) (reason : Reason) (o : Result (Step State) Reason) → b ≡ false → step_of (part p (refuse b reason >> o)) ≡ step_of (part p o)
 not-refused p b reason o e = ap (λ b. step_of (part p (refuse b reason >> o))) e
 
--- ---- limits that allow what is left
-
--- so many open containers and all that can be opened yet, and whatever the bytes that are left can count
-abbrev Room : Limits → ℕ → Cursor → Type 0
-Room limits depth c = (depth + length c.rest ≤ limits.depth) × (16 * length c.rest ≤ limits.scalar)
-
-room-later : (limits : Limits) (depth : ℕ) (c d : Cursor) → length d.rest ≤ length c.rest → Room limits depth c → Room limits depth d
-room-later limits depth c d le room = let deep = room.0 in let wide = room.1 in (omega (arith, le, deep), omega (arith, le, wide))
-
--- for a container that opens
-room-inside : (limits : Limits) (depth : ℕ) (c d : Cursor) → length d.rest < length c.rest → Room limits depth c → Room limits (suc depth) d
-room-inside limits depth c d lt room = let deep = room.0 in let wide = room.1 in (omega (arith, lt, deep), omega (arith, lt, wide))
-
--- for a token
-room-token : (limits : Limits) (depth : ℕ) (c : Cursor) → Room limits depth c → length c.rest ≤ limits.scalar
-room-token limits depth c room = let wide = room.1 in omega (arith, wide)
-
-room-depth : (limits : Limits) (depth : ℕ) (c d : Cursor) → length d.rest < length c.rest → Room limits depth c → nat_le limits.depth depth ≡ false
-room-depth limits depth c d lt room = lt-leb limits.depth depth (let deep = room.0 in omega (arith, lt, deep))
-
 -- ---- annotations and fields
 
-annotations-read : (limits : Limits) (kinds : List Kind) (top : ℕ) (field : Option SymbolAt) (c d : Cursor) (annotations : List SymbolAt) → Annotations (in_sexp (innermost kinds)) c annotations d
-    → Room limits (length kinds) c → Reads limits (state kinds top (a_value field []) c) [] (state kinds top (a_value field annotations) d)
+names-read : (limits : Limits) (kinds : List Kind) (top : ℕ) (field : Option SymbolAt) (sexp : Bool) (c d : Cursor) (annotations : List SymbolAt) → in_sexp (innermost kinds) ≡ sexp
+    → (ns : Annotations sexp c annotations d) → sum_by cost annotations ≤ limits.scalar → NamesWithin limits ns
+    → Reads limits (state kinds top (a_value field []) c) [] (state kinds top (a_value field annotations) d)
 unfolding take
-annotations-read limits kinds top field c _ _ Annotations.nothing room = refl
-annotations-read limits kinds top field c f _ (Annotations.then {annotations = annotations} {d = d} {e = e} {p = p} {q = q} {quoted = quoted} {symbol = symbol} before tok after) room =
-    let prefix = annotations-read limits kinds top field c d annotations before room in
-    let cost_is = annotations-cost (Annotations.then before tok after) in let wide = room.1 in
+names-read limits kinds top field sexp c _ _ is Annotations.nothing cheap within = refl
+names-read limits kinds top field sexp c f _ is (Annotations.then {annotations = annotations} {d = d} {e = e} {p = p} {q = q} {quoted = quoted} {symbol = symbol} before tok after) cheap within =
+    let prefix = names-read limits kinds top field sexp c d annotations is before (omega (arith, cheap, sum_by-append cost annotations (at symbol p ∷ []))) within.0 in
     let next : State = state kinds top (a_value field (annotations ++ at symbol p ∷ [])) f in
-    let one = step-token limits kinds top (a_value field annotations) d (name quoted symbol) p e (value-suits field annotations (name quoted symbol))
-    (room-token limits (length kinds) d (room-later limits (length kinds) c d (annotations-advance before) room)) tok
-    ∙ ap (λ o. step_of (part p (reading.symbol_step limits kinds top field annotations quoted (at symbol p) e o))) (colons-stand (in_sexp (innermost kinds)) e f q after)
-    ∙ not-refused p (nat_lt limits.scalar (sum_by cost (annotations ++ at symbol p ∷ []))) AnnotationLimit (Ok (GoesOn next)) (le-ltb limits.scalar (sum_by cost (annotations ++ at symbol p ∷ [])) (omega (arith, cost_is, wide))) in
+    let one = step-token limits kinds top (a_value field annotations) d (name quoted symbol) p e (value-suits field annotations (name quoted symbol)) within.1
+    (subst (λ sexp. Tok sexp d (name quoted symbol) p e) (sym is) tok)
+    ∙ ap (λ o. step_of (part p (reading.symbol_step limits kinds top field annotations quoted (at symbol p) e o)))
+    (colons-stand (in_sexp (innermost kinds)) e f q (subst (λ sexp. Tok sexp e colons q f) (sym is) after))
+    ∙ not-refused p (nat_lt limits.scalar (sum_by cost (annotations ++ at symbol p ∷ []))) AnnotationLimit (Ok (GoesOn next)) (le-ltb limits.scalar (sum_by cost (annotations ++ at symbol p ∷ [])) cheap) in
     prefix ∙ reads-goes_on limits (state kinds top (a_value field annotations) d) next one
 
-field-read : (limits : Limits) (kinds : List Kind) (top : ℕ) (k : Option Kind) (field : Option SymbolAt) (c d : Cursor) → innermost kinds ≡ k → Field k c field d → Room limits (length kinds) c
+annotations-read : (limits : Limits) (kinds : List Kind) (top : ℕ) (field : Option SymbolAt) (sexp : Bool) (c d : Cursor) (annotations : List SymbolAt) → in_sexp (innermost kinds) ≡ sexp
+    → (ns : Annotations sexp c annotations d) → AnnotationsWithin limits ns → Reads limits (state kinds top (a_value field []) c) [] (state kinds top (a_value field annotations) d)
+annotations-read limits kinds top field sexp c d annotations is ns within = names-read limits kinds top field sexp c d annotations is ns within.0 within.1
+
+field-read : (limits : Limits) (kinds : List Kind) (top : ℕ) (k : Option Kind) (field : Option SymbolAt) (c d : Cursor) → innermost kinds ≡ k → (own : Field k c field d) → FieldWithin limits own
     → Reads limits (state kinds top (at_member k) c) [] (state kinds top (a_value field []) d)
 unfolding take
-field-read limits kinds top _ _ c _ is Field.at_top room = refl
-field-read limits kinds top _ _ c _ is Field.in_list room = refl
-field-read limits kinds top _ _ c _ is Field.in_a_sexp room = refl
-field-read limits kinds top _ _ c e is (Field.named {d = d} {p = p} {q = q} {quoted = quoted} {symbol = symbol} tok after) room =
+field-read limits kinds top _ _ c _ is Field.at_top within = refl
+field-read limits kinds top _ _ c _ is Field.in_list within = refl
+field-read limits kinds top _ _ c _ is Field.in_a_sexp within = refl
+field-read limits kinds top _ _ c e is (Field.named {d = d} {p = p} {q = q} {quoted = quoted} {symbol = symbol} tok after) within =
     let tok' : Tok (in_sexp (innermost kinds)) c (name quoted symbol) p d = subst (λ k. Tok (in_sexp k) c (name quoted symbol) p d) (sym is) tok in
     reads-goes_on limits (state kinds top a_field c) (state kinds top (a_value (Some (at symbol p)) []) e)
-    (step-token limits kinds top a_field c (name quoted symbol) p d (naming-suits (name quoted symbol) refl refl) (room-token limits (length kinds) c room) tok' ∙ ap step_of (colon-stands d e q kinds top (at symbol p) after))
-field-read limits kinds top _ _ c e is (Field.in_quotes {d = d} {p = p} {q = q} {bytes = bytes} tok after) room =
+    (step-token limits kinds top a_field c (name quoted symbol) p d (naming-suits (name quoted symbol) refl refl) within tok' ∙ ap step_of (colon-stands d e q kinds top (at symbol p) after))
+field-read limits kinds top _ _ c e is (Field.in_quotes {d = d} {p = p} {q = q} {bytes = bytes} tok after) within =
     let tok' : Tok (in_sexp (innermost kinds)) c (text bytes) p d = subst (λ k. Tok (in_sexp k) c (text bytes) p d) (sym is) tok in
     reads-goes_on limits (state kinds top a_field c) (state kinds top (a_value (Some (at (value.Text bytes) p)) []) e)
-    (step-token limits kinds top a_field c (text bytes) p d (naming-suits (text bytes) refl refl) (room-token limits (length kinds) c room) tok' ∙ ap step_of (colon-stands d e q kinds top (at (value.Text bytes) p) after))
+    (step-token limits kinds top a_field c (text bytes) p d (naming-suits (text bytes) refl refl) within tok' ∙ ap step_of (colon-stands d e q kinds top (at (value.Text bytes) p) after))
 
 -- ---- values and members
 
@@ -124,15 +113,19 @@ same-kind kind.List = refl
 same-kind kind.Sexp = refl
 same-kind kind.Struct = refl
 
-scalar-read : (limits : Limits) (kinds : List Kind) (top : ℕ) (field : Option SymbolAt) (annotations : List SymbolAt) (c d e : Cursor) (p : ℕ) (t : Token) (body : Scalar SymbolAt)
-    → Annotations (in_sexp (innermost kinds)) c annotations d → Room limits (length kinds) c → Tok (in_sexp (innermost kinds)) d t p e
+-- a mark counts nothing
+mark-within : (limits : Limits) (t : Token) (p : ℕ) (d : Cursor) → counts t p d.place ≡ 0 → TokenWithin limits t p d
+mark-within limits t p d none = omega (arith, none)
+
+scalar-read : (limits : Limits) (kinds : List Kind) (top : ℕ) (field : Option SymbolAt) (annotations : List SymbolAt) (sexp : Bool) (c d e : Cursor) (p : ℕ) (t : Token) (body : Scalar SymbolAt)
+    → in_sexp (innermost kinds) ≡ sexp → (ns : Annotations sexp c annotations d) → AnnotationsWithin limits ns → Tok sexp d t p e → TokenWithin limits t p e
     → step_of (take limits kinds top (a_value field annotations) p t e) ≡ reading.scalar_step kinds top field annotations p body e
     → Reads limits (state kinds top (a_value field []) c) (value_items (top_of kinds top annotations p) field annotations p (value.scalar body)) (state kinds (top_of kinds top annotations p) (behind_member (innermost kinds)) e)
-scalar-read limits kinds top field annotations c d e p t body ns room tok taken =
-    annotations-read limits kinds top field c d annotations ns room
+scalar-read limits kinds top field annotations sexp c d e p t body is ns ns_within tok within taken =
+    annotations-read limits kinds top field sexp c d annotations is ns ns_within
     ∙ reads-gives limits (state kinds top (a_value field annotations) d) (state kinds (top_of kinds top annotations p) (behind_member (innermost kinds)) e)
     (item_of (top_of kinds top annotations p) field annotations p (value.whole body))
-    (step-token limits kinds top (a_value field annotations) d t p e (value-suits field annotations t) (room-token limits (length kinds) d (room-later limits (length kinds) c d (annotations-advance ns) room)) tok ∙ taken)
+    (step-token limits kinds top (a_value field annotations) d t p e (value-suits field annotations t) within (subst (λ sexp. Tok sexp d t p e) (sym is) tok) ∙ taken)
 
 -- the end of a container behind its members
 end-suits-behind : (k : Kind) (full : Bool) → Suits (wants_behind (Some k) full) (end k)
@@ -160,56 +153,47 @@ module _ (limits : Limits) where
     unfolding take
 
     value-read : (kinds : List Kind) (top : ℕ) (field : Option SymbolAt) (k : Option Kind) (c e : Cursor) (annotations : List SymbolAt) (p : ℕ) (v : Value SymbolAt ℕ) → innermost kinds ≡ k
-        → Txt k c annotations p v e → Room limits (length kinds) c
+        → (txt : Txt k c annotations p v e) → TxtWithin limits (length kinds) txt
         → Reads limits (state kinds top (a_value field []) c) (value_items (top_of kinds top annotations p) field annotations p v) (state kinds (top_of kinds top annotations p) (behind_member (innermost kinds)) e)
-    value-read kinds top field _ c e _ p _ is (Txt.of_plain {d = d} {annotations = annotations} {v = v} ns tok) room =
-        scalar-read limits kinds top field annotations c d e p (plain v) v (subst (λ k. Annotations (in_sexp k) c annotations d) (sym is) ns) room
-        (subst (λ k. Tok (in_sexp k) d (plain v) p e) (sym is) tok) refl
-    value-read kinds top field _ c e _ p _ is (Txt.of_text {d = d} {annotations = annotations} {bytes = bytes} ns tok) room =
-        scalar-read limits kinds top field annotations c d e p (text bytes) (value.string bytes) (subst (λ k. Annotations (in_sexp k) c annotations d) (sym is) ns) room
-        (subst (λ k. Tok (in_sexp k) d (text bytes) p e) (sym is) tok) refl
-    value-read kinds top field _ c e _ p _ is (Txt.of_operator {d = d} {annotations = annotations} {bytes = bytes} ns tok) room =
-        scalar-read limits kinds top field annotations c d e p (operator bytes) (value.symbol (at (value.Text bytes) p)) (subst (λ k. Annotations (in_sexp k) c annotations d) (sym is) ns) room
-        (subst (λ k. Tok (in_sexp k) d (operator bytes) p e) (sym is) tok) refl
-    value-read kinds top field _ c e _ p _ is (Txt.of_symbol {k = k} {d = d} {annotations = annotations} {quoted = quoted} {symbol = symbol} ns tok alone no_version) room =
-        scalar-read limits kinds top field annotations c d e p (name quoted symbol) (value.symbol (at symbol p)) (subst (λ k. Annotations (in_sexp k) c annotations d) (sym is) ns) room
-        (subst (λ k. Tok (in_sexp k) d (name quoted symbol) p e) (sym is) tok)
+    value-read kinds top field _ c e _ p _ is (Txt.of_plain {k = k} {d = d} {annotations = annotations} {v = v} ns tok) within =
+        scalar-read limits kinds top field annotations (in_sexp k) c d e p (plain v) v (ap in_sexp is) ns within.0 tok within.1 refl
+    value-read kinds top field _ c e _ p _ is (Txt.of_text {k = k} {d = d} {annotations = annotations} {bytes = bytes} ns tok) within =
+        scalar-read limits kinds top field annotations (in_sexp k) c d e p (text bytes) (value.string bytes) (ap in_sexp is) ns within.0 tok within.1 refl
+    value-read kinds top field _ c e _ p _ is (Txt.of_operator {k = k} {d = d} {annotations = annotations} {bytes = bytes} ns tok) within =
+        scalar-read limits kinds top field annotations (in_sexp k) c d e p (operator bytes) (value.symbol (at (value.Text bytes) p)) (ap in_sexp is) ns within.0 tok within.1 refl
+    value-read kinds top field _ c e _ p _ is (Txt.of_symbol {k = k} {d = d} {annotations = annotations} {quoted = quoted} {symbol = symbol} ns tok alone no_version) within =
+        scalar-read limits kinds top field annotations (in_sexp k) c d e p (name quoted symbol) (value.symbol (at symbol p)) (ap in_sexp is) ns within.0 tok within.1
         (ap (λ o. step_of (part p (reading.symbol_step limits kinds top field annotations quoted (at symbol p) e o))) (ap (λ k. behind_colons (in_sexp k) e) is ∙ colons-none (in_sexp k) e alone)
         ∙ ap (λ told. step_of (part p (reading.value_or_version kinds top field annotations (at symbol p) e told))) (ap (λ k. tells_version k annotations quoted symbol) is ∙ version-none k annotations quoted symbol no_version))
-    value-read kinds top field _ c g _ p _ is (Txt.of_members {d = d} {e = e} {f = f} {annotations = annotations} {q = q} {j = j} {members = members} {full = full} ns tok ins tok') room =
+    value-read kinds top field _ c g _ p _ is (Txt.of_members {k = k} {d = d} {e = e} {f = f} {annotations = annotations} {q = q} {j = j} {members = members} {full = full} ns tok ins tok') within =
         let top' : ℕ = top_of kinds top annotations p in
-        let room_d = room-later limits (length kinds) c d (annotations-advance ns) room in
-        let room_e = room-inside limits (length kinds) d e (tok-advances _ _ _ _ _ tok) room_d in
-        let room_f = room-later limits (suc (length kinds)) e f (inside-advances ins) room_e in
-        let ns' = subst (λ k. Annotations (in_sexp k) c annotations d) (sym is) ns in
-        let begun = step-token limits kinds top (a_value field annotations) d (begin j) p e (value-suits field annotations (begin j)) (room-token limits (length kinds) d room_d) (subst (λ k. Tok (in_sexp k) d (begin j) p e) (sym is) tok)
-        ∙ not-refused p (nat_le limits.depth (length kinds)) DepthLimit (Ok (Gives (item_of top' field annotations p (value.begin j)) (state (j ∷ kinds) top' (member_of j) e))) (room-depth limits (length kinds) d e (tok-advances _ _ _ _ _ tok) room_d) in
-        let first = annotations-read limits kinds top field c d annotations ns' room
+        let begun = step-token limits kinds top (a_value field annotations) d (begin j) p e (value-suits field annotations (begin j)) (mark-within limits (begin j) p e refl)
+        (subst (λ k. Tok (in_sexp k) d (begin j) p e) (sym is) tok)
+        ∙ not-refused p (nat_le limits.depth (length kinds)) DepthLimit (Ok (Gives (item_of top' field annotations p (value.begin j)) (state (j ∷ kinds) top' (member_of j) e))) (lt-leb limits.depth (length kinds) within.1.0) in
+        let first = annotations-read limits kinds top field (in_sexp k) c d annotations (ap in_sexp is) ns within.0
         ∙ reads-gives limits (state kinds top (a_value field annotations) d) (state (j ∷ kinds) top' (member_of j) e) (item_of top' field annotations p (value.begin j)) begun in
-        let inner = members-read kinds top' j e f members full ins room_e in
+        let inner = members-read kinds top' j e f members full ins within.1.1 in
         let last = reads-gives limits (state (j ∷ kinds) top' (wants_behind (Some j) full) f) (state kinds top' (behind_member (innermost kinds)) g) (item_of top' None [] q value.end)
-        (step-token limits (j ∷ kinds) top' (wants_behind (Some j) full) f (end j) q g (end-suits-behind j full) (room-token limits (suc (length kinds)) f room_f) tok' ∙ end-taken limits kinds top' j full q g) in
+        (step-token limits (j ∷ kinds) top' (wants_behind (Some j) full) f (end j) q g (end-suits-behind j full) (mark-within limits (end j) q g refl) tok' ∙ end-taken limits kinds top' j full q g) in
         first ∙ ap (More (item_of top' field annotations p (value.begin j)))
         (reads-then limits (state (j ∷ kinds) top' (member_of j) e) (state (j ∷ kinds) top' (wants_behind (Some j) full) f) (state kinds top' (behind_member (innermost kinds)) g)
         (member_items top' members) (item_of top' None [] q value.end ∷ []) inner last)
 
-    members-read : (kinds : List Kind) (top : ℕ) (j : Kind) (c d : Cursor) (members : Members SymbolAt ℕ) (full : Bool) → Inside j c members full d
-        → Room limits (suc (length kinds)) c
+    members-read : (kinds : List Kind) (top : ℕ) (j : Kind) (c d : Cursor) (members : Members SymbolAt ℕ) (full : Bool) → (inside : Inside j c members full d)
+        → InsideWithin limits (suc (length kinds)) inside
         → Reads limits (state (j ∷ kinds) top (member_of j) c) (member_items top members) (state (j ∷ kinds) top (wants_behind (Some j) full) d)
-    members-read kinds top j c _ _ _ Inside.nothing room = refl
-    members-read kinds top j c f _ _ (Inside.with_value {d = d} {e = e} {members = members} {field = field} {annotations = annotations} {p = p} {v = v} ins field_is txt) room =
-        let before = members-read kinds top j c d members false ins room in
-        let room_d = room-later limits (suc (length kinds)) c d (inside-advances ins) room in
-        let room_e = room-later limits (suc (length kinds)) d e (field-advances field_is) room_d in
-        let name = field-read limits (j ∷ kinds) top (Some j) field d e refl field_is room_d in
-        let one = value-read (j ∷ kinds) top field (Some j) e f annotations p v refl txt room_e in
+    members-read kinds top j c _ _ _ Inside.nothing within = refl
+    members-read kinds top j c f _ _ (Inside.with_value {d = d} {e = e} {members = members} {field = field} {annotations = annotations} {p = p} {v = v} ins own txt) within =
+        let before = members-read kinds top j c d members false ins within.0 in
+        let name = field-read limits (j ∷ kinds) top (Some j) field d e refl own within.1.0 in
+        let one = value-read (j ∷ kinds) top field (Some j) e f annotations p v refl txt within.1.1 in
         let all = reads-then limits (state (j ∷ kinds) top (member_of j) c) (state (j ∷ kinds) top (at_member (Some j)) d) (state (j ∷ kinds) top (behind_member (Some j)) f)
         (member_items top members) (value_items top field annotations p v) before (name ∙ one) in
         subst (λ wants. Reads limits (state (j ∷ kinds) top (member_of j) c) (member_items top members ++ value_items top field annotations p v) (state (j ∷ kinds) top wants f)) (same-wants j) all
-    members-read kinds top j c e _ _ (Inside.with_comma {d = d} {members = members} {p = p} ins tok) room =
-        let before = members-read kinds top j c d members true ins room in
+    members-read kinds top j c e _ _ (Inside.with_comma {d = d} {members = members} {p = p} ins tok) within =
+        let before = members-read kinds top j c d members true ins within in
         let comma_read = reads-goes_on limits (state (j ∷ kinds) top a_separator d) (state (j ∷ kinds) top (at_member (Some j)) e)
-        (step-token limits (j ∷ kinds) top a_separator d comma p e (mark-suits comma refl) (room-token limits (suc (length kinds)) d (room-later limits (suc (length kinds)) c d (inside-advances ins) room)) tok) in
+        (step-token limits (j ∷ kinds) top a_separator d comma p e (mark-suits comma refl) (mark-within limits comma p e refl) tok) in
         before ∙ ap (behind (member_items top members)) comma_read
 
 -- ---- the top level, and paths
@@ -227,28 +211,22 @@ marker-taken top p e = refl
 abbrev TopsRead : Limits → List ℕ → List (Top SymbolAt ℕ) → Cursor → Type 0
 TopsRead limits bytes tops c = (top : ℕ) × Reads limits (start bytes) (top_items tops) (state [] top (a_value None []) c)
 
--- limits that allow the bytes have room for what is left of them
-all-room : (limits : Limits) (bytes : List ℕ) (depth : ℕ) (c : Cursor) → Allows limits bytes → depth + length c.rest ≤ length bytes → Room limits depth c
-all-room limits bytes depth c allows le = let deep = allows.0 in let wide = allows.1 in (omega (arith, le, deep), omega (arith, le, wide))
-
-module _ (limits : Limits) (bytes : List ℕ) (allows : Allows limits bytes) where
-  tops-read : (c : Cursor) (tops : List (Top SymbolAt ℕ)) → Tops (start_of bytes) tops c → TopsRead limits bytes tops c
+module _ (limits : Limits) (bytes : List ℕ) where
+  tops-read : (c : Cursor) (tops : List (Top SymbolAt ℕ)) → (t : Tops (start_of bytes) tops c) → TopsWithin limits t → TopsRead limits bytes tops c
   unfolding take
-  tops-read _ _ Tops.nothing = (0, refl)
-  tops-read e _ (Tops.marker {tops = tops} {d = d} {p = p} before tok alone) =
-      let prefix = tops-read d tops before in
-      let room = all-room limits bytes 0 d allows (let le = tops-advance before in omega (arith, le)) in
-      let one = step-token limits [] prefix.0 (a_value None []) d (name false (value.Text version_word)) p e (value-suits None [] (name false (value.Text version_word))) (room-token limits 0 d room) tok
+  tops-read _ _ Tops.nothing within = (0, refl)
+  tops-read e _ (Tops.marker {tops = tops} {d = d} {p = p} before tok alone) within =
+      let prefix = tops-read d tops before within.0 in
+      let one = step-token limits [] prefix.0 (a_value None []) d (name false (value.Text version_word)) p e (value-suits None [] (name false (value.Text version_word))) within.1 tok
       ∙ ap (λ o. step_of (part p (reading.symbol_step limits [] prefix.0 None [] false (at (value.Text version_word) p) e o))) (colons-none false e alone)
       ∙ marker-taken prefix.0 p e in
       let all = reads-then limits (start bytes) (state [] prefix.0 (a_value None []) d) (state [] p (a_value None []) e) (top_items tops) (item_of p None [] p value.marker ∷ [])
       prefix.1 (reads-gives limits (state [] prefix.0 (a_value None []) d) (state [] p (a_value None []) e) (item_of p None [] p value.marker) one) in
       (p, subst (λ items. Reads limits (start bytes) items (state [] p (a_value None []) e)) (sym (top_items-snoc tops (value.version p))) all)
-  tops-read e _ (Tops.with_value {tops = tops} {d = d} {annotations = annotations} {p = p} {v = v} before txt) =
-      let prefix = tops-read d tops before in
-      let room = all-room limits bytes 0 d allows (let le = tops-advance before in omega (arith, le)) in
+  tops-read e _ (Tops.with_value {tops = tops} {d = d} {annotations = annotations} {p = p} {v = v} before txt) within =
+      let prefix = tops-read d tops before within.0 in
       let all = reads-then limits (start bytes) (state [] prefix.0 (a_value None []) d) (state [] (first_place annotations p) (a_value None []) e) (top_items tops)
-      (value_items (first_place annotations p) None annotations p v) prefix.1 (value-read limits [] prefix.0 None None d e annotations p v refl txt room) in
+      (value_items (first_place annotations p) None annotations p v) prefix.1 (value-read limits [] prefix.0 None None d e annotations p v refl txt within.1) in
       (first_place annotations p, subst (λ items. Reads limits (start bytes) items (state [] (first_place annotations p) (a_value None []) e)) (sym (top_items-snoc tops (value.tree (first_place annotations p) annotations p v))) all)
 
 open-top : {b c : Cursor} (path : Path SymbolAt ℕ) (kinds : List Kind) (full : Bool) (top : ℕ) (field : Option SymbolAt) (annotations : List SymbolAt) (p : ℕ) (k : Kind) (members : Members SymbolAt ℕ)
@@ -269,47 +247,51 @@ record PathRead (limits : Limits) (bytes : List ℕ) (path : Path SymbolAt ℕ) 
   is_top : IsTop path top
   read : Reads limits (start bytes) (path_items path) (state kinds top (wants_behind (innermost kinds) full) c)
 
-module _ (limits : Limits) (bytes : List ℕ) (allows : Allows limits bytes) where
-  path-read : (c : Cursor) (path : Path SymbolAt ℕ) (kinds : List Kind) (full : Bool) → Spells (start_of bytes) path kinds full c
+module _ (limits : Limits) (bytes : List ℕ) where
+  path-read : (c : Cursor) (path : Path SymbolAt ℕ) (kinds : List Kind) (full : Bool) (s : Spells (start_of bytes) path kinds full c) → PathWithin limits s
       → PathRead limits bytes path kinds full c
   unfolding take
-  path-read c _ _ _ (Spells.top {tops = tops} t) = let all = tops-read limits bytes allows c tops t in record { top = all.0; is_top = tt; read = all.1 }
-  path-read g _ _ _ (Spells.inside path field annotations p k members {kinds = kinds} {c = c} {d = d} {e = e} {f = f} {full = full} s f_is ns tok ins) =
-      let room_c = all-room limits bytes (length kinds) c allows (spells-advance s) in
-      let room_d = room-later limits (length kinds) c d (field-advances f_is) room_c in
-      let room_e = room-later limits (length kinds) d e (annotations-advance ns) room_d in
-      let room_f = room-inside limits (length kinds) e f (tok-advances _ _ _ _ _ tok) room_e in
-      let before = path-read c path kinds false s in
+  path-read c _ _ _ (Spells.top {tops = tops} t) within = let all = tops-read limits bytes c tops t within in record { top = all.0; is_top = tt; read = all.1 }
+  path-read g _ _ _ (Spells.inside path field annotations p k members {kinds = kinds} {c = c} {d = d} {e = e} {f = f} {full = full} s own ns tok ins) within =
+      let before = path-read c path kinds false s within.0 in
       let top' : ℕ = top_of kinds before.top annotations p in
-      let begun = step-token limits kinds before.top (a_value field annotations) e (begin k) p f (value-suits field annotations (begin k)) (room-token limits (length kinds) e room_e) tok
-      ∙ not-refused p (nat_le limits.depth (length kinds)) DepthLimit (Ok (Gives (item_of top' field annotations p (value.begin k)) (state (k ∷ kinds) top' (member_of k) f))) (room-depth limits (length kinds) e f (tok-advances _ _ _ _ _ tok) room_e) in
-      let first = field-read limits kinds before.top (innermost kinds) field c d refl f_is room_c ∙ annotations-read limits kinds before.top field d e annotations ns room_d
+      let begun = step-token limits kinds before.top (a_value field annotations) e (begin k) p f (value-suits field annotations (begin k)) (mark-within limits (begin k) p f refl) tok
+      ∙ not-refused p (nat_le limits.depth (length kinds)) DepthLimit (Ok (Gives (item_of top' field annotations p (value.begin k)) (state (k ∷ kinds) top' (member_of k) f)))
+      (lt-leb limits.depth (length kinds) within.1.1.1.0) in
+      let first = field-read limits kinds before.top (innermost kinds) field c d refl own within.1.0
+      ∙ annotations-read limits kinds before.top field (in_sexp (innermost kinds)) d e annotations refl ns within.1.1.0
       ∙ reads-gives limits (state kinds before.top (a_value field annotations) e) (state (k ∷ kinds) top' (member_of k) f) (item_of top' field annotations p (value.begin k)) begun in
-      let inner = members-read limits kinds top' k f g members full ins room_f in
+      let inner = members-read limits kinds top' k f g members full ins within.1.1.1.1 in
       let all = reads-then limits (start bytes) (state kinds before.top (at_member (innermost kinds)) c) (state (k ∷ kinds) top' (wants_behind (Some k) full) g) (path_items path)
       (item_of top' field annotations p (value.begin k) ∷ member_items top' members) before.read (first ∙ ap (More (item_of top' field annotations p (value.begin k))) inner) in
       record {
         top = top';
         is_top = open-top path kinds false before.top field annotations p k members s before.is_top;
         read = subst (λ items. Reads limits (start bytes) items (state (k ∷ kinds) top' (wants_behind (Some k) full) g))
-            (sym (open-items path (first_place annotations p) top' field annotations p k members (fits path kinds false before.top field annotations p s before.is_top f_is))) all;
+            (sym (open-items path (first_place annotations p) top' field annotations p k members (fits path kinds false before.top field annotations p s before.is_top own))) all;
       }
 
 reading-read_from : (limits : Limits) (bytes : List ℕ) → reading.reading limits bytes ≡ read_from limits (start bytes)
 unfolding read_from reading.reading
 reading-read_from limits bytes = refl
 
-pub complete : Complete
-complete limits bytes q path allows is =
-    let all = path-read limits bytes allows is.behind path is.kinds is.full is.spells in
+pub paths_within : PathsWithinAreRead
+paths_within limits bytes q path is within =
+    let all = path-read limits bytes is.behind path is.kinds is.full is.spells within in
     (read_from limits (state is.kinds all.top (wants_behind (innermost is.kinds) is.full) is.behind), reading-read_from limits bytes ∙ all.read)
+
+pub complete : Complete
+complete limits bytes q path allows is = paths_within limits bytes q path is (path-allowed limits bytes allows is.spells)
 
 ends-step : (limits : Limits) (top : ℕ) (c e : Cursor) → blanks c ≡ Ok e → e.rest ≡ [] → step limits (state [] top (a_value None []) c) ≡ Ends
 unfolding step reading.part_at
 ends-step limits top c e blank none =
     ap step_of (ap (λ o. o >>= (λ b. reading.part_behind limits (state [] top (a_value None []) c) b b.rest)) blank ∙ ap (reading.part_behind limits (state [] top (a_value None []) c) e) none)
 
-pub streams_are_read : StreamsAreRead
-streams_are_read limits bytes tops allows is =
-    let all = tops-read limits bytes allows is.last tops is.spells in
+pub streams_within : StreamsWithinAreRead
+streams_within limits bytes tops is within =
+    let all = tops-read limits bytes is.last tops is.spells within in
     reading-read_from limits bytes ∙ all.1 ∙ ap (behind (top_items tops)) (read_from-ends limits (state [] all.0 (a_value None []) is.last) (ends-step limits all.0 is.last is.end is.blank is.nothing_left))
+
+pub streams_are_read : StreamsAreRead
+streams_are_read limits bytes tops allows is = streams_within limits bytes tops is (tops-allowed limits bytes allows is.spells)

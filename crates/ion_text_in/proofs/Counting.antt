@@ -1,4 +1,4 @@
--- A token counts at most as many bytes as it takes: a limit of as many bytes as there are changes nothing.
+-- A token counts at most as many bytes as there are, and a name has no more bytes than it takes.
 use Rattle.std.proofs.Common.{◌≡◌, ℕ, zero, suc, ◌+◌, ◌*◌, ◌≤◌, ◌/◌, ◌⊎◌, inl, inr, Bool, true, false, not, ◌&&◌, ◌||◌, ◌==◌, nat_le, nat_lt, if◌then◌else◌, List, [], ◌∷◌, ◌++◌, length, drop, codes, slice_index, encode_utf8, Option, Some, None, Result, Ok, Err, refl, ap, subst, ◌∙◌, arith}
 use Rattle.std.proofs.lemmas.Bool.{le-ltb, ltb-false, and_parts, false≢true}
 use Rattle.std.proofs.lemmas.List.{length-append, length-drop, length-take}
@@ -8,7 +8,7 @@ use Rattle.base64.specs.Engines.{standard}
 use Rattle.base64.specs.GeneralPurpose.{decoded_of}
 use Rattle.base64.specs.Decode.{groups_bytes, decoded_bytes, suffix_bytes, scan_bytes, scan_last, decode_group, decode_outcome}
 use Rattle.base64.specs.declared.decode.DecodeError.{DecodeError}
-use Rattle.std.specs.Result.{result_ok}
+use Rattle.std.specs.Result.{IfOk, result_ok}
 use Rattle.ion_meter.specs.declared.fault.Reason.{Reason}
 use Rattle.ion_meter.specs.declared.fault.Reason.TheVariants.{BadText, BadLob, ScalarLimit}
 use Rattle.ion_meter.specs.Sources.{Cursor, skip}
@@ -18,15 +18,18 @@ use Rattle.ion_value.specs.Scalar.{scalar_of_run}
 use Rattle.ion_value.specs.Value as value
 use Rattle.ion_value.specs.Value.{Symbol, SymbolAt, Scalar}
 use Rattle.ion_value.specs.Parts.{refuse, ◌>>=◌, ◌>>◌}
+use Rattle.ion_text_in.specs.Meaning.{counts}
 use Rattle.ion_text_in.specs.Places.{run_of, behind_run}
 use Rattle.ion_text_in.specs.Blanks as blanks
 use Rattle.ion_text_in.specs.Quoted as quoted
 use Rattle.ion_text_in.specs.Quoted.{Quote, Piece, char, close, illegal, cut, Hex, number, no_digit, cut_digits, hex_behind, piece_at, pieces_for, segment_at, segments_for, text_at}
 use Rattle.ion_text_in.specs.Lob as lob
-use Rattle.ion_text_in.specs.Lob.{group_of, groups_for, lob_at}
+use Rattle.ion_text_in.specs.Lob.{group_of, group_bytes, groups_for, lob_at}
 use Rattle.ion_text_in.specs.Token as tokens
 use Rattle.ion_text_in.specs.Token.{First, a_word, a_quoted, a_short, a_long, a_run, a_lob, an_operator, an_infinity, a_begin, an_end, a_comma, a_colon, two_colons, no_token, first_at, Token, plain, name, text, operator, no_number, begin, end, comma, colon, colons, counted, token_of, token_at, word_token, bytes_of, word_of, in_run, in_word, in_operator}
 use Rattle.ion_text_in.proofs.Shrinking.{skip-within, WithinIf, next-within}
+use Rattle.ion_text_in.proofs.TokenLimits.{CountsAll, run_token-counts, word_token-counts}
+use Rattle.ion_text_in.proofs.WentWell.{if-then, if-passed, if-either}
 
 -- ---- pieces
 
@@ -140,22 +143,12 @@ piece-fits q (b ∷ bytes) =
 
 -- no more bytes are given than are taken
 abbrev Sized : Cursor → Result (List ℕ × Cursor) Reason → Type 0
-Sized c (Ok x) = length x.0 + length x.1.rest ≤ length c.rest
-Sized c (Err reason) = Unit {0}
+Sized c o = IfOk o (λ x. length x.0 + length x.1.rest ≤ length c.rest)
 
 sized-append : (c d : Cursor) (bytes : List ℕ) (o : Result (List ℕ × Cursor) Reason) → length bytes + length d.rest ≤ length c.rest → Sized d o
     → Sized c (o >>= (λ others. Ok (bytes ++ others.0, others.1)))
 sized-append c d bytes (Ok x) le s = omega (arith, le, s, length-append bytes x.0)
 sized-append c d bytes (Err reason) le s = tt
-
-sized-then : (c : Cursor) (o : Result (List ℕ × Cursor) Reason) (f : List ℕ × Cursor → Result (List ℕ × Cursor) Reason) → Sized c o
-    → ((x : List ℕ × Cursor) → length x.0 + length x.1.rest ≤ length c.rest → Sized c (f x)) → Sized c (o >>= f)
-sized-then c (Ok x) f s more = more x s
-sized-then c (Err reason) f s more = tt
-
-sized-refuse : (c : Cursor) (b : Bool) (reason : Reason) (o : Result (List ℕ × Cursor) Reason) → Sized c o → Sized c (refuse b reason >> o)
-sized-refuse c true reason o s = tt
-sized-refuse c false reason o s = s
 
 with_piece-sized : (later : ℕ → Cursor → Result (List ℕ × Cursor) Reason) (q : Quote) (count : ℕ) (c : Cursor) (piece : Piece) → PieceFits c.rest piece
     → ((n : ℕ) (d : Cursor) → Sized d (later n d)) → Sized c (quoted.with_piece later q None count c piece)
@@ -173,8 +166,8 @@ pieces-sized (suc most) q count c =
 segment-sized : (q : Quote) (count : ℕ) (c : Cursor) → Sized c (segment_at q None count c)
 unfolding segment_at
 segment-sized q count c =
-    sized-then c (pieces_for (suc (length c.rest)) q None count c) _ (pieces-sized (suc (length c.rest)) q count c)
-    (λ x s. sized-refuse c (not (q.in_clob || is_utf8 x.0)) BadText (Ok x) s)
+    if-then (λ x. length x.0 + length x.1.rest ≤ length c.rest) _ (pieces_for (suc (length c.rest)) q None count c) _ (pieces-sized (suc (length c.rest)) q count c)
+    (λ x s. if-passed _ (not (q.in_clob || is_utf8 x.0)) BadText (Ok x) (λ _. s))
 
 with_segments-sized : (later : Cursor → Result (List ℕ × Cursor) Reason) (c : Cursor) (s : List ℕ × Cursor) (o : Option Cursor)
     → length s.0 + length s.1.rest ≤ length c.rest → WithinIf s.1 o → ((d : Cursor) → Sized d (later d)) → Sized c (quoted.with_segments later s o)
@@ -185,65 +178,12 @@ segments-sized : (most : ℕ) (q : Quote) (count : ℕ) (c : Cursor) → Sized c
 unfolding segments_for
 segments-sized zero q count c = tt
 segments-sized (suc most) q count c =
-    sized-then c (segment_at q None count c) _ (segment-sized q count c)
+    if-then (λ s. length s.0 + length s.1.rest ≤ length c.rest) _ (segment_at q None count c) _ (segment-sized q count c)
     (λ s le. with_segments-sized (λ d. segments_for most q None (count + length s.0) d) c s (quoted.next_segment q s.1) le (next-within q s.1 q.is_long)
     (λ d. segments-sized most q (count + length s.0) d))
 
 text-sized : (q : Quote) (c : Cursor) → Sized c (text_at q None c)
 text-sized q c = segments-sized (suc (length c.rest)) q 0 c
-
--- ---- under a limit of so many bytes
-
-pub bind-same : {A B : Type 0} (o w : Result A Reason) (f g : A → Result B Reason) → o ≡ w → ((x : A) → w ≡ Ok x → f x ≡ g x) → (o >>= f) ≡ (w >>= g)
-bind-same o (Ok x) f g e more = ap (λ o. o >>= f) e ∙ more x refl
-bind-same o (Err reason) f g e more = ap (λ o. o >>= f) e
-
-same-if : {A : Type 0} (b : Bool) (x y u v : Result A Reason) → x ≡ u → y ≡ v → (if b then x else y) ≡ (if b then u else v)
-same-if true x y u v ex ey = ex
-same-if false x y u v ex ey = ey
-
-module _ (limit : ℕ) where
-  passed-same : {A : Type 0} (n : ℕ) (o w : Result A Reason) → n ≤ limit → o ≡ w → (refuse (nat_lt limit n) ScalarLimit >> o) ≡ w
-  passed-same n o w le e = rw (le-ltb limit n le) e
-
-  with_piece-same : (later more : ℕ → Cursor → Result (List ℕ × Cursor) Reason) (q : Quote) (count : ℕ) (c : Cursor) (piece : Piece) → PieceFits c.rest piece
-      → count + length c.rest ≤ limit → ((n : ℕ) (d : Cursor) → n + length d.rest ≤ limit → later n d ≡ more n d)
-      → quoted.with_piece later q (Some limit) count c piece ≡ quoted.with_piece more q None count c piece
-  with_piece-same later more q count c (char bytes taken) fits le equal =
-      passed-same (count + length bytes) _ _ (omega (arith, fits, le))
-      (ap (λ (o : Result (List ℕ × Cursor) Reason). o >>= (λ others. Ok (bytes ++ others.0, others.1))) (equal (count + length bytes) (skip taken c) (omega (arith, fits, le))))
-  with_piece-same later more q count c (close taken) fits le equal = refl
-  with_piece-same later more q count c illegal fits le equal = refl
-  with_piece-same later more q count c cut fits le equal = refl
-
-  pieces-same : (most : ℕ) (q : Quote) (count : ℕ) (c : Cursor) → count + length c.rest ≤ limit → pieces_for most q (Some limit) count c ≡ pieces_for most q None count c
-  unfolding pieces_for
-  pieces-same zero q count c le = refl
-  pieces-same (suc most) q count c le =
-      with_piece-same (λ n d. pieces_for most q (Some limit) n d) (λ n d. pieces_for most q None n d) q count c (piece_at q c.rest) (piece-fits q c.rest) le
-      (λ n d less. pieces-same most q n d less)
-
-  segment-same : (q : Quote) (count : ℕ) (c : Cursor) → count + length c.rest ≤ limit → segment_at q (Some limit) count c ≡ segment_at q None count c
-  unfolding segment_at
-  segment-same q count c le =
-      bind-same (pieces_for (suc (length c.rest)) q (Some limit) count c) (pieces_for (suc (length c.rest)) q None count c) _ _ (pieces-same (suc (length c.rest)) q count c le) (λ x e. refl)
-
-  with_segments-same : (later more : Cursor → Result (List ℕ × Cursor) Reason) (s : List ℕ × Cursor) (o : Option Cursor) → WithinIf s.1 o
-      → ((d : Cursor) → length d.rest ≤ length s.1.rest → later d ≡ more d) → quoted.with_segments later s o ≡ quoted.with_segments more s o
-  with_segments-same later more s None w equal = refl
-  with_segments-same later more s (Some d) w equal = bind-same (later d) (more d) _ _ (equal d w) (λ x e. refl)
-
-  segments-same : (most : ℕ) (q : Quote) (count : ℕ) (c : Cursor) → count + length c.rest ≤ limit → segments_for most q (Some limit) count c ≡ segments_for most q None count c
-  unfolding segments_for
-  segments-same zero q count c le = refl
-  segments-same (suc most) q count c le =
-      bind-same (segment_at q (Some limit) count c) (segment_at q None count c) _ _ (segment-same q count c le)
-      (λ s e. let sized : length s.0 + length s.1.rest ≤ length c.rest = subst (λ o. Sized c o) e (segment-sized q count c) in
-      with_segments-same (λ d. segments_for most q (Some limit) (count + length s.0) d) (λ d. segments_for most q None (count + length s.0) d) s (quoted.next_segment q s.1) (next-within q s.1 q.is_long)
-      (λ d less. segments-same most q (count + length s.0) d (omega (arith, le, sized, less))))
-
-  text-same : (q : Quote) (c : Cursor) → length c.rest ≤ limit → text_at q (Some limit) c ≡ text_at q None c
-  text-same q c le = segments-same (suc (length c.rest)) q 0 c (omega (arith, le))
 
 -- ---- lobs
 
@@ -298,48 +238,74 @@ decoded_of-most group four = from _ _ (decoded-most standard.decode_table standa
     from None bytes le = le
     from (Some e) bytes le = tt
 
-group_bytes-most : (padded : Bool) (o : Option (List ℕ)) (bytes : List ℕ) → AtMost3 o
-    → (elim o as (λ _. Result (List ℕ) Reason) [ Some bytes ↦ if padded then Err BadLob else Ok bytes | None ↦ Err BadLob ]) ≡ Ok bytes → length bytes ≤ 3
-group_bytes-most true (Some b) bytes most e = absurd (cc e)
-group_bytes-most false (Some b) bytes most e = let same : b ≡ bytes = cc e in omega (arith, most, ap length same)
-group_bytes-most padded None bytes most e = absurd (cc e)
+group_bytes-most : (padded : Bool) (group : List ℕ) → length group ≡ 4 → IfOk (group_bytes padded group) (λ bytes. length bytes ≤ 3)
+group_bytes-most padded group four = from (decoded_of standard group) (decoded_of-most group four)
+  where
+    from : (o : Option (List ℕ)) → AtMost3 o
+        → IfOk (elim o as (λ _. Result (List ℕ) Reason) [ Some bytes ↦ if padded then Err BadLob else Ok bytes | None ↦ Err BadLob ]) (λ bytes. length bytes ≤ 3)
+    from (Some bytes) most = if-either (λ (bytes : List ℕ). length bytes ≤ 3) padded (Err BadLob) (Ok bytes) tt most
+    from None most = tt
 
-module _ (limit : ℕ) where
-  pub groups-if : (few : Bool) (x y u v : Result (List ℕ × Cursor) Reason) → x ≡ u → (few ≡ false → y ≡ v) → (if few then x else y) ≡ (if few then u else v)
-  groups-if true x y u v ex ey = ex
-  groups-if false x y u v ex ey = ey refl
+last_group-sized : (c d : Cursor) (group : List ℕ) → length d.rest ≤ length c.rest → Sized c (lob.last_group group d)
+last_group-sized c d [] le = closes (lob.braces d.rest)
+  where
+    closes : (o : Result (Unit {0}) Reason) → Sized c ((o >> Ok (skip 2 d)) >>= (λ e. Ok ([], e)))
+    closes (Ok x) = let w = skip-within 2 d in omega (arith, le, w)
+    closes (Err reason) = tt
+last_group-sized c d (b ∷ group) le = closes (lob.braces d.rest)
+  where
+    closes : (o : Result (Unit {0}) Reason) → Sized c ((o >> Ok (skip 2 d)) >> Err BadLob)
+    closes (Ok x) = tt
+    closes (Err reason) = tt
 
-  groups-same : (most count : ℕ) (padded : Bool) (c : Cursor) → count + length c.rest ≤ limit → groups_for most (Some limit) count padded c ≡ groups_for most None count padded c
-  unfolding groups_for
-  groups-same zero count padded c le = refl
-  groups-same (suc most) count padded c le =
-      let g : List ℕ × List ℕ = group_of 4 c.rest in
-      let d : Cursor = lob.behind_to c g.1 in
-      groups-if (nat_lt (length g.0) 4) _ _ _ _ refl
-      (λ many. let four : length g.0 ≡ 4 = (let up = ltb-false (length g.0) 4 many in let down = group-most 4 c.rest in omega (arith, up, down)) in
-      bind-same (lob.group_bytes padded g.0) (lob.group_bytes padded g.0) _ _ refl
-      (λ bytes e. let short = group_bytes-most padded (decoded_of standard g.0) bytes (decoded_of-most g.0 four) e in
-      let all = group-counts 4 c.rest in
-      passed-same limit (count + length bytes) _ _ (omega (arith, le, short, all, four))
-      (bind-same (groups_for most (Some limit) (count + length bytes) (nat_lt (length bytes) 3) d) (groups_for most None (count + length bytes) (nat_lt (length bytes) 3) d) _ _
-      (groups-same most (count + length bytes) (nat_lt (length bytes) 3) d (omega (arith, le, short, all, four))) (λ x e. refl))))
+groups-sized : (most count : ℕ) (padded : Bool) (c : Cursor) → Sized c (groups_for most None count padded c)
+unfolding groups_for
+groups-sized zero count padded c = tt
+groups-sized (suc most) count padded c =
+    let g : List ℕ × List ℕ = group_of 4 c.rest in
+    let d : Cursor = lob.behind_to c g.1 in
+    let all = group-counts 4 c.rest in
+    chosen-sized c (nat_lt (length g.0) 4) _ _ (last_group-sized c d g.0 (omega (arith, all)))
+    (λ many. let four : length g.0 ≡ 4 = (let up = ltb-false (length g.0) 4 many in let down = group-most 4 c.rest in omega (arith, up, down)) in
+    if-then (λ bytes. length bytes ≤ 3) _ (lob.group_bytes padded g.0) _ (group_bytes-most padded g.0 four)
+    (λ bytes short. sized-append c d bytes (groups_for most None (count + length bytes) (nat_lt (length bytes) 3) d) (omega (arith, short, all, four)) (groups-sized most (count + length bytes) (nat_lt (length bytes) 3) d)))
+  where
+    chosen-sized : (c : Cursor) (few : Bool) (x y : Result (List ℕ × Cursor) Reason) → Sized c x → (few ≡ false → Sized c y) → Sized c (if few then x else y)
+    chosen-sized c true x y sx sy = sx
+    chosen-sized c false x y sx sy = sy refl
 
-  clob-same : (is_long : Bool) (c : Cursor) → length c.rest ≤ limit → ◌≡◌ {A = Result (Scalar SymbolAt × Cursor) Reason} (lob.clob_at (Some limit) is_long c) (lob.clob_at None is_long c)
-  clob-same is_long c le =
-      bind-same (text_at (if is_long then quoted.long_quote true else quoted.short_quote true) (Some limit) c) (text_at (if is_long then quoted.long_quote true else quoted.short_quote true) None c) _ _
-      (text-same limit (if is_long then quoted.long_quote true else quoted.short_quote true) c le) (λ x e. refl)
+-- a scalar that begins at a place counts no more bytes than there are
+abbrev ScalarFits : ℕ → Cursor → Result (Scalar SymbolAt × Cursor) Reason → Type 0
+ScalarFits p c o = IfOk o (λ x. counts (plain x.0) p x.1.place ≤ length c.rest)
 
-  blob-same : (c : Cursor) → length c.rest ≤ limit → ◌≡◌ {A = Result (Scalar SymbolAt × Cursor) Reason} (lob.blob_at (Some limit) c) (lob.blob_at None c)
-  blob-same c le = bind-same (groups_for (suc (length c.rest)) (Some limit) 0 false c) (groups_for (suc (length c.rest)) None 0 false c) _ _ (groups-same (suc (length c.rest)) 0 false c (omega (arith, le))) (λ x e. refl)
+clob-fits : (p : ℕ) (is_long : Bool) (c : Cursor) → ScalarFits p c (lob.clob_at None is_long c)
+clob-fits p is_long c =
+    let q : Quote = if is_long then quoted.long_quote true else quoted.short_quote true in
+    if-then (λ t. length t.0 + length t.1.rest ≤ length c.rest) _ (text_at q None c) _ (text-sized q c)
+    (λ t s. closes t.0 (lob.clob_closed_at is_long (behind_run (first_is blanks.is_white) t.1)) (omega (arith, s)))
+  where
+    closes : (bytes : List ℕ) (o : Result Cursor Reason) → length bytes ≤ length c.rest → ScalarFits p c (o >>= (λ d. Ok (value.clob bytes, d)))
+    closes bytes (Ok d) le = le
+    closes bytes (Err reason) le = tt
 
-  lob_in-same : (c : Cursor) → length c.rest ≤ limit → ◌≡◌ {A = Result (Scalar SymbolAt × Cursor) Reason} (lob.lob_in (Some limit) c) (lob.lob_in None c)
-  lob_in-same c le =
-      same-if (begins_with (34 ∷ []) c.rest) _ _ _ _ (clob-same false (skip 1 c) (let w = skip-within 1 c in omega (arith, le, w)))
-      (same-if (begins_with (39 ∷ 39 ∷ 39 ∷ []) c.rest) _ _ _ _ (clob-same true (skip 3 c) (let w = skip-within 3 c in omega (arith, le, w))) (blob-same c le))
+blob-fits : (p : ℕ) (c : Cursor) → ScalarFits p c (lob.blob_at None c)
+blob-fits p c =
+    if-then (λ b. length b.0 + length b.1.rest ≤ length c.rest) _ (groups_for (suc (length c.rest)) None 0 false c) _ (groups-sized (suc (length c.rest)) 0 false c) (λ b s. omega (arith, s))
 
-  lob-same : (c : Cursor) → length c.rest ≤ limit → ◌≡◌ {A = Result (Scalar SymbolAt × Cursor) Reason} (lob_at (Some limit) c) (lob_at None c)
-  unfolding lob_at
-  lob-same c le = lob_in-same (behind_run (first_is blanks.is_white) c) (let w = skip-within (length (run_of (first_is blanks.is_white) c.rest).0) c in omega (arith, le, w))
+lob-fits : (p : ℕ) (c : Cursor) → ScalarFits p c (lob_at None c)
+unfolding lob_at
+lob-fits p c =
+    let n : ℕ = length (run_of (first_is blanks.is_white) c.rest).0 in
+    let d : Cursor = skip n c in
+    let w = skip-within n c in
+    if-either _ (begins_with (34 ∷ []) d.rest) _ _ (fewer c (skip 1 d) (lob.clob_at None false (skip 1 d)) (let v = skip-within 1 d in omega (arith, w, v)) (clob-fits p false (skip 1 d)))
+    (if-either _ (begins_with (39 ∷ 39 ∷ 39 ∷ []) d.rest) _ _
+    (fewer c (skip 3 d) (lob.clob_at None true (skip 3 d)) (let v = skip-within 3 d in omega (arith, w, v)) (clob-fits p true (skip 3 d)))
+    (fewer c d (lob.blob_at None d) w (blob-fits p d)))
+  where
+    fewer : (c d : Cursor) (o : Result (Scalar SymbolAt × Cursor) Reason) → length d.rest ≤ length c.rest → ScalarFits p d o → ScalarFits p c o
+    fewer c d (Ok x) le fits = omega (arith, le, fits)
+    fewer c d (Err reason) le fits = tt
 
 -- ---- runs of bytes
 
@@ -386,7 +352,7 @@ begins-long (c ∷ cs) (b ∷ bytes) is = let more = begins-long cs bytes ((and_
 
 -- ---- an infinity has four bytes
 
-abbrev Long : List ℕ → First → Type 0
+abbrev pub Long : List ℕ → First → Type 0
 Long rest an_infinity = 4 ≤ length rest
 Long rest _ = Unit {0}
 
@@ -410,7 +376,7 @@ infinity-long rest is =
     let signs = (and_parts (begins_with (codes "+inf") rest || begins_with (codes "-inf") rest) (not (first_is _ (drop 4 rest))) is).0 in
     elim (or-either (begins_with (codes "+inf") rest) (begins_with (codes "-inf") rest) signs) [ inl plus ↦ begins-long (codes "+inf") rest plus | inr minus ↦ begins-long (codes "-inf") rest minus ]
 
-first-long : (sexp : Bool) (rest : List ℕ) → Long rest (first_at sexp rest)
+pub first-long : (sexp : Bool) (rest : List ℕ) → Long rest (first_at sexp rest)
 unfolding first_at
 first-long sexp [] = tt
 first-long sexp (b ∷ bytes) =
@@ -421,37 +387,39 @@ first-long sexp (b ∷ bytes) =
 
 -- ---- tokens
 
-module _ (limit : ℕ) where
-  counted-same : (bytes : List ℕ) (c : Cursor) → length bytes ≤ limit → counted (Some limit) bytes c ≡ counted None bytes c
-  counted-same bytes c le = passed-same limit (length bytes) _ _ le refl
+-- a token that begins here counts no more bytes than there are
+abbrev TokenFits : Cursor → Result (Token × Cursor) Reason → Type 0
+TokenFits c o = IfOk o (λ x. counts x.0 c.place x.1.place ≤ length c.rest)
 
-  of-same : (first : First) (c : Cursor) → Long c.rest first → length c.rest ≤ limit → token_of (Some limit) first c ≡ token_of None first c
-  unfolding token_of
-  of-same a_run c long le = bind-same (counted (Some limit) (bytes_of in_run c.rest) c) (counted None (bytes_of in_run c.rest) c) _ _
-      (counted-same (bytes_of in_run c.rest) c (let all = bytes_of-counts in_run c.rest in omega (arith, le, all))) (λ x e. refl)
-  of-same a_word c long le = bind-same (counted (Some limit) (word_of c.rest) c) (counted None (word_of c.rest) c) _ _
-      (counted-same (word_of c.rest) c (let all = word_of-counts c.rest in omega (arith, le, all))) (λ x e. refl)
-  of-same a_quoted c long le = bind-same (text_at quoted.symbol_quote (Some limit) (skip 1 c)) (text_at quoted.symbol_quote None (skip 1 c)) _ _
-      (text-same limit quoted.symbol_quote (skip 1 c) (let w = skip-within 1 c in omega (arith, le, w))) (λ x e. refl)
-  of-same a_short c long le = bind-same (text_at (quoted.short_quote false) (Some limit) (skip 1 c)) (text_at (quoted.short_quote false) None (skip 1 c)) _ _
-      (text-same limit (quoted.short_quote false) (skip 1 c) (let w = skip-within 1 c in omega (arith, le, w))) (λ x e. refl)
-  of-same a_long c long le = bind-same (text_at (quoted.long_quote false) (Some limit) (skip 3 c)) (text_at (quoted.long_quote false) None (skip 3 c)) _ _
-      (text-same limit (quoted.long_quote false) (skip 3 c) (let w = skip-within 3 c in omega (arith, le, w))) (λ x e. refl)
-  of-same a_lob c long le = bind-same (lob_at (Some limit) (skip 2 c)) (lob_at None (skip 2 c)) _ _
-      (lob-same limit (skip 2 c) (let w = skip-within 2 c in omega (arith, le, w))) (λ x e. refl)
-  of-same an_operator c long le = bind-same (counted (Some limit) (bytes_of in_operator c.rest) c) (counted None (bytes_of in_operator c.rest) c) _ _
-      (counted-same (bytes_of in_operator c.rest) c (let all = bytes_of-counts in_operator c.rest in omega (arith, le, all))) (λ x e. refl)
-  of-same an_infinity c long le = passed-same limit 4 _ _ (omega (arith, le, long)) refl
-  of-same (a_begin k) c long le = refl
-  of-same (an_end k) c long le = refl
-  of-same a_comma c long le = refl
-  of-same a_colon c long le = refl
-  of-same two_colons c long le = refl
-  of-same no_token c long le = refl
+-- one that counts all its bytes
+counted-fits : (bytes : List ℕ) (c : Cursor) (o : Result Token Reason) → length bytes ≤ length c.rest → IfOk o CountsAll → TokenFits c (o >>= (λ t. Ok (t, skip (length bytes) c)))
+counted-fits bytes c (Ok t) le all = omega (arith, le, all c.place (c.place + length bytes))
+counted-fits bytes c (Err reason) le all = tt
 
-  -- where so few bytes are left, a limit changes no token
-  pub token-same : (sexp : Bool) (c : Cursor) → length c.rest ≤ limit → token_of (Some limit) (first_at sexp c.rest) c ≡ token_of None (first_at sexp c.rest) c
-  token-same sexp c le = of-same (first_at sexp c.rest) c (first-long sexp c.rest) le
+-- a text between quotes
+between-fits : (n : ℕ) (c : Cursor) (o : Result (List ℕ × Cursor) Reason) (k : List ℕ → Token) → ((bytes : List ℕ) (p q : ℕ) → counts (k bytes) p q ≡ length bytes) → Sized (skip n c) o
+    → TokenFits c (o >>= (λ t. Ok (k t.0, t.1)))
+between-fits n c (Ok t) k is s = let w = skip-within n c in omega (arith, s, w, is t.0 c.place t.1.place)
+between-fits n c (Err reason) k is s = tt
+
+pub token-fits : (first : First) (c : Cursor) → Long c.rest first → TokenFits c (token_of None first c)
+unfolding token_of
+token-fits a_run c long = counted-fits (bytes_of in_run c.rest) c (tokens.run_token (bytes_of in_run c.rest)) (bytes_of-counts in_run c.rest) (run_token-counts (bytes_of in_run c.rest))
+token-fits a_word c long = counted-fits (word_of c.rest) c (word_token (word_of c.rest)) (word_of-counts c.rest) (word_token-counts (word_of c.rest))
+token-fits a_quoted c long =
+    between-fits 1 c (text_at quoted.symbol_quote None (skip 1 c)) (λ bytes. name true (value.Text bytes)) (λ bytes p q. refl) (text-sized quoted.symbol_quote (skip 1 c))
+token-fits a_short c long = between-fits 1 c (text_at (quoted.short_quote false) None (skip 1 c)) text (λ bytes p q. refl) (text-sized (quoted.short_quote false) (skip 1 c))
+token-fits a_long c long = between-fits 3 c (text_at (quoted.long_quote false) None (skip 3 c)) text (λ bytes p q. refl) (text-sized (quoted.long_quote false) (skip 3 c))
+token-fits a_lob c long =
+    if-then (λ l. counts (plain l.0) c.place l.1.place ≤ length (skip 2 c).rest) _ (lob_at None (skip 2 c)) _ (lob-fits c.place (skip 2 c)) (λ l fits. let w = skip-within 2 c in omega (arith, fits, w))
+token-fits an_operator c long = counted-fits (bytes_of in_operator c.rest) c (Ok (operator (bytes_of in_operator c.rest))) (bytes_of-counts in_operator c.rest) (λ p q. refl)
+token-fits an_infinity c long = omega (arith, long)
+token-fits (a_begin k) c long = omega arith
+token-fits (an_end k) c long = omega arith
+token-fits a_comma c long = omega arith
+token-fits a_colon c long = omega arith
+token-fits two_colons c long = omega arith
+token-fits no_token c long = tt
 
 -- ---- names
 
@@ -498,9 +466,9 @@ text-fits : (c : Cursor) (o : Result (List ℕ × Cursor) Reason) → NameFits c
 text-fits c (Ok t) = tt
 text-fits c (Err reason) = tt
 
-lob-fits : (c : Cursor) (o : Result (Scalar SymbolAt × Cursor) Reason) → NameFits c (o >>= (λ l. Ok (plain l.0, l.1)))
-lob-fits c (Ok t) = tt
-lob-fits c (Err reason) = tt
+no_name-fits : (c : Cursor) (o : Result (Scalar SymbolAt × Cursor) Reason) → NameFits c (o >>= (λ l. Ok (plain l.0, l.1)))
+no_name-fits c (Ok t) = tt
+no_name-fits c (Err reason) = tt
 
 pub name-fits : (first : First) (c : Cursor) → NameFits c (token_of None first c)
 unfolding token_of
@@ -509,7 +477,7 @@ name-fits a_word c = word-fits c (word_of c.rest) (word_of-counts c.rest)
 name-fits a_quoted c = quoted-fits c (text_at quoted.symbol_quote None (skip 1 c)) (text-sized quoted.symbol_quote (skip 1 c))
 name-fits a_short c = text-fits c (text_at (quoted.short_quote false) None (skip 1 c))
 name-fits a_long c = text-fits c (text_at (quoted.long_quote false) None (skip 3 c))
-name-fits a_lob c = lob-fits c (lob_at None (skip 2 c))
+name-fits a_lob c = no_name-fits c (lob_at None (skip 2 c))
 name-fits an_operator c = tt
 name-fits an_infinity c = tt
 name-fits (a_begin k) c = tt

@@ -1,7 +1,8 @@
 -- Each piece of a text takes a byte, and so do segments and groups: the number of how many there are at most changes nothing.
-use Rattle.std.proofs.Common.{◌≡◌, ℕ, zero, suc, ◌+◌, ◌<◌, ◌≤◌, Bool, true, false, not, ◌&&◌, ◌||◌, ◌==◌, nat_le, nat_lt, if◌then◌else◌, List, [], ◌∷◌, ◌++◌, length, encode_utf8, Option, Some, None, Ok, refl, ap, subst, arith}
+use Rattle.std.proofs.Common.{◌≡◌, ℕ, zero, suc, ◌+◌, ◌<◌, ◌≤◌, Bool, true, false, not, ◌&&◌, ◌||◌, ◌==◌, nat_le, nat_lt, if◌then◌else◌, List, [], ◌∷◌, ◌++◌, length, encode_utf8, Option, Some, None, Result, Ok, Err, refl, ap, subst, ◌∙◌, arith}
 use Rattle.std.proofs.lemmas.Bool.{and_parts, ltb-false}
 use Rattle.std.proofs.lemmas.List.{length-drop}
+use Rattle.ion_meter.specs.declared.fault.Reason.{Reason}
 use Rattle.ion_meter.specs.declared.fault.Reason.TheVariants.{ScalarLimit}
 use Rattle.ion_meter.specs.Sources.{Cursor, skip}
 use Rattle.ion_value.specs.Digits.{is_between, first_is}
@@ -13,8 +14,18 @@ use Rattle.ion_text_in.specs.Quoted.{Quote, Piece, char, close, illegal, cut, He
 use Rattle.ion_text_in.specs.Lob as lob
 use Rattle.ion_text_in.specs.Lob.{group_of, groups_for}
 use Rattle.ion_text_in.specs.Scanning.{Spelled, IsQuote, Takes, PieceTakes, EachPieceTakes, pieces, segments, groups, with_groups, PiecesInTurn, SegmentsInTurn, GroupsInTurn}
-use Rattle.ion_text_in.proofs.Counting.{HexFits, hex-fits, group-counts, bind-same, groups-if}
+use Rattle.ion_text_in.proofs.Counting.{HexFits, hex-fits, group-counts}
 use Rattle.ion_text_in.proofs.Shrinking.{NoLonger, Within, WithinIf, segment-within, between-within}
+
+-- ---- steps that are the same
+
+bind-same : {A B : Type 0} (o w : Result A Reason) (f g : A → Result B Reason) → o ≡ w → ((x : A) → w ≡ Ok x → f x ≡ g x) → (o >>= f) ≡ (w >>= g)
+bind-same o (Ok x) f g e more = ap (λ o. o >>= f) e ∙ more x refl
+bind-same o (Err reason) f g e more = ap (λ o. o >>= f) e
+
+few-same : (few : Bool) (x y u v : Result (List ℕ × Cursor) Reason) → x ≡ u → (few ≡ false → y ≡ v) → (if few then x else y) ≡ (if few then u else v)
+few-same true x y u v ex ey = ex
+few-same false x y u v ex ey = ey refl
 
 -- ---- a piece takes a byte
 
@@ -208,7 +219,7 @@ groups-by : (later more : ℕ → Bool → Cursor → Spelled) (limit : Option �
 groups-by later more limit count padded c equal =
     let g : List ℕ × List ℕ = group_of 4 c.rest in
     let d : Cursor = lob.behind_to c g.1 in
-    groups-if 0 (nat_lt (length g.0) 4) _ _ _ _ refl
+    few-same (nat_lt (length g.0) 4) _ _ _ _ refl
     (λ many. let four : 4 ≤ length g.0 = ltb-false (length g.0) 4 many in let all = group-counts 4 c.rest in
     let less : length d.rest < length c.rest = omega (arith, four, all) in
     bind-same (lob.group_bytes padded g.0) (lob.group_bytes padded g.0) _ _ refl

@@ -3,8 +3,11 @@ mod Steps
 mod Shrinking
 mod Falling
 pub mod Sound
+mod WentWell
+mod TokenLimits
 mod Tokens
 mod Advancing
+mod Allowing
 mod Complete
 mod TokenCuts
 mod Counting
@@ -14,7 +17,6 @@ mod Meaning
 mod Texts
 mod Blobs
 mod Strings
-mod WentWell
 mod DecodedBytes
 mod LobBytes
 mod RawTokens

@@ -1,5 +1,5 @@
 -- A token that stands at a place is the next that a reading takes there.
-use Rattle.std.proofs.Common.{◌≡◌, ℕ, ◌||◌, if◌then◌else◌, Bool, true, false, ◌≤◌, List, [], ◌∷◌, length, arith, Option, Some, None, Result, Ok, Err, refl, sym, ap, subst, ◌∙◌}
+use Rattle.std.proofs.Common.{◌≡◌, ℕ, nat_lt, ◌||◌, if◌then◌else◌, Bool, true, false, ◌≤◌, List, [], ◌∷◌, length, arith, Option, Some, None, Result, Ok, Err, refl, sym, ap, subst, ◌∙◌}
 use Rattle.std.proofs.lemmas.Bool.{false≢true}
 use Rattle.ion_meter.specs.declared.fault.Reason.{Reason}
 use Rattle.ion_meter.specs.declared.fault.Reason.TheVariants.{ScalarLimit}
@@ -13,6 +13,8 @@ use Rattle.ion_meter.specs.Sources.{Cursor, skip}
 use Rattle.ion_value.specs.Parts.{Placed, part, refuse, ◌>>=◌, ◌>>◌}
 use Rattle.ion_text_in.specs.Limit.{passes}
 use Rattle.ion_text_in.specs.Blanks.{blanks}
+use Rattle.ion_text_in.specs.Meaning.{counts, TokensWithinAreRead}
+use Rattle.ion_text_in.specs.Within.{TokenWithin}
 use Rattle.ion_text_in.specs.Quoted as quoted
 use Rattle.ion_text_in.specs.Quoted.{text_at}
 use Rattle.ion_text_in.specs.Lob.{lob_at}
@@ -23,7 +25,7 @@ use Rattle.ion_text_in.specs.Positions.{Wants, a_value, a_field, a_separator, St
 use Rattle.ion_text_in.specs.Reading.{is_punctuation, names_field, may_come, step, step_of, take, part_at}
 use Rattle.ion_text_in.specs.Grammar.{Tok}
 use Rattle.ion_text_in.proofs.Shrinking.{blanks-within}
-use Rattle.ion_text_in.proofs.Counting.{token-same}
+use Rattle.ion_text_in.proofs.TokenLimits.{token-exact, token-within}
 
 -- ---- what a token's first bytes told
 
@@ -143,6 +145,23 @@ pub tok-stands : (sexp : Bool) (c d : Cursor) (t : Token) (p : ℕ) → Tok sexp
 unfolding next_token
 tok-stands sexp c d t p e = tok-blank sexp c d t p (blanks c) refl e
 
+-- ---- under a limit
+
+pub tokens-within : TokensWithinAreRead
+unfolding next_token
+tokens-within limit sexp c d t p tok =
+    let s = tok-stands sexp c d t p tok in
+    let b : Cursor = s.prefix in
+    ap (λ o. o >>= (λ b. part b.place (token_at (Some limit) sexp b) >>= (λ t. Ok (tokens.cut t.0 b.place t.1)))) s.blank
+    ∙ ap (λ (o : Result (Token × Cursor) Reason). part b.place o >>= (λ t. Ok (tokens.cut t.0 b.place t.1))) (token-exact limit (first_at sexp b.rest) b t d s.token)
+    ∙ placed b.place (nat_lt limit (counts t b.place d.place))
+    ∙ ap (λ p. if nat_lt limit (counts t p d.place) then Err (ScalarLimit, p) else Ok (tokens.cut t p d)) s.place
+  where
+    placed : (p : ℕ) (long : Bool)
+        → (part p (if long then Err ScalarLimit else got t d) >>= (λ t. Ok (tokens.cut t.0 p t.1))) ≡ (if long then Err (ScalarLimit, p) else Ok (tokens.cut t p d))
+    placed p true = refl
+    placed p false = refl
+
 -- ---- the step that takes a token
 
 abbrev pub state : List Kind → ℕ → Wants → Cursor → State
@@ -183,15 +202,15 @@ module _ (limits : Limits) (kinds : List Kind) (top : ℕ) (wants : Wants) (c : 
       ∙ ap (λ (o : Result (Token × Cursor) Reason). part b.place o >>= (λ t. take limits kinds top wants b.place t.0 t.1)) e'
 
 pub step-token : (limits : Limits) (kinds : List Kind) (top : ℕ) (wants : Wants) (c : Cursor) (t : Token) (p : ℕ) (d : Cursor) → Suits wants t
-    → length c.rest ≤ limits.scalar → Tok (in_sexp (innermost kinds)) c t p d
+    → TokenWithin limits t p d → Tok (in_sexp (innermost kinds)) c t p d
     → step limits (state kinds top wants c) ≡ step_of (take limits kinds top wants p t d)
 unfolding step part_at
-step-token limits kinds top wants c t p d suits room tok =
+step-token limits kinds top wants c t p d suits within tok =
     let stands = tok-stands (in_sexp (innermost kinds)) c d t p tok in
     let b : Cursor = stands.prefix in
-    let same = token-same limits.scalar (in_sexp (innermost kinds)) b (let within = (blanks-within c b stands.blank).0 in omega (arith, room, within)) in
+    let token = token-within limits.scalar (first_at (in_sexp (innermost kinds)) b.rest) b t d stands.token (subst (λ p. TokenWithin limits t p d) (sym stands.place) within) in
     ap step_of (ap (λ o. o >>= (λ b. reading.part_behind limits (state kinds top wants c) b b.rest)) stands.blank
-    ∙ rest-token limits kinds top wants c t d suits b b.rest refl (same ∙ stands.token)
+    ∙ rest-token limits kinds top wants c t d suits b b.rest refl token
     ∙ ap (λ p. take limits kinds top wants p t d) stands.place)
 
 -- ---- colons

@@ -16,6 +16,7 @@ use Rattle.ion_text_in.specs.Positions.{State, a_value, innermost, in_sexp, at}
 use Rattle.ion_text_in.specs.Reading.{cost, step, size, reading}
 use Rattle.ion_text_in.specs.Grammar.{Tok, Stream}
 use Rattle.ion_text_in.specs.Paths.{IsPath, At, Follows}
+use Rattle.ion_text_in.specs.Within.{PathWithin, TopsWithin}
 
 -- what is read is a path of the bytes, and a stream where reading finishes
 pub record IsRead (bytes : List ℕ) (r : Reading) : Type 0 where
@@ -49,6 +50,18 @@ Complete =
 abbrev pub StreamsAreRead : Type 0
 StreamsAreRead =
     (limits : Limits) (bytes : List ℕ) (tops : List (Top SymbolAt ℕ)) → Allows limits bytes → Stream bytes tops
+    → reading limits bytes ≡ behind (path_items (closed tops)) Finished
+
+-- so it is where limits allow what stands in the bytes, whatever they would not allow of other bytes
+abbrev pub PathsWithinAreRead : Type 0
+PathsWithinAreRead =
+    (limits : Limits) (bytes : List ℕ) (q : ℕ) (path : Path SymbolAt ℕ) (is : IsPath bytes q path) → PathWithin limits is.spells
+    → (rest : Reading) × (reading limits bytes ≡ behind (path_items path) rest)
+
+-- and so it is with a stream
+abbrev pub StreamsWithinAreRead : Type 0
+StreamsWithinAreRead =
+    (limits : Limits) (bytes : List ℕ) (tops : List (Top SymbolAt ℕ)) (is : Stream bytes tops) → TopsWithin limits is.spells
     → reading limits bytes ≡ behind (path_items (closed tops)) Finished
 
 -- a limit is passed where a reading stands, at the place of the next token: by this token, by the container that it

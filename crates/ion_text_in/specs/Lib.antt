@@ -9,8 +9,9 @@ pub mod Token
 pub mod Reading
 pub mod Grammar
 pub mod Paths
-pub mod Laws
 pub mod Meaning
+pub mod Within
+pub mod Laws
 pub mod Scanning
 pub mod Scanners
 pub mod Beginnings

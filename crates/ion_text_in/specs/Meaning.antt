@@ -1,8 +1,9 @@
--- What a token means: the text of a scalar is read as that scalar, whatever stands behind it that ends it, and the characters of a blob are the base64 of its bytes; what each token means is raw.
-use Rattle.std.specs.Prelude.{◌≡◌, ◌≢◌, ℕ, ◌+◌, ◌*◌, ◌^◌, ◌<◌, ◌≤◌, Bool, true, false, not, List, [], ◌∷◌, ◌++◌, All, length, filter, codes, decimal as digits, Option, Some, None, IsUtf8, ⊤, Ok}
+-- What a token means: the text of a scalar is read as that scalar, whatever stands behind it that ends it, and the characters of a blob are the base64 of its bytes; what each token means is raw, and what it counts.
+use Rattle.std.specs.Prelude.{◌≡◌, ◌≢◌, ℕ, ◌+◌, ◌-◌, ◌*◌, ◌^◌, ◌<◌, ◌≤◌, Bool, true, false, not, nat_lt, if◌then◌else◌, List, [], ◌∷◌, ◌++◌, All, length, filter, codes, decimal as digits, Option, Some, None, IsUtf8, ⊤, Ok, Err}
 use Rattle.std.specs.Str.{is_utf8}
 use Rattle.base64.specs.Engines.{standard}
 use Rattle.base64.specs.GeneralPurpose.{encode_of}
+use Rattle.ion_meter.specs.declared.fault.Reason.TheVariants.{ScalarLimit}
 use Rattle.ion_meter.specs.Sources.{Cursor}
 use Rattle.ion_value.specs.declared.decimal.Decimal.{Decimal}
 use Rattle.ion_value.specs.declared.int.Int.{Int}
@@ -21,7 +22,7 @@ use Rattle.ion_text_in.specs.Blanks.{is_white}
 use Rattle.ion_text_in.specs.Beginnings.{BeginsNot, EndsIdentifier, EndsNumber}
 use Rattle.ion_text_in.specs.Grammar.{Tok}
 use Rattle.ion_text_in.specs.Token as tokens
-use Rattle.ion_text_in.specs.Token.{Token, plain, token_at}
+use Rattle.ion_text_in.specs.Token.{Token, plain, cut, token_at, next_token}
 
 -- a limit on what a token counts, where there is one
 abbrev pub Limit : Type 0
@@ -202,3 +203,25 @@ IsRawToken t = ⊤
 -- so it is with each token
 abbrev pub TokensAreRaw : Type 0
 TokensAreRaw = (sexp : Bool) (c d : Cursor) (t : Token) (p : ℕ) → Tok sexp c t p d → IsRawToken t
+
+-- ---- what a token counts
+
+-- so many bytes a token counts that goes from one place to another: those that it means, for what stands between quotes or is a
+-- lob; none, for punctuation; and else all its bytes
+abbrev pub counts : Token → ℕ → ℕ → ℕ
+counts (tokens.text bytes) p q = length bytes
+counts (tokens.name true (Text bytes)) p q = length bytes
+counts (plain (clob bytes)) p q = length bytes
+counts (plain (blob bytes)) p q = length bytes
+counts (tokens.begin kind) p q = 0
+counts (tokens.end kind) p q = 0
+counts tokens.comma p q = 0
+counts tokens.colon p q = 0
+counts tokens.colons p q = 0
+counts t p q = q - p
+
+-- under a limit a token is read where it counts no more, and else refused at its first byte
+abbrev pub TokensWithinAreRead : Type 0
+TokensWithinAreRead =
+    (limit : ℕ) (sexp : Bool) (c d : Cursor) (t : Token) (p : ℕ) → Tok sexp c t p d
+    → next_token (Some limit) sexp c ≡ (if nat_lt limit (counts t p d.place) then Err (ScalarLimit, p) else Ok (cut t p d))

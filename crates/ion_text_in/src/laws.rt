@@ -1,9 +1,9 @@
 //! Laws of the grammar and the reading of the text form, each the contract of a function that does
 //! nothing.
 ghost use Rattle.ion_text_in.specs.Beginnings.{IdentifiersAreCut, IdentifiersEnd, NumbersAreCut, NumbersEnd, OneBegins, OperatorsAreCut, OperatorsEnd, WhatBegins, WhereNoneBegins};
-ghost use Rattle.ion_text_in.specs.Meaning.{Base64IsRead, BlobsAreBase64, BoolTextIsRead, ClobTextIsRead, DecimalTextIsRead, IdIsRead, IdWordIsRead, IntTextIsRead, NullTextIsRead, PlainSymbolIsRead, QuotedSymbolIsRead, StringTextIsRead, TimestampTextIsRead, TokensAreRaw};
+ghost use Rattle.ion_text_in.specs.Meaning.{Base64IsRead, BlobsAreBase64, BoolTextIsRead, ClobTextIsRead, DecimalTextIsRead, IdIsRead, IdWordIsRead, IntTextIsRead, NullTextIsRead, PlainSymbolIsRead, QuotedSymbolIsRead, StringTextIsRead, TimestampTextIsRead, TokensAreRaw, TokensWithinAreRead};
 ghost use Rattle.ion_text_in.specs.Scanning.{BlanksChangeNoStep, EachPieceTakes, GroupsInTurn, PiecesInTurn, PlainBytesAreSpelled, SegmentsInTurn};
-ghost use Rattle.ion_text_in.specs.Laws.{Complete, EachStepFalls, EachStepFollows, ExactLimits, Narrow, OnePath, OneStream, RightlyRefused, Sound, StreamsAreRaw, StreamsAreRead, WithinLimitsAreRead};
+ghost use Rattle.ion_text_in.specs.Laws.{Complete, EachStepFalls, EachStepFollows, ExactLimits, Narrow, OnePath, OneStream, PathsWithinAreRead, RightlyRefused, Sound, StreamsAreRaw, StreamsAreRead, StreamsWithinAreRead, WithinLimitsAreRead};
 
 /// What is read is a path of the grammar, and where the reading finishes, the whole input is a
 /// stream.
@@ -31,6 +31,13 @@ pub fn what_is_spelled_is_read()
 /// A stream is read to its end, under limits that allow it.
 pub fn streams_are_read()
     ensures { StreamsAreRead }
+{}
+
+/// What stands before a place, and a stream, is read where limits allow what stands there: no token
+/// counts more, no annotations cost more, and no container is deeper.
+pub fn what_is_within_limits_is_read()
+    ensures paths { PathsWithinAreRead }
+    ensures streams { StreamsWithinAreRead }
 {}
 
 /// A stream that passes no limit at any place is read to its end.
@@ -140,6 +147,11 @@ pub fn id_is_read()
 /// What a token means is in range, UTF-8, and bytes.
 pub fn tokens_are_raw()
     ensures { TokensAreRaw }
+{}
+
+/// Under a limit a token is read exactly where it counts no more, and else refused at its first byte.
+pub fn tokens_within_a_limit_are_read()
+    ensures { TokensWithinAreRead }
 {}
 
 /// A number or timestamp goes on up to the input's end, one of the fifteen numeric stop characters or

@@ -3,7 +3,7 @@ use Rattle.std.proofs.Common.{◌≡◌, ℕ, zero, suc, ◌<◌, List, [], ◌�
 use Rattle.ion_meter.specs.declared.limits.Limits.{Limits}
 use Rattle.ion_value.specs.Value.{SymbolAt, PlacedItem}
 use Rattle.ion_value.specs.Path.{Path, closed, path_items}
-use Rattle.ion_value.specs.Reading.{Reading, Finished, Stopped, More, Step, Ends, Stops, Gives, GoesOn, Leaves, behind, behind_item, behind_nothing, next_reading}
+use Rattle.ion_value.specs.Reading.{Reading, Finished, More, Step, Ends, Stops, Gives, GoesOn, Leaves, behind, behind_item, behind_nothing, next_reading}
 use Rattle.ion_value.specs.Outcome.{verdict_with, verdict_behind, output_with, output_behind}
 use Rattle.ion_symbols.specs.Table.{Shared}
 use Rattle.ion_symbols.specs.Users as users

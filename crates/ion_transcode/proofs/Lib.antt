@@ -23,6 +23,7 @@ mod ScalarTokens
 mod TokensInText
 mod ValuesAreSpelled
 mod TextOfValuesIsRead
+mod TextWithoutPlaces
 mod ReadAgain
 mod ShortRuns
 mod NeededPremises

@@ -1,17 +1,15 @@
 -- What loading a catalogue answers, by what the calls that it is made of do.
-use Rattle.std.proofs.Common.{◌≡◌, ℕ, Bool, true, false, List, [], ◌∷◌, Option, Some, None, Result, Ok, Err, refl, ap, sym, subst, ◌∙◌}
-use Rattle.std.specs.Prelude.{slice_get, nat_eq}
+use Rattle.std.proofs.Common.{◌≡◌, ℕ, List, [], ◌∷◌, Option, Result, Ok, Err, ap, sym, subst, ◌∙◌}
+use Rattle.std.specs.Prelude.{slice_get}
 use Rattle.ion_meter.specs.declared.fault.Fault.{Fault}
-use Rattle.ion_meter.specs.declared.fault.Reason.{Reason}
 use Rattle.ion_meter.specs.declared.limits.Limits.{Limits}
 use Rattle.ion_value.specs.Value.{user_items}
 use Rattle.ion_value.specs.Reading.{Reading, items_of}
-use Rattle.ion_value.specs.Outcome.{Verdict, Accepted, Rejected, verdict_behind}
+use Rattle.ion_value.specs.Outcome.{Verdict, Accepted, verdict_behind}
 use Rattle.ion_symbols.specs.Table.{Shared}
 use Rattle.ion_symbols.specs.Users.{at_start, users}
 use Rattle.ion_symbols.specs.CatalogItems.{Loading, loaded, catalog_refusal}
 use Rattle.ion_transcode.specs.declared.to.Form.{Form}
-use Rattle.ion_transcode.specs.declared.to.Form.TheVariants as form
 use Rattle.ion_transcode.specs.Forms.{form_by_first, form_of, reading_of}
 use Rattle.ion_transcode.specs.Catalogues.{Loads, SaysCatalog, catalog_reading, catalog_verdict}
 

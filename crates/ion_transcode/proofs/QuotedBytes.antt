@@ -42,7 +42,8 @@ data Lettered (b : ℕ) : Option ℕ → Type 0 where
   by_letter : (c : ℕ) → Escape c b → Lettered b (Some c)
   none : Lettered b None
 
-lettered-if : (b c n : ℕ) (o : Option ℕ) → Escape c n → ((b == n) ≡ false → Lettered b o) → Lettered b (if b == n then Some c else o)
+lettered-if : (b c n : ℕ) (o : Option ℕ) → Escape c n → ((b == n) ≡ false → Lettered b o)
+    → Lettered b (if b == n then Some c else o)
 lettered-if b c n o e other = elim (cases_Bool (b == n)) [
   | inl is ↦ rw is (by_letter c (subst (λ x. Escape c x) (sym (eqb-true b n is)) e))
   | inr differs ↦ rw differs (other differs)
@@ -68,13 +69,10 @@ quote-escape : (quote : ℕ) → Quotes quote → Escape quote quote
 quote-escape _ Quotes.double = Escape.double_quote
 quote-escape _ Quotes.single = Escape.single_quote
 
-escape-char : (quote : ℕ) (in_clob : Bool) (b : ℕ) (o : Option ℕ) → Lettered b o → b < 256 → (in_clob ≡ false → b < 128) → Char quote in_clob (escape_by b o) b
-escape-char quote in_clob b _ (by_letter c e) small ascii = Char.escaped c b e
-escape-char quote in_clob b _ none small ascii = char-coded quote in_clob b small ascii
-
-letter-char : (quote : ℕ) (in_clob : Bool) (b : ℕ) (o : Option ℕ) → Lettered b o → b < 256 → (in_clob ≡ false → b < 128 ⊎ b ≡ 92) → letter b ≡ o → Char quote in_clob (escape_by b o) b
-letter-char quote in_clob b _ (by_letter c e) small ascii is = Char.escaped c b e
-letter-char quote in_clob b _ none small ascii is = char-coded quote in_clob b small (λ e. below (ascii e))
+letter-char : (quote : ℕ) (in_clob : Bool) (b : ℕ) (o : Option ℕ) → Lettered b o → b < 256
+    → (in_clob ≡ false → b < 128 ⊎ b ≡ 92) → Char quote in_clob (escape_by b o) b
+letter-char quote in_clob b _ (by_letter c e) small ascii = Char.escaped c b e
+letter-char quote in_clob b _ none small ascii = char-coded quote in_clob b small (λ e. below (ascii e))
   where
     below : b < 128 ⊎ b ≡ 92 → b < 128
     below (inl less) = less
@@ -106,30 +104,38 @@ shown-parts quote top b e =
     let c = and_parts (nat_lt b top) (not (b == 127) && (not (b == quote) && not (b == 92))) a.1 in
     let d = and_parts (not (b == 127)) (not (b == quote) && not (b == 92)) c.1 in
     let f = and_parts (not (b == quote)) (not (b == 92)) d.1 in
-    (leb-true 32 b a.0, ltb-true b top c.0, eqb-false b quote (not-true (b == quote) f.0), eqb-false b 92 (not-true (b == 92) f.1))
+    let no_quote : b ≢ quote = eqb-false b quote (not-true (b == quote) f.0) in
+    let no_slash : b ≢ 92 = eqb-false b 92 (not-true (b == 92) f.1) in
+    (leb-true 32 b a.0, ltb-true b top c.0, no_quote, no_slash)
 
 ascii-top : (in_clob : Bool) (b : ℕ) → b < top_of in_clob → in_clob ≡ true → b < 128
 ascii-top true b less e = less
 ascii-top false b less e = absurd (false≢true e)
 
-escaped-char : (quote : ℕ) (in_clob : Bool) (b : ℕ) (same : Bool) → (b == quote) ≡ same → Quotes quote → b < 256 → is_shown quote (top_of in_clob) b ≡ false
+escaped-char : (quote : ℕ) (in_clob : Bool) (b : ℕ) (same : Bool) → (b == quote) ≡ same → Quotes quote → b < 256
+    → is_shown quote (top_of in_clob) b ≡ false
     → Char quote in_clob (if same then 92 ∷ b ∷ [] else escape_by b (letter b)) b
 escaped-char quote in_clob b true is q small hidden =
     let e : b ≡ quote = eqb-true b quote is in
     subst (λ (x : ℕ). Char quote in_clob (92 ∷ x ∷ []) x) (sym e) (Char.escaped quote quote (quote-escape quote q))
-escaped-char quote true b false is q small hidden = letter-char quote true b (letter b) (lettered b) small (λ e. absurd (false≢true (sym e))) refl
-escaped-char quote false b false is q small hidden = letter-char quote false b (letter b) (lettered b) small (λ e. hidden-low quote b hidden is small) refl
+escaped-char quote true b false is q small hidden =
+    letter-char quote true b (letter b) (lettered b) small (λ e. absurd (false≢true (sym e)))
+escaped-char quote false b false is q small hidden =
+    letter-char quote false b (letter b) (lettered b) small (λ e. hidden-low quote b hidden is small)
 
-byte-char-by : (quote : ℕ) (in_clob : Bool) (b : ℕ) (shown : Bool) → is_shown quote (top_of in_clob) b ≡ shown → Quotes quote → b < 256
-    → Char quote in_clob (if shown then b ∷ [] else escaped quote b) b
+byte-char-by : (quote : ℕ) (in_clob : Bool) (b : ℕ) (shown : Bool) → is_shown quote (top_of in_clob) b ≡ shown
+    → Quotes quote → b < 256 → Char quote in_clob (if shown then b ∷ [] else escaped quote b) b
 byte-char-by quote in_clob b true is q small =
     let p = shown-parts quote (top_of in_clob) b is in
     Char.shown b p.0 p.2 p.3 (ascii-top in_clob b p.1)
 byte-char-by quote in_clob b false is q small = escaped-char quote in_clob b (b == quote) refl q small is
 
-byte-char : (quote : ℕ) (in_clob : Bool) (b : ℕ) → Quotes quote → b < 256 → Char quote in_clob (byte_text quote (top_of in_clob) b) b
+byte-char : (quote : ℕ) (in_clob : Bool) (b : ℕ) → Quotes quote → b < 256
+    → Char quote in_clob (byte_text quote (top_of in_clob) b) b
 byte-char quote in_clob b q small = byte-char-by quote in_clob b (is_shown quote (top_of in_clob) b) refl q small
 
-pub chars-are : (quote : ℕ) (in_clob : Bool) (bytes : List ℕ) → Quotes quote → AreBytes bytes → Chars quote in_clob (flat_map (byte_text quote (top_of in_clob)) bytes) bytes
+pub chars-are : (quote : ℕ) (in_clob : Bool) (bytes : List ℕ) → Quotes quote → AreBytes bytes
+    → Chars quote in_clob (flat_map (byte_text quote (top_of in_clob)) bytes) bytes
 chars-are quote in_clob [] q small = Chars.none
-chars-are quote in_clob (b ∷ bytes) q small = Chars.and_then (byte-char quote in_clob b q small.0) (chars-are quote in_clob bytes q small.1)
+chars-are quote in_clob (b ∷ bytes) q small =
+    Chars.and_then (byte-char quote in_clob b q small.0) (chars-are quote in_clob bytes q small.1)

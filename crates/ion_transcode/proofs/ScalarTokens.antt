@@ -15,7 +15,7 @@ use Rattle.ion_symbols.specs.Tree.{user_at}
 use Rattle.ion_value.specs.Writable.{scalar_symbols, HasText, IsText, AreBytes, HasBytes}
 use Rattle.ion_text_in.specs.Blanks.{is_white}
 use Rattle.ion_text_in.specs.Beginnings.{EndsIdentifier, EndsNumber}
-use Rattle.ion_text_in.specs.Meaning.{Anything, EndsNull, solid}
+use Rattle.ion_text_in.specs.Meaning.{Anything, EndsNull, Means, solid}
 use Rattle.ion_text_in.specs.Token.{plain, text}
 use Rattle.ion_text_out.specs.Escape.{byte_text}
 use Rattle.ion_text_out.specs.Text.{scalar_text}
@@ -24,9 +24,10 @@ use Rattle.ion_transcode.proofs.QuotedBytes.{Quotes, chars-are}
 use Rattle.ion_transcode.proofs.SymbolTokens.{TextLaws, IsToken, means-token, SymbolIs, symbol-is}
 use Rattle.ion_transcode.proofs.Utf8Bytes.{utf8-bytes, all-append}
 
--- what a scalar's text is in the grammar
+-- what a scalar's text is in the grammar: the token of a plain value, a string, or a symbol
 pub data ScalarIs : Scalar UserSymbol → Type 0 where
-  a_plain : {body : Scalar UserSymbol} (raw : Scalar SymbolAt) → IsToken Behind (scalar_text body) (plain raw) → ((t : Table) → map_scalar (user_at t) raw ≡ body) → ScalarIs body
+  a_plain : {body : Scalar UserSymbol} (raw : Scalar SymbolAt) → IsToken Behind (scalar_text body) (plain raw)
+      → ((t : Table) → map_scalar (user_at t) raw ≡ body) → ScalarIs body
   a_string : (bytes : List ℕ) → IsToken Behind (scalar_text (value.string bytes)) (text bytes) → ScalarIs (value.string bytes)
   a_symbol : (s : UserSymbol) → SymbolIs s → ScalarIs (value.symbol s)
 
@@ -52,39 +53,66 @@ symbols-dark : (bytes : List ℕ) → AreBytes bytes → Dark (encode_symbols st
 unfolding encode_symbols
 symbols-dark [] h = tt
 symbols-dark (a ∷ []) h = (code-dark (a / 4) (omega (arith, h.0)), (code-dark (a % 4 * 16) (omega arith), tt))
-symbols-dark (a ∷ b ∷ []) h = (code-dark (a / 4) (omega (arith, h.0)), (code-dark (a % 4 * 16 + b / 16) (omega (arith, h.1.0)), (code-dark (b % 16 * 4) (omega arith), tt)))
-symbols-dark (a ∷ b ∷ c ∷ rest) h =
-    (code-dark (a / 4) (omega (arith, h.0)), (code-dark (a % 4 * 16 + b / 16) (omega (arith, h.1.0)), (code-dark (b % 16 * 4 + c / 64) (omega (arith, h.1.1.0)), (code-dark (c % 64) (omega arith), symbols-dark rest h.1.1.1))))
+symbols-dark (a ∷ b ∷ []) h = (
+  code-dark (a / 4) (omega (arith, h.0)),
+  (
+    code-dark (a % 4 * 16 + b / 16) (omega (arith, h.1.0)),
+    (code-dark (b % 16 * 4) (omega arith), tt),
+  ),
+)
+symbols-dark (a ∷ b ∷ c ∷ rest) h = (
+  code-dark (a / 4) (omega (arith, h.0)),
+  (
+    code-dark (a % 4 * 16 + b / 16) (omega (arith, h.1.0)),
+    (code-dark (b % 16 * 4 + c / 64) (omega (arith, h.1.1.0)), (code-dark (c % 64) (omega arith), symbols-dark rest h.1.1.1)),
+  ),
+)
 
 padding-dark : (n : ℕ) → Dark (replicate n 61)
 padding-dark zero = tt
 padding-dark (suc n) = (refl, padding-dark n)
 
 solid-code : (bytes : List ℕ) → AreBytes bytes → solid (encode_of standard bytes) ≡ encode_of standard bytes
-solid-code bytes h = solid-dark _ (all-append (λ b. is_white b ≡ false) (encode_symbols standard.encode_table bytes) _ (symbols-dark bytes h) (padding-dark (padding_len (length bytes))))
+solid-code bytes h =
+    let symbols = symbols-dark bytes h in
+    let padding = padding-dark (padding_len (length bytes)) in
+    solid-dark _ (all-append (λ b. is_white b ≡ false) (encode_symbols standard.encode_table bytes) _ symbols padding)
 
 all-from : (bytes : List ℕ) → AreBytes bytes → All (λ octet. octet < 256) bytes
 all-from [] h = All-nil (λ octet. octet < 256)
 all-from (b ∷ bytes) h = All-cons (λ octet. octet < 256) b bytes h.0 (all-from bytes h.1)
 
-pub scalar-is : TextLaws → (body : Scalar UserSymbol) → InRange body → HasText body → HasBytes body → AllByRecursion IsText (scalar_symbols body) → ScalarIs body
+plain-is : (body : Scalar UserSymbol) (raw : Scalar SymbolAt) (count : ℕ) (Ends : List ℕ → Type 0)
+    → ((rest : List ℕ) → Behind rest → Ends rest) → Means count Ends (scalar_text body) (plain raw)
+    → ((t : Table) → map_scalar (user_at t) raw ≡ body) → ScalarIs body
+plain-is body raw count Ends ends means same = a_plain raw (means-token count Ends Behind _ _ refl ends means) same
+
+pub scalar-is : TextLaws → (body : Scalar UserSymbol) → InRange body → HasText body → HasBytes body
+    → AllByRecursion IsText (scalar_symbols body) → ScalarIs body
 scalar-is laws (value.null t) range utf8 small texts =
-    a_plain (value.null t) (means-token _ (EndsNull t) Behind _ _ refl (λ rest b. ends-null laws.identifiers_end t rest b) (laws.nulls t)) (λ u. refl)
+    let ends = λ (rest : List ℕ) (b : Behind rest). ends-null laws.identifiers_end t rest b in
+    plain-is _ (value.null t) _ (EndsNull t) ends (laws.nulls t) (λ u. refl)
 scalar-is laws (value.bool truth) range utf8 small texts =
-    a_plain (value.bool truth) (means-token _ EndsIdentifier Behind _ _ refl (λ rest b. ends-identifier laws.identifiers_end rest (BehindSymbol.of_value b)) (laws.bools truth)) (λ u. refl)
+    let ends = λ (rest : List ℕ) (b : Behind rest). ends-identifier laws.identifiers_end rest (BehindSymbol.of_value b) in
+    plain-is _ (value.bool truth) _ EndsIdentifier ends (laws.bools truth) (λ u. refl)
 scalar-is laws (value.int i) range utf8 small texts =
-    a_plain (value.int i) (means-token _ EndsNumber Behind _ _ refl (λ rest b. ends-number laws.numbers_end rest b) (laws.ints i range)) (λ u. refl)
+    let ends = λ (rest : List ℕ) (b : Behind rest). ends-number laws.numbers_end rest b in
+    plain-is _ (value.int i) _ EndsNumber ends (laws.ints i range) (λ u. refl)
 scalar-is laws (value.decimal d) range utf8 small texts =
-    a_plain (value.decimal d) (means-token _ EndsNumber Behind _ _ refl (λ rest b. ends-number laws.numbers_end rest b) (laws.decimals d range)) (λ u. refl)
+    let ends = λ (rest : List ℕ) (b : Behind rest). ends-number laws.numbers_end rest b in
+    plain-is _ (value.decimal d) _ EndsNumber ends (laws.decimals d range) (λ u. refl)
 scalar-is laws (value.timestamp t) range utf8 small texts =
-    a_plain (value.timestamp t) (means-token _ EndsNumber Behind _ _ refl (λ rest b. ends-number laws.numbers_end rest b) (laws.timestamps t range)) (λ u. refl)
+    let ends = λ (rest : List ℕ) (b : Behind rest). ends-number laws.numbers_end rest b in
+    plain-is _ (value.timestamp t) _ EndsNumber ends (laws.timestamps t range) (λ u. refl)
 scalar-is laws (value.symbol s) range utf8 small texts = a_symbol s (symbol-is laws s texts.0)
 scalar-is laws (value.string bytes) range utf8 small texts =
-    a_string bytes (means-token _ Anything Behind _ _ refl behind-anything
-    (laws.strings (flat_map (byte_text 34 256) bytes) bytes (chars-are 34 false bytes Quotes.double (utf8-bytes bytes utf8)) (is_utf8-from_IsUtf8 bytes utf8)))
+    let chars = chars-are 34 false bytes Quotes.double (utf8-bytes bytes utf8) in
+    let means = laws.strings (flat_map (byte_text 34 256) bytes) bytes chars (is_utf8-from_IsUtf8 bytes utf8) in
+    a_string bytes (means-token _ Anything Behind _ _ refl behind-anything means)
 scalar-is laws (value.clob bytes) range utf8 small texts =
-    a_plain (value.clob bytes) (means-token _ Anything Behind _ _ refl behind-anything
-    (laws.clobs [] (flat_map (byte_text 34 128) bytes) [] bytes refl (chars-are 34 true bytes Quotes.double small) refl)) (λ u. refl)
+    let chars = chars-are 34 true bytes Quotes.double small in
+    let means = laws.clobs [] (flat_map (byte_text 34 128) bytes) [] bytes refl chars refl in
+    plain-is _ (value.clob bytes) _ Anything behind-anything means (λ u. refl)
 scalar-is laws (value.blob bytes) range utf8 small texts =
-    a_plain (value.blob bytes) (means-token _ Anything Behind _ _ refl behind-anything
-    (laws.blobs (encode_of standard bytes) bytes (all-from bytes small) (solid-code bytes small))) (λ u. refl)
+    let means = laws.blobs (encode_of standard bytes) bytes (all-from bytes small) (solid-code bytes small) in
+    plain-is _ (value.blob bytes) _ Anything behind-anything means (λ u. refl)

@@ -25,12 +25,12 @@ use Rattle.ion_transcode.specs.RoundTrip.{TextIsRead}
 use Rattle.ion_transcode.proofs.BehindValues.{is_start, starts, Behind, no-blanks, one-line, one-space}
 use Rattle.ion_transcode.proofs.TokensInText.{Gap, no_gap, a_line}
 use Rattle.ion_transcode.proofs.SymbolTokens.{TextLaws}
-use Rattle.ion_transcode.proofs.ValuesAreSpelled.{annotations_text, value-read, top-starts, same_member, id-map}
+use Rattle.ion_transcode.proofs.ValuesAreSpelled.{annotations_text, seen, seen_members, unplaced, unplaced_members, value-read, top-starts, same_member, id-map}
 
 -- ---- a user value is not read as a declaration
 
 -- whether a symbol is `$ion_symbol_table`
-abbrev pub declares_by : UserSymbol → Bool
+abbrev declares_by : UserSymbol → Bool
 declares_by (Known t) = is_declaration (word_of t)
 declares_by Unknown = false
 
@@ -38,17 +38,19 @@ id-word : (o : Option (List ℕ)) (id : ℕ) → is_declaration (word_by_id o) �
 id-word None id = refl
 id-word (Some t) id = refl
 
-pub symbol-word : (t : Table) (s : Symbol) → is_declaration (word_in (text_at t) s) ≡ declares_by (user_symbol (named (text_at t) s))
+symbol-word : (t : Table) (s : Symbol)
+    → is_declaration (word_in (text_at t) s) ≡ declares_by (user_symbol (named (text_at t) s))
 symbol-word t (Text b) = refl
 symbol-word t (Id id) = id-word (text_at t id) id
 
-pub declaring-first : (s : UserSymbol) (ss : List UserSymbol) (ms : Members UserSymbol ℕ) (last : ℕ) → is_declaring (s ∷ ss) (container kind.Struct ms last) ≡ declares_by s
+declaring-first : (s : UserSymbol) (ss : List UserSymbol) (ms : Members UserSymbol ℕ) (last : ℕ)
+    → is_declaring (s ∷ ss) (container kind.Struct ms last) ≡ declares_by s
 declaring-first (Known t) ss ms last = refl
 declaring-first Unknown ss ms last = refl
 
-declares-none : (t : Table) (own : List SymbolAt) (raw : Value SymbolAt ℕ) (annotations : List UserSymbol) (x : Value UserSymbol ℕ)
-    → map (user_at t) own ≡ annotations → map_value (user_at t) no_place raw ≡ map_value (λ (s : UserSymbol). s) no_place x
-    → is_declaring annotations x ≡ false → declares_table t own raw ≡ None
+declares-none : (t : Table) (own : List SymbolAt) (raw : Value SymbolAt ℕ) (annotations : List UserSymbol)
+    (x : Value UserSymbol ℕ) → map (user_at t) own ≡ annotations → seen t raw ≡ unplaced x → is_declaring annotations x ≡ false
+    → declares_table t own raw ≡ None
 declares-none t [] raw annotations x n e d = refl
 declares-none t (s ∷ ss) (scalar v) annotations x n e d = refl
 declares-none t (s ∷ ss) (container kind.List ms last) annotations x n e d = refl
@@ -56,17 +58,18 @@ declares-none t (s ∷ ss) (container kind.Sexp ms last) annotations x n e d = r
 declares-none t (s ∷ ss) (container kind.Struct ms last) [] x n e d = absurd (cc n)
 declares-none t (s ∷ ss) (container kind.Struct ms last) (a ∷ others) (scalar v) n e d = absurd (cc e)
 declares-none t (s ∷ ss) (container kind.Struct ms last) (a ∷ others) (container kind.List ns l) n e d =
-    let f : container kind.Struct (map_members (user_at t) no_place ms) tt ≡ container kind.List (map_members (λ (s : UserSymbol). s) no_place ns) tt = e in
+    let f : container kind.Struct (seen_members t ms) tt ≡ container kind.List (unplaced_members ns) tt = e in
     let kinds : kind.Struct ≡ kind.List = cc f in
     absurd (cc kinds)
 declares-none t (s ∷ ss) (container kind.Struct ms last) (a ∷ others) (container kind.Sexp ns l) n e d =
-    let f : container kind.Struct (map_members (user_at t) no_place ms) tt ≡ container kind.Sexp (map_members (λ (s : UserSymbol). s) no_place ns) tt = e in
+    let f : container kind.Struct (seen_members t ms) tt ≡ container kind.Sexp (unplaced_members ns) tt = e in
     let kinds : kind.Struct ≡ kind.Sexp = cc f in
     absurd (cc kinds)
 declares-none t (s ∷ ss) (container kind.Struct ms last) (a ∷ others) (container kind.Struct ns l) n e d =
     let f : user_at t s ∷ map (user_at t) ss ≡ a ∷ others = n in
     let first : user_at t s ≡ a = cc f in
-    let no : is_declaration (word_in (text_at t) s.symbol) ≡ false = symbol-word t s.symbol ∙ (ap declares_by first ∙ (sym (declaring-first a others ns l) ∙ d)) in
+    let no : is_declaration (word_in (text_at t) s.symbol) ≡ false =
+    symbol-word t s.symbol ∙ (ap declares_by first ∙ (sym (declaring-first a others ns l) ∙ d)) in
     ap (λ b. if b then Some ms else None) no
 
 -- ---- values at top level, one after the other
@@ -79,7 +82,8 @@ record Sofar (catalog : List Shared) (start : Cursor) (done : List (Top UserSymb
   is_gap : Gap gap
   place : ℕ
   spells : Tops start raw (at place (gap ++ rest))
-  leads : (more : List (Top SymbolAt ℕ)) → user_tops catalog system (raw ++ more) ≡ option_map (λ vs. users ++ vs) (user_tops catalog system more)
+  leads : (more : List (Top SymbolAt ℕ))
+      → user_tops catalog system (raw ++ more) ≡ option_map (λ vs. users ++ vs) (user_tops catalog system more)
   same : map unplaced_top users ≡ map unplaced_top done
 
 line-join : (a b rest : List ℕ) → (a ++ (b ++ codes "\n")) ++ rest ≡ a ++ (b ++ (10 ∷ rest))
@@ -89,18 +93,25 @@ tops-start : TextLaws → (tops : List (Top UserSymbol ℕ)) → AreUsers tops �
 tops-start laws [] users = refl
 tops-start laws (version place ∷ ts) users = absurd users.0.0
 tops-start laws (tree first annotations place x ∷ ts) users =
+    let line : Behind (10 ∷ text ts) = Behind.at_line (tops-start laws ts (users.0.1, users.1.1)) in
     subst (λ (xs : List ℕ). starts xs ≡ true) (sym (line-join (annotations_text annotations) (value_text x) (text ts)))
-    (top-starts laws annotations x users.0.0.1.0 users.0.0.0 users.1.0 (10 ∷ text ts) (Behind.at_line (tops-start laws ts (users.0.1, users.1.1))))
+    (top-starts laws annotations x users.0.0.1.0 users.0.0.0 users.1.0 (10 ∷ text ts) line)
 
-joined : (us vs : List (Top UserSymbol ℕ)) (o : Option (List (Top UserSymbol ℕ))) → option_map (λ x. us ++ x) (option_map (λ x. vs ++ x) o) ≡ option_map (λ x. (us ++ vs) ++ x) o
+joined : (us vs : List (Top UserSymbol ℕ)) (o : Option (List (Top UserSymbol ℕ)))
+    → option_map (λ x. us ++ x) (option_map (λ x. vs ++ x) o) ≡ option_map (λ x. (us ++ vs) ++ x) o
 joined us vs None = refl
 joined us vs (Some x) = ap (λ y. Some y) (sym (append_assoc us vs x))
 
-leads-value : (catalog : List Shared) (t : Table) (p h : ℕ) (own : List SymbolAt) (raw : Value SymbolAt ℕ) (more : List (Top SymbolAt ℕ)) → declares_table t own raw ≡ None
-    → user_tops catalog t (tree p own h raw ∷ more) ≡ option_map (λ us. tree p (map (user_at t) own) h (map_value (user_at t) (λ q. q) raw) ∷ us) (user_tops catalog t more)
+abbrev as_user : Table → ℕ → List SymbolAt → ℕ → Value SymbolAt ℕ → Top UserSymbol ℕ
+as_user t p own h raw = tree p (map (user_at t) own) h (map_value (user_at t) (λ (q : ℕ). q) raw)
+
+leads-value : (catalog : List Shared) (t : Table) (p h : ℕ) (own : List SymbolAt) (raw : Value SymbolAt ℕ)
+    (more : List (Top SymbolAt ℕ)) → declares_table t own raw ≡ None
+    → user_tops catalog t (tree p own h raw ∷ more) ≡ option_map (λ us. as_user t p own h raw ∷ us) (user_tops catalog t more)
 leads-value catalog t p h own raw more none = rw (none, user_tops) refl
 
-scalar-then : (f : SymbolAt → UserSymbol) (v : Scalar SymbolAt) → map_scalar (λ (s : UserSymbol). s) (map_scalar f v) ≡ map_scalar f v
+scalar-then : (f : SymbolAt → UserSymbol) (v : Scalar SymbolAt)
+    → map_scalar (λ (s : UserSymbol). s) (map_scalar f v) ≡ map_scalar f v
 scalar-then f (value.null t) = refl
 scalar-then f (value.bool truth) = refl
 scalar-then f (value.int number) = refl
@@ -112,23 +123,34 @@ scalar-then f (value.clob b) = refl
 scalar-then f (value.blob b) = refl
 
 mutual
-  value-then : (t : Table) (x : Value SymbolAt ℕ) → map_value (λ (s : UserSymbol). s) no_place (map_value (user_at t) (λ (q : ℕ). q) x) ≡ map_value (user_at t) no_place x
+  value-then : (t : Table) (x : Value SymbolAt ℕ) → unplaced (map_value (user_at t) (λ (q : ℕ). q) x) ≡ seen t x
   value-then t (scalar v) = ap (λ (w : Scalar UserSymbol). scalar w) (scalar-then (user_at t) v)
   value-then t (container k ms last) = ap (λ (ns : Members UserSymbol ⊤). container k ns tt) (members-then t ms)
 
-  members-then : (t : Table) (ms : Members SymbolAt ℕ) → map_members (λ (s : UserSymbol). s) no_place (map_members (user_at t) (λ (q : ℕ). q) ms) ≡ map_members (user_at t) no_place ms
+  members-then : (t : Table) (ms : Members SymbolAt ℕ)
+      → unplaced_members (map_members (user_at t) (λ (q : ℕ). q) ms) ≡ seen_members t ms
   members-then t value.nothing = refl
   members-then t (value.member before f annotations p x) =
-      same_member _ _ _ _ _ _ tt _ _ (members-then t before) (option_map_id (option_map (user_at t) f)) (id-map (map (user_at t) annotations)) (value-then t x)
+      let field = option_map_id (option_map (user_at t) f) in
+      same_member tt (members-then t before) field (id-map (map (user_at t) annotations)) (value-then t x)
 
-one-more : TextLaws → (catalog : List Shared) (start : Cursor) (done : List (Top UserSymbol ℕ)) (first place : ℕ) (annotations : List UserSymbol) (x : Value UserSymbol ℕ) (rest : List ℕ)
+one-more : TextLaws → (catalog : List Shared) (start : Cursor) (done : List (Top UserSymbol ℕ)) (first place : ℕ)
+    (annotations : List UserSymbol) (x : Value UserSymbol ℕ) (rest : List ℕ)
     → AreUsers (tree first annotations place x ∷ []) → starts rest ≡ true
-    → Sofar catalog start done (annotations_text annotations ++ (value_text x ++ (10 ∷ rest))) → Sofar catalog start (done ++ tree first annotations place x ∷ []) rest
+    → Sofar catalog start done (annotations_text annotations ++ (value_text x ++ (10 ∷ rest)))
+    → Sofar catalog start (done ++ tree first annotations place x ∷ []) rest
 one-more laws catalog start done first place annotations x rest users begins s =
-    let v = value-read laws None None annotations x s.gap s.is_gap s.place (10 ∷ rest) users.0.0.1.0 users.0.0.0 users.1.0 (Behind.at_line begins) in
-    let top : Top SymbolAt ℕ = tree (first_place v.own v.place) v.own v.place v.raw in
-    let user : Top UserSymbol ℕ = tree (first_place v.own v.place) (map (user_at system) v.own) v.place (map_value (user_at system) (λ q. q) v.raw) in
-    let none : declares_table system v.own v.raw ≡ None = declares-none system v.own v.raw annotations x (v.annotations_are system) (v.value_is system) users.0.0.1.1 in
+    let line : Behind (10 ∷ rest) = Behind.at_line begins in
+    let is = users.0.0 in
+    let v = value-read laws None None annotations x s.gap s.is_gap s.place (10 ∷ rest) is.1.0 is.0 users.1.0 line in
+    let p : ℕ = first_place v.own v.place in
+    let top : Top SymbolAt ℕ = tree p v.own v.place v.raw in
+    let user : Top UserSymbol ℕ = as_user system p v.own v.place v.raw in
+    let none : declares_table system v.own v.raw ≡ None =
+    declares-none system v.own v.raw annotations x (v.annotations_are system) (v.value_is system) is.1.1 in
+    let same : unplaced_top user ≡ unplaced_top (tree first annotations place x) =
+    ap₂ (λ (a : List UserSymbol) (y : Value UserSymbol ⊤). tree tt a tt y) (v.annotations_are system)
+    (value-then system v.raw ∙ v.value_is system) in
     record {
       raw = s.raw ++ top ∷ [];
       users = s.users ++ user ∷ [];
@@ -141,20 +163,25 @@ one-more laws catalog start done first place annotations x rest users begins s =
           ∙ (ap (option_map (λ vs. s.users ++ vs)) (leads-value catalog system _ _ v.own v.raw more none)
           ∙ joined s.users (user ∷ []) (user_tops catalog system more)));
       same = map-append unplaced_top s.users (user ∷ [])
-          ∙ (ap₂ (λ (l : List (Top UserSymbol ⊤)) (u : Top UserSymbol ⊤). l ++ u ∷ []) s.same
-          (ap₂ (λ (a : List UserSymbol) (y : Value UserSymbol ⊤). tree tt a tt y) (v.annotations_are system) (value-then system v.raw ∙ v.value_is system))
+          ∙ (ap₂ (λ (l : List (Top UserSymbol ⊤)) (u : Top UserSymbol ⊤). l ++ u ∷ []) s.same same
           ∙ sym (map-append unplaced_top done (tree first annotations place x ∷ [])));
     }
 
-all-tops : TextLaws → (catalog : List Shared) (start : Cursor) (done tops : List (Top UserSymbol ℕ)) → AreUsers tops → Sofar catalog start done (text tops) → Sofar catalog start (done ++ tops) []
-all-tops laws catalog start done [] users s = subst (λ (l : List (Top UserSymbol ℕ)). Sofar catalog start l []) (sym (append-nil done)) s
+all-tops : TextLaws → (catalog : List Shared) (start : Cursor) (done tops : List (Top UserSymbol ℕ)) → AreUsers tops
+    → Sofar catalog start done (text tops) → Sofar catalog start (done ++ tops) []
+all-tops laws catalog start done [] users s =
+    subst (λ (l : List (Top UserSymbol ℕ)). Sofar catalog start l []) (sym (append-nil done)) s
 all-tops laws catalog start done (version place ∷ ts) users s = absurd users.0.0
 all-tops laws catalog start done (tree first annotations place x ∷ ts) users s =
+    let top : Top UserSymbol ℕ = tree first annotations place x in
     let more : AreUsers ts = (users.0.1, users.1.1) in
-    let one = one-more laws catalog start done first place annotations x (text ts) ((users.0.0, tt), (users.1.0, tt)) (tops-start laws ts more)
-    (subst (λ (xs : List ℕ). Sofar catalog start done xs) (line-join (annotations_text annotations) (value_text x) (text ts)) s) in
-    subst (λ (l : List (Top UserSymbol ℕ)). Sofar catalog start l []) (append_assoc done (tree first annotations place x ∷ []) ts)
-    (all-tops laws catalog start (done ++ tree first annotations place x ∷ []) ts more one)
+    let begins = tops-start laws ts more in
+    let line = line-join (annotations_text annotations) (value_text x) (text ts) in
+    let moved = subst (λ (xs : List ℕ). Sofar catalog start done xs) line s in
+    let is : AreUsers (top ∷ []) = ((users.0.0, tt), (users.1.0, tt)) in
+    let one = one-more laws catalog start done first place annotations x (text ts) is begins moved in
+    subst (λ (l : List (Top UserSymbol ℕ)). Sofar catalog start l []) (append_assoc done (top ∷ []) ts)
+    (all-tops laws catalog start (done ++ top ∷ []) ts more one)
 
 -- ---- the form
 
@@ -195,7 +222,13 @@ text-is-read laws catalog tops users =
       raw = r.raw;
       users = r.users ++ [];
       form = form-start (text tops) (tops-start laws tops users);
-      stream = record { last = at r.place (r.gap ++ []); spells = r.spells; end = e.end; blank = e.blank; nothing_left = e.nothing_left };
+      stream = record {
+        last = at r.place (r.gap ++ []);
+        spells = r.spells;
+        end = e.end;
+        blank = e.blank;
+        nothing_left = e.nothing_left;
+      };
       users_are = ap (user_tops catalog system) (sym (append-nil r.raw)) ∙ r.leads [];
       same = ap (map unplaced_top) (append-nil r.users) ∙ r.same;
     }

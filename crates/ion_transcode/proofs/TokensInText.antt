@@ -16,7 +16,7 @@ use Rattle.ion_text_in.specs.Lob.{lob_at}
 use Rattle.ion_text_in.specs.Meaning.{at}
 use Rattle.ion_text_in.specs.Token.{First, a_lob, a_begin, first_at, Token, plain, name, begin, end, comma, colon, colons, token_of, token_at, next_token}
 use Rattle.ion_text_out.specs.Text.{symbol_text, opener, closer}
-use Rattle.ion_transcode.proofs.BehindValues.{starts, BehindSymbol, no-blanks, one-space, one-line}
+use Rattle.ion_transcode.proofs.BehindValues.{got, same-token, starts, BehindSymbol, no-blanks, one-space, one-line}
 use Rattle.ion_transcode.proofs.SymbolTokens.{IsToken, token-begins, SymbolIs}
 
 -- what stands between two tokens: nothing, a space or a line's end
@@ -31,9 +31,10 @@ pub record Stands (sexp : Bool) (c : Cursor) (t : Token) (rest : List ℕ) : Typ
   pub behind : ℕ
   pub tok : Tok sexp c t first (at behind rest)
 
-tok-from : (sexp : Bool) (c d : Cursor) (t : Token) (p : ℕ) (bytes : List ℕ) → blanks c ≡ Ok (at p bytes) → token_at None sexp (at p bytes) ≡ Ok (t, d) → Tok sexp c t p d
+stands-behind : (sexp : Bool) (c : Cursor) (t : Token) (p n : ℕ) (bytes rest : List ℕ) → blanks c ≡ Ok (at p bytes)
+    → token_at None sexp (at p bytes) ≡ got t (at n rest) → Stands sexp c t rest
 unfolding next_token
-tok-from sexp c d t p bytes blank token = rw (blank, token) refl
+stands-behind sexp c t p n bytes rest blank token = record { first = p; behind = n; tok = rw (blank, token) refl }
 
 record Blank (c : Cursor) (bytes : List ℕ) : Type 0 where
   place : ℕ
@@ -46,16 +47,13 @@ gap-blank _ Gap.a_line p bytes s = record { place = suc p; blank = one-line p by
 
 -- ---- values and symbols
 
-pub stands : (After : List ℕ → Type 0) (bytes : List ℕ) (t : Token) → IsToken After bytes t → (sexp : Bool) (gap : List ℕ) → Gap gap → (p : ℕ) (rest : List ℕ) → After rest
-    → Stands sexp (at p (gap ++ (bytes ++ rest))) t rest
+pub stands : (After : List ℕ → Type 0) (bytes : List ℕ) (t : Token) → IsToken After bytes t → (sexp : Bool) (gap : List ℕ)
+    → Gap gap → (p : ℕ) (rest : List ℕ) → After rest → Stands sexp (at p (gap ++ (bytes ++ rest))) t rest
 stands After bytes t is sexp gap g p rest after =
     let b = gap-blank gap g p (bytes ++ rest) (token-begins After bytes t is rest after) in
-    record { first = b.place; behind = b.place + length bytes; tok = tok-from sexp _ _ t b.place (bytes ++ rest) b.blank (is.read sexp b.place rest after) }
+    stands-behind sexp _ t b.place (b.place + length bytes) (bytes ++ rest) rest b.blank (is.read sexp b.place rest after)
 
 -- ---- punctuation
-
-abbrev got : Token → Cursor → Result (Token × Cursor) Reason
-got t c = Ok (t, c)
 
 comma-token : (sexp : Bool) (p : ℕ) (rest : List ℕ) → token_at None sexp (at p (44 ∷ rest)) ≡ got comma (at (p + 1) rest)
 unfolding first_at token_of
@@ -63,7 +61,8 @@ comma-token true p rest = refl
 comma-token false p rest = refl
 
 pub comma-stands : (sexp : Bool) (p : ℕ) (rest : List ℕ) → Stands sexp (at p (44 ∷ rest)) comma rest
-comma-stands sexp p rest = record { first = p; behind = p + 1; tok = tok-from sexp _ _ comma p (44 ∷ rest) (no-blanks p (44 ∷ rest) refl) (comma-token sexp p rest) }
+comma-stands sexp p rest =
+    stands-behind sexp _ comma p (p + 1) (44 ∷ rest) rest (no-blanks p (44 ∷ rest) refl) (comma-token sexp p rest)
 
 colons-token : (sexp : Bool) (p : ℕ) (rest : List ℕ) → token_at None sexp (at p (58 ∷ 58 ∷ rest)) ≡ got colons (at (p + 2) rest)
 unfolding first_at token_of
@@ -75,20 +74,24 @@ unfolding blanks_at
 at-colon p rest = refl
 
 pub colons-stand : (sexp : Bool) (p : ℕ) (rest : List ℕ) → Stands sexp (at p (58 ∷ 58 ∷ rest)) colons rest
-colons-stand sexp p rest = record { first = p; behind = p + 2; tok = tok-from sexp _ _ colons p (58 ∷ 58 ∷ rest) (at-colon p (58 ∷ rest)) (colons-token sexp p rest) }
+colons-stand sexp p rest =
+    stands-behind sexp _ colons p (p + 2) (58 ∷ 58 ∷ rest) rest (at-colon p (58 ∷ rest)) (colons-token sexp p rest)
 
 single-colon : (rest : List ℕ) → starts rest ≡ true → first_is (λ c. c == 58) rest ≡ false
 single-colon [] s = refl
 single-colon (b ∷ bytes) s = grind (arith, nat_tests)
 
-colon-token : (p : ℕ) (rest : List ℕ) → first_is (λ c. c == 58) rest ≡ false → token_at None false (at p (58 ∷ rest)) ≡ got colon (at (p + 1) rest)
+colon-token : (p : ℕ) (rest : List ℕ) → first_is (λ c. c == 58) rest ≡ false
+    → token_at None false (at p (58 ∷ rest)) ≡ got colon (at (p + 1) rest)
 unfolding first_at token_of
 colon-token p rest e = rw (first_at, e) refl
 
 pub colon-stands : (p : ℕ) (rest : List ℕ) → starts rest ≡ true → Stands false (at p (58 ∷ rest)) colon rest
-colon-stands p rest s = record { first = p; behind = p + 1; tok = tok-from false _ _ colon p (58 ∷ rest) (at-colon p rest) (colon-token p rest (single-colon rest s)) }
+colon-stands p rest s =
+    stands-behind false _ colon p (p + 1) (58 ∷ rest) rest (at-colon p rest) (colon-token p rest (single-colon rest s))
 
-end-token : (j : Kind) (sexp : Bool) (p : ℕ) (rest : List ℕ) → token_at None sexp (at p (closer j ++ rest)) ≡ got (end j) (at (p + 1) rest)
+end-token : (j : Kind) (sexp : Bool) (p : ℕ) (rest : List ℕ)
+    → token_at None sexp (at p (closer j ++ rest)) ≡ got (end j) (at (p + 1) rest)
 unfolding first_at token_of
 end-token kind.List true p rest = refl
 end-token kind.List false p rest = refl
@@ -104,7 +107,8 @@ closer-starts kind.Struct rest = refl
 
 pub end-stands : (j : Kind) (sexp : Bool) (p : ℕ) (rest : List ℕ) → Stands sexp (at p (closer j ++ rest)) (end j) rest
 end-stands j sexp p rest =
-    record { first = p; behind = p + 1; tok = tok-from sexp _ _ (end j) p (closer j ++ rest) (no-blanks p (closer j ++ rest) (closer-starts j rest)) (end-token j sexp p rest) }
+    let blank = no-blanks p (closer j ++ rest) (closer-starts j rest) in
+    stands-behind sexp _ (end j) p (p + 1) (closer j ++ rest) rest blank (end-token j sexp p rest)
 
 -- behind the brace of a struct no other brace stands
 abbrev pub Opens : Kind → List ℕ → Type 0
@@ -116,12 +120,14 @@ no-lob : (rest : List ℕ) → first_is (λ c. c == 123) rest ≡ false → begi
 no-lob [] e = refl
 no-lob (b ∷ bytes) e = grind (arith, nat_tests)
 
-struct-token : (sexp : Bool) (p : ℕ) (rest : List ℕ) → begins_with (codes "{{") (123 ∷ rest) ≡ false → token_at None sexp (at p (123 ∷ rest)) ≡ got (begin kind.Struct) (at (p + 1) rest)
+struct-token : (sexp : Bool) (p : ℕ) (rest : List ℕ) → begins_with (codes "{{") (123 ∷ rest) ≡ false
+    → token_at None sexp (at p (123 ∷ rest)) ≡ got (begin kind.Struct) (at (p + 1) rest)
 unfolding first_at token_of
 struct-token true p rest e = rw (first_at, e) refl
 struct-token false p rest e = rw (first_at, e) refl
 
-begin-token : (j : Kind) (sexp : Bool) (p : ℕ) (rest : List ℕ) → Opens j rest → token_at None sexp (at p (opener j ++ rest)) ≡ got (begin j) (at (p + 1) rest)
+begin-token : (j : Kind) (sexp : Bool) (p : ℕ) (rest : List ℕ) → Opens j rest
+    → token_at None sexp (at p (opener j ++ rest)) ≡ got (begin j) (at (p + 1) rest)
 unfolding first_at token_of
 begin-token kind.List true p rest o = refl
 begin-token kind.List false p rest o = refl
@@ -134,23 +140,23 @@ opener-starts kind.List rest = refl
 opener-starts kind.Sexp rest = refl
 opener-starts kind.Struct rest = refl
 
-pub begin-stands : (j : Kind) (sexp : Bool) (gap : List ℕ) → Gap gap → (p : ℕ) (rest : List ℕ) → Opens j rest → Stands sexp (at p (gap ++ (opener j ++ rest))) (begin j) rest
+pub begin-stands : (j : Kind) (sexp : Bool) (gap : List ℕ) → Gap gap → (p : ℕ) (rest : List ℕ) → Opens j rest
+    → Stands sexp (at p (gap ++ (opener j ++ rest))) (begin j) rest
 begin-stands j sexp gap g p rest o =
     let b = gap-blank gap g p (opener j ++ rest) (opener-starts j rest) in
-    record { first = b.place; behind = b.place + 1; tok = tok-from sexp _ _ (begin j) b.place (opener j ++ rest) b.blank (begin-token j sexp b.place rest o) }
+    stands-behind sexp _ (begin j) b.place (b.place + 1) (opener j ++ rest) rest b.blank (begin-token j sexp b.place rest o)
 
 -- a symbol begins with no brace
 abbrev names : Token → Bool
 names (name quoted symbol) = true
 names _ = false
 
-other-names : (t : Token) (quoted : Bool) (symbol : Symbol) (c d : Cursor) → names t ≡ false → got t c ≡ got (name quoted symbol) d → ⊥
-other-names t quoted symbol c d none e =
-    let both : ◌≡◌ {A = Token × Cursor} (t, c) (name quoted symbol, d) = cc e in
-    let same : t ≡ name quoted symbol = ap (λ (z : Token × Cursor). z.0) both in
-    false≢true (sym none ∙ ap names same)
+other-names : (t : Token) (quoted : Bool) (symbol : Symbol) (c d : Cursor) → names t ≡ false
+    → got t c ≡ got (name quoted symbol) d → ⊥
+other-names t quoted symbol c d none e = false≢true (sym none ∙ ap names (same-token t (name quoted symbol) c d e))
 
-brace-by : (lob : Bool) (quoted : Bool) (symbol : Symbol) (c d : Cursor) → token_of None (if lob then a_lob else a_begin kind.Struct) c ≡ got (name quoted symbol) d → ⊥
+brace-by : (lob : Bool) (quoted : Bool) (symbol : Symbol) (c d : Cursor)
+    → token_of None (if lob then a_lob else a_begin kind.Struct) c ≡ got (name quoted symbol) d → ⊥
 unfolding token_of
 brace-by true quoted symbol c d e = by (lob_at None (skip 2 c)) e
   where
@@ -159,15 +165,18 @@ brace-by true quoted symbol c d e = by (lob_at None (skip 2 c)) e
     by (Err reason) e = absurd (cc e)
 brace-by false quoted symbol c d e = other-names (begin kind.Struct) quoted symbol (skip 1 c) d refl e
 
-brace-first : (rest : List ℕ) → first_at false (123 ∷ rest) ≡ (if begins_with (codes "{{") (123 ∷ rest) then a_lob else a_begin kind.Struct)
+brace-first : (rest : List ℕ)
+    → first_at false (123 ∷ rest) ≡ (if begins_with (codes "{{") (123 ∷ rest) then a_lob else a_begin kind.Struct)
 unfolding first_at
 brace-first rest = by (begins_with (codes "{{") (123 ∷ rest)) refl
   where
-    by : (b : Bool) → begins_with (codes "{{") (123 ∷ rest) ≡ b → first_at false (123 ∷ rest) ≡ (if b then a_lob else a_begin kind.Struct)
+    by : (b : Bool) → begins_with (codes "{{") (123 ∷ rest) ≡ b
+        → first_at false (123 ∷ rest) ≡ (if b then a_lob else a_begin kind.Struct)
     by true e = rw (first_at, e) refl
     by false e = rw (first_at, e) refl
 
-no-brace-at : (bytes : List ℕ) (quoted : Bool) (symbol : Symbol) (d : Cursor) → token_at None false (at 0 bytes) ≡ got (name quoted symbol) d → first_is (λ c. c == 123) bytes ≡ false
+no-brace-at : (bytes : List ℕ) (quoted : Bool) (symbol : Symbol) (d : Cursor)
+    → token_at None false (at 0 bytes) ≡ got (name quoted symbol) d → first_is (λ c. c == 123) bytes ≡ false
 no-brace-at [] quoted symbol d e = refl
 no-brace-at (b ∷ bytes) quoted symbol d e = by (b == 123) refl
   where
@@ -175,8 +184,11 @@ no-brace-at (b ∷ bytes) quoted symbol d e = by (b == 123) refl
     by false s = refl
     by true s =
         let same : b ≡ 123 = eqb-true b 123 s in
-        let f : token_at None false (at 0 (123 ∷ bytes)) ≡ got (name quoted symbol) d = subst (λ x. token_at None false (at 0 (x ∷ bytes)) ≡ got (name quoted symbol) d) same e in
-        absurd (brace-by (begins_with (codes "{{") (123 ∷ bytes)) quoted symbol (at 0 (123 ∷ bytes)) d (ap (λ (f : First). token_of None f (at 0 (123 ∷ bytes))) (sym (brace-first bytes)) ∙ f))
+        let f : token_at None false (at 0 (123 ∷ bytes)) ≡ got (name quoted symbol) d =
+        subst (λ x. token_at None false (at 0 (x ∷ bytes)) ≡ got (name quoted symbol) d) same e in
+        let first = ap (λ (f : First). token_of None f (at 0 (123 ∷ bytes))) (sym (brace-first bytes)) in
+        absurd (brace-by (begins_with (codes "{{") (123 ∷ bytes)) quoted symbol (at 0 (123 ∷ bytes)) d (first ∙ f))
 
-pub no-brace : (s : UserSymbol) → SymbolIs s → (rest : List ℕ) → BehindSymbol rest → first_is (λ c. c == 123) (symbol_text s ++ rest) ≡ false
+pub no-brace : (s : UserSymbol) → SymbolIs s → (rest : List ℕ) → BehindSymbol rest
+    → first_is (λ c. c == 123) (symbol_text s ++ rest) ≡ false
 no-brace s is rest behind = no-brace-at (symbol_text s ++ rest) is.quoted is.symbol _ (is.token.read false 0 rest behind)

@@ -18,7 +18,7 @@ use Rattle.ion_text_in.specs.Grammar.{Tok, Annotations, Field, Txt, Inside}
 use Rattle.ion_text_in.specs.Meaning.{at}
 use Rattle.ion_text_in.specs.Positions as positions
 use Rattle.ion_text_in.specs.Positions.{is_sexp, in_sexp, has_commas}
-use Rattle.ion_text_in.specs.Token.{plain, name, text}
+use Rattle.ion_text_in.specs.Token.{Token, plain, name, text}
 use Rattle.ion_text_out.specs.Text.{symbol_text, scalar_text, field_text, annotation_text, opener, closer, before_next, is_empty, value_text, members_text}
 use Rattle.ion_transcode.proofs.BehindValues.{starts, Behind, BehindSymbol, no-colons}
 use Rattle.ion_transcode.proofs.TokensInText.{Gap, no_gap, a_space, stands, comma-stands, colons-stand, colon-stands, end-stands, begin-stands, opener-starts, Opens, no-brace}
@@ -26,17 +26,36 @@ use Rattle.ion_transcode.proofs.SymbolTokens.{TextLaws, token-begins, symbol-is}
 use Rattle.ion_transcode.proofs.ScalarTokens.{ScalarIs, a_plain, a_string, a_symbol, scalar-is}
 use Rattle.ion_transcode.proofs.Utf8Bytes.{all-left, all-right}
 
+-- ---- symbols of a value, in part
+
 abbrev Texts : List UserSymbol → Type 0
 Texts ss = AllByRecursion IsText ss
 
-own-field : (f : Option UserSymbol) (annotations : List UserSymbol) (x : Value UserSymbol ℕ) → Texts (value_symbols f annotations x) → Texts (field_symbols f)
+own-field : (f : Option UserSymbol) (annotations : List UserSymbol) (x : Value UserSymbol ℕ)
+    → Texts (value_symbols f annotations x) → Texts (field_symbols f)
 own-field f annotations (scalar body) h = all-left IsText (field_symbols f) (annotations ++ scalar_symbols body) h
-own-field f annotations (container k ms last) h = all-left IsText (field_symbols f) (annotations ++ []) (all-left IsText (field_symbols f ++ (annotations ++ [])) (members_symbols ms) h)
+own-field f annotations (container k ms last) h =
+    let front = all-left IsText (field_symbols f ++ (annotations ++ [])) (members_symbols ms) h in
+    all-left IsText (field_symbols f) (annotations ++ []) front
 
-own-annotations : (f : Option UserSymbol) (annotations : List UserSymbol) (x : Value UserSymbol ℕ) → Texts (value_symbols f annotations x) → Texts annotations
-own-annotations f annotations (scalar body) h = all-left IsText annotations (scalar_symbols body) (all-right IsText (field_symbols f) (annotations ++ scalar_symbols body) h)
+own-annotations : (f : Option UserSymbol) (annotations : List UserSymbol) (x : Value UserSymbol ℕ)
+    → Texts (value_symbols f annotations x) → Texts annotations
+own-annotations f annotations (scalar body) h =
+    let behind = all-right IsText (field_symbols f) (annotations ++ scalar_symbols body) h in
+    all-left IsText annotations (scalar_symbols body) behind
 own-annotations f annotations (container k ms last) h =
-    all-left IsText annotations [] (all-right IsText (field_symbols f) (annotations ++ []) (all-left IsText (field_symbols f ++ (annotations ++ [])) (members_symbols ms) h))
+    let front = all-left IsText (field_symbols f ++ (annotations ++ [])) (members_symbols ms) h in
+    all-left IsText annotations [] (all-right IsText (field_symbols f) (annotations ++ []) front)
+
+own-scalar : (f : Option UserSymbol) (annotations : List UserSymbol) (body : Scalar UserSymbol)
+    → Texts (value_symbols {P = ℕ} f annotations (scalar body)) → Texts (scalar_symbols body)
+own-scalar f annotations body h =
+    let behind = all-right IsText (field_symbols f) (annotations ++ scalar_symbols body) h in
+    all-right IsText annotations (scalar_symbols body) behind
+
+own-members : (f : Option UserSymbol) (annotations : List UserSymbol) (j : Kind) (ms : Members UserSymbol ℕ) (last : ℕ)
+    → Texts (value_symbols f annotations (container j ms last)) → Texts (members_symbols ms)
+own-members f annotations j ms last h = all-right IsText (field_symbols f ++ (annotations ++ [])) (members_symbols ms) h
 
 -- ---- annotations
 
@@ -52,74 +71,107 @@ record AnnotationsRead (sexp : Bool) (c : Cursor) (done : List SymbolAt) (ss : L
   spells : Annotations sexp c (done ++ own) (at place (gap ++ rest))
   are : (t : Table) → map (user_at t) own ≡ ss
 
-annotation-join : (s : UserSymbol) (ss : List UserSymbol) (gap rest : List ℕ) → gap ++ (annotations_text (s ∷ ss) ++ rest) ≡ gap ++ (symbol_text s ++ (58 ∷ 58 ∷ (annotations_text ss ++ rest)))
-annotation-join s ss gap rest = ap (λ (xs : List ℕ). gap ++ xs) (append_assoc (symbol_text s ++ codes "::") (annotations_text ss) rest ∙ append_assoc (symbol_text s) (codes "::") (annotations_text ss ++ rest))
+annotation-join : (s : UserSymbol) (ss : List UserSymbol) (gap rest : List ℕ)
+    → gap ++ (annotations_text (s ∷ ss) ++ rest) ≡ gap ++ (symbol_text s ++ (58 ∷ 58 ∷ (annotations_text ss ++ rest)))
+annotation-join s ss gap rest =
+    let first = append_assoc (symbol_text s ++ codes "::") (annotations_text ss) rest in
+    let second = append_assoc (symbol_text s) (codes "::") (annotations_text ss ++ rest) in
+    ap (λ (xs : List ℕ). gap ++ xs) (first ∙ second)
 
-annotations-read : TextLaws → (sexp : Bool) (c : Cursor) (done : List SymbolAt) (ss : List UserSymbol) → Texts ss → (gap : List ℕ) → Gap gap → (p : ℕ) (rest : List ℕ)
-    → Annotations sexp c done (at p (gap ++ (annotations_text ss ++ rest))) → AnnotationsRead sexp c done ss rest
-annotations-read laws sexp c done [] texts gap g p rest prev =
-    record { own = []; gap = gap; is_gap = g; place = p; spells = subst (λ (l : List SymbolAt). Annotations sexp c l (at p (gap ++ rest))) (sym (append-nil done)) prev; are = λ t. refl }
+annotations-read : TextLaws → (sexp : Bool) (c : Cursor) (done : List SymbolAt) (ss : List UserSymbol) → Texts ss
+    → (gap : List ℕ) → Gap gap → (p : ℕ) (rest : List ℕ) → Annotations sexp c done (at p (gap ++ (annotations_text ss ++ rest)))
+    → AnnotationsRead sexp c done ss rest
+annotations-read laws sexp c done [] texts gap g p rest prev = record {
+  own = [];
+  gap = gap;
+  is_gap = g;
+  place = p;
+  spells = subst (λ (l : List SymbolAt). Annotations sexp c l (at p (gap ++ rest))) (sym (append-nil done)) prev;
+  are = λ t. refl;
+}
 annotations-read laws sexp c done (s ∷ ss) texts gap g p rest prev =
     let more : List ℕ = annotations_text ss ++ rest in
     let is = symbol-is laws s texts.0 in
-    let word = stands BehindSymbol (symbol_text s) (name is.quoted is.symbol) is.token sexp gap g p (58 ∷ 58 ∷ more) BehindSymbol.at_colon in
+    let colons : BehindSymbol (58 ∷ 58 ∷ more) = BehindSymbol.at_colon in
+    let word = stands BehindSymbol (symbol_text s) (name is.quoted is.symbol) is.token sexp gap g p (58 ∷ 58 ∷ more) colons in
     let two = colons-stand sexp word.behind more in
-    let moved : Annotations sexp c done (at p (gap ++ (symbol_text s ++ (58 ∷ 58 ∷ more)))) = subst (λ (xs : List ℕ). Annotations sexp c done (at p xs)) (annotation-join s ss gap rest) prev in
-    let next = annotations-read laws sexp c (done ++ positions.at is.symbol word.first ∷ []) ss texts.1 [] no_gap two.behind rest (Annotations.then moved word.tok two.tok) in
+    let moved : Annotations sexp c done (at p (gap ++ (symbol_text s ++ (58 ∷ 58 ∷ more)))) =
+    subst (λ (xs : List ℕ). Annotations sexp c done (at p xs)) (annotation-join s ss gap rest) prev in
+    let own : SymbolAt = positions.at is.symbol word.first in
+    let then : Annotations sexp c (done ++ own ∷ []) (at two.behind more) = Annotations.then moved word.tok two.tok in
+    let next = annotations-read laws sexp c (done ++ own ∷ []) ss texts.1 [] no_gap two.behind rest then in
     record {
-      own = positions.at is.symbol word.first ∷ next.own;
+      own = own ∷ next.own;
       gap = next.gap;
       is_gap = next.is_gap;
       place = next.place;
-      spells = subst (λ (l : List SymbolAt). Annotations sexp c l (at next.place (next.gap ++ rest))) (append_assoc done (positions.at is.symbol word.first ∷ []) next.own) next.spells;
+      spells = subst (λ (l : List SymbolAt). Annotations sexp c l (at next.place (next.gap ++ rest)))
+          (append_assoc done (own ∷ []) next.own) next.spells;
       are = λ t. ap₂ (λ (x : UserSymbol) (l : List UserSymbol). x ∷ l) (is.user t word.first) (next.are t);
     }
 
 -- ---- what a value begins with
 
-scalar-starts : (body : Scalar UserSymbol) → ScalarIs body → (rest : List ℕ) → Behind rest → starts (scalar_text body ++ rest) ≡ true
+scalar-starts : (body : Scalar UserSymbol) → ScalarIs body → (rest : List ℕ) → Behind rest
+    → starts (scalar_text body ++ rest) ≡ true
 scalar-starts body (a_plain raw is same) rest behind = token-begins Behind _ _ is rest behind
 scalar-starts _ (a_string bytes is) rest behind = token-begins Behind _ _ is rest behind
 scalar-starts _ (a_symbol s is) rest behind = token-begins BehindSymbol _ _ is.token rest (BehindSymbol.of_value behind)
 
-own-scalar : (f : Option UserSymbol) (annotations : List UserSymbol) (body : Scalar UserSymbol) → Texts (value_symbols {P = ℕ} f annotations (scalar body)) → Texts (scalar_symbols body)
-own-scalar f annotations body h = all-right IsText annotations (scalar_symbols body) (all-right IsText (field_symbols f) (annotations ++ scalar_symbols body) h)
-
-own-members : (f : Option UserSymbol) (annotations : List UserSymbol) (j : Kind) (ms : Members UserSymbol ℕ) (last : ℕ) → Texts (value_symbols f annotations (container j ms last)) → Texts (members_symbols ms)
-own-members f annotations j ms last h = all-right IsText (field_symbols f ++ (annotations ++ [])) (members_symbols ms) h
-
-value-starts : TextLaws → (f : Option UserSymbol) (annotations : List UserSymbol) (x : Value UserSymbol ℕ) → Texts (value_symbols f annotations x) → IsWritable x → ValueHasBytes x → (rest : List ℕ) → Behind rest → starts (value_text x ++ rest) ≡ true
+value-starts : TextLaws → (f : Option UserSymbol) (annotations : List UserSymbol) (x : Value UserSymbol ℕ)
+    → Texts (value_symbols f annotations x) → IsWritable x → ValueHasBytes x → (rest : List ℕ) → Behind rest
+    → starts (value_text x ++ rest) ≡ true
 value-starts laws f annotations (scalar body) texts writable small rest behind =
     scalar-starts body (scalar-is laws body writable.0 writable.1 small (own-scalar f annotations body texts)) rest behind
 value-starts laws f annotations (container j ms last) texts writable small rest behind =
-    subst (λ (xs : List ℕ). starts xs ≡ true) (sym (append_assoc (opener j) (members_text j ms ++ closer j) rest)) (opener-starts j ((members_text j ms ++ closer j) ++ rest))
+    subst (λ (xs : List ℕ). starts xs ≡ true) (sym (append_assoc (opener j) (members_text j ms ++ closer j) rest))
+    (opener-starts j ((members_text j ms ++ closer j) ++ rest))
 
-annotated-starts : TextLaws → (ss : List UserSymbol) → Texts ss → (rest : List ℕ) → starts rest ≡ true → starts (annotations_text ss ++ rest) ≡ true
+annotated-starts : TextLaws → (ss : List UserSymbol) → Texts ss → (rest : List ℕ) → starts rest ≡ true
+    → starts (annotations_text ss ++ rest) ≡ true
 annotated-starts laws [] texts rest s = s
 annotated-starts laws (a ∷ ss) texts rest s =
+    let more : List ℕ = 58 ∷ 58 ∷ (annotations_text ss ++ rest) in
     subst (λ (xs : List ℕ). starts xs ≡ true) (sym (annotation-join a ss [] rest))
-    (token-begins BehindSymbol _ _ (symbol-is laws a texts.0).token (58 ∷ 58 ∷ (annotations_text ss ++ rest)) BehindSymbol.at_colon)
+    (token-begins BehindSymbol _ _ (symbol-is laws a texts.0).token more BehindSymbol.at_colon)
 
 field-join : (s : UserSymbol) (rest : List ℕ) → field_text (Some s) ++ rest ≡ symbol_text s ++ (58 ∷ rest)
 field-join s rest = append_assoc (symbol_text s) (codes ":") rest
 
-member-starts : TextLaws → (f : Option UserSymbol) → Texts (field_symbols f) → (rest : List ℕ) → starts rest ≡ true → starts (field_text f ++ rest) ≡ true
+member-starts : TextLaws → (f : Option UserSymbol) → Texts (field_symbols f) → (rest : List ℕ) → starts rest ≡ true
+    → starts (field_text f ++ rest) ≡ true
 member-starts laws None texts rest s = s
 member-starts laws (Some f) texts rest s =
-    subst (λ (xs : List ℕ). starts xs ≡ true) (sym (field-join f rest)) (token-begins BehindSymbol _ _ (symbol-is laws f texts.0).token (58 ∷ rest) BehindSymbol.at_colon)
+    subst (λ (xs : List ℕ). starts xs ≡ true) (sym (field-join f rest))
+    (token-begins BehindSymbol _ _ (symbol-is laws f texts.0).token (58 ∷ rest) BehindSymbol.at_colon)
 
 -- ---- values
 
--- a value with its annotations, whatever table its symbols are seen in
-pub record ValueRead (k : Option Kind) (c : Cursor) (annotations : List UserSymbol) (x : Value UserSymbol ℕ) (rest : List ℕ) : Type 0 where
+-- a value and members in a symbol table, and as their user has them: without places
+abbrev pub seen : Table → Value SymbolAt ℕ → Value UserSymbol ⊤
+seen t x = map_value (user_at t) no_place x
+
+abbrev pub seen_members : Table → Members SymbolAt ℕ → Members UserSymbol ⊤
+seen_members t ms = map_members (user_at t) no_place ms
+
+abbrev pub unplaced : Value UserSymbol ℕ → Value UserSymbol ⊤
+unplaced x = map_value (λ (s : UserSymbol). s) no_place x
+
+abbrev pub unplaced_members : Members UserSymbol ℕ → Members UserSymbol ⊤
+unplaced_members ms = map_members (λ (s : UserSymbol). s) no_place ms
+
+-- annotations and a value are spelled, whatever table its symbols are seen in
+pub record ValueRead (k : Option Kind) (c : Cursor) (notes : List UserSymbol) (x : Value UserSymbol ℕ) (rest : List ℕ)
+    : Type 0 where
   pub own : List SymbolAt
   pub place : ℕ
   pub raw : Value SymbolAt ℕ
   pub behind : ℕ
   pub spells : Txt k c own place raw (at behind rest)
-  pub annotations_are : (t : Table) → map (user_at t) own ≡ annotations
-  pub value_is : (t : Table) → map_value (user_at t) no_place raw ≡ map_value (λ s. s) no_place x
+  pub annotations_are : (t : Table) → map (user_at t) own ≡ notes
+  pub value_is : (t : Table) → seen t raw ≡ unplaced x
 
+-- whether a separator is due behind members
 abbrev full_of : Kind → Members UserSymbol ℕ → Bool
 full_of k nothing = false
 full_of k (member before f annotations place x) = has_commas (Some k)
@@ -128,7 +180,7 @@ record MembersRead (k : Kind) (c : Cursor) (ms : Members UserSymbol ℕ) (full :
   raw : Members SymbolAt ℕ
   behind : ℕ
   spells : Inside k c raw full (at behind rest)
-  are : (t : Table) → map_members (user_at t) no_place raw ≡ map_members (λ s. s) no_place ms
+  are : (t : Table) → seen_members t raw ≡ unplaced_members ms
 
 -- behind members and what separates them from the next
 record Opened (k : Kind) (c : Cursor) (ms : Members UserSymbol ℕ) (rest : List ℕ) : Type 0 where
@@ -137,20 +189,26 @@ record Opened (k : Kind) (c : Cursor) (ms : Members UserSymbol ℕ) (rest : List
   is_gap : Gap gap
   place : ℕ
   spells : Inside k c raw false (at place (gap ++ rest))
-  are : (t : Table) → map_members (user_at t) no_place raw ≡ map_members (λ s. s) no_place ms
+  are : (t : Table) → seen_members t raw ≡ unplaced_members ms
 
-opened : (k : Kind) (c : Cursor) (before : Members UserSymbol ℕ) (tail : List ℕ) → MembersRead k c before (full_of k before) (before_next k (is_empty before) ++ tail) → Opened k c before tail
+behind-comma : (k : Kind) (c : Cursor) (raw : Members SymbolAt ℕ) (tail : List ℕ) (ms : Members UserSymbol ℕ) (p : ℕ)
+    → Inside k c raw true (at p (44 ∷ tail)) → ((t : Table) → seen_members t raw ≡ unplaced_members ms) → Opened k c ms tail
+behind-comma k c raw tail ms p spells are =
+    let comma = comma-stands (is_sexp k) p tail in
+    record { raw = raw; gap = []; is_gap = no_gap; place = comma.behind; spells = Inside.with_comma spells comma.tok; are = are }
+
+opened : (k : Kind) (c : Cursor) (before : Members UserSymbol ℕ) (tail : List ℕ)
+    → MembersRead k c before (full_of k before) (before_next k (is_empty before) ++ tail) → Opened k c before tail
 opened k c nothing tail r = record { raw = r.raw; gap = []; is_gap = no_gap; place = r.behind; spells = r.spells; are = r.are }
 opened kind.List c (member before f annotations place x) tail r =
-    let comma = comma-stands false r.behind tail in
-    record { raw = r.raw; gap = []; is_gap = no_gap; place = comma.behind; spells = Inside.with_comma r.spells comma.tok; are = r.are }
+    behind-comma kind.List c r.raw tail _ r.behind r.spells r.are
 opened kind.Struct c (member before f annotations place x) tail r =
-    let comma = comma-stands false r.behind tail in
-    record { raw = r.raw; gap = []; is_gap = no_gap; place = comma.behind; spells = Inside.with_comma r.spells comma.tok; are = r.are }
+    behind-comma kind.Struct c r.raw tail _ r.behind r.spells r.are
 opened kind.Sexp c (member before f annotations place x) tail r =
     record { raw = r.raw; gap = 32 ∷ []; is_gap = a_space; place = r.behind; spells = r.spells; are = r.are }
 
-next-behind : (k : Kind) (before : Members UserSymbol ℕ) (tail : List ℕ) → starts tail ≡ true → is_empty before ≡ false → Behind (before_next k (is_empty before) ++ tail)
+next-behind : (k : Kind) (before : Members UserSymbol ℕ) (tail : List ℕ) → starts tail ≡ true → is_empty before ≡ false
+    → Behind (before_next k (is_empty before) ++ tail)
 next-behind k nothing tail s e = absurd (true≢false e)
 next-behind kind.List (member before f annotations place x) tail s e = Behind.at_comma
 next-behind kind.Struct (member before f annotations place x) tail s e = Behind.at_comma
@@ -166,44 +224,64 @@ record FieldRead (k : Kind) (c : Cursor) (f : Option UserSymbol) (rest : List �
   spells : Field (Some k) c own (at place (gap ++ rest))
   is : (t : Table) → option_map (user_at t) own ≡ f
 
-field-read : TextLaws → (k : Kind) (f : Option UserSymbol) → Texts (field_symbols f) → is_some f ≡ in_struct (k ∷ []) → (gap : List ℕ) → Gap gap → (p : ℕ) (rest : List ℕ) → starts rest ≡ true
+field-read : TextLaws → (k : Kind) (f : Option UserSymbol) → Texts (field_symbols f) → is_some f ≡ in_struct (k ∷ [])
+    → (gap : List ℕ) → Gap gap → (p : ℕ) (rest : List ℕ) → starts rest ≡ true
     → FieldRead k (at p (gap ++ (field_text f ++ rest))) f rest
-field-read laws kind.List None texts e gap g p rest s = record { own = None; gap = gap; is_gap = g; place = p; spells = Field.in_list; is = λ t. refl }
-field-read laws kind.Sexp None texts e gap g p rest s = record { own = None; gap = gap; is_gap = g; place = p; spells = Field.in_a_sexp; is = λ t. refl }
+field-read laws kind.List None texts e gap g p rest s =
+    record { own = None; gap = gap; is_gap = g; place = p; spells = Field.in_list; is = λ t. refl }
+field-read laws kind.Sexp None texts e gap g p rest s =
+    record { own = None; gap = gap; is_gap = g; place = p; spells = Field.in_a_sexp; is = λ t. refl }
 field-read laws kind.Struct None texts e gap g p rest s = absurd (false≢true e)
 field-read laws kind.List (Some f) texts e gap g p rest s = absurd (true≢false e)
 field-read laws kind.Sexp (Some f) texts e gap g p rest s = absurd (true≢false e)
 field-read laws kind.Struct (Some f) texts e gap g p rest s =
     let is = symbol-is laws f texts.0 in
-    let word = stands BehindSymbol (symbol_text f) (name is.quoted is.symbol) is.token false gap g p (58 ∷ rest) BehindSymbol.at_colon in
+    let token : Token = name is.quoted is.symbol in
+    let word = stands BehindSymbol (symbol_text f) token is.token false gap g p (58 ∷ rest) BehindSymbol.at_colon in
     let colon = colon-stands word.behind rest s in
-    let moved : Tok false (at p (gap ++ (field_text (Some f) ++ rest))) (name is.quoted is.symbol) word.first (at word.behind (58 ∷ rest)) =
-    subst (λ (xs : List ℕ). Tok false (at p (gap ++ xs)) (name is.quoted is.symbol) word.first (at word.behind (58 ∷ rest))) (sym (field-join f rest)) word.tok in
-    record { own = Some (positions.at is.symbol word.first); gap = []; is_gap = no_gap; place = colon.behind; spells = Field.named moved colon.tok; is = λ t. ap (λ (x : UserSymbol). Some x) (is.user t word.first) }
+    let moved : Tok false (at p (gap ++ (field_text (Some f) ++ rest))) token word.first (at word.behind (58 ∷ rest)) =
+    subst (λ (xs : List ℕ). Tok false (at p (gap ++ xs)) token word.first (at word.behind (58 ∷ rest)))
+    (sym (field-join f rest)) word.tok in
+    record {
+      own = Some (positions.at is.symbol word.first);
+      gap = [];
+      is_gap = no_gap;
+      place = colon.behind;
+      spells = Field.named moved colon.tok;
+      is = λ t. ap (λ (x : UserSymbol). Some x) (is.user t word.first);
+    }
 
 -- ---- braces
 
-tail-brace : TextLaws → (before : Members UserSymbol ℕ) (f : Option UserSymbol) → Texts (field_symbols f) → is_some f ≡ true → (more : List ℕ)
-    → first_is (λ c. c == 123) (before_next kind.Struct (is_empty before) ++ (field_text f ++ more)) ≡ false
+-- behind a struct's opening brace no brace stands, so that it is no lob
+abbrev NoBrace : List ℕ → Type 0
+NoBrace xs = first_is (λ c. c == 123) xs ≡ false
+
+tail-brace : TextLaws → (before : Members UserSymbol ℕ) (f : Option UserSymbol) → Texts (field_symbols f) → is_some f ≡ true
+    → (more : List ℕ) → NoBrace (before_next kind.Struct (is_empty before) ++ (field_text f ++ more))
 tail-brace laws (member before g annotations place x) f texts e more = refl
 tail-brace laws nothing None texts e more = absurd (false≢true e)
 tail-brace laws nothing (Some f) texts e more =
-    subst (λ (xs : List ℕ). first_is (λ c. c == 123) xs ≡ false) (sym (field-join f more)) (no-brace f (symbol-is laws f texts.0) (58 ∷ more) BehindSymbol.at_colon)
+    subst NoBrace (sym (field-join f more)) (no-brace f (symbol-is laws f texts.0) (58 ∷ more) BehindSymbol.at_colon)
 
 member-join : (a b c d e rest : List ℕ) → (a ++ (b ++ (c ++ (d ++ e)))) ++ rest ≡ a ++ (b ++ (c ++ (d ++ (e ++ rest))))
 member-join a b c d e rest = simp append_assoc
 
-no-brace-in : TextLaws → (ms : Members UserSymbol ℕ) → Texts (members_symbols ms) → AreWritable kind.Struct ms → (rest : List ℕ) → first_is (λ c. c == 123) rest ≡ false → first_is (λ c. c == 123) (members_text kind.Struct ms ++ rest) ≡ false
+no-brace-in : TextLaws → (ms : Members UserSymbol ℕ) → Texts (members_symbols ms) → AreWritable kind.Struct ms
+    → (rest : List ℕ) → NoBrace rest → NoBrace (members_text kind.Struct ms ++ rest)
 no-brace-in laws nothing texts writable rest e = e
 no-brace-in laws (member before f annotations place x) texts writable rest e =
-    let own : Texts (value_symbols f annotations x) = all-right IsText (members_symbols before) (value_symbols f annotations x) texts in
-    let more : List ℕ = annotations_text annotations ++ (value_text x ++ rest) in
-    subst (λ (xs : List ℕ). first_is (λ c. c == 123) xs ≡ false)
-    (sym (member-join (members_text kind.Struct before) (before_next kind.Struct (is_empty before)) (field_text f) (annotations_text annotations) (value_text x) rest))
-    (no-brace-in laws before (all-left IsText (members_symbols before) (value_symbols f annotations x) texts) writable.0 (before_next kind.Struct (is_empty before) ++ (field_text f ++ more))
-    (tail-brace laws before f (own-field f annotations x own) writable.1.0 more))
+    let others = all-left IsText (members_symbols before) (value_symbols f annotations x) texts in
+    let own = all-right IsText (members_symbols before) (value_symbols f annotations x) texts in
+    let before_text : List ℕ = before_next kind.Struct (is_empty before) in
+    let notes : List ℕ = annotations_text annotations in
+    let more : List ℕ = notes ++ (value_text x ++ rest) in
+    let tail = tail-brace laws before f (own-field f annotations x own) writable.1.0 more in
+    subst NoBrace (sym (member-join (members_text kind.Struct before) before_text (field_text f) notes (value_text x) rest))
+    (no-brace-in laws before others writable.0 (before_text ++ (field_text f ++ more)) tail)
 
-opens : TextLaws → (j : Kind) (ms : Members UserSymbol ℕ) → Texts (members_symbols ms) → AreWritable j ms → (rest : List ℕ) → Opens j (members_text j ms ++ (closer j ++ rest))
+opens : TextLaws → (j : Kind) (ms : Members UserSymbol ℕ) → Texts (members_symbols ms) → AreWritable j ms → (rest : List ℕ)
+    → Opens j (members_text j ms ++ (closer j ++ rest))
 opens laws kind.List ms texts writable rest = tt
 opens laws kind.Sexp ms texts writable rest = tt
 opens laws kind.Struct ms texts writable rest = no-brace-in laws ms texts writable (125 ∷ rest) refl
@@ -222,8 +300,9 @@ record ScalarRead (k : Option Kind) (c : Cursor) (own : List SymbolAt) (body : S
   spells : Txt k c own place (scalar raw) (at behind rest)
   is : (t : Table) → map_scalar (user_at t) raw ≡ body
 
-scalar-read : TextLaws → (k : Option Kind) (c : Cursor) (own : List SymbolAt) (gap : List ℕ) → Gap gap → (p : ℕ) (body : Scalar UserSymbol) (rest : List ℕ)
-    → Annotations (in_sexp k) c own (at p (gap ++ (scalar_text body ++ rest))) → Behind rest → ScalarIs body → ScalarRead k c own body rest
+scalar-read : TextLaws → (k : Option Kind) (c : Cursor) (own : List SymbolAt) (gap : List ℕ) → Gap gap → (p : ℕ)
+    (body : Scalar UserSymbol) (rest : List ℕ) → Annotations (in_sexp k) c own (at p (gap ++ (scalar_text body ++ rest)))
+    → Behind rest → ScalarIs body → ScalarRead k c own body rest
 scalar-read laws k c own gap g p body rest prev behind (a_plain raw is same) =
     let w = stands Behind (scalar_text body) (plain raw) is (in_sexp k) gap g p rest behind in
     record { place = w.first; raw = raw; behind = w.behind; spells = Txt.of_plain prev w.tok; is = same }
@@ -231,7 +310,9 @@ scalar-read laws k c own gap g p _ rest prev behind (a_string bytes is) =
     let w = stands Behind (scalar_text (value.string bytes)) (text bytes) is (in_sexp k) gap g p rest behind in
     record { place = w.first; raw = value.string bytes; behind = w.behind; spells = Txt.of_text prev w.tok; is = λ t. refl }
 scalar-read laws k c own gap g p _ rest prev behind (a_symbol s is) =
-    let w = stands BehindSymbol (symbol_text s) (name is.quoted is.symbol) is.token (in_sexp k) gap g p rest (BehindSymbol.of_value behind) in
+    let token : Token = name is.quoted is.symbol in
+    let ends : BehindSymbol rest = BehindSymbol.of_value behind in
+    let w = stands BehindSymbol (symbol_text s) token is.token (in_sexp k) gap g p rest ends in
     record {
       place = w.first;
       raw = value.symbol (positions.at is.symbol w.first);
@@ -242,7 +323,7 @@ scalar-read laws k c own gap g p _ rest prev behind (a_symbol s is) =
 
 -- ---- trees
 
-id-scalar : {A : Type 0} (v : Scalar A) → map_scalar (λ s. s) v ≡ v
+pub id-scalar : {A : Type 0} (v : Scalar A) → map_scalar (λ s. s) v ≡ v
 id-scalar (value.symbol s) = refl
 id-scalar (value.null t) = refl
 id-scalar (value.bool truth) = refl
@@ -257,30 +338,48 @@ pub id-map : {A : Type 0} (xs : List A) → map (λ x. x) xs ≡ xs
 id-map [] = refl
 id-map (x ∷ xs) = ap (λ l. x ∷ l) (id-map xs)
 
-pub same_member : {S P : Type 0} (b c : Members S P) (f g : Option S) (a d : List S) (p : P) (x y : Value S P) → b ≡ c → f ≡ g → a ≡ d → x ≡ y → member b f a p x ≡ member c g d p y
-same_member b c f g a d p x y h i j k =
+pub same_member : {S P : Type 0} {b c : Members S P} {f g : Option S} {a d : List S} {x y : Value S P} (p : P)
+    → b ≡ c → f ≡ g → a ≡ d → x ≡ y → member b f a p x ≡ member c g d p y
+same_member {c = c} {g = g} {a = a} {x = x} p h i j k =
     ap₂ (λ m n. member m n a p x) h i ∙ ap₂ (λ l z. member c g l p z) j k
 
-container-join : (j : Kind) (ms : Members UserSymbol ℕ) (last : ℕ) (rest : List ℕ) → value_text (container j ms last) ++ rest ≡ opener j ++ (members_text j ms ++ (closer j ++ rest))
-container-join j ms last rest = append_assoc (opener j) (members_text j ms ++ closer j) rest ∙ ap (λ (xs : List ℕ). opener j ++ xs) (append_assoc (members_text j ms) (closer j) rest)
+container-join : (j : Kind) (ms : Members UserSymbol ℕ) (last : ℕ) (rest : List ℕ)
+    → value_text (container j ms last) ++ rest ≡ opener j ++ (members_text j ms ++ (closer j ++ rest))
+container-join j ms last rest =
+    append_assoc (opener j) (members_text j ms ++ closer j) rest
+    ∙ ap (λ (xs : List ℕ). opener j ++ xs) (append_assoc (members_text j ms) (closer j) rest)
 
 mutual
-  pub value-read : TextLaws → (k : Option Kind) (f : Option UserSymbol) (annotations : List UserSymbol) (x : Value UserSymbol ℕ) (gap : List ℕ) → Gap gap → (p : ℕ) (rest : List ℕ)
-      → Texts (value_symbols f annotations x) → IsWritable x → ValueHasBytes x → Behind rest
-      → ValueRead k (at p (gap ++ (annotations_text annotations ++ (value_text x ++ rest)))) annotations x rest
-  value-read laws k f annotations (scalar body) gap g p rest texts writable small behind =
-      let c : Cursor = at p (gap ++ (annotations_text annotations ++ (scalar_text body ++ rest))) in
-      let a = annotations-read laws (in_sexp k) c [] annotations (own-annotations f annotations (scalar body) texts) gap g p (scalar_text body ++ rest) Annotations.nothing in
-      let w = scalar-read laws k c a.own a.gap a.is_gap a.place body rest a.spells behind (scalar-is laws body writable.0 writable.1 small (own-scalar f annotations body texts)) in
-      record { own = a.own; place = w.place; raw = scalar w.raw; behind = w.behind; spells = w.spells; annotations_are = a.are; value_is = λ t. ap (λ (v : Scalar UserSymbol). scalar v) (w.is t ∙ sym (id-scalar body)) }
-  value-read laws k f annotations (container j ms last) gap g p rest texts writable small behind =
-      let c : Cursor = at p (gap ++ (annotations_text annotations ++ (value_text (container j ms last) ++ rest))) in
-      let a = annotations-read laws (in_sexp k) c [] annotations (own-annotations f annotations (container j ms last) texts) gap g p (value_text (container j ms last) ++ rest) Annotations.nothing in
+  pub value-read : TextLaws → (k : Option Kind) (f : Option UserSymbol) (notes : List UserSymbol) (x : Value UserSymbol ℕ)
+      (gap : List ℕ) → Gap gap → (p : ℕ) (rest : List ℕ) → Texts (value_symbols f notes x) → IsWritable x → ValueHasBytes x
+      → Behind rest → ValueRead k (at p (gap ++ (annotations_text notes ++ (value_text x ++ rest)))) notes x rest
+  value-read laws k f notes (scalar body) gap g p rest texts writable small behind =
+      let sexp : Bool = in_sexp k in
+      let c : Cursor = at p (gap ++ (annotations_text notes ++ (scalar_text body ++ rest))) in
+      let noted = own-annotations f notes (scalar body) texts in
+      let a = annotations-read laws sexp c [] notes noted gap g p (scalar_text body ++ rest) Annotations.nothing in
+      let is = scalar-is laws body writable.0 writable.1 small (own-scalar f notes body texts) in
+      let w = scalar-read laws k c a.own a.gap a.is_gap a.place body rest a.spells behind is in
+      record {
+        own = a.own;
+        place = w.place;
+        raw = scalar w.raw;
+        behind = w.behind;
+        spells = w.spells;
+        annotations_are = a.are;
+        value_is = λ t. ap (λ (v : Scalar UserSymbol). scalar v) (w.is t ∙ sym (id-scalar body));
+      }
+  value-read laws k f notes (container j ms last) gap g p rest texts writable small behind =
+      let sexp : Bool = in_sexp k in
+      let all : List ℕ = value_text (container j ms last) ++ rest in
       let inside : List ℕ = members_text j ms ++ (closer j ++ rest) in
-      let prev : Annotations (in_sexp k) c a.own (at a.place (a.gap ++ (opener j ++ inside))) =
-      subst (λ (xs : List ℕ). Annotations (in_sexp k) c a.own (at a.place (a.gap ++ xs))) (container-join j ms last rest) a.spells in
-      let own = own-members f annotations j ms last texts in
-      let b = begin-stands j (in_sexp k) a.gap a.is_gap a.place inside (opens laws j ms own writable rest) in
+      let c : Cursor = at p (gap ++ (annotations_text notes ++ all)) in
+      let noted = own-annotations f notes (container j ms last) texts in
+      let a = annotations-read laws sexp c [] notes noted gap g p all Annotations.nothing in
+      let prev : Annotations sexp c a.own (at a.place (a.gap ++ (opener j ++ inside))) =
+      subst (λ (xs : List ℕ). Annotations sexp c a.own (at a.place (a.gap ++ xs))) (container-join j ms last rest) a.spells in
+      let own = own-members f notes j ms last texts in
+      let b = begin-stands j sexp a.gap a.is_gap a.place inside (opens laws j ms own writable rest) in
       let m = members-read laws j ms b.behind (closer j ++ rest) own writable small (λ e. closer-behind j rest) in
       let e = end-stands j (is_sexp j) m.behind rest in
       record {
@@ -293,33 +392,42 @@ mutual
         value_is = λ t. ap (λ (ns : Members UserSymbol ⊤). container j ns tt) (m.are t);
       }
 
-  members-read : TextLaws → (k : Kind) (ms : Members UserSymbol ℕ) (p : ℕ) (rest : List ℕ) → Texts (members_symbols ms) → AreWritable k ms → MembersHaveBytes ms
-      → (is_empty ms ≡ false → Behind rest) → MembersRead k (at p (members_text k ms ++ rest)) ms (full_of k ms) rest
-  members-read laws k nothing p rest texts writable small behind = record { raw = nothing; behind = p; spells = Inside.nothing; are = λ t. refl }
-  members-read laws k (member before f annotations place x) p rest texts writable small behind =
-      let own : Texts (value_symbols f annotations x) = all-right IsText (members_symbols before) (value_symbols f annotations x) texts in
-      let body : List ℕ = annotations_text annotations ++ (value_text x ++ rest) in
+  members-read : TextLaws → (k : Kind) (ms : Members UserSymbol ℕ) (p : ℕ) (rest : List ℕ) → Texts (members_symbols ms)
+      → AreWritable k ms → MembersHaveBytes ms → (is_empty ms ≡ false → Behind rest)
+      → MembersRead k (at p (members_text k ms ++ rest)) ms (full_of k ms) rest
+  members-read laws k nothing p rest texts writable small behind =
+      record { raw = nothing; behind = p; spells = Inside.nothing; are = λ t. refl }
+  members-read laws k (member before f notes place x) p rest texts writable small behind =
+      let others = all-left IsText (members_symbols before) (value_symbols f notes x) texts in
+      let own = all-right IsText (members_symbols before) (value_symbols f notes x) texts in
+      let noted = own-annotations f notes x own in
+      let fielded = own-field f notes x own in
+      let body : List ℕ = annotations_text notes ++ (value_text x ++ rest) in
       let tail : List ℕ = field_text f ++ body in
       let before_text : List ℕ = before_next k (is_empty before) in
-      let value_start = value-starts laws f annotations x own writable.1.1 small.1 rest (behind refl) in
-      let body_start = annotated-starts laws annotations (own-annotations f annotations x own) (value_text x ++ rest) value_start in
-      let tail_start = member-starts laws f (own-field f annotations x own) body body_start in
       let c : Cursor = at p (members_text k before ++ (before_text ++ tail)) in
-      let r = members-read laws k before p (before_text ++ tail) (all-left IsText (members_symbols before) (value_symbols f annotations x) texts) writable.0 small.0 (next-behind k before tail tail_start) in
-      let o = opened k c before tail r in
-      let fr = field-read laws k f (own-field f annotations x own) writable.1.0 o.gap o.is_gap o.place body body_start in
-      let v = value-read laws (Some k) f annotations x fr.gap fr.is_gap fr.place rest own writable.1.1 small.1 (behind refl) in
-      let whole : MembersRead k c (member before f annotations place x) (has_commas (Some k)) rest = record {
+      let value_start = value-starts laws f notes x own writable.1.1 small.1 rest (behind refl) in
+      let body_start = annotated-starts laws notes noted (value_text x ++ rest) value_start in
+      let tail_start = member-starts laws f fielded body body_start in
+      let ends = next-behind k before tail tail_start in
+      let o = opened k c before tail (members-read laws k before p (before_text ++ tail) others writable.0 small.0 ends) in
+      let fr = field-read laws k f fielded writable.1.0 o.gap o.is_gap o.place body body_start in
+      let v = value-read laws (Some k) f notes x fr.gap fr.is_gap fr.place rest own writable.1.1 small.1 (behind refl) in
+      let whole : MembersRead k c (member before f notes place x) (has_commas (Some k)) rest = record {
         raw = member o.raw fr.own v.own v.place v.raw;
         behind = v.behind;
         spells = Inside.with_value o.spells fr.spells v.spells;
-        are = λ t. same_member _ _ _ _ _ _ tt _ _ (o.are t) (fr.is t ∙ sym (option_map_id f)) (v.annotations_are t ∙ sym (id-map annotations)) (v.value_is t);
+        are = λ t.
+            let field = fr.is t ∙ sym (option_map_id f) in
+            same_member tt (o.are t) field (v.annotations_are t ∙ sym (id-map notes)) (v.value_is t);
       } in
-      subst (λ (xs : List ℕ). MembersRead k (at p xs) (member before f annotations place x) (has_commas (Some k)) rest)
-      (sym (member-join (members_text k before) before_text (field_text f) (annotations_text annotations) (value_text x) rest)) whole
+      subst (λ (xs : List ℕ). MembersRead k (at p xs) (member before f notes place x) (has_commas (Some k)) rest)
+      (sym (member-join (members_text k before) before_text (field_text f) (annotations_text notes) (value_text x) rest)) whole
 
 -- what a value at top level begins with
-pub top-starts : TextLaws → (annotations : List UserSymbol) (x : Value UserSymbol ℕ) → Texts (value_symbols None annotations x) → IsWritable x → ValueHasBytes x → (rest : List ℕ) → Behind rest
-    → starts (annotations_text annotations ++ (value_text x ++ rest)) ≡ true
-top-starts laws annotations x texts writable small rest behind =
-    annotated-starts laws annotations (own-annotations None annotations x texts) (value_text x ++ rest) (value-starts laws None annotations x texts writable small rest behind)
+pub top-starts : TextLaws → (notes : List UserSymbol) (x : Value UserSymbol ℕ) → Texts (value_symbols None notes x)
+    → IsWritable x → ValueHasBytes x → (rest : List ℕ) → Behind rest
+    → starts (annotations_text notes ++ (value_text x ++ rest)) ≡ true
+top-starts laws notes x texts writable small rest behind =
+    let begins = value-starts laws None notes x texts writable small rest behind in
+    annotated-starts laws notes (own-annotations None notes x texts) (value_text x ++ rest) begins

@@ -1,4 +1,5 @@
--- The round trip: what is written of the user values of a stream, as text or as binary, is a stream of these values. Laws that contracts cite.
+-- The round trip: what is written of the user values of a stream, as text or as binary, is a stream of these values. Laws that
+-- contracts cite.
 use Rattle.std.specs.Prelude.{◌≡◌, ℕ, List, [], map, Some}
 use Rattle.ion_meter.specs.Limits.{AreChecked}
 use Rattle.ion_meter.specs.declared.limits.Limits.{Limits}
@@ -19,7 +20,8 @@ use Rattle.ion_transcode.specs.Verdict.{HasVerdict}
 
 -- ---- values
 
--- the canonical text of values is a stream of text, and its user values under a catalogue are these values: all is the same but the places
+-- the canonical text of values is a stream of text, and under a catalogue the user values of that stream are these values again,
+-- in all but their places
 pub record IsTextRead (catalog : List Shared) (tops : List (Top UserSymbol ℕ)) : Type 0 where
   pub raw : List (Top SymbolAt ℕ)
   pub users : List (Top UserSymbol ℕ)
@@ -28,39 +30,41 @@ pub record IsTextRead (catalog : List Shared) (tops : List (Top UserSymbol ℕ))
   pub users_are : user_tops catalog system raw ≡ Some users
   pub same : map unplaced_top users ≡ map unplaced_top tops
 
--- so it is of all values that a user can have, under every catalogue
+-- so it is of all values that a user can have, whatever the catalogue is
 abbrev pub TextIsRead : Type 0
 TextIsRead = (catalog : List Shared) (tops : List (Top UserSymbol ℕ)) → AreUsers tops → IsTextRead catalog tops
 
--- the user values of each stream of bytes, in either form, are such values, where the texts of the catalogue are UTF-8
+-- the user values of each stream of bytes, in either form, are values that a user can have, where the texts of the catalogue are
+-- UTF-8
 abbrev pub ValuesOfStreams : Type 0
 ValuesOfStreams =
     (form : Form) (catalog : List Shared) (bytes : List ℕ) (tops : List (Top SymbolAt ℕ)) (us : List (Top UserSymbol ℕ))
-    → AreBytes bytes → CatalogIsText catalog → (encoding_of form).Stream bytes tops → user_tops catalog system tops ≡ Some us → AreUsers us
+    → AreBytes bytes → CatalogIsText catalog → (encoding_of form).Stream bytes tops → user_tops catalog system tops ≡ Some us
+    → AreUsers us
 
--- of the user values of a stream, in either form, the canonical text is a stream of these values, and so is the canonical binary where it is not
--- too long: whatever the catalogue is by which it is read again
+-- the canonical text of the user values of a stream, in either form, is a stream of these values, and so is their canonical binary,
+-- where no value and no declaration in it is too long: whatever the catalogue is by which they are read again
 abbrev pub RoundTrip : Type 0
 RoundTrip =
-    (form : Form) (catalog other : List Shared) (limit : ℕ) (bytes : List ℕ) (tops : List (Top SymbolAt ℕ)) (us : List (Top UserSymbol ℕ))
-    → AreBytes bytes → CatalogIsText catalog → (encoding_of form).Stream bytes tops → user_tops catalog system tops ≡ Some us
-    → IsTextRead other us × (AreShort limit [] us → IsRead other limit us)
+    (form : Form) (catalog other : List Shared) (limit : ℕ) (bytes : List ℕ) (tops : List (Top SymbolAt ℕ))
+    (us : List (Top UserSymbol ℕ)) → AreBytes bytes → CatalogIsText catalog → (encoding_of form).Stream bytes tops
+    → user_tops catalog system tops ≡ Some us → IsTextRead other us × (AreShort limit [] us → IsRead other limit us)
 
 -- ---- runs
 
--- to show what was shown gives the same bytes, and as many values, where both runs are accepted: whatever their catalogues and their limits are
+-- a run to text over what a run to text wrote writes the same bytes, and counts as many values, where both are accepted: whatever
+-- their catalogues and their limits are
 abbrev pub ShowOnce : Type 0
 ShowOnce =
-    (catalog other : List Shared) (limits wide : Limits) (bytes shown again : List ℕ) (n m : ℕ) → AreBytes bytes → CatalogIsText catalog
-    → HasVerdict catalog limits to.Text bytes (Accepted n) shown → HasVerdict other wide to.Text shown (Accepted m) again
-    → (again ≡ shown) × (m ≡ n)
+    (catalog other : List Shared) (limits wide : Limits) (bytes shown again : List ℕ) (n m : ℕ)
+    → AreBytes bytes → CatalogIsText catalog → HasVerdict catalog limits to.Text bytes (Accepted n) shown
+    → HasVerdict other wide to.Text shown (Accepted m) again → (again ≡ shown) × (m ≡ n)
 
--- to show the binary that was written of a text gives the same bytes as to show the text, and as many values, where all three runs are accepted:
--- whatever the limits are, and the catalogue by which the binary is read
+-- a run to text over the binary that was written of a text writes the same bytes as a run to text over that text, and all three
+-- count as many values, where they are accepted: whatever their limits are, and the catalogue by which the binary is read
 abbrev pub ThereAndBack : Type 0
 ThereAndBack =
-    (catalog other : List Shared) (limits wide most : Limits) (bytes written back shown : List ℕ) (n m k : ℕ) → AreBytes bytes → CatalogIsText catalog
-    → AreChecked limits → form_of bytes ≡ form.Text
+    (catalog other : List Shared) (limits wide most : Limits) (bytes written back shown : List ℕ) (n m k : ℕ)
+    → CatalogIsText catalog → AreChecked limits → form_of bytes ≡ form.Text
     → HasVerdict catalog limits to.Binary bytes (Accepted n) written → HasVerdict other wide to.Text written (Accepted m) back
-    → HasVerdict catalog most to.Text bytes (Accepted k) shown
-    → (back ≡ shown) × (m ≡ n)
+    → HasVerdict catalog most to.Text bytes (Accepted k) shown → (back ≡ shown) × ((m ≡ n) × (k ≡ n))

@@ -61,8 +61,8 @@ path_refusal target.Text limits path item = None
 path_refusal target.Binary limits path item = refused_behind limits path item
 path_refusal target.Nothing limits path item = None
 
--- the output of a stream that is refused is that of the user values of a path that its bytes spell, which is faultless, and the item behind which
--- has the fault as its first one
+-- the output of a stream that is refused is that of the user values of a path that its bytes spell, which is faultless, and behind
+-- which the next item has this fault as its first one
 pub record IsRefusedOutput (e : Encoding) (to : Target) (catalog : List Shared) (limits : Limits) (bytes : List ℕ) (reason : Reason) (place : ℕ) (out : List ℕ) : Type 0 where
   pub path : Path SymbolAt ℕ
   pub user_path : Path UserSymbol ℕ

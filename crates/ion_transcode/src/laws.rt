@@ -217,11 +217,13 @@ pub fn show_once()
 pub fn there_and_back()
     ensures { ThereAndBack }
 {
-    values_of_streams();
+    users_of_raw_values();
+    text::streams_are_raw();
     binary::the_form_is_read();
     text_is_spelled_once();
     binary_is_spelled_once();
     text_is_sound();
+    users_are_read();
     faultless_paths_are_read();
     binary::items_are_refused_as_in_trees();
     binary::none_is_refused_within();

@@ -1,6 +1,6 @@
-use Rattle.std.proofs.Common.{rules, ◌≡◌, ◌≢◌, ◌+◌, ℕ, Ok, Err, refl, ap, sym, ◌∙◌, arith}
+use Rattle.std.proofs.Common.{rules, ◌≡◌, ◌≢◌, ◌+◌, Err, ap, arith}
 use Rattle.std.proofs.lemmas.Grind.{common_steps}
-use Rattle.ion_meter.specs.declared.fault.Fault.TheVariants.{Memory, ReadFault, WriteFault}
+use Rattle.ion_meter.specs.declared.fault.Fault.TheVariants.{Memory, ReadFault}
 use Rattle.ion_value.specs.Reading.{items_of}
 use Rattle.ion_symbols.specs.Users.{at_start, users}
 use Rattle.ion_symbols.specs.Building.{HasRead, loading_of}

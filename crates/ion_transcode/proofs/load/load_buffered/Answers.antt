@@ -1,7 +1,7 @@
-use Rattle.std.proofs.Common.{rules, ◌≡◌, List, ℕ, sym, ◌∙◌}
+use Rattle.std.proofs.Common.{rules, ◌≡◌, List, ℕ, ◌∙◌}
 use Rattle.ion_meter.specs.Windows.{left}
 use Rattle.ion_transcode.specs.declared.to.Form.TheVariants as form
-use Rattle.ion_transcode.specs.Forms.{form_by_first, form_of}
+use Rattle.ion_transcode.specs.Forms.{form_of}
 use Rattle.ion_transcode.proofs.LoadParts.{form-first, says-as}
 use Rattle.ion_transcode.proofs.load.load_buffered.Goals as goal
 

@@ -11,4 +11,5 @@ pub mod Catalogues
 pub mod Laws
 pub mod UserPaths
 pub mod RoundTrip
+pub mod Acceptance
 pub mod Calls

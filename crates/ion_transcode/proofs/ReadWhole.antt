@@ -59,8 +59,7 @@ module _ (e : Encoding) (IsOf : List ℕ → Type 0) (reading : Limits → List 
       in
       let raw : raw_in e outputs catalog limits (prefix.steps + fuel) (e.start bytes) ≡ behind (top_items tops) Finished =
       prefix.raw fuel ∙ ap (λ o. behind (top_items tops) (next_reading (λ t. raw_in e outputs catalog limits (sound.size (e.start bytes)) t) o)) ends
-      in
-      (
+      in (
         enough ∙ raw,
         ap (users.users catalog limits.symbols at_start) (sym raw)
             ∙ (prefix.own fuel ∙ ap (behind mine) (user-step e outputs catalog limits (sound.size (e.start bytes)) s u Ends ends)),

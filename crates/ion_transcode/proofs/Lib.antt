@@ -27,4 +27,6 @@ mod TextOfValuesIsRead
 mod TextWithoutPlaces
 mod ReadAgain
 mod ShortRuns
+mod Accepted
+mod ReadWhole
 mod NeededPremises

@@ -1,4 +1,5 @@
 //! Laws of the verdicts of streams, each the contract of a function that does nothing.
+ghost use Rattle.ion_transcode.specs.Acceptance.{GoodStreamsAreAccepted, WhatIsAcceptedIsRead, WhatIsReadIsAccepted};
 ghost use Rattle.ion_transcode.specs.Catalogues.{CatalogVerdictsAreRead, CatalogsAreLoaded, OneCatalog, OneCatalogVerdict, TablesAreCatalogs};
 ghost use Rattle.ion_transcode.specs.Forms.{binary_encoding, text_encoding};
 ghost use Rattle.ion_transcode.specs.Laws.{BinaryIsComplete, BinaryIsSound, OneSpelling, OneVerdict, SpellsOnce, StreamsAreRead, TextIsComplete, TextIsSound};
@@ -8,7 +9,7 @@ ghost use Rattle.ion_transcode.specs.UserPaths.{FaultlessPathsAreRead, RefusedOu
 use ion_binary::laws as binary;
 use ion_symbols::laws::{
     catalogs_are_read, catalogs_are_tables, open_users_are_read, users_are_read,
-    users_of_raw_values,
+    users_of_raw_values, what_is_accepted_is_resolved, what_is_resolved_is_accepted,
 };
 use ion_text_in::laws as text;
 use ion_text_out::laws::{path_text_is_that_of_items, text_is_that_of_items};
@@ -228,4 +229,41 @@ pub fn there_and_back()
     binary::items_are_refused_as_in_trees();
     binary::none_is_refused_within();
     binary::what_is_within_is_short();
+}
+
+/// What is read to its end, and has its symbols resolved, and values of which the writer refuses
+/// nothing, is accepted, and its output is that of these values.
+pub fn what_is_read_is_accepted()
+    ensures { WhatIsReadIsAccepted }
+{
+    streams_are_read();
+    users_are_read();
+    what_is_resolved_is_accepted();
+    binary::none_is_refused_within();
+    text_is_that_of_items();
+    binary::items_put_the_form();
+}
+
+/// So is each stream of the grammar of its form that passes no limit.
+pub fn good_streams_are_accepted()
+    ensures { GoodStreamsAreAccepted }
+{
+    what_is_read_is_accepted();
+    binary::streams_within_limits_are_read();
+    text::streams_within_limits_are_read();
+}
+
+/// And no other stream is accepted: each that is, is read to its end, has its symbols resolved, and
+/// values of which the writer refuses nothing.
+pub fn what_is_accepted_is_read()
+    ensures { WhatIsAcceptedIsRead }
+{
+    binary_is_sound();
+    text_is_sound();
+    what_is_accepted_is_resolved();
+    users_are_read();
+    faultless_paths_are_read();
+    binary::items_are_refused_as_in_trees();
+    binary::none_is_refused_within();
+    text::one_stream();
 }

@@ -29,4 +29,5 @@ mod ReadAgain
 mod ShortRuns
 mod Accepted
 mod ReadWhole
+mod AcceptedAgain
 mod NeededPremises

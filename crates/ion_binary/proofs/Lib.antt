@@ -40,6 +40,7 @@ mod Numbered
 mod WrittenSpelled
 mod WrittenDeclarations
 mod WrittenStream
+mod WrittenResolved
 mod BodyParts
 mod TypedValueCode
 mod WrapperCode

@@ -67,7 +67,7 @@ imports-id : id_in [] (Known (codes "imports")) ≡ 6
 unfolding id_in
 imports-id = refl
 
-table-id : id_in [] (Known (codes "$ion_symbol_table")) ≡ 3
+pub table-id : id_in [] (Known (codes "$ion_symbol_table")) ≡ 3
 unfolding id_in
 table-id = refl
 
@@ -75,7 +75,7 @@ symbols-id : id_in [] (Known (codes "symbols")) ≡ 7
 unfolding id_in
 symbols-id = refl
 
-said-is : (texts : List (List ℕ)) → map_value (with_id (id_in [])) no_place (declaring texts) ≡ said 6 3 7 (strings_of texts)
+pub said-is : (texts : List (List ℕ)) → map_value (with_id (id_in [])) no_place (declaring texts) ≡ said 6 3 7 (strings_of texts)
 said-is texts =
     let strings : Members Symbol ⊤ = strings_of texts in
     let i : UserSymbol → ℕ = id_in [] in
@@ -337,7 +337,7 @@ raw-accepted g top imports table symbols a b p q last strings i t s na nb h room
 
 -- ---- what is said
 
-record Said (catalog : List Shared) (old : Table) (texts : List (List ℕ)) (own : List SymbolAt) (raw : Value SymbolAt ℕ) : Type 0 where
+pub record Said (catalog : List Shared) (old : Table) (texts : List (List ℕ)) (own : List SymbolAt) (raw : Value SymbolAt ℕ) : Type 0 where
   pub members : Members SymbolAt ℕ
   pub is_declaration : declares_table old own raw ≡ Some members
   pub leaves : next_table catalog (text_at old) old members ≡ Some (with_texts old texts)
@@ -352,7 +352,7 @@ declares-struct old s ss members last e =
 first-own : (s : SymbolAt) (ss : List SymbolAt) (n : ℕ) → map bare_symbol (s ∷ ss) ≡ Id n ∷ [] → s.symbol ≡ Id n
 first-own s ss n e = let f : s.symbol ∷ map bare_symbol ss ≡ Id n ∷ [] = e in cc f
 
-what-is-said : (catalog : List Shared) (old : Table) (texts : List (List ℕ)) (own : List SymbolAt) (raw : Value SymbolAt ℕ)
+pub what-is-said : (catalog : List Shared) (old : Table) (texts : List (List ℕ)) (own : List SymbolAt) (raw : Value SymbolAt ℕ)
     → map bare_symbol own ≡ Id 3 ∷ [] → bare raw ≡ said 6 3 7 (strings_of texts) → Said catalog old texts own raw
 what-is-said catalog old texts [] raw n e = absurd (cc n)
 what-is-said catalog old texts (s ∷ ss) raw n e =
@@ -388,7 +388,7 @@ what-is-said catalog old texts (s ∷ ss) raw n e =
     }
 
 -- what is written of a declaration
-declaration-spelled : (q : ℕ) (t : List ℕ) (ts : List (List ℕ)) → AllByRecursion IsUtf8 (t ∷ ts) → length (declaration (t ∷ ts)) < 2 ^ 62
+pub declaration-spelled : (q : ℕ) (t : List ℕ) (ts : List (List ℕ)) → AllByRecursion IsUtf8 (t ∷ ts) → length (declaration (t ∷ ts)) < 2 ^ 62
     → SpelledWithin (id_in []) q (Known (codes "$ion_symbol_table") ∷ []) (declaring (t ∷ ts)) (declaration (t ∷ ts))
 unfolding declaration
 declaration-spelled q t ts h short =

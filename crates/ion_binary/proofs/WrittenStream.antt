@@ -92,7 +92,7 @@ known-text texts t id h = known-text-by texts t id (position system_texts t) (po
 abbrev seen_in : Table → Symbol → UserSymbol
 seen_in t s = user_symbol (named (text_at t) s)
 
-id-text : (texts : List (List ℕ)) (t : List ℕ) → IsKnown texts (Known t) → text_at (table_of texts) (id_in texts (Known t)) ≡ Some t
+pub id-text : (texts : List (List ℕ)) (t : List ℕ) → IsKnown texts (Known t) → text_at (table_of texts) (id_in texts (Known t)) ≡ Some t
 unfolding id_in
 id-text texts t h =
     let same : unwrap_or (known_id texts t) 0 ≡ h.0 = ap (λ o. unwrap_or o 0) h.1 in
@@ -241,7 +241,7 @@ leads-value catalog t p h own raw none more = rw (none, user_tops) refl
 -- ---- a value more
 
 -- the new texts of symbols, which are no longer than limits that the symbols are within
-record News (kept all : List (List ℕ)) (ss : List UserSymbol) : Type 0 where
+pub record News (kept all : List (List ℕ)) (ss : List UserSymbol) : Type 0 where
   pub more : List (List ℕ)
   pub is : all ≡ kept ++ more
   pub texts : AllByRecursion IsUtf8 more
@@ -263,7 +263,7 @@ unfolding with_symbol
 news-with kept (Known t) h = news-text kept t (known_id kept t) refl h
 news-with kept Unknown h = no-news kept (Unknown ∷ [])
 
-news : (kept : List (List ℕ)) (ss : List UserSymbol) → AllByRecursion IsText ss → News kept (with_symbols kept ss) ss
+pub news : (kept : List (List ℕ)) (ss : List UserSymbol) → AllByRecursion IsText ss → News kept (with_symbols kept ss) ss
 news kept [] h = no-news kept []
 news kept (s ∷ ss) h =
     let a = news-with kept s h.0 in
@@ -275,10 +275,10 @@ news kept (s ∷ ss) h =
       fits = λ limits fits. all-append (λ t. length t ≤ limits.scalar) a.more b.more (a.fits limits (fits.0, tt)) (b.fits limits fits.1);
     }
 
-table-more : (kept new : List (List ℕ)) → with_texts (table_of kept) new ≡ table_of (kept ++ new)
+pub table-more : (kept new : List (List ℕ)) → with_texts (table_of kept) new ≡ table_of (kept ++ new)
 table-more kept new = ap (λ (l : Slots). let t : Table = record { imports = []; locals = l } in t) (sym (map-append (λ t. Some t) kept new))
 
-no-declaration : declaration [] ≡ []
+pub no-declaration : declaration [] ≡ []
 unfolding declaration
 no-declaration = refl
 
@@ -286,7 +286,7 @@ no-declaration = refl
 abbrev marked_at : Symbol → ℕ → SymbolAt
 marked_at s place = record { symbol = s; place = place }
 
-declares-none : (texts : List (List ℕ)) (own : List SymbolAt) (raw : Value SymbolAt ℕ) (annotations : List UserSymbol) (x : Value UserSymbol ℕ)
+pub declares-none : (texts : List (List ℕ)) (own : List SymbolAt) (raw : Value SymbolAt ℕ) (annotations : List UserSymbol) (x : Value UserSymbol ℕ)
     → map bare_symbol own ≡ map (with_id (id_in texts)) annotations → map_value bare_symbol no_place raw ≡ map_value (with_id (id_in texts)) no_place x
     → AreKnown texts annotations → is_declaring annotations x ≡ false → declares_table (table_of texts) own raw ≡ None
 declares-none texts [] raw annotations x n e k d = refl
@@ -315,7 +315,7 @@ declares-none texts (s ∷ ss) (container kind.Struct ms last) (Unknown ∷ othe
     ap (λ z. declares_table (table_of texts) (marked_at z s.place ∷ ss) (container kind.Struct ms last)) first
     ∙ ap (λ o. if is_declaration (word_by_id o) then Some ms else None) (unknown-text texts)
 
-known-annotations : (texts : List (List ℕ)) (annotations : List UserSymbol) (x : Value UserSymbol ℕ) → AreKnown texts (value_symbols None annotations x) → AreKnown texts annotations
+pub known-annotations : (texts : List (List ℕ)) (annotations : List UserSymbol) (x : Value UserSymbol ℕ) → AreKnown texts (value_symbols None annotations x) → AreKnown texts annotations
 known-annotations texts annotations (scalar v) h = known_left texts annotations (scalar_symbols v) h
 known-annotations texts annotations (container k ms last) h = known_left texts annotations [] (known_left texts (annotations ++ []) (members_symbols ms) h)
 

@@ -6,6 +6,7 @@ ghost use Rattle.ion_binary.specs.Refusals.{ItemsAreRefusedAsInTrees, NoneIsRefu
 ghost use Rattle.ion_binary.specs.Held.{WhatIsHeldMoves};
 ghost use Rattle.ion_binary.specs.Places.{ClosedSizeByCounts, ClosedSizeByPlaces};
 ghost use Rattle.ion_binary.specs.WrittenLimits.{NumbersFit, WhatIsWrittenIsWithinLimits};
+ghost use Rattle.ion_binary.specs.WrittenSymbols.{WhatIsWrittenIsResolved};
 ghost use Rattle.ion_binary.specs.Spelling.{DeclarationsAreAccepted, WrittenDeclarationsAreRead, HeadersAreShortest, TheFormIsRead, ValuesAreSpelled, WhatIsWithinIsShort};
 
 /// Every body of a scalar that the grammar has is read to its value, and no other body is read.
@@ -206,4 +207,10 @@ pub fn numbers_fit()
 /// of the texts of their symbols, and the number of annotations of each.
 pub fn what_is_written_is_within_limits()
     ensures { WhatIsWrittenIsWithinLimits }
+{}
+
+/// The declarations of what is written are accepted when it is read again under the limits of the
+/// writer, whatever the catalogue, and each id stands in its table.
+pub fn what_is_written_is_resolved()
+    ensures { WhatIsWrittenIsResolved }
 {}

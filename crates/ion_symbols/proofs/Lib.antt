@@ -25,7 +25,7 @@ mod Accepted
 mod Costly
 mod UserReadings
 mod ResolvedUsers
-mod OtherSymbols
+pub mod OtherSymbols
 mod TextTables
 mod RawUsers
 mod OpenDeclarations

@@ -27,4 +27,8 @@ mod TextOfValuesIsRead
 mod TextWithoutPlaces
 mod ReadAgain
 mod ShortRuns
+mod Accepted
+mod ReadWhole
+mod AcceptedAgain
+mod NeededPremises
 mod TopRows

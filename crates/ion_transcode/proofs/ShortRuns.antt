@@ -138,7 +138,7 @@ module _ (sound : TextIsSound) (along : FaultlessPathsAreRead) (trees : ItemsAre
 
   -- ---- an accepted run
 
-  within : UsersAreRead → NoneIsRefusedWithin → OneStream → (v : Verdict) (written : List ℕ) (n : ℕ) → v ≡ Accepted n
+  pub within : UsersAreRead → NoneIsRefusedWithin → OneStream → (v : Verdict) (written : List ℕ) (n : ℕ) → v ≡ Accepted n
       → HasVerdictFrom text_encoding (to_binary limits) catalog limits bytes v written
       → (tops : List (Top SymbolAt ℕ)) (us : List (Top UserSymbol ℕ)) → text_encoding.Stream bytes tops
       → user_tops catalog system tops ≡ Some us → AreWithin limits [] us

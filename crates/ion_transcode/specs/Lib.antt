@@ -11,5 +11,6 @@ pub mod Catalogues
 pub mod Laws
 pub mod UserPaths
 pub mod RoundTrip
+pub mod Acceptance
 pub mod ShownAgain
 pub mod Calls

@@ -16,8 +16,11 @@ use Rattle.ion_symbols.specs.UserValues.{AreUsers, CatalogIsText}
 use Rattle.ion_text_in.specs.Reading.{reading}
 use Rattle.ion_text_out.specs.Text.{text}
 use Rattle.ion_transcode.specs.declared.to.Form.TheVariants as form
+use Rattle.ion_transcode.specs.declared.to.Target.TheVariants as target
+use Rattle.ion_transcode.specs.declared.to.To.{To}
 use Rattle.ion_transcode.specs.declared.to.To.TheVariants as to
 use Rattle.ion_transcode.specs.Forms.{encoding_of, form_of}
+use Rattle.ion_transcode.specs.Outputs.{resolved}
 use Rattle.ion_transcode.specs.Verdict.{HasVerdict}
 
 -- ---- which values limits allow in canonical text
@@ -89,3 +92,17 @@ abbrev pub TextIsReadWithin : Type 0
 TextIsReadWithin =
     (catalog : List Shared) (limits : Limits) (tops : List (Top UserSymbol ℕ)) → 64 ≤ limits.scalar → AreUsers tops
     → AllByRecursion (FitsText limits) tops → IsReadWithin catalog limits tops
+
+-- ---- what was shown is accepted
+
+-- what a run to text wrote is accepted by a run to text, which writes the same bytes, and by a run to nothing, and both count as
+-- many values: whatever the catalogue is, where the values fit these runs' limits, and the limit on scalars is 64 or more. `tops` and
+-- `us` are what the first run read, and its user values
+abbrev pub WhatIsShownIsAccepted : Type 0
+WhatIsShownIsAccepted =
+    (catalog other : List Shared) (limits wide : Limits) (asked : To) (bytes shown : List ℕ) (n : ℕ) (tops : List (Top SymbolAt ℕ))
+    (us : List (Top UserSymbol ℕ))
+    → AreBytes bytes → CatalogIsText catalog → resolved (form_of bytes) asked ≡ Some target.Text
+    → HasVerdict catalog limits asked bytes (Accepted n) shown → (encoding_of (form_of bytes)).Stream bytes tops
+    → user_tops catalog system tops ≡ Some us → 64 ≤ wide.scalar → AllByRecursion (FitsText wide) us
+    → HasVerdict other wide to.Text shown (Accepted n) shown × HasVerdict other wide to.Nothing shown (Accepted n) []

@@ -1,14 +1,17 @@
 //! Laws of the verdicts of streams, each the contract of a function that does nothing.
+ghost use Rattle.ion_transcode.specs.Acceptance.{GoodStreamsAreAccepted, WhatIsAcceptedIsRead, WhatIsReadIsAccepted};
 ghost use Rattle.ion_transcode.specs.Catalogues.{CatalogVerdictsAreRead, CatalogsAreLoaded, CatalogsAreText, OneCatalog, OneCatalogVerdict, TablesAreCatalogs};
 ghost use Rattle.ion_transcode.specs.Forms.{binary_encoding, text_encoding};
 ghost use Rattle.ion_transcode.specs.Laws.{BinaryIsComplete, BinaryIsSound, OneSpelling, OneVerdict, SpellsOnce, StreamsAreRead, TextIsComplete, TextIsSound};
 ghost use Rattle.ion_transcode.specs.RoundTrip.{RoundTrip, ShowOnce, TextIsRead, ThereAndBack, ValuesOfStreams};
+ghost use Rattle.ion_transcode.specs.ShownAgain.{TextIsReadWithin, WhatIsShownIsAccepted};
 ghost use Rattle.ion_transcode.specs.UserPaths.{FaultlessPathsAreRead, RefusedOutputIsThatOfAPath};
 
 use ion_binary::laws as binary;
 use ion_symbols::laws::{
     catalogs_are_read, catalogs_are_tables, open_users_are_read, tables_of_users_are_text,
-    users_are_read, users_of_raw_values,
+    users_are_read, users_of_raw_values, what_is_accepted_is_resolved,
+    what_is_resolved_is_accepted,
 };
 use ion_text_in::laws as text;
 use ion_text_out::laws::{path_text_is_that_of_items, text_is_that_of_items};
@@ -239,4 +242,75 @@ pub fn there_and_back()
     binary::items_are_refused_as_in_trees();
     binary::none_is_refused_within();
     binary::what_is_within_is_short();
+}
+
+/// What is read to its end, and has its symbols resolved, and values of which the writer refuses
+/// nothing, is accepted, and its output is that of these values.
+pub fn what_is_read_is_accepted()
+    ensures { WhatIsReadIsAccepted }
+{
+    streams_are_read();
+    users_are_read();
+    what_is_resolved_is_accepted();
+    binary::none_is_refused_within();
+    text_is_that_of_items();
+    binary::items_put_the_form();
+}
+
+/// So is each stream of the grammar of its form that passes no limit.
+pub fn good_streams_are_accepted()
+    ensures { GoodStreamsAreAccepted }
+{
+    what_is_read_is_accepted();
+    binary::streams_within_limits_are_read();
+    text::streams_within_limits_are_read();
+}
+
+/// And no other stream is accepted: each that is, is read to its end, has its symbols resolved, and
+/// values of which the writer refuses nothing.
+pub fn what_is_accepted_is_read()
+    ensures { WhatIsAcceptedIsRead }
+{
+    binary_is_sound();
+    text_is_sound();
+    what_is_accepted_is_resolved();
+    users_are_read();
+    faultless_paths_are_read();
+    binary::items_are_refused_as_in_trees();
+    binary::none_is_refused_within();
+    text::one_stream();
+}
+
+/// The canonical text of values is read to its end under limits that the values fit, and its symbols
+/// are all resolved: of all values that a user of a stream can have.
+pub fn text_is_read_within()
+    ensures { TextIsReadWithin }
+{
+    text::what_ends_a_number();
+    text::what_ends_a_symbol();
+    text::what_begins_a_token();
+    text::null_text_is_read();
+    text::bool_text_is_read();
+    text::int_text_is_read();
+    text::decimal_text_is_read();
+    text::timestamp_text_is_read();
+    text::string_text_is_read();
+    text::quoted_symbol_is_read();
+    text::plain_symbol_is_read();
+    text::id_is_read();
+    text::clob_text_is_read();
+    text::base64_is_read();
+    text::what_is_within_limits_is_read();
+}
+
+/// What a run to text wrote is accepted, where its values fit the limits, and a run to text over it
+/// writes the same bytes.
+pub fn what_is_shown_is_accepted()
+    ensures { WhatIsShownIsAccepted }
+{
+    what_is_accepted_is_read();
+    one_spelling();
+    values_of_streams();
+    text_is_read_within();
+    what_is_read_is_accepted();
 }

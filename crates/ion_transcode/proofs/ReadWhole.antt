@@ -1,0 +1,128 @@
+-- A stream that is accepted is read to its end, its symbols are resolved, and the writer refuses nothing of its user values.
+use Rattle.std.proofs.Common.{◌≡◌, ℕ, suc, ◌+◌, List, length, Option, Some, refl, ap, sym, ◌∙◌, subst, arith}
+use Rattle.ion_meter.specs.declared.limits.Limits.{Limits}
+use Rattle.ion_value.proofs.Readings.{reading_for-enough}
+use Rattle.ion_value.specs.Outcome.{Verdict, Accepted}
+use Rattle.ion_value.specs.Path.{closed, path_items}
+use Rattle.ion_value.specs.Reading.{Reading, Finished, behind, next_reading, Ends}
+use Rattle.ion_value.specs.Value.{SymbolAt, UserSymbol, Top, PlacedItem, top_items}
+use Rattle.ion_symbols.specs.Laws.{UsersAreRead}
+use Rattle.ion_symbols.specs.Resolved.{AreResolved, WhatIsAcceptedIsResolved}
+use Rattle.ion_symbols.specs.Table.{Shared, system}
+use Rattle.ion_symbols.specs.Tree.{user_tops}
+use Rattle.ion_symbols.specs.Users as users
+use Rattle.ion_symbols.specs.Users.{at_start}
+use Rattle.ion_binary.specs.Reading as binary
+use Rattle.ion_binary.specs.Refusals.{ItemsAreRefusedAsInTrees, NoneIsRefusedWithin}
+use Rattle.ion_text_in.specs.Laws.{OneStream}
+use Rattle.ion_text_in.specs.Reading as text
+use Rattle.ion_transcode.specs.declared.to.Form.{Form}
+use Rattle.ion_transcode.specs.declared.to.Form.TheVariants as form
+use Rattle.ion_transcode.specs.declared.to.Target.{Target}
+use Rattle.ion_transcode.specs.declared.to.Target.TheVariants as target
+use Rattle.ion_transcode.specs.declared.to.To.{To}
+use Rattle.ion_transcode.specs.declared.to.To.TheVariants as to
+use Rattle.ion_transcode.specs.Acceptance.{AreTaken, WhatIsAcceptedIsRead}
+use Rattle.ion_transcode.specs.Encoding.{Encoding, IsSound}
+use Rattle.ion_transcode.specs.Forms.{IsBinary, binary_encoding, text_encoding, encoding_of, form_of, reading_of}
+use Rattle.ion_transcode.specs.Laws.{BinaryIsSound, TextIsSound}
+use Rattle.ion_transcode.specs.Outputs.{Outputs, outputs_of, resolved}
+use Rattle.ion_transcode.specs.UserPaths.{FaultlessPathsAreRead}
+use Rattle.ion_transcode.specs.Verdict.{Faultless, HasVerdictFrom, whole, refused, HasVerdictAs}
+use Rattle.ion_transcode.proofs.Faultless.{raw_in, user-step, faultless-prefixes}
+use Rattle.ion_transcode.proofs.ShortRuns.{within}
+
+-- ---- by an encoding that is sound
+
+-- what is accepted
+record IsWhole (e : Encoding) (outputs : Outputs) (catalog : List Shared) (limits : Limits) (bytes : List ℕ) (reading : Limits → List ℕ → Reading) (n : ℕ) (out : List ℕ) : Type 0 where
+  tops : List (Top SymbolAt ℕ)
+  us : List (Top UserSymbol ℕ)
+  stream : e.Stream bytes tops
+  read : reading limits bytes ≡ behind (path_items (closed tops)) Finished
+  resolved_are : AreResolved catalog limits.symbols system tops
+  users_are : user_tops catalog system tops ≡ Some us
+  count : n ≡ length us
+  output : out ≡ outputs.whole_output us
+
+module _ (e : Encoding) (IsOf : List ℕ → Type 0) (reading : Limits → List ℕ → Reading) (sound : IsSound e IsOf reading) (outputs : Outputs) (catalog : List Shared) (limits : Limits) (bytes : List ℕ) where
+  -- items that are faultless up to the end are all that is read, and the user items among them are all of these
+  all-read : (tops : List (Top SymbolAt ℕ)) (mine : List PlacedItem) (s : e.State) (u : users.State) → Faultless e outputs catalog limits bytes (top_items tops) s u mine
+      → e.step limits s ≡ Ends
+      → (reading limits bytes ≡ behind (top_items tops) Finished)
+      × (users.users catalog limits.symbols at_start (behind (top_items tops) Finished) ≡ behind mine Finished)
+  all-read tops mine s u faultless ends =
+      let prefix = faultless-prefixes e outputs catalog limits bytes (top_items tops) s u mine faultless in
+      let fuel : ℕ = suc (sound.size (e.start bytes)) in
+      let enough : reading limits bytes ≡ raw_in e outputs catalog limits (prefix.steps + fuel) (e.start bytes) =
+      sound.reads limits bytes ∙ reading_for-enough (e.step limits) sound.size (sound.falls limits) fuel (prefix.steps + fuel) (e.start bytes) (omega arith) (omega arith)
+      in
+      let raw : raw_in e outputs catalog limits (prefix.steps + fuel) (e.start bytes) ≡ behind (top_items tops) Finished =
+      prefix.raw fuel ∙ ap (λ o. behind (top_items tops) (next_reading (λ t. raw_in e outputs catalog limits (sound.size (e.start bytes)) t) o)) ends
+      in (
+        enough ∙ raw,
+        ap (users.users catalog limits.symbols at_start) (sym raw)
+            ∙ (prefix.own fuel ∙ ap (behind mine) (user-step e outputs catalog limits (sound.size (e.start bytes)) s u Ends ends)),
+      )
+
+  whole-by : WhatIsAcceptedIsResolved → (v : Verdict) (out : List ℕ) (n : ℕ) → v ≡ Accepted n → HasVerdictFrom e outputs catalog limits bytes v out
+      → IsWhole e outputs catalog limits bytes reading n out
+  whole-by law v out n is (whole tops us mine s u stream faultless ends users_are) =
+      let all = all-read tops mine s u faultless ends in
+      let count : length us ≡ n = cc is in
+      record {
+        tops = tops;
+        us = us;
+        stream = stream;
+        read = all.0;
+        resolved_are = law catalog limits.symbols tops mine all.1;
+        users_are = users_are;
+        count = sym count;
+        output = refl;
+      }
+  whole-by law v out n is (refused path mine s u reason place at faultless fault) = absurd (cc is)
+
+-- ---- by the form of a stream
+
+module _ (binary_sound : BinaryIsSound) (text_sound : TextIsSound) (law : WhatIsAcceptedIsResolved) (users_read : UsersAreRead) (along : FaultlessPathsAreRead)
+    (trees : ItemsAreRefusedAsInTrees) (none : NoneIsRefusedWithin) (one : OneStream) (catalog : List Shared) (limits : Limits) where
+  whole-as : (f : Form) (t : Target) (bytes : List ℕ) (n : ℕ) (out : List ℕ) → HasVerdictFrom (encoding_of f) (outputs_of t limits) catalog limits bytes (Accepted n) out
+      → IsWhole (encoding_of f) (outputs_of t limits) catalog limits bytes (reading_of f) n out
+  whole-as form.Binary t bytes n out v = whole-by binary_encoding IsBinary binary.reading binary_sound (outputs_of t limits) catalog limits bytes law (Accepted n) out n refl v
+  whole-as form.Text t bytes n out v = whole-by text_encoding (λ b. Unit {0}) text.reading text_sound (outputs_of t limits) catalog limits bytes law (Accepted n) out n refl v
+
+  -- binary is written of text alone
+  no-binary : (to : To) → resolved form.Binary to ≡ Some target.Binary → ⊥
+  no-binary to.Text e = absurd (cc e)
+  no-binary to.Binary e = absurd (cc e)
+  no-binary to.Nothing e = absurd (cc e)
+  no-binary to.Other e = absurd (cc e)
+
+  taken-as : (f : Form) (to : To) (t : Target) (bytes : List ℕ) (n : ℕ) (out : List ℕ) → resolved f to ≡ Some t
+      → HasVerdictFrom (encoding_of f) (outputs_of t limits) catalog limits bytes (Accepted n) out
+      → (tops : List (Top SymbolAt ℕ)) (us : List (Top UserSymbol ℕ)) → (encoding_of f).Stream bytes tops → user_tops catalog system tops ≡ Some us → AreTaken t limits us
+  taken-as f to target.Text bytes n out to_is v tops us stream users_are = tt
+  taken-as form.Binary to target.Binary bytes n out to_is v tops us stream users_are = absurd (no-binary to to_is)
+  taken-as form.Text to target.Binary bytes n out to_is v tops us stream users_are =
+      within text_sound along trees catalog limits bytes users_read none one (Accepted n) out n refl v tops us stream users_are
+  taken-as f to target.Nothing bytes n out to_is v tops us stream users_are = tt
+
+pub what-is-accepted-is-read : BinaryIsSound → TextIsSound → WhatIsAcceptedIsResolved → UsersAreRead → FaultlessPathsAreRead → ItemsAreRefusedAsInTrees → NoneIsRefusedWithin
+    → OneStream → WhatIsAcceptedIsRead
+what-is-accepted-is-read binary_sound text_sound law users_read along trees none one catalog limits to bytes t n out to_is v =
+    let f : Form = form_of bytes in
+    let from : HasVerdictFrom (encoding_of f) (outputs_of t limits) catalog limits bytes (Accepted n) out =
+    subst (λ (r : Option Target). HasVerdictAs r f catalog limits bytes (Accepted n) out) to_is v
+    in
+    let w = whole-as binary_sound text_sound law users_read along trees none one catalog limits f t bytes n out from in
+    record {
+      tops = w.tops;
+      us = w.us;
+      stream = w.stream;
+      read = w.read;
+      resolved_are = w.resolved_are;
+      users_are = w.users_are;
+      taken = taken-as binary_sound text_sound law users_read along trees none one catalog limits f to t bytes n out to_is from w.tops w.us w.stream w.users_are;
+      count = w.count;
+      output = w.output;
+    }

@@ -15,7 +15,8 @@ use Rattle.ion_text_in.specs.Grammar.{Tok, Annotations, Field, Txt, Inside, Tops
 use Rattle.ion_text_in.specs.Paths.{Spells}
 use Rattle.ion_text_in.proofs.Shrinking.{Past, blanks-within, token-past}
 use Rattle.ion_text_in.proofs.Counting.{name_length, NameFits, name-fits, first-long, token-fits}
-use Rattle.ion_text_in.proofs.Tokens.{got, tok-stands}
+use Rattle.ion_text_in.proofs.TokenLimits.{got}
+use Rattle.ion_text_in.proofs.Tokens.{tok-stands}
 
 -- ---- tokens
 
@@ -45,7 +46,7 @@ tok-fits sexp c d t p tok =
     let b : Cursor = s.prefix in
     let prefix = (blanks-within c b s.blank).0 in
     let fits : counts t b.place d.place ≤ length b.rest
-        = IfOk-at_ok (λ (x : Token × Cursor). counts x.0 b.place x.1.place ≤ length b.rest) s.token (token-fits (first_at sexp b.rest) b (first-long sexp b.rest)) in
+    = IfOk-at_ok (λ (x : Token × Cursor). counts x.0 b.place x.1.place ≤ length b.rest) s.token (token-fits (first_at sexp b.rest) b (first-long sexp b.rest)) in
     omega (arith, prefix, fits, ap (λ (p : ℕ). counts t p d.place) s.place)
 
 -- ---- annotations and fields

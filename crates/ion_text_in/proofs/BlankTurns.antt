@@ -10,7 +10,7 @@ use Rattle.ion_text_in.specs.Meaning.{at}
 use Rattle.ion_text_in.specs.Overrun.{is_neither}
 use Rattle.ion_text_in.proofs.Meaning.{run-more, run-none}
 use Rattle.ion_text_in.proofs.Runs.{second-byte, no-byte}
-use Rattle.ion_text_in.proofs.ShownBlanks.{white-over, line-over, block-over}
+use Rattle.ion_text_in.proofs.BlankRuns.{white-over, line-over, block-over}
 
 -- ---- white space
 

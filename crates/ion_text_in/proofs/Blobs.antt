@@ -450,9 +450,6 @@ group-decoded bytes octets =
     by-decoded false (encode_of standard bytes)
     ∙ ap (by_decoded false) (decoded_of-ok standard (encode_of standard bytes) bytes (decode_of-encode_of standard bytes refl (octets-IsBytes bytes octets)))
 
-closed-braces : (p q : ℕ) (behind : List ℕ) → p + 2 ≡ q → closed_at (at p (125 ∷ 125 ∷ behind)) ≡ Ok (at q behind)
-closed-braces p q behind e = ap (λ (q : ℕ). Ok (at q behind)) e
-
 -- the bytes of a group are those in front of the others, and it has four characters
 record Split (bytes : List ℕ) : Type 0 where
   prefix : List ℕ

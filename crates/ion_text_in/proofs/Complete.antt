@@ -1,5 +1,5 @@
 -- Whatever the grammar spells is read, where limits allow what stands there.
-use Rattle.std.proofs.Common.{◌≡◌, ℕ, suc, ◌+◌, ◌*◌, ◌<◌, ◌≤◌, arith, Bool, true, false, nat_le, nat_lt, sum_by, List, [], ◌∷◌, ◌++◌, length, Option, None, Some, Ok, Result, if◌then◌else◌, refl, sym, ap, subst, ◌∙◌, append_assoc, append-nil}
+use Rattle.std.proofs.Common.{◌≡◌, ℕ, suc, ◌≤◌, arith, Bool, true, false, nat_le, nat_lt, sum_by, List, [], ◌∷◌, ◌++◌, length, Option, None, Some, Ok, Result, if◌then◌else◌, refl, sym, ap, subst, ◌∙◌, append_assoc, append-nil}
 use Rattle.std.proofs.lemmas.Bool.{le-ltb, lt-leb}
 use Rattle.std.proofs.lemmas.List.Sums.{sum_by-append}
 use Rattle.ion_meter.specs.declared.fault.Reason.{Reason}
@@ -23,14 +23,12 @@ use Rattle.ion_text_in.specs.Positions.{Wants, a_value, a_field, a_separator, St
 use Rattle.ion_text_in.specs.Reading.{member_of, at_member, behind_member, top_of, item_of, cost, tells_version, behind_colons, step, step_of, take, size, start}
 use Rattle.ion_text_in.specs.Grammar.{Tok, Annotations, Field, Txt, Inside, Tops, start_of}
 use Rattle.ion_text_in.specs.Paths.{open_in, Spells, IsTop}
-use Rattle.ion_value.specs.ReadingLaws.{Allows}
 use Rattle.ion_text_in.specs.Laws.{Complete, StreamsAreRead, PathsWithinAreRead, StreamsWithinAreRead}
 use Rattle.ion_text_in.specs.Meaning.{counts}
 use Rattle.ion_text_in.specs.Within.{TokenWithin, NamesWithin, AnnotationsWithin, FieldWithin, TxtWithin, InsideWithin, TopsWithin, PathWithin}
 use Rattle.ion_text_in.proofs.Allowing.{tops-allowed, path-allowed}
 use Rattle.ion_text_in.proofs.Growing.{Fits}
 use Rattle.ion_text_in.proofs.Steps.{colons-none, version-none, fits}
-use Rattle.ion_text_in.proofs.Advancing.{annotations-cost, annotations-advance, field-advances, tok-advances, inside-advances, tops-advance, spells-advance}
 use Rattle.ion_text_in.proofs.Falling.{each_step_falls}
 use Rattle.ion_text_in.proofs.Tokens.{state, Suits, value-suits, mark-suits, end-suits, naming-suits, step-token, colons-stand, colon-stands}
 
@@ -107,11 +105,6 @@ same-wants : (k : Kind) → behind_member (Some k) ≡ wants_behind (Some k) (ha
 same-wants kind.List = refl
 same-wants kind.Sexp = refl
 same-wants kind.Struct = refl
-
-same-kind : (k : Kind) → reading.is_same k k ≡ true
-same-kind kind.List = refl
-same-kind kind.Sexp = refl
-same-kind kind.Struct = refl
 
 -- a mark counts nothing
 pub mark-within : (limits : Limits) (t : Token) (p : ℕ) (d : Cursor) → counts t p d.place ≡ 0 → TokenWithin limits t p d

@@ -1,6 +1,6 @@
 -- A token counts at most as many bytes as there are, and a name has no more bytes than it takes.
-use Rattle.std.proofs.Common.{◌≡◌, ℕ, zero, suc, ◌+◌, ◌*◌, ◌≤◌, ◌/◌, ◌⊎◌, inl, inr, Bool, true, false, not, ◌&&◌, ◌||◌, ◌==◌, nat_le, nat_lt, if◌then◌else◌, List, [], ◌∷◌, ◌++◌, length, drop, codes, slice_index, encode_utf8, Option, Some, None, Result, Ok, Err, refl, ap, subst, ◌∙◌, arith}
-use Rattle.std.proofs.lemmas.Bool.{le-ltb, ltb-false, and_parts, false≢true}
+use Rattle.std.proofs.Common.{◌≡◌, ℕ, zero, suc, ◌+◌, ◌*◌, ◌≤◌, ◌/◌, ◌⊎◌, inl, inr, Bool, true, false, not, ◌&&◌, ◌||◌, ◌==◌, nat_le, nat_lt, if◌then◌else◌, List, [], ◌∷◌, ◌++◌, length, drop, codes, slice_index, encode_utf8, Option, Some, None, Result, Ok, Err, refl, arith}
+use Rattle.std.proofs.lemmas.Bool.{ltb-false, and_parts, false≢true}
 use Rattle.std.proofs.lemmas.List.{length-append, length-drop, length-take}
 use Rattle.std.proofs.lemmas.Str.{length-encode, len_utf8_bounds}
 use Rattle.std.specs.Str.{bytes_eq, is_utf8}
@@ -10,14 +10,14 @@ use Rattle.base64.specs.Decode.{groups_bytes, decoded_bytes, suffix_bytes, scan_
 use Rattle.base64.specs.declared.decode.DecodeError.{DecodeError}
 use Rattle.std.specs.Result.{IfOk, result_ok}
 use Rattle.ion_meter.specs.declared.fault.Reason.{Reason}
-use Rattle.ion_meter.specs.declared.fault.Reason.TheVariants.{BadText, BadLob, ScalarLimit}
+use Rattle.ion_meter.specs.declared.fault.Reason.TheVariants.{BadText, BadLob}
 use Rattle.ion_meter.specs.Sources.{Cursor, skip}
 use Rattle.ion_value.specs.Digits.{is_hex_digit, digit_value, is_between, first_is}
 use Rattle.ion_value.specs.Name.{Keyword, a_null, a_bool, a_nan, keyword, begins_with, is_identifier_start, is_operator_byte, is_id, id_of}
 use Rattle.ion_value.specs.Scalar.{scalar_of_run}
 use Rattle.ion_value.specs.Value as value
 use Rattle.ion_value.specs.Value.{Symbol, SymbolAt, Scalar}
-use Rattle.ion_value.specs.Parts.{refuse, ◌>>=◌, ◌>>◌}
+use Rattle.ion_value.specs.Parts.{◌>>=◌, ◌>>◌}
 use Rattle.ion_text_in.specs.Meaning.{counts}
 use Rattle.ion_text_in.specs.Places.{run_of, behind_run}
 use Rattle.ion_text_in.specs.Blanks as blanks

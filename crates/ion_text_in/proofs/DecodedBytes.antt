@@ -17,7 +17,8 @@ abbrev table : List ℕ
 table = standard.decode_table
 
 in-table : (b : ℕ) → b < 256 → (slice_index table b == 255) ≡ false → slice_index table b < 64
-in-table b small e = by (slice_index table b == 255) (nat_lt (slice_index table b) 64) e refl (agree_below_at (λ n. slice_index table n == 255 || nat_lt (slice_index table n) 64) (λ n. true) 256 b refl small)
+in-table b small e = by (slice_index table b == 255) (nat_lt (slice_index table b) 64) e refl
+    (agree_below_at (λ n. slice_index table n == 255 || nat_lt (slice_index table n) 64) (λ n. true) 256 b refl small)
   where
     by : (x y : Bool) → x ≡ false → nat_lt (slice_index table b) 64 ≡ y → (x || y) ≡ true → slice_index table b < 64
     by false true f g h = ltb-true (slice_index table b) 64 g
@@ -80,14 +81,16 @@ group-bytes a b c d ha hb hc hd = (omega (arith, ha, hb), (omega (arith, hb, hc)
 last-small : (last : _) (i : ℕ) → IsLeftover last i → AreBytes (leftover_bytes last)
 last-small last i held = take-bytes (last.morsels_count * 6 / 8) _ (group-bytes _ _ _ _ (held.3 0) (held.3 1) (held.3 2) (held.3 3))
 
-scan-small : (pad at : ℕ) (bs : List ℕ) (st : _) (i : ℕ) (last : _) → IsLeftover st i → scan table pad at st i bs ≡ Ok last → AreBytes (leftover_bytes last)
+scan-small : (pad at : ℕ) (bs : List ℕ) (st : _) (i : ℕ) (last : _) → IsLeftover st i → scan table pad at st i bs ≡ Ok last
+    → AreBytes (leftover_bytes last)
 unfolding scan_steps
 scan-small pad at [] st i last held e =
     let same : st ≡ last = cc e in
     last-small last i (subst (λ x. IsLeftover x i) same held)
 scan-small pad at (b ∷ bs) st i last held e = by (push_leftover table pad at st i b) refl (λ n h f. scan-small pad at bs n (i + 1) last h f) e
   where
-    by : (r : _) → push_leftover table pad at st i b ≡ r → ((n : _) → IsLeftover n (i + 1) → scan table pad at n (i + 1) bs ≡ Ok last → AreBytes (leftover_bytes last))
+    by : (r : _) → push_leftover table pad at st i b ≡ r
+        → ((n : _) → IsLeftover n (i + 1) → scan table pad at n (i + 1) bs ≡ Ok last → AreBytes (leftover_bytes last))
         → scan_steps table pad at r (i + 1) bs ≡ Ok last → AreBytes (leftover_bytes last)
     by (Ok n) is later f = later n (next-small pad at st i b n held is) f
     by (Err x) is later f = absurd (cc f)

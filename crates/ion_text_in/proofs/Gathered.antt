@@ -1,7 +1,7 @@
 -- What was gathered of a token, and a limit that is passed on the way.
 use Rattle.std.proofs.Common.{◌≡◌, ℕ, suc, ◌+◌, ◌<◌, ◌≤◌, Bool, List, [], ◌∷◌, ◌++◌, length, take, drop, Option, Some, Result, Ok, Err, OnOk, IfErr, refl, sym, ap, subst, ◌∙◌, arith}
-use Rattle.std.proofs.lemmas.Bool.{le-ltb, lt-ltb}
-use Rattle.std.proofs.lemmas.List.{length-append, length-take, length-take-le, append_assoc}
+use Rattle.std.proofs.lemmas.Bool.{lt-ltb}
+use Rattle.std.proofs.lemmas.List.{length-append, length-take, append_assoc}
 use Rattle.std.proofs.Math.Seq.{take-add}
 use Rattle.ion_meter.specs.declared.fault.Fault.{Fault}
 use Rattle.ion_meter.specs.declared.fault.Fault.TheVariants as fault
@@ -18,7 +18,7 @@ use Rattle.ion_text_in.specs.Token.{bytes_of}
 use Rattle.ion_text_in.specs.Views.{spelled}
 use Rattle.ion_text_in.specs.Places.{run_of}
 use Rattle.ion_text_in.specs.Runs.{GoesOver, goes_on, joined, with_run, IsOver}
-use Rattle.ion_text_in.proofs.RunEnds.{goes-least, goes-last}
+use Rattle.ion_text_in.proofs.RunEnds.{goes-least}
 
 -- ---- faults
 
@@ -35,10 +35,6 @@ answers-over view fault.InputLimit behind limit place before count all over refu
 
 -- ---- a limit
 
-pub joined-within : (limit : ℕ) (before bytes : List ℕ) (c : Cursor) → length before + length bytes ≤ limit → joined (Some limit) before bytes c ≡ Ok (before ++ bytes, skip (length bytes) c)
-joined-within limit before bytes c le =
-    ap (λ (over : Bool). refuse over ScalarLimit >> Ok (before ++ bytes, skip (length bytes) c)) (le-ltb limit (length before + length bytes) le)
-
 pub joined-over : (limit : ℕ) (before bytes : List ℕ) (c : Cursor) → limit < length before + length bytes → joined (Some limit) before bytes c ≡ Err ScalarLimit
 joined-over limit before bytes c lt =
     ap (λ (over : Bool). refuse over ScalarLimit >> Ok (before ++ bytes, skip (length bytes) c)) (lt-ltb limit (length before + length bytes) lt)
@@ -51,22 +47,6 @@ pub run-over-limit : (run : Run) (limit n : ℕ) (before : List ℕ) (c : Cursor
 run-over-limit run limit n before c within goes over =
     let least = goes-least (goes_on run) c.rest n within goes in
     joined-over limit before (run_of (goes_on run) c.rest).0 c (omega (arith, least, over))
-
--- so many were gathered, and the run ends behind them
-pub run-gathered : (run : Run) (limit n : ℕ) (before after : List ℕ) (c d : Cursor) → n ≤ length c.rest → GoesOver (goes_on run) c.rest n
-    → run_of (goes_on run) (drop n c.rest) ≡ ([], drop n c.rest) → after ≡ before ++ take n c.rest → length after ≤ limit → d.place ≡ c.place + n → d.rest ≡ drop n c.rest
-    → with_run run (Some limit) before c ≡ Ok (after, d)
-run-gathered run limit n before after c d within goes ends e few place rest =
-    let last = goes-last (goes_on run) c.rest n goes ends in
-    let bytes : (run_of (goes_on run) c.rest).0 ≡ take n c.rest = ap (λ (z : List ℕ × List ℕ). z.0) last in
-    let long : length (take n c.rest) ≡ n = length-take-le n c.rest within in
-    let all = ap (λ (l : List ℕ). length l) e ∙ length-append before (take n c.rest) in
-    let there : skip n c ≡ d = ap (λ (p : ℕ). at p (drop n c.rest)) (sym place) ∙ ap (λ (l : List ℕ). at d.place l) (sym rest) in
-    ap (λ (l : List ℕ). joined (Some limit) before l c) bytes
-    ∙ joined-within limit before (take n c.rest) c (omega (arith, all, few))
-    ∙ ap (λ (l : List ℕ). Ok (l, skip (length (take n c.rest)) c)) (sym e)
-    ∙ ap (λ (k : ℕ). Ok (after, skip k c)) long
-    ∙ ap (λ (d : Cursor). Ok (after, d)) there
 
 -- ---- parts
 

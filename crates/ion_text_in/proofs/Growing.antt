@@ -11,10 +11,6 @@ use Rattle.ion_text_in.specs.Positions.{innermost, in_sexp, has_commas, first_pl
 use Rattle.ion_text_in.specs.Grammar.{Tok, NoColons, Annotations, Field, Txt, Inside, Tops}
 use Rattle.ion_text_in.specs.Paths.{open_in, Spells}
 
-abbrev pub tail_of : List Kind → List Kind
-tail_of [] = []
-tail_of (k ∷ kinds) = kinds
-
 -- ---- paths with one thing more
 
 -- a whole value whose field or wrapper begins at a place, and that has another place itself

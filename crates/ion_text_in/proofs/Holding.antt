@@ -1,6 +1,6 @@
 -- Calls that read into a text one after the other: what they hold, and the causes of their faults.
-use Rattle.std.proofs.Common.{◌≡◌, ℕ, ◌+◌, ◌≤◌, List, [], length, Option, Some, None, Result, Ok, Err, refl, ap, ◌∙◌, arith}
-use Rattle.ion_meter.specs.Counts.{Counts, Shrinks}
+use Rattle.std.proofs.Common.{◌≡◌, ℕ, ◌+◌, ◌≤◌, List, length, Option, Some, None, Result, Ok, Err, refl, ap, ◌∙◌, arith}
+use Rattle.ion_meter.specs.Counts.{Counts}
 use Rattle.ion_meter.specs.declared.device.Input.{Ghosts as InputOf}
 use Rattle.ion_meter.specs.declared.fault.Fault.{Fault}
 use Rattle.ion_meter.specs.declared.limits.Limits.{Limits}
@@ -49,9 +49,6 @@ exceeds-then device s t moves exceeds = λ h.
     let total = moves.total h in
     let limit = moves.limit in
     omega (arith, over, total, limit)
-
-no-fault : {fault : Fault} → Some fault ≡ None → ⊥
-no-fault e = cc e
 
 pub held-then : {I : Type 0} (device : InputOf I) (s t u : Incoming I) (a b c : Counts) (k l n most : ℕ) (fault : Option Fault) → k ≤ a.held
     → Held device s t a b k l most None → Held device t u b c l n most fault → Held device s u a c k n most fault
@@ -141,18 +138,3 @@ read-can limits s text m can =
       stands = can.stands;
       grows = record { holds = can.holds; room = omega (arith, room); countable = can.countable; checked = can.checked; share = can.share };
     }
-
--- a text that is cleared
-pub cleared-held : {I : Type 0} (device : InputOf I) (limits : Limits) (s : Incoming I) (text new : List ℕ) (a b : Counts) → CanGather limits s text a → new ≡ [] → Shrinks a b (length text)
-    → Held device s s a b (length text) (length new) limits.scalar None
-cleared-held device limits s text new a b can none shrinks =
-    let held = shrinks.held in let peak = shrinks.peak in let zero_long : length new ≡ 0 = ap (λ (l : List ℕ). length l) none in
-    grown-held device s a b (length text) (length new) limits.scalar None can.stands
-    (record {
-      charges = record { held = omega (arith, held, zero_long); share = omega (arith, zero_long); peak = omega (arith, peak); rises = omega (arith, peak) };
-      memory = λ e. absurd (cc e);
-      counted = λ _. shrinks.refused;
-      no_reads = λ e. cc e;
-      no_writes = λ e. cc e;
-      no_limit = λ e. cc e;
-    })

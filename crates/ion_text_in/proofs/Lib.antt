@@ -45,8 +45,7 @@ pub mod SegmentTexts
 pub mod ScannedTexts
 pub mod TextTokens
 pub mod Shown
-pub mod ShownRuns
-pub mod ShownBlanks
+pub mod BlankRuns
 pub mod ShownPieces
 mod ReadingText
 pub mod Runs

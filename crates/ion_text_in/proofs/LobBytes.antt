@@ -82,8 +82,10 @@ letter-if false c o h k = k
 
 letter-byte : (e : ℕ) → LetterByte (letter e)
 letter-byte e =
-    letter-if (e == 97) 7 _ (λ _. omega arith) (letter-if (e == 98) 8 _ (λ _. omega arith) (letter-if (e == 116) 9 _ (λ _. omega arith) (letter-if (e == 110) 10 _ (λ _. omega arith)
-    (letter-if (e == 102) 12 _ (λ _. omega arith) (letter-if (e == 114) 13 _ (λ _. omega arith) (letter-if (e == 118) 11 _ (λ _. omega arith) (letter-if (e == 48) 0 _ (λ _. omega arith)
+    letter-if (e == 97) 7 _ (λ _. omega arith)
+    (letter-if (e == 98) 8 _ (λ _. omega arith) (letter-if (e == 116) 9 _ (λ _. omega arith) (letter-if (e == 110) 10 _ (λ _. omega arith)
+    (letter-if (e == 102) 12 _ (λ _. omega arith)
+    (letter-if (e == 114) 13 _ (λ _. omega arith) (letter-if (e == 118) 11 _ (λ _. omega arith) (letter-if (e == 48) 0 _ (λ _. omega arith)
     (letter-if (is_one_of (63 ∷ 34 ∷ 39 ∷ 92 ∷ 47 ∷ []) e) e None (λ is. itself e is) tt))))))))
   where
     itself : (e : ℕ) → is_one_of (63 ∷ 34 ∷ 39 ∷ 92 ∷ 47 ∷ []) e ≡ true → e < 256
@@ -100,13 +102,17 @@ escape-bytes (e ∷ bytes) = piece-if (e == 10 || e == 13) _ _ (λ _. tt) (λ _.
 raw-bytes : (closer : List ℕ) (is_long : Bool) (b : ℕ) (bytes : List ℕ) → PieceBytes (raw (clob_quote closer is_long) b bytes)
 raw-bytes closer is_long b bytes =
     piece-if (is_long && (b == 10 || b == 13)) _ _ (λ _. (omega arith, tt))
-    (λ _. piece-if (is_raw (clob_quote closer is_long) b) _ _ (λ is. (let l = ltb-true b 128 (and_parts (nat_le 32 b || is_one_of (9 ∷ 11 ∷ 12 ∷ []) b) (nat_lt b 128) is).1 in omega (arith, l), tt)) (λ _. tt))
+    (λ _. piece-if (is_raw (clob_quote closer is_long) b) _ _ (λ is. (itself is, tt)) (λ _. tt))
+  where
+    itself : is_raw (clob_quote closer is_long) b ≡ true → b < 256
+    itself is = let ascii = ltb-true b 128 (and_parts (nat_le 32 b || is_one_of (9 ∷ 11 ∷ 12 ∷ []) b) (nat_lt b 128) is).1 in omega (arith, ascii)
 
 piece-bytes : (closer : List ℕ) (is_long : Bool) (bytes : List ℕ) → PieceBytes (piece_at (clob_quote closer is_long) bytes)
 unfolding piece_at
 piece-bytes closer is_long [] = tt
 piece-bytes closer is_long (b ∷ bytes) =
-    piece-if (begins_with closer (b ∷ bytes)) _ _ (λ _. tt) (λ _. piece-if (b == 92) _ _ (λ _. escape-bytes bytes) (λ _. raw-bytes closer is_long b bytes))
+    piece-if (begins_with closer (b ∷ bytes)) _ _ (λ _. tt)
+    (λ _. piece-if (b == 92) _ _ (λ _. escape-bytes bytes) (λ _. raw-bytes closer is_long b bytes))
 
 -- ---- texts, by their segments
 
@@ -126,19 +132,23 @@ module _ (P : List ℕ → Type 0) (joins : Joins P) where
   join bytes (Ok x) h k = joins bytes x.0 h k
   join bytes (Err reason) h k = tt
 
-  with_segments-are : (later : Cursor → Given) (s : List ℕ × Cursor) (o : Option Cursor) → P s.0 → ((d : Cursor) → If (later d)) → If (with_segments later s o)
+  with_segments-are : (later : Cursor → Given) (s : List ℕ × Cursor) (o : Option Cursor) → P s.0 → ((d : Cursor) → If (later d))
+      → If (with_segments later s o)
   with_segments-are later s None h more = h
   with_segments-are later s (Some d) h more = join s.0 (later d) h (more d)
 
-  segments-are : (q : Quote) (limit : Option ℕ) → ((count : ℕ) (c : Cursor) → If (segment_at q limit count c)) → (most count : ℕ) (c : Cursor) → If (segments_for most q limit count c)
+  segments-are : (q : Quote) (limit : Option ℕ) → ((count : ℕ) (c : Cursor) → If (segment_at q limit count c))
+      → (most count : ℕ) (c : Cursor) → If (segments_for most q limit count c)
   unfolding segments_for
   segments-are q limit each zero count c = tt
   segments-are q limit each (suc most) count c =
       if-then (λ s. P s.0) (λ s. P s.0) (segment_at q limit count c) _ (each count c)
-      (λ s h. with_segments-are (λ d. segments_for most q limit (count + length s.0) d) s (next_segment q s.1) h (λ d. segments-are q limit each most (count + length s.0) d))
+      (λ s h. with_segments-are (λ d. segments_for most q limit (count + length s.0) d) s (next_segment q s.1) h
+      (λ d. segments-are q limit each most (count + length s.0) d))
 
   -- a text is so where each of its segments is
-  pub text-is : (q : Quote) (limit : Option ℕ) → ((count : ℕ) (c : Cursor) → If (segment_at q limit count c)) → (c : Cursor) → If (text_at q limit c)
+  pub text-is : (q : Quote) (limit : Option ℕ) → ((count : ℕ) (c : Cursor) → If (segment_at q limit count c)) → (c : Cursor)
+      → If (text_at q limit c)
   text-is q limit each c = segments-are q limit each (suc (length c.rest)) 0 c
 
 -- ---- clobs
@@ -150,22 +160,27 @@ bytes-join : Joins AreBytes
 bytes-join [] ys h k = k
 bytes-join (x ∷ xs) ys h k = (h.0, bytes-join xs ys h.1 k)
 
-with_piece-bytes : (later : ℕ → Cursor → Given) (q : Quote) (limit : Option ℕ) (count : ℕ) (c : Cursor) (p : Piece) → PieceBytes p → ((n : ℕ) (d : Cursor) → IfBytes (later n d))
+with_piece-bytes : (later : ℕ → Cursor → Given) (q : Quote) (limit : Option ℕ) (count : ℕ) (c : Cursor) (p : Piece) → PieceBytes p
+    → ((n : ℕ) (d : Cursor) → IfBytes (later n d))
     → IfBytes (with_piece later q limit count c p)
 with_piece-bytes later q limit count c (char bytes taken) h more =
-    if-passed _ (passes limit (count + length bytes)) ScalarLimit _ (λ _. join AreBytes bytes-join bytes (later (count + length bytes) (skip taken c)) h (more (count + length bytes) (skip taken c)))
+    if-passed _ (passes limit (count + length bytes)) ScalarLimit _
+    (λ _. join AreBytes bytes-join bytes (later (count + length bytes) (skip taken c)) h (more (count + length bytes) (skip taken c)))
 with_piece-bytes later q limit count c (close taken) h more = tt
 with_piece-bytes later q limit count c illegal h more = tt
 with_piece-bytes later q limit count c cut h more = tt
 
-pieces-bytes : (most : ℕ) (closer : List ℕ) (is_long : Bool) (limit : Option ℕ) (count : ℕ) (c : Cursor) → IfBytes (pieces_for most (clob_quote closer is_long) limit count c)
+pieces-bytes : (most : ℕ) (closer : List ℕ) (is_long : Bool) (limit : Option ℕ) (count : ℕ) (c : Cursor)
+    → IfBytes (pieces_for most (clob_quote closer is_long) limit count c)
 unfolding pieces_for
 pieces-bytes zero closer is_long limit count c = tt
 pieces-bytes (suc most) closer is_long limit count c =
-    with_piece-bytes (λ n d. pieces_for most (clob_quote closer is_long) limit n d) (clob_quote closer is_long) limit count c (piece_at (clob_quote closer is_long) c.rest)
+    with_piece-bytes (λ n d. pieces_for most (clob_quote closer is_long) limit n d) (clob_quote closer is_long) limit count c
+    (piece_at (clob_quote closer is_long) c.rest)
     (piece-bytes closer is_long c.rest) (λ n d. pieces-bytes most closer is_long limit n d)
 
-segment-bytes : (closer : List ℕ) (is_long : Bool) (limit : Option ℕ) (count : ℕ) (c : Cursor) → IfBytes (segment_at (clob_quote closer is_long) limit count c)
+segment-bytes : (closer : List ℕ) (is_long : Bool) (limit : Option ℕ) (count : ℕ) (c : Cursor)
+    → IfBytes (segment_at (clob_quote closer is_long) limit count c)
 unfolding segment_at
 segment-bytes closer is_long limit count c =
     if-then (λ s. AreBytes s.0) (λ s. AreBytes s.0) (pieces_for (suc (length c.rest)) (clob_quote closer is_long) limit count c) _
@@ -179,7 +194,8 @@ clob-bytes closer is_long limit c = text-is AreBytes bytes-join (clob_quote clos
 group-bytes : (padded : Bool) (group : List ℕ) → length group ≤ 4 → IfOk (group_bytes padded group) AreBytes
 group-bytes padded group few = by (decoded_of standard group) refl
   where
-    by : (o : Option (List ℕ)) → decoded_of standard group ≡ o → IfOk (elim o as (λ _. Result (List ℕ) Reason) [ Some bytes ↦ if padded then Err BadLob else Ok bytes | None ↦ Err BadLob ]) AreBytes
+    by : (o : Option (List ℕ)) → decoded_of standard group ≡ o
+        → IfOk (elim o as (λ _. Result (List ℕ) Reason) [ Some bytes ↦ if padded then Err BadLob else Ok bytes | None ↦ Err BadLob ]) AreBytes
     by (Some bytes) is = if-either AreBytes padded (Err BadLob) (Ok bytes) tt (decoded-bytes group bytes few is)
     by None is = tt
 
@@ -217,9 +233,11 @@ closed-raw bytes (Err reason) h = tt
 
 clob-raw : (limit : Option ℕ) (is_long : Bool) (c : Cursor) → IfRaw (clob_at limit is_long c)
 clob-raw limit true c =
-    if-then (λ s. AreBytes s.0) _ (text_at (long_quote true) limit c) _ (clob-bytes (39 ∷ 39 ∷ 39 ∷ []) true limit c) (λ s h. closed-raw s.0 (clob_closed_at true (behind_run (first_is is_white) s.1)) h)
+    if-then (λ s. AreBytes s.0) _ (text_at (long_quote true) limit c) _ (clob-bytes (39 ∷ 39 ∷ 39 ∷ []) true limit c)
+    (λ s h. closed-raw s.0 (clob_closed_at true (behind_run (first_is is_white) s.1)) h)
 clob-raw limit false c =
-    if-then (λ s. AreBytes s.0) _ (text_at (short_quote true) limit c) _ (clob-bytes (34 ∷ []) false limit c) (λ s h. closed-raw s.0 (clob_closed_at false (behind_run (first_is is_white) s.1)) h)
+    if-then (λ s. AreBytes s.0) _ (text_at (short_quote true) limit c) _ (clob-bytes (34 ∷ []) false limit c)
+    (λ s h. closed-raw s.0 (clob_closed_at false (behind_run (first_is is_white) s.1)) h)
 
 blob-raw : (limit : Option ℕ) (c : Cursor) → IfRaw (blob_at limit c)
 blob-raw limit c =

@@ -61,7 +61,8 @@ record MembersAreRaw (k : Kind) (members : Members SymbolAt ℕ) : Type 0 where
   bytes : MembersHaveBytes members
   symbols : AreText (members_symbols members)
 
-scalar-raw : (annotations : List SymbolAt) (body : Scalar SymbolAt) → AreText annotations → IsRawScalar body → ValueIsRaw annotations (scalar body)
+scalar-raw : (annotations : List SymbolAt) (body : Scalar SymbolAt) → AreText annotations → IsRawScalar body
+    → ValueIsRaw annotations (scalar body)
 scalar-raw annotations body before raw = record {
   writable = (raw.in_range, raw.text);
   bytes = raw.bytes;
@@ -77,11 +78,15 @@ symbol-raw annotations s before is = record {
 }
 
 mutual
-  txt-raw : {k : Option Kind} {c d : Cursor} {annotations : List SymbolAt} {p : ℕ} {x : Value SymbolAt ℕ} → Txt k c annotations p x d → ValueIsRaw annotations x
-  txt-raw (Txt.of_plain {annotations = annotations} {v = v} ns tok) = scalar-raw annotations v (annotations-raw ns) (tokens-are_raw _ _ _ _ _ tok)
+  txt-raw : {k : Option Kind} {c d : Cursor} {annotations : List SymbolAt} {p : ℕ} {x : Value SymbolAt ℕ}
+      → Txt k c annotations p x d → ValueIsRaw annotations x
+  txt-raw (Txt.of_plain {annotations = annotations} {v = v} ns tok) = scalar-raw annotations v (annotations-raw ns)
+      (tokens-are_raw _ _ _ _ _ tok)
   txt-raw (Txt.of_text {annotations = annotations} {bytes = bytes} ns tok) =
-      scalar-raw annotations (value.string bytes) (annotations-raw ns) (record { in_range = tt; text = tokens-are_raw _ _ _ _ _ tok; bytes = tt; no_symbol = refl })
-  txt-raw (Txt.of_operator {annotations = annotations} {p = p} {bytes = bytes} ns tok) = symbol-raw annotations (at (Text bytes) p) (annotations-raw ns) (tokens-are_raw _ _ _ _ _ tok)
+      scalar-raw annotations (value.string bytes) (annotations-raw ns)
+      (record { in_range = tt; text = tokens-are_raw _ _ _ _ _ tok; bytes = tt; no_symbol = refl })
+  txt-raw (Txt.of_operator {annotations = annotations} {p = p} {bytes = bytes} ns tok) = symbol-raw annotations (at (Text bytes) p)
+      (annotations-raw ns) (tokens-are_raw _ _ _ _ _ tok)
   txt-raw (Txt.of_symbol {annotations = annotations} {p = p} {symbol = symbol} ns tok alone no_version) =
       symbol-raw annotations (at symbol p) (annotations-raw ns) (tokens-are_raw _ _ _ _ _ tok)
   txt-raw (Txt.of_members {annotations = annotations} {members = members} ns tok inside last) =
@@ -113,7 +118,8 @@ tops-raw Tops.nothing = tt
 tops-raw (Tops.marker {tops = tops} {p = p} before tok alone) = all-append IsRaw tops (version p ∷ []) (tops-raw before) (tt, tt)
 tops-raw (Tops.with_value {tops = tops} {annotations = annotations} {p = p} {v = v} before txt) =
     let x = txt-raw txt in
-    all-append IsRaw tops (tree (first_place annotations p) annotations p v ∷ []) (tops-raw before) ((x.writable, (x.bytes, x.symbols None tt)), tt)
+    all-append IsRaw tops (tree (first_place annotations p) annotations p v ∷ []) (tops-raw before)
+    ((x.writable, (x.bytes, x.symbols None tt)), tt)
 
 pub streams-are_raw : StreamsAreRaw
 streams-are_raw bytes tops stream = tops-raw stream.spells

@@ -47,7 +47,8 @@ int_in_range-valid negative n = by (nat_lt n (2 ^ 128)) refl
     sign true (suc k) h = omega arith
     sign false k h = absurd (false≢true h)
 
-    by : (b : Bool) → nat_lt n (2 ^ 128) ≡ b → IfOk (if b then Ok (record { negative = negative && nat_lt 0 n; magnitude = n }) else Err Range) IsInt
+    by : (b : Bool) → nat_lt n (2 ^ 128) ≡ b
+        → IfOk (if b then Ok (record { negative = negative && nat_lt 0 n; magnitude = n }) else Err Range) IsInt
     by true e = record { positive_zero = λ h. sign negative n h; fits = ltb-true n (2 ^ 128) e }
     by false e = tt
 
@@ -72,10 +73,12 @@ unfolding decimal_of_text
 decimal-valid run =
     let p = parts_of (without_minus run) in
     let digits : List ℕ = fraction_digits p.fraction in
-    if-either IsDecimal (is_decimal p) _ _ (decimal_in_range-valid (has_minus run) (digits_value 10 (filter is_digit p.whole ++ digits)) (power_value p.power -ℤ pos (length digits)))
+    if-either IsDecimal (is_decimal p) _ _
+    (decimal_in_range-valid (has_minus run) (digits_value 10 (filter is_digit p.whole ++ digits)) (power_value p.power -ℤ pos (length digits)))
     (if-either IsDecimal (is_float p) _ _ tt tt)
 
-readings-raw : (i : Result Int Reason) (d : Result Decimal Reason) (t : Result Timestamp Reason) → IfOk i IsInt → IfOk d IsDecimal → IfOk t IsTimestamp
+readings-raw : (i : Result Int Reason) (d : Result Decimal Reason) (t : Result Timestamp Reason) → IfOk i IsInt → IfOk d IsDecimal
+    → IfOk t IsTimestamp
     → IfOk (scalar_of_readings {S = SymbolAt} i d t) IsRawScalar
 readings-raw (Ok i) d t h k l = record { in_range = h; text = tt; bytes = tt; no_symbol = refl }
 readings-raw (Err BadToken) (Ok d) t h k l = record { in_range = k; text = tt; bytes = tt; no_symbol = refl }
@@ -88,7 +91,8 @@ run-raw : (run : List ℕ) → IfOk (run_token run) IsRawToken
 unfolding scalar_of_run
 run-raw run =
     if-then IsRawScalar IsRawToken (scalar_of_run run) _
-    (readings-raw (int_of_text run) (decimal_of_text run) (timestamp_of_text run) (int-valid run) (decimal-valid run) (text-valid run (timestamp_of_text run) refl).0) (λ v h. h)
+    (readings-raw (int_of_text run) (decimal_of_text run) (timestamp_of_text run) (int-valid run) (decimal-valid run)
+    (text-valid run (timestamp_of_text run) refl).0) (λ v h. h)
 
 -- ---- bytes of words and operators
 
@@ -107,7 +111,8 @@ ascii-utf8 bytes h = IsUtf8-from_ascii bytes (λ i. at bytes i h)
     at (b ∷ bytes) zero h = h.0
     at (b ∷ bytes) (suc i) h = at bytes i h.1
 
-run-ascii : (test : List ℕ → Bool) → ((b : ℕ) (bytes : List ℕ) → test (b ∷ bytes) ≡ true → b < 128) → (bytes : List ℕ) → Ascii (run_of test bytes).0
+run-ascii : (test : List ℕ → Bool) → ((b : ℕ) (bytes : List ℕ) → test (b ∷ bytes) ≡ true → b < 128) → (bytes : List ℕ)
+    → Ascii (run_of test bytes).0
 unfolding run_of
 run-ascii test small [] = tt
 run-ascii test small (b ∷ bytes) = by (test (b ∷ bytes)) refl (run-ascii test small bytes)
@@ -179,11 +184,13 @@ or-second : (x y : Bool) → x ≡ false → not (x || y) ≡ false → y ≡ tr
 or-second false y e f = not-false y f
 or-second true y e f = absurd (false≢true (sym e))
 
-segment-utf8 : (q : Quote) (limit : Option ℕ) → q.in_clob ≡ false → (count : ℕ) (c : Cursor) → IfOk (segment_at q limit count c) (λ s. IsUtf8 s.0)
+segment-utf8 : (q : Quote) (limit : Option ℕ) → q.in_clob ≡ false → (count : ℕ) (c : Cursor)
+    → IfOk (segment_at q limit count c) (λ s. IsUtf8 s.0)
 unfolding segment_at
 segment-utf8 q limit no_clob count c =
     if-then (λ s. Unit {0}) _ (pieces_for (suc (length c.rest)) q limit count c) _ (any (pieces_for (suc (length c.rest)) q limit count c))
-    (λ s h. if-passed (λ (s : List ℕ × Cursor). IsUtf8 s.0) (not (q.in_clob || is_utf8 s.0)) BadText (Ok s) (λ e. IsUtf8-from_is_utf8 s.0 (or-second q.in_clob (is_utf8 s.0) no_clob e)))
+    (λ s h. if-passed (λ (s : List ℕ × Cursor). IsUtf8 s.0) (not (q.in_clob || is_utf8 s.0)) BadText (Ok s)
+    (λ e. IsUtf8-from_is_utf8 s.0 (or-second q.in_clob (is_utf8 s.0) no_clob e)))
   where
     any : (o : Result (List ℕ × Cursor) Reason) → IfOk o (λ s. Unit {0})
     any (Ok s) = tt
@@ -207,14 +214,19 @@ token-raw limit a_run c small =
     if-then (λ r. Unit {0}) _ (counted limit (bytes_of in_run c.rest) c) _ (counted-is (λ bytes. Unit {0}) limit (bytes_of in_run c.rest) c tt)
     (λ r h. if-then IsRawToken _ (run_token r.0) _ (run-raw r.0) (λ t h. h))
 token-raw limit a_word c small =
-    if-then (λ r. Ascii r.0) _ (counted limit (word_of c.rest) c) _ (counted-is Ascii limit (word_of c.rest) c (word-ascii c.rest (small (inl refl))))
+    if-then (λ r. Ascii r.0) _ (counted limit (word_of c.rest) c) _
+    (counted-is Ascii limit (word_of c.rest) c (word-ascii c.rest (small (inl refl))))
     (λ w h. if-then IsRawToken _ (word_token w.0) _ (word-raw w.0 h) (λ t h. h))
-token-raw limit a_quoted c small = if-then (λ t. IsUtf8 t.0) _ (text_at symbol_quote limit (skip 1 c)) _ (text-utf8 symbol_quote limit (skip 1 c) refl) (λ t h. h)
-token-raw limit a_short c small = if-then (λ t. IsUtf8 t.0) _ (text_at (short_quote false) limit (skip 1 c)) _ (text-utf8 (short_quote false) limit (skip 1 c) refl) (λ t h. h)
-token-raw limit a_long c small = if-then (λ t. IsUtf8 t.0) _ (text_at (long_quote false) limit (skip 3 c)) _ (text-utf8 (long_quote false) limit (skip 3 c) refl) (λ t h. h)
+token-raw limit a_quoted c small = if-then (λ t. IsUtf8 t.0) _ (text_at symbol_quote limit (skip 1 c)) _
+    (text-utf8 symbol_quote limit (skip 1 c) refl) (λ t h. h)
+token-raw limit a_short c small = if-then (λ t. IsUtf8 t.0) _ (text_at (short_quote false) limit (skip 1 c)) _
+    (text-utf8 (short_quote false) limit (skip 1 c) refl) (λ t h. h)
+token-raw limit a_long c small = if-then (λ t. IsUtf8 t.0) _ (text_at (long_quote false) limit (skip 3 c)) _
+    (text-utf8 (long_quote false) limit (skip 3 c) refl) (λ t h. h)
 token-raw limit a_lob c small = if-then (λ l. IsRawScalar l.0) _ (lob_at limit (skip 2 c)) _ (lob-raw limit (skip 2 c)) (λ l h. h)
 token-raw limit an_operator c small =
-    if-then (λ r. Ascii r.0) _ (counted limit (bytes_of in_operator c.rest) c) _ (counted-is Ascii limit (bytes_of in_operator c.rest) c (operator-ascii c.rest (small (inr refl))))
+    if-then (λ r. Ascii r.0) _ (counted limit (bytes_of in_operator c.rest) c) _
+    (counted-is Ascii limit (bytes_of in_operator c.rest) c (operator-ascii c.rest (small (inr refl))))
     (λ r h. ascii-utf8 r.0 h)
 token-raw limit an_infinity c small = if-passed _ (passes limit 4) ScalarLimit _ (λ _. tt)
 token-raw limit (a_begin k) c small = tt
@@ -231,4 +243,5 @@ first-small sexp rest (inr e) = operator-first sexp rest ((what-begins sexp rest
 pub tokens-are_raw : TokensAreRaw
 tokens-are_raw sexp c d t p tok =
     let s = tok-stands sexp c d t p tok in
-    IfOk-at_ok (λ (x : Token × Cursor). IsRawToken x.0) s.token (token-raw None (first_at sexp s.prefix.rest) s.prefix (first-small sexp s.prefix.rest))
+    IfOk-at_ok (λ (x : Token × Cursor). IsRawToken x.0) s.token
+    (token-raw None (first_at sexp s.prefix.rest) s.prefix (first-small sexp s.prefix.rest))

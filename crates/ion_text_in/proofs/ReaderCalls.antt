@@ -1,5 +1,5 @@
 -- Calls of the reader one after the other: what they keep and move.
-use Rattle.std.proofs.Common.{◌≡◌, ℕ, ◌+◌, ◌*◌, ◌<◌, ◌≤◌, ◌-◌, ◌^◌, true, false, List, [], length, reverse, Option, Some, None, Result, Ok, Err, OnOk, refl, sym, ap, subst, ◌∙◌, arith}
+use Rattle.std.proofs.Common.{◌≡◌, ℕ, ◌+◌, ◌*◌, ◌<◌, ◌≤◌, ◌-◌, ◌^◌, true, false, List, [], length, reverse, Option, None, Result, Ok, Err, OnOk, refl, sym, ap, subst, ◌∙◌, arith}
 use Rattle.ion_meter.specs.Counts.{Counts, Shrinks}
 use Rattle.ion_meter.specs.declared.device.Input.{Ghosts as InputOf}
 use Rattle.ion_meter.specs.declared.fault.Fault.{Fault}
@@ -9,8 +9,8 @@ use Rattle.ion_meter.specs.declared.limits.Limits.{Limits}
 use Rattle.ion_meter.specs.Windows.{Incoming}
 use Rattle.ion_meter.specs.Sources.{cursor}
 use Rattle.ion_value.specs.declared.ion_type.Kind.{Kind}
-use Rattle.ion_value.specs.Calls.{Reads, ReadsInto}
-use Rattle.ion_value.specs.Shares.{Charges, fault_of}
+use Rattle.ion_value.specs.Calls.{Reads}
+use Rattle.ion_value.specs.Shares.{fault_of}
 use Rattle.ion_value.specs.Standing.{Fits, open_after}
 use Rattle.ion_text_in.specs.declared.reader.StepResult.{StepResult}
 use Rattle.ion_text_in.specs.declared.reader.StepResult.TheVariants as step_result
@@ -18,11 +18,6 @@ use Rattle.ion_text_in.specs.declared.reader.TextReader.{TextReader}
 use Rattle.ion_text_in.specs.Steps.{held_by, later, left_to, lent_by, opened_in, share_of, state_behind, to_come_by, to_come_in, unless_unfinished, CanStep, IsReady, IsSized, IsInside, ReadyAfter, Stepped}
 use Rattle.ion_text_in.proofs.ReaderSteps.{stepped-refused}
 use Rattle.ion_text_in.proofs.Holding.{Held, held-then, held-into, into-held, reads-held}
-
-charges-lift : (a b : Counts) (others k l most all : ℕ) → Charges a b k l most → others + k ≤ a.held → others + most ≤ all → Charges a b (others + k) (others + l) all
-charges-lift a b others k l most all c there le =
-    let held = c.held in let share = c.share in let peak = c.peak in let rises = c.rises in
-    record { held = omega (arith, held); share = omega (arith, share, le); peak = omega (arith, peak, there, le); rises = rises }
 
 module _ {I A : Type 0} (device : InputOf I) where
   -- the reader read on, and took nothing
@@ -34,59 +29,8 @@ module _ {I A : Type 0} (device : InputOf I) where
     pub sized : IsSized mid
     pub held : Held device old.source mid.source earlier later (held_by old) (held_by mid) (share_of old) None
 
-  -- what it holds beside the bytes of a scalar
-  abbrev others_of : TextReader I A → ℕ
-  others_of r = 4096 + 16 * length r.kinds + 16 * length r.annotations + length r.texts + length r.name
-
-  others-share : (r : TextReader I A) → IsSized r → others_of r + r.limits.scalar ≤ share_of r
-  others-share r s = let few = s.few in let annotated = s.annotated in let name = s.name in omega (arith, few, annotated, name)
-
   within-share : (r : TextReader I A) → IsSized r → held_by r ≤ share_of r
   within-share r s = let few = s.few in let annotated = s.annotated in let name = s.name in let text = s.text in omega (arith, few, annotated, name, text)
-
-  -- a token was read
-  read-held : (r : TextReader I A) (s : Incoming I) (t : List ℕ) (a b : Counts) (fault : Option Fault) → IsSized r → held_by r ≤ a.held
-      → Held device r.source s a b (length r.text) (length t) r.limits.scalar fault → Held device r.source s a b (held_by r) (held_by (record r { source = s; text = t })) (share_of r) fault
-  read-held r s t a b fault sized there h = record {
-    stands = h.stands;
-    moves = h.moves;
-    causes = h.causes;
-    charges = charges-lift a b (others_of r) (length r.text) (length t) r.limits.scalar (share_of r) h.charges there (others-share r sized);
-  }
-
-  read-sized : (r : TextReader I A) (s : Incoming I) (t : List ℕ) → IsSized r → length t ≤ r.limits.scalar → IsSized (record r { source = s; text = t })
-  read-sized r s t sized le = record { checked = sized.checked; few = sized.few; annotated = sized.annotated; name = sized.name; text = le }
-
-  pub reached-read : {T : Type 0} (r : TextReader I A) (s : Incoming I) (t : List ℕ) (a b : Counts) (x : T) → IsSized r → held_by r ≤ a.held
-      → ReadsInto device r.source s a b (length r.text) (length t) r.limits.scalar (Ok x) → Reached r (record r { source = s; text = t }) a b
-  reached-read r s t a b x sized there reads = record {
-    kinds = refl;
-    limits = refl;
-    done = refl;
-    failed = refl;
-    sized = read-sized r s t sized reads.charges.share;
-    held = read-held r s t a b None sized there (into-held device r.source s a b (length r.text) (length t) r.limits.scalar (Ok x) reads);
-  }
-
-  -- a fault
-  stepped-fault : {T : Type 0} (item : T) (old new : TextReader I A) (a b : Counts) (fault : Fault) → new.kinds ≡ old.kinds → new.limits ≡ old.limits → new.done ≡ old.done → new.failed ≡ old.failed
-      → IsSized new → Held device old.source new.source a b (held_by old) (held_by new) (share_of old) (Some fault) → Stepped device item old new a b (Err fault)
-  stepped-fault item old new a b fault kinds limits done failed sized held = record {
-    opens = λ e. absurd (cc e);
-    stays = λ _. kinds;
-    fits = λ e. absurd (cc e);
-    limits = limits;
-    done = done;
-    failed = failed;
-    sized = sized;
-    reads = held-into device old.source new.source a b (held_by old) (held_by new) (share_of old) (Err fault) held;
-  }
-
-  pub stepped-read-failed : {T : Type 0} (r : TextReader I A) (s : Incoming I) (t : List ℕ) (a b : Counts) (fault : Fault) → IsSized r → held_by r ≤ a.held
-      → ReadsInto {T = T} device r.source s a b (length r.text) (length t) r.limits.scalar (Err fault) → Stepped device step_result.Item r (record r { source = s; text = t }) a b (Err fault)
-  stepped-read-failed r s t a b fault sized there reads =
-      stepped-fault step_result.Item r (record r { source = s; text = t }) a b fault refl refl refl refl (read-sized r s t sized reads.charges.share)
-      (read-held r s t a b (Some fault) sized there (into-held device r.source s a b (length r.text) (length t) r.limits.scalar (Err fault) reads))
 
   -- the source alone was read
   source-sized : (r : TextReader I A) (s : Incoming I) → IsSized r → IsSized (record r { source = s })

@@ -247,10 +247,6 @@ pub no-blanks : (c : Cursor) → c.rest ≡ [] → blanks c ≡ Ok c
 unfolding blanks_at
 no-blanks c none = rw none refl
 
--- where a token so begins that may not come
-pub part-kind : (limits : Limits) (s : State) (c : Cursor) (first : First) → may_come s.wants first ≡ false → comes limits (part_from limits s c first) ≡ Stopped BadToken c.place
-part-kind limits s c first not_may = ap (λ (b : Bool). comes limits (next_part limits s c first b)) not_may
-
 pub part-fault : (limits : Limits) (s : State) (c : Cursor) (first : First) (reason : Reason) → may_come s.wants first ≡ true → token_of (Some limits.scalar) first c ≡ Err reason
     → comes limits (part_from limits s c first) ≡ Stopped reason c.place
 part-fault limits s c first reason may e =

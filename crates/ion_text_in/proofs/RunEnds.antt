@@ -14,9 +14,6 @@ use Rattle.ion_text_in.specs.declared.run.Run.TheVariants as run
 use Rattle.ion_text_in.specs.Runs.{GoOn, EndBehind, GoesOver, goes_on, stays, has_slashes, opens_comment}
 use Rattle.ion_text_in.proofs.Meaning.{run-more, run-none}
 
-pub go-nothing : (test : List ℕ → Bool) (bytes : List ℕ) → GoOn test bytes 0
-go-nothing test bytes more = refl
-
 -- bytes in front of a run
 abbrev pub fronted : List ℕ → List ℕ × List ℕ → List ℕ × List ℕ
 fronted xs z = (xs ++ z.0, z.1)
@@ -125,9 +122,6 @@ slash-stays run slice more rest slashes one e opens =
 
 -- ---- parts that are gathered one after the other
 
-pub goes-nothing : (test : List ℕ → Bool) (rest : List ℕ) → GoesOver test rest 0
-goes-nothing test rest = refl
-
 front-twice : (xs ys : List ℕ) (z : List ℕ × List ℕ) → fronted xs (fronted ys z) ≡ fronted (xs ++ ys) z
 front-twice xs ys z = ap (λ (l : List ℕ). (l, z.1)) (sym (append_assoc xs ys z.0))
 
@@ -146,7 +140,3 @@ goes-least test rest n within goes =
     let long = length-append (take n rest) (run_of test (drop n rest)).0 in
     let some = length-take-le n rest within in
     omega (arith, all, long, some)
-
--- and no more, where the run ends behind them
-pub goes-last : (test : List ℕ → Bool) (rest : List ℕ) (n : ℕ) → GoesOver test rest n → run_of test (drop n rest) ≡ ([], drop n rest) → run_of test rest ≡ (take n rest, drop n rest)
-goes-last test rest n goes ends = goes ∙ ap (fronted (take n rest)) ends ∙ ap (λ (l : List ℕ). (l, drop n rest)) (append-nil (take n rest))

@@ -45,9 +45,6 @@ short-text q limit text c e none =
 abbrev pub behind_text : Quote → ℕ → List ℕ → Cursor → Spelled
 behind_text q limit text c = with_front text (segments q (Some limit) (length text) c)
 
-pub from-none : (q : Quote) (limit : ℕ) (text : List ℕ) (c : Cursor) → text ≡ [] → text_at q (Some limit) c ≡ behind_text q limit text c
-from-none q limit text c none = sym (ap (λ (l : List ℕ). behind_text q limit l c) none ∙ front-none (segments q (Some limit) 0 c))
-
 abbrev segment-then : Quote → ℕ → List ℕ → Spelled → Spelled
 segment-then q limit text o =
     with_front text (o >>= (λ s. with_segments (λ d. segments q (Some limit) (length text + length s.0) d) s (quoted.next_segment q s.1)))

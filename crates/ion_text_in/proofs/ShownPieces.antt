@@ -1,18 +1,18 @@
--- A slice shows a piece of a text, or a group of a blob: they are the same whatever follows it.
-use Rattle.std.proofs.Common.{◌≡◌, ℕ, zero, suc, ◌+◌, ◌*◌, ◌≤◌, ◌⊎◌, inl, inr, Bool, true, false, not, ◌&&◌, ◌||◌, ◌==◌, nat_le, if◌then◌else◌, List, [], ◌∷◌, ◌++◌, length, Option, Some, None, refl, ap, ◌∙◌, arith}
-use Rattle.std.proofs.lemmas.Bool.{and_parts}
-use Rattle.ion_value.specs.Digits.{is_between, is_hex_digit, digit_value, all_are}
+-- A slice shows a piece of a text: it is the same whatever follows the slice.
+use Rattle.std.proofs.Common.{◌≡◌, ℕ, zero, suc, ◌+◌, ◌*◌, ◌≤◌, Bool, true, false, not, ◌&&◌, ◌||◌, ◌==◌, nat_le, if◌then◌else◌, List, [], ◌∷◌, ◌++◌, length, Option, Some, None, refl, ap, ◌∙◌, arith}
+use Rattle.ion_value.specs.Digits.{is_between, is_hex_digit, digit_value}
 use Rattle.ion_value.specs.Name.{begins_with}
-use Rattle.ion_text_in.specs.Blanks.{is_white}
 use Rattle.ion_text_in.specs.Quoted as quoted
 use Rattle.ion_text_in.specs.Quoted.{Quote, Piece, char, close, illegal, cut, Hex, number, no_digit, cut_digits, hex_behind, piece_at, with_piece}
-use Rattle.ion_text_in.specs.Lob.{group_of, braces, are_cut_quotes}
-use Rattle.ion_text_in.specs.Meaning.{at}
-use Rattle.ion_text_in.specs.Scanning.{IsQuote, pieces}
-use Rattle.ion_text_in.proofs.Fuel.{pieces-first}
-use Rattle.ion_text_in.proofs.ShownRuns.{prefix-shown}
+use Rattle.ion_text_in.specs.Scanning.{IsQuote}
 
 -- ---- what more bytes may change
+
+-- certain bytes, where as many are shown
+prefix-shown : (cs bytes more : List ℕ) → length cs ≤ length bytes → begins_with cs (bytes ++ more) ≡ begins_with cs bytes
+prefix-shown [] bytes more le = refl
+prefix-shown (c ∷ cs) [] more le = absurd (omega (arith, le))
+prefix-shown (c ∷ cs) (b ∷ bytes) more le = ap (λ (others : Bool). (c == b) && others) (prefix-shown cs bytes more (omega (arith, le)))
 
 -- a piece that is not cut stays as it is
 abbrev pub Same : Piece → Piece → Type 0
@@ -212,69 +212,3 @@ piece-whole q [] le = absurd (omega (arith, le))
 piece-whole q (b ∷ bytes) le =
     whole-if (begins_with q.closer (b ∷ bytes)) (close (length q.closer)) _ tt
     (whole-if (b == 92) (quoted.escape q.in_clob bytes) (quoted.raw q b bytes) (escape-whole q.in_clob bytes (omega (arith, le))) (raw-whole q b bytes))
-
--- so each piece is shown there
-pub twelve-shown : (q : Quote) (bytes more : List ℕ) → IsQuote q → 12 ≤ length bytes → piece_at q (bytes ++ more) ≡ piece_at q bytes
-twelve-shown q bytes more is le = piece-shown q bytes more is (omega (arith, le)) (piece-whole q bytes le)
-
--- what a slice shows of a text is its first piece
-pub pieces-shown : (q : Quote) (limit : Option ℕ) (count place : ℕ) (bytes more : List ℕ) → IsQuote q → 3 ≤ length bytes → IsWhole (piece_at q bytes)
-    → pieces q limit count (at place (bytes ++ more)) ≡ with_piece (λ n d. pieces q limit n d) q limit count (at place (bytes ++ more)) (piece_at q bytes)
-pieces-shown q limit count place bytes more is le whole =
-    pieces-first q limit count (at place (bytes ++ more)) is
-    ∙ ap (λ (piece : Piece). with_piece (λ n d. pieces q limit n d) q limit count (at place (bytes ++ more)) piece) (piece-shown q bytes more is le whole)
-
--- ---- groups
-
--- as many characters as are looked for, or a brace
-abbrev pub IsShown : ℕ → List ℕ × List ℕ → Type 0
-IsShown n g = (length g.0 ≡ n) ⊎ (1 ≤ length g.1)
-
-abbrev pub longer : List ℕ → List ℕ × List ℕ → List ℕ × List ℕ
-longer more g = (g.0, g.1 ++ more)
-
-abbrev chosen : Bool → Bool → ℕ → List ℕ → List ℕ × List ℕ → List ℕ × List ℕ → List ℕ × List ℕ
-chosen skips ends b bytes x y = elim skips [ true ↦ x | false ↦ elim ends [ true ↦ ([], b ∷ bytes) | false ↦ (b ∷ y.0, y.1) ] ]
-
-fewer-shown : (n b : ℕ) (g : List ℕ × List ℕ) → IsShown (suc n) (b ∷ g.0, g.1) → IsShown n g
-fewer-shown n b g (inl all) = inl (omega (arith, all))
-fewer-shown n b g (inr some) = inr some
-
-group-by : (n b : ℕ) (bytes more : List ℕ) (skips ends : Bool) (x y u v : List ℕ × List ℕ) → (IsShown (suc n) x → u ≡ longer more x) → (IsShown n y → v ≡ longer more y)
-    → IsShown (suc n) (chosen skips ends b bytes x y) → chosen skips ends b (bytes ++ more) u v ≡ longer more (chosen skips ends b bytes x y)
-group-by n b bytes more true ends x y u v ex ey shown = ex shown
-group-by n b bytes more false true x y u v ex ey shown = refl
-group-by n b bytes more false false x y u v ex ey shown = ap (λ (z : List ℕ × List ℕ). (b ∷ z.0, z.1)) (ey (fewer-shown n b y shown))
-
--- a whole group, or the brace that ends one
-pub group-shown : (n : ℕ) (bytes more : List ℕ) → IsShown n (group_of n bytes) → group_of n (bytes ++ more) ≡ longer more (group_of n bytes)
-unfolding group_of
-group-shown zero bytes more shown = refl
-group-shown (suc n) [] more (inl none) = absurd (omega (arith, none))
-group-shown (suc n) [] more (inr none) = absurd (omega (arith, none))
-group-shown (suc n) (b ∷ bytes) more shown =
-    group-by n b bytes more (is_white b) (b == 125) (group_of (suc n) bytes) (group_of n bytes) (group_of (suc n) (bytes ++ more)) (group_of n (bytes ++ more))
-    (λ shown. group-shown (suc n) bytes more shown) (λ shown. group-shown n bytes more shown) shown
-
--- white space before a character
-pub group-over : (n : ℕ) (xs rest : List ℕ) → all_are is_white xs ≡ true → group_of (suc n) (xs ++ rest) ≡ group_of (suc n) rest
-unfolding group_of
-group-over n [] rest all = refl
-group-over n (b ∷ xs) rest all =
-    let parts = and_parts (is_white b) (all_are is_white xs) all in
-    let dark : is_white b ≡ true = parts.0 in
-    let one : group_of (suc n) (b ∷ (xs ++ rest)) ≡ group_of (suc n) (xs ++ rest) = rw (dark, group_of) refl in
-    one ∙ group-over n xs rest parts.1
-
--- the braces that close a lob, where two bytes are shown
-pub braces-shown : (bytes more : List ℕ) → 2 ≤ length bytes → braces (bytes ++ more) ≡ braces bytes
-braces-shown [] more le = absurd (omega (arith, le))
-braces-shown (a ∷ []) more le = absurd (omega (arith, le))
-braces-shown (a ∷ b ∷ bytes) more le = refl
-
--- where three bytes are shown they are not one quote or two at the input's end
-pub cut-quotes-shown : (bytes more : List ℕ) → 3 ≤ length bytes → are_cut_quotes (bytes ++ more) ≡ are_cut_quotes bytes
-cut-quotes-shown [] more le = absurd (omega (arith, le))
-cut-quotes-shown (a ∷ []) more le = absurd (omega (arith, le))
-cut-quotes-shown (a ∷ b ∷ []) more le = absurd (omega (arith, le))
-cut-quotes-shown (a ∷ b ∷ c ∷ bytes) more le = refl

@@ -127,10 +127,6 @@ abbrev pub WithinIf : Cursor → Option Cursor → Type 0
 WithinIf c (Some d) = NoLonger c d
 WithinIf c None = Unit {0}
 
-behind_quotes-within : (q : Quote) (c : Cursor) (b : Bool) → WithinIf c (if b then Some (skip (length q.closer) c) else None)
-behind_quotes-within q c true = skip-within (length q.closer) c
-behind_quotes-within q c false = tt
-
 in_next-within : (q : Quote) (c : Cursor) (o : Option Cursor) → WithinIf c o → WithinIf c (quoted.in_next q o)
 in_next-within q c None w = tt
 in_next-within q c (Some d) w = from (begins_with q.closer d.rest)

@@ -1,10 +1,9 @@
 -- Turns of a loop that passes over bytes in the window of a source, more of the device having been read.
-use Rattle.std.proofs.Common.{◌≡◌, ℕ, ◌+◌, ◌-◌, ◌≤◌, List, [], ◌++◌, length, take, drop, slice_get, None, Some, Ok, Err, arith, refl, sym, ap, subst, ◌∙◌}
+use Rattle.std.proofs.Common.{◌≡◌, ℕ, ◌+◌, ◌-◌, ◌≤◌, List, [], ◌++◌, length, take, drop, slice_get, None, Some, Ok, arith, refl, sym, ap, subst, ◌∙◌}
 use Rattle.std.proofs.lemmas.List.{append_assoc, take-append-drop, length-take-le, drop-append-le, length-append, append-nil}
 use Rattle.ion_meter.specs.declared.device.Input.{Ghosts as InputOf}
-use Rattle.ion_meter.specs.declared.fault.Fault.{Fault}
 use Rattle.ion_meter.specs.Windows.{Incoming, left, lent, Extends, IsGiven, IsPassed}
-use Rattle.ion_meter.specs.Sources.{Cursor, cursor, Stands, Moves, Exceeds}
+use Rattle.ion_meter.specs.Sources.{Cursor, cursor, Stands, Moves}
 use Rattle.ion_meter.proofs.Lent.{lent-CanPass, lent-take, lent-IsGiven, IsPassed-left}
 use Rattle.ion_value.specs.Calls.{Reads}
 use Rattle.ion_value.proofs.Cursors.{moves-then}
@@ -19,13 +18,6 @@ pub record Gone {I : Type 0} (device : InputOf I) (old new : Incoming I) : Type 
   pub moves : Moves device old new
   pub steady : device.failure_count new.device ≡ device.failure_count old.device
 
-pub gone-not : {I : Type 0} (device : InputOf I) (s : Incoming I) → Stands s → Gone device s s
-gone-not device s stands = record {
-  stands = stands;
-  moves = record { still_observable = (λ h. h, λ h. h); limit = refl; further = omega arith; total = λ h. refl };
-  steady = refl;
-}
-
 pub gone-then : {I : Type 0} (device : InputOf I) (s t u : Incoming I) → Gone device s t → Gone device t u → Gone device s u
 gone-then device s t u a b = record { stands = b.stands; moves = moves-then device s t u a.moves b.moves; steady = b.steady ∙ a.steady }
 
@@ -38,24 +30,6 @@ gone-reads device s t x gone = record {
   stands = gone.stands;
   moves = gone.moves;
   causes = record { device = λ e. absurd (cc e); steady = λ _. gone.steady; limit = λ e. absurd (cc e); no_memory = λ e. cc e; no_writes = λ e. cc e };
-}
-
--- the input is as long as it was
-pub exceeds-before : {I : Type 0} (device : InputOf I) (s t : Incoming I) → Moves device s t → Exceeds device t → Exceeds device s
-exceeds-before device s t moves exceeds = λ h. omega (arith, exceeds (moves.still_observable.1 h), moves.limit, moves.total h)
-
--- a call that failed, behind others
-pub gone-failed : {I T U : Type 0} (device : InputOf I) (s t u : Incoming I) (fault : Fault) → Gone device s t → Reads {T = T} device t u (Err fault) → Reads {T = U} device s u (Err fault)
-gone-failed device s t u fault gone reads = record {
-  stands = tt;
-  moves = moves-then device s t u gone.moves reads.moves;
-  causes = record {
-    device = λ e. reads.causes.device e ∙ ap (λ n. n + 1) gone.steady;
-    steady = λ no. reads.causes.steady no ∙ gone.steady;
-    limit = λ e. exceeds-before device s t gone.moves (reads.causes.limit e);
-    no_memory = reads.causes.no_memory;
-    no_writes = reads.causes.no_writes;
-  };
 }
 
 -- bytes were passed over

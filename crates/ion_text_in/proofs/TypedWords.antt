@@ -1,6 +1,6 @@
 -- The bytes of a word that are gathered: those up to a point, and where they are `null` the name of a type.
-use Rattle.std.proofs.Common.{◌≡◌, ◌≢◌, ℕ, suc, ◌+◌, ◌≤◌, Bool, true, false, ◌&&◌, ◌==◌, nat_lt, if◌then◌else◌, List, [], ◌∷◌, ◌++◌, length, take, drop, codes, slice_get, Option, Some, None, IfSome, Result, Ok, Err, refl, sym, ap, subst, ◌∙◌, arith}
-use Rattle.std.proofs.lemmas.Bool.{eqb-true, lt-ltb, ltb-true}
+use Rattle.std.proofs.Common.{◌≡◌, ◌≢◌, ℕ, suc, ◌+◌, ◌≤◌, Bool, true, false, ◌&&◌, ◌==◌, if◌then◌else◌, List, [], ◌∷◌, ◌++◌, length, take, drop, codes, slice_get, Option, Some, None, IfSome, Result, Ok, Err, refl, sym, ap, subst, ◌∙◌, arith}
+use Rattle.std.proofs.lemmas.Bool.{eqb-true}
 use Rattle.std.proofs.lemmas.List.{length-append, append_assoc, drop-drop}
 use Rattle.std.specs.Str.{bytes_eq}
 use Rattle.ion_meter.specs.declared.fault.Reason.{Reason}
@@ -99,48 +99,10 @@ counted-ok limit bytes text c d e = from (passes limit (length bytes)) refl e
     from true o e = absurd (cc e)
     from false o e = let both = ap (or_else (text, d)) e in record { same = ap (λ (z : List ℕ × Cursor). z.0) both; there = sym (ap (λ (z : List ℕ × Cursor). z.1) both); within = o }
 
--- more bytes pass a limit that fewer pass
-pub counted-more : (limit : ℕ) (fewer more : List ℕ) (c : Cursor) (reason : Reason) → length fewer ≤ length more → counted (Some limit) fewer c ≡ Err reason → counted (Some limit) more c ≡ Err reason
-counted-more limit fewer more c reason le e = from (nat_lt limit (length fewer)) refl e
-  where
-    from : (over : Bool) → nat_lt limit (length fewer) ≡ over → counted_by over fewer c ≡ Err reason → counted (Some limit) more c ≡ Err reason
-    from false o e = absurd (cc e)
-    from true o e =
-        let lt = ltb-true limit (length fewer) o in
-        let same : ScalarLimit ≡ reason = cc e in
-        ap (λ (over : Bool). counted_by over more c) (lt-ltb limit (length more) (omega (arith, lt, le))) ∙ ap (λ (reason : Reason). Err reason) same
-
-type-longer : (word behind : List ℕ) → length word ≤ length (with_type word behind)
-type-longer word behind = from (bytes_eq (codes "null") word && first_is (λ b. b == 46) behind)
-  where
-    from : (typed : Bool) → length word ≤ length (if typed then word ++ 46 ∷ (run_of in_word (drop 1 behind)).0 else word)
-    from true = let long = length-append word (46 ∷ (run_of in_word (drop 1 behind)).0) in omega (arith, long)
-    from false = omega arith
-
-pub word-longer : (rest : List ℕ) → length (bytes_of in_word rest) ≤ length (word_of rest)
-word-longer [] = omega arith
-word-longer (b ∷ bytes) = type-longer (b ∷ (run_of in_word bytes).0) (run_of in_word bytes).1
-
-pub word-refused : (limit : ℕ) (c : Cursor) (reason : Reason) → spelled (bytes_of in_word) (Some limit) c ≡ Err reason → spelled word_of (Some limit) c ≡ Err reason
-word-refused limit c reason e = counted-more limit (bytes_of in_word c.rest) (word_of c.rest) c reason (word-longer c.rest) e
-
 -- any word by its bytes before a point
 word-parts : (rest : List ℕ) → 1 ≤ length (bytes_of in_word rest) → word_of rest ≡ with_type (bytes_of in_word rest) (drop (length (bytes_of in_word rest)) rest)
 word-parts [] some = absurd (omega (arith, some))
 word-parts (b ∷ bytes) some = ap (λ (l : List ℕ). with_type (b ∷ (run_of in_word bytes).0) l) (sym (run-behind in_word bytes))
-
-no-null : (text behind : List ℕ) → bytes_eq (codes "null") text ≡ false → with_type text behind ≡ text
-no-null text behind e = ap (λ (null : Bool). if null && first_is (λ b. b == 46) behind then text ++ 46 ∷ (run_of in_word (drop 1 behind)).0 else text) e
-
-word-same : (rest : List ℕ) → bytes_eq (codes "null") (bytes_of in_word rest) ≡ false → word_of rest ≡ bytes_of in_word rest
-word-same [] e = refl
-word-same (b ∷ bytes) e = no-null (b ∷ (run_of in_word bytes).0) (run_of in_word bytes).1 e
-
--- no `null`
-pub word-spelled : (limit : ℕ) (c d : Cursor) (text : List ℕ) → spelled (bytes_of in_word) (Some limit) c ≡ Ok (text, d) → bytes_eq (codes "null") text ≡ false → spelled word_of (Some limit) c ≡ Ok (text, d)
-word-spelled limit c d text e other =
-    let is = counted-ok (Some limit) (bytes_of in_word c.rest) text c d e in
-    ap (λ (l : List ℕ). counted (Some limit) l c) (word-same c.rest (ap (bytes_eq (codes "null")) is.same ∙ other)) ∙ e
 
 null-long : (text : List ℕ) → bytes_eq (codes "null") text ≡ true → 1 ≤ length text
 null-long [] e = absurd (cc e)

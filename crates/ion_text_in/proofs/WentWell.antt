@@ -14,7 +14,8 @@ pub went : {A B E : Type 0} (o : Result A E) (f : A → Result B E) (y : B) → 
 went (Ok x) f y e = record { value = x; first = refl; second = e }
 went (Err reason) f y e = absurd (cc e)
 
-pub if-then : {A B E : Type 0} (P : A → Type 0) (Q : B → Type 0) (o : Result A E) (f : A → Result B E) → IfOk o P → ((x : A) → P x → IfOk (f x) Q) → IfOk (o >>= f) Q
+pub if-then : {A B E : Type 0} (P : A → Type 0) (Q : B → Type 0) (o : Result A E) (f : A → Result B E) → IfOk o P
+    → ((x : A) → P x → IfOk (f x) Q) → IfOk (o >>= f) Q
 if-then P Q (Ok x) f h more = more x h
 if-then P Q (Err reason) f h more = tt
 
@@ -23,7 +24,8 @@ pub passed : {B : Type 0} (b : Bool) (reason : Reason) (o : Result B Reason) (y 
 passed true reason o y e = absurd (cc e)
 passed false reason o y e = (refl, e)
 
-pub if-passed : {B : Type 0} (Q : B → Type 0) (b : Bool) (reason : Reason) (o : Result B Reason) → (b ≡ false → IfOk o Q) → IfOk (refuse b reason >> o) Q
+pub if-passed : {B : Type 0} (Q : B → Type 0) (b : Bool) (reason : Reason) (o : Result B Reason) → (b ≡ false → IfOk o Q)
+    → IfOk (refuse b reason >> o) Q
 if-passed Q true reason o h = tt
 if-passed Q false reason o h = h refl
 

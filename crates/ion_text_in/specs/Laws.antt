@@ -52,13 +52,13 @@ StreamsAreRead =
     (limits : Limits) (bytes : List ℕ) (tops : List (Top SymbolAt ℕ)) → Allows limits bytes → Stream bytes tops
     → reading limits bytes ≡ behind (path_items (closed tops)) Finished
 
--- so it is where limits allow what stands in the bytes, whatever they would not allow of other bytes
+-- a path is read first under limits that allow what stands in it: tokens, annotations and depth
 abbrev pub PathsWithinAreRead : Type 0
 PathsWithinAreRead =
     (limits : Limits) (bytes : List ℕ) (q : ℕ) (path : Path SymbolAt ℕ) (is : IsPath bytes q path) → PathWithin limits is.spells
     → (rest : Reading) × (reading limits bytes ≡ behind (path_items path) rest)
 
--- and so it is with a stream
+-- and so is a stream to its end
 abbrev pub StreamsWithinAreRead : Type 0
 StreamsWithinAreRead =
     (limits : Limits) (bytes : List ℕ) (tops : List (Top SymbolAt ℕ)) (is : Stream bytes tops) → TopsWithin limits is.spells

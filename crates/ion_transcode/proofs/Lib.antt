@@ -19,6 +19,7 @@ mod BehindValues
 mod QuotedBytes
 mod Utf8Bytes
 mod SymbolTokens
+mod ShortTexts
 mod ScalarTokens
 mod TokensInText
 mod ValuesAreSpelled
@@ -28,4 +29,5 @@ mod ReadAgain
 mod ShortRuns
 mod Accepted
 mod ReadWhole
+mod AcceptedAgain
 mod NeededPremises

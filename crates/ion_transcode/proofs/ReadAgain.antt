@@ -78,10 +78,10 @@ length-unplaced : (us : List (Top UserSymbol ℕ)) → length (map unplaced_top 
 length-unplaced [] = refl
 length-unplaced (u ∷ us) = ap (λ n. suc n) (length-unplaced us)
 
-same-length : (us vs : List (Top UserSymbol ℕ)) → map unplaced_top us ≡ map unplaced_top vs → length us ≡ length vs
+pub same-length : (us vs : List (Top UserSymbol ℕ)) → map unplaced_top us ≡ map unplaced_top vs → length us ≡ length vs
 same-length us vs e = sym (length-unplaced us) ∙ (ap length e ∙ length-unplaced vs)
 
-some-same : (us vs : List (Top UserSymbol ℕ)) → ◌≡◌ {A = Option (List (Top UserSymbol ℕ))} (Some us) (Some vs) → us ≡ vs
+pub some-same : (us vs : List (Top UserSymbol ℕ)) → ◌≡◌ {A = Option (List (Top UserSymbol ℕ))} (Some us) (Some vs) → us ≡ vs
 some-same us vs e = cc e
 
 -- the same bytes are one stream at most

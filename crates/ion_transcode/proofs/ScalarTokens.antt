@@ -1,5 +1,5 @@
 -- The text of each scalar is a token that means it.
-use Rattle.std.proofs.Common.{◌≡◌, ℕ, suc, ◌+◌, ◌*◌, ◌/◌, ◌%◌, zero, replicate, slice_index, ◌<◌, true, false, List, [], ◌∷◌, All, length, refl, ap, ◌∙◌, arith}
+use Rattle.std.proofs.Common.{◌≡◌, ℕ, suc, ◌+◌, ◌*◌, ◌/◌, ◌%◌, ◌-◌, zero, replicate, slice_index, ◌<◌, ◌≤◌, true, false, List, [], ◌∷◌, All, length, refl, ap, ◌∙◌, arith}
 use Rattle.std.specs.List.{AllByRecursion, flat_map}
 use Rattle.std.proofs.lemmas.Str.{is_utf8-from_IsUtf8}
 use Rattle.std.proofs.lemmas.Bool.{agree_below_at}
@@ -7,27 +7,37 @@ use Rattle.std.proofs.lemmas.List.Elements.{All-nil, All-cons}
 use Rattle.base64.specs.Rfc4648.{encode_symbols, padding_len}
 use Rattle.base64.specs.Engines.{standard}
 use Rattle.base64.specs.GeneralPurpose.{encode_of}
+use Rattle.ion_meter.specs.declared.limits.Limits.{Limits}
 use Rattle.ion_value.specs.Standing.{InRange}
 use Rattle.ion_value.specs.Value as value
 use Rattle.ion_value.specs.Value.{SymbolAt, UserSymbol, Scalar, map_scalar}
-use Rattle.ion_symbols.specs.Table.{Table}
+use Rattle.ion_symbols.specs.Laws.{ScalarStands}
+use Rattle.ion_symbols.specs.Table.{Table, system}
 use Rattle.ion_symbols.specs.Tree.{user_at}
 use Rattle.ion_value.specs.Writable.{scalar_symbols, HasText, IsText, AreBytes, HasBytes}
 use Rattle.ion_text_in.specs.Blanks.{is_white}
 use Rattle.ion_text_in.specs.Beginnings.{EndsIdentifier, EndsNumber}
-use Rattle.ion_text_in.specs.Meaning.{Anything, EndsNull, Means, solid}
+use Rattle.ion_text_in.specs.Meaning.{Anything, counts, EndsNull, Means, solid}
 use Rattle.ion_text_in.specs.Token.{plain, text}
 use Rattle.ion_text_out.specs.Escape.{byte_text}
 use Rattle.ion_text_out.specs.Text.{scalar_text}
+use Rattle.ion_transcode.specs.ShownAgain.{ScalarFits}
 use Rattle.ion_transcode.proofs.BehindValues.{Behind, BehindSymbol, ends-number, ends-identifier, ends-null}
 use Rattle.ion_transcode.proofs.QuotedBytes.{Quotes, chars-are}
+use Rattle.ion_transcode.proofs.ShortTexts.{null-short, bool-short, int-short, decimal-short, timestamp-short}
 use Rattle.ion_transcode.proofs.SymbolTokens.{TextLaws, IsToken, means-token, SymbolIs, symbol-is}
 use Rattle.ion_transcode.proofs.Utf8Bytes.{utf8-bytes, all-append}
+
+-- the token of a scalar counts no more than limits allow that the scalar fits
+abbrev Counted : Scalar UserSymbol → Scalar SymbolAt → Type 0
+Counted body raw =
+    (limits : Limits) → 64 ≤ limits.scalar → ScalarFits limits body → (p : ℕ)
+    → counts (plain raw) p (p + length (scalar_text body)) ≤ limits.scalar
 
 -- what a scalar's text is in the grammar: the token of a plain value, a string, or a symbol
 pub data ScalarIs : Scalar UserSymbol → Type 0 where
   a_plain : {body : Scalar UserSymbol} (raw : Scalar SymbolAt) → IsToken Behind (scalar_text body) (plain raw)
-      → ((t : Table) → map_scalar (user_at t) raw ≡ body) → ScalarIs body
+      → ((t : Table) → map_scalar (user_at t) raw ≡ body) → ScalarStands system raw → Counted body raw → ScalarIs body
   a_string : (bytes : List ℕ) → IsToken Behind (scalar_text (value.string bytes)) (text bytes) → ScalarIs (value.string bytes)
   a_symbol : (s : UserSymbol) → SymbolIs s → ScalarIs (value.symbol s)
 
@@ -84,26 +94,35 @@ all-from (b ∷ bytes) h = All-cons (λ octet. octet < 256) b bytes h.0 (all-fro
 
 plain-is : (body : Scalar UserSymbol) (raw : Scalar SymbolAt) (count : ℕ) (Ends : List ℕ → Type 0)
     → ((rest : List ℕ) → Behind rest → Ends rest) → Means count Ends (scalar_text body) (plain raw)
-    → ((t : Table) → map_scalar (user_at t) raw ≡ body) → ScalarIs body
-plain-is body raw count Ends ends means same = a_plain raw (means-token count Ends Behind _ _ refl ends means) same
+    → ((t : Table) → map_scalar (user_at t) raw ≡ body) → ScalarStands system raw → Counted body raw → ScalarIs body
+plain-is body raw count Ends ends means same stand counted =
+    a_plain raw (means-token count Ends Behind _ _ refl ends means) same stand counted
+
+short-counted : (limit p n : ℕ) → 64 ≤ limit → n ≤ 64 → p + n - p ≤ limit
+short-counted limit p n wide short = omega (arith, wide, short)
 
 pub scalar-is : TextLaws → (body : Scalar UserSymbol) → InRange body → HasText body → HasBytes body
     → AllByRecursion IsText (scalar_symbols body) → ScalarIs body
 scalar-is laws (value.null t) range utf8 small texts =
     let ends = λ (rest : List ℕ) (b : Behind rest). ends-null laws.identifiers_end t rest b in
-    plain-is _ (value.null t) _ (EndsNull t) ends (laws.nulls t) (λ u. refl)
+    plain-is _ (value.null t) _ (EndsNull t) ends (laws.nulls t) (λ u. refl) tt
+    (λ limits wide fits p. short-counted limits.scalar p _ wide (null-short t))
 scalar-is laws (value.bool truth) range utf8 small texts =
     let ends = λ (rest : List ℕ) (b : Behind rest). ends-identifier laws.identifiers_end rest (BehindSymbol.of_value b) in
-    plain-is _ (value.bool truth) _ EndsIdentifier ends (laws.bools truth) (λ u. refl)
+    plain-is _ (value.bool truth) _ EndsIdentifier ends (laws.bools truth) (λ u. refl) tt
+    (λ limits wide fits p. short-counted limits.scalar p _ wide (bool-short truth))
 scalar-is laws (value.int i) range utf8 small texts =
     let ends = λ (rest : List ℕ) (b : Behind rest). ends-number laws.numbers_end rest b in
-    plain-is _ (value.int i) _ EndsNumber ends (laws.ints i range) (λ u. refl)
+    plain-is _ (value.int i) _ EndsNumber ends (laws.ints i range) (λ u. refl) tt
+    (λ limits wide fits p. short-counted limits.scalar p _ wide (int-short i range))
 scalar-is laws (value.decimal d) range utf8 small texts =
     let ends = λ (rest : List ℕ) (b : Behind rest). ends-number laws.numbers_end rest b in
-    plain-is _ (value.decimal d) _ EndsNumber ends (laws.decimals d range) (λ u. refl)
+    plain-is _ (value.decimal d) _ EndsNumber ends (laws.decimals d range) (λ u. refl) tt
+    (λ limits wide fits p. short-counted limits.scalar p _ wide (decimal-short d range))
 scalar-is laws (value.timestamp t) range utf8 small texts =
     let ends = λ (rest : List ℕ) (b : Behind rest). ends-number laws.numbers_end rest b in
-    plain-is _ (value.timestamp t) _ EndsNumber ends (laws.timestamps t range) (λ u. refl)
+    plain-is _ (value.timestamp t) _ EndsNumber ends (laws.timestamps t range) (λ u. refl) tt
+    (λ limits wide fits p. short-counted limits.scalar p _ wide (timestamp-short t range))
 scalar-is laws (value.symbol s) range utf8 small texts = a_symbol s (symbol-is laws s texts.0)
 scalar-is laws (value.string bytes) range utf8 small texts =
     let chars = chars-are 34 false bytes Quotes.double (utf8-bytes bytes utf8) in
@@ -112,7 +131,7 @@ scalar-is laws (value.string bytes) range utf8 small texts =
 scalar-is laws (value.clob bytes) range utf8 small texts =
     let chars = chars-are 34 true bytes Quotes.double small in
     let means = laws.clobs [] (flat_map (byte_text 34 128) bytes) [] bytes refl chars refl in
-    plain-is _ (value.clob bytes) _ Anything behind-anything means (λ u. refl)
+    plain-is _ (value.clob bytes) _ Anything behind-anything means (λ u. refl) tt (λ limits wide fits p. fits)
 scalar-is laws (value.blob bytes) range utf8 small texts =
     let means = laws.blobs (encode_of standard bytes) bytes (all-from bytes small) (solid-code bytes small) in
-    plain-is _ (value.blob bytes) _ Anything behind-anything means (λ u. refl)
+    plain-is _ (value.blob bytes) _ Anything behind-anything means (λ u. refl) tt (λ limits wide fits p. fits)

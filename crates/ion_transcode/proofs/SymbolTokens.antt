@@ -1,24 +1,28 @@
 -- The text of each scalar and symbol is a token, wherever it stands before what may stand behind a value.
-use Rattle.std.proofs.Common.{◌≡◌, ℕ, ◌+◌, inl, inr, Bool, true, false, not, ◌&&◌, if◌then◌else◌, List, [], ◌∷◌, ◌++◌, length, codes, Option, None, Ok, IsUtf8, is_none, refl, ap, sym, ◌∙◌, subst, arith}
+use Rattle.std.proofs.Common.{◌≡◌, ℕ, ◌+◌, ◌≤◌, inl, inr, Bool, true, false, not, ◌&&◌, if◌then◌else◌, List, [], ◌∷◌, ◌++◌, length, codes, Option, None, Ok, IsUtf8, is_none, refl, ap, sym, ◌∙◌, subst, arith}
 use Rattle.std.specs.List.{AllByRecursion, flat_map}
 use Rattle.std.proofs.lemmas.Bool.{false≢true, cases_Bool, and_parts, not-true}
 use Rattle.std.proofs.lemmas.Bool.Decides.{nat_tests}
 use Rattle.std.proofs.lemmas.Str.{is_utf8-from_IsUtf8}
+use Rattle.ion_meter.specs.declared.limits.Limits.{Limits}
 use Rattle.ion_meter.specs.Sources.{Cursor}
 use Rattle.ion_value.specs.declared.ion_type.Kind.{Kind}
 use Rattle.ion_value.specs.Name.{is_one_of, is_plain, is_identifier, is_id, is_version, keyword}
 use Rattle.ion_value.specs.Value.{Symbol, Text, Id, SymbolAt, UserSymbol, Known, Unknown}
-use Rattle.ion_symbols.specs.Table.{Table}
+use Rattle.ion_symbols.specs.Laws.{SymbolStands}
+use Rattle.ion_symbols.specs.Table.{Table, system}
 use Rattle.ion_symbols.specs.Tree.{user_at}
 use Rattle.ion_value.specs.Writable.{IsText, AreBytes}
 use Rattle.ion_text_in.specs.Beginnings.{EndsIdentifier, NumbersEnd, IdentifiersEnd, WhatBegins, IsOneOf}
 use Rattle.ion_text_in.specs.Grammar.{IsVersionWord, bare}
-use Rattle.ion_text_in.specs.Meaning.{at, Means, EndsSymbol, Chars, quoted, NullTextIsRead, BoolTextIsRead, PlainSymbolIsRead, IdWordIsRead, IntTextIsRead, DecimalTextIsRead, TimestampTextIsRead, StringTextIsRead, QuotedSymbolIsRead, ClobTextIsRead, Base64IsRead}
+use Rattle.ion_text_in.specs.Meaning.{at, counts, Means, EndsSymbol, Chars, quoted, NullTextIsRead, BoolTextIsRead, PlainSymbolIsRead, IdWordIsRead, IntTextIsRead, DecimalTextIsRead, TimestampTextIsRead, StringTextIsRead, QuotedSymbolIsRead, ClobTextIsRead, Base64IsRead}
 use Rattle.ion_text_in.specs.Positions as positions
+use Rattle.ion_text_in.specs.Reading as reading
 use Rattle.ion_text_in.specs.Token.{First, a_run, a_word, a_quoted, a_short, a_long, a_lob, an_operator, an_infinity, a_begin, an_end, a_comma, a_colon, two_colons, no_token, first_at, Token, plain, name, text, colon, colons, token_of, token_at}
 use Rattle.ion_text_in.proofs.NumberEnds.{one_of-is}
 use Rattle.ion_text_out.specs.Escape.{byte_text, between_quotes}
 use Rattle.ion_text_out.specs.Text.{symbol_text}
+use Rattle.ion_transcode.specs.ShownAgain.{SymbolFits, cost}
 use Rattle.ion_transcode.proofs.BehindValues.{got, same-token, is_start, starts, BehindSymbol, ends-identifier, no-quote}
 use Rattle.ion_transcode.proofs.Utf8Bytes.{utf8-bytes}
 use Rattle.ion_transcode.proofs.QuotedBytes.{Quotes, chars-are}
@@ -128,13 +132,18 @@ token-begins After bytes t is rest after = token-starts t 0 (bytes ++ rest) _ is
 
 -- ---- symbols
 
--- the text of a symbol is a symbol's token, which is that symbol under every table
+-- the text of a symbol is a symbol's token, which is that symbol under every table, costs what the symbol does, and counts no more
+-- than limits allow that the symbol fits
 pub record SymbolIs (s : UserSymbol) : Type 0 where
   pub quoted : Bool
   pub symbol : Symbol
   pub token : IsToken BehindSymbol (symbol_text s) (name quoted symbol)
   pub user : (t : Table) (place : ℕ) → user_at t (positions.at symbol place) ≡ s
   pub no_version : (k : Option Kind) (annotations : List SymbolAt) → IsVersionWord k annotations quoted symbol → ⊥
+  pub stands : SymbolStands system symbol
+  pub costs : (place : ℕ) → reading.cost (positions.at symbol place) ≡ cost s
+  pub counted : (limits : Limits) → 64 ≤ limits.scalar → SymbolFits limits s → (p : ℕ)
+      → counts (name quoted symbol) p (p + length (symbol_text s)) ≤ limits.scalar
 
 in-quotes : (s : List ℕ) → AreBytes s → Chars 39 false (flat_map (byte_text 39 256) s) s
 in-quotes s small = chars-are 39 false s Quotes.single small
@@ -166,6 +175,9 @@ known-by laws s utf8 small true is f e g = record {
   token = subst (λ (x : List ℕ). IsToken BehindSymbol x (name false (Text s))) (sym (g ∙ e)) (plain-token laws s is);
   user = λ t place. refl;
   no_version = λ k annotations v. version k annotations v;
+  stands = tt;
+  costs = λ place. refl;
+  counted = λ limits wide fits p. let same = ap (λ (xs : List ℕ). length xs) (g ∙ e) in omega (arith, fits, same);
 }
   where
     version : (k : Option Kind) (annotations : List SymbolAt) → IsVersionWord k annotations false (Text s) → ⊥
@@ -176,6 +188,9 @@ known-by laws s utf8 small false is f e g = record {
   token = subst (λ (x : List ℕ). IsToken BehindSymbol x (name true (Text s))) (sym (g ∙ e)) (quoted-token laws s utf8 small);
   user = λ t place. refl;
   no_version = λ k annotations v. no-quoted-version k annotations (Text s) v;
+  stands = tt;
+  costs = λ place. refl;
+  counted = λ limits wide fits p. fits;
 }
 
 known-is : TextLaws → (s : List ℕ) → IsUtf8 s → AreBytes s → SymbolIs (Known s)
@@ -190,6 +205,9 @@ unknown-is laws = record {
       (laws.ids (codes "$0") refl);
   user = λ t place. refl;
   no_version = λ k annotations v. none k annotations v;
+  stands = tt;
+  costs = λ place. refl;
+  counted = λ limits wide fits p. omega (arith, wide);
 }
   where
     none : (k : Option Kind) (annotations : List SymbolAt) → IsVersionWord k annotations false (Id 0) → ⊥

@@ -1,30 +1,38 @@
--- The canonical text of values is a stream of text of which they are the user values.
-use Rattle.std.proofs.Common.{◌≡◌, ℕ, suc, Bool, true, false, nat_eq, if◌then◌else◌, List, [], ◌∷◌, ◌++◌, map, codes, Option, None, Some, option_map, Ok, refl, ap, ap₂, sym, ◌∙◌, subst, append_assoc, append-nil, arith}
+-- The canonical text of values is a stream of text of which they are the user values, and limits under which they fit allow it.
+use Rattle.std.proofs.Common.{◌≡◌, ℕ, suc, ◌≤◌, Bool, true, false, nat_eq, if◌then◌else◌, List, [], ◌∷◌, ◌++◌, map, codes, Option, None, Some, option_map, Ok, refl, ap, ap₂, sym, ◌∙◌, subst, append_assoc, append-nil, arith}
 use Rattle.std.specs.Bool.{⊤}
+use Rattle.std.specs.List.{AllByRecursion}
 use Rattle.std.proofs.lemmas.Bool.Decides.{nat_tests}
 use Rattle.std.proofs.lemmas.List.{map-append}
 use Rattle.std.proofs.lemmas.Iterator.Adapters.{option_map_id}
+use Rattle.ion_meter.specs.declared.limits.Limits.{Limits}
 use Rattle.ion_meter.specs.Sources.{Cursor}
 use Rattle.ion_value.specs.declared.ion_type.Kind.TheVariants as kind
 use Rattle.ion_value.specs.Items.{named, text_or_id}
 use Rattle.ion_value.specs.Value as value
 use Rattle.ion_value.specs.Value.{Symbol, Text, Id, SymbolAt, UserSymbol, Known, Unknown, user_symbol, Scalar, Value, Members, scalar, container, Top, version, tree, map_scalar, map_value, map_members, no_place, unplaced_top}
 use Rattle.ion_symbols.specs.Declaration.{word_by_id, word_in}
+use Rattle.ion_symbols.specs.Laws.{Stands, ValueStands}
+use Rattle.ion_symbols.specs.Resolved.{AreResolved}
 use Rattle.ion_symbols.specs.Table.{Shared, Table, system, text_at, word_of}
 use Rattle.ion_symbols.specs.Tree.{declares_table, user_at, user_tops}
 use Rattle.ion_symbols.specs.Users.{is_declaration}
 use Rattle.ion_symbols.specs.UserValues.{is_declaring, AreUsers}
 use Rattle.ion_text_in.specs.Blanks.{blanks}
-use Rattle.ion_text_in.specs.Grammar.{Tops, start_of}
+use Rattle.ion_text_in.specs.Grammar.{Tops, Stream, start_of}
+use Rattle.ion_text_in.specs.Laws.{StreamsWithinAreRead}
 use Rattle.ion_text_in.specs.Meaning.{at}
 use Rattle.ion_text_in.specs.Positions.{first_place}
+use Rattle.ion_text_in.specs.Within.{TopsWithin}
 use Rattle.ion_text_out.specs.Text.{value_text, text}
 use Rattle.ion_transcode.specs.declared.to.Form.TheVariants as form
 use Rattle.ion_transcode.specs.Forms.{form_of, form_by}
 use Rattle.ion_transcode.specs.RoundTrip.{TextIsRead}
+use Rattle.ion_transcode.specs.ShownAgain.{FitsText, TextIsReadWithin}
 use Rattle.ion_transcode.proofs.BehindValues.{is_start, starts, Behind, no-blanks, one-line, one-space}
 use Rattle.ion_transcode.proofs.TokensInText.{Gap, no_gap, a_line}
 use Rattle.ion_transcode.proofs.SymbolTokens.{TextLaws}
+use Rattle.ion_transcode.proofs.Utf8Bytes.{all-left, all-right}
 use Rattle.ion_transcode.proofs.ValuesAreSpelled.{annotations_text, seen, seen_members, unplaced, unplaced_members, value-read, top-starts, same_member, id-map}
 
 -- ---- a user value is not read as a declaration
@@ -85,6 +93,9 @@ record Sofar (catalog : List Shared) (start : Cursor) (done : List (Top UserSymb
   leads : (more : List (Top SymbolAt ℕ))
       → user_tops catalog system (raw ++ more) ≡ option_map (λ vs. users ++ vs) (user_tops catalog system more)
   same : map unplaced_top users ≡ map unplaced_top done
+  resolved : (limit : ℕ) (more : List (Top SymbolAt ℕ)) → AreResolved catalog limit system more
+      → AreResolved catalog limit system (raw ++ more)
+  within : (limits : Limits) → 64 ≤ limits.scalar → AllByRecursion (FitsText limits) done → TopsWithin limits spells
 
 line-join : (a b rest : List ℕ) → (a ++ (b ++ codes "\n")) ++ rest ≡ a ++ (b ++ (10 ∷ rest))
 line-join a b rest = append_assoc a (b ++ codes "\n") rest ∙ ap (λ (xs : List ℕ). a ++ xs) (append_assoc b (codes "\n") rest)
@@ -109,6 +120,11 @@ leads-value : (catalog : List Shared) (t : Table) (p h : ℕ) (own : List Symbol
     (more : List (Top SymbolAt ℕ)) → declares_table t own raw ≡ None
     → user_tops catalog t (tree p own h raw ∷ more) ≡ option_map (λ us. as_user t p own h raw ∷ us) (user_tops catalog t more)
 leads-value catalog t p h own raw more none = rw (none, user_tops) refl
+
+resolved-value : (catalog : List Shared) (limit : ℕ) (t : Table) (p h : ℕ) (own : List SymbolAt) (raw : Value SymbolAt ℕ)
+    (more : List (Top SymbolAt ℕ)) → declares_table t own raw ≡ None → AllByRecursion (Stands t) own → ValueStands t raw
+    → AreResolved catalog limit t more → AreResolved catalog limit t (tree p own h raw ∷ more)
+resolved-value catalog limit t p h own raw more none notes value others = rw (none, AreResolved) (notes, value, others)
 
 scalar-then : (f : SymbolAt → UserSymbol) (v : Scalar SymbolAt)
     → map_scalar (λ (s : UserSymbol). s) (map_scalar f v) ≡ map_scalar f v
@@ -165,6 +181,14 @@ one-more laws catalog start done first place annotations x rest users begins s =
       same = map-append unplaced_top s.users (user ∷ [])
           ∙ (ap₂ (λ (l : List (Top UserSymbol ⊤)) (u : Top UserSymbol ⊤). l ++ u ∷ []) s.same same
           ∙ sym (map-append unplaced_top done (tree first annotations place x ∷ [])));
+      resolved = λ limit more are.
+          let here = resolved-value catalog limit system p v.place v.own v.raw more none v.annotations_stand v.value_stands are in
+          subst (λ (l : List (Top SymbolAt ℕ)). AreResolved catalog limit system l) (sym (append_assoc s.raw (top ∷ []) more))
+          (s.resolved limit (top ∷ more) here);
+      within = λ limits wide fits.
+          let others = all-left (FitsText limits) done (tree first annotations place x ∷ []) fits in
+          let last = all-right (FitsText limits) done (tree first annotations place x ∷ []) fits in
+          (s.within limits wide others, v.within limits 0 wide last.0.0 last.0.1);
     }
 
 all-tops : TextLaws → (catalog : List Shared) (start : Cursor) (done tops : List (Top UserSymbol ℕ)) → AreUsers tops
@@ -212,10 +236,23 @@ nothing-yet catalog bytes = record {
   spells = Tops.nothing;
   leads = λ more. sym (option_map_id (user_tops catalog system more));
   same = refl;
+  resolved = λ limit more are. are;
+  within = λ limits wide fits. tt;
 }
 
-pub text-is-read : TextLaws → TextIsRead
-text-is-read laws catalog tops users =
+-- the canonical text of values, all of whose symbols are resolved, and that is within limits under which the values fit
+record TextSpells (catalog : List Shared) (tops : List (Top UserSymbol ℕ)) : Type 0 where
+  raw : List (Top SymbolAt ℕ)
+  users : List (Top UserSymbol ℕ)
+  form : form_of (text tops) ≡ form.Text
+  stream : Stream (text tops) raw
+  users_are : user_tops catalog system raw ≡ Some users
+  same : map unplaced_top users ≡ map unplaced_top tops
+  resolved : (limit : ℕ) → AreResolved catalog limit system raw
+  within : (limits : Limits) → 64 ≤ limits.scalar → AllByRecursion (FitsText limits) tops → TopsWithin limits stream.spells
+
+text-spells : TextLaws → (catalog : List Shared) (tops : List (Top UserSymbol ℕ)) → AreUsers tops → TextSpells catalog tops
+text-spells laws catalog tops users =
     let r = all-tops laws catalog (start_of (text tops)) [] tops users (nothing-yet catalog (text tops)) in
     let e = ends-there r.gap r.is_gap r.place in
     record {
@@ -231,4 +268,25 @@ text-is-read laws catalog tops users =
       };
       users_are = ap (user_tops catalog system) (sym (append-nil r.raw)) ∙ r.leads [];
       same = ap (map unplaced_top) (append-nil r.users) ∙ r.same;
+      resolved = λ limit.
+          subst (λ (l : List (Top SymbolAt ℕ)). AreResolved catalog limit system l) (append-nil r.raw) (r.resolved limit [] tt);
+      within = r.within;
+    }
+
+pub text-is-read : TextLaws → TextIsRead
+text-is-read laws catalog tops users =
+    let r = text-spells laws catalog tops users in
+    record { raw = r.raw; users = r.users; form = r.form; stream = r.stream; users_are = r.users_are; same = r.same }
+
+pub text-is-read-within : TextLaws → StreamsWithinAreRead → TextIsReadWithin
+text-is-read-within laws within_are_read catalog limits tops wide users fits =
+    let r = text-spells laws catalog tops users in
+    record {
+      raw = r.raw;
+      users = r.users;
+      form = r.form;
+      read = within_are_read limits (text tops) r.raw r.stream (r.within limits wide fits);
+      resolved = r.resolved limits.symbols;
+      users_are = r.users_are;
+      same = r.same;
     }

@@ -1,27 +1,33 @@
 -- The text of a value is spelled by the grammar of text, as the value.
-use Rattle.std.proofs.Common.{◌≡◌, ℕ, Bool, true, false, ◌==◌, List, [], ◌∷◌, ◌++◌, map, codes, Option, None, Some, option_map, is_some, refl, ap, ap₂, sym, ◌∙◌, subst, append_assoc, append-nil}
+use Rattle.std.proofs.Common.{◌≡◌, ℕ, suc, ◌+◌, ◌≤◌, Bool, true, false, ◌==◌, List, [], ◌∷◌, ◌++◌, length, map, sum_by, codes, Option, None, Some, option_map, is_some, refl, ap, ap₂, sym, ◌∙◌, subst, arith, append_assoc, append-nil}
 use Rattle.std.specs.List.{AllByRecursion, flat_map}
 use Rattle.std.specs.Bool.{⊤}
 use Rattle.std.proofs.lemmas.Bool.{false≢true, true≢false}
 use Rattle.std.proofs.lemmas.Iterator.Adapters.{option_map_id}
+use Rattle.std.proofs.lemmas.List.Sums.{sum_by-cons}
+use Rattle.ion_meter.specs.declared.limits.Limits.{Limits}
 use Rattle.ion_meter.specs.Sources.{Cursor}
 use Rattle.ion_value.specs.declared.ion_type.Kind.{Kind}
 use Rattle.ion_value.specs.declared.ion_type.Kind.TheVariants as kind
 use Rattle.ion_value.specs.Digits.{first_is}
 use Rattle.ion_value.specs.Standing.{in_struct}
 use Rattle.ion_value.specs.Value as value
-use Rattle.ion_value.specs.Value.{SymbolAt, UserSymbol, Scalar, Value, Members, scalar, container, nothing, member, map_scalar, map_value, map_members, no_place}
-use Rattle.ion_symbols.specs.Table.{Table}
+use Rattle.ion_value.specs.Value.{SymbolAt, UserSymbol, Known, Unknown, Scalar, Value, Members, scalar, container, nothing, member, map_scalar, map_value, map_members, no_place}
+use Rattle.ion_symbols.specs.Laws as symbols
+use Rattle.ion_symbols.specs.Table.{Table, system}
 use Rattle.ion_symbols.specs.Tree.{user_at}
 use Rattle.ion_value.specs.Writable.{value_symbols, members_symbols, field_symbols, scalar_symbols, IsText, IsWritable, AreWritable, ValueHasBytes, MembersHaveBytes}
 use Rattle.ion_text_in.specs.Grammar.{Tok, Annotations, Field, Txt, Inside}
 use Rattle.ion_text_in.specs.Meaning.{at}
 use Rattle.ion_text_in.specs.Positions as positions
 use Rattle.ion_text_in.specs.Positions.{is_sexp, in_sexp, has_commas}
+use Rattle.ion_text_in.specs.Reading as reading
 use Rattle.ion_text_in.specs.Token.{Token, plain, name, text}
+use Rattle.ion_text_in.specs.Within.{NamesWithin, AnnotationsWithin, FieldWithin, TxtWithin, InsideWithin}
 use Rattle.ion_text_out.specs.Text.{symbol_text, scalar_text, field_text, annotation_text, opener, closer, before_next, is_empty, value_text, members_text}
+use Rattle.ion_transcode.specs.ShownAgain.{SymbolFits, ScalarFits, cost, AnnotationsFit, FieldFits, ValueFits, MembersFit}
 use Rattle.ion_transcode.proofs.BehindValues.{starts, Behind, BehindSymbol, no-colons}
-use Rattle.ion_transcode.proofs.TokensInText.{Gap, no_gap, a_space, stands, comma-stands, colons-stand, colon-stands, end-stands, begin-stands, opener-starts, Opens, no-brace}
+use Rattle.ion_transcode.proofs.TokensInText.{Gap, no_gap, a_space, counts-there, stands, comma-stands, colons-stand, colon-stands, end-stands, begin-stands, opener-starts, Opens, no-brace}
 use Rattle.ion_transcode.proofs.SymbolTokens.{TextLaws, token-begins, symbol-is}
 use Rattle.ion_transcode.proofs.ScalarTokens.{ScalarIs, a_plain, a_string, a_symbol, scalar-is}
 use Rattle.ion_transcode.proofs.Utf8Bytes.{all-left, all-right}
@@ -62,14 +68,43 @@ own-members f annotations j ms last h = all-right IsText (field_symbols f ++ (an
 abbrev pub annotations_text : List UserSymbol → List ℕ
 annotations_text ss = flat_map annotation_text ss
 
+-- annotations that are within limits, where these allow that they fit
+record NamesRead (Fit : Limits → Type 0) (sexp : Bool) (c : Cursor) (own : List SymbolAt) (d : Cursor) : Type 0 where
+  spells : Annotations sexp c own d
+  within : (limits : Limits) → Fit limits → NamesWithin limits spells
+
+no-names : (Fit : Limits → Type 0) (sexp : Bool) (c : Cursor) → NamesRead Fit sexp c [] c
+no-names Fit sexp c = record { spells = Annotations.nothing; within = λ limits fits. tt }
+
+-- the limit on scalars is 64 or more, and each of these symbols fits
+abbrev EachFits : Limits → List UserSymbol → Type 0
+EachFits limits ss = (64 ≤ limits.scalar) × AllByRecursion (SymbolFits limits) ss
+
+-- so it is where together they cost no more than the limit
+each-fits : (limits : Limits) (ss : List UserSymbol) → sum_by cost ss ≤ limits.scalar → AllByRecursion (SymbolFits limits) ss
+each-fits limits [] fit = tt
+each-fits limits (Known t ∷ ss) fit =
+    let all = sum_by-cons cost (Known t) ss in
+    (omega (arith, fit, all), each-fits limits ss (omega (arith, fit, all)))
+each-fits limits (Unknown ∷ ss) fit = (tt, each-fits limits ss (omega (arith, fit, sum_by-cons cost Unknown ss)))
+
+abbrev NotesFit : List UserSymbol → Limits → Type 0
+NotesFit ss limits = (64 ≤ limits.scalar) × AnnotationsFit limits ss
+
+notes-fit : (ss : List UserSymbol) (limits : Limits) → NotesFit ss limits → EachFits limits ss
+notes-fit ss limits fits = (fits.0, each-fits limits ss fits.1)
+
 -- annotations behind others, and what stands between them and what follows
-record AnnotationsRead (sexp : Bool) (c : Cursor) (done : List SymbolAt) (ss : List UserSymbol) (rest : List ℕ) : Type 0 where
+record AnnotationsRead (Fit : Limits → Type 0) (sexp : Bool) (c : Cursor) (done : List SymbolAt) (ss : List UserSymbol) (rest : List ℕ)
+    : Type 0 where
   own : List SymbolAt
   gap : List ℕ
   is_gap : Gap gap
   place : ℕ
-  spells : Annotations sexp c (done ++ own) (at place (gap ++ rest))
+  names : NamesRead Fit sexp c (done ++ own) (at place (gap ++ rest))
   are : (t : Table) → map (user_at t) own ≡ ss
+  stand : AllByRecursion (symbols.Stands system) own
+  costs : sum_by reading.cost own ≡ sum_by cost ss
 
 annotation-join : (s : UserSymbol) (ss : List UserSymbol) (gap rest : List ℕ)
     → gap ++ (annotations_text (s ∷ ss) ++ rest) ≡ gap ++ (symbol_text s ++ (58 ∷ 58 ∷ (annotations_text ss ++ rest)))
@@ -78,43 +113,60 @@ annotation-join s ss gap rest =
     let second = append_assoc (symbol_text s) (codes "::") (annotations_text ss ++ rest) in
     ap (λ (xs : List ℕ). gap ++ xs) (first ∙ second)
 
-annotations-read : TextLaws → (sexp : Bool) (c : Cursor) (done : List SymbolAt) (ss : List UserSymbol) → Texts ss
-    → (gap : List ℕ) → Gap gap → (p : ℕ) (rest : List ℕ) → Annotations sexp c done (at p (gap ++ (annotations_text ss ++ rest)))
-    → AnnotationsRead sexp c done ss rest
-annotations-read laws sexp c done [] texts gap g p rest prev = record {
+annotations-read : TextLaws → (Fit : Limits → Type 0) (sexp : Bool) (c : Cursor) (done : List SymbolAt) (ss : List UserSymbol)
+    → Texts ss → ((limits : Limits) → Fit limits → EachFits limits ss) → (gap : List ℕ) → Gap gap → (p : ℕ) (rest : List ℕ)
+    → NamesRead Fit sexp c done (at p (gap ++ (annotations_text ss ++ rest))) → AnnotationsRead Fit sexp c done ss rest
+annotations-read laws Fit sexp c done [] texts fits gap g p rest prev = record {
   own = [];
   gap = gap;
   is_gap = g;
   place = p;
-  spells = subst (λ (l : List SymbolAt). Annotations sexp c l (at p (gap ++ rest))) (sym (append-nil done)) prev;
+  names = subst (λ (l : List SymbolAt). NamesRead Fit sexp c l (at p (gap ++ rest))) (sym (append-nil done)) prev;
   are = λ t. refl;
+  stand = tt;
+  costs = refl;
 }
-annotations-read laws sexp c done (s ∷ ss) texts gap g p rest prev =
+annotations-read laws Fit sexp c done (s ∷ ss) texts fits gap g p rest prev =
     let more : List ℕ = annotations_text ss ++ rest in
     let is = symbol-is laws s texts.0 in
     let colons : BehindSymbol (58 ∷ 58 ∷ more) = BehindSymbol.at_colon in
     let word = stands BehindSymbol (symbol_text s) (name is.quoted is.symbol) is.token sexp gap g p (58 ∷ 58 ∷ more) colons in
     let two = colons-stand sexp word.behind more in
-    let moved : Annotations sexp c done (at p (gap ++ (symbol_text s ++ (58 ∷ 58 ∷ more)))) =
-    subst (λ (xs : List ℕ). Annotations sexp c done (at p xs)) (annotation-join s ss gap rest) prev in
+    let moved : NamesRead Fit sexp c done (at p (gap ++ (symbol_text s ++ (58 ∷ 58 ∷ more)))) =
+    subst (λ (xs : List ℕ). NamesRead Fit sexp c done (at p xs)) (annotation-join s ss gap rest) prev in
     let own : SymbolAt = positions.at is.symbol word.first in
-    let then : Annotations sexp c (done ++ own ∷ []) (at two.behind more) = Annotations.then moved word.tok two.tok in
-    let next = annotations-read laws sexp c (done ++ own ∷ []) ss texts.1 [] no_gap two.behind rest then in
+    let then : NamesRead Fit sexp c (done ++ own ∷ []) (at two.behind more) = record {
+      spells = Annotations.then moved.spells word.tok two.tok;
+      within = λ limits fit.
+          let each = fits limits fit in
+          (moved.within limits fit, counts-there word limits.scalar (is.counted limits each.0 each.1.0));
+    } in
+    let others : (limits : Limits) → Fit limits → EachFits limits ss = λ limits fit. ((fits limits fit).0, (fits limits fit).1.1) in
+    let next = annotations-read laws Fit sexp c (done ++ own ∷ []) ss texts.1 others [] no_gap two.behind rest then in
     record {
       own = own ∷ next.own;
       gap = next.gap;
       is_gap = next.is_gap;
       place = next.place;
-      spells = subst (λ (l : List SymbolAt). Annotations sexp c l (at next.place (next.gap ++ rest)))
-          (append_assoc done (own ∷ []) next.own) next.spells;
+      names = subst (λ (l : List SymbolAt). NamesRead Fit sexp c l (at next.place (next.gap ++ rest)))
+          (append_assoc done (own ∷ []) next.own) next.names;
       are = λ t. ap₂ (λ (x : UserSymbol) (l : List UserSymbol). x ∷ l) (is.user t word.first) (next.are t);
+      stand = (is.stands, next.stand);
+      costs = sum_by-cons reading.cost own next.own
+          ∙ (ap₂ (λ (m n : ℕ). m + n) (is.costs word.first) next.costs ∙ sym (sum_by-cons cost s ss));
     }
+
+-- the annotations of a value, with what they cost
+notes-within : (limits : Limits) (ss : List UserSymbol) (sexp : Bool) (c : Cursor) (own : List SymbolAt) (d : Cursor)
+    (names : NamesRead (NotesFit ss) sexp c own d) → sum_by reading.cost own ≡ sum_by cost ss → 64 ≤ limits.scalar
+    → AnnotationsFit limits ss → AnnotationsWithin limits names.spells
+notes-within limits ss sexp c own d names costs wide fit = (omega (arith, costs, fit), names.within limits (wide, fit))
 
 -- ---- what a value begins with
 
 scalar-starts : (body : Scalar UserSymbol) → ScalarIs body → (rest : List ℕ) → Behind rest
     → starts (scalar_text body ++ rest) ≡ true
-scalar-starts body (a_plain raw is same) rest behind = token-begins Behind _ _ is rest behind
+scalar-starts body (a_plain raw is same stand counted) rest behind = token-begins Behind _ _ is rest behind
 scalar-starts _ (a_string bytes is) rest behind = token-begins Behind _ _ is rest behind
 scalar-starts _ (a_symbol s is) rest behind = token-begins BehindSymbol _ _ is.token rest (BehindSymbol.of_value behind)
 
@@ -170,17 +222,28 @@ pub record ValueRead (k : Option Kind) (c : Cursor) (notes : List UserSymbol) (x
   pub spells : Txt k c own place raw (at behind rest)
   pub annotations_are : (t : Table) → map (user_at t) own ≡ notes
   pub value_is : (t : Table) → seen t raw ≡ unplaced x
+  pub annotations_stand : AllByRecursion (symbols.Stands system) own
+  pub value_stands : symbols.ValueStands system raw
+  pub within : (limits : Limits) (depth : ℕ) → 64 ≤ limits.scalar → AnnotationsFit limits notes → ValueFits limits depth x
+      → TxtWithin limits depth spells
 
 -- whether a separator is due behind members
 abbrev full_of : Kind → Members UserSymbol ℕ → Bool
 full_of k nothing = false
 full_of k (member before f annotations place x) = has_commas (Some k)
 
+-- members are within limits, where these allow that they fit
+abbrev Allowed : {k : Kind} {c d : Cursor} {raw : Members SymbolAt ℕ} {full : Bool} → Members UserSymbol ℕ → Inside k c raw full d → Type 0
+Allowed ms spells =
+    (limits : Limits) (depth : ℕ) → 64 ≤ limits.scalar → MembersFit limits depth ms → InsideWithin limits depth spells
+
 record MembersRead (k : Kind) (c : Cursor) (ms : Members UserSymbol ℕ) (full : Bool) (rest : List ℕ) : Type 0 where
   raw : Members SymbolAt ℕ
   behind : ℕ
   spells : Inside k c raw full (at behind rest)
   are : (t : Table) → seen_members t raw ≡ unplaced_members ms
+  stand : symbols.MembersStand system raw
+  within : Allowed ms spells
 
 -- behind members and what separates them from the next
 record Opened (k : Kind) (c : Cursor) (ms : Members UserSymbol ℕ) (rest : List ℕ) : Type 0 where
@@ -190,22 +253,46 @@ record Opened (k : Kind) (c : Cursor) (ms : Members UserSymbol ℕ) (rest : List
   place : ℕ
   spells : Inside k c raw false (at place (gap ++ rest))
   are : (t : Table) → seen_members t raw ≡ unplaced_members ms
+  stand : symbols.MembersStand system raw
+  within : Allowed ms spells
 
-behind-comma : (k : Kind) (c : Cursor) (raw : Members SymbolAt ℕ) (tail : List ℕ) (ms : Members UserSymbol ℕ) (p : ℕ)
-    → Inside k c raw true (at p (44 ∷ tail)) → ((t : Table) → seen_members t raw ≡ unplaced_members ms) → Opened k c ms tail
-behind-comma k c raw tail ms p spells are =
-    let comma = comma-stands (is_sexp k) p tail in
-    record { raw = raw; gap = []; is_gap = no_gap; place = comma.behind; spells = Inside.with_comma spells comma.tok; are = are }
+behind-comma : (k : Kind) (c : Cursor) (tail : List ℕ) (ms : Members UserSymbol ℕ) → MembersRead k c ms true (44 ∷ tail)
+    → Opened k c ms tail
+behind-comma k c tail ms r =
+    let comma = comma-stands (is_sexp k) r.behind tail in
+    record {
+      raw = r.raw;
+      gap = [];
+      is_gap = no_gap;
+      place = comma.behind;
+      spells = Inside.with_comma r.spells comma.tok;
+      are = r.are;
+      stand = r.stand;
+      within = r.within;
+    }
+
+behind-other : (k : Kind) (c : Cursor) (gap tail : List ℕ) (ms : Members UserSymbol ℕ) → Gap gap
+    → MembersRead k c ms false (gap ++ tail) → Opened k c ms tail
+behind-other k c gap tail ms g r = record {
+  raw = r.raw;
+  gap = gap;
+  is_gap = g;
+  place = r.behind;
+  spells = r.spells;
+  are = r.are;
+  stand = r.stand;
+  within = r.within;
+}
 
 opened : (k : Kind) (c : Cursor) (before : Members UserSymbol ℕ) (tail : List ℕ)
     → MembersRead k c before (full_of k before) (before_next k (is_empty before) ++ tail) → Opened k c before tail
-opened k c nothing tail r = record { raw = r.raw; gap = []; is_gap = no_gap; place = r.behind; spells = r.spells; are = r.are }
+opened k c nothing tail r = behind-other k c [] tail nothing no_gap r
 opened kind.List c (member before f annotations place x) tail r =
-    behind-comma kind.List c r.raw tail _ r.behind r.spells r.are
+    behind-comma kind.List c tail (member before f annotations place x) r
 opened kind.Struct c (member before f annotations place x) tail r =
-    behind-comma kind.Struct c r.raw tail _ r.behind r.spells r.are
+    behind-comma kind.Struct c tail (member before f annotations place x) r
 opened kind.Sexp c (member before f annotations place x) tail r =
-    record { raw = r.raw; gap = 32 ∷ []; is_gap = a_space; place = r.behind; spells = r.spells; are = r.are }
+    behind-other kind.Sexp c (32 ∷ []) tail (member before f annotations place x) a_space r
 
 next-behind : (k : Kind) (before : Members UserSymbol ℕ) (tail : List ℕ) → starts tail ≡ true → is_empty before ≡ false
     → Behind (before_next k (is_empty before) ++ tail)
@@ -223,14 +310,34 @@ record FieldRead (k : Kind) (c : Cursor) (f : Option UserSymbol) (rest : List �
   place : ℕ
   spells : Field (Some k) c own (at place (gap ++ rest))
   is : (t : Table) → option_map (user_at t) own ≡ f
+  stands : symbols.FieldStands system own
+  within : (limits : Limits) → 64 ≤ limits.scalar → FieldFits limits f → FieldWithin limits spells
 
 field-read : TextLaws → (k : Kind) (f : Option UserSymbol) → Texts (field_symbols f) → is_some f ≡ in_struct (k ∷ [])
     → (gap : List ℕ) → Gap gap → (p : ℕ) (rest : List ℕ) → starts rest ≡ true
     → FieldRead k (at p (gap ++ (field_text f ++ rest))) f rest
 field-read laws kind.List None texts e gap g p rest s =
-    record { own = None; gap = gap; is_gap = g; place = p; spells = Field.in_list; is = λ t. refl }
+    record {
+      own = None;
+      gap = gap;
+      is_gap = g;
+      place = p;
+      spells = Field.in_list;
+      is = λ t. refl;
+      stands = tt;
+      within = λ limits wide fits. tt;
+    }
 field-read laws kind.Sexp None texts e gap g p rest s =
-    record { own = None; gap = gap; is_gap = g; place = p; spells = Field.in_a_sexp; is = λ t. refl }
+    record {
+      own = None;
+      gap = gap;
+      is_gap = g;
+      place = p;
+      spells = Field.in_a_sexp;
+      is = λ t. refl;
+      stands = tt;
+      within = λ limits wide fits. tt;
+    }
 field-read laws kind.Struct None texts e gap g p rest s = absurd (false≢true e)
 field-read laws kind.List (Some f) texts e gap g p rest s = absurd (true≢false e)
 field-read laws kind.Sexp (Some f) texts e gap g p rest s = absurd (true≢false e)
@@ -249,6 +356,8 @@ field-read laws kind.Struct (Some f) texts e gap g p rest s =
       place = colon.behind;
       spells = Field.named moved colon.tok;
       is = λ t. ap (λ (x : UserSymbol). Some x) (is.user t word.first);
+      stands = is.stands;
+      within = λ limits wide fits. counts-there word limits.scalar (is.counted limits wide fits);
     }
 
 -- ---- braces
@@ -293,22 +402,42 @@ closer-behind kind.Struct rest = Behind.at_struct_end
 
 -- ---- scalars
 
-record ScalarRead (k : Option Kind) (c : Cursor) (own : List SymbolAt) (body : Scalar UserSymbol) (rest : List ℕ) : Type 0 where
+record ScalarRead (k : Option Kind) (c : Cursor) (own : List SymbolAt) (d : Cursor) (notes : Annotations (in_sexp k) c own d)
+    (body : Scalar UserSymbol) (rest : List ℕ) : Type 0 where
   place : ℕ
   raw : Scalar SymbolAt
   behind : ℕ
   spells : Txt k c own place (scalar raw) (at behind rest)
   is : (t : Table) → map_scalar (user_at t) raw ≡ body
+  stands : symbols.ScalarStands system raw
+  within : (limits : Limits) (depth : ℕ) → 64 ≤ limits.scalar → AnnotationsWithin limits notes → ScalarFits limits body
+      → TxtWithin limits depth spells
 
 scalar-read : TextLaws → (k : Option Kind) (c : Cursor) (own : List SymbolAt) (gap : List ℕ) → Gap gap → (p : ℕ)
-    (body : Scalar UserSymbol) (rest : List ℕ) → Annotations (in_sexp k) c own (at p (gap ++ (scalar_text body ++ rest)))
-    → Behind rest → ScalarIs body → ScalarRead k c own body rest
-scalar-read laws k c own gap g p body rest prev behind (a_plain raw is same) =
+    (body : Scalar UserSymbol) (rest : List ℕ) (prev : Annotations (in_sexp k) c own (at p (gap ++ (scalar_text body ++ rest))))
+    → Behind rest → ScalarIs body → ScalarRead k c own (at p (gap ++ (scalar_text body ++ rest))) prev body rest
+scalar-read laws k c own gap g p body rest prev behind (a_plain raw is same stand counted) =
     let w = stands Behind (scalar_text body) (plain raw) is (in_sexp k) gap g p rest behind in
-    record { place = w.first; raw = raw; behind = w.behind; spells = Txt.of_plain prev w.tok; is = same }
+    record {
+      place = w.first;
+      raw = raw;
+      behind = w.behind;
+      spells = Txt.of_plain prev w.tok;
+      is = same;
+      stands = stand;
+      within = λ limits depth wide noted fits. (noted, counts-there w limits.scalar (counted limits wide fits));
+    }
 scalar-read laws k c own gap g p _ rest prev behind (a_string bytes is) =
     let w = stands Behind (scalar_text (value.string bytes)) (text bytes) is (in_sexp k) gap g p rest behind in
-    record { place = w.first; raw = value.string bytes; behind = w.behind; spells = Txt.of_text prev w.tok; is = λ t. refl }
+    record {
+      place = w.first;
+      raw = value.string bytes;
+      behind = w.behind;
+      spells = Txt.of_text prev w.tok;
+      is = λ t. refl;
+      stands = tt;
+      within = λ limits depth wide noted fits. (noted, fits);
+    }
 scalar-read laws k c own gap g p _ rest prev behind (a_symbol s is) =
     let token : Token = name is.quoted is.symbol in
     let ends : BehindSymbol rest = BehindSymbol.of_value behind in
@@ -319,6 +448,8 @@ scalar-read laws k c own gap g p _ rest prev behind (a_symbol s is) =
       behind = w.behind;
       spells = Txt.of_symbol prev w.tok (no-colons laws.begins (in_sexp k) w.behind rest behind) (is.no_version k own);
       is = λ t. ap (λ (x : UserSymbol). value.symbol x) (is.user t w.first);
+      stands = is.stands;
+      within = λ limits depth wide noted fits. (noted, counts-there w limits.scalar (is.counted limits wide fits));
     }
 
 -- ---- trees
@@ -357,9 +488,10 @@ mutual
       let sexp : Bool = in_sexp k in
       let c : Cursor = at p (gap ++ (annotations_text notes ++ (scalar_text body ++ rest))) in
       let noted = own-annotations f notes (scalar body) texts in
-      let a = annotations-read laws sexp c [] notes noted gap g p (scalar_text body ++ rest) Annotations.nothing in
+      let none = no-names (NotesFit notes) sexp c in
+      let a = annotations-read laws (NotesFit notes) sexp c [] notes noted (notes-fit notes) gap g p (scalar_text body ++ rest) none in
       let is = scalar-is laws body writable.0 writable.1 small (own-scalar f notes body texts) in
-      let w = scalar-read laws k c a.own a.gap a.is_gap a.place body rest a.spells behind is in
+      let w = scalar-read laws k c a.own a.gap a.is_gap a.place body rest a.names.spells behind is in
       record {
         own = a.own;
         place = w.place;
@@ -368,6 +500,10 @@ mutual
         spells = w.spells;
         annotations_are = a.are;
         value_is = λ t. ap (λ (v : Scalar UserSymbol). scalar v) (w.is t ∙ sym (id-scalar body));
+        annotations_stand = a.stand;
+        value_stands = w.stands;
+        within = λ limits depth wide few fits.
+            w.within limits depth wide (notes-within limits notes sexp c a.own _ a.names a.costs wide few) fits;
       }
   value-read laws k f notes (container j ms last) gap g p rest texts writable small behind =
       let sexp : Bool = in_sexp k in
@@ -375,9 +511,10 @@ mutual
       let inside : List ℕ = members_text j ms ++ (closer j ++ rest) in
       let c : Cursor = at p (gap ++ (annotations_text notes ++ all)) in
       let noted = own-annotations f notes (container j ms last) texts in
-      let a = annotations-read laws sexp c [] notes noted gap g p all Annotations.nothing in
-      let prev : Annotations sexp c a.own (at a.place (a.gap ++ (opener j ++ inside))) =
-      subst (λ (xs : List ℕ). Annotations sexp c a.own (at a.place (a.gap ++ xs))) (container-join j ms last rest) a.spells in
+      let none = no-names (NotesFit notes) sexp c in
+      let a = annotations-read laws (NotesFit notes) sexp c [] notes noted (notes-fit notes) gap g p all none in
+      let prev : NamesRead (NotesFit notes) sexp c a.own (at a.place (a.gap ++ (opener j ++ inside))) =
+      subst (λ (xs : List ℕ). NamesRead (NotesFit notes) sexp c a.own (at a.place (a.gap ++ xs))) (container-join j ms last rest) a.names in
       let own = own-members f notes j ms last texts in
       let b = begin-stands j sexp a.gap a.is_gap a.place inside (opens laws j ms own writable rest) in
       let m = members-read laws j ms b.behind (closer j ++ rest) own writable small (λ e. closer-behind j rest) in
@@ -387,16 +524,28 @@ mutual
         place = b.first;
         raw = container j m.raw e.first;
         behind = e.behind;
-        spells = Txt.of_members prev b.tok m.spells e.tok;
+        spells = Txt.of_members prev.spells b.tok m.spells e.tok;
         annotations_are = a.are;
         value_is = λ t. ap (λ (ns : Members UserSymbol ⊤). container j ns tt) (m.are t);
+        annotations_stand = a.stand;
+        value_stands = m.stand;
+        within = λ limits depth wide few fits.
+            let noted = notes-within limits notes sexp c a.own _ prev a.costs wide few in
+            (noted, (fits.0, m.within limits (suc depth) wide fits.1));
       }
 
   members-read : TextLaws → (k : Kind) (ms : Members UserSymbol ℕ) (p : ℕ) (rest : List ℕ) → Texts (members_symbols ms)
       → AreWritable k ms → MembersHaveBytes ms → (is_empty ms ≡ false → Behind rest)
       → MembersRead k (at p (members_text k ms ++ rest)) ms (full_of k ms) rest
   members-read laws k nothing p rest texts writable small behind =
-      record { raw = nothing; behind = p; spells = Inside.nothing; are = λ t. refl }
+      record {
+        raw = nothing;
+        behind = p;
+        spells = Inside.nothing;
+        are = λ t. refl;
+        stand = tt;
+        within = λ limits depth wide fits. tt;
+      }
   members-read laws k (member before f notes place x) p rest texts writable small behind =
       let others = all-left IsText (members_symbols before) (value_symbols f notes x) texts in
       let own = all-right IsText (members_symbols before) (value_symbols f notes x) texts in
@@ -420,6 +569,11 @@ mutual
         are = λ t.
             let field = fr.is t ∙ sym (option_map_id f) in
             same_member tt (o.are t) field (v.annotations_are t ∙ sym (id-map notes)) (v.value_is t);
+        stand = (o.stand, fr.stands, v.annotations_stand, v.value_stands);
+        within = λ limits depth wide fits. (
+          o.within limits depth wide fits.0,
+          (fr.within limits wide fits.1.0, v.within limits depth wide fits.1.1.0 fits.1.1.1),
+        );
       } in
       subst (λ (xs : List ℕ). MembersRead k (at p xs) (member before f notes place x) (has_commas (Some k)) rest)
       (sym (member-join (members_text k before) before_text (field_text f) (annotations_text notes) (value_text x) rest)) whole

@@ -12,4 +12,5 @@ pub mod Laws
 pub mod UserPaths
 pub mod RoundTrip
 pub mod Acceptance
+pub mod ShownAgain
 pub mod Calls

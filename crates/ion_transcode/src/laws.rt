@@ -4,6 +4,7 @@ ghost use Rattle.ion_transcode.specs.Catalogues.{CatalogVerdictsAreRead, Catalog
 ghost use Rattle.ion_transcode.specs.Forms.{binary_encoding, text_encoding};
 ghost use Rattle.ion_transcode.specs.Laws.{BinaryIsComplete, BinaryIsSound, OneSpelling, OneVerdict, SpellsOnce, StreamsAreRead, TextIsComplete, TextIsSound};
 ghost use Rattle.ion_transcode.specs.RoundTrip.{RoundTrip, ShowOnce, TextIsRead, ThereAndBack, ValuesOfStreams};
+ghost use Rattle.ion_transcode.specs.ShownAgain.{TextIsReadWithin, WhatIsShownIsAccepted};
 ghost use Rattle.ion_transcode.specs.UserPaths.{FaultlessPathsAreRead, RefusedOutputIsThatOfAPath};
 
 use ion_binary::laws as binary;
@@ -266,4 +267,38 @@ pub fn what_is_accepted_is_read()
     binary::items_are_refused_as_in_trees();
     binary::none_is_refused_within();
     text::one_stream();
+}
+
+/// The canonical text of values is read to its end under limits that the values fit, and its symbols
+/// are all resolved: of all values that a user of a stream can have.
+pub fn text_is_read_within()
+    ensures { TextIsReadWithin }
+{
+    text::what_ends_a_number();
+    text::what_ends_a_symbol();
+    text::what_begins_a_token();
+    text::null_text_is_read();
+    text::bool_text_is_read();
+    text::int_text_is_read();
+    text::decimal_text_is_read();
+    text::timestamp_text_is_read();
+    text::string_text_is_read();
+    text::quoted_symbol_is_read();
+    text::plain_symbol_is_read();
+    text::id_is_read();
+    text::clob_text_is_read();
+    text::base64_is_read();
+    text::what_is_within_limits_is_read();
+}
+
+/// What a run to text wrote is accepted, where its values fit the limits, and a run to text over it
+/// writes the same bytes.
+pub fn what_is_shown_is_accepted()
+    ensures { WhatIsShownIsAccepted }
+{
+    what_is_accepted_is_read();
+    one_spelling();
+    values_of_streams();
+    text_is_read_within();
+    what_is_read_is_accepted();
 }

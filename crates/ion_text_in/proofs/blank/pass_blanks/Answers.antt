@@ -4,7 +4,7 @@ use Rattle.ion_value.specs.Digits.{first_is}
 use Rattle.ion_text_in.specs.Blanks.{is_white, blanks}
 use Rattle.ion_text_in.proofs.BlankTurns.{found-other}
 use Rattle.ion_text_in.proofs.Runs.{ends-shown, first-shown, at-front}
-use Rattle.ion_text_in.proofs.ShownBlanks.{white-over}
+use Rattle.ion_text_in.proofs.BlankRuns.{white-over}
 use Rattle.ion_text_in.proofs.Turns.{turn, turn-then, turn-behind, extends-not}
 use Rattle.ion_text_in.proofs.blank.pass_blanks.Goals as goal
 

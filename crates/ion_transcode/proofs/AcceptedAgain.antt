@@ -1,0 +1,58 @@
+-- What was shown is accepted, where its values fit the limits, and shows the same.
+use Rattle.std.proofs.Common.{◌≡◌, ℕ, ◌≤◌, List, [], length, map, Option, Some, refl, ap, sym, ◌∙◌, subst, subst₂}
+use Rattle.ion_meter.specs.declared.limits.Limits.{Limits}
+use Rattle.ion_value.specs.Outcome.{Accepted}
+use Rattle.ion_value.specs.Path.{closed, path_items}
+use Rattle.ion_value.specs.Reading.{Finished, behind}
+use Rattle.ion_value.specs.Value.{SymbolAt, UserSymbol, Top, unplaced_top}
+use Rattle.ion_symbols.specs.Table.{Shared, system}
+use Rattle.ion_symbols.specs.Tree.{user_tops}
+use Rattle.ion_symbols.specs.UserValues.{AreUsers}
+use Rattle.ion_text_out.specs.Text.{text}
+use Rattle.ion_transcode.specs.declared.to.Form.{Form}
+use Rattle.ion_transcode.specs.declared.to.Form.TheVariants as form
+use Rattle.ion_transcode.specs.declared.to.Target.{Target}
+use Rattle.ion_transcode.specs.declared.to.Target.TheVariants as target
+use Rattle.ion_transcode.specs.declared.to.To.{To}
+use Rattle.ion_transcode.specs.declared.to.To.TheVariants as to
+use Rattle.ion_transcode.specs.Acceptance.{AreTaken, WhatIsReadIsAccepted, WhatIsAcceptedIsRead}
+use Rattle.ion_transcode.specs.Forms.{form_of, reading_of}
+use Rattle.ion_transcode.specs.Laws.{OneSpelling}
+use Rattle.ion_transcode.specs.Outputs.{outputs_of, resolved}
+use Rattle.ion_transcode.specs.RoundTrip.{ValuesOfStreams}
+use Rattle.ion_transcode.specs.ShownAgain.{IsReadWithin, TextIsReadWithin, WhatIsShownIsAccepted}
+use Rattle.ion_transcode.specs.Verdict.{HasVerdict}
+use Rattle.ion_transcode.proofs.ReadAgain.{same-length, some-same}
+use Rattle.ion_transcode.proofs.TextWithoutPlaces.{same-text}
+
+-- canonical text that is read to its end is accepted, whatever it is written as, and what is written does not look at places
+again : WhatIsReadIsAccepted → (catalog : List Shared) (limits : Limits) (us : List (Top UserSymbol ℕ)) (asked : To) (t : Target)
+    (out : List ℕ) → resolved form.Text asked ≡ Some t → ((vs : List (Top UserSymbol ℕ)) → AreTaken t limits vs)
+    → ((vs : List (Top UserSymbol ℕ)) → map unplaced_top vs ≡ map unplaced_top us → (outputs_of t limits).whole_output vs ≡ out)
+    → IsReadWithin catalog limits us → HasVerdict catalog limits asked (text us) (Accepted (length us)) out
+again accepted catalog limits us asked t out to_is taken written r =
+    let resolved_as = ap (λ (f : Form). resolved f asked) r.form ∙ to_is in
+    let read : reading_of (form_of (text us)) limits (text us) ≡ behind (path_items (closed r.raw)) Finished =
+    ap (λ (f : Form). reading_of f limits (text us)) r.form ∙ r.read in
+    subst₂ (λ (n : ℕ) (o : List ℕ). HasVerdict catalog limits asked (text us) (Accepted n) o) (same-length r.users us r.same)
+    (written r.users r.same)
+    (accepted catalog limits asked (text us) t r.raw r.users resolved_as read r.resolved r.users_are (taken r.users))
+
+pub what-is-shown-is-accepted : WhatIsAcceptedIsRead → OneSpelling → ValuesOfStreams → TextIsReadWithin → WhatIsReadIsAccepted
+    → WhatIsShownIsAccepted
+what-is-shown-is-accepted is_read one values within accepted catalog other limits wide asked bytes shown n tops us small texts to_is
+    verdict stream are least fits =
+    let f : Form = form_of bytes in
+    let a = is_read catalog limits asked bytes target.Text n shown to_is verdict in
+    let same : a.tops ≡ tops = (one f).stream bytes a.tops tops a.stream stream in
+    let found : a.us ≡ us = some-same a.us us (sym a.users_are ∙ (ap (user_tops catalog system) same ∙ are)) in
+    let users : AreUsers us = values f catalog bytes tops us small texts stream are in
+    let output : text us ≡ shown = sym (a.output ∙ ap (λ (vs : List (Top UserSymbol ℕ)). text vs) found) in
+    let count : length us ≡ n = sym (a.count ∙ ap (λ (vs : List (Top UserSymbol ℕ)). length vs) found) in
+    let r = within other wide us least users fits in
+    let as_text = again accepted other wide us to.Text target.Text (text us) refl (λ vs. tt) (λ vs e. same-text vs us e) r in
+    let as_nothing = again accepted other wide us to.Nothing target.Nothing [] refl (λ vs. tt) (λ vs e. refl) r in
+    (
+      subst₂ (λ (xs : List ℕ) (m : ℕ). HasVerdict other wide to.Text xs (Accepted m) xs) output count as_text,
+      subst₂ (λ (xs : List ℕ) (m : ℕ). HasVerdict other wide to.Nothing xs (Accepted m) []) output count as_nothing,
+    )

@@ -1,0 +1,108 @@
+-- What was shown is accepted again: which values limits allow in canonical text, by lengths and depth alone. Laws that contracts
+-- cite.
+use Rattle.std.specs.Prelude.{◌≡◌, ℕ, suc, ◌+◌, ◌<◌, ◌≤◌, List, [], length, map, sum_by, Option, Some, None, ⊤}
+use Rattle.std.specs.List.{AllByRecursion}
+use Rattle.ion_meter.specs.declared.limits.Limits.{Limits}
+use Rattle.ion_value.specs.Outcome.{Accepted}
+use Rattle.ion_value.specs.Path.{closed, path_items}
+use Rattle.ion_value.specs.Reading.{Finished, behind}
+use Rattle.ion_value.specs.Value as value
+use Rattle.ion_value.specs.Value.{SymbolAt, UserSymbol, Known, Unknown, Scalar, Value, Members, scalar, container, nothing, member, Top, version, tree, unplaced_top}
+use Rattle.ion_value.specs.Writable.{AreBytes}
+use Rattle.ion_symbols.specs.Resolved.{AreResolved}
+use Rattle.ion_symbols.specs.Table.{Shared, system}
+use Rattle.ion_symbols.specs.Tree.{user_tops}
+use Rattle.ion_symbols.specs.UserValues.{AreUsers, CatalogIsText}
+use Rattle.ion_text_in.specs.Reading.{reading}
+use Rattle.ion_text_out.specs.Text.{text}
+use Rattle.ion_transcode.specs.declared.to.Form.TheVariants as form
+use Rattle.ion_transcode.specs.declared.to.Target.TheVariants as target
+use Rattle.ion_transcode.specs.declared.to.To.{To}
+use Rattle.ion_transcode.specs.declared.to.To.TheVariants as to
+use Rattle.ion_transcode.specs.Forms.{encoding_of, form_of}
+use Rattle.ion_transcode.specs.Outputs.{resolved}
+use Rattle.ion_transcode.specs.Verdict.{HasVerdict}
+
+-- ---- which values limits allow in canonical text
+
+-- the text of a symbol is no longer than the limit on scalars; one of unknown text is written `$0`
+abbrev pub SymbolFits : Limits → UserSymbol → Type 0
+SymbolFits limits (Known t) = length t ≤ limits.scalar
+SymbolFits limits Unknown = ⊤
+
+-- the bytes of a string, a clob or a blob, and the text of a symbol, are no more than the limit on scalars; a null, a bool, a number
+-- and a timestamp have 64 bytes of text at most
+abbrev pub ScalarFits : Limits → Scalar UserSymbol → Type 0
+ScalarFits limits (value.null type) = ⊤
+ScalarFits limits (value.bool truth) = ⊤
+ScalarFits limits (value.int number) = ⊤
+ScalarFits limits (value.decimal number) = ⊤
+ScalarFits limits (value.timestamp moment) = ⊤
+ScalarFits limits (value.symbol name) = SymbolFits limits name
+ScalarFits limits (value.string bytes) = length bytes ≤ limits.scalar
+ScalarFits limits (value.clob bytes) = length bytes ≤ limits.scalar
+ScalarFits limits (value.blob bytes) = length bytes ≤ limits.scalar
+
+-- what an annotation costs where its text is written: 16, and the length of its text where that is known
+abbrev pub cost : UserSymbol → ℕ
+cost (Known t) = 16 + length t
+cost Unknown = 16
+
+-- annotations cost no more than the limit on scalars
+abbrev pub AnnotationsFit : Limits → List UserSymbol → Type 0
+AnnotationsFit limits annotations = sum_by cost annotations ≤ limits.scalar
+
+-- the name of a field, where there is one, is no longer than that limit
+abbrev pub FieldFits : Limits → Option UserSymbol → Type 0
+FieldFits limits None = ⊤
+FieldFits limits (Some s) = SymbolFits limits s
+
+abbrev mutual
+  -- where so many containers are open, a value opens no more than the limit says, and its scalars, fields and annotations fit
+  pub ValueFits : {P : Type 0} → Limits → ℕ → Value UserSymbol P → Type 0
+  ValueFits limits depth (scalar body) = ScalarFits limits body
+  ValueFits limits depth (container kind members last) = (depth < limits.depth) × MembersFit limits (suc depth) members
+
+  -- so it is with each member of a container
+  pub MembersFit : {P : Type 0} → Limits → ℕ → Members UserSymbol P → Type 0
+  MembersFit limits depth nothing = ⊤
+  MembersFit limits depth (member before f annotations place x) =
+      MembersFit limits depth before × (FieldFits limits f × (AnnotationsFit limits annotations × ValueFits limits depth x))
+
+-- a value at top level fits, with its annotations
+abbrev pub FitsText : {P : Type 0} → Limits → Top UserSymbol P → Type 0
+FitsText limits (version place) = ⊤
+FitsText limits (tree first annotations place x) = AnnotationsFit limits annotations × ValueFits limits 0 x
+
+-- ---- what is written of them is read under these limits
+
+-- the canonical text of values is read to its end, its symbols are all resolved whatever the catalogue is, and its user values are
+-- these again, in all but their places
+pub record IsReadWithin (catalog : List Shared) (limits : Limits) (tops : List (Top UserSymbol ℕ)) : Type 0 where
+  pub raw : List (Top SymbolAt ℕ)
+  pub users : List (Top UserSymbol ℕ)
+  pub form : form_of (text tops) ≡ form.Text
+  pub read : reading limits (text tops) ≡ behind (path_items (closed raw)) Finished
+  pub resolved : AreResolved catalog limits.symbols system raw
+  pub users_are : user_tops catalog system raw ≡ Some users
+  pub same : map unplaced_top users ≡ map unplaced_top tops
+
+-- so it is of all values that a user can have and that fit, where the limit on scalars is 64 or more
+abbrev pub TextIsReadWithin : Type 0
+TextIsReadWithin =
+    (catalog : List Shared) (limits : Limits) (tops : List (Top UserSymbol ℕ)) → 64 ≤ limits.scalar → AreUsers tops
+    → AllByRecursion (FitsText limits) tops → IsReadWithin catalog limits tops
+
+-- ---- what was shown is accepted
+
+-- what a run to text wrote is accepted by a run to text, which writes the same bytes, and by a run to nothing, and both count as
+-- many values: whatever the catalogue is, where the values fit these runs' limits, and the limit on scalars is 64 or more. `tops` and
+-- `us` are what the first run read, and its user values
+abbrev pub WhatIsShownIsAccepted : Type 0
+WhatIsShownIsAccepted =
+    (catalog other : List Shared) (limits wide : Limits) (asked : To) (bytes shown : List ℕ) (n : ℕ) (tops : List (Top SymbolAt ℕ))
+    (us : List (Top UserSymbol ℕ))
+    → AreBytes bytes → CatalogIsText catalog → resolved (form_of bytes) asked ≡ Some target.Text
+    → HasVerdict catalog limits asked bytes (Accepted n) shown → (encoding_of (form_of bytes)).Stream bytes tops
+    → user_tops catalog system tops ≡ Some us → 64 ≤ wide.scalar → AllByRecursion (FitsText wide) us
+    → HasVerdict other wide to.Text shown (Accepted n) shown × HasVerdict other wide to.Nothing shown (Accepted n) []

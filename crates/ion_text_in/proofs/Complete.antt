@@ -34,21 +34,21 @@ use Rattle.ion_text_in.proofs.Tokens.{state, Suits, value-suits, mark-suits, end
 
 -- ---- from one state to another
 
-unfoldable read_from : Limits → State → Reading
+unfoldable pub read_from : Limits → State → Reading
 read_from limits s = reading_by (step limits) size s
 
 -- from a state on these items are read, and what is read behind them is read from the other
-abbrev Reads : Limits → State → List PlacedItem → State → Type 0
+abbrev pub Reads : Limits → State → List PlacedItem → State → Type 0
 Reads limits s items t = read_from limits s ≡ behind items (read_from limits t)
 
-reads-then : (limits : Limits) (s t u : State) (xs ys : List PlacedItem) → Reads limits s xs t → Reads limits t ys u → Reads limits s (xs ++ ys) u
+pub reads-then : (limits : Limits) (s t u : State) (xs ys : List PlacedItem) → Reads limits s xs t → Reads limits t ys u → Reads limits s (xs ++ ys) u
 reads-then limits s t u xs ys p q = p ∙ ap (behind xs) q ∙ sym (behind-append xs ys (read_from limits u))
 
-reads-gives : (limits : Limits) (s t : State) (item : PlacedItem) → step limits s ≡ Gives item t → Reads limits s (item ∷ []) t
+pub reads-gives : (limits : Limits) (s t : State) (item : PlacedItem) → step limits s ≡ Gives item t → Reads limits s (item ∷ []) t
 unfolding read_from
 reads-gives limits s t item e = reading_by-gives (step limits) size (each_step_falls limits) s t item e
 
-reads-goes_on : (limits : Limits) (s t : State) → step limits s ≡ GoesOn t → Reads limits s [] t
+pub reads-goes_on : (limits : Limits) (s t : State) → step limits s ≡ GoesOn t → Reads limits s [] t
 unfolding read_from
 reads-goes_on limits s t e = reading_by-goes_on (step limits) size (each_step_falls limits) s t e
 
@@ -56,7 +56,7 @@ read_from-ends : (limits : Limits) (s : State) → step limits s ≡ Ends → re
 unfolding read_from
 read_from-ends limits s e = reading_by-ends (step limits) size (each_step_falls limits) s e
 
-not-refused : (p : ℕ) (b : Bool) (reason : Reason) (o : Result (Step State) Reason) → b ≡ false → step_of (part p (refuse b reason >> o)) ≡ step_of (part p o)
+pub not-refused : (p : ℕ) (b : Bool) (reason : Reason) (o : Result (Step State) Reason) → b ≡ false → step_of (part p (refuse b reason >> o)) ≡ step_of (part p o)
 not-refused p b reason o e = ap (λ b. step_of (part p (refuse b reason >> o))) e
 
 -- ---- annotations and fields
@@ -76,11 +76,11 @@ names-read limits kinds top field sexp c f _ is (Annotations.then {annotations =
     ∙ not-refused p (nat_lt limits.scalar (sum_by cost (annotations ++ at symbol p ∷ []))) AnnotationLimit (Ok (GoesOn next)) (le-ltb limits.scalar (sum_by cost (annotations ++ at symbol p ∷ [])) cheap) in
     prefix ∙ reads-goes_on limits (state kinds top (a_value field annotations) d) next one
 
-annotations-read : (limits : Limits) (kinds : List Kind) (top : ℕ) (field : Option SymbolAt) (sexp : Bool) (c d : Cursor) (annotations : List SymbolAt) → in_sexp (innermost kinds) ≡ sexp
+pub annotations-read : (limits : Limits) (kinds : List Kind) (top : ℕ) (field : Option SymbolAt) (sexp : Bool) (c d : Cursor) (annotations : List SymbolAt) → in_sexp (innermost kinds) ≡ sexp
     → (ns : Annotations sexp c annotations d) → AnnotationsWithin limits ns → Reads limits (state kinds top (a_value field []) c) [] (state kinds top (a_value field annotations) d)
 annotations-read limits kinds top field sexp c d annotations is ns within = names-read limits kinds top field sexp c d annotations is ns within.0 within.1
 
-field-read : (limits : Limits) (kinds : List Kind) (top : ℕ) (k : Option Kind) (field : Option SymbolAt) (c d : Cursor) → innermost kinds ≡ k → (own : Field k c field d) → FieldWithin limits own
+pub field-read : (limits : Limits) (kinds : List Kind) (top : ℕ) (k : Option Kind) (field : Option SymbolAt) (c d : Cursor) → innermost kinds ≡ k → (own : Field k c field d) → FieldWithin limits own
     → Reads limits (state kinds top (at_member k) c) [] (state kinds top (a_value field []) d)
 unfolding take
 field-read limits kinds top _ _ c _ is Field.at_top within = refl
@@ -98,7 +98,7 @@ field-read limits kinds top _ _ c e is (Field.in_quotes {d = d} {p = p} {q = q} 
 -- ---- values and members
 
 -- what must come behind members
-abbrev wants_behind : Option Kind → Bool → Wants
+abbrev pub wants_behind : Option Kind → Bool → Wants
 wants_behind k full = if full then a_separator else at_member k
 
 same-wants : (k : Kind) → behind_member (Some k) ≡ wants_behind (Some k) (has_commas (Some k))
@@ -106,8 +106,13 @@ same-wants kind.List = refl
 same-wants kind.Sexp = refl
 same-wants kind.Struct = refl
 
+same-kind : (k : Kind) → reading.is_same k k ≡ true
+same-kind kind.List = refl
+same-kind kind.Sexp = refl
+same-kind kind.Struct = refl
+
 -- a mark counts nothing
-mark-within : (limits : Limits) (t : Token) (p : ℕ) (d : Cursor) → counts t p d.place ≡ 0 → TokenWithin limits t p d
+pub mark-within : (limits : Limits) (t : Token) (p : ℕ) (d : Cursor) → counts t p d.place ≡ 0 → TokenWithin limits t p d
 mark-within limits t p d none = omega (arith, none)
 
 scalar-read : (limits : Limits) (kinds : List Kind) (top : ℕ) (field : Option SymbolAt) (annotations : List SymbolAt) (sexp : Bool) (c d e : Cursor) (p : ℕ) (t : Token) (body : Scalar SymbolAt)
@@ -145,7 +150,7 @@ module _ (limits : Limits) where
   mutual
     unfolding take
 
-    value-read : (kinds : List Kind) (top : ℕ) (field : Option SymbolAt) (k : Option Kind) (c e : Cursor) (annotations : List SymbolAt) (p : ℕ) (v : Value SymbolAt ℕ) → innermost kinds ≡ k
+    pub value-read : (kinds : List Kind) (top : ℕ) (field : Option SymbolAt) (k : Option Kind) (c e : Cursor) (annotations : List SymbolAt) (p : ℕ) (v : Value SymbolAt ℕ) → innermost kinds ≡ k
         → (txt : Txt k c annotations p v e) → TxtWithin limits (length kinds) txt
         → Reads limits (state kinds top (a_value field []) c) (value_items (top_of kinds top annotations p) field annotations p v) (state kinds (top_of kinds top annotations p) (behind_member (innermost kinds)) e)
     value-read kinds top field _ c e _ p _ is (Txt.of_plain {k = k} {d = d} {annotations = annotations} {v = v} ns tok) within =
@@ -172,7 +177,7 @@ module _ (limits : Limits) where
         (reads-then limits (state (j ∷ kinds) top' (member_of j) e) (state (j ∷ kinds) top' (wants_behind (Some j) full) f) (state kinds top' (behind_member (innermost kinds)) g)
         (member_items top' members) (item_of top' None [] q value.end ∷ []) inner last)
 
-    members-read : (kinds : List Kind) (top : ℕ) (j : Kind) (c d : Cursor) (members : Members SymbolAt ℕ) (full : Bool) → (inside : Inside j c members full d)
+    pub members-read : (kinds : List Kind) (top : ℕ) (j : Kind) (c d : Cursor) (members : Members SymbolAt ℕ) (full : Bool) → (inside : Inside j c members full d)
         → InsideWithin limits (suc (length kinds)) inside
         → Reads limits (state (j ∷ kinds) top (member_of j) c) (member_items top members) (state (j ∷ kinds) top (wants_behind (Some j) full) d)
     members-read kinds top j c _ _ _ Inside.nothing within = refl
@@ -201,11 +206,11 @@ unfolding tells_version cut_at
 marker-taken top p e = refl
 
 -- where the top-level value began that was read last
-abbrev TopsRead : Limits → List ℕ → List (Top SymbolAt ℕ) → Cursor → Type 0
+abbrev pub TopsRead : Limits → List ℕ → List (Top SymbolAt ℕ) → Cursor → Type 0
 TopsRead limits bytes tops c = (top : ℕ) × Reads limits (start bytes) (top_items tops) (state [] top (a_value None []) c)
 
 module _ (limits : Limits) (bytes : List ℕ) where
-  tops-read : (c : Cursor) (tops : List (Top SymbolAt ℕ)) → (t : Tops (start_of bytes) tops c) → TopsWithin limits t → TopsRead limits bytes tops c
+  pub tops-read : (c : Cursor) (tops : List (Top SymbolAt ℕ)) → (t : Tops (start_of bytes) tops c) → TopsWithin limits t → TopsRead limits bytes tops c
   unfolding take
   tops-read _ _ Tops.nothing within = (0, refl)
   tops-read e _ (Tops.marker {tops = tops} {d = d} {p = p} before tok alone) within =
@@ -264,7 +269,7 @@ module _ (limits : Limits) (bytes : List ℕ) where
             (sym (open-items path (first_place annotations p) top' field annotations p k members (fits path kinds false before.top field annotations p s before.is_top own))) all;
       }
 
-reading-read_from : (limits : Limits) (bytes : List ℕ) → reading.reading limits bytes ≡ read_from limits (start bytes)
+pub reading-read_from : (limits : Limits) (bytes : List ℕ) → reading.reading limits bytes ≡ read_from limits (start bytes)
 unfolding read_from reading.reading
 reading-read_from limits bytes = refl
 

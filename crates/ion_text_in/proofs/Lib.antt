@@ -9,6 +9,7 @@ mod Tokens
 mod Advancing
 mod Allowing
 mod Complete
+mod ReadWithin
 mod TokenCuts
 mod Counting
 mod One
@@ -21,6 +22,7 @@ mod DecodedBytes
 mod LobBytes
 mod RawTokens
 mod RawStreams
+mod ValuesWithin
 mod Narrow
 mod Refused
 mod TokenFaults

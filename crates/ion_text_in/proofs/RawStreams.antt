@@ -14,7 +14,7 @@ use Rattle.ion_text_in.specs.Meaning.{IsRawScalar}
 use Rattle.ion_text_in.specs.Positions.{at, first_place}
 use Rattle.ion_text_in.proofs.RawTokens.{tokens-are_raw}
 
-all-append : {A : Type 0} (P : A → Type 0) (xs ys : List A) → AllByRecursion P xs → AllByRecursion P ys → AllByRecursion P (xs ++ ys)
+pub all-append : {A : Type 0} (P : A → Type 0) (xs ys : List A) → AllByRecursion P xs → AllByRecursion P ys → AllByRecursion P (xs ++ ys)
 all-append P [] ys h k = k
 all-append P (x ∷ xs) ys h k = (h.0, all-append P xs ys h.1 k)
 

@@ -12,6 +12,7 @@ pub mod Paths
 pub mod Meaning
 pub mod Within
 pub mod Laws
+pub mod ReadWithin
 pub mod Scanning
 pub mod Scanners
 pub mod Beginnings

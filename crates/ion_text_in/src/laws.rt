@@ -2,6 +2,7 @@
 //! nothing.
 ghost use Rattle.ion_text_in.specs.Beginnings.{IdentifiersAreCut, IdentifiersEnd, NumbersAreCut, NumbersEnd, OneBegins, OperatorsAreCut, OperatorsEnd, WhatBegins, WhereNoneBegins};
 ghost use Rattle.ion_text_in.specs.Meaning.{Base64IsRead, BlobsAreBase64, BoolTextIsRead, ClobTextIsRead, DecimalTextIsRead, IdIsRead, IdWordIsRead, IntTextIsRead, NullTextIsRead, PlainSymbolIsRead, QuotedSymbolIsRead, StringTextIsRead, TimestampTextIsRead, TokensAreRaw, TokensWithinAreRead};
+ghost use Rattle.ion_text_in.specs.ReadWithin.{ValuesReadAreWithin, WhatIsReadIsWithin};
 ghost use Rattle.ion_text_in.specs.Scanning.{BlanksChangeNoStep, EachPieceTakes, GroupsInTurn, PiecesInTurn, PlainBytesAreSpelled, SegmentsInTurn};
 ghost use Rattle.ion_text_in.specs.Laws.{Complete, EachStepFalls, EachStepFollows, ExactLimits, Narrow, OnePath, OneStream, PathsWithinAreRead, RightlyRefused, Sound, StreamsAreRaw, StreamsAreRead, StreamsWithinAreRead, WithinLimitsAreRead};
 
@@ -197,3 +198,17 @@ pub fn parts_follow_in_turn()
 pub fn plain_bytes_are_spelled()
     ensures { PlainBytesAreSpelled }
 {}
+
+/// Where a stream is read to its end, the limits allow what stands in it: no token counts more, no
+/// annotations cost more, and no container is deeper.
+pub fn what_is_read_is_within_limits()
+    ensures { WhatIsReadIsWithin }
+{}
+
+/// And the values of the stream are within the limits: the depth of their containers, their
+/// annotations, the texts of their symbols, their strings and lobs, and what spells their numbers.
+pub fn values_read_are_within_limits()
+    ensures { ValuesReadAreWithin }
+{
+    what_is_read_is_within_limits();
+}

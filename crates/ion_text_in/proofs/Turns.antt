@@ -7,7 +7,7 @@ use Rattle.ion_meter.specs.Windows.{Incoming, left, lent, Extends, IsGiven, IsPa
 use Rattle.ion_meter.specs.Sources.{Cursor, cursor, Stands, Moves, Exceeds}
 use Rattle.ion_meter.proofs.Lent.{lent-CanPass, lent-take, lent-IsGiven, IsPassed-left}
 use Rattle.ion_value.specs.Calls.{Reads}
-use Rattle.ion_value.proofs.Cursors.{moves-then}
+use Rattle.ion_value.proofs.Cursors.{moves-not, moves-then}
 use Rattle.ion_value.proofs.Passing.{Passed-lent}
 use Rattle.ion_text_in.specs.Meaning.{at}
 use Rattle.ion_text_in.proofs.Shown.{behind_lent, lent_by-all, lent-left}
@@ -22,7 +22,7 @@ pub record Gone {I : Type 0} (device : InputOf I) (old new : Incoming I) : Type 
 pub gone-not : {I : Type 0} (device : InputOf I) (s : Incoming I) → Stands s → Gone device s s
 gone-not device s stands = record {
   stands = stands;
-  moves = record { still_observable = (λ h. h, λ h. h); limit = refl; further = omega arith; total = λ h. refl };
+  moves = moves-not device s;
   steady = refl;
 }
 

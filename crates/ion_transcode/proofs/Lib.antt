@@ -30,4 +30,4 @@ mod ShortRuns
 mod Accepted
 mod ReadWhole
 mod AcceptedAgain
-mod NeededPremises
+mod TopRows

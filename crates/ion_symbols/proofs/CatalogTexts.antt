@@ -16,7 +16,8 @@ use Rattle.ion_symbols.specs.CatalogTrees.{seen, value_of, fields_fit, elements,
 use Rattle.ion_symbols.specs.CatalogLaws.{TablesOfUsersAreText}
 use Rattle.ion_symbols.specs.UserValues.{IsUser, SlotIsText, SlotsAreText, CatalogIsText}
 use Rattle.ion_symbols.proofs.AllAppended.{AllByRecursion-append}
-use Rattle.ion_symbols.proofs.TextTables.{FoundIsText, or_later-writable}
+use Rattle.ion_symbols.proofs.TextTables.{FoundIsText}
+use Rattle.ion_symbols.proofs.TableTexts.{or_later-if}
 
 -- ---- one table
 
@@ -34,7 +35,7 @@ value_of-writable : (w : Word) (kind : Kind) (members : Members UserSymbol ℕ) 
     → IfSome (value_of w members) IsWritable
 value_of-writable w kind nothing h = tt
 value_of-writable w kind (member before field annotations place x) h =
-    or_later-writable (value_of w before) (same_word (user_field field) w) x (value_of-writable w kind before h.0) h.1.1
+    or_later-if IsWritable (value_of w before) (same_word (user_field field) w) x (value_of-writable w kind before h.0) h.1.1
 
 slots_of-text : (field : Option (Value UserSymbol ℕ)) → IfSome field IsWritable → SlotsAreText (slots_of field)
 slots_of-text (Some (container kind.List members last)) h = elements-text kind.List members h

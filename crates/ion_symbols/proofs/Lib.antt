@@ -26,7 +26,9 @@ mod Costly
 mod UserReadings
 mod ResolvedUsers
 pub mod OtherSymbols
+mod TableTexts
 mod TextTables
+mod UserTexts
 mod RawUsers
 mod OpenDeclarations
 mod OpenUsers

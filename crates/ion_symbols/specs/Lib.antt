@@ -3,6 +3,7 @@ pub mod Declaration
 pub mod Users
 pub mod Tree
 pub mod UserValues
+pub mod TextsOfUsers
 pub mod Output
 pub mod Laws
 pub mod Resolved

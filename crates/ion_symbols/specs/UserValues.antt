@@ -1,5 +1,5 @@
 -- What is true of the values that a user of a stream has, whatever encoding it is in.
-use Rattle.std.specs.Prelude.{◌≡◌, ℕ, Bool, false, List, ◌∷◌, Option, Some, None, IsUtf8, ⊤}
+use Rattle.std.specs.Prelude.{◌≡◌, ℕ, Bool, false, List, ◌∷◌, Option, Some, None, IfSome, IsUtf8}
 use Rattle.std.specs.List.{AllByRecursion}
 use Rattle.ion_value.specs.declared.ion_type.Kind.TheVariants as kind
 use Rattle.ion_value.specs.Value.{SymbolAt, UserSymbol, Known, Value, container, Top, version, tree}
@@ -26,8 +26,7 @@ AreUsers us = AllByRecursion IsUser us × AllByRecursion TopHasBytes us
 
 -- the text of a slot, where it has one, is UTF-8
 abbrev pub SlotIsText : Option (List ℕ) → Type 0
-SlotIsText None = ⊤
-SlotIsText (Some t) = IsUtf8 t
+SlotIsText slot = IfSome slot IsUtf8
 
 -- so are the texts of slots
 abbrev pub SlotsAreText : Slots → Type 0

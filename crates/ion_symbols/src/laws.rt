@@ -2,6 +2,7 @@
 ghost use Rattle.ion_symbols.specs.CatalogLaws.{CatalogsAreRead, CatalogsAreTables, TablesOfUsersAreText, WhyCatalogsAreRefused};
 ghost use Rattle.ion_symbols.specs.Laws.{DeclarationsAreRead, OpenUsersAreRead, SymbolsStand, UsersAreRead, WhatIsAccepted, WhatIsDeclared, WhyRefused, WhyUsersStop};
 ghost use Rattle.ion_symbols.specs.Resolved.{WhatIsAcceptedIsResolved, WhatIsResolvedIsAccepted};
+ghost use Rattle.ion_symbols.specs.TextsOfUsers.{TextsOfUsersAreShort};
 ghost use Rattle.ion_symbols.specs.UserValues.{UsersOfRawValues};
 
 /// The streaming and the tree definitions of a declaration agree: its items give the table that its
@@ -92,4 +93,10 @@ pub fn why_catalogs_are_refused()
 /// The texts of the tables that user values are, are UTF-8.
 pub fn tables_of_users_are_text()
     ensures { TablesOfUsersAreText }
+{}
+
+/// The texts of a user's symbols, but for those of the system symbol table, are no longer than so
+/// many bytes where those of the catalogue are, and the strings and symbols of the stream.
+pub fn texts_of_users_are_short()
+    ensures { TextsOfUsersAreShort }
 {}

@@ -25,8 +25,8 @@ use Rattle.ion_text_in.specs.Token.{First, Token, plain, name, text, operator, b
 use Rattle.ion_text_in.specs.Within.{TokenWithin, AnnotationsWithin, FieldWithin, TxtWithin, InsideWithin, TopsWithin}
 use Rattle.ion_text_in.proofs.Complete.{Reads, read_from, reading-read_from, reads-gives, annotations-read, field-read, members-read, mark-within, not-refused, tops-read}
 use Rattle.ion_text_in.proofs.Falling.{each_step_falls}
-use Rattle.ion_text_in.proofs.TokenLimits.{token-exact}
-use Rattle.ion_text_in.proofs.Tokens.{got, state, Suits, tok-stands, token-told, step-token, value-suits, naming-suits, colons-stand}
+use Rattle.ion_text_in.proofs.TokenLimits.{got, token-exact}
+use Rattle.ion_text_in.proofs.Tokens.{state, Suits, tok-stands, token-told, step-token, value-suits, naming-suits, colons-stand}
 
 -- ---- a reading that stops
 

@@ -29,5 +29,7 @@ mod ReadAgain
 mod ShortRuns
 mod Accepted
 mod ReadWhole
+mod OpenContainers
+mod NoDeeper
 mod AcceptedAgain
 mod NeededPremises

@@ -1,6 +1,7 @@
 //! Laws of the verdicts of streams, each the contract of a function that does nothing.
 ghost use Rattle.ion_transcode.specs.Acceptance.{GoodStreamsAreAccepted, WhatIsAcceptedIsRead, WhatIsReadIsAccepted};
 ghost use Rattle.ion_transcode.specs.Catalogues.{CatalogVerdictsAreRead, CatalogsAreLoaded, OneCatalog, OneCatalogVerdict, TablesAreCatalogs};
+ghost use Rattle.ion_transcode.specs.Depth.{WhatIsReadIsNoDeeper};
 ghost use Rattle.ion_transcode.specs.Forms.{binary_encoding, text_encoding};
 ghost use Rattle.ion_transcode.specs.Laws.{BinaryIsComplete, BinaryIsSound, OneSpelling, OneVerdict, SpellsOnce, StreamsAreRead, TextIsComplete, TextIsSound};
 ghost use Rattle.ion_transcode.specs.RoundTrip.{RoundTrip, ShowOnce, TextIsRead, ThereAndBack, ValuesOfStreams};
@@ -268,6 +269,12 @@ pub fn what_is_accepted_is_read()
     binary::none_is_refused_within();
     text::one_stream();
 }
+
+/// The values of a stream that is read to its end open no more containers inside each other than the
+/// limit says.
+pub fn what_is_read_is_no_deeper()
+    ensures { WhatIsReadIsNoDeeper }
+{}
 
 /// The canonical text of values is read to its end under limits that the values fit, and its symbols
 /// are all resolved: of all values that a user of a stream can have.

@@ -74,6 +74,28 @@ tops-no_deeper most (tree first annotations place x ∷ tops) h =
     let v = value-no_deeper most 0 first None annotations place x (top_items tops) h in
     (v.0, tops-no_deeper most tops v.1)
 
+-- ---- under a limit that is no lower
+
+mutual
+  value-wide : {S P : Type 0} (most more n : ℕ) → most ≤ more → (x : Value S P) → ValueIsNoDeeper most n x
+      → ValueIsNoDeeper more n x
+  value-wide most more n wide (scalar body) h = tt
+  value-wide most more n wide (container kind members last) h =
+      (omega (arith, h.0, wide), members-wide most more (suc n) wide members h.1)
+
+  members-wide : {S P : Type 0} (most more n : ℕ) → most ≤ more → (ms : Members S P) → MembersAreNoDeeper most n ms
+      → MembersAreNoDeeper more n ms
+  members-wide most more n wide nothing h = tt
+  members-wide most more n wide (member before f annotations place x) h =
+      (members-wide most more n wide before h.0, value-wide most more n wide x h.1)
+
+pub no_deeper-wide : {S P : Type 0} (most more : ℕ) (tops : List (Top S P)) → most ≤ more
+    → AllByRecursion (IsNoDeeper most) tops → AllByRecursion (IsNoDeeper more) tops
+no_deeper-wide most more [] wide h = tt
+no_deeper-wide most more (version place ∷ tops) wide h = (tt, no_deeper-wide most more tops wide h.1)
+no_deeper-wide most more (tree first annotations place x ∷ tops) wide h =
+    (value-wide most more 0 wide x h.0, no_deeper-wide most more tops wide h.1)
+
 -- ---- user values
 
 module _ {S T P Q : Type 0} (f : S → T) (g : P → Q) where

@@ -277,7 +277,8 @@ pub fn what_is_read_is_no_deeper()
 {}
 
 /// The canonical text of values is read to its end under limits that the values fit, and its symbols
-/// are all resolved: of all values that a user of a stream can have.
+/// are all resolved: of all values that a user of a stream can have. No number and no timestamp has
+/// more than 64 bytes.
 pub fn text_is_read_within()
     ensures { TextIsReadWithin }
 {
@@ -299,13 +300,14 @@ pub fn text_is_read_within()
 }
 
 /// What a run to text wrote is accepted, where its values fit the limits, and a run to text over it
-/// writes the same bytes.
+/// writes the same bytes. Only texts, lobs and annotations may be too long.
 pub fn what_is_shown_is_accepted()
     ensures { WhatIsShownIsAccepted }
 {
     what_is_accepted_is_read();
     one_spelling();
     values_of_streams();
+    what_is_read_is_no_deeper();
     text_is_read_within();
     what_is_read_is_accepted();
 }

@@ -1,11 +1,11 @@
 -- What was shown is accepted, where its values fit the limits, and shows the same.
-use Rattle.std.proofs.Common.{◌≡◌, ℕ, ◌≤◌, List, [], length, map, Option, Some, refl, ap, sym, ◌∙◌, subst, subst₂}
+use Rattle.std.proofs.Common.{◌≡◌, ℕ, List, [], length, map, Some, refl, ap, sym, ◌∙◌, subst, subst₂}
 use Rattle.std.specs.List.{AllByRecursion}
 use Rattle.ion_meter.specs.declared.limits.Limits.{Limits}
 use Rattle.ion_value.specs.Outcome.{Accepted}
 use Rattle.ion_value.specs.Path.{closed, path_items}
 use Rattle.ion_value.specs.Reading.{Finished, behind}
-use Rattle.ion_value.specs.Value.{SymbolAt, UserSymbol, Top, unplaced_top}
+use Rattle.ion_value.specs.Value.{UserSymbol, Top, unplaced_top}
 use Rattle.ion_symbols.specs.Table.{Shared, system}
 use Rattle.ion_symbols.specs.Tree.{user_tops}
 use Rattle.ion_symbols.specs.UserValues.{AreUsers}
@@ -56,8 +56,7 @@ what-is-shown-is-accepted is_read one values shallow within accepted catalog oth
     let deep = subst (λ (vs : List (Top UserSymbol ℕ)). AllByRecursion (IsNoDeeper limits.depth) vs) found below in
     let r = within other wide us least users (no_deeper-wide limits.depth wide.depth us deeper deep) fits in
     let as_text = again accepted other wide us to.Text target.Text (text us) refl (λ vs. tt) (λ vs e. same-text vs us e) r in
-    let as_nothing = again accepted other wide us to.Nothing target.Nothing [] refl (λ vs. tt) (λ vs e. refl) r in
-    (
+    let as_nothing = again accepted other wide us to.Nothing target.Nothing [] refl (λ vs. tt) (λ vs e. refl) r in (
       subst₂ (λ (xs : List ℕ) (m : ℕ). HasVerdict other wide to.Text xs (Accepted m) xs) output count as_text,
       subst₂ (λ (xs : List ℕ) (m : ℕ). HasVerdict other wide to.Nothing xs (Accepted m) []) output count as_nothing,
     )

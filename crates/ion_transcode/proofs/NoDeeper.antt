@@ -1,9 +1,8 @@
 -- The values of a stream that was read open no more containers inside each other than the limit says.
-use Rattle.std.proofs.Common.{◌≡◌, ℕ, zero, suc, ◌+◌, ◌-◌, ◌<◌, ◌≤◌, List, [], ◌∷◌, ◌++◌, map, Option, Some, None, option_map, IfSome, refl, ap, sym, ◌∙◌, subst, append_assoc, append-nil, arith}
+use Rattle.std.proofs.Common.{◌≡◌, ℕ, zero, suc, ◌-◌, ◌≤◌, List, [], ◌∷◌, ◌++◌, map, Option, Some, None, option_map, IfSome, ap, ◌∙◌, subst, append_assoc, append-nil, arith}
 use Rattle.std.specs.List.{AllByRecursion}
 use Rattle.ion_meter.specs.declared.limits.Limits.{Limits}
-use Rattle.ion_value.specs.Path.{closed, path_items}
-use Rattle.ion_value.specs.Reading.{Reading, Finished, behind, items_of, Step, Ends, Stops, Gives, GoesOn, next_reading, reading_for}
+use Rattle.ion_value.specs.Reading.{Finished, items_of, Step, Ends, Stops, Gives, GoesOn, next_reading, reading_for}
 use Rattle.ion_value.specs.Value as value
 use Rattle.ion_value.specs.Value.{SymbolAt, UserSymbol, Value, Members, scalar, container, nothing, member, Top, version, tree, Item, PlacedItem, bare_item, value_items, member_items, top_items, map_value, map_members}
 use Rattle.ion_value.proofs.Readings.{items_of-behind}
@@ -158,9 +157,8 @@ what-is-read-is-no-deeper f catalog limits bytes tops us read are =
     let items : items_of (reading_of f limits bytes) ≡ top_items tops =
     ap items_of read ∙ (items_of-behind (top_items tops) Finished ∙ append-nil (top_items tops)) in
     let shallow = subst (λ (is : List PlacedItem). Shallow limits.depth 0 is) items (reading-shallow f limits bytes) in
-    let all = tops-no_deeper limits.depth tops shallow in
-    (
+    let all = tops-no_deeper limits.depth tops shallow in (
       all,
       subst (λ (o : Option (List (Top UserSymbol ℕ))). IfSome o (AllByRecursion (IsNoDeeper limits.depth))) are
-      (users-no_deeper catalog limits.depth tops all system),
+          (users-no_deeper catalog limits.depth tops all system),
     )

@@ -1,10 +1,10 @@
 -- No step of a reading opens a container where as many are open as the limit says, in either form.
-use Rattle.std.proofs.Common.{◌≡◌, ℕ, zero, suc, ◌+◌, ◌*◌, ◌-◌, ◌<◌, ◌≤◌, Bool, true, false, not, ◌&&◌, nat_le, nat_lt, nat_eq, sum_by, if◌then◌else◌, List, [], ◌∷◌, ◌++◌, length, take as first_of_list, Option, Some, None, Result, Ok, Err, IfOk, refl, sym, subst, arith}
+use Rattle.std.proofs.Common.{◌≡◌, ℕ, suc, ◌+◌, ◌-◌, ◌<◌, Bool, true, false, not, ◌&&◌, nat_le, nat_lt, nat_eq, sum_by, if◌then◌else◌, List, [], ◌∷◌, ◌++◌, length, take as first_of_list, Option, Some, None, Result, Ok, Err, IfOk, refl, subst, arith}
 use Rattle.std.proofs.lemmas.Bool.{leb-false}
 use Rattle.ion_meter.specs.declared.fault.Reason.{Reason}
 use Rattle.ion_meter.specs.declared.fault.Reason.TheVariants.{Truncated, Overrun, BadAnnotation, BadDescriptor, BadToken, BadVersion, ScalarLimit, DepthLimit, AnnotationLimit}
 use Rattle.ion_meter.specs.declared.limits.Limits.{Limits}
-use Rattle.ion_meter.specs.Sources.{Cursor, skip}
+use Rattle.ion_meter.specs.Sources.{Cursor}
 use Rattle.ion_value.specs.declared.ion_type.Kind.{Kind}
 use Rattle.ion_value.specs.declared.ion_type.Kind.TheVariants as kind
 use Rattle.ion_value.specs.Parts.{Placed, part, refuse, ◌>>=◌, ◌>>◌}
@@ -350,7 +350,7 @@ in-good limits (f ∷ frames) top c = by (nat_le f.end c.place)
     by : (b : Bool) → Good limits (f ∷ frames) (
         if b then Gives (binary.placed_item top None [] c.place value.end) (record { frames = frames; top = top; cursor = c })
         else binary.step_of (binary.member_at limits (f ∷ frames) top c)
-    )
+        )
     by true = (tt, omega arith)
     by false = step_of-good limits (f ∷ frames) (binary.member_at limits (f ∷ frames) top c) (member-good limits (f ∷ frames) top c)
 

@@ -32,4 +32,4 @@ mod ReadWhole
 mod OpenContainers
 mod NoDeeper
 mod AcceptedAgain
-mod NeededPremises
+mod TopRows

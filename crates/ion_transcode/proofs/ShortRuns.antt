@@ -97,7 +97,8 @@ module _ (sound : TextIsSound) (along : FaultlessPathsAreRead) (trees : ItemsAre
       subst (λ (y : Step text_encoding.State). Follows text_encoding bytes path y) e (sound.follows limits bytes path s tt at)
 
   item-stands : (items : List PlacedItem) (item : PlacedItem) (s t : text_encoding.State)
-      → text_encoding.step limits s ≡ Gives item t → StandsAt text_encoding bytes items s → StandsAt text_encoding bytes (items ++ item ∷ []) t
+      → text_encoding.step limits s ≡ Gives item t → StandsAt text_encoding bytes items s
+      → StandsAt text_encoding bytes (items ++ item ∷ []) t
   item-stands items item s t step r =
       let f = followed r.path s (Gives item t) r.at step in
       record { path = f.0; at = f.1; items_are = ap (λ (is : List PlacedItem). is ++ item ∷ []) r.items_are ∙ sym f.2 }

@@ -92,14 +92,15 @@ refusal-is target.Binary limits path mine own e = ap (λ (p : Path UserSymbol �
 refusal-is target.Nothing limits path mine own e = refl
 
 -- where two writers refuse the same, an item has the same first fault
-step_fault-same : {T : Type 0} (a b : PlacedItem → Option (Reason × ℕ)) → ((item : PlacedItem) → a item ≡ b item) → (o : Step T) → step_fault a o ≡ step_fault b o
+step_fault-same : {T : Type 0} (a b : PlacedItem → Option (Reason × ℕ)) → ((item : PlacedItem) → a item ≡ b item) → (o : Step T)
+    → step_fault a o ≡ step_fault b o
 step_fault-same a b same Ends = refl
 step_fault-same a b same (Stops reason place) = refl
 step_fault-same a b same (Gives item after) = same item
 step_fault-same a b same (GoesOn after) = refl
 
-next_fault-same : (e : Encoding) (catalog : List Shared) (limits : Limits) (s : e.State) (u : users.State) (a b : PlacedItem → Option (Reason × ℕ))
-    → ((own : PlacedItem) → a own ≡ b own) → next_fault e a catalog limits s u ≡ next_fault e b catalog limits s u
+next_fault-same : (e : Encoding) (catalog : List Shared) (limits : Limits) (s : e.State) (u : users.State)
+    (a b : PlacedItem → Option (Reason × ℕ)) → ((own : PlacedItem) → a own ≡ b own) → next_fault e a catalog limits s u ≡ next_fault e b catalog limits s u
 next_fault-same e catalog limits s u a b same =
     step_fault-same _ _ (λ item. step_fault-same a b same (user_step catalog limits.symbols u item)) (e.step limits s)
 

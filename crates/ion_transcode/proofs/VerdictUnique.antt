@@ -48,25 +48,27 @@ module _ (users_read : UsersAreRead) (e : Encoding) (target : Outputs) (agrees :
   )
 
   -- where the next item has a fault, by what its user item is
-  user-refused : (items : List PlacedItem) (s t : e.State) (u : users.State) (mine : List PlacedItem) (item : PlacedItem) (o : Step users.State)
-      (reason : Reason) (place : ℕ) → Prefixes e target catalog limits bytes items s u mine → e.step limits s ≡ Gives item t
+  user-refused : (items : List PlacedItem) (s t : e.State) (u : users.State) (mine : List PlacedItem) (item : PlacedItem)
+      (o : Step users.State) (reason : Reason) (place : ℕ) → Prefixes e target catalog limits bytes items s u mine → e.step limits s ≡ Gives item t
       → user_step catalog limits.symbols u item ≡ o → step_fault (target.refusal mine) o ≡ Some (reason, place)
       → AreFrom (Rejected reason place) (target.open_output mine)
   user-refused items s t u mine item Ends reason place prefix gives is fault = absurd (cc fault)
   user-refused items s t u mine item (Stops r p) reason place prefix gives is fault =
-      prefix-are items s u mine prefix (λ m. Stopped r p) (λ m. item-step e target catalog limits m s t u item (Stops r p) gives is)
+      prefix-are items s u mine prefix (λ m. Stopped r p)
+      (λ m. item-step e target catalog limits m s t u item (Stops r p) gives is)
       (Rejected reason place) (target.open_output mine) (λ m. ap (λ why. verdict_with why (Rejected r p)) (sym fault)) (λ m. refl)
   user-refused items s t u mine item (Gives own v) reason place prefix gives is fault =
-      prefix-are items s u mine prefix
-      (λ m. More own (user_in e target catalog limits m t v)) (λ m. item-step e target catalog limits m s t u item (Gives own v) gives is)
-      (Rejected reason place) (target.open_output mine)
-      (λ m. ap (λ why. verdict_with why (verdict_on e target catalog limits (mine ++ own ∷ []) (user_in e target catalog limits m t v))) (sym fault))
-      (λ m. ap (λ why. output_with why (target.open_output mine) (output_on e target catalog limits (mine ++ own ∷ []) (user_in e target catalog limits m t v))) (sym fault))
+      let next : ℕ → Reading = λ m. user_in e target catalog limits m t v in
+      let all : List PlacedItem = mine ++ own ∷ [] in
+      prefix-are items s u mine prefix (λ m. More own (next m))
+      (λ m. item-step e target catalog limits m s t u item (Gives own v) gives is) (Rejected reason place) (target.open_output mine)
+      (λ m. ap (λ why. verdict_with why (verdict_on e target catalog limits all (next m))) (sym fault))
+      (λ m. ap (λ why. output_with why (target.open_output mine) (output_on e target catalog limits all (next m))) (sym fault))
   user-refused items s t u mine item (GoesOn v) reason place prefix gives is fault = absurd (cc fault)
 
   -- and by what the step is
-  step-refused : (items : List PlacedItem) (s : e.State) (u : users.State) (mine : List PlacedItem) (o : Step e.State) (reason : Reason) (place : ℕ)
-      → Prefixes e target catalog limits bytes items s u mine → e.step limits s ≡ o
+  step-refused : (items : List PlacedItem) (s : e.State) (u : users.State) (mine : List PlacedItem) (o : Step e.State)
+      (reason : Reason) (place : ℕ) → Prefixes e target catalog limits bytes items s u mine → e.step limits s ≡ o
       → step_fault (λ item. step_fault (target.refusal mine) (user_step catalog limits.symbols u item)) o ≡ Some (reason, place)
       → AreFrom (Rejected reason place) (target.open_output mine)
   step-refused items s u mine Ends reason place prefix is fault = absurd (cc fault)

@@ -8,8 +8,10 @@ use Rattle.ion_meter.specs.declared.limits.Limits.{Limits}
 use Rattle.ion_value.specs.Value.{SymbolAt, UserSymbol, Top, user_items}
 use Rattle.ion_value.specs.Reading.{Reading, items_of}
 use Rattle.ion_value.specs.Outcome.{Verdict, Accepted, Rejected}
+use Rattle.ion_value.specs.Writable.{AreBytes}
 use Rattle.ion_symbols.specs.Table.{Shared, catalog_cost, system}
 use Rattle.ion_symbols.specs.Tree.{user_tops}
+use Rattle.ion_symbols.specs.UserValues.{CatalogIsText}
 use Rattle.ion_symbols.specs.Users.{at_start, users}
 use Rattle.ion_symbols.specs.CatalogItems.{Loading, loaded, catalog_refusal}
 use Rattle.ion_symbols.specs.CatalogTrees.{tables_of}
@@ -107,6 +109,11 @@ CatalogVerdictsAreRead = (limits : Limits) (bytes : List ℕ) → HasCatalogVerd
 -- and it loads the stream's catalogue
 abbrev pub CatalogsAreLoaded : Type 0
 CatalogsAreLoaded = (limits : Limits) (bytes : List ℕ) (tables : List Shared) → Loads limits (catalog_reading limits bytes) tables → IsCatalog limits bytes tables
+
+-- the texts of the catalogue of a stream of bytes are UTF-8
+abbrev pub CatalogsAreText : Type 0
+CatalogsAreText =
+    (limits : Limits) (bytes : List ℕ) (tables : List Shared) → AreBytes bytes → IsCatalog limits bytes tables → CatalogIsText tables
 
 -- where a run to nothing under the empty catalogue accepts a stream, and its user values are tables within the limit, it is their catalogue
 abbrev pub TablesAreCatalogs : Type 0

@@ -42,8 +42,8 @@ ValuesOfStreams =
     → AreBytes bytes → CatalogIsText catalog → (encoding_of form).Stream bytes tops → user_tops catalog system tops ≡ Some us
     → AreUsers us
 
--- the canonical text of the user values of a stream, in either form, is a stream of these values, and so is their canonical binary,
--- where no value and no declaration in it is too long: whatever the catalogue is by which they are read again
+-- the canonical text of the user values of a stream, in either form, is a stream of these values, and so is their canonical
+-- binary, where no value and no declaration in it is too long: whatever the catalogue is by which they are read again
 abbrev pub RoundTrip : Type 0
 RoundTrip =
     (form : Form) (catalog other : List Shared) (limit : ℕ) (bytes : List ℕ) (tops : List (Top SymbolAt ℕ))

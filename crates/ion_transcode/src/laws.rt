@@ -1,6 +1,6 @@
 //! Laws of the verdicts of streams, each the contract of a function that does nothing.
 ghost use Rattle.ion_transcode.specs.Acceptance.{GoodStreamsAreAccepted, WhatIsAcceptedIsRead, WhatIsReadIsAccepted};
-ghost use Rattle.ion_transcode.specs.Catalogues.{CatalogVerdictsAreRead, CatalogsAreLoaded, OneCatalog, OneCatalogVerdict, TablesAreCatalogs};
+ghost use Rattle.ion_transcode.specs.Catalogues.{CatalogVerdictsAreRead, CatalogsAreLoaded, CatalogsAreText, OneCatalog, OneCatalogVerdict, TablesAreCatalogs};
 ghost use Rattle.ion_transcode.specs.Depth.{WhatIsReadIsNoDeeper};
 ghost use Rattle.ion_transcode.specs.Forms.{binary_encoding, text_encoding};
 ghost use Rattle.ion_transcode.specs.Laws.{BinaryIsComplete, BinaryIsSound, OneSpelling, OneVerdict, SpellsOnce, StreamsAreRead, TextIsComplete, TextIsSound};
@@ -10,8 +10,9 @@ ghost use Rattle.ion_transcode.specs.UserPaths.{FaultlessPathsAreRead, RefusedOu
 
 use ion_binary::laws as binary;
 use ion_symbols::laws::{
-    catalogs_are_read, catalogs_are_tables, open_users_are_read, users_are_read,
-    users_of_raw_values, what_is_accepted_is_resolved, what_is_resolved_is_accepted,
+    catalogs_are_read, catalogs_are_tables, open_users_are_read, tables_of_users_are_text,
+    users_are_read, users_of_raw_values, what_is_accepted_is_resolved,
+    what_is_resolved_is_accepted,
 };
 use ion_text_in::laws as text;
 use ion_text_out::laws::{path_text_is_that_of_items, text_is_that_of_items};
@@ -139,6 +140,15 @@ pub fn catalogs_are_loaded()
     catalogs_are_tables();
 }
 
+/// The texts of the catalogue of a stream of bytes are UTF-8, so that the laws of the round trip hold
+/// by it.
+pub fn catalogs_are_text()
+    ensures { CatalogsAreText }
+{
+    values_of_streams();
+    tables_of_users_are_text();
+}
+
 /// Where a run to nothing accepts a stream under the empty catalogue, and its user values are
 /// tables within the limit, it is their catalogue: so `load_catalog` does not refuse it.
 pub fn tables_are_catalogs()
@@ -164,8 +174,8 @@ pub fn one_catalog()
     one_spelling();
 }
 
-/// The canonical text of values is a stream of text, and its user values are these values, whatever
-/// the catalogue: of all values that a user of a stream can have.
+/// The canonical text of values that a user of a stream can have is a stream of text, and the user
+/// values of that stream are these values again, whatever the catalogue.
 pub fn text_is_read()
     ensures { TextIsRead }
 {
@@ -185,8 +195,9 @@ pub fn text_is_read()
     text::base64_is_read();
 }
 
-/// The user values of each stream are such values: numbers in their ranges, texts in UTF-8, fields in
-/// structs alone, and no declaration. It holds of bytes, where the texts of the catalogue are UTF-8.
+/// The user values of each stream of bytes are values that a user can have: numbers in their ranges,
+/// texts in UTF-8, lobs of bytes, fields in structs alone, and no declaration; where the texts of the
+/// catalogue are UTF-8, as those of a loaded one are (`catalogs_are_text`).
 pub fn values_of_streams()
     ensures { ValuesOfStreams }
 {
@@ -195,9 +206,8 @@ pub fn values_of_streams()
     text::streams_are_raw();
 }
 
-/// What is written of the user values of a stream is a stream of these values, in text, and in binary
-/// too where it is not longer than a header can say. The catalogue by which it is read again may be
-/// any.
+/// What is written of the user values of a stream is a stream of these values again: as text, and as
+/// binary where no value and no declaration in it is too long. It may be read by another catalogue.
 pub fn round_trip()
     ensures { RoundTrip }
 {
@@ -206,7 +216,8 @@ pub fn round_trip()
     binary::the_form_is_read();
 }
 
-/// A run to text over what a run to text wrote writes the same bytes, where both are accepted.
+/// To show what was shown changes nothing: a run to text over the output of a run to text writes that
+/// output again, and counts as many values, where both are accepted.
 pub fn show_once()
     ensures { ShowOnce }
 {
@@ -215,8 +226,9 @@ pub fn show_once()
     text::one_stream();
 }
 
-/// A run to text over the binary that was written of a text writes what a run to text over that text
-/// does, where all three are accepted.
+/// To convert a text and show the binary is to show the text: a run to text over the binary that was
+/// written of a text writes what a run to text over that text does, and counts as many values, where
+/// all three are accepted.
 pub fn there_and_back()
     ensures { ThereAndBack }
 {

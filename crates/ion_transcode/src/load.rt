@@ -6,7 +6,9 @@ ghost use Rattle.ion_meter.specs.Limits.{AreChecked};
 ghost use Rattle.ion_meter.specs.Windows.{left};
 ghost use Rattle.ion_value.specs.Outcome.{Rejected};
 ghost use Rattle.ion_value.specs.Shares.{Charges};
+ghost use Rattle.ion_value.specs.Writable.{AreBytes};
 ghost use Rattle.ion_symbols.specs.Table.{catalog_cost};
+ghost use Rattle.ion_symbols.specs.UserValues.{CatalogIsText};
 ghost use Rattle.ion_transcode.specs.declared.to.Form.TheVariants as form;
 ghost use Rattle.ion_transcode.specs.declared.to.To.TheVariants as to;
 ghost use Rattle.ion_transcode.specs.Bound.{share};
@@ -14,7 +16,7 @@ ghost use Rattle.ion_transcode.specs.Calls.{Begins, HasRoom, IsFresh};
 ghost use Rattle.ion_transcode.specs.Catalogues.{HasCatalogVerdict, IsCatalog, LoadCauses, LoadCharges, SaysCatalog, catalog_reading, kept_in, load_bound};
 
 use crate::copy_stream::copy_stream;
-use crate::laws::{catalog_verdicts_are_read, catalogs_are_loaded};
+use crate::laws::{catalog_verdicts_are_read, catalogs_are_loaded, catalogs_are_text};
 use crate::to::{Form, form_by_first};
 use ion_binary::reader::BinReader;
 use ion_meter::device::{Broken, Input, Output};
@@ -173,9 +175,11 @@ pub fn load_catalog<I: Input, A: Allocator + Copy>(
     requires countable { meter.old.refused < 2 ^ 64 - 1 }
     requires reads { I.failure_count input < 2 ^ 64 - 1 }
 
-    // The catalogue, or why there is none.
+    // The catalogue, whose texts are UTF-8, or why there is none.
     ensures loaded { I.observable input
         → IfOk result.0 (λ catalog. IsCatalog limits (I.rest input) catalog) }
+    ensures text { I.observable input → AreBytes (I.rest input)
+        → IfOk result.0 (λ catalog. CatalogIsText catalog) }
     ensures refused { I.observable input → (r : Reason) (p : ℕ) → result.0 ≡ Err (Refused r p)
         → HasCatalogVerdict limits (I.rest input) (Rejected r p) }
 
@@ -198,5 +202,6 @@ pub fn load_catalog<I: Input, A: Allocator + Copy>(
 {
     catalog_verdicts_are_read();
     catalogs_are_loaded();
+    catalogs_are_text();
     load(meter, limits, input)
 }

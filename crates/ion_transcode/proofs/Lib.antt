@@ -33,3 +33,4 @@ mod OpenContainers
 mod NoDeeper
 mod AcceptedAgain
 mod TopRows
+mod ShownRows

@@ -29,5 +29,8 @@ mod ReadAgain
 mod ShortRuns
 mod Accepted
 mod ReadWhole
+mod OpenContainers
+mod NoDeeper
 mod AcceptedAgain
 mod TopRows
+mod ShownRows

@@ -62,8 +62,7 @@ impl<I: Input, A: Allocator + Copy> Model for Source<I, A> {
 #[inline(always)]
 fn are_bytes(bytes: &[u8])
     ensures { AreBytes bytes.now }
-{
-}
+{}
 
 impl<I: Input, A: Allocator + Copy> Source<I, A> {
     /// A window on this input, or the device back where there is no memory for it.

@@ -1,5 +1,5 @@
 -- Which values a stream can have and a writer may be given: numbers in range, texts in UTF-8, bytes below 256, fields in structs alone.
-use Rattle.std.specs.Prelude.{◌≡◌, ℕ, ◌<◌, List, [], ◌∷◌, ◌++◌, Option, Some, None, is_some, IsUtf8, ⊤}
+use Rattle.std.specs.Prelude.{◌≡◌, ℕ, List, [], ◌∷◌, ◌++◌, Option, Some, None, is_some, IsUtf8, ⊤}
 use Rattle.std.specs.List.{AllByRecursion}
 pub use Rattle.ion_meter.specs.Windows.{AreBytes}
 use Rattle.ion_value.specs.declared.ion_type.Kind.{Kind}

@@ -43,8 +43,8 @@ again accepted catalog limits us asked t out to_is taken written r =
 
 pub what-is-shown-is-accepted : WhatIsAcceptedIsRead → OneSpelling → ValuesOfStreams → WhatIsReadIsNoDeeper → TextIsReadWithin
     → WhatIsReadIsAccepted → WhatIsShownIsAccepted
-what-is-shown-is-accepted is_read one values shallow within accepted catalog other limits wide asked bytes shown n tops us small texts to_is
-    verdict stream are least deeper fits =
+what-is-shown-is-accepted is_read one values shallow within accepted catalog other limits wide asked bytes shown n tops us small
+    texts to_is verdict stream are least deeper fits =
     let f : Form = form_of bytes in
     let a = is_read catalog limits asked bytes target.Text n shown to_is verdict in
     let same : a.tops ≡ tops = (one f).stream bytes a.tops tops a.stream stream in

@@ -49,7 +49,8 @@ mutual
   value-no_deeper {S} {P} most n top f annotations place (container kind members last) rest h =
       let last_item : Item S P = bare_item value.end last top in
       let inside : Shallow most (suc n) (member_items top members ++ (last_item ∷ rest)) =
-      subst (λ (is : List (Item S P)). Shallow most (suc n) is) (append_assoc (member_items top members) (last_item ∷ []) rest) h.1 in
+      subst (λ (is : List (Item S P)). Shallow most (suc n) is)
+      (append_assoc (member_items top members) (last_item ∷ []) rest) h.1 in
       let m = members-no_deeper most (suc n) top members (last_item ∷ rest) inside in
       let same : suc n - 1 ≡ n = omega arith in
       ((h.0, m.0), subst (λ (k : ℕ). Shallow most k rest) same m.1.1)
@@ -128,7 +129,9 @@ tree-users catalog most t first annotations place x tops (Some members) h later 
 tree-users catalog most t first annotations place x tops None h later = by (user_tops catalog t tops) (later t)
   where
     by : (others : Option (List (Top UserSymbol ℕ))) → IfSome others (AllByRecursion (IsNoDeeper most))
-        → IfSome (option_map (λ us. tree first (map (user_at t) annotations) place (map_value (user_at t) (λ p. p) x) ∷ us) others)
+        → IfSome (
+        option_map (λ us. tree first (map (user_at t) annotations) place (map_value (user_at t) (λ p. p) x) ∷ us) others
+        )
         (AllByRecursion (IsNoDeeper most))
     by None k = tt
     by (Some us) k = (value-map (user_at t) (λ (p : ℕ). p) most 0 x h, k)
@@ -146,11 +149,11 @@ users-no_deeper catalog most (tree first annotations place x ∷ tops) h t =
 reading-shallow : (f : Form) (limits : Limits) (bytes : List ℕ) → Shallow limits.depth 0 (items_of (reading_of f limits bytes))
 unfolding binary.reading text.reading
 reading-shallow form.Binary limits bytes =
-    shallow-reading (binary.step limits) open_in_binary limits.depth (binary-opens limits) (suc (binary.size (binary.start bytes)))
-    (binary.start bytes)
+    let first = binary.start bytes in
+    shallow-reading (binary.step limits) open_in_binary limits.depth (binary-opens limits) (suc (binary.size first)) first
 reading-shallow form.Text limits bytes =
-    shallow-reading (text.step limits) open_in_text limits.depth (text-opens limits) (suc (text.size (text.start bytes)))
-    (text.start bytes)
+    let first = text.start bytes in
+    shallow-reading (text.step limits) open_in_text limits.depth (text-opens limits) (suc (text.size first)) first
 
 pub what-is-read-is-no-deeper : WhatIsReadIsNoDeeper
 what-is-read-is-no-deeper f catalog limits bytes tops us read are =

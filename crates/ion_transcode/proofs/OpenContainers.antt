@@ -258,7 +258,8 @@ by_descriptor-found limits a descriptor.marker c =
 by_descriptor-found limits a descriptor.float c = tt
 by_descriptor-found limits a descriptor.illegal c = tt
 
-value-found : (limits : Limits) (a : Around) (b : ℕ) (c : Cursor) → IfOk (binary.typed_value_at limits a b c) (Found limits a.depth)
+value-found : (limits : Limits) (a : Around) (b : ℕ) (c : Cursor)
+    → IfOk (binary.typed_value_at limits a b c) (Found limits a.depth)
 unfolding binary.typed_value_at
 value-found limits a b c =
     then-if (Found limits a.depth) (refuse (a.wrapped && is_unwrappable b) BadAnnotation) _
@@ -284,7 +285,8 @@ found-good : (limits : Limits) (a : Around) (frames : List Frame) (top : ℕ) (f
     → IfOk (part p (binary.typed_value_at limits a b c) >>= (λ v. Ok (binary.step_for frames top f annotations place v.0 v.1)))
     (Good limits frames)
 found-good limits a frames top f annotations place p b c deep =
-    by (binary.typed_value_at limits a b c) (subst (λ (n : ℕ). IfOk (binary.typed_value_at limits a b c) (Found limits n)) deep (value-found limits a b c))
+    let found = subst (λ (n : ℕ). IfOk (binary.typed_value_at limits a b c) (Found limits n)) deep (value-found limits a b c) in
+    by (binary.typed_value_at limits a b c) found
   where
     by : (r : Result (TypedValue × Cursor) Reason) → IfOk r (Found limits (length frames))
         → IfOk (part p r >>= (λ v. Ok (binary.step_for frames top f annotations place v.0 v.1))) (Good limits frames)
@@ -314,7 +316,8 @@ annotated-good limits frames top f place length_code c =
     (λ w. bind-if (Good limits frames) (binary.ids_at w.0.ids limits w.0.ids 0 w.1) _
     (λ annotations. inner-good limits frames top f annotations.0 w.0.end annotations.1))
 
-by_wrapper-good : (limits : Limits) (frames : List Frame) (top : ℕ) (f : Option SymbolAt) (place b : ℕ) (c : Cursor) (m : Option ℕ)
+by_wrapper-good : (limits : Limits) (frames : List Frame) (top : ℕ) (f : Option SymbolAt) (place b : ℕ) (c : Cursor)
+    (m : Option ℕ)
     → IfOk (binary.by_wrapper m (λ length_code. binary.annotated_at limits frames top f place length_code c)
     (binary.plain_at limits frames top f place b c)) (Good limits frames)
 by_wrapper-good limits frames top f place b c None = plain-good limits frames top f place b c
@@ -352,7 +355,8 @@ in-good limits (f ∷ frames) top c = by (nat_le f.end c.place)
         else binary.step_of (binary.member_at limits (f ∷ frames) top c)
         )
     by true = (tt, omega arith)
-    by false = step_of-good limits (f ∷ frames) (binary.member_at limits (f ∷ frames) top c) (member-good limits (f ∷ frames) top c)
+    by false =
+        step_of-good limits (f ∷ frames) (binary.member_at limits (f ∷ frames) top c) (member-good limits (f ∷ frames) top c)
 
 pub binary-opens : (limits : Limits) (s : binary_positions.State)
     → Opens limits.depth open_in_binary (open_in_binary s) (binary.step limits s)

@@ -189,7 +189,8 @@ one-more laws catalog start done first place annotations x rest users begins s =
           (s.resolved limit (top ∷ more) here);
       within = λ limits wide fits deep.
           let own : List (Top UserSymbol ℕ) = tree first annotations place x ∷ [] in
-          let others = s.within limits wide (all-left (FitsText limits) done own fits) (all-left (IsNoDeeper limits.depth) done own deep) in
+          let below = all-left (IsNoDeeper limits.depth) done own deep in
+          let others = s.within limits wide (all-left (FitsText limits) done own fits) below in
           let last = all-right (FitsText limits) done own fits in
           (others, v.within limits 0 wide last.0.0 last.0.1 (all-right (IsNoDeeper limits.depth) done own deep).0);
     }

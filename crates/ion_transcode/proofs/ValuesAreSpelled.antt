@@ -96,8 +96,8 @@ notes-fit : (ss : List UserSymbol) (limits : Limits) → NotesFit ss limits → 
 notes-fit ss limits fits = (fits.0, each-fits limits ss fits.1)
 
 -- annotations behind others, and what stands between them and what follows
-record AnnotationsRead (Fit : Limits → Type 0) (sexp : Bool) (c : Cursor) (done : List SymbolAt) (ss : List UserSymbol) (rest : List ℕ)
-    : Type 0 where
+record AnnotationsRead (Fit : Limits → Type 0) (sexp : Bool) (c : Cursor) (done : List SymbolAt) (ss : List UserSymbol)
+    (rest : List ℕ) : Type 0 where
   own : List SymbolAt
   gap : List ℕ
   is_gap : Gap gap
@@ -142,7 +142,8 @@ annotations-read laws Fit sexp c done (s ∷ ss) texts fits gap g p rest prev =
           let each = fits limits fit in
           (moved.within limits fit, counts-there word limits.scalar (is.counted limits each.0 each.1.0));
     } in
-    let others : (limits : Limits) → Fit limits → EachFits limits ss = λ limits fit. ((fits limits fit).0, (fits limits fit).1.1) in
+    let others : (limits : Limits) → Fit limits → EachFits limits ss =
+    λ limits fit. ((fits limits fit).0, (fits limits fit).1.1) in
     let next = annotations-read laws Fit sexp c (done ++ own ∷ []) ss texts.1 others [] no_gap two.behind rest then in
     record {
       own = own ∷ next.own;
@@ -234,7 +235,8 @@ full_of k nothing = false
 full_of k (member before f annotations place x) = has_commas (Some k)
 
 -- members are within limits, where these allow that they fit
-abbrev Allowed : {k : Kind} {c d : Cursor} {raw : Members SymbolAt ℕ} {full : Bool} → Members UserSymbol ℕ → Inside k c raw full d → Type 0
+abbrev Allowed : {k : Kind} {c d : Cursor} {raw : Members SymbolAt ℕ} {full : Bool} → Members UserSymbol ℕ
+    → Inside k c raw full d → Type 0
 Allowed ms spells =
     (limits : Limits) (depth : ℕ) → 64 ≤ limits.scalar → MembersFit limits ms → MembersAreNoDeeper limits.depth depth ms
     → InsideWithin limits depth spells
@@ -491,7 +493,8 @@ mutual
       let c : Cursor = at p (gap ++ (annotations_text notes ++ (scalar_text body ++ rest))) in
       let noted = own-annotations f notes (scalar body) texts in
       let none = no-names (NotesFit notes) sexp c in
-      let a = annotations-read laws (NotesFit notes) sexp c [] notes noted (notes-fit notes) gap g p (scalar_text body ++ rest) none in
+      let more : List ℕ = scalar_text body ++ rest in
+      let a = annotations-read laws (NotesFit notes) sexp c [] notes noted (notes-fit notes) gap g p more none in
       let is = scalar-is laws body writable.0 writable.1 small (own-scalar f notes body texts) in
       let w = scalar-read laws k c a.own a.gap a.is_gap a.place body rest a.names.spells behind is in
       record {
@@ -516,7 +519,8 @@ mutual
       let none = no-names (NotesFit notes) sexp c in
       let a = annotations-read laws (NotesFit notes) sexp c [] notes noted (notes-fit notes) gap g p all none in
       let prev : NamesRead (NotesFit notes) sexp c a.own (at a.place (a.gap ++ (opener j ++ inside))) =
-      subst (λ (xs : List ℕ). NamesRead (NotesFit notes) sexp c a.own (at a.place (a.gap ++ xs))) (container-join j ms last rest) a.names in
+      subst (λ (xs : List ℕ). NamesRead (NotesFit notes) sexp c a.own (at a.place (a.gap ++ xs)))
+      (container-join j ms last rest) a.names in
       let own = own-members f notes j ms last texts in
       let b = begin-stands j sexp a.gap a.is_gap a.place inside (opens laws j ms own writable rest) in
       let m = members-read laws j ms b.behind (closer j ++ rest) own writable small (λ e. closer-behind j rest) in

@@ -1,5 +1,4 @@
--- What was shown is accepted again: which values limits allow in canonical text, by lengths and numbers alone. Laws that contracts
--- cite.
+-- What was shown is accepted: which values limits allow in canonical text, by lengths and numbers alone. Laws that contracts cite.
 use Rattle.std.specs.Prelude.{◌≡◌, ℕ, ◌+◌, ◌≤◌, List, [], length, map, sum_by, Option, Some, None, ⊤}
 use Rattle.std.specs.List.{AllByRecursion}
 use Rattle.ion_meter.specs.declared.limits.Limits.{Limits}
@@ -31,8 +30,8 @@ abbrev pub SymbolFits : Limits → UserSymbol → Type 0
 SymbolFits limits (Known t) = length t ≤ limits.scalar
 SymbolFits limits Unknown = ⊤
 
--- the bytes of a string, a clob or a blob, and the text of a symbol, are no more than the limit on scalars; a null, a bool, a number
--- and a timestamp have 64 bytes of text at most
+-- the bytes of a string, a clob or a blob, and the text of a symbol, are no more than the limit on scalars; a null, a bool, a
+-- number and a timestamp have 64 bytes of text at most
 abbrev pub ScalarFits : Limits → Scalar UserSymbol → Type 0
 ScalarFits limits (value.null type) = ⊤
 ScalarFits limits (value.bool truth) = ⊤
@@ -77,8 +76,8 @@ FitsText limits (tree first annotations place x) = AnnotationsFit limits annotat
 
 -- ---- what is written of them is read under these limits
 
--- the canonical text of values is read to its end, its symbols are all resolved whatever the catalogue is, and its user values are
--- these again, in all but their places
+-- the canonical text of values is read to its end, its symbols are all resolved whatever the catalogue is, and its user values
+-- are these again, in all but their places
 pub record IsReadWithin (catalog : List Shared) (limits : Limits) (tops : List (Top UserSymbol ℕ)) : Type 0 where
   pub raw : List (Top SymbolAt ℕ)
   pub users : List (Top UserSymbol ℕ)
@@ -88,7 +87,8 @@ pub record IsReadWithin (catalog : List Shared) (limits : Limits) (tops : List (
   pub users_are : user_tops catalog system raw ≡ Some users
   pub same : map unplaced_top users ≡ map unplaced_top tops
 
--- so it is of all values that a user can have and that fit, and are no deeper than the limit, where the limit on scalars is 64 or more
+-- so it is of all values that a user can have and that fit, and are no deeper than the limit, where the limit on scalars is 64
+-- or more
 abbrev pub TextIsReadWithin : Type 0
 TextIsReadWithin =
     (catalog : List Shared) (limits : Limits) (tops : List (Top UserSymbol ℕ)) → 64 ≤ limits.scalar → AreUsers tops
@@ -97,13 +97,14 @@ TextIsReadWithin =
 -- ---- what was shown is accepted
 
 -- what a run to text wrote is accepted by a run to text, which writes the same bytes, and by a run to nothing, and both count as
--- many values: whatever the catalogue is, where the values fit these runs' limits, of which that on scalars is 64 or more and that on
--- depth is no lower than the first run's. `tops` and `us` are what the first run read, and its user values
+-- many values: whatever the catalogue is, where the values fit these runs' limits, of which that on scalars is 64 or more and that
+-- on depth is no lower than the first run's. `tops` and `us` are what the first run read, and its user values
 abbrev pub WhatIsShownIsAccepted : Type 0
 WhatIsShownIsAccepted =
-    (catalog other : List Shared) (limits wide : Limits) (asked : To) (bytes shown : List ℕ) (n : ℕ) (tops : List (Top SymbolAt ℕ))
-    (us : List (Top UserSymbol ℕ))
+    (catalog other : List Shared) (limits wide : Limits) (asked : To) (bytes shown : List ℕ) (n : ℕ)
+    (tops : List (Top SymbolAt ℕ)) (us : List (Top UserSymbol ℕ))
     → AreBytes bytes → CatalogIsText catalog → resolved (form_of bytes) asked ≡ Some target.Text
     → HasVerdict catalog limits asked bytes (Accepted n) shown → (encoding_of (form_of bytes)).Stream bytes tops
-    → user_tops catalog system tops ≡ Some us → 64 ≤ wide.scalar → limits.depth ≤ wide.depth → AllByRecursion (FitsText wide) us
+    → user_tops catalog system tops ≡ Some us → 64 ≤ wide.scalar → limits.depth ≤ wide.depth
+    → AllByRecursion (FitsText wide) us
     → HasVerdict other wide to.Text shown (Accepted n) shown × HasVerdict other wide to.Nothing shown (Accepted n) []

@@ -282,15 +282,15 @@ pub fn what_is_accepted_is_read()
     text::one_stream();
 }
 
-/// The values of a stream that is read to its end open no more containers inside each other than the
-/// limit says.
+/// The values of a stream that is read to its end open no more containers inside each other than
+/// the limit says.
 pub fn what_is_read_is_no_deeper()
     ensures { WhatIsReadIsNoDeeper }
 {}
 
-/// The canonical text of values is read to its end under limits that the values fit, and its symbols
-/// are all resolved: of all values that a user of a stream can have. No number and no timestamp has
-/// more than 64 bytes.
+/// The canonical text of values is read to its end under limits that the values fit, and its
+/// symbols are all resolved: of all values that a user of a stream can have. No number and no
+/// timestamp has more than 64 bytes.
 pub fn text_is_read_within()
     ensures { TextIsReadWithin }
 {

@@ -29,5 +29,7 @@ mod ReadAgain
 mod ShortRuns
 mod Accepted
 mod ReadWhole
+mod WrittenFits
+mod WrittenAccepted
 mod AcceptedAgain
 mod TopRows

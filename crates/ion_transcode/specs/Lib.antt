@@ -12,5 +12,6 @@ pub mod Laws
 pub mod UserPaths
 pub mod RoundTrip
 pub mod Acceptance
+pub mod WrittenAgain
 pub mod ShownAgain
 pub mod Calls

@@ -31,6 +31,8 @@ mod Accepted
 mod ReadWhole
 mod OpenContainers
 mod NoDeeper
+mod WrittenFits
+mod WrittenAccepted
 mod AcceptedAgain
 mod TopRows
 mod ShownRows

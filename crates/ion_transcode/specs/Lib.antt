@@ -13,5 +13,6 @@ pub mod UserPaths
 pub mod RoundTrip
 pub mod Acceptance
 pub mod Depth
+pub mod WrittenAgain
 pub mod ShownAgain
 pub mod Calls

@@ -7,11 +7,12 @@ ghost use Rattle.ion_transcode.specs.Laws.{BinaryIsComplete, BinaryIsSound, OneS
 ghost use Rattle.ion_transcode.specs.RoundTrip.{RoundTrip, ShowOnce, TextIsRead, ThereAndBack, ValuesOfStreams};
 ghost use Rattle.ion_transcode.specs.ShownAgain.{TextIsReadWithin, WhatIsShownIsAccepted};
 ghost use Rattle.ion_transcode.specs.UserPaths.{FaultlessPathsAreRead, RefusedOutputIsThatOfAPath};
+ghost use Rattle.ion_transcode.specs.WrittenAgain.{WrittenBinaryIsAccepted};
 
 use ion_binary::laws as binary;
 use ion_symbols::laws::{
     catalogs_are_read, catalogs_are_tables, open_users_are_read, tables_of_users_are_text,
-    users_are_read, users_of_raw_values, what_is_accepted_is_resolved,
+    texts_of_users_are_short, users_are_read, users_of_raw_values, what_is_accepted_is_resolved,
     what_is_resolved_is_accepted,
 };
 use ion_text_in::laws as text;
@@ -322,4 +323,22 @@ pub fn what_is_shown_is_accepted()
     what_is_read_is_no_deeper();
     text_is_read_within();
     what_is_read_is_accepted();
+}
+
+/// Where a run to binary accepts a text, a run over what it wrote accepts that too, under the same
+/// limits and whatever the catalogue, and writes what a run to text over the text does.
+pub fn written_binary_is_accepted()
+    ensures { WrittenBinaryIsAccepted }
+{
+    what_is_accepted_is_read();
+    what_is_read_is_accepted();
+    values_of_streams();
+    text::streams_are_raw();
+    text::values_read_are_within_limits();
+    texts_of_users_are_short();
+    binary::the_form_is_read();
+    binary::what_is_within_is_short();
+    binary::what_is_written_is_within_limits();
+    binary::what_is_written_is_resolved();
+    binary::numbers_fit();
 }

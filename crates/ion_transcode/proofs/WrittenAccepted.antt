@@ -1,0 +1,101 @@
+-- What was written as binary is accepted under the limits of its run, and shows what the text shows.
+use Rattle.std.proofs.Common.{◌≡◌, ℕ, List, [], length, Some, refl, ap, sym, ◌∙◌, subst, subst₂}
+use Rattle.std.specs.List.{AllByRecursion}
+use Rattle.ion_meter.specs.declared.limits.Limits.{Limits}
+use Rattle.ion_value.specs.Outcome.{Accepted}
+use Rattle.ion_value.specs.Path.{closed, path_items}
+use Rattle.ion_value.specs.Reading.{Finished, behind}
+use Rattle.ion_value.specs.Value.{UserSymbol, Top}
+use Rattle.ion_symbols.specs.Resolved.{AreResolved}
+use Rattle.ion_symbols.specs.Table.{Shared, system}
+use Rattle.ion_symbols.specs.TextsOfUsers.{TextsOfUsersAreShort}
+use Rattle.ion_symbols.specs.UserValues.{AreUsers}
+use Rattle.ion_binary.specs.Canonical.{binary}
+use Rattle.ion_binary.specs.Reading as binary_reading
+use Rattle.ion_binary.specs.Spelling.{IsRead, TheFormIsRead, WhatIsWithinIsShort}
+use Rattle.ion_binary.specs.WrittenLimits.{FitsBinary, NumbersFit, WhatIsWrittenIsWithinLimits}
+use Rattle.ion_binary.specs.WrittenSymbols.{WhatIsWrittenIsResolved}
+use Rattle.ion_text_in.specs.Grammar as text_grammar
+use Rattle.ion_text_in.specs.Laws.{StreamsAreRaw}
+use Rattle.ion_text_in.specs.Reading as text_reading
+use Rattle.ion_text_in.specs.ReadWithin.{ValuesReadAreWithin}
+use Rattle.ion_text_out.specs.Text.{text}
+use Rattle.ion_transcode.specs.declared.to.Form.{Form}
+use Rattle.ion_transcode.specs.declared.to.Form.TheVariants as form
+use Rattle.ion_transcode.specs.declared.to.Target.{Target}
+use Rattle.ion_transcode.specs.declared.to.Target.TheVariants as target
+use Rattle.ion_transcode.specs.declared.to.To.{To}
+use Rattle.ion_transcode.specs.declared.to.To.TheVariants as to
+use Rattle.ion_transcode.specs.Acceptance.{AreTaken, WhatIsReadIsAccepted, WhatIsAcceptedIsRead}
+use Rattle.ion_transcode.specs.Forms.{encoding_of, form_of, reading_of}
+use Rattle.ion_transcode.specs.Outputs.{outputs_of, resolved}
+use Rattle.ion_transcode.specs.RoundTrip.{ValuesOfStreams}
+use Rattle.ion_transcode.specs.Verdict.{HasVerdict}
+use Rattle.ion_transcode.specs.WrittenAgain.{WrittenBinaryIsAccepted}
+use Rattle.ion_transcode.proofs.ReadAgain.{same-length}
+use Rattle.ion_transcode.proofs.TextWithoutPlaces.{same-text}
+use Rattle.ion_transcode.proofs.WrittenFits.{NumbersAllow, users-of-read-fit}
+
+-- binary is written of text alone
+of-text : (f : Form) (asked : To) → resolved f asked ≡ Some target.Binary → f ≡ form.Text
+of-text form.Text asked e = refl
+of-text form.Binary to.Text e = absurd (cc e)
+of-text form.Binary to.Binary e = absurd (cc e)
+of-text form.Binary to.Nothing e = absurd (cc e)
+of-text form.Binary to.Other e = absurd (cc e)
+
+-- what is asked for of binary, and comes to this target
+module _ (accepted : WhatIsReadIsAccepted) (other : List Shared) (limits : Limits) (us : List (Top UserSymbol ℕ)) (r : IsRead other limits.symbols us)
+    (read : binary_reading.reading limits (binary limits.symbols us) ≡ behind (path_items (closed r.raw)) Finished)
+    (resolved_are : AreResolved other limits.symbols system r.raw) where
+  written-form : form_of (binary limits.symbols us) ≡ form.Binary
+  written-form = ap form_of r.stream.begins.1
+
+  read-again : (asked : To) (t : Target) → resolved form.Binary asked ≡ Some t → AreTaken t limits r.users
+      → HasVerdict other limits asked (binary limits.symbols us) (Accepted (length us)) ((outputs_of t limits).whole_output r.users)
+  read-again asked t to_is taken =
+      let bytes : List ℕ = binary limits.symbols us in
+      let to_target : resolved (form_of bytes) asked ≡ Some t = ap (λ (f : Form). resolved f asked) written-form ∙ to_is in
+      let as_read : reading_of (form_of bytes) limits bytes ≡ behind (path_items (closed r.raw)) Finished = ap (λ (f : Form). reading_of f limits bytes) written-form ∙ read in
+      subst (λ (n : ℕ). HasVerdict other limits asked bytes (Accepted n) ((outputs_of t limits).whole_output r.users)) (same-length r.users us r.same)
+      (accepted other limits asked bytes t r.raw r.users to_target as_read resolved_are r.users_are taken)
+
+module _ (is_read : WhatIsAcceptedIsRead) (accepted : WhatIsReadIsAccepted) (values : ValuesOfStreams) (raw : StreamsAreRaw) (kept : ValuesReadAreWithin)
+    (texts : TextsOfUsersAreShort) (is_binary : TheFormIsRead) (short : WhatIsWithinIsShort) (within : WhatIsWrittenIsWithinLimits) (stands : WhatIsWrittenIsResolved)
+    (numbers : NumbersFit) where
+  pub written-binary : WrittenBinaryIsAccepted
+  written-binary catalog other limits asked bytes written n small is_text fits_catalog checked allow enough to_is verdict =
+      let f : Form = form_of bytes in
+      let w = is_read catalog limits asked bytes target.Binary n written to_is verdict in
+      let f_is : f ≡ form.Text = of-text f asked to_is in
+      let us : List (Top UserSymbol ℕ) = w.us in
+      let stream : text_grammar.Stream bytes w.tops = subst (λ (g : Form). (encoding_of g).Stream bytes w.tops) f_is w.stream in
+      let read : text_reading.reading limits bytes ≡ behind (path_items (closed w.tops)) Finished =
+      subst (λ (g : Form). reading_of g limits bytes ≡ behind (path_items (closed w.tops)) Finished) f_is w.read in
+      let are : AreUsers us = values f catalog bytes w.tops us small is_text w.stream w.users_are in
+      let fit = numbers limits enough in
+      let allowed : NumbersAllow limits = record { decimals = λ d run range e le. fit.0 d range; timestamps = λ t run range e le. fit.1 t range } in
+      let fits : AllByRecursion (FitsBinary limits) us =
+      users-of-read-fit limits allowed texts catalog w.tops us fits_catalog (raw bytes w.tops stream) (kept limits bytes w.tops stream read) w.users_are in
+      let r = is_binary other limits.symbols us are.0 (short limits us checked w.taken) in
+      let read_again = within limits us r.raw checked allow are.0 w.taken fits r.stream in
+      let resolved_again = stands other limits us r.raw checked are.0 w.taken r.stream in
+      let same : text r.users ≡ text us = same-text r.users us r.same in
+      let again = read-again accepted other limits us r read_again resolved_again in
+      let shown = accepted catalog limits to.Text bytes target.Text w.tops us (ap (λ (g : Form). resolved g to.Text) f_is) w.read w.resolved_are w.users_are tt in
+      record {
+        tops = w.tops;
+        us = us;
+        stream = stream;
+        users_are = w.users_are;
+        shown = subst (λ (m : ℕ). HasVerdict catalog limits to.Text bytes (Accepted m) (text us)) (sym w.count) shown;
+        as_text = moved to.Text us w.output w.count same (again to.Text target.Text refl tt);
+        as_other = moved to.Other us w.output w.count same (again to.Other target.Text refl tt);
+        as_nothing = subst₂ (λ (xs : List ℕ) (m : ℕ). HasVerdict other limits to.Nothing xs (Accepted m) []) (sym w.output) (sym w.count) (again to.Nothing target.Nothing refl tt);
+      }
+    where
+      moved : (asked : To) (us : List (Top UserSymbol ℕ)) → written ≡ binary limits.symbols us → n ≡ length us → {out : List ℕ} → out ≡ text us
+          → HasVerdict other limits asked (binary limits.symbols us) (Accepted (length us)) out → HasVerdict other limits asked written (Accepted n) (text us)
+      moved asked us output count same v =
+          subst₂ (λ (xs : List ℕ) (m : ℕ). HasVerdict other limits asked xs (Accepted m) (text us)) (sym output) (sym count)
+          (subst (λ (o : List ℕ). HasVerdict other limits asked (binary limits.symbols us) (Accepted (length us)) o) same v)

@@ -1,0 +1,170 @@
+-- The user values of a text that was read under limits fit them in binary too.
+use Rattle.std.proofs.Common.{◌≡◌, ℕ, suc, ◌*◌, ◌≤◌, sum_by, List, [], ◌∷◌, length, map, Option, None, Some, Ok, IfSome, option_map, subst, arith}
+use Rattle.std.specs.List.{AllByRecursion}
+use Rattle.std.specs.Bool.{⊤}
+use Rattle.std.proofs.lemmas.List.Sums.{sum_by-cons}
+use Rattle.ion_meter.specs.declared.limits.Limits.{Limits}
+use Rattle.ion_value.specs.declared.decimal.Decimal.{Decimal}
+use Rattle.ion_value.specs.declared.ion_type.Kind.{Kind}
+use Rattle.ion_value.specs.declared.timestamp.Timestamp.{Timestamp}
+use Rattle.ion_value.specs.Decimal.{IsDecimal, decimal_body, decimal_of_text}
+use Rattle.ion_value.specs.Standing.{InRange}
+use Rattle.ion_value.specs.Timestamp.{IsTimestamp, timestamp_body, timestamp_of_text}
+use Rattle.ion_value.specs.Value as value
+use Rattle.ion_value.specs.Value.{Symbol, SymbolAt, UserSymbol, Known, Unknown, Scalar, Value, Members, scalar, container, nothing, member, Top, version, tree, map_scalar, map_value, map_members}
+use Rattle.ion_value.specs.Writable.{IsWritable, AreWritable, IsRaw, value_symbols}
+use Rattle.ion_symbols.specs.Table.{Shared, Table, system, text_at}
+use Rattle.ion_symbols.specs.TextsOfUsers.{CatalogHas, SymbolHas, ScalarHas, ValueHas, MembersHave, TopHas, UserHas, UserTopHas, IsShort, TextsOfUsersAreShort}
+use Rattle.ion_symbols.specs.Tree.{user_at, declares_table, next_table, user_tops}
+use Rattle.ion_binary.specs.WrittenLimits.{ScalarFits, AnnotationsFit, ValueFits, MembersFit, SymbolFits, FitsBinary}
+use Rattle.ion_text_in.specs.Reading.{cost}
+use Rattle.ion_text_in.specs.ReadWithin.{SymbolIsWithin, ScalarIsWithin, AnnotationsAreWithin, ValueIsWithin, MembersAreWithin, TopIsWithin}
+
+-- what numbers need: each that is in range, and is spelled by a run within the limit, has a body within it
+pub record NumbersAllow (limits : Limits) : Type 0 where
+  pub decimals : (d : Decimal) (run : List ℕ) → IsDecimal d → decimal_of_text run ≡ Ok d → length run ≤ limits.scalar → length (decimal_body d) ≤ limits.scalar
+  pub timestamps : (t : Timestamp) (run : List ℕ) → IsTimestamp t → timestamp_of_text run ≡ Ok t → length run ≤ limits.scalar → length (timestamp_body t) ≤ limits.scalar
+
+-- ---- texts
+
+module _ (limits : Limits) where
+  abbrev Short : List ℕ → Type 0
+  Short = IsShort limits.scalar
+
+  abbrev SymbolWithin : SymbolAt → Type 0
+  SymbolWithin s = SymbolIsWithin limits s.symbol
+
+  abbrev SymbolShort : SymbolAt → Type 0
+  SymbolShort s = SymbolHas Short s.symbol
+
+  symbol-short : (s : Symbol) → SymbolIsWithin limits s → SymbolHas Short s
+  symbol-short (value.Text bytes) le = λ e. le
+  symbol-short (value.Id id) le = tt
+
+  symbols-short : (ss : List SymbolAt) → AllByRecursion SymbolWithin ss → AllByRecursion SymbolShort ss
+  symbols-short [] h = tt
+  symbols-short (s ∷ ss) h = (symbol-short s.symbol h.0, symbols-short ss h.1)
+
+  scalar-short : (body : Scalar SymbolAt) → ScalarIsWithin limits body → ScalarHas Short body
+  scalar-short (value.string bytes) h = λ e. h
+  scalar-short (value.null type) h = tt
+  scalar-short (value.bool truth) h = tt
+  scalar-short (value.int number) h = tt
+  scalar-short (value.decimal number) h = tt
+  scalar-short (value.timestamp moment) h = tt
+  scalar-short (value.symbol name) h = tt
+  scalar-short (value.clob bytes) h = tt
+  scalar-short (value.blob bytes) h = tt
+
+  mutual
+    value-short : (depth : ℕ) (x : Value SymbolAt ℕ) → ValueIsWithin limits depth x → ValueHas Short x
+    value-short depth (scalar body) h = scalar-short body h
+    value-short depth (container kind members last) h = members-short (suc depth) members h.1
+
+    members-short : (depth : ℕ) (members : Members SymbolAt ℕ) → MembersAreWithin limits depth members → MembersHave Short members
+    members-short depth nothing h = tt
+    members-short depth (member before field annotations place x) h = (members-short depth before h.0, value-short depth x h.2)
+
+  tops-short : (tops : List (Top SymbolAt ℕ)) → AllByRecursion (TopIsWithin limits) tops → AllByRecursion (TopHas Short) tops
+  tops-short [] h = tt
+  tops-short (version place ∷ tops) h = (tt, tops-short tops h.1)
+  tops-short (tree first annotations place x ∷ tops) h =
+      ((value-short 0 x h.0.1, symbols-short (value_symbols None annotations x) h.0.2), tops-short tops h.1)
+
+  -- ---- values
+
+  module _ (numbers : NumbersAllow limits) (f : SymbolAt → UserSymbol) where
+    scalar-fits : (body : Scalar SymbolAt) → InRange body → ScalarIsWithin limits body → ScalarFits limits (map_scalar f body)
+    scalar-fits (value.null type) range h = tt
+    scalar-fits (value.bool truth) range h = tt
+    scalar-fits (value.int number) range h = tt
+    scalar-fits (value.decimal number) range h = numbers.decimals number h.0 range h.1 h.2
+    scalar-fits (value.timestamp moment) range h = numbers.timestamps moment h.0 range h.1 h.2
+    scalar-fits (value.symbol name) range h = tt
+    scalar-fits (value.string bytes) range h = h
+    scalar-fits (value.clob bytes) range h = h
+    scalar-fits (value.blob bytes) range h = h
+
+    cost-least : (symbol : Symbol) (place : ℕ) → 16 ≤ cost (record { symbol = symbol; place = place })
+    cost-least (value.Text bytes) place = omega arith
+    cost-least (value.Id id) place = omega arith
+
+    costs-least : (annotations : List SymbolAt) → 16 * length (map f annotations) ≤ sum_by cost annotations
+    costs-least [] = omega arith
+    costs-least (a ∷ annotations) = omega (arith, cost-least a.symbol a.place, costs-least annotations, sum_by-cons cost a annotations)
+
+    annotations-fit : (annotations : List SymbolAt) → AnnotationsAreWithin limits annotations → AnnotationsFit limits (map f annotations)
+    annotations-fit annotations h = omega (arith, h, costs-least annotations)
+
+    mutual
+      value-fits : (depth : ℕ) (x : Value SymbolAt ℕ) → IsWritable x → ValueIsWithin limits depth x → ValueFits limits depth (map_value f (λ (p : ℕ). p) x)
+      value-fits depth (scalar body) writable h = scalar-fits body writable.0 h
+      value-fits depth (container kind members last) writable h = (h.0, members-fit kind (suc depth) members writable h.1)
+
+      members-fit : (kind : Kind) (depth : ℕ) (members : Members SymbolAt ℕ) → AreWritable kind members → MembersAreWithin limits depth members
+          → MembersFit limits depth (map_members f (λ (p : ℕ). p) members)
+      members-fit kind depth nothing writable h = tt
+      members-fit kind depth (member before field annotations place x) writable h =
+          (members-fit kind depth before writable.0 h.0, annotations-fit annotations h.1, value-fits depth x writable.1.1 h.2)
+
+  -- a value at top level, but for its symbols
+  abbrev TopFits : Top UserSymbol ℕ → Type 0
+  TopFits (version place) = ⊤
+  TopFits (tree first annotations place x) = AnnotationsFit limits annotations × ValueFits limits 0 x
+
+  abbrev TopsFit : List (Top UserSymbol ℕ) → Type 0
+  TopsFit us = AllByRecursion TopFits us
+
+  tree-fits : NumbersAllow limits → (t : Table) (first : ℕ) (annotations : List SymbolAt) (place : ℕ) (x : Value SymbolAt ℕ) → IsRaw (tree first annotations place x)
+      → TopIsWithin limits (tree first annotations place x) → TopFits (tree first (map (user_at t) annotations) place (map_value (user_at t) (λ (p : ℕ). p) x))
+  tree-fits numbers t first annotations place x raw h = (annotations-fit numbers (user_at t) annotations h.0, value-fits numbers (user_at t) 0 x raw.0 h.1)
+
+  -- from each table on
+  abbrev FromEach : List Shared → List (Top SymbolAt ℕ) → Type 0
+  FromEach catalog tops = (t : Table) → IfSome (user_tops catalog t tops) TopsFit
+
+  tree-behind : (catalog : List Shared) (t : Table) (tops : List (Top SymbolAt ℕ)) (user : Top UserSymbol ℕ) (declares : Option (Members SymbolAt ℕ)) → TopFits user
+      → FromEach catalog tops
+      → IfSome (elim declares [
+        | Some members ↦ elim (next_table catalog (text_at t) t members) [ None ↦ None | Some u ↦ user_tops catalog u tops ]
+        | None ↦ option_map (λ us. user ∷ us) (user_tops catalog t tops)
+      ]) TopsFit
+  tree-behind catalog t tops user (Some members) fits later = by (next_table catalog (text_at t) t members)
+    where
+      by : (next : Option Table) → IfSome (elim next [ None ↦ None | Some u ↦ user_tops catalog u tops ]) TopsFit
+      by None = tt
+      by (Some u) = later u
+  tree-behind catalog t tops user None fits later = by (user_tops catalog t tops) (later t)
+    where
+      by : (others : Option (List (Top UserSymbol ℕ))) → IfSome others TopsFit → IfSome (option_map (λ us. user ∷ us) others) TopsFit
+      by None k = tt
+      by (Some us) k = (fits, k)
+
+  tops-fit : NumbersAllow limits → (catalog : List Shared) (tops : List (Top SymbolAt ℕ)) → AllByRecursion IsRaw tops → AllByRecursion (TopIsWithin limits) tops → FromEach catalog tops
+  tops-fit numbers catalog [] raw h t = tt
+  tops-fit numbers catalog (version place ∷ tops) raw h t = tops-fit numbers catalog tops raw.1 h.1 system
+  tops-fit numbers catalog (tree first annotations place x ∷ tops) raw h t =
+      tree-behind catalog t tops (tree first (map (user_at t) annotations) place (map_value (user_at t) (λ (p : ℕ). p) x)) (declares_table t annotations x)
+      (tree-fits numbers t first annotations place x raw.0 h.0) (tops-fit numbers catalog tops raw.1 h.1)
+
+  -- ---- both
+
+  user-fits : (s : UserSymbol) → UserHas Short s → SymbolFits limits s
+  user-fits (Known bytes) h = h
+  user-fits Unknown h = tt
+
+  users-fit : (ss : List UserSymbol) → AllByRecursion (UserHas Short) ss → AllByRecursion (SymbolFits limits) ss
+  users-fit [] h = tt
+  users-fit (s ∷ ss) h = (user-fits s h.0, users-fit ss h.1)
+
+  both-fit : (us : List (Top UserSymbol ℕ)) → TopsFit us → AllByRecursion (UserTopHas Short) us → AllByRecursion (FitsBinary limits) us
+  both-fit [] h k = tt
+  both-fit (version place ∷ us) h k = (tt, both-fit us h.1 k.1)
+  both-fit (tree first annotations place x ∷ us) h k = ((h.0.0, h.0.1, users-fit (value_symbols None annotations x) k.0), both-fit us h.1 k.1)
+
+  -- what was read within the limits has user values that fit them
+  pub users-of-read-fit : NumbersAllow limits → TextsOfUsersAreShort → (catalog : List Shared) (tops : List (Top SymbolAt ℕ)) (us : List (Top UserSymbol ℕ))
+      → CatalogHas Short catalog → AllByRecursion IsRaw tops → AllByRecursion (TopIsWithin limits) tops → user_tops catalog system tops ≡ Some us
+      → AllByRecursion (FitsBinary limits) us
+  users-of-read-fit numbers texts catalog tops us c raw h e =
+      both-fit us (subst (λ o. IfSome o TopsFit) e (tops-fit numbers catalog tops raw h system)) (texts limits.scalar catalog tops us c (tops-short tops h) e)

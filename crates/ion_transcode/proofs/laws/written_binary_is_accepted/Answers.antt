@@ -1,0 +1,8 @@
+use Rattle.ion_transcode.proofs.WrittenAccepted.{written-binary}
+use Rattle.ion_transcode.proofs.laws.written_binary_is_accepted.Goals as goal
+
+pub returns : goal.returns
+returns c =
+    written-binary c.what_is_accepted_is_read.ensures c.what_is_read_is_accepted.ensures c.values_of_streams.ensures c.streams_are_raw.ensures
+    c.values_read_are_within_limits.ensures c.texts_of_users_are_short.ensures c.the_form_is_read.ensures c.what_is_within_is_short.ensures
+    c.what_is_written_is_within_limits.ensures c.what_is_written_is_resolved.ensures c.numbers_fit.ensures

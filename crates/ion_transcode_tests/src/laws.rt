@@ -7,7 +7,7 @@ use ion_transcode::laws::{
     round_trip, show_once, streams_are_read, tables_are_catalogs, text_is_complete, text_is_read,
     text_is_read_within, text_is_sound, text_is_spelled_once, there_and_back, values_of_streams,
     what_is_accepted_is_read, what_is_read_is_accepted, what_is_read_is_no_deeper,
-    what_is_shown_is_accepted,
+    what_is_shown_is_accepted, written_binary_is_accepted,
 };
 
 #[test]
@@ -40,4 +40,5 @@ fn states_laws() {
     what_is_read_is_no_deeper();
     text_is_read_within();
     what_is_shown_is_accepted();
+    written_binary_is_accepted();
 }

@@ -106,11 +106,6 @@ same-wants kind.List = refl
 same-wants kind.Sexp = refl
 same-wants kind.Struct = refl
 
-same-kind : (k : Kind) → reading.is_same k k ≡ true
-same-kind kind.List = refl
-same-kind kind.Sexp = refl
-same-kind kind.Struct = refl
-
 -- a mark counts nothing
 pub mark-within : (limits : Limits) (t : Token) (p : ℕ) (d : Cursor) → counts t p d.place ≡ 0 → TokenWithin limits t p d
 mark-within limits t p d none = omega (arith, none)

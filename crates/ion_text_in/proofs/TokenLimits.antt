@@ -32,24 +32,29 @@ use Rattle.ion_text_in.specs.Token.{First, a_run, a_word, a_quoted, a_short, a_l
 abbrev Given : Type 0
 Given = Result (List ℕ × Cursor) Reason
 
+-- the same, where there is no fault
 abbrev given : List ℕ × Cursor → Given
 given x = Ok x
 
+-- bytes in front of others
 abbrev behind : List ℕ → List ℕ × Cursor → List ℕ × Cursor
 behind bytes x = (bytes ++ x.0, x.1)
 
+-- no bytes
 abbrev none : Cursor → List ℕ × Cursor
 none d = ([], d)
 
-abbrev token_at_end : Token → Cursor → Result (Token × Cursor) Reason
-token_at_end t d = Ok (t, d)
+-- a token and what stands behind it
+abbrev pub got : Token → Cursor → Result (Token × Cursor) Reason
+got t d = Ok (t, d)
 
 -- ---- tokens that count all their bytes
 
 abbrev pub CountsAll : Token → Type 0
 CountsAll t = (p q : ℕ) → counts t p q ≡ q - p
 
-readings-count : (i : Result Int Reason) (d : Result Decimal Reason) (t : Result Timestamp Reason) → IfOk (scalar_of_readings {S = SymbolAt} i d t) (λ v. CountsAll (plain v))
+readings-count : (i : Result Int Reason) (d : Result Decimal Reason) (t : Result Timestamp Reason)
+    → IfOk (scalar_of_readings {S = SymbolAt} i d t) (λ v. CountsAll (plain v))
 readings-count (Ok i) d t = λ p q. refl
 readings-count (Err BadToken) (Ok d) t = λ p q. refl
 readings-count (Err BadToken) (Err BadToken) (Ok t) = λ p q. refl
@@ -59,7 +64,8 @@ readings-count (Err reason) d t = tt
 
 pub run_token-counts : (run : List ℕ) → IfOk (run_token run) CountsAll
 unfolding scalar_of_run
-run_token-counts run = by (scalar_of_readings (int_of_text run) (decimal_of_text run) (timestamp_of_text run)) (readings-count (int_of_text run) (decimal_of_text run) (timestamp_of_text run))
+run_token-counts run = by (scalar_of_readings (int_of_text run) (decimal_of_text run) (timestamp_of_text run))
+    (readings-count (int_of_text run) (decimal_of_text run) (timestamp_of_text run))
   where
     by : (o : Result (Scalar SymbolAt) Reason) → IfOk o (λ v. CountsAll (plain v)) → IfOk (o >>= (λ v. Ok (plain v))) CountsAll
     by (Ok v) h = h
@@ -90,7 +96,7 @@ module _ (limit : ℕ) where
   over n x more = rw (lt-ltb limit n more) refl
 
   -- what the second result gives, the first gives too, where it counts no more
-  abbrev pub Limited : {A : Type 0} → Result A Reason → Result A Reason → (A → ℕ) → Type 0
+  abbrev Limited : {A : Type 0} → Result A Reason → Result A Reason → (A → ℕ) → Type 0
   Limited o w size = IfOk w (λ x. o ≡ limited (size x) x)
 
   counts-same : {A : Type 0} (m n : A → ℕ) (o w : Result A Reason) → ((x : A) → m x ≡ n x) → Limited o w m → Limited o w n
@@ -105,31 +111,38 @@ module _ (limit : ℕ) where
   bind-limited size total o (Err reason) f g is further = tt
   bind-limited {A} {B} size total o (Ok x) f g is further = by (g x) (further x)
     where
-      by-size : (y : B) (b : Bool) → nat_lt limit (size x) ≡ b → size x ≤ total y → (size x ≤ limit → f x ≡ limited (total y) y) → ((if b then Err ScalarLimit else Ok x) >>= f) ≡ limited (total y) y
+      by-size : (y : B) (b : Bool) → nat_lt limit (size x) ≡ b → size x ≤ total y → (size x ≤ limit → f x ≡ limited (total y) y)
+          → ((if b then Err ScalarLimit else Ok x) >>= f) ≡ limited (total y) y
       by-size y true e le more = over (total y) y (let passed = ltb-true limit (size x) e in omega (arith, passed, le))
       by-size y false e le more = more (let kept = ltb-false limit (size x) e in omega (arith, kept))
 
-      by : (v : Result B Reason) → IfOk v (λ y. (size x ≤ total y) × (size x ≤ limit → f x ≡ limited (total y) y)) → IfOk v (λ y. (o >>= f) ≡ limited (total y) y)
+      by : (v : Result B Reason) → IfOk v (λ y. (size x ≤ total y) × (size x ≤ limit → f x ≡ limited (total y) y))
+          → IfOk v (λ y. (o >>= f) ≡ limited (total y) y)
       by (Ok y) h = ap (λ o. o >>= f) is ∙ by-size y (nat_lt limit (size x)) refl h.0 h.1
       by (Err reason) h = tt
 
   -- what is done with a result that counts as much
-  map-limited : {A B : Type 0} (size : A → ℕ) (total : B → ℕ) (o w : Result A Reason) (k : A → B) → ((x : A) → total (k x) ≡ size x) → Limited o w size
+  map-limited : {A B : Type 0} (size : A → ℕ) (total : B → ℕ) (o w : Result A Reason) (k : A → B) → ((x : A) → total (k x) ≡ size x)
+      → Limited o w size
       → Limited (o >>= (λ x. Ok (k x))) (w >>= (λ x. Ok (k x))) total
   map-limited size total o w k same is =
-      bind-limited size total o w (λ x. Ok (k x)) (λ x. Ok (k x)) is (λ x. (omega (arith, same x), λ le. within (total (k x)) (k x) (omega (arith, same x, le))))
+      bind-limited size total o w (λ x. Ok (k x)) (λ x. Ok (k x)) is
+      (λ x. (omega (arith, same x), λ le. within (total (k x)) (k x) (omega (arith, same x, le))))
 
   -- a step without a count before one
-  before-limited : {A B : Type 0} (total : B → ℕ) (o : Result A Reason) (f g : A → Result B Reason) → ((x : A) → Limited (f x) (g x) total) → Limited (o >>= f) (o >>= g) total
+  before-limited : {A B : Type 0} (total : B → ℕ) (o : Result A Reason) (f g : A → Result B Reason)
+      → ((x : A) → Limited (f x) (g x) total) → Limited (o >>= f) (o >>= g) total
   before-limited total (Ok x) f g h = h x
   before-limited total (Err reason) f g h = tt
 
-  either-limited : {A : Type 0} (total : A → ℕ) (b : Bool) (x y u v : Result A Reason) → Limited x u total → Limited y v total → Limited (if b then x else y) (if b then u else v) total
+  either-limited : {A : Type 0} (total : A → ℕ) (b : Bool) (x y u v : Result A Reason) → Limited x u total → Limited y v total
+      → Limited (if b then x else y) (if b then u else v) total
   either-limited total true x y u v h k = h
   either-limited total false x y u v h k = k
 
   -- bytes that are counted, and others behind them
-  join-limited : (count : ℕ) (bytes : List ℕ) (o w : Given) → (count + length bytes ≤ limit → Limited o w (λ x. count + length bytes + length x.0))
+  join-limited : (count : ℕ) (bytes : List ℕ) (o w : Given)
+      → (count + length bytes ≤ limit → Limited o w (λ x. count + length bytes + length x.0))
       → Limited (refuse (nat_lt limit (count + length bytes)) ScalarLimit >> (o >>= (λ others. Ok (behind bytes others)))) (w >>= (λ others. Ok (behind bytes others)))
       (λ y. count + length y.0)
   join-limited count bytes o (Err reason) h = tt
@@ -138,10 +151,13 @@ module _ (limit : ℕ) where
       total : ℕ
       total = count + length (bytes ++ x.0)
 
-      by : (b : Bool) → nat_lt limit (count + length bytes) ≡ b → (refuse b ScalarLimit >> (o >>= (λ others. Ok (behind bytes others)))) ≡ limited total (behind bytes x)
-      by true e = over total (behind bytes x) (let passed = ltb-true limit (count + length bytes) e in omega (arith, passed, length-append bytes x.0))
+      by : (b : Bool) → nat_lt limit (count + length bytes) ≡ b
+          → (refuse b ScalarLimit >> (o >>= (λ others. Ok (behind bytes others)))) ≡ limited total (behind bytes x)
+      by true e = over total (behind bytes x)
+          (let passed = ltb-true limit (count + length bytes) e in omega (arith, passed, length-append bytes x.0))
       by false e =
-          map-limited (λ x. count + length bytes + length x.0) (λ y. count + length y.0) o (Ok x) (behind bytes) (λ x. omega (arith, length-append bytes x.0))
+          map-limited (λ x. count + length bytes + length x.0) (λ y. count + length y.0) o (Ok x) (behind bytes)
+          (λ x. omega (arith, length-append bytes x.0))
           (h (let kept = ltb-false limit (count + length bytes) e in omega (arith, kept)))
 
   -- ---- texts
@@ -150,22 +166,28 @@ module _ (limit : ℕ) where
       → ((n : ℕ) (d : Cursor) → n ≤ limit → Limited (later n d) (more n d) (λ x. n + length x.0))
       → Limited (with_piece later q (Some limit) count c piece) (with_piece more q None count c piece) (λ x. count + length x.0)
   with_piece-limited later more q count c (char bytes taken) le h =
-      join-limited count bytes (later (count + length bytes) (skip taken c)) (more (count + length bytes) (skip taken c)) (h (count + length bytes) (skip taken c))
+      join-limited count bytes (later (count + length bytes) (skip taken c)) (more (count + length bytes) (skip taken c))
+      (h (count + length bytes) (skip taken c))
   with_piece-limited later more q count c (close taken) le h = within (count + 0) (none (skip taken c)) (omega (arith, le))
   with_piece-limited later more q count c illegal le h = tt
   with_piece-limited later more q count c cut le h = tt
 
-  pieces-limited : (most : ℕ) (q : Quote) (count : ℕ) (c : Cursor) → count ≤ limit → Limited (pieces_for most q (Some limit) count c) (pieces_for most q None count c) (λ x. count + length x.0)
+  pieces-limited : (most : ℕ) (q : Quote) (count : ℕ) (c : Cursor) → count ≤ limit
+      → Limited (pieces_for most q (Some limit) count c) (pieces_for most q None count c) (λ x. count + length x.0)
   unfolding pieces_for
   pieces-limited zero q count c le = tt
   pieces-limited (suc most) q count c le =
-      with_piece-limited (λ n d. pieces_for most q (Some limit) n d) (λ n d. pieces_for most q None n d) q count c (piece_at q c.rest) le (λ n d less. pieces-limited most q n d less)
+      with_piece-limited (λ n d. pieces_for most q (Some limit) n d) (λ n d. pieces_for most q None n d) q count c
+      (piece_at q c.rest) le (λ n d less. pieces-limited most q n d less)
 
-  segment-limited : (q : Quote) (count : ℕ) (c : Cursor) → count ≤ limit → Limited (segment_at q (Some limit) count c) (segment_at q None count c) (λ x. count + length x.0)
+  segment-limited : (q : Quote) (count : ℕ) (c : Cursor) → count ≤ limit
+      → Limited (segment_at q (Some limit) count c) (segment_at q None count c) (λ x. count + length x.0)
   unfolding segment_at
   segment-limited q count c le =
-      bind-limited (λ s. count + length s.0) (λ s. count + length s.0) (pieces_for (suc (length c.rest)) q (Some limit) count c) (pieces_for (suc (length c.rest)) q None count c)
-      (λ s. refuse (not (q.in_clob || is_utf8 s.0)) BadText >> Ok s) (λ s. refuse (not (q.in_clob || is_utf8 s.0)) BadText >> Ok s) (pieces-limited (suc (length c.rest)) q count c le)
+      bind-limited (λ s. count + length s.0) (λ s. count + length s.0) (pieces_for (suc (length c.rest)) q (Some limit) count c)
+      (pieces_for (suc (length c.rest)) q None count c)
+      (λ s. refuse (not (q.in_clob || is_utf8 s.0)) BadText >> Ok s) (λ s. refuse (not (q.in_clob || is_utf8 s.0)) BadText >> Ok s)
+      (pieces-limited (suc (length c.rest)) q count c le)
       (λ s. tested s (not (q.in_clob || is_utf8 s.0)))
     where
       tested : (s : List ℕ × Cursor) (b : Bool)
@@ -181,28 +203,35 @@ module _ (limit : ℕ) where
     where
       by : (w : Given) → (count + length s.0 ≤ limit → Limited (later d) w (λ x. count + length s.0 + length x.0))
           → IfOk (w >>= (λ others. Ok (behind s.0 others)))
-          (λ y. (count + length s.0 ≤ count + length y.0) × (count + length s.0 ≤ limit → (later d >>= (λ others. Ok (behind s.0 others))) ≡ limited (count + length y.0) y))
+          (λ y. (count + length s.0 ≤ count + length y.0) ×
+          (count + length s.0 ≤ limit → (later d >>= (λ others. Ok (behind s.0 others))) ≡ limited (count + length y.0) y))
       by (Err reason) h = tt
       by (Ok x) h = (
         omega (arith, length-append s.0 x.0),
-        λ kept. map-limited (λ x. count + length s.0 + length x.0) (λ y. count + length y.0) (later d) (Ok x) (behind s.0) (λ x. omega (arith, length-append s.0 x.0)) (h kept),
+        λ kept. map-limited (λ x. count + length s.0 + length x.0) (λ y. count + length y.0) (later d) (Ok x) (behind s.0)
+            (λ x. omega (arith, length-append s.0 x.0)) (h kept),
       )
 
-  segments-limited : (most : ℕ) (q : Quote) (count : ℕ) (c : Cursor) → count ≤ limit → Limited (segments_for most q (Some limit) count c) (segments_for most q None count c) (λ x. count + length x.0)
+  segments-limited : (most : ℕ) (q : Quote) (count : ℕ) (c : Cursor) → count ≤ limit
+      → Limited (segments_for most q (Some limit) count c) (segments_for most q None count c) (λ x. count + length x.0)
   unfolding segments_for
   segments-limited zero q count c le = tt
   segments-limited (suc most) q count c le =
-      bind-limited (λ s. count + length s.0) (λ x. count + length x.0) (segment_at q (Some limit) count c) (segment_at q None count c) _ _ (segment-limited q count c le)
-      (λ s. with_segments-limited (λ d. segments_for most q (Some limit) (count + length s.0) d) (λ d. segments_for most q None (count + length s.0) d) count s (next_segment q s.1)
+      bind-limited (λ s. count + length s.0) (λ x. count + length x.0) (segment_at q (Some limit) count c)
+      (segment_at q None count c) _ _ (segment-limited q count c le)
+      (λ s. with_segments-limited (λ d. segments_for most q (Some limit) (count + length s.0) d)
+      (λ d. segments_for most q None (count + length s.0) d) count s (next_segment q s.1)
       (λ kept d. segments-limited most q (count + length s.0) d kept))
 
   text-limited : (q : Quote) (c : Cursor) → Limited (text_at q (Some limit) c) (text_at q None c) (λ x. length x.0)
   text-limited q c =
-      counts-same (λ x. 0 + length x.0) (λ x. length x.0) (text_at q (Some limit) c) (text_at q None c) (λ x. omega arith) (segments-limited (suc (length c.rest)) q 0 c (omega arith))
+      counts-same (λ x. 0 + length x.0) (λ x. length x.0) (text_at q (Some limit) c) (text_at q None c) (λ x. omega arith)
+      (segments-limited (suc (length c.rest)) q 0 c (omega arith))
 
   -- ---- lobs
 
-  last_group-limited : (count : ℕ) (group : List ℕ) (c : Cursor) → count ≤ limit → Limited (last_group group c) (last_group group c) (λ x. count + length x.0)
+  last_group-limited : (count : ℕ) (group : List ℕ) (c : Cursor) → count ≤ limit
+      → Limited (last_group group c) (last_group group c) (λ x. count + length x.0)
   last_group-limited count [] c le = by (closed_at c)
     where
       by : (o : Result Cursor Reason) → Limited {A = List ℕ × Cursor} (o >>= (λ d. Ok (none d))) (o >>= (λ d. Ok (none d))) (λ x. count + length x.0)
@@ -223,7 +252,8 @@ module _ (limit : ℕ) where
       let d : Cursor = behind_to c g.1 in
       either-limited (λ x. count + length x.0) (nat_lt (length g.0) 4) _ _ _ _ (last_group-limited count g.0 d le)
       (before-limited (λ x. count + length x.0) (group_bytes padded g.0) _ _
-      (λ bytes. join-limited count bytes (groups_for most (Some limit) (count + length bytes) (nat_lt (length bytes) 3) d) (groups_for most None (count + length bytes) (nat_lt (length bytes) 3) d)
+      (λ bytes. join-limited count bytes (groups_for most (Some limit) (count + length bytes) (nat_lt (length bytes) 3) d)
+      (groups_for most None (count + length bytes) (nat_lt (length bytes) 3) d)
       (λ kept. groups-limited most (count + length bytes) (nat_lt (length bytes) 3) d kept)))
 
   -- the scalar of a token counts so much
@@ -243,7 +273,8 @@ module _ (limit : ℕ) where
 
   blob-limited : (p : ℕ) (c : Cursor) → Limited (blob_at (Some limit) c) (blob_at None c) (scalar_counts p)
   blob-limited p c =
-      map-limited (λ b. 0 + length b.0) (scalar_counts p) (groups_for (suc (length c.rest)) (Some limit) 0 false c) (groups_for (suc (length c.rest)) None 0 false c) (λ b. (value.blob b.0, b.1)) (λ b. omega arith)
+      map-limited (λ b. 0 + length b.0) (scalar_counts p) (groups_for (suc (length c.rest)) (Some limit) 0 false c)
+      (groups_for (suc (length c.rest)) None 0 false c) (λ b. (value.blob b.0, b.1)) (λ b. omega arith)
       (groups-limited (suc (length c.rest)) 0 false c (omega arith))
 
   lob-limited : (p : ℕ) (c : Cursor) → Limited (lob_at (Some limit) c) (lob_at None c) (scalar_counts p)
@@ -261,20 +292,24 @@ module _ (limit : ℕ) where
 
   -- bytes that are counted, and what they mean
   counted-limited : (bytes : List ℕ) (c : Cursor) (means : List ℕ → Result Token Reason) → IfOk (means bytes) CountsAll
-      → Limited (tokens.counted (Some limit) bytes c >>= (λ r. means r.0 >>= (λ t. token_at_end t r.1))) (tokens.counted None bytes c >>= (λ r. means r.0 >>= (λ t. token_at_end t r.1))) (token_counts c.place)
+      → Limited (tokens.counted (Some limit) bytes c >>= (λ r. means r.0 >>= (λ t. got t r.1))) (tokens.counted None bytes c >>= (λ r. means r.0 >>= (λ t. got t r.1))) (token_counts c.place)
   counted-limited bytes c means all = by (nat_lt limit (length bytes)) refl (means bytes) refl all
     where
       by : (b : Bool) → nat_lt limit (length bytes) ≡ b → (o : Result Token Reason) → means bytes ≡ o → IfOk o CountsAll
-          → IfOk (o >>= (λ t. token_at_end t (skip (length bytes) c)))
-          (λ y. ((refuse b ScalarLimit >> given (bytes, skip (length bytes) c)) >>= (λ r. means r.0 >>= (λ t. token_at_end t r.1))) ≡ limited (token_counts c.place y) y)
+          → IfOk (o >>= (λ t. got t (skip (length bytes) c)))
+          (λ y. ((refuse b ScalarLimit >> given (bytes, skip (length bytes) c)) >>= (λ r. means r.0 >>= (λ t. got t r.1))) ≡ limited
+          (token_counts c.place y) y)
       by b e (Err reason) is all = tt
       by true e (Ok t) is all =
-          over (counts t c.place (c.place + length bytes)) (t, skip (length bytes) c) (let passed = ltb-true limit (length bytes) e in omega (arith, passed, all c.place (c.place + length bytes)))
+          over (counts t c.place (c.place + length bytes)) (t, skip (length bytes) c)
+          (let passed = ltb-true limit (length bytes) e in omega (arith, passed, all c.place (c.place + length bytes)))
       by false e (Ok t) is all =
-          ap (λ (o : Result Token Reason). o >>= (λ t. token_at_end t (skip (length bytes) c))) is
-          ∙ within (counts t c.place (c.place + length bytes)) (t, skip (length bytes) c) (let kept = ltb-false limit (length bytes) e in omega (arith, kept, all c.place (c.place + length bytes)))
+          ap (λ (o : Result Token Reason). o >>= (λ t. got t (skip (length bytes) c))) is
+          ∙ within (counts t c.place (c.place + length bytes)) (t, skip (length bytes) c)
+          (let kept = ltb-false limit (length bytes) e in omega (arith, kept, all c.place (c.place + length bytes)))
 
-  infinity-limited : (c : Cursor) (b : Bool) → nat_lt limit 4 ≡ b → (refuse b ScalarLimit >> tokens.mark no_number 4 c) ≡ limited (c.place + 4 - c.place) (no_number, skip 4 c)
+  infinity-limited : (c : Cursor) (b : Bool) → nat_lt limit 4 ≡ b
+      → (refuse b ScalarLimit >> tokens.mark no_number 4 c) ≡ limited (c.place + 4 - c.place) (no_number, skip 4 c)
   infinity-limited c true e = over (c.place + 4 - c.place) (no_number, skip 4 c) (let passed = ltb-true limit 4 e in omega (arith, passed))
   infinity-limited c false e = within (c.place + 4 - c.place) (no_number, skip 4 c) (let kept = ltb-false limit 4 e in omega (arith, kept))
 
@@ -283,16 +318,20 @@ module _ (limit : ℕ) where
   token-limited a_run c = counted-limited (bytes_of in_run c.rest) c run_token (run_token-counts (bytes_of in_run c.rest))
   token-limited a_word c = counted-limited (word_of c.rest) c word_token (word_token-counts (word_of c.rest))
   token-limited a_quoted c =
-      map-limited (λ t. length t.0) (token_counts c.place) (text_at symbol_quote (Some limit) (skip 1 c)) (text_at symbol_quote None (skip 1 c)) (λ t. (name true (value.Text t.0), t.1)) (λ t. refl)
+      map-limited (λ t. length t.0) (token_counts c.place) (text_at symbol_quote (Some limit) (skip 1 c))
+      (text_at symbol_quote None (skip 1 c)) (λ t. (name true (value.Text t.0), t.1)) (λ t. refl)
       (text-limited symbol_quote (skip 1 c))
   token-limited a_short c =
-      map-limited (λ t. length t.0) (token_counts c.place) (text_at (short_quote false) (Some limit) (skip 1 c)) (text_at (short_quote false) None (skip 1 c)) (λ t. (text t.0, t.1)) (λ t. refl)
+      map-limited (λ t. length t.0) (token_counts c.place) (text_at (short_quote false) (Some limit) (skip 1 c))
+      (text_at (short_quote false) None (skip 1 c)) (λ t. (text t.0, t.1)) (λ t. refl)
       (text-limited (short_quote false) (skip 1 c))
   token-limited a_long c =
-      map-limited (λ t. length t.0) (token_counts c.place) (text_at (long_quote false) (Some limit) (skip 3 c)) (text_at (long_quote false) None (skip 3 c)) (λ t. (text t.0, t.1)) (λ t. refl)
+      map-limited (λ t. length t.0) (token_counts c.place) (text_at (long_quote false) (Some limit) (skip 3 c))
+      (text_at (long_quote false) None (skip 3 c)) (λ t. (text t.0, t.1)) (λ t. refl)
       (text-limited (long_quote false) (skip 3 c))
   token-limited a_lob c =
-      map-limited (scalar_counts c.place) (token_counts c.place) (lob_at (Some limit) (skip 2 c)) (lob_at None (skip 2 c)) (λ l. (plain l.0, l.1)) (λ l. refl) (lob-limited c.place (skip 2 c))
+      map-limited (scalar_counts c.place) (token_counts c.place) (lob_at (Some limit) (skip 2 c)) (lob_at None (skip 2 c))
+      (λ l. (plain l.0, l.1)) (λ l. refl) (lob-limited c.place (skip 2 c))
   token-limited an_operator c = counted-limited (bytes_of in_operator c.rest) c (λ bytes. Ok (operator bytes)) (λ p q. refl)
   token-limited an_infinity c = infinity-limited c (nat_lt limit 4) refl
   token-limited (a_begin k) c = within 0 (begin k, skip 1 c) (omega arith)
@@ -302,10 +341,13 @@ module _ (limit : ℕ) where
   token-limited two_colons c = within 0 (colons, skip 2 c) (omega arith)
   token-limited no_token c = tt
 
-  pub token-exact : (f : First) (c : Cursor) (t : Token) (d : Cursor) → token_of None f c ≡ token_at_end t d → token_of (Some limit) f c ≡ limited (counts t c.place d.place) (t, d)
+  -- a token that is read without a limit
+  pub token-exact : (f : First) (c : Cursor) (t : Token) (d : Cursor) → token_of None f c ≡ got t d
+      → token_of (Some limit) f c ≡ limited (counts t c.place d.place) (t, d)
   token-exact f c t d token =
       IfOk-at_ok (λ (x : Token × Cursor). token_of (Some limit) f c ≡ limited (counts x.0 c.place x.1.place) x) token (token-limited f c)
 
   -- so it is read where the limit allows it
-  pub token-within : (f : First) (c : Cursor) (t : Token) (d : Cursor) → token_of None f c ≡ token_at_end t d → counts t c.place d.place ≤ limit → token_of (Some limit) f c ≡ token_at_end t d
+  pub token-within : (f : First) (c : Cursor) (t : Token) (d : Cursor) → token_of None f c ≡ got t d
+      → counts t c.place d.place ≤ limit → token_of (Some limit) f c ≡ got t d
   token-within f c t d token le = token-exact f c t d token ∙ sym (within (counts t c.place d.place) (t, d) le)

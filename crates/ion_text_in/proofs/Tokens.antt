@@ -24,7 +24,7 @@ use Rattle.ion_text_in.specs.Reading as reading
 use Rattle.ion_text_in.specs.Positions.{Wants, a_value, a_field, a_separator, State, innermost, in_sexp}
 use Rattle.ion_text_in.specs.Reading.{is_punctuation, names_field, may_come, step, step_of, take, part_at}
 use Rattle.ion_text_in.specs.Grammar.{Tok}
-use Rattle.ion_text_in.proofs.TokenLimits.{token-exact, token-within}
+use Rattle.ion_text_in.proofs.TokenLimits.{got, token-exact, token-within}
 
 -- ---- what a token's first bytes told
 
@@ -51,9 +51,6 @@ is_naming (end k) = false
 is_naming comma = false
 is_naming colon = false
 is_naming colons = false
-
-abbrev pub got : Token → Cursor → Result (Token × Cursor) Reason
-got t c = Ok (t, c)
 
 pub record Told (first : First) (t : Token) : Type 0 where
   pub mark : is_mark t ≡ is_punctuation first

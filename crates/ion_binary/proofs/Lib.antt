@@ -51,3 +51,4 @@ mod ShortInts
 mod RawStreams
 mod ShortValues
 mod NumbersFit
+mod ShortNumbers

@@ -19,7 +19,7 @@ use Rattle.ion_binary.specs.WrittenLimits.{NumbersFit}
 
 -- ---- decimals
 
-signed-short : (negative : Bool) (n k : ℕ) → 2 * n + 1 < 256 ^ suc k → length (with_sign 128 negative (digits_in 256 n)) ≤ suc k
+pub signed-short : (negative : Bool) (n k : ℕ) → 2 * n + 1 < 256 ^ suc k → length (with_sign 128 negative (digits_in 256 n)) ≤ suc k
 signed-short negative n k small =
     let signing = with_sign-Signing 256 128 n negative (digits_in 256 n) (omega arith) refl (digits_in-Digits 256 n (omega arith)) in
     let long : length (with_sign 128 negative (digits_in 256 n)) ≡ suc (length signing.rest) = ap length signing.is in
@@ -52,14 +52,14 @@ decimal-short d range =
 -- ---- timestamps
 
 -- a timestamp in UTC has the precision, the fraction and the offset that it has in local time
-record InUtc (t u : Timestamp) : Type 0 where
-  is_utc : utc_of t ≡ Ok u
-  moment : IsMoment u
-  same_precision : u.precision ≡ t.precision
-  same_fraction : u.fraction ≡ t.fraction
-  same_offset : u.offset ≡ t.offset
+pub record InUtc (t u : Timestamp) : Type 0 where
+  pub is_utc : utc_of t ≡ Ok u
+  pub moment : IsMoment u
+  pub same_precision : u.precision ≡ t.precision
+  pub same_fraction : u.fraction ≡ t.fraction
+  pub same_offset : u.offset ≡ t.offset
 
-in-utc : (t : Timestamp) (h : IsTimestamp t) → InUtc t h.utc.0
+pub in-utc : (t : Timestamp) (h : IsTimestamp t) → InUtc t h.utc.0
 in-utc t h =
     let u : Timestamp = h.utc.0 in
     let moved = (utc-is t h.moment h.offset).moved in
@@ -73,7 +73,7 @@ in-utc t h =
     }
 
 module _ (t u : Timestamp) (h : IsTimestamp t) (i : InUtc t u) where
-  whole-few : length (whole_octets u) ≤ 9
+  pub whole-few : length (whole_octets u) ≤ 9
   whole-few = whole-short u i.moment (subst (λ o. IsOffset o) (sym i.same_offset) h.offset)
 
   without-fraction : ((n : ℕ) → u.precision ≡ Fraction n → ⊥) → length (timestamp_body t) ≤ 26

@@ -6,6 +6,7 @@ ghost use Rattle.ion_binary.specs.Refusals.{ItemsAreRefusedAsInTrees, NoneIsRefu
 ghost use Rattle.ion_binary.specs.Held.{WhatIsHeldMoves};
 ghost use Rattle.ion_binary.specs.Places.{ClosedSizeByCounts, ClosedSizeByPlaces};
 ghost use Rattle.ion_binary.specs.WrittenLimits.{NumbersFit, WhatIsWrittenIsWithinLimits};
+ghost use Rattle.ion_binary.specs.WrittenNumbers.{NumbersInTextFit};
 ghost use Rattle.ion_binary.specs.WrittenSymbols.{WhatIsWrittenIsResolved};
 ghost use Rattle.ion_binary.specs.Spelling.{DeclarationsAreAccepted, WrittenDeclarationsAreRead, HeadersAreShortest, TheFormIsRead, ValuesAreSpelled, WhatIsWithinIsShort};
 
@@ -214,3 +215,11 @@ pub fn what_is_written_is_within_limits()
 pub fn what_is_written_is_resolved()
     ensures { WhatIsWrittenIsResolved }
 {}
+
+/// Each decimal and each timestamp that a text spells under a limit on scalars of 16 or more fits that
+/// limit as it is written.
+pub fn numbers_in_text_fit()
+    ensures { NumbersInTextFit }
+{
+    numbers_fit();
+}

@@ -13,7 +13,8 @@ use Rattle.ion_symbols.specs.UserValues.{AreUsers}
 use Rattle.ion_binary.specs.Canonical.{binary}
 use Rattle.ion_binary.specs.Reading as binary_reading
 use Rattle.ion_binary.specs.Spelling.{IsRead, TheFormIsRead, WhatIsWithinIsShort}
-use Rattle.ion_binary.specs.WrittenLimits.{FitsBinary, NumbersFit, WhatIsWrittenIsWithinLimits}
+use Rattle.ion_binary.specs.WrittenLimits.{FitsBinary, WhatIsWrittenIsWithinLimits}
+use Rattle.ion_binary.specs.WrittenNumbers.{NumbersInTextFit}
 use Rattle.ion_binary.specs.WrittenSymbols.{WhatIsWrittenIsResolved}
 use Rattle.ion_text_in.specs.Grammar as text_grammar
 use Rattle.ion_text_in.specs.Laws.{StreamsAreRaw}
@@ -34,7 +35,7 @@ use Rattle.ion_transcode.specs.Verdict.{HasVerdict}
 use Rattle.ion_transcode.specs.WrittenAgain.{WrittenBinaryIsAccepted}
 use Rattle.ion_transcode.proofs.ReadAgain.{same-length}
 use Rattle.ion_transcode.proofs.TextWithoutPlaces.{same-text}
-use Rattle.ion_transcode.proofs.WrittenFits.{NumbersAllow, users-of-read-fit}
+use Rattle.ion_transcode.proofs.WrittenFits.{users-of-read-fit}
 
 -- binary is written of text alone
 of-text : (f : Form) (asked : To) → resolved f asked ≡ Some target.Binary → f ≡ form.Text
@@ -62,9 +63,9 @@ module _ (accepted : WhatIsReadIsAccepted) (other : List Shared) (limits : Limit
 
 module _ (is_read : WhatIsAcceptedIsRead) (accepted : WhatIsReadIsAccepted) (values : ValuesOfStreams) (raw : StreamsAreRaw) (kept : ValuesReadAreWithin)
     (texts : TextsOfUsersAreShort) (is_binary : TheFormIsRead) (short : WhatIsWithinIsShort) (within : WhatIsWrittenIsWithinLimits) (stands : WhatIsWrittenIsResolved)
-    (numbers : NumbersFit) where
+    (numbers : NumbersInTextFit) where
   pub written-binary : WrittenBinaryIsAccepted
-  written-binary catalog other limits asked bytes written n small is_text fits_catalog checked allow enough to_is verdict =
+  written-binary catalog other limits asked bytes written n small is_text fits_catalog checked allow to_is verdict =
       let f : Form = form_of bytes in
       let w = is_read catalog limits asked bytes target.Binary n written to_is verdict in
       let f_is : f ≡ form.Text = of-text f asked to_is in
@@ -73,10 +74,8 @@ module _ (is_read : WhatIsAcceptedIsRead) (accepted : WhatIsReadIsAccepted) (val
       let read : text_reading.reading limits bytes ≡ behind (path_items (closed w.tops)) Finished =
       subst (λ (g : Form). reading_of g limits bytes ≡ behind (path_items (closed w.tops)) Finished) f_is w.read in
       let are : AreUsers us = values f catalog bytes w.tops us small is_text w.stream w.users_are in
-      let fit = numbers limits enough in
-      let allowed : NumbersAllow limits = record { decimals = λ d run range e le. fit.0 d range; timestamps = λ t run range e le. fit.1 t range } in
       let fits : AllByRecursion (FitsBinary limits) us =
-      users-of-read-fit limits allowed texts catalog w.tops us fits_catalog (raw bytes w.tops stream) (kept limits bytes w.tops stream read) w.users_are in
+      users-of-read-fit limits numbers allow.scalar texts catalog w.tops us fits_catalog (raw bytes w.tops stream) (kept limits bytes w.tops stream read) w.users_are in
       let r = is_binary other limits.symbols us are.0 (short limits us checked w.taken) in
       let read_again = within limits us r.raw checked allow are.0 w.taken fits r.stream in
       let resolved_again = stands other limits us r.raw checked are.0 w.taken r.stream in

@@ -16,14 +16,10 @@ use Rattle.ion_value.specs.Writable.{IsWritable, AreWritable, IsRaw, value_symbo
 use Rattle.ion_symbols.specs.Table.{Shared, Table, system, text_at}
 use Rattle.ion_symbols.specs.TextsOfUsers.{CatalogHas, SymbolHas, ScalarHas, ValueHas, MembersHave, TopHas, UserHas, UserTopHas, IsShort, TextsOfUsersAreShort}
 use Rattle.ion_symbols.specs.Tree.{user_at, declares_table, next_table, user_tops}
+use Rattle.ion_binary.specs.WrittenNumbers.{NumbersInTextFit}
 use Rattle.ion_binary.specs.WrittenLimits.{ScalarFits, AnnotationsFit, ValueFits, MembersFit, SymbolFits, FitsBinary}
 use Rattle.ion_text_in.specs.Reading.{cost}
 use Rattle.ion_text_in.specs.ReadWithin.{SymbolIsWithin, ScalarIsWithin, AnnotationsAreWithin, ValueIsWithin, MembersAreWithin, TopIsWithin}
-
--- what numbers need: each that is in range, and is spelled by a run within the limit, has a body within it
-pub record NumbersAllow (limits : Limits) : Type 0 where
-  pub decimals : (d : Decimal) (run : List ℕ) → IsDecimal d → decimal_of_text run ≡ Ok d → length run ≤ limits.scalar → length (decimal_body d) ≤ limits.scalar
-  pub timestamps : (t : Timestamp) (run : List ℕ) → IsTimestamp t → timestamp_of_text run ≡ Ok t → length run ≤ limits.scalar → length (timestamp_body t) ≤ limits.scalar
 
 -- ---- texts
 
@@ -73,13 +69,13 @@ module _ (limits : Limits) where
 
   -- ---- values
 
-  module _ (numbers : NumbersAllow limits) (f : SymbolAt → UserSymbol) where
+  module _ (numbers : NumbersInTextFit) (enough : 16 ≤ limits.scalar) (f : SymbolAt → UserSymbol) where
     scalar-fits : (body : Scalar SymbolAt) → InRange body → ScalarIsWithin limits body → ScalarFits limits (map_scalar f body)
     scalar-fits (value.null type) range h = tt
     scalar-fits (value.bool truth) range h = tt
     scalar-fits (value.int number) range h = tt
-    scalar-fits (value.decimal number) range h = numbers.decimals number h.0 range h.1 h.2
-    scalar-fits (value.timestamp moment) range h = numbers.timestamps moment h.0 range h.1 h.2
+    scalar-fits (value.decimal number) range h = (numbers limits enough).0 number h.0 range h.1 h.2
+    scalar-fits (value.timestamp moment) range h = (numbers limits enough).1 moment h.0 range h.1 h.2
     scalar-fits (value.symbol name) range h = tt
     scalar-fits (value.string bytes) range h = h
     scalar-fits (value.clob bytes) range h = h
@@ -115,9 +111,9 @@ module _ (limits : Limits) where
   abbrev TopsFit : List (Top UserSymbol ℕ) → Type 0
   TopsFit us = AllByRecursion TopFits us
 
-  tree-fits : NumbersAllow limits → (t : Table) (first : ℕ) (annotations : List SymbolAt) (place : ℕ) (x : Value SymbolAt ℕ) → IsRaw (tree first annotations place x)
+  tree-fits : NumbersInTextFit → 16 ≤ limits.scalar → (t : Table) (first : ℕ) (annotations : List SymbolAt) (place : ℕ) (x : Value SymbolAt ℕ) → IsRaw (tree first annotations place x)
       → TopIsWithin limits (tree first annotations place x) → TopFits (tree first (map (user_at t) annotations) place (map_value (user_at t) (λ (p : ℕ). p) x))
-  tree-fits numbers t first annotations place x raw h = (annotations-fit numbers (user_at t) annotations h.0, value-fits numbers (user_at t) 0 x raw.0 h.1)
+  tree-fits numbers enough t first annotations place x raw h = (annotations-fit numbers enough (user_at t) annotations h.0, value-fits numbers enough (user_at t) 0 x raw.0 h.1)
 
   -- from each table on
   abbrev FromEach : List Shared → List (Top SymbolAt ℕ) → Type 0
@@ -140,12 +136,12 @@ module _ (limits : Limits) where
       by None k = tt
       by (Some us) k = (fits, k)
 
-  tops-fit : NumbersAllow limits → (catalog : List Shared) (tops : List (Top SymbolAt ℕ)) → AllByRecursion IsRaw tops → AllByRecursion (TopIsWithin limits) tops → FromEach catalog tops
-  tops-fit numbers catalog [] raw h t = tt
-  tops-fit numbers catalog (version place ∷ tops) raw h t = tops-fit numbers catalog tops raw.1 h.1 system
-  tops-fit numbers catalog (tree first annotations place x ∷ tops) raw h t =
+  tops-fit : NumbersInTextFit → 16 ≤ limits.scalar → (catalog : List Shared) (tops : List (Top SymbolAt ℕ)) → AllByRecursion IsRaw tops → AllByRecursion (TopIsWithin limits) tops → FromEach catalog tops
+  tops-fit numbers enough catalog [] raw h t = tt
+  tops-fit numbers enough catalog (version place ∷ tops) raw h t = tops-fit numbers enough catalog tops raw.1 h.1 system
+  tops-fit numbers enough catalog (tree first annotations place x ∷ tops) raw h t =
       tree-behind catalog t tops (tree first (map (user_at t) annotations) place (map_value (user_at t) (λ (p : ℕ). p) x)) (declares_table t annotations x)
-      (tree-fits numbers t first annotations place x raw.0 h.0) (tops-fit numbers catalog tops raw.1 h.1)
+      (tree-fits numbers enough t first annotations place x raw.0 h.0) (tops-fit numbers enough catalog tops raw.1 h.1)
 
   -- ---- both
 
@@ -163,8 +159,8 @@ module _ (limits : Limits) where
   both-fit (tree first annotations place x ∷ us) h k = ((h.0.0, h.0.1, users-fit (value_symbols None annotations x) k.0), both-fit us h.1 k.1)
 
   -- what was read within the limits has user values that fit them
-  pub users-of-read-fit : NumbersAllow limits → TextsOfUsersAreShort → (catalog : List Shared) (tops : List (Top SymbolAt ℕ)) (us : List (Top UserSymbol ℕ))
+  pub users-of-read-fit : NumbersInTextFit → 16 ≤ limits.scalar → TextsOfUsersAreShort → (catalog : List Shared) (tops : List (Top SymbolAt ℕ)) (us : List (Top UserSymbol ℕ))
       → CatalogHas Short catalog → AllByRecursion IsRaw tops → AllByRecursion (TopIsWithin limits) tops → user_tops catalog system tops ≡ Some us
       → AllByRecursion (FitsBinary limits) us
-  users-of-read-fit numbers texts catalog tops us c raw h e =
-      both-fit us (subst (λ o. IfSome o TopsFit) e (tops-fit numbers catalog tops raw h system)) (texts limits.scalar catalog tops us c (tops-short tops h) e)
+  users-of-read-fit numbers enough texts catalog tops us c raw h e =
+      both-fit us (subst (λ o. IfSome o TopsFit) e (tops-fit numbers enough catalog tops raw h system)) (texts limits.scalar catalog tops us c (tops-short tops h) e)

@@ -1,5 +1,5 @@
 -- What was written as binary is accepted under the limits of its run, and shows what the text shows. Laws that contracts cite.
-use Rattle.std.specs.Prelude.{◌≡◌, ℕ, ◌≤◌, List, [], Some}
+use Rattle.std.specs.Prelude.{◌≡◌, ℕ, List, [], Some}
 use Rattle.ion_meter.specs.Limits.{AreChecked}
 use Rattle.ion_meter.specs.declared.limits.Limits.{Limits}
 use Rattle.ion_value.specs.Outcome.{Accepted}
@@ -40,6 +40,6 @@ pub record IsAcceptedAgain (catalog other : List Shared) (limits : Limits) (byte
 abbrev pub WrittenBinaryIsAccepted : Type 0
 WrittenBinaryIsAccepted =
     (catalog other : List Shared) (limits : Limits) (asked : To) (bytes written : List ℕ) (n : ℕ) → AreBytes bytes
-    → CatalogIsText catalog → CatalogFits limits catalog → AreChecked limits → AllowDeclarations limits → 26 ≤ limits.scalar
+    → CatalogIsText catalog → CatalogFits limits catalog → AreChecked limits → AllowDeclarations limits
     → resolved (form_of bytes) asked ≡ Some target.Binary → HasVerdict catalog limits asked bytes (Accepted n) written
     → IsAcceptedAgain catalog other limits bytes written n

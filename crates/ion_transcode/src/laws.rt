@@ -340,5 +340,5 @@ pub fn written_binary_is_accepted()
     binary::what_is_within_is_short();
     binary::what_is_written_is_within_limits();
     binary::what_is_written_is_resolved();
-    binary::numbers_fit();
+    binary::numbers_in_text_fit();
 }

@@ -5,4 +5,4 @@ pub returns : goal.returns
 returns c =
     written-binary c.what_is_accepted_is_read.ensures c.what_is_read_is_accepted.ensures c.values_of_streams.ensures c.streams_are_raw.ensures
     c.values_read_are_within_limits.ensures c.texts_of_users_are_short.ensures c.the_form_is_read.ensures c.what_is_within_is_short.ensures
-    c.what_is_written_is_within_limits.ensures c.what_is_written_is_resolved.ensures c.numbers_fit.ensures
+    c.what_is_written_is_within_limits.ensures c.what_is_written_is_resolved.ensures c.numbers_in_text_fit.ensures

@@ -1,7 +1,6 @@
 -- A declaration leaves a table of texts in UTF-8 where its strings are such texts, and those of the catalogue and of the table before it.
 use Rattle.std.proofs.Common.{◌≡◌, ℕ, Bool, true, List, [], ◌∷◌, Option, None, Some, IfSome, IsUtf8, refl}
 use Rattle.std.specs.List.{list_all}
-use Rattle.std.specs.Bool.{⊤}
 use Rattle.std.specs.Str.{is_utf8, chars}
 use lib.Utf8.{encode}
 use Rattle.std.proofs.lemmas.Bool.{and_parts}

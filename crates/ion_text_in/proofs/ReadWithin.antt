@@ -1,6 +1,6 @@
 -- Where a stream is read to its end, the limits allow what stands in it: else the reading stops at the first that they do not allow.
-use Rattle.std.proofs.Common.{◌≡◌, ◌⊎◌, inl, inr, ℕ, suc, ◌+◌, ◌<◌, ◌≤◌, arith, Bool, true, false, nat_le, nat_lt, sum_by, List, [], ◌∷◌, ◌++◌, length, Option, None, Some, Ok, Err, Result, if◌then◌else◌, refl, sym, ap, subst, ◌∙◌}
-use Rattle.std.proofs.lemmas.Bool.{cases_lt, le-ltb, lt-ltb, lt-leb, le-leb}
+use Rattle.std.proofs.Common.{◌≡◌, ◌⊎◌, inl, inr, ℕ, suc, ◌<◌, arith, Bool, true, false, nat_le, nat_lt, sum_by, List, [], ◌∷◌, ◌++◌, length, Option, None, Some, Ok, Err, Result, if◌then◌else◌, refl, sym, ap, subst, ◌∙◌}
+use Rattle.std.proofs.lemmas.Bool.{cases_lt, lt-ltb, lt-leb, le-leb}
 use Rattle.ion_meter.specs.declared.fault.Reason.{Reason}
 use Rattle.ion_meter.specs.declared.fault.Reason.TheVariants.{AnnotationLimit, DepthLimit, ScalarLimit}
 use Rattle.ion_meter.specs.declared.limits.Limits.{Limits}
@@ -9,7 +9,7 @@ use Rattle.ion_value.specs.declared.ion_type.Kind.{Kind}
 use Rattle.ion_value.specs.Name.{version_word}
 use Rattle.ion_value.specs.Parts.{part, refuse, ◌>>=◌, ◌>>◌}
 use Rattle.ion_value.specs.Path.{closed, path_items}
-use Rattle.ion_value.specs.Reading.{Reading, Finished, Stopped, behind, Step, Gives, GoesOn, Stops, next_reading, reading_by}
+use Rattle.ion_value.specs.Reading.{Finished, Stopped, behind, Step, Gives, GoesOn, Stops, next_reading, reading_by}
 use Rattle.ion_value.specs.ReadingLaws.{ending_of}
 use Rattle.ion_value.specs.Value as value
 use Rattle.ion_value.specs.Value.{Symbol, SymbolAt, Value, Members, Top, PlacedItem, top_items}
@@ -17,13 +17,13 @@ use Rattle.ion_value.proofs.ReadingLaws.{ending_of-behind}
 use Rattle.ion_value.proofs.Readings.{behind-append, reading_by-step}
 use Rattle.ion_text_in.specs.Grammar.{Tok, Annotations, Field, Txt, Inside, Tops, start_of}
 use Rattle.ion_text_in.specs.Meaning.{counts}
-use Rattle.ion_text_in.specs.Positions.{Wants, a_value, a_field, a_separator, State, innermost, in_sexp, at}
+use Rattle.ion_text_in.specs.Positions.{Wants, a_value, a_field, State, innermost, in_sexp, at}
 use Rattle.ion_text_in.specs.Reading as reading
 use Rattle.ion_text_in.specs.Reading.{at_member, cost, may_come, member_of, item_of, part_at, size, start, step, step_of, take, top_of}
 use Rattle.ion_text_in.specs.ReadWithin.{WhatIsReadIsWithin}
 use Rattle.ion_text_in.specs.Token.{First, Token, plain, name, text, operator, begin, colons, first_at, token_of}
-use Rattle.ion_text_in.specs.Within.{TokenWithin, NamesWithin, AnnotationsWithin, FieldWithin, TxtWithin, InsideWithin, TopsWithin}
-use Rattle.ion_text_in.proofs.Complete.{Reads, read_from, reading-read_from, reads-then, reads-gives, reads-goes_on, annotations-read, field-read, members-read, value-read, mark-within, not-refused, tops-read}
+use Rattle.ion_text_in.specs.Within.{TokenWithin, AnnotationsWithin, FieldWithin, TxtWithin, InsideWithin, TopsWithin}
+use Rattle.ion_text_in.proofs.Complete.{Reads, read_from, reading-read_from, reads-gives, annotations-read, field-read, members-read, mark-within, not-refused, tops-read}
 use Rattle.ion_text_in.proofs.Falling.{each_step_falls}
 use Rattle.ion_text_in.proofs.TokenLimits.{got, token-exact}
 use Rattle.ion_text_in.proofs.Tokens.{state, Suits, tok-stands, token-told, step-token, value-suits, naming-suits, colons-stand}
@@ -116,24 +116,24 @@ unfolding take
 annotations-or limits kinds top field sexp c _ _ is Annotations.nothing = inl (omega arith, tt)
 annotations-or limits kinds top field sexp c f _ is (Annotations.then {annotations = annotations} {d = d} {e = e} {p = p} {q = q} {quoted = quoted} {symbol = symbol} before tok after) =
     or-then (annotations-or limits kinds top field sexp c d annotations is before) (λ w.
-      let from : State = state kinds top (a_value field []) c in
-      let here : State = state kinds top (a_value field annotations) d in
-      let prefix : Reads limits from [] here = annotations-read limits kinds top field sexp c d annotations is before w in
-      let all : List SymbolAt = annotations ++ at symbol p ∷ [] in
-      let own : Tok (in_sexp (innermost kinds)) d (name quoted symbol) p e = subst (λ sexp. Tok sexp d (name quoted symbol) p e) (sym is) tok in
-      or-then (or-later limits from here [] prefix (token-or limits kinds top (a_value field annotations) d (name quoted symbol) p e (value-suits field annotations (name quoted symbol)) own)) (λ fits.
-        elim (cases_lt limits.scalar (sum_by cost all)) [
-          | inl over ↦
-              let next : State = state kinds top (a_value field all) f in
-              let stops : step limits here ≡ Stops AnnotationLimit p =
-              step-token limits kinds top (a_value field annotations) d (name quoted symbol) p e (value-suits field annotations (name quoted symbol)) fits own
-              ∙ (ap (λ o. step_of (part p (reading.symbol_step limits kinds top field annotations quoted (at symbol p) e o)))
-              (colons-stand (in_sexp (innermost kinds)) e f q (subst (λ sexp. Tok sexp e colons q f) (sym is) after))
-              ∙ refused p (nat_lt limits.scalar (sum_by cost all)) AnnotationLimit (Ok (GoesOn next)) (lt-ltb limits.scalar (sum_by cost all) over))
-              in
-              inr (halts-later limits from here [] prefix (halts-here limits here AnnotationLimit p stops))
-          | inr le ↦ inl (le, (w.1, fits))
-        ]))
+    let from : State = state kinds top (a_value field []) c in
+    let here : State = state kinds top (a_value field annotations) d in
+    let prefix : Reads limits from [] here = annotations-read limits kinds top field sexp c d annotations is before w in
+    let all : List SymbolAt = annotations ++ at symbol p ∷ [] in
+    let own : Tok (in_sexp (innermost kinds)) d (name quoted symbol) p e = subst (λ sexp. Tok sexp d (name quoted symbol) p e) (sym is) tok in
+    or-then (or-later limits from here [] prefix (token-or limits kinds top (a_value field annotations) d (name quoted symbol) p e (value-suits field annotations (name quoted symbol)) own)) (λ fits.
+    elim (cases_lt limits.scalar (sum_by cost all)) [
+      | inl over ↦
+          let next : State = state kinds top (a_value field all) f in
+          let stops : step limits here ≡ Stops AnnotationLimit p =
+          step-token limits kinds top (a_value field annotations) d (name quoted symbol) p e (value-suits field annotations (name quoted symbol)) fits own
+          ∙ (ap (λ o. step_of (part p (reading.symbol_step limits kinds top field annotations quoted (at symbol p) e o)))
+          (colons-stand (in_sexp (innermost kinds)) e f q (subst (λ sexp. Tok sexp e colons q f) (sym is) after))
+          ∙ refused p (nat_lt limits.scalar (sum_by cost all)) AnnotationLimit (Ok (GoesOn next)) (lt-ltb limits.scalar (sum_by cost all) over))
+          in
+          inr (halts-later limits from here [] prefix (halts-here limits here AnnotationLimit p stops))
+      | inr le ↦ inl (le, (w.1, fits))
+    ]))
 
 field-or : (limits : Limits) (kinds : List Kind) (top : ℕ) (k : Option Kind) (field : Option SymbolAt) (c d : Cursor) → innermost kinds ≡ k → (own : Field k c field d)
     → FieldWithin limits own ⊎ Halts limits (state kinds top (at_member k) c)
@@ -152,8 +152,8 @@ scalar-or : (limits : Limits) (kinds : List Kind) (top : ℕ) (field : Option Sy
     → (AnnotationsWithin limits ns × TokenWithin limits t p e) ⊎ Halts limits (state kinds top (a_value field []) c)
 scalar-or limits kinds top field annotations sexp c d e p t is ns tok =
     or-then (annotations-or limits kinds top field sexp c d annotations is ns) (λ w.
-      or-then (or-later limits (state kinds top (a_value field []) c) (state kinds top (a_value field annotations) d) [] (annotations-read limits kinds top field sexp c d annotations is ns w)
-      (token-or limits kinds top (a_value field annotations) d t p e (value-suits field annotations t) (subst (λ sexp. Tok sexp d t p e) (sym is) tok))) (λ fits. inl (w, fits)))
+    or-then (or-later limits (state kinds top (a_value field []) c) (state kinds top (a_value field annotations) d) [] (annotations-read limits kinds top field sexp c d annotations is ns w)
+    (token-or limits kinds top (a_value field annotations) d t p e (value-suits field annotations t) (subst (λ sexp. Tok sexp d t p e) (sym is) tok))) (λ fits. inl (w, fits)))
 
 module _ (limits : Limits) where
   mutual
@@ -171,39 +171,39 @@ module _ (limits : Limits) where
         scalar-or limits kinds top field annotations (in_sexp k) c d e p (name quoted symbol) (ap in_sexp is) ns tok
     value-or kinds top field _ c g _ p _ is (Txt.of_members {k = k} {d = d} {e = e} {f = f} {annotations = annotations} {q = q} {j = j} {members = members} {full = full} ns tok ins tok') =
         or-then (annotations-or limits kinds top field (in_sexp k) c d annotations (ap in_sexp is) ns) (λ w.
-          let from : State = state kinds top (a_value field []) c in
-          let here : State = state kinds top (a_value field annotations) d in
-          let prefix : Reads limits from [] here = annotations-read limits kinds top field (in_sexp k) c d annotations (ap in_sexp is) ns w in
-          let top' : ℕ = top_of kinds top annotations p in
-          let within : State = state (j ∷ kinds) top' (member_of j) e in
-          let item : PlacedItem = item_of top' field annotations p (value.begin j) in
-          let token : step limits here ≡ step_of (take limits kinds top (a_value field annotations) p (begin j) e) =
-          step-token limits kinds top (a_value field annotations) d (begin j) p e (value-suits field annotations (begin j)) (mark-within limits (begin j) p e refl)
-          (subst (λ k. Tok (in_sexp k) d (begin j) p e) (sym is) tok)
-          in
-          elim (cases_lt (length kinds) limits.depth) [
-            | inr deep ↦
-                let stops : step limits here ≡ Stops DepthLimit p = token ∙ refused p (nat_le limits.depth (length kinds)) DepthLimit (Ok (Gives item within)) (le-leb limits.depth (length kinds) deep) in
-                inr (halts-later limits from here [] prefix (halts-here limits here DepthLimit p stops))
-            | inl room ↦
-                let begun : step limits here ≡ Gives item within = token ∙ not-refused p (nat_le limits.depth (length kinds)) DepthLimit (Ok (Gives item within)) (lt-leb limits.depth (length kinds) room) in
-                let first : Reads limits from (item ∷ []) within = prefix ∙ reads-gives limits here within item begun in
-                or-then (or-later limits from within (item ∷ []) first (members-or kinds top' j e f members full ins)) (λ inside. inl (w, (room, inside)))
-          ])
+        let from : State = state kinds top (a_value field []) c in
+        let here : State = state kinds top (a_value field annotations) d in
+        let prefix : Reads limits from [] here = annotations-read limits kinds top field (in_sexp k) c d annotations (ap in_sexp is) ns w in
+        let top' : ℕ = top_of kinds top annotations p in
+        let within : State = state (j ∷ kinds) top' (member_of j) e in
+        let item : PlacedItem = item_of top' field annotations p (value.begin j) in
+        let token : step limits here ≡ step_of (take limits kinds top (a_value field annotations) p (begin j) e) =
+        step-token limits kinds top (a_value field annotations) d (begin j) p e (value-suits field annotations (begin j)) (mark-within limits (begin j) p e refl)
+        (subst (λ k. Tok (in_sexp k) d (begin j) p e) (sym is) tok)
+        in
+        elim (cases_lt (length kinds) limits.depth) [
+          | inr deep ↦
+              let stops : step limits here ≡ Stops DepthLimit p = token ∙ refused p (nat_le limits.depth (length kinds)) DepthLimit (Ok (Gives item within)) (le-leb limits.depth (length kinds) deep) in
+              inr (halts-later limits from here [] prefix (halts-here limits here DepthLimit p stops))
+          | inl room ↦
+              let begun : step limits here ≡ Gives item within = token ∙ not-refused p (nat_le limits.depth (length kinds)) DepthLimit (Ok (Gives item within)) (lt-leb limits.depth (length kinds) room) in
+              let first : Reads limits from (item ∷ []) within = prefix ∙ reads-gives limits here within item begun in
+              or-then (or-later limits from within (item ∷ []) first (members-or kinds top' j e f members full ins)) (λ inside. inl (w, (room, inside)))
+        ])
 
     members-or : (kinds : List Kind) (top : ℕ) (j : Kind) (c d : Cursor) (members : Members SymbolAt ℕ) (full : Bool) → (inside : Inside j c members full d)
         → InsideWithin limits (suc (length kinds)) inside ⊎ Halts limits (state (j ∷ kinds) top (member_of j) c)
     members-or kinds top j c _ _ _ Inside.nothing = inl tt
     members-or kinds top j c f _ _ (Inside.with_value {d = d} {e = e} {members = members} {field = field} {annotations = annotations} {p = p} {v = v} ins own txt) =
         or-then (members-or kinds top j c d members false ins) (λ before.
-          let from : State = state (j ∷ kinds) top (member_of j) c in
-          let here : State = state (j ∷ kinds) top (at_member (Some j)) d in
-          let read : Reads limits from (value.member_items top members) here = members-read limits kinds top j c d members false ins before in
-          or-then (or-later limits from here (value.member_items top members) read (field-or limits (j ∷ kinds) top (Some j) field d e refl own)) (λ named.
-            let behind_name : State = state (j ∷ kinds) top (a_value field []) e in
-            let name_read : Reads limits here [] behind_name = field-read limits (j ∷ kinds) top (Some j) field d e refl own named in
-            or-then (or-later limits from here (value.member_items top members) read (or-later limits here behind_name [] name_read (value-or (j ∷ kinds) top field (Some j) e f annotations p v refl txt)))
-            (λ fits. inl (before, (named, fits)))))
+        let from : State = state (j ∷ kinds) top (member_of j) c in
+        let here : State = state (j ∷ kinds) top (at_member (Some j)) d in
+        let read : Reads limits from (value.member_items top members) here = members-read limits kinds top j c d members false ins before in
+        or-then (or-later limits from here (value.member_items top members) read (field-or limits (j ∷ kinds) top (Some j) field d e refl own)) (λ named.
+        let behind_name : State = state (j ∷ kinds) top (a_value field []) e in
+        let name_read : Reads limits here [] behind_name = field-read limits (j ∷ kinds) top (Some j) field d e refl own named in
+        or-then (or-later limits from here (value.member_items top members) read (or-later limits here behind_name [] name_read (value-or (j ∷ kinds) top field (Some j) e f annotations p v refl txt)))
+        (λ fits. inl (before, (named, fits)))))
     members-or kinds top j c e _ _ (Inside.with_comma {d = d} {members = members} ins tok) = members-or kinds top j c d members true ins
 
 -- ---- the top level
@@ -212,15 +212,15 @@ tops-or : (limits : Limits) (bytes : List ℕ) (c : Cursor) (tops : List (Top Sy
 tops-or limits bytes _ _ Tops.nothing = inl tt
 tops-or limits bytes e _ (Tops.marker {tops = tops} {d = d} {p = p} before tok alone) =
     or-then (tops-or limits bytes d tops before) (λ w.
-      let prefix = tops-read limits bytes d tops before w in
-      let word : Token = name false (value.Text version_word) in
-      or-then (or-later limits (start bytes) (state [] prefix.0 (a_value None []) d) (top_items tops) prefix.1
-      (token-or limits [] prefix.0 (a_value None []) d word p e (value-suits None [] word) tok)) (λ fits. inl (w, fits)))
+    let prefix = tops-read limits bytes d tops before w in
+    let word : Token = name false (value.Text version_word) in
+    or-then (or-later limits (start bytes) (state [] prefix.0 (a_value None []) d) (top_items tops) prefix.1
+    (token-or limits [] prefix.0 (a_value None []) d word p e (value-suits None [] word) tok)) (λ fits. inl (w, fits)))
 tops-or limits bytes e _ (Tops.with_value {tops = tops} {d = d} {annotations = annotations} {p = p} {v = v} before txt) =
     or-then (tops-or limits bytes d tops before) (λ w.
-      let prefix = tops-read limits bytes d tops before w in
-      or-then (or-later limits (start bytes) (state [] prefix.0 (a_value None []) d) (top_items tops) prefix.1 (value-or limits [] prefix.0 None None d e annotations p v refl txt))
-      (λ fits. inl (w, fits)))
+    let prefix = tops-read limits bytes d tops before w in
+    or-then (or-later limits (start bytes) (state [] prefix.0 (a_value None []) d) (top_items tops) prefix.1 (value-or limits [] prefix.0 None None d e annotations p v refl txt))
+    (λ fits. inl (w, fits)))
 
 pub what_is_read_is_within : WhatIsReadIsWithin
 what_is_read_is_within limits bytes tops is read =

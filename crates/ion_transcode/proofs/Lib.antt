@@ -33,3 +33,4 @@ mod WrittenFits
 mod WrittenAccepted
 mod AcceptedAgain
 mod TopRows
+mod WrittenRows

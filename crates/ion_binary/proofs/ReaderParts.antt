@@ -135,13 +135,13 @@ taken-fits limits (finds.Container k end) old new w (Err fault) text scalar anno
 
 -- ---- at top level
 
+pub none-left : (bytes : List ℕ) → slice_get bytes 0 ≡ None → bytes ≡ []
+none-left [] none = refl
+none-left (b ∷ bytes) none = absurd (cc none)
+
 pub top-ends : (limits : Limits) (frames : List Frame) (top : ℕ) (c : Cursor) → frames ≡ [] → slice_get c.rest 0 ≡ None → step limits (record { frames = frames; top = top; cursor = c }) ≡ Ends
 unfolding step
-top-ends limits [] top c e none = nothing c.rest none
-  where
-    nothing : (rest : List ℕ) → slice_get rest 0 ≡ None → top_step limits top c rest ≡ Ends
-    nothing [] none = refl
-    nothing (b ∷ rest) none = absurd (cc none)
+top-ends limits [] top c e none = ap (top_step limits top c) (none-left c.rest none)
 top-ends limits (f ∷ frames) top c e none = absurd (cc e)
 
 pub top-member : (limits : Limits) (frames : List Frame) (top : ℕ) (c : Cursor) (b : ℕ) → frames ≡ [] → slice_get c.rest 0 ≡ Some b

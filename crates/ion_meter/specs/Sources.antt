@@ -3,7 +3,7 @@ use Rattle.std.specs.Prelude.{◌≡◌, ℕ, ◌+◌, ◌^◌, ◌<◌, ◌≤�
 use Rattle.ion_meter.specs.declared.device.Input.{Ghosts as InputOf}
 use Rattle.ion_meter.specs.declared.fault.Fault.{Fault}
 use Rattle.ion_meter.specs.declared.fault.Fault.TheVariants.{Memory, ReadFault, WriteFault, InputLimit}
-use Rattle.ion_meter.specs.Windows.{Incoming, left, failures_in, Extends}
+use Rattle.ion_meter.specs.Windows.{AreBytes, Incoming, left, failures_in, Extends}
 
 -- the bytes that are still to be read, and the place of the first of them
 pub record Cursor : Type 0 where
@@ -13,6 +13,10 @@ pub record Cursor : Type 0 where
 -- the cursor so many bytes further on
 abbrev pub skip : ℕ → Cursor → Cursor
 skip n c = record { place = c.place + n; rest = drop n c.rest }
+
+-- what is left of the input is bytes, where that can be seen
+abbrev pub BytesAreLeft : {I : Type 0} → InputOf I → Incoming I → Type 0
+BytesAreLeft device s = device.observable s.device → AreBytes (left device.rest s)
 
 -- where a source stands, by what is left of its device
 abbrev pub cursor : {I : Type 0} → InputOf I → Incoming I → Cursor
@@ -28,12 +32,13 @@ pub record Stands {I : Type 0} (s : Incoming I) : Type 0 where
   pub within : s.place ≤ s.limit
   pub small : s.limit ≤ 2 ^ 48
 
--- octets were passed over, or more of the device was read
+-- octets were passed over, each of which is a byte, or more of the device was read
 pub record Moves {I : Type 0} (device : InputOf I) (old new : Incoming I) : Type 0 where
   pub still_observable : device.observable new.device ↔ device.observable old.device
   pub limit : new.limit ≡ old.limit
   pub further : old.place ≤ new.place
   pub total : device.observable old.device → new.place + length (left device.rest new) ≡ old.place + length (left device.rest old)
+  pub bytes : BytesAreLeft device new → BytesAreLeft device old
 
 -- why a call that takes no memory answers a fault
 pub record Causes (fault : Option Fault) (failures_old failures_new : ℕ) (exceeds : Type 0) : Type 0 where

@@ -1,7 +1,12 @@
 -- What is seen of the windows on input and output.
 use Rattle.std.specs.Prelude.{◌≡◌, ℕ, ◌+◌, ◌-◌, ◌<◌, ◌≤◌, ◌↔◌, Bool, List, [], ◌++◌, length, take, drop, Option, None, Some, Result, Err}
+use Rattle.std.specs.List.{AllByRecursion}
 use Rattle.ion_meter.specs.declared.fault.Fault.{Fault}
 use Rattle.ion_meter.specs.declared.fault.Fault.TheVariants.{ReadFault, WriteFault}
+
+-- numbers that a byte can be
+abbrev pub AreBytes : List ℕ → Type 0
+AreBytes bytes = AllByRecursion (λ b. b < 256) bytes
 
 -- a window on an input: its device, the bytes that were read and not passed over, whether the input has ended, how many bytes were passed over,
 -- how many may be given in all, and the fault that it keeps answering
@@ -42,8 +47,9 @@ pub record Extends {I : Type 0} (rest : I → List ℕ) (observable : I → Type
   pub still_observable : observable new.device ↔ observable old.device
   pub same_left : observable old.device → left rest new ≡ left rest old
 
--- n bytes were passed over, and nothing else changed
+-- n bytes were passed over, numbers that a byte can be, and nothing else changed
 pub record IsPassed {I : Type 0} (old new : Incoming I) (count : ℕ) : Type 0 where
+  pub bytes : (more : List ℕ) → AreBytes (new.buffered ++ more) → AreBytes (old.buffered ++ more)
   pub buffered : new.buffered ≡ drop count old.buffered
   pub device : new.device ≡ old.device
   pub ended : new.ended ≡ old.ended

@@ -2,7 +2,7 @@
 ghost use Rattle.std.specs.Prelude.{◌≡◌, ◌+◌, ◌-◌, ◌^◌, ◌<◌, ◌≤◌, ◌⊎◌, [], length, take, drop, None, Some, Ok, Err, false, true, slice_get, OnOk, OnErr, IfOk, IfErr, IfSome, IfNone, MatchResult};
 ghost use Rattle.ion_meter.specs.Counts.{Grows, Shrinks, IsRefused};
 ghost use Rattle.ion_meter.specs.Sources.{Reads};
-ghost use Rattle.ion_meter.specs.Windows.{left, lent, IsGiven, CanPass, IsPassed, Extends, failures_in};
+ghost use Rattle.ion_meter.specs.Windows.{left, lent, AreBytes, IsGiven, CanPass, IsPassed, Extends, failures_in};
 ghost use Rattle.ion_meter.specs.Limits.{AreChecked};
 
 use crate::device::Input;
@@ -57,6 +57,12 @@ impl<I: Input, A: Allocator + Copy> Model for Source<I, A> {
         × (s.fault ≡ None → I.failure_count s.device < 2 ^ 64 - 1)
         × (s.ended ≡ true → I.observable s.device → I.rest s.device ≡ []) };
 }
+
+// What a slice of bytes has is bytes: this does nothing, and brings that to a proof.
+#[inline(always)]
+fn are_bytes(bytes: &[u8])
+    ensures { AreBytes bytes.now }
+{}
 
 impl<I: Input, A: Allocator + Copy> Source<I, A> {
     /// A window on this input, or the device back where there is no memory for it.
@@ -240,6 +246,7 @@ impl<I: Input, A: Allocator + Copy> Source<I, A> {
         requires { CanPass self.old count }
         ensures { IsPassed self.old self.new count }
     {
+        are_bytes(&*self.window);
         self.start += count;
     }
 
@@ -249,7 +256,7 @@ impl<I: Input, A: Allocator + Copy> Source<I, A> {
         requires { IsGiven self.old 0 }
         ensures { IsPassed self.old self.new 1 }
     {
-        self.start += 1;
+        self.consume(1);
     }
 
     /// Whether the last read gave fewer bytes than there was room for, or there was none yet: the

@@ -55,6 +55,7 @@ pub record LeavesReader {R A : Type 0} (r : RawReaderOf R A) (old new : R) (resu
   pub sound : r.sound new
   pub observable : r.observable new ↔ r.observable old
   pub exceeds : r.exceeds new ↔ r.exceeds old
+  pub bytes_left : r.bytes_left new → r.bytes_left old
   pub depth : r.depth new ≡ r.depth old
   pub most : r.most new ≡ r.most old
   pub ended : result ≡ Ok false → r.ended new

@@ -114,6 +114,7 @@ pub record UserSteps {R A T : Type 0} (r : RawReaderOf R A) (item over : T) (old
   -- what stays
   pub observable : r.observable new.raw ↔ r.observable old.raw
   pub exceeds : r.exceeds new.raw ↔ r.exceeds old.raw
+  pub bytes_left : r.bytes_left new.raw → r.bytes_left old.raw
   pub depth : r.depth new.raw ≡ r.depth old.raw
   pub most : r.most new.raw ≡ r.most old.raw
   pub failed : new.failed ≡ old.failed

@@ -253,6 +253,7 @@ impl<'c, R: RawReader<A>, A: Allocator + Copy> UserReader<'c, R, A> {
             (R.failures (raw_of self.old)) (R.failures (raw_of self.new))
             (R.exceeds (raw_of self.old)) }
         ensures exceeds { R.exceeds (raw_of self.new) ↔ R.exceeds (raw_of self.old) }
+        ensures bytes_left { R.bytes_left (raw_of self.new) → R.bytes_left (raw_of self.old) }
 
         // Memory, on every exit.
         ensures kept { (R.depth (raw_of self.new) ≡ R.depth (raw_of self.old))

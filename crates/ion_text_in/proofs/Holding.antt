@@ -8,7 +8,7 @@ use Rattle.ion_meter.specs.Windows.{Incoming}
 use Rattle.ion_meter.specs.Sources.{Exceeds, Stands, Moves, Causes}
 use Rattle.ion_value.specs.Calls.{CanRead, Reads, ReadsInto}
 use Rattle.ion_value.specs.Shares.{Charges, ReadCauses, fault_of}
-use Rattle.ion_value.proofs.Cursors.{moves-then}
+use Rattle.ion_value.proofs.Cursors.{moves-not, moves-then}
 use Rattle.ion_text_in.specs.Gathered.{CanGrow, CanGather, Grown}
 
 -- what calls did so far, or all of them with the last one's fault
@@ -18,9 +18,6 @@ pub record Held {I : Type 0} (device : InputOf I) (old new : Incoming I) (earlie
   pub causes : ReadCauses fault earlier later (device.failure_count old.device) (device.failure_count new.device) (Exceeds device old)
   pub charges : Charges earlier later before after most
 
-stays : {I : Type 0} (device : InputOf I) (s : Incoming I) → Moves device s s
-stays device s = record { still_observable = (λ h. h, λ h. h); limit = refl; further = omega arith; total = λ h. refl }
-
 pub charges-none : (m : Counts) (n most : ℕ) → n ≤ most → n ≤ m.held → Charges m m n n most
 charges-none m n most le there = record { held = refl; share = le; peak = omega (arith, le, there); rises = omega arith }
 
@@ -28,7 +25,7 @@ charges-none m n most le there = record { held = refl; share = le; peak = omega 
 pub held-none : {I : Type 0} (device : InputOf I) (s : Incoming I) (m : Counts) (n most : ℕ) → Stands s → n ≤ most → n ≤ m.held → Held device s s m m n n most None
 held-none device s m n most stands le there = record {
   stands = λ _. stands;
-  moves = stays device s;
+  moves = moves-not device s;
   causes = record { memory = λ e. absurd (cc e); counted = λ _. refl; device = λ e. absurd (cc e); steady = λ _. refl; limit = λ e. absurd (cc e); no_writes = λ e. cc e };
   charges = charges-none m n most le there;
 }
@@ -101,7 +98,7 @@ reads-held device s t m n most (Err f) le there h = record {
 pub grown-held : {I : Type 0} (device : InputOf I) (s : Incoming I) (a b : Counts) (k l most : ℕ) (fault : Option Fault) → Stands s → Grown a b k l most fault → Held device s s a b k l most fault
 grown-held device s a b k l most fault stands g = record {
   stands = λ _. stands;
-  moves = stays device s;
+  moves = moves-not device s;
   causes = record {
     memory = g.memory;
     counted = g.counted;

@@ -11,6 +11,7 @@ use Rattle.ion_meter.specs.Sources.{cursor}
 use Rattle.ion_value.specs.declared.ion_type.Kind.{Kind}
 use Rattle.ion_value.specs.Calls.{Reads}
 use Rattle.ion_value.specs.Shares.{fault_of}
+use Rattle.ion_value.proofs.Cursors.{moves-not}
 use Rattle.ion_value.specs.Standing.{Fits, open_after}
 use Rattle.ion_text_in.specs.declared.reader.StepResult.{StepResult}
 use Rattle.ion_text_in.specs.declared.reader.StepResult.TheVariants as step_result
@@ -122,7 +123,7 @@ module _ {I A : Type 0} (device : InputOf I) where
         sized = record { checked = sized.checked; few = few; annotated = omega arith; name = name; text = text };
         held = record {
           stands = λ _. ready.stands;
-          moves = record { still_observable = (λ h. h, λ h. h); limit = refl; further = omega arith; total = λ h. refl };
+          moves = moves-not device r.source;
           causes = record { memory = λ e. absurd (cc e); counted = λ _. cost.refused; device = λ e. absurd (cc e); steady = λ _. refl; limit = λ e. absurd (cc e); no_writes = λ e. cc e };
           charges = record { held = omega (arith, held); share = omega (arith, few, name, text); peak = omega (arith, peak); rises = omega (arith, peak) };
         };

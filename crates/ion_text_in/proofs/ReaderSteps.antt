@@ -304,7 +304,7 @@ no-field name (Some f) e = absurd (cc e)
 
 module _ {I A : Type 0} (device : InputOf I) where
   pub end-over : (r : TextReader I A) → is_some (innermost (opened_in r)) ≡ false → is_annotated (annotations_in r) ≡ false → r.expected ≡ expected.Value → IsInside r
-      → left device.rest r.source ≡ [] → (ending r r.source.place ≡ Finished) × (to_come_by device r ≡ Finished)
+      → left device.rest r.source ≡ [] → (ending r r.source.place ≡ Finished) × (to_come_by device r ≡ Finished) × (left device.rest r.source ≡ [])
   end-over r top none value inside over =
       let c = cursor device r.source in
       let kinds = none-open (opened_in r) (none-is (innermost (opened_in r)) top) in
@@ -313,6 +313,7 @@ module _ {I A : Type 0} (device : InputOf I) where
         ended-is r.limits (opened_in r) r.expected (field_in r) (annotations_in r) c.place kinds value field bare,
         ap (λ (u : Option ℕ). unless_unfinished u (later r.limits (state_behind c r))) inside.finished
             ∙ (step-ended r.limits (state_behind c r) c (no-blanks c over) over ∙ ended-is r.limits (opened_in r) r.expected None [] c.place kinds value refl refl),
+        over,
       )
 
   -- a version marker was taken
@@ -439,7 +440,8 @@ width-some tokens.two_colons = omega arith
 width-some tokens.no_token = omega arith
 
 module _ {I A : Type 0} (device : InputOf I) where
-  pub ended-gives : (before : Reading) (new : TextReader I A) (x : StepResult) → x ≡ step_result.Ended → StepGives device before new (Ok x) → (before ≡ Finished) × (to_come_by device new ≡ Finished)
+  pub ended-gives : (before : Reading) (new : TextReader I A) (x : StepResult) → x ≡ step_result.Ended → StepGives device before new (Ok x)
+      → (before ≡ Finished) × (to_come_by device new ≡ Finished) × (left device.rest new.source ≡ [])
   ended-gives before new step_result.Ended e h = h
   ended-gives before new step_result.Passed e h = absurd (cc e)
   ended-gives before new step_result.Item e h = absurd (cc e)

@@ -10,6 +10,7 @@ use Rattle.ion_meter.specs.declared.fault.Reason.TheVariants.{Truncated}
 use Rattle.ion_meter.specs.declared.limits.Limits.{Limits}
 use Rattle.ion_meter.specs.Limits.{AreChecked}
 use Rattle.ion_meter.specs.Sources.{Cursor, cursor, Stands}
+use Rattle.ion_meter.specs.Windows.{left}
 use Rattle.ion_value.specs.declared.ion_type.Kind.{Kind}
 use Rattle.ion_value.specs.Calls.{ReadsInto}
 use Rattle.ion_value.specs.Parts.{Placed, part}
@@ -201,7 +202,7 @@ pub record CanAdvance {I A : Type 0} (r : TextReader I A) (meter : Counts) : Typ
 
 -- what a step does, by what was to come before
 abbrev pub StepGives : {I A : Type 0} → InputOf I → Reading → TextReader I A → Result StepResult Fault → Type 0
-StepGives device before new (Ok step_result.Ended) = (before ≡ Finished) × (to_come_by device new ≡ Finished)
+StepGives device before new (Ok step_result.Ended) = (before ≡ Finished) × (to_come_by device new ≡ Finished) × (left device.rest new.source ≡ [])
 StepGives device before new (Ok step_result.Passed) = before ≡ to_come_in device new
 StepGives device before new (Ok step_result.Item) = before ≡ More (lent_by new) (to_come_by device new)
 StepGives device before new (Err (Refused reason place)) = before ≡ Stopped reason place

@@ -4,7 +4,7 @@ ghost use Rattle.ion_meter.specs.declared.fault.Reason.{Reason};
 ghost use Rattle.ion_meter.specs.declared.fault.Fault.TheVariants.{Refused};
 ghost use Rattle.ion_meter.specs.Counts.{Counts, Shrinks};
 ghost use Rattle.ion_meter.specs.Limits.{AreChecked};
-ghost use Rattle.ion_meter.specs.Sources.{Cursor, cursor, skip, Exceeds, Stands};
+ghost use Rattle.ion_meter.specs.Sources.{BytesAreLeft, Cursor, cursor, skip, Exceeds, Stands};
 ghost use Rattle.ion_meter.specs.Windows.{left, lent};
 ghost use Rattle.ion_value.specs.Items.{raw_head};
 ghost use Rattle.ion_value.specs.Reading.{Finished, More, Stopped};
@@ -675,7 +675,8 @@ impl<I: Input, A: Allocator + Copy> TextReader<I, A> {
         ensures gives { I.observable self.old.source.device → result ≡ Ok true
             → to_come_by I.Input self.old ≡ More (lent_by self.new) (to_come_by I.Input self.new) }
         ensures ends { I.observable self.old.source.device → result ≡ Ok false
-            → (to_come_by I.Input self.old ≡ Finished) × (to_come_by I.Input self.new ≡ Finished) }
+            → (to_come_by I.Input self.old ≡ Finished) × (to_come_by I.Input self.new ≡ Finished)
+            × (left I.rest self.new.source ≡ []) }
         ensures refuses { I.observable self.old.source.device → (r : Reason) (p : ℕ)
             → result ≡ Err (Refused r p) → to_come_by I.Input self.old ≡ Stopped r p }
         ensures ready { OnOk result (IsReady self.new) }
@@ -748,10 +749,13 @@ impl<I: Input, A: Allocator + Copy> RawReader<A> for TextReader<I, A> {
 
     ghost exceeds = { λ s. Exceeds I.Input s.source };
 
+    ghost bytes_left = { λ s. BytesAreLeft I.Input s.source };
+
     ghost left = { left_to };
 
     ghost sound = { λ s. IsSound s
-        × (s.done ≡ true → I.observable s.source.device → to_come_by I.Input s ≡ Finished) };
+        × (s.done ≡ true → I.observable s.source.device
+        → (to_come_by I.Input s ≡ Finished) × (left I.rest s.source ≡ [])) };
 
     fn next(&mut self, meter: &mut Meter<A>) -> Result<bool, Fault> {
         if let Some(fault) = self.failed {
@@ -787,4 +791,6 @@ impl<I: Input, A: Allocator + Copy> RawReader<A> for TextReader<I, A> {
     ghost within = { λ s sound. sound-within s sound.0 };
 
     ghost one_ending = { λ s sound done. sound.0.one_ending done };
+
+    ghost none_left = { λ s sound done observable. rw (sound.1 done observable).1 tt };
 }

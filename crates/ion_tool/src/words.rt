@@ -60,17 +60,20 @@ const DEFAULT_LIMITS: Limits = Limits {
     input: 281_474_976_710_656,
 };
 
-const ABOUT: &str =
-    "Reads a stream of Amazon Ion 1.0, text or binary, a data format like JSON with more types, and writes
-its values as canonical Ion text, a line each. A stream that begins with the byte E0 is binary.
+const ABOUT: &str = "Shows, checks and converts Amazon Ion 1.0, a data format like JSON with more
+types and a binary form. A stream that begins with the byte E0 is binary.
 
-Memory stays small and bounded. A stream that is not valid, or that passes a limit, is refused: standard
-error then says why and where, as the number of bytes before the place.";
+Memory stays small and bounded. A stream that is not valid, or that passes a
+limit, is refused: standard error then says why, and at which byte offset.";
+
+/// How the program is called, which `clap` also says of wrong words.
+const USAGE: &str = "ion <show|check|convert> [OPTIONS] [FILE]
+       as in: ion show data.ion";
 
 /// What is said of wrong words of which `clap` says nothing.
 const WRONG: &str = "error: no such command or limit\n";
 
-const AFTER: &str = "Without a command, ion shows standard input with the default limits.
+const AFTER: &str = "Without a command and arguments, ion shows standard input.
 
 Exit status:
   0  the stream is accepted
@@ -84,8 +87,8 @@ Examples:
   ion convert data.ion > data.10n
   ion show --catalog tables.ion data.10n";
 
-/// An option `--NAME N`, where N is at most this number.
-fn limit_arg<'a>(alloc: Global, name: &'a str, most: u64, help: &'a str) -> Arg<'a>
+/// An option `--NAME N`, where N is at most this number. Help lists it unless it is hidden.
+fn limit_arg<'a>(alloc: Global, name: &'a str, most: u64, help: &'a str, is_hidden: bool) -> Arg<'a>
     ensures rule { rule_of result ≡ limit_rule name.entry.now most }
     ensures own { result.global ≡ false }
 {
@@ -94,6 +97,7 @@ fn limit_arg<'a>(alloc: Global, name: &'a str, most: u64, help: &'a str) -> Arg<
         .value_name("N")
         .value_parser(ValueParser::unsigned(0, most))
         .help(help)
+        .hide(is_hidden)
 }
 
 /// The option `--catalog FILE`.
@@ -104,9 +108,7 @@ fn catalog_arg<'a>(alloc: Global) -> Arg<'a>
     Arg::new(alloc, "catalog")
         .long("catalog")
         .value_name("FILE")
-        .help(
-            "File of shared symbol tables, text or binary, that imports may name [default: no tables]",
-        )
+        .help("File of shared symbol tables, in either form")
 }
 
 /// The argument FILE.
@@ -114,25 +116,30 @@ fn file_arg<'a>(alloc: Global) -> Arg<'a>
     ensures rule { rule_of result ≡ new_rule (codes "FILE") }
     ensures own { result.global ≡ false }
 {
-    Arg::new(alloc, "FILE").help("File to read; - is standard input [default: standard input]")
+    Arg::new(alloc, "FILE").help("File to read; - or none is standard input")
 }
 
-/// A command with the options for the limits.
-fn with_limits<'a>(alloc: Global, command: Command<'a>) -> Result<Command<'a>, AllocError>
+/// A command with the options for the limits. The one for values in binary is taken by each, but
+/// listed only in the help of the one that writes binary.
+fn with_limits<'a>(
+    alloc: Global,
+    command: Command<'a>,
+    writes_binary: bool,
+) -> Result<Command<'a>, AllocError>
     ensures app { IfOk result (λ c. app_of c ≡ with_limits (app_of command.entry)) }
     ensures own { IfOk result (λ c. (out-Command command.entry).has_globals ≡ false
         → (out-Command c).has_globals ≡ false) }
 {
-    let depth = "Most containers open at once, 0 to 65535 [default: 64]";
-    let scalar = "Most bytes in one scalar, such as a string, 0 to 1073741824 [default: 1048576]";
-    let symbols = "Most bytes in one symbol table, 0 to 1073741824 [default: 1048576]";
-    let value =
-        "Most bytes in one value written as binary, 0 to 1073741824 [default: 16777216]; show and check write none";
+    let most = 1_073_741_824;
+    let depth = "Containers open at once, up to 65535 [default: 64]";
+    let scalar = "Bytes in one scalar, up to 1073741824 [default: 1048576]";
+    let symbols = "Bytes of symbols, up to 1073741824 [default: 1048576]";
+    let value = "Bytes in one value, up to 1073741824 [default: 16777216]";
     command
-        .arg(limit_arg(alloc, "depth", 65_535, depth))?
-        .arg(limit_arg(alloc, "scalar", 1_073_741_824, scalar))?
-        .arg(limit_arg(alloc, "symbols", 1_073_741_824, symbols))?
-        .arg(limit_arg(alloc, "value", 1_073_741_824, value))
+        .arg(limit_arg(alloc, "depth", 65_535, depth, false))?
+        .arg(limit_arg(alloc, "scalar", most, scalar, false))?
+        .arg(limit_arg(alloc, "symbols", most, symbols, false))?
+        .arg(limit_arg(alloc, "value", most, value, !writes_binary))
 }
 
 /// A subcommand with its options.
@@ -141,6 +148,7 @@ fn action_command<'a>(
     name: &'a str,
     about: &'a str,
     example: &'a str,
+    writes_binary: bool,
 ) -> Result<Command<'a>, AllocError>
     ensures app { IfOk result (λ c. app_of c ≡ action_app name.entry.now) }
     ensures own { IfOk result (λ c. (out-Command c).has_globals ≡ false) }
@@ -149,7 +157,7 @@ fn action_command<'a>(
         .about(about)
         .after_help(example)
         .arg(catalog_arg(alloc))?;
-    with_limits(alloc, command)?.arg(file_arg(alloc))
+    with_limits(alloc, command, writes_binary)?.arg(file_arg(alloc))
 }
 
 /// The program's name, with its texts.
@@ -159,8 +167,8 @@ fn top_command<'a>(alloc: Global) -> Command<'a>
     Command::new(alloc, "ion")
         .no_binary_name(true)
         .subcommand_required(true)
-        .version("0.1.0")
-        .override_usage("ion [COMMAND]")
+        .version("0.2.0, canonical text 2")
+        .override_usage(USAGE)
         .about(ABOUT)
         .after_help(AFTER)
 }
@@ -172,11 +180,12 @@ fn with_action<'a>(
     name: &'a str,
     about: &'a str,
     example: &'a str,
+    writes_binary: bool,
 ) -> Result<Command<'a>, AllocError>
     ensures app { IfOk result (λ c.
         app_of c ≡ with_subcommand (app_of command.entry) (action_app name.entry.now).top) }
 {
-    let action = action_command(alloc, name, about, example)?;
+    let action = action_command(alloc, name, about, example, writes_binary)?;
     command.subcommand(action)
 }
 
@@ -184,21 +193,16 @@ fn with_action<'a>(
 fn command<'a>(alloc: Global) -> Result<Command<'a>, AllocError>
     ensures app { IfOk result (λ c. app_of c ≡ ion_app) }
 {
-    let show = "Writes the stream's values to standard output as canonical Ion text, a line each";
-    let check = "Reads the whole stream and says how many values it has, as in: ok 6 values";
-    let convert =
-        "Writes the stream's values to standard output in the other form: text as binary, binary as text";
-    let example = "Example: ion convert data.ion > data.10n";
+    let show = "Writes the values as canonical Ion text, a line each";
+    let check = "Reads the whole stream and counts its values, as in: ok 6 values";
+    let convert = "Writes the values in the other form: text as binary, binary as text";
     let command = top_command(alloc);
-    let command = with_action(alloc, command, "show", show, "Example: ion show data.ion")?;
-    let command = with_action(
-        alloc,
-        command,
-        "check",
-        check,
-        "Example: ion check < data.10n",
-    )?;
-    with_action(alloc, command, "convert", convert, example)?.bin_name("ion")
+    let example = "Example: ion show data.ion";
+    let command = with_action(alloc, command, "show", show, example, false)?;
+    let example = "Example: ion check < data.10n";
+    let command = with_action(alloc, command, "check", check, example, false)?;
+    let example = "Example: ion convert data.ion > data.10n";
+    with_action(alloc, command, "convert", convert, example, true)?.bin_name("ion")
 }
 
 /// The matches of the words.

@@ -1,10 +1,11 @@
 -- What was shown is accepted, where its values fit the limits, and shows the same.
-use Rattle.std.proofs.Common.{◌≡◌, ℕ, ◌≤◌, List, [], length, map, Option, Some, refl, ap, sym, ◌∙◌, subst, subst₂}
+use Rattle.std.proofs.Common.{◌≡◌, ℕ, List, [], length, map, Some, refl, ap, sym, ◌∙◌, subst, subst₂}
+use Rattle.std.specs.List.{AllByRecursion}
 use Rattle.ion_meter.specs.declared.limits.Limits.{Limits}
 use Rattle.ion_value.specs.Outcome.{Accepted}
 use Rattle.ion_value.specs.Path.{closed, path_items}
 use Rattle.ion_value.specs.Reading.{Finished, behind}
-use Rattle.ion_value.specs.Value.{SymbolAt, UserSymbol, Top, unplaced_top}
+use Rattle.ion_value.specs.Value.{UserSymbol, Top, unplaced_top}
 use Rattle.ion_symbols.specs.Table.{Shared, system}
 use Rattle.ion_symbols.specs.Tree.{user_tops}
 use Rattle.ion_symbols.specs.UserValues.{AreUsers}
@@ -16,12 +17,14 @@ use Rattle.ion_transcode.specs.declared.to.Target.TheVariants as target
 use Rattle.ion_transcode.specs.declared.to.To.{To}
 use Rattle.ion_transcode.specs.declared.to.To.TheVariants as to
 use Rattle.ion_transcode.specs.Acceptance.{AreTaken, WhatIsReadIsAccepted, WhatIsAcceptedIsRead}
+use Rattle.ion_transcode.specs.Depth.{IsNoDeeper, WhatIsReadIsNoDeeper}
 use Rattle.ion_transcode.specs.Forms.{form_of, reading_of}
 use Rattle.ion_transcode.specs.Laws.{OneSpelling}
 use Rattle.ion_transcode.specs.Outputs.{outputs_of, resolved}
 use Rattle.ion_transcode.specs.RoundTrip.{ValuesOfStreams}
 use Rattle.ion_transcode.specs.ShownAgain.{IsReadWithin, TextIsReadWithin, WhatIsShownIsAccepted}
 use Rattle.ion_transcode.specs.Verdict.{HasVerdict}
+use Rattle.ion_transcode.proofs.NoDeeper.{no_deeper-wide}
 use Rattle.ion_transcode.proofs.ReadAgain.{same-length, some-same}
 use Rattle.ion_transcode.proofs.TextWithoutPlaces.{same-text}
 
@@ -38,10 +41,10 @@ again accepted catalog limits us asked t out to_is taken written r =
     (written r.users r.same)
     (accepted catalog limits asked (text us) t r.raw r.users resolved_as read r.resolved r.users_are (taken r.users))
 
-pub what-is-shown-is-accepted : WhatIsAcceptedIsRead → OneSpelling → ValuesOfStreams → TextIsReadWithin → WhatIsReadIsAccepted
-    → WhatIsShownIsAccepted
-what-is-shown-is-accepted is_read one values within accepted catalog other limits wide asked bytes shown n tops us small texts to_is
-    verdict stream are least fits =
+pub what-is-shown-is-accepted : WhatIsAcceptedIsRead → OneSpelling → ValuesOfStreams → WhatIsReadIsNoDeeper → TextIsReadWithin
+    → WhatIsReadIsAccepted → WhatIsShownIsAccepted
+what-is-shown-is-accepted is_read one values shallow within accepted catalog other limits wide asked bytes shown n tops us small
+    texts to_is verdict stream are least deeper fits =
     let f : Form = form_of bytes in
     let a = is_read catalog limits asked bytes target.Text n shown to_is verdict in
     let same : a.tops ≡ tops = (one f).stream bytes a.tops tops a.stream stream in
@@ -49,10 +52,11 @@ what-is-shown-is-accepted is_read one values within accepted catalog other limit
     let users : AreUsers us = values f catalog bytes tops us small texts stream are in
     let output : text us ≡ shown = sym (a.output ∙ ap (λ (vs : List (Top UserSymbol ℕ)). text vs) found) in
     let count : length us ≡ n = sym (a.count ∙ ap (λ (vs : List (Top UserSymbol ℕ)). length vs) found) in
-    let r = within other wide us least users fits in
+    let below = (shallow f catalog limits bytes a.tops a.us a.read a.users_are).1 in
+    let deep = subst (λ (vs : List (Top UserSymbol ℕ)). AllByRecursion (IsNoDeeper limits.depth) vs) found below in
+    let r = within other wide us least users (no_deeper-wide limits.depth wide.depth us deeper deep) fits in
     let as_text = again accepted other wide us to.Text target.Text (text us) refl (λ vs. tt) (λ vs e. same-text vs us e) r in
-    let as_nothing = again accepted other wide us to.Nothing target.Nothing [] refl (λ vs. tt) (λ vs e. refl) r in
-    (
+    let as_nothing = again accepted other wide us to.Nothing target.Nothing [] refl (λ vs. tt) (λ vs e. refl) r in (
       subst₂ (λ (xs : List ℕ) (m : ℕ). HasVerdict other wide to.Text xs (Accepted m) xs) output count as_text,
       subst₂ (λ (xs : List ℕ) (m : ℕ). HasVerdict other wide to.Nothing xs (Accepted m) []) output count as_nothing,
     )

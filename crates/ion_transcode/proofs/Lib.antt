@@ -29,8 +29,11 @@ mod ReadAgain
 mod ShortRuns
 mod Accepted
 mod ReadWhole
+mod OpenContainers
+mod NoDeeper
 mod WrittenFits
 mod WrittenAccepted
 mod AcceptedAgain
 mod TopRows
 mod WrittenRows
+mod ShownRows

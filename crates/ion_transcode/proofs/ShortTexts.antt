@@ -1,5 +1,5 @@
 -- The canonical text of a null, a bool, a number or a timestamp has 64 bytes at most.
-use Rattle.std.proofs.Common.{◌≡◌, ℕ, zero, suc, ◌+◌, ◌-◌, ◌*◌, ◌/◌, ◌%◌, ◌^◌, ◌<◌, ◌≤◌, ℤ, pos, negsuc, Bool, true, false, ◌==◌, nat_lt, if◌then◌else◌, inl, inr, List, [], ◌∷◌, ◌++◌, length, decimal, Option, None, Some, refl, sym, ap, ◌∙◌, arith, length-append, lit<}
+use Rattle.std.proofs.Common.{◌≡◌, ℕ, zero, suc, ◌+◌, ◌-◌, ◌*◌, ◌/◌, ◌^◌, ◌<◌, ◌≤◌, ℤ, pos, negsuc, Bool, true, false, ◌==◌, nat_lt, if◌then◌else◌, inl, inr, List, [], ◌∷◌, ◌++◌, length, decimal, Option, None, Some, sym, ap, ◌∙◌, arith, length-append, lit<}
 use Rattle.std.proofs.lemmas.Bool.{cases_Bool, ltb-true}
 use Rattle.std.proofs.lemmas.Fmt.{length-decimal-le_wide}
 use Rattle.std.proofs.lemmas.Int.{ints}
@@ -58,7 +58,9 @@ int-short i is =
     omega (arith, few)
 
 exponent-few : (n : ℕ) → n < 2 ^ 31 → length (decimal n) ≤ 10
-exponent-few n small = length-decimal-le_wide 10 n (omega arith) (omega (arith, small)) (let wide : 2 ^ 31 < 10 ^ 64 = lit< tt in omega (arith, small, wide))
+exponent-few n small =
+    let wide : 2 ^ 31 < 10 ^ 64 = lit< tt in
+    length-decimal-le_wide 10 n (omega arith) (omega (arith, small)) (omega (arith, small, wide))
 
 integer-short : (e : ℤ) → IsExponent e → length (integer_text e) ≤ 11
 integer-short (pos n) is = let few = exponent-few n (omega (arith, ints, is)) in omega (arith, few)
@@ -81,8 +83,7 @@ pointed-short n k small few =
     let most : 10 ^ (39 - k) ≤ 10 ^ 39 = pow-le-pow_right {n = 10} (omega arith) fewer in
     let top : 10 ^ 39 < 10 ^ 64 = lit< tt in
     let digits = length-decimal-le_wide (39 - k) (n / 10 ^ k) (omega (arith, few)) less (omega (arith, less, most, top)) in
-    let long : length (decimal (n / 10 ^ k) ++ (46 ∷ fixed_digits k n)) ≡ length (decimal (n / 10 ^ k)) + suc (length (fixed_digits k n)) =
-    length-append (decimal (n / 10 ^ k)) (46 ∷ fixed_digits k n) in
+    let long = length-append (decimal (n / 10 ^ k)) (46 ∷ fixed_digits k n) in
     omega (arith, long, digits, length-fixed_digits k n)
 
 whole-short : (n : ℕ) → n < 2 ^ 128 → length (decimal n ++ (46 ∷ [])) ≤ 51

@@ -132,8 +132,8 @@ token-begins After bytes t is rest after = token-starts t 0 (bytes ++ rest) _ is
 
 -- ---- symbols
 
--- the text of a symbol is a symbol's token, which is that symbol under every table, costs what the symbol does, and counts no more
--- than limits allow that the symbol fits
+-- the text of a symbol is a symbol's token, which is that symbol under every table, costs what the symbol does, and counts no
+-- more than limits allow that the symbol fits
 pub record SymbolIs (s : UserSymbol) : Type 0 where
   pub quoted : Bool
   pub symbol : Symbol

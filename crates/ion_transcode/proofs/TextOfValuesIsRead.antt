@@ -27,6 +27,7 @@ use Rattle.ion_text_in.specs.Within.{TopsWithin}
 use Rattle.ion_text_out.specs.Text.{value_text, text}
 use Rattle.ion_transcode.specs.declared.to.Form.TheVariants as form
 use Rattle.ion_transcode.specs.Forms.{form_of, form_by}
+use Rattle.ion_transcode.specs.Depth.{IsNoDeeper}
 use Rattle.ion_transcode.specs.RoundTrip.{TextIsRead}
 use Rattle.ion_transcode.specs.ShownAgain.{FitsText, TextIsReadWithin}
 use Rattle.ion_transcode.proofs.BehindValues.{is_start, starts, Behind, no-blanks, one-line, one-space}
@@ -95,7 +96,8 @@ record Sofar (catalog : List Shared) (start : Cursor) (done : List (Top UserSymb
   same : map unplaced_top users ≡ map unplaced_top done
   resolved : (limit : ℕ) (more : List (Top SymbolAt ℕ)) → AreResolved catalog limit system more
       → AreResolved catalog limit system (raw ++ more)
-  within : (limits : Limits) → 64 ≤ limits.scalar → AllByRecursion (FitsText limits) done → TopsWithin limits spells
+  within : (limits : Limits) → 64 ≤ limits.scalar → AllByRecursion (FitsText limits) done
+      → AllByRecursion (IsNoDeeper limits.depth) done → TopsWithin limits spells
 
 line-join : (a b rest : List ℕ) → (a ++ (b ++ codes "\n")) ++ rest ≡ a ++ (b ++ (10 ∷ rest))
 line-join a b rest = append_assoc a (b ++ codes "\n") rest ∙ ap (λ (xs : List ℕ). a ++ xs) (append_assoc b (codes "\n") rest)
@@ -185,10 +187,12 @@ one-more laws catalog start done first place annotations x rest users begins s =
           let here = resolved-value catalog limit system p v.place v.own v.raw more none v.annotations_stand v.value_stands are in
           subst (λ (l : List (Top SymbolAt ℕ)). AreResolved catalog limit system l) (sym (append_assoc s.raw (top ∷ []) more))
           (s.resolved limit (top ∷ more) here);
-      within = λ limits wide fits.
-          let others = all-left (FitsText limits) done (tree first annotations place x ∷ []) fits in
-          let last = all-right (FitsText limits) done (tree first annotations place x ∷ []) fits in
-          (s.within limits wide others, v.within limits 0 wide last.0.0 last.0.1);
+      within = λ limits wide fits deep.
+          let own : List (Top UserSymbol ℕ) = tree first annotations place x ∷ [] in
+          let below = all-left (IsNoDeeper limits.depth) done own deep in
+          let others = s.within limits wide (all-left (FitsText limits) done own fits) below in
+          let last = all-right (FitsText limits) done own fits in
+          (others, v.within limits 0 wide last.0.0 last.0.1 (all-right (IsNoDeeper limits.depth) done own deep).0);
     }
 
 all-tops : TextLaws → (catalog : List Shared) (start : Cursor) (done tops : List (Top UserSymbol ℕ)) → AreUsers tops
@@ -237,7 +241,7 @@ nothing-yet catalog bytes = record {
   leads = λ more. sym (option_map_id (user_tops catalog system more));
   same = refl;
   resolved = λ limit more are. are;
-  within = λ limits wide fits. tt;
+  within = λ limits wide fits deep. tt;
 }
 
 -- the canonical text of values, all of whose symbols are resolved, and that is within limits under which the values fit
@@ -249,7 +253,8 @@ record TextSpells (catalog : List Shared) (tops : List (Top UserSymbol ℕ)) : T
   users_are : user_tops catalog system raw ≡ Some users
   same : map unplaced_top users ≡ map unplaced_top tops
   resolved : (limit : ℕ) → AreResolved catalog limit system raw
-  within : (limits : Limits) → 64 ≤ limits.scalar → AllByRecursion (FitsText limits) tops → TopsWithin limits stream.spells
+  within : (limits : Limits) → 64 ≤ limits.scalar → AllByRecursion (FitsText limits) tops
+      → AllByRecursion (IsNoDeeper limits.depth) tops → TopsWithin limits stream.spells
 
 text-spells : TextLaws → (catalog : List Shared) (tops : List (Top UserSymbol ℕ)) → AreUsers tops → TextSpells catalog tops
 text-spells laws catalog tops users =
@@ -279,13 +284,13 @@ text-is-read laws catalog tops users =
     record { raw = r.raw; users = r.users; form = r.form; stream = r.stream; users_are = r.users_are; same = r.same }
 
 pub text-is-read-within : TextLaws → StreamsWithinAreRead → TextIsReadWithin
-text-is-read-within laws within_are_read catalog limits tops wide users fits =
+text-is-read-within laws within_are_read catalog limits tops wide users deep fits =
     let r = text-spells laws catalog tops users in
     record {
       raw = r.raw;
       users = r.users;
       form = r.form;
-      read = within_are_read limits (text tops) r.raw r.stream (r.within limits wide fits);
+      read = within_are_read limits (text tops) r.raw r.stream (r.within limits wide fits deep);
       resolved = r.resolved limits.symbols;
       users_are = r.users_are;
       same = r.same;

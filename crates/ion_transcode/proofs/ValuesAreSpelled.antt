@@ -1,5 +1,5 @@
 -- The text of a value is spelled by the grammar of text, as the value.
-use Rattle.std.proofs.Common.{◌≡◌, ℕ, suc, ◌+◌, ◌≤◌, Bool, true, false, ◌==◌, List, [], ◌∷◌, ◌++◌, length, map, sum_by, codes, Option, None, Some, option_map, is_some, refl, ap, ap₂, sym, ◌∙◌, subst, arith, append_assoc, append-nil}
+use Rattle.std.proofs.Common.{◌≡◌, ℕ, suc, ◌+◌, ◌≤◌, Bool, true, false, ◌==◌, List, [], ◌∷◌, ◌++◌, map, sum_by, codes, Option, None, Some, option_map, is_some, refl, ap, ap₂, sym, ◌∙◌, subst, arith, append_assoc, append-nil}
 use Rattle.std.specs.List.{AllByRecursion, flat_map}
 use Rattle.std.specs.Bool.{⊤}
 use Rattle.std.proofs.lemmas.Bool.{false≢true, true≢false}
@@ -25,6 +25,7 @@ use Rattle.ion_text_in.specs.Reading as reading
 use Rattle.ion_text_in.specs.Token.{Token, plain, name, text}
 use Rattle.ion_text_in.specs.Within.{NamesWithin, AnnotationsWithin, FieldWithin, TxtWithin, InsideWithin}
 use Rattle.ion_text_out.specs.Text.{symbol_text, scalar_text, field_text, annotation_text, opener, closer, before_next, is_empty, value_text, members_text}
+use Rattle.ion_transcode.specs.Depth.{ValueIsNoDeeper, MembersAreNoDeeper}
 use Rattle.ion_transcode.specs.ShownAgain.{SymbolFits, ScalarFits, cost, AnnotationsFit, FieldFits, ValueFits, MembersFit}
 use Rattle.ion_transcode.proofs.BehindValues.{starts, Behind, BehindSymbol, no-colons}
 use Rattle.ion_transcode.proofs.TokensInText.{Gap, no_gap, a_space, counts-there, stands, comma-stands, colons-stand, colon-stands, end-stands, begin-stands, opener-starts, Opens, no-brace}
@@ -95,8 +96,8 @@ notes-fit : (ss : List UserSymbol) (limits : Limits) → NotesFit ss limits → 
 notes-fit ss limits fits = (fits.0, each-fits limits ss fits.1)
 
 -- annotations behind others, and what stands between them and what follows
-record AnnotationsRead (Fit : Limits → Type 0) (sexp : Bool) (c : Cursor) (done : List SymbolAt) (ss : List UserSymbol) (rest : List ℕ)
-    : Type 0 where
+record AnnotationsRead (Fit : Limits → Type 0) (sexp : Bool) (c : Cursor) (done : List SymbolAt) (ss : List UserSymbol)
+    (rest : List ℕ) : Type 0 where
   own : List SymbolAt
   gap : List ℕ
   is_gap : Gap gap
@@ -141,7 +142,8 @@ annotations-read laws Fit sexp c done (s ∷ ss) texts fits gap g p rest prev =
           let each = fits limits fit in
           (moved.within limits fit, counts-there word limits.scalar (is.counted limits each.0 each.1.0));
     } in
-    let others : (limits : Limits) → Fit limits → EachFits limits ss = λ limits fit. ((fits limits fit).0, (fits limits fit).1.1) in
+    let others : (limits : Limits) → Fit limits → EachFits limits ss =
+    λ limits fit. ((fits limits fit).0, (fits limits fit).1.1) in
     let next = annotations-read laws Fit sexp c (done ++ own ∷ []) ss texts.1 others [] no_gap two.behind rest then in
     record {
       own = own ∷ next.own;
@@ -224,8 +226,8 @@ pub record ValueRead (k : Option Kind) (c : Cursor) (notes : List UserSymbol) (x
   pub value_is : (t : Table) → seen t raw ≡ unplaced x
   pub annotations_stand : AllByRecursion (symbols.Stands system) own
   pub value_stands : symbols.ValueStands system raw
-  pub within : (limits : Limits) (depth : ℕ) → 64 ≤ limits.scalar → AnnotationsFit limits notes → ValueFits limits depth x
-      → TxtWithin limits depth spells
+  pub within : (limits : Limits) (depth : ℕ) → 64 ≤ limits.scalar → AnnotationsFit limits notes → ValueFits limits x
+      → ValueIsNoDeeper limits.depth depth x → TxtWithin limits depth spells
 
 -- whether a separator is due behind members
 abbrev full_of : Kind → Members UserSymbol ℕ → Bool
@@ -233,9 +235,11 @@ full_of k nothing = false
 full_of k (member before f annotations place x) = has_commas (Some k)
 
 -- members are within limits, where these allow that they fit
-abbrev Allowed : {k : Kind} {c d : Cursor} {raw : Members SymbolAt ℕ} {full : Bool} → Members UserSymbol ℕ → Inside k c raw full d → Type 0
+abbrev Allowed : {k : Kind} {c d : Cursor} {raw : Members SymbolAt ℕ} {full : Bool} → Members UserSymbol ℕ
+    → Inside k c raw full d → Type 0
 Allowed ms spells =
-    (limits : Limits) (depth : ℕ) → 64 ≤ limits.scalar → MembersFit limits depth ms → InsideWithin limits depth spells
+    (limits : Limits) (depth : ℕ) → 64 ≤ limits.scalar → MembersFit limits ms → MembersAreNoDeeper limits.depth depth ms
+    → InsideWithin limits depth spells
 
 record MembersRead (k : Kind) (c : Cursor) (ms : Members UserSymbol ℕ) (full : Bool) (rest : List ℕ) : Type 0 where
   raw : Members SymbolAt ℕ
@@ -489,7 +493,8 @@ mutual
       let c : Cursor = at p (gap ++ (annotations_text notes ++ (scalar_text body ++ rest))) in
       let noted = own-annotations f notes (scalar body) texts in
       let none = no-names (NotesFit notes) sexp c in
-      let a = annotations-read laws (NotesFit notes) sexp c [] notes noted (notes-fit notes) gap g p (scalar_text body ++ rest) none in
+      let more : List ℕ = scalar_text body ++ rest in
+      let a = annotations-read laws (NotesFit notes) sexp c [] notes noted (notes-fit notes) gap g p more none in
       let is = scalar-is laws body writable.0 writable.1 small (own-scalar f notes body texts) in
       let w = scalar-read laws k c a.own a.gap a.is_gap a.place body rest a.names.spells behind is in
       record {
@@ -502,7 +507,7 @@ mutual
         value_is = λ t. ap (λ (v : Scalar UserSymbol). scalar v) (w.is t ∙ sym (id-scalar body));
         annotations_stand = a.stand;
         value_stands = w.stands;
-        within = λ limits depth wide few fits.
+        within = λ limits depth wide few fits deep.
             w.within limits depth wide (notes-within limits notes sexp c a.own _ a.names a.costs wide few) fits;
       }
   value-read laws k f notes (container j ms last) gap g p rest texts writable small behind =
@@ -514,7 +519,8 @@ mutual
       let none = no-names (NotesFit notes) sexp c in
       let a = annotations-read laws (NotesFit notes) sexp c [] notes noted (notes-fit notes) gap g p all none in
       let prev : NamesRead (NotesFit notes) sexp c a.own (at a.place (a.gap ++ (opener j ++ inside))) =
-      subst (λ (xs : List ℕ). NamesRead (NotesFit notes) sexp c a.own (at a.place (a.gap ++ xs))) (container-join j ms last rest) a.names in
+      subst (λ (xs : List ℕ). NamesRead (NotesFit notes) sexp c a.own (at a.place (a.gap ++ xs)))
+      (container-join j ms last rest) a.names in
       let own = own-members f notes j ms last texts in
       let b = begin-stands j sexp a.gap a.is_gap a.place inside (opens laws j ms own writable rest) in
       let m = members-read laws j ms b.behind (closer j ++ rest) own writable small (λ e. closer-behind j rest) in
@@ -529,9 +535,9 @@ mutual
         value_is = λ t. ap (λ (ns : Members UserSymbol ⊤). container j ns tt) (m.are t);
         annotations_stand = a.stand;
         value_stands = m.stand;
-        within = λ limits depth wide few fits.
+        within = λ limits depth wide few fits deep.
             let noted = notes-within limits notes sexp c a.own _ prev a.costs wide few in
-            (noted, (fits.0, m.within limits (suc depth) wide fits.1));
+            (noted, (deep.0, m.within limits (suc depth) wide fits deep.1));
       }
 
   members-read : TextLaws → (k : Kind) (ms : Members UserSymbol ℕ) (p : ℕ) (rest : List ℕ) → Texts (members_symbols ms)
@@ -544,7 +550,7 @@ mutual
         spells = Inside.nothing;
         are = λ t. refl;
         stand = tt;
-        within = λ limits depth wide fits. tt;
+        within = λ limits depth wide fits deep. tt;
       }
   members-read laws k (member before f notes place x) p rest texts writable small behind =
       let others = all-left IsText (members_symbols before) (value_symbols f notes x) texts in
@@ -570,9 +576,9 @@ mutual
             let field = fr.is t ∙ sym (option_map_id f) in
             same_member tt (o.are t) field (v.annotations_are t ∙ sym (id-map notes)) (v.value_is t);
         stand = (o.stand, fr.stands, v.annotations_stand, v.value_stands);
-        within = λ limits depth wide fits. (
-          o.within limits depth wide fits.0,
-          (fr.within limits wide fits.1.0, v.within limits depth wide fits.1.1.0 fits.1.1.1),
+        within = λ limits depth wide fits deep. (
+          o.within limits depth wide fits.0 deep.0,
+          (fr.within limits wide fits.1, v.within limits depth wide fits.2 fits.3 deep.1),
         );
       } in
       subst (λ (xs : List ℕ). MembersRead k (at p xs) (member before f notes place x) (has_commas (Some k)) rest)

@@ -12,6 +12,7 @@ pub mod Laws
 pub mod UserPaths
 pub mod RoundTrip
 pub mod Acceptance
+pub mod Depth
 pub mod WrittenAgain
 pub mod ShownAgain
 pub mod Calls

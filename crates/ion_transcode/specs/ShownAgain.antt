@@ -1,6 +1,5 @@
--- What was shown is accepted again: which values limits allow in canonical text, by lengths and depth alone. Laws that contracts
--- cite.
-use Rattle.std.specs.Prelude.{◌≡◌, ℕ, suc, ◌+◌, ◌<◌, ◌≤◌, List, [], length, map, sum_by, Option, Some, None, ⊤}
+-- What was shown is accepted: which values limits allow in canonical text, by lengths and numbers alone. Laws that contracts cite.
+use Rattle.std.specs.Prelude.{◌≡◌, ℕ, ◌+◌, ◌≤◌, List, [], length, map, sum_by, Option, Some, None, ⊤}
 use Rattle.std.specs.List.{AllByRecursion}
 use Rattle.ion_meter.specs.declared.limits.Limits.{Limits}
 use Rattle.ion_value.specs.Outcome.{Accepted}
@@ -19,6 +18,7 @@ use Rattle.ion_transcode.specs.declared.to.Form.TheVariants as form
 use Rattle.ion_transcode.specs.declared.to.Target.TheVariants as target
 use Rattle.ion_transcode.specs.declared.to.To.{To}
 use Rattle.ion_transcode.specs.declared.to.To.TheVariants as to
+use Rattle.ion_transcode.specs.Depth.{IsNoDeeper}
 use Rattle.ion_transcode.specs.Forms.{encoding_of, form_of}
 use Rattle.ion_transcode.specs.Outputs.{resolved}
 use Rattle.ion_transcode.specs.Verdict.{HasVerdict}
@@ -30,8 +30,8 @@ abbrev pub SymbolFits : Limits → UserSymbol → Type 0
 SymbolFits limits (Known t) = length t ≤ limits.scalar
 SymbolFits limits Unknown = ⊤
 
--- the bytes of a string, a clob or a blob, and the text of a symbol, are no more than the limit on scalars; a null, a bool, a number
--- and a timestamp have 64 bytes of text at most
+-- the bytes of a string, a clob or a blob, and the text of a symbol, are no more than the limit on scalars; a null, a bool, a
+-- number and a timestamp have 64 bytes of text at most
 abbrev pub ScalarFits : Limits → Scalar UserSymbol → Type 0
 ScalarFits limits (value.null type) = ⊤
 ScalarFits limits (value.bool truth) = ⊤
@@ -58,26 +58,26 @@ FieldFits limits None = ⊤
 FieldFits limits (Some s) = SymbolFits limits s
 
 abbrev mutual
-  -- where so many containers are open, a value opens no more than the limit says, and its scalars, fields and annotations fit
-  pub ValueFits : {P : Type 0} → Limits → ℕ → Value UserSymbol P → Type 0
-  ValueFits limits depth (scalar body) = ScalarFits limits body
-  ValueFits limits depth (container kind members last) = (depth < limits.depth) × MembersFit limits (suc depth) members
+  -- the scalars of a value fit, and the fields and annotations of all that it contains
+  pub ValueFits : {P : Type 0} → Limits → Value UserSymbol P → Type 0
+  ValueFits limits (scalar body) = ScalarFits limits body
+  ValueFits limits (container kind members last) = MembersFit limits members
 
   -- so it is with each member of a container
-  pub MembersFit : {P : Type 0} → Limits → ℕ → Members UserSymbol P → Type 0
-  MembersFit limits depth nothing = ⊤
-  MembersFit limits depth (member before f annotations place x) =
-      MembersFit limits depth before × (FieldFits limits f × (AnnotationsFit limits annotations × ValueFits limits depth x))
+  pub MembersFit : {P : Type 0} → Limits → Members UserSymbol P → Type 0
+  MembersFit limits nothing = ⊤
+  MembersFit limits (member before f annotations place x) =
+      MembersFit limits before × FieldFits limits f × AnnotationsFit limits annotations × ValueFits limits x
 
 -- a value at top level fits, with its annotations
 abbrev pub FitsText : {P : Type 0} → Limits → Top UserSymbol P → Type 0
 FitsText limits (version place) = ⊤
-FitsText limits (tree first annotations place x) = AnnotationsFit limits annotations × ValueFits limits 0 x
+FitsText limits (tree first annotations place x) = AnnotationsFit limits annotations × ValueFits limits x
 
 -- ---- what is written of them is read under these limits
 
--- the canonical text of values is read to its end, its symbols are all resolved whatever the catalogue is, and its user values are
--- these again, in all but their places
+-- the canonical text of values is read to its end, its symbols are all resolved whatever the catalogue is, and its user values
+-- are these again, in all but their places
 pub record IsReadWithin (catalog : List Shared) (limits : Limits) (tops : List (Top UserSymbol ℕ)) : Type 0 where
   pub raw : List (Top SymbolAt ℕ)
   pub users : List (Top UserSymbol ℕ)
@@ -87,22 +87,24 @@ pub record IsReadWithin (catalog : List Shared) (limits : Limits) (tops : List (
   pub users_are : user_tops catalog system raw ≡ Some users
   pub same : map unplaced_top users ≡ map unplaced_top tops
 
--- so it is of all values that a user can have and that fit, where the limit on scalars is 64 or more
+-- so it is of all values that a user can have and that fit, and are no deeper than the limit, where the limit on scalars is 64
+-- or more
 abbrev pub TextIsReadWithin : Type 0
 TextIsReadWithin =
     (catalog : List Shared) (limits : Limits) (tops : List (Top UserSymbol ℕ)) → 64 ≤ limits.scalar → AreUsers tops
-    → AllByRecursion (FitsText limits) tops → IsReadWithin catalog limits tops
+    → AllByRecursion (IsNoDeeper limits.depth) tops → AllByRecursion (FitsText limits) tops → IsReadWithin catalog limits tops
 
 -- ---- what was shown is accepted
 
 -- what a run to text wrote is accepted by a run to text, which writes the same bytes, and by a run to nothing, and both count as
--- many values: whatever the catalogue is, where the values fit these runs' limits, and the limit on scalars is 64 or more. `tops` and
--- `us` are what the first run read, and its user values
+-- many values: whatever the catalogue is, where the values fit these runs' limits, of which that on scalars is 64 or more and that
+-- on depth is no lower than the first run's. `tops` and `us` are what the first run read, and its user values
 abbrev pub WhatIsShownIsAccepted : Type 0
 WhatIsShownIsAccepted =
-    (catalog other : List Shared) (limits wide : Limits) (asked : To) (bytes shown : List ℕ) (n : ℕ) (tops : List (Top SymbolAt ℕ))
-    (us : List (Top UserSymbol ℕ))
+    (catalog other : List Shared) (limits wide : Limits) (asked : To) (bytes shown : List ℕ) (n : ℕ)
+    (tops : List (Top SymbolAt ℕ)) (us : List (Top UserSymbol ℕ))
     → AreBytes bytes → CatalogIsText catalog → resolved (form_of bytes) asked ≡ Some target.Text
     → HasVerdict catalog limits asked bytes (Accepted n) shown → (encoding_of (form_of bytes)).Stream bytes tops
-    → user_tops catalog system tops ≡ Some us → 64 ≤ wide.scalar → AllByRecursion (FitsText wide) us
+    → user_tops catalog system tops ≡ Some us → 64 ≤ wide.scalar → limits.depth ≤ wide.depth
+    → AllByRecursion (FitsText wide) us
     → HasVerdict other wide to.Text shown (Accepted n) shown × HasVerdict other wide to.Nothing shown (Accepted n) []

@@ -101,6 +101,7 @@ pub fn copy_items<R: RawReader<A>, W: ValueWriter<O, A>, O: Output, A: Allocator
     ensures causes { Causes result meter.old meter.new
         (R.failures reader.old.raw) (R.failures reader.new.raw) (R.exceeds reader.old.raw)
         O.Output sink.old.device sink.new.device }
+    ensures bytes { OnOk result (R.bytes_left reader.old.raw) }
     ensures input { R.observable reader.new.raw ↔ R.observable reader.old.raw }
     ensures joined { Joined R.RawReader W.ValueWriter reader.old reader.new
         writer.old writer.new result sink.new.fault }

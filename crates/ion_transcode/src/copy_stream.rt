@@ -77,6 +77,7 @@ pub fn copy_stream<R: RawReader<A>, W: ValueWriter<O, A>, O: Output, A: Allocato
         (so_far O.written sink.old) (O.written sink.new.device) }
     ensures causes { Causes result.0 meter.old meter.new (R.failures raw) (R.failures result.1)
         (R.exceeds raw) O.Output sink.old.device sink.new.device }
+    ensures bytes { OnOk result.0 (R.bytes_left raw) }
     ensures input { R.observable result.1 ↔ R.observable raw }
     ensures stands { R.observable raw → OnOk result.0 (W.stands writer.new
         (items_of (users catalog.now limits.symbols at_start (R.reading raw)))) }

@@ -1,6 +1,7 @@
 //! Laws of the verdicts of streams, each the contract of a function that does nothing.
 ghost use Rattle.ion_transcode.specs.Acceptance.{GoodStreamsAreAccepted, WhatIsAcceptedIsRead, WhatIsReadIsAccepted};
 ghost use Rattle.ion_transcode.specs.Catalogues.{CatalogVerdictsAreRead, CatalogsAreLoaded, CatalogsAreText, OneCatalog, OneCatalogVerdict, TablesAreCatalogs};
+ghost use Rattle.ion_transcode.specs.Depth.{WhatIsReadIsNoDeeper};
 ghost use Rattle.ion_transcode.specs.Forms.{binary_encoding, text_encoding};
 ghost use Rattle.ion_transcode.specs.Laws.{BinaryIsComplete, BinaryIsSound, OneSpelling, OneVerdict, SpellsOnce, StreamsAreRead, TextIsComplete, TextIsSound};
 ghost use Rattle.ion_transcode.specs.RoundTrip.{RoundTrip, ShowOnce, TextIsRead, ThereAndBack, ValuesOfStreams};
@@ -282,8 +283,15 @@ pub fn what_is_accepted_is_read()
     text::one_stream();
 }
 
-/// The canonical text of values is read to its end under limits that the values fit, and its symbols
-/// are all resolved: of all values that a user of a stream can have.
+/// The values of a stream that is read to its end open no more containers inside each other than
+/// the limit says.
+pub fn what_is_read_is_no_deeper()
+    ensures { WhatIsReadIsNoDeeper }
+{}
+
+/// The canonical text of values is read to its end under limits that the values fit, and its
+/// symbols are all resolved: of all values that a user of a stream can have. No number and no
+/// timestamp has more than 64 bytes.
 pub fn text_is_read_within()
     ensures { TextIsReadWithin }
 {
@@ -305,13 +313,14 @@ pub fn text_is_read_within()
 }
 
 /// What a run to text wrote is accepted, where its values fit the limits, and a run to text over it
-/// writes the same bytes.
+/// writes the same bytes. Only texts, lobs and annotations may be too long.
 pub fn what_is_shown_is_accepted()
     ensures { WhatIsShownIsAccepted }
 {
     what_is_accepted_is_read();
     one_spelling();
     values_of_streams();
+    what_is_read_is_no_deeper();
     text_is_read_within();
     what_is_read_is_accepted();
 }

@@ -1,12 +1,12 @@
 //! A catalogue, loaded from a stream of shared tables.
-ghost use Rattle.std.specs.Prelude.{◌≡◌, ◌≢◌, ◌↔◌, ◌+◌, ◌-◌, ◌*◌, ◌^◌, ◌<◌, ◌≤◌, [], ℕ, max, length, None, Err, IfOk};
+ghost use Rattle.std.specs.Prelude.{◌≡◌, ◌≢◌, ◌↔◌, ◌+◌, ◌-◌, ◌*◌, ◌^◌, ◌<◌, ◌≤◌, [], ℕ, max, length, None, Err, IfOk, OnOk};
 ghost use Rattle.ion_meter.specs.declared.fault.Reason.{Reason};
 ghost use Rattle.ion_meter.specs.declared.fault.Fault.TheVariants.{Refused, Memory, ReadFault, WriteFault, InputLimit};
 ghost use Rattle.ion_meter.specs.Limits.{AreChecked};
-ghost use Rattle.ion_meter.specs.Windows.{left};
+ghost use Rattle.ion_meter.specs.Sources.{BytesAreLeft};
+ghost use Rattle.ion_meter.specs.Windows.{left, AreBytes};
 ghost use Rattle.ion_value.specs.Outcome.{Rejected};
 ghost use Rattle.ion_value.specs.Shares.{Charges};
-ghost use Rattle.ion_value.specs.Writable.{AreBytes};
 ghost use Rattle.ion_symbols.specs.Table.{catalog_cost};
 ghost use Rattle.ion_symbols.specs.UserValues.{CatalogIsText};
 ghost use Rattle.ion_transcode.specs.declared.to.Form.TheVariants as form;
@@ -65,6 +65,7 @@ fn build<R: RawReader<A>, A: Allocator + Copy>(
     ensures says { R.observable raw → SaysCatalog limits (R.reading raw) result.0 }
     ensures causes { LoadCauses result.0 meter.old meter.new (R.failures raw) (R.failures result.1)
         (R.exceeds raw) }
+    ensures bytes { OnOk result.0 (R.bytes_left raw) }
     ensures input { R.observable result.1 ↔ R.observable raw }
     ensures cheap { kept_in result.0 ≤ limits.symbols }
     ensures charges { Charges meter.old meter.new (R.own raw) (R.own result.1 + kept_in result.0)
@@ -98,6 +99,7 @@ fn load_buffered<I: Input, A: Allocator + Copy>(
     ensures causes { LoadCauses result.0 meter.old meter.new
         (I.failure_count source.device) (I.failure_count result.1)
         (I.observable source.device → limits.input < length (left I.rest source)) }
+    ensures bytes { OnOk result.0 (BytesAreLeft I.Input source) }
     ensures input { I.observable result.1 ↔ I.observable source.device }
     ensures cheap { kept_in result.0 ≤ limits.symbols }
     ensures charges { Charges meter.old meter.new 4096 (kept_in result.0)
@@ -135,6 +137,7 @@ fn load<I: Input, A: Allocator + Copy>(
     ensures causes { LoadCauses result.0 meter.old meter.new
         (I.failure_count input) (I.failure_count result.1)
         (I.observable input → limits.input < length (I.rest input)) }
+    ensures bytes { I.observable input → OnOk result.0 (AreBytes (I.rest input)) }
     ensures input { I.observable result.1 ↔ I.observable input }
     ensures charges { LoadCharges limits (kept_in result.0) meter.old meter.new }
 {
@@ -175,11 +178,12 @@ pub fn load_catalog<I: Input, A: Allocator + Copy>(
     requires countable { meter.old.refused < 2 ^ 64 - 1 }
     requires reads { I.failure_count input < 2 ^ 64 - 1 }
 
-    // The catalogue, whose texts are UTF-8, or why there is none.
+    // The catalogue, whose texts are UTF-8, or why there is none; of a catalogue each byte was
+    // read, so that all of the input are numbers below 256.
     ensures loaded { I.observable input
         → IfOk result.0 (λ catalog. IsCatalog limits (I.rest input) catalog) }
-    ensures text { I.observable input → AreBytes (I.rest input)
-        → IfOk result.0 (λ catalog. CatalogIsText catalog) }
+    ensures bytes { I.observable input → OnOk result.0 (AreBytes (I.rest input)) }
+    ensures text { I.observable input → IfOk result.0 (λ catalog. CatalogIsText catalog) }
     ensures refused { I.observable input → (r : Reason) (p : ℕ) → result.0 ≡ Err (Refused r p)
         → HasCatalogVerdict limits (I.rest input) (Rejected r p) }
 

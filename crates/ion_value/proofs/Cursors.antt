@@ -1,5 +1,5 @@
 -- Calls that read one after the other.
-use Rattle.std.proofs.Common.{arith, ap, ◌∙◌, ◌≡◌, ℕ, List, Result, Err}
+use Rattle.std.proofs.Common.{arith, ap, refl, ◌∙◌, ◌≡◌, ℕ, List, Result, Err}
 use Rattle.ion_meter.specs.declared.device.Input.{Ghosts as InputOf}
 use Rattle.ion_meter.specs.declared.fault.Fault.{Fault}
 use Rattle.ion_meter.specs.declared.fault.Fault.TheVariants.{Refused, Memory, ReadFault, WriteFault, InputLimit}
@@ -14,7 +14,12 @@ moves-then device s t u a b = record {
   limit = b.limit ∙ a.limit;
   further = omega (arith, a.further, b.further);
   total = λ h. b.total (a.still_observable.1 h) ∙ a.total h;
+  bytes = λ h. a.bytes (b.bytes h);
 }
+
+-- a source stays where it is
+pub moves-not : {I : Type 0} (device : InputOf I) (s : Incoming I) → Moves device s s
+moves-not device s = record { still_observable = (λ h. h, λ h. h); limit = refl; further = omega arith; total = λ h. refl; bytes = λ h. h }
 
 -- the reason of one call as that of another
 pub answers-refused : {T U A B : Type 0} (view : T → A) (shown : U → B) (fault : Fault) (behind after : Cursor) (place : ℕ) (one : Result (A × Cursor) Reason) (all : Result (B × Cursor) Reason)

@@ -4,7 +4,7 @@ use Rattle.std.proofs.lemmas.Grind.{common_steps}
 use Rattle.std.proofs.Math.Seq.{take-add}
 use Rattle.std.proofs.lemmas.List.{drop-drop}
 use Rattle.ion_meter.specs.declared.device.Input.{Ghosts as InputOf}
-use Rattle.ion_meter.specs.Windows.{Incoming, left, lent, Extends, IsPassed}
+use Rattle.ion_meter.specs.Windows.{AreBytes, Incoming, left, lent, Extends, IsPassed}
 use Rattle.ion_meter.proofs.Lent.{lent-CanPass, IsPassed-left, IsPassed-total}
 use Rattle.ion_meter.specs.Sources.{skip, cursor, Stands, Moves}
 use Rattle.ion_value.proofs.Cursors.{moves-then}
@@ -18,6 +18,16 @@ pub IsPassed-cursor : {I : Type 0} (device : InputOf I) (s t : Incoming I) (n : 
 IsPassed-cursor device s t n h p =
     let w = lent-CanPass s n h in
     ap (λ k. record { place = k; rest = left device.rest t }) p.place ∙ ap (λ (l : List ℕ). record { place = s.place + n; rest = l }) (IsPassed-left device.rest s t n w.0 p)
+
+-- how it moves then
+pub IsPassed-moves : {I : Type 0} (device : InputOf I) (s t : Incoming I) (n : ℕ) → n ≤ length (lent s) → IsPassed s t n → Moves device s t
+IsPassed-moves device s t n h p = record {
+  still_observable = (subst device.observable p.device, subst device.observable (sym p.device));
+  limit = p.limit;
+  further = omega (arith, p.place);
+  total = λ _. IsPassed-total device.rest s t n (lent-CanPass s n h).0 p;
+  bytes = λ b o. subst (λ d. AreBytes (s.buffered ++ device.rest d)) p.device (p.bytes (device.rest t.device) (b (subst device.observable (sym p.device) o)));
+}
 
 -- n octets were passed over
 pub record Passed {I : Type 0} (device : InputOf I) (old new : Incoming I) (n : ℕ) : Type 0 where
@@ -46,6 +56,7 @@ Passed-lent device s p t n h kept well fits passed =
         limit = passed.limit ∙ kept.limit;
         further = omega (arith, passed.place, kept.place);
         total = λ t'. IsPassed-total device.rest p t n w.0 passed ∙ omega (arith, kept.place, ap (λ (l : List ℕ). length l) (kept.same_left t'));
+        bytes = λ b t'. subst AreBytes (kept.same_left t') ((IsPassed-moves device p t n fits passed).bytes b (kept.still_observable.1 t'));
       };
       place = omega (arith, passed.place, kept.place);
       behind = λ t'. IsPassed-left device.rest p t n w.0 passed ∙ ap (λ (l : List ℕ). drop n l) (kept.same_left t');

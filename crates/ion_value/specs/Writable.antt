@@ -1,6 +1,7 @@
 -- Which values a stream can have and a writer may be given: numbers in range, texts in UTF-8, bytes below 256, fields in structs alone.
-use Rattle.std.specs.Prelude.{◌≡◌, ℕ, ◌<◌, List, [], ◌∷◌, ◌++◌, Option, Some, None, is_some, IsUtf8, ⊤}
+use Rattle.std.specs.Prelude.{◌≡◌, ℕ, List, [], ◌∷◌, ◌++◌, Option, Some, None, is_some, IsUtf8, ⊤}
 use Rattle.std.specs.List.{AllByRecursion}
+pub use Rattle.ion_meter.specs.Windows.{AreBytes}
 use Rattle.ion_value.specs.declared.ion_type.Kind.{Kind}
 use Rattle.ion_value.specs.Standing.{InRange, in_struct}
 use Rattle.ion_value.specs.Value as value
@@ -72,10 +73,6 @@ SymbolIsText (value.Text bytes) = IsUtf8 bytes
 SymbolIsText (value.Id id) = ⊤
 
 -- ---- bytes
-
--- numbers that a byte can be
-abbrev pub AreBytes : List ℕ → Type 0
-AreBytes bytes = AllByRecursion (λ b. b < 256) bytes
 
 -- what a clob or a blob has is bytes; that of strings and symbols is so, since it is UTF-8
 abbrev pub HasBytes : {S : Type 0} → Scalar S → Type 0

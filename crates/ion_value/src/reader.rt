@@ -60,6 +60,9 @@ pub trait RawReader<A: Allocator + Copy> {
     /// The input is longer than it may be.
     ghost exceeds: { Self → Type 0 };
 
+    /// What is left of the input is bytes, where its bytes are observable.
+    ghost bytes_left: { Self → Type 0 };
+
     /// It falls with each item.
     ghost left: { Self → ℕ };
 
@@ -108,6 +111,7 @@ pub trait RawReader<A: Allocator + Copy> {
             → ReadCauses (fault_of result) meter.old meter.new
             (failures self.old) (failures self.new) (exceeds self.old) }
         ensures exceeds { exceeds self.new ↔ exceeds self.old }
+        ensures bytes_left { bytes_left self.new → bytes_left self.old }
 
         // Memory, on every exit.
         ensures charges { Charges meter.old meter.new
@@ -131,4 +135,7 @@ pub trait RawReader<A: Allocator + Copy> {
 
     /// A reader that has answered the end has not failed.
     ghost one_ending: { (s : Self) → sound s → ended s → failed s ≡ None };
+
+    /// What is left at the end, which is nothing, is bytes.
+    ghost none_left: { (s : Self) → sound s → ended s → bytes_left s };
 }

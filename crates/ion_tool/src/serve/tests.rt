@@ -371,7 +371,7 @@ const ASKED: [Asked; 8] = [
         catalog: TABLES,
         input: IMPORTS,
         status: 0,
-        out: "ion 0.1.0\n",
+        out: "ion 0.2.0, canonical text 2\n",
         err: "",
     },
 ];

@@ -5,13 +5,13 @@ use Rattle.ion_meter.specs.Sources.{cursor}
 use Rattle.ion_value.specs.Answers.{itself}
 use Rattle.ion_binary.specs.Parts.{var_from}
 use Rattle.ion_binary.proofs.VarLoop.{var_uint_at-prefix, var_from-none, var_from-refused, var_from-ends, var_from-goes_on}
-use Rattle.ion_value.proofs.Cursors.{moves-then, answers-refused}
+use Rattle.ion_value.proofs.Cursors.{moves-not, moves-then, answers-refused}
 use Rattle.ion_binary.proofs.octets.next_var_uint.Goals as goal
 
 pub loop-init : goal.loop-init
 loop-init g c = record {
   stands = c.requires.stands;
-  moves = record { still_observable = (λ t. t, λ t. t); limit = refl; further = omega arith; total = λ t. refl };
+  moves = moves-not g.I.Input c.args.source.now;
   steady = refl;
   same = λ t. var_uint_at-prefix c.args.region (cursor g.I.Input c.args.source.now);
   small = omega arith;

@@ -20,6 +20,7 @@ invariant-items g l =
       refused : l.meter.refused ≡ l.fn.meter.refused;
       failures : r.failures l.raw ≡ r.failures l.fn.raw;
       exceeds : r.exceeds l.fn.raw ↔ r.exceeds l.raw;
+      bytes_left : r.bytes_left l.raw → r.bytes_left l.fn.raw;
       depth : r.depth l.raw ≡ r.depth l.fn.raw;
       most : r.most l.raw ≡ r.most l.fn.raw;
       charges : Charges l.fn.meter l.meter (r.own l.fn.raw + own_of l.fn.buffer) (r.own l.raw + own_of l.buffer) (r.most l.fn.raw + l.limit);

@@ -338,6 +338,7 @@ items-preserved g c =
       failures = read_well.steady none_is ∙ i.failures;
       device = c.in-Ok.ensures.count ∙ (add-zero _ ∙ (put_well.steady none_is ∙ i.device));
       exceeds = (λ e. i.exceeds.0 (c.next.ensures.exceeds.0 e), λ e. c.next.ensures.exceeds.1 (i.exceeds.1 e));
+      bytes_left = λ b. i.bytes_left (c.next.ensures.bytes_left b);
       most = c.next.ensures.kept.1 ∙ i.most;
       same = c.next.ensures.same.0 ∙ i.same;
       writer_most = c.item.ensures.most ∙ i.writer_most;
@@ -381,6 +382,11 @@ returns-clause-puts g c = λ o p.
 pub returns-clause-stands : goal.returns-clause-stands
 returns-clause-stands g c r =
     followed-all c.items.invariant.followed r (c.next.ensures.ends (c.items.invariant.read.1 r) (c.in_ok-next.was ∙ ap Ok c.if-branch.false)).0
+
+pub returns-clause-bytes : goal.returns-clause-bytes
+returns-clause-bytes g c =
+    let next = c.next.ensures in
+    c.items.invariant.bytes_left (next.bytes_left (g.met.R.RawReader.none_left c.next.new.self.raw next.ready.raw (next.ended (c.in_ok-next.was ∙ ap Ok c.if-branch.false))))
 
 pub returns-clause-causes : goal.returns-clause-causes
 returns-clause-causes g c =

@@ -33,6 +33,7 @@ invariant-items g l =
       failures : r.failures l.reader.raw ≡ r.failures l.fn.reader.raw;
       device : o.failure_count l.sink.device ≡ o.failure_count l.fn.sink.device;
       exceeds : r.exceeds l.reader.raw ↔ r.exceeds l.fn.reader.raw;
+      bytes_left : r.bytes_left l.reader.raw → r.bytes_left l.fn.reader.raw;
       most : r.most l.reader.raw ≡ r.most l.fn.reader.raw;
       same : l.reader.limits ≡ l.fn.reader.limits;
       writer_most : w.most l.writer ≡ w.most l.fn.writer;

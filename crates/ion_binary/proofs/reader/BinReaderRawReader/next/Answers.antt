@@ -1,4 +1,5 @@
-use Rattle.std.proofs.Common.{arith}
+use Rattle.std.proofs.Common.{arith, ap, Ok}
+use Rattle.std.proofs.lemmas.Bool.{not-true}
 use Rattle.std.proofs.lemmas.Grind.{common_steps}
 use Rattle.ion_binary.proofs.reader.BinReaderRawReader.next.Goals as goal
 
@@ -12,7 +13,10 @@ pub returns-in-Err-clause-causes : goal.returns-in-Err-clause-causes
 returns-in-Err-clause-causes g c = grind (arith, common_steps) steps 400000
 
 pub returns-in-Ok-clause-sound : goal.returns-in-Ok-clause-sound
-returns-in-Ok-clause-sound g c = grind (arith, common_steps) steps 400000
+returns-in-Ok-clause-sound g c = (
+  grind (arith, common_steps) steps 400000,
+  λ over o. let ends = c.in-Ok.ensures.ends (c.in-Ok.ensures.stepped.moves.still_observable.0 o) (ap Ok (not-true c.in-Ok.more over)) in (ends.1, ends.2),
+)
 
 pub returns-in-Ok-clause-ends : goal.returns-in-Ok-clause-ends
 returns-in-Ok-clause-ends g c = grind (arith, common_steps) steps 400000

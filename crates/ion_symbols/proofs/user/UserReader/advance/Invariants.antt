@@ -20,6 +20,7 @@ invariant-loop-fault g l =
       refused : l.meter.refused ≡ l.fn.meter.refused;
       failures : r.failures l.self.raw ≡ r.failures l.fn.self.raw;
       exceeds : r.exceeds l.fn.self.raw ↔ r.exceeds l.self.raw;
+      bytes_left : r.bytes_left l.self.raw → r.bytes_left l.fn.self.raw;
       depth : r.depth l.self.raw ≡ r.depth l.fn.self.raw;
       most : r.most l.self.raw ≡ r.most l.fn.self.raw;
       charges : Charges l.fn.meter l.meter (owned_by r.own l.fn.self) (owned_by r.own l.self) (share_of r.most l.fn.self);

@@ -215,6 +215,7 @@ returns-clause-steps g c =
       stays = λ e. absurd (more e);
       observable = c.next.ensures.observable;
       exceeds = c.next.ensures.exceeds;
+      bytes_left = c.next.ensures.bytes_left;
       depth = c.next.ensures.depth;
       most = c.next.ensures.most;
       failed = refl;

@@ -40,7 +40,7 @@ pub returns-in-Ok-Ended-clause-ends : goal.returns-in-Ok-Ended-clause-ends
 returns-in-Ok-Ended-clause-ends g c = λ h _.
     let inv = c.loop-fault.invariant in
     let e = ended-gives g.I.Input _ c.step.new.self c.in-Ok-Ended.field-0 c.in-Ok-Ended.field-0-is (c.in-Ok-Ended.ensures.gives (inv.reached.held.moves.still_observable.1 h)) in
-    (inv.same h ∙ e.0, e.1)
+    (inv.same h ∙ e.0, e.1, e.2)
 
 pub returns-in-Ok-Ended-clause-ready : goal.returns-in-Ok-Ended-clause-ready
 returns-in-Ok-Ended-clause-ready g c = ended-ready g.I.Input c.step.new.self c.in-Ok-Ended.field-0 c.in-Ok-Ended.field-0-is c.in-Ok-Ended.ensures.ready

@@ -1,0 +1,179 @@
+"""Runs the commands and the rows that the pages show, compares what is printed, and follows links to files.
+`checks/run` calls it.
+
+In a page a block that begins with ```console is one session of a shell: a line `$ COMMAND`, lines `> MORE` that
+continue it, and what it prints, standard error among it, up to the next command. `$ echo $?` behind a command shows its
+status, which is 0 where nothing shows it. In a table whose header is `| Input | Answer | Why |` a row has an
+input for `ion show` (a text, or octets in hexadecimal behind `hex` or behind the version marker `M`), options
+or another command in a second code span, and the lines that are printed, a code span each.
+"""
+import glob
+import os
+import re
+import shutil
+import subprocess
+import sys
+import tempfile
+
+MARKER = "E00100EA"
+# Programs that every system has; each other one is looked for.
+EVERYWHERE = {"echo", "printf", "cat", "head", "tail", "wc", "cmp", "rm", "ls", "sh", "find", "sort", "mkdir", "cp", "test",
+              "tr", "cd", "exit", "if", "then", "else", "fi", "for", "in", "do", "done", "while", "case", "esac", "sleep",
+              "timeout", "mktemp", "dd", "od", "tee", "grep", "sed", "awk", "xargs", "true", "false", "read", "ion"}
+NEVER_RUN = ("rt ", "(cd crates", ".ci/run", "install ", "git ", "sudo ", "apt")
+
+
+class Page:
+    """What was counted over one page."""
+
+    def __init__(self, name):
+        self.name = name
+        self.passed = 0
+        self.failed = 0
+
+    def judge(self, is_right, where, wanted, got):
+        if is_right:
+            self.passed += 1
+        else:
+            self.failed += 1
+            print(f"FAILED {self.name}: {where}\n  wanted: {wanted!r}\n  got:    {got!r}")
+
+
+def commands_of(block):
+    """Pairs of a command and the lines that it prints."""
+    found = []
+    for line in block:
+        if line.startswith("$ "):
+            found.append((line[2:], []))
+        elif line.startswith("> ") and found and not found[-1][1]:
+            found[-1] = (found[-1][0] + "\n" + line[2:], found[-1][1])
+        elif found:
+            found[-1][1].append(line)
+    return found
+
+
+def blocks_of(text):
+    """The lines of each block of a shell's session."""
+    return [m.group(1).split("\n")[:-1] for m in re.finditer(r"^```console\n(.*?)^```$", text, re.M | re.S)]
+
+
+def missing_tool(command):
+    """The name of a program in the command that is not there, if one is."""
+    begins = r"(?:^|[|;({\n]|\bdo |\bthen |&& |xargs (?:-\S+ )*)\s*(?:[A-Z_]+=\S* )*([A-Za-z][\w.-]*)"
+    for word in re.findall(begins, re.sub(r"'[^']*'|\"[^\"]*\"", "''", command)):
+        if word not in EVERYWHERE and shutil.which(word) is None:
+            return word
+    return None
+
+
+def run_session(page, block, folder, environment):
+    commands = commands_of(block)
+    at = 0
+    while at < len(commands):
+        command, lines = commands[at]
+        at += 1
+        status = 0
+        if at < len(commands) and commands[at][0] == "echo $?":
+            status = int(commands[at][1][0])
+            at += 1
+        if command.startswith(NEVER_RUN):
+            continue
+        tool = missing_tool(command)
+        if tool:
+            print(f"skipped: {tool} ({page.name}: {command})")
+            continue
+        # a file that is followed has no end, so such a command is ended when it has written what there is
+        bounded = re.sub(r"\btail (-c \+1 )?-f\b", r"timeout 1 tail \1-f", command)
+        # what shows progress does so on standard error, with times
+        errors = subprocess.DEVNULL if command.startswith("pv ") else subprocess.STDOUT
+        done = subprocess.run(["sh", "-c", bounded], cwd=folder, env=environment, stdin=subprocess.DEVNULL,
+                              stdout=subprocess.PIPE, stderr=errors, timeout=60)
+        got = (done.returncode, done.stdout.decode("utf-8", "replace").rstrip("\n"))
+        page.judge(got == (status, "\n".join(lines).rstrip("\n")), command, (status, "\n".join(lines)), got)
+
+
+def spans(cell):
+    return [span.replace("\\|", "|") for span in re.findall(r"`` ?(.*?) ?``|`([^`]*)`", cell) for span in [span[0] or span[1]]]
+
+
+def octets_of(text):
+    """The bytes of an input: octets behind `hex` or `M`, and else the text itself."""
+    if text == "M" or text.startswith("M "):
+        return bytes.fromhex(MARKER + text[1:])
+    if text.startswith("hex "):
+        return bytes.fromhex(text[4:])
+    return text.encode()
+
+
+def run_row(page, cells, program):
+    given = spans(cells[0])
+    wanted = spans(cells[1])
+    words = given[1].split() if len(given) > 1 else []
+    if not words or words[0].startswith("--"):
+        words = ["show"] + words
+    done = subprocess.run([program] + words, input=octets_of(given[0]), capture_output=True, timeout=60)
+    out = done.stdout
+    refusal = [wanted[-1]] if wanted and wanted[-1].startswith("refused ") else []
+    shown = wanted[:len(wanted) - len(refusal)]
+    if words[0] == "convert" and shown and octets_of(given[0])[:1] != b"\xe0":
+        right = out == octets_of(shown[0])
+    else:
+        right = out.decode("utf-8", "replace").split("\n") in (shown + [""], shown or [""])
+    right = right and done.stderr.decode() == "".join(line + "\n" for line in refusal)
+    right = right and done.returncode == (1 if refusal else 0)
+    page.judge(right, cells[0], wanted, (done.returncode, out, done.stderr))
+
+
+def check_links(page, text):
+    """Each link to a file of the repository leads to one."""
+    for target in re.findall(r"\]\(([^)#\s]+)", text):
+        if not re.match(r"[a-z]+:", target):
+            path = os.path.join(os.path.dirname(page.name), target)
+            if not os.path.exists(path):
+                page.judge(False, "a link", path, "no such file")
+    page.judge(True, "", None, None)
+
+
+def rows_of(text):
+    """The cells of each row of the tables of inputs and answers."""
+    inside = False
+    for line in text.split("\n"):
+        if line.startswith("| Input | Answer |"):
+            inside = True
+        elif not line.startswith("|"):
+            inside = False
+        elif inside and not re.fullmatch(r"[|\s:-]+", line):
+            yield [cell.strip() for cell in re.split(r"(?<!\\)\|", line)[1:-1]]
+
+
+def main():
+    program = os.path.abspath(sys.argv[1])
+    if not os.access(program, os.X_OK):
+        sys.exit(f"there is no program {program}: (cd crates/ion_tool && rt run) builds it")
+    pages = []
+    for name in ["README.md", "CONTRIBUTING.md", "SECURITY.md", "CHANGELOG.md"] + sorted(glob.glob("docs/*.md")):
+        with open(name, encoding="utf-8") as file:
+            text = file.read()
+        page = Page(name)
+        pages.append(page)
+        check_links(page, text)
+        if name not in ("README.md", "docs/DIFFERENCES.md"):
+            continue
+        with tempfile.TemporaryDirectory() as folder:
+            os.mkdir(folder + "/bin")
+            os.symlink(program, folder + "/bin/ion")
+            shutil.copytree("examples", folder + "/at/examples")
+            environment = dict(os.environ, PATH=folder + "/bin:" + os.environ.get("PATH", ""), LC_ALL="C.UTF-8")
+            for block in blocks_of(text):
+                run_session(page, block, folder + "/at", environment)
+        for cells in rows_of(text):
+            run_row(page, cells, program)
+        print(f"{name}: {page.passed} as shown, {page.failed} not")
+    passed = sum(page.passed for page in pages)
+    failed = sum(page.failed for page in pages)
+    print(f"{passed} passed, {failed} failed")
+    sys.exit(1 if failed or not passed else 0)
+
+
+if __name__ == "__main__":
+    main()

@@ -1,6 +1,0 @@
-use Rattle.std.proofs.Common.{arith}
-use Rattle.std.proofs.lemmas.Grind.{elements}
-use Rattle.ion_meter.proofs.source.Source.advance.Goals as goal
-
-pub returns : goal.returns
-returns g c = grind (arith, elements) steps 400000

@@ -41,6 +41,7 @@ mod WrittenSpelled
 mod WrittenDeclarations
 mod WrittenStream
 mod WrittenResolved
+mod ShortSymbols
 mod BodyParts
 mod TypedValueCode
 mod WrapperCode

@@ -7,7 +7,7 @@ ghost use Rattle.ion_binary.specs.Held.{WhatIsHeldMoves};
 ghost use Rattle.ion_binary.specs.Places.{ClosedSizeByCounts, ClosedSizeByPlaces};
 ghost use Rattle.ion_binary.specs.WrittenLimits.{NumbersFit, WhatIsWrittenIsWithinLimits};
 ghost use Rattle.ion_binary.specs.WrittenNumbers.{NumbersInTextFit};
-ghost use Rattle.ion_binary.specs.WrittenSymbols.{WhatIsWrittenIsResolved};
+ghost use Rattle.ion_binary.specs.WrittenSymbols.{TextsWithinFit, WhatIsWrittenIsResolved};
 ghost use Rattle.ion_binary.specs.Spelling.{DeclarationsAreAccepted, WrittenDeclarationsAreRead, HeadersAreShortest, TheFormIsRead, ValuesAreSpelled, WhatIsWithinIsShort};
 
 /// Every body of a scalar that the grammar has is read to its value, and no other body is read.
@@ -223,3 +223,9 @@ pub fn numbers_in_text_fit()
 {
     numbers_fit();
 }
+
+/// Where the limit on scalars is no lower than that on symbols, the texts of all symbols fit of which a
+/// writer refuses nothing.
+pub fn texts_within_fit()
+    ensures { TextsWithinFit }
+{}

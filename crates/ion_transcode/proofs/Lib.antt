@@ -35,4 +35,5 @@ mod WrittenFits
 mod WrittenAccepted
 mod AcceptedAgain
 mod TopRows
+mod WrittenRows
 mod ShownRows

@@ -9,13 +9,13 @@ use Rattle.ion_value.specs.Value.{UserSymbol, Top}
 use Rattle.ion_symbols.specs.Resolved.{AreResolved}
 use Rattle.ion_symbols.specs.Table.{Shared, system}
 use Rattle.ion_symbols.specs.TextsOfUsers.{TextsOfUsersAreShort}
-use Rattle.ion_symbols.specs.UserValues.{AreUsers}
+use Rattle.ion_symbols.specs.UserValues.{AreUsers, UsersOfRawValues}
 use Rattle.ion_binary.specs.Canonical.{binary}
 use Rattle.ion_binary.specs.Reading as binary_reading
 use Rattle.ion_binary.specs.Spelling.{IsRead, TheFormIsRead, WhatIsWithinIsShort}
 use Rattle.ion_binary.specs.WrittenLimits.{FitsBinary, WhatIsWrittenIsWithinLimits}
 use Rattle.ion_binary.specs.WrittenNumbers.{NumbersInTextFit}
-use Rattle.ion_binary.specs.WrittenSymbols.{WhatIsWrittenIsResolved}
+use Rattle.ion_binary.specs.WrittenSymbols.{TextsWithinFit, WhatIsWrittenIsResolved}
 use Rattle.ion_text_in.specs.Grammar as text_grammar
 use Rattle.ion_text_in.specs.Laws.{StreamsAreRaw}
 use Rattle.ion_text_in.specs.Reading as text_reading
@@ -30,7 +30,6 @@ use Rattle.ion_transcode.specs.declared.to.To.TheVariants as to
 use Rattle.ion_transcode.specs.Acceptance.{AreTaken, WhatIsReadIsAccepted, WhatIsAcceptedIsRead}
 use Rattle.ion_transcode.specs.Forms.{encoding_of, form_of, reading_of}
 use Rattle.ion_transcode.specs.Outputs.{outputs_of, resolved}
-use Rattle.ion_transcode.specs.RoundTrip.{ValuesOfStreams}
 use Rattle.ion_transcode.specs.Verdict.{HasVerdict}
 use Rattle.ion_transcode.specs.WrittenAgain.{WrittenBinaryIsAccepted}
 use Rattle.ion_transcode.proofs.ReadAgain.{same-length}
@@ -61,11 +60,11 @@ module _ (accepted : WhatIsReadIsAccepted) (other : List Shared) (limits : Limit
       subst (λ (n : ℕ). HasVerdict other limits asked bytes (Accepted n) ((outputs_of t limits).whole_output r.users)) (same-length r.users us r.same)
       (accepted other limits asked bytes t r.raw r.users to_target as_read resolved_are r.users_are taken)
 
-module _ (is_read : WhatIsAcceptedIsRead) (accepted : WhatIsReadIsAccepted) (values : ValuesOfStreams) (raw : StreamsAreRaw) (kept : ValuesReadAreWithin)
-    (texts : TextsOfUsersAreShort) (is_binary : TheFormIsRead) (short : WhatIsWithinIsShort) (within : WhatIsWrittenIsWithinLimits) (stands : WhatIsWrittenIsResolved)
+module _ (is_read : WhatIsAcceptedIsRead) (accepted : WhatIsReadIsAccepted) (values : UsersOfRawValues) (raw : StreamsAreRaw) (kept : ValuesReadAreWithin)
+    (texts : TextsOfUsersAreShort) (room : TextsWithinFit) (is_binary : TheFormIsRead) (short : WhatIsWithinIsShort) (within : WhatIsWrittenIsWithinLimits) (stands : WhatIsWrittenIsResolved)
     (numbers : NumbersInTextFit) where
   pub written-binary : WrittenBinaryIsAccepted
-  written-binary catalog other limits asked bytes written n small is_text fits_catalog checked allow to_is verdict =
+  written-binary catalog other limits asked bytes written n is_text checked allow declared to_is verdict =
       let f : Form = form_of bytes in
       let w = is_read catalog limits asked bytes target.Binary n written to_is verdict in
       let f_is : f ≡ form.Text = of-text f asked to_is in
@@ -73,9 +72,10 @@ module _ (is_read : WhatIsAcceptedIsRead) (accepted : WhatIsReadIsAccepted) (val
       let stream : text_grammar.Stream bytes w.tops = subst (λ (g : Form). (encoding_of g).Stream bytes w.tops) f_is w.stream in
       let read : text_reading.reading limits bytes ≡ behind (path_items (closed w.tops)) Finished =
       subst (λ (g : Form). reading_of g limits bytes ≡ behind (path_items (closed w.tops)) Finished) f_is w.read in
-      let are : AreUsers us = values f catalog bytes w.tops us small is_text w.stream w.users_are in
+      let raw_are = raw bytes w.tops stream in
+      let are : AreUsers us = values catalog w.tops us is_text raw_are w.users_are in
       let fits : AllByRecursion (FitsBinary limits) us =
-      users-of-read-fit limits numbers allow.scalar texts catalog w.tops us fits_catalog (raw bytes w.tops stream) (kept limits bytes w.tops stream read) w.users_are in
+      users-of-read-fit limits numbers allow.scalar texts room catalog w.tops us declared raw_are (kept limits bytes w.tops stream read) w.taken w.users_are in
       let r = is_binary other limits.symbols us are.0 (short limits us checked w.taken) in
       let read_again = within limits us r.raw checked allow are.0 w.taken fits r.stream in
       let resolved_again = stands other limits us r.raw checked are.0 w.taken r.stream in

@@ -1,5 +1,5 @@
 -- The user values of a text that was read under limits fit them in binary too.
-use Rattle.std.proofs.Common.{◌≡◌, ℕ, suc, ◌*◌, ◌≤◌, sum_by, List, [], ◌∷◌, length, map, Option, None, Some, Ok, IfSome, option_map, subst, arith}
+use Rattle.std.proofs.Common.{◌≡◌, inl, inr, ℕ, suc, ◌*◌, ◌≤◌, sum_by, List, [], ◌∷◌, length, map, Option, None, Some, Ok, IfSome, option_map, subst, arith}
 use Rattle.std.specs.List.{AllByRecursion}
 use Rattle.std.specs.Bool.{⊤}
 use Rattle.std.proofs.lemmas.List.Sums.{sum_by-cons}
@@ -14,11 +14,14 @@ use Rattle.ion_value.specs.Value as value
 use Rattle.ion_value.specs.Value.{Symbol, SymbolAt, UserSymbol, Known, Unknown, Scalar, Value, Members, scalar, container, nothing, member, Top, version, tree, map_scalar, map_value, map_members}
 use Rattle.ion_value.specs.Writable.{IsWritable, AreWritable, IsRaw, value_symbols}
 use Rattle.ion_symbols.specs.Table.{Shared, Table, system, text_at}
-use Rattle.ion_symbols.specs.TextsOfUsers.{CatalogHas, SymbolHas, ScalarHas, ValueHas, MembersHave, TopHas, UserHas, UserTopHas, IsShort, TextsOfUsersAreShort}
+use Rattle.ion_symbols.specs.TextsOfUsers.{SymbolHas, ScalarHas, ValueHas, MembersHave, TopHas, UserHas, UserTopHas, IsShort, TextsOfUsersAreShort}
 use Rattle.ion_symbols.specs.Tree.{user_at, declares_table, next_table, user_tops}
+use Rattle.ion_binary.specs.Refusals.{AreWithin}
 use Rattle.ion_binary.specs.WrittenNumbers.{NumbersInTextFit}
+use Rattle.ion_binary.specs.WrittenSymbols.{SymbolsFit, TextsWithinFit}
 use Rattle.ion_binary.specs.WrittenLimits.{ScalarFits, AnnotationsFit, ValueFits, MembersFit, SymbolFits, FitsBinary}
 use Rattle.ion_text_in.specs.Reading.{cost}
+use Rattle.ion_transcode.specs.WrittenAgain.{TextsFit}
 use Rattle.ion_text_in.specs.ReadWithin.{SymbolIsWithin, ScalarIsWithin, AnnotationsAreWithin, ValueIsWithin, MembersAreWithin, TopIsWithin}
 
 -- ---- texts
@@ -153,14 +156,24 @@ module _ (limits : Limits) where
   users-fit [] h = tt
   users-fit (s ∷ ss) h = (user-fits s h.0, users-fit ss h.1)
 
-  both-fit : (us : List (Top UserSymbol ℕ)) → TopsFit us → AllByRecursion (UserTopHas Short) us → AllByRecursion (FitsBinary limits) us
+  symbols-fit : (us : List (Top UserSymbol ℕ)) → AllByRecursion (UserTopHas Short) us → AllByRecursion (SymbolsFit limits) us
+  symbols-fit [] h = tt
+  symbols-fit (version place ∷ us) h = (tt, symbols-fit us h.1)
+  symbols-fit (tree first annotations place x ∷ us) h = (users-fit (value_symbols None annotations x) h.0, symbols-fit us h.1)
+
+  both-fit : (us : List (Top UserSymbol ℕ)) → TopsFit us → AllByRecursion (SymbolsFit limits) us → AllByRecursion (FitsBinary limits) us
   both-fit [] h k = tt
   both-fit (version place ∷ us) h k = (tt, both-fit us h.1 k.1)
-  both-fit (tree first annotations place x ∷ us) h k = ((h.0.0, h.0.1, users-fit (value_symbols None annotations x) k.0), both-fit us h.1 k.1)
+  both-fit (tree first annotations place x ∷ us) h k = ((h.0.0, h.0.1, k.0), both-fit us h.1 k.1)
 
-  -- what was read within the limits has user values that fit them
-  pub users-of-read-fit : NumbersInTextFit → 16 ≤ limits.scalar → TextsOfUsersAreShort → (catalog : List Shared) (tops : List (Top SymbolAt ℕ)) (us : List (Top UserSymbol ℕ))
-      → CatalogHas Short catalog → AllByRecursion IsRaw tops → AllByRecursion (TopIsWithin limits) tops → user_tops catalog system tops ≡ Some us
+  -- what was read within the limits has user values that fit them, where their declared texts do
+  pub users-of-read-fit : NumbersInTextFit → 16 ≤ limits.scalar → TextsOfUsersAreShort → TextsWithinFit
+      → (catalog : List Shared) (tops : List (Top SymbolAt ℕ)) (us : List (Top UserSymbol ℕ)) → TextsFit limits catalog
+      → AllByRecursion IsRaw tops → AllByRecursion (TopIsWithin limits) tops → AreWithin limits [] us → user_tops catalog system tops ≡ Some us
       → AllByRecursion (FitsBinary limits) us
-  users-of-read-fit numbers enough texts catalog tops us c raw h e =
-      both-fit us (subst (λ o. IfSome o TopsFit) e (tops-fit numbers enough catalog tops raw h system)) (texts limits.scalar catalog tops us c (tops-short tops h) e)
+  users-of-read-fit numbers enough short fit catalog tops us texts raw h within e =
+      both-fit us (subst (λ o. IfSome o TopsFit) e (tops-fit numbers enough catalog tops raw h system)) (by texts)
+    where
+      by : TextsFit limits catalog → AllByRecursion (SymbolsFit limits) us
+      by (inl c) = symbols-fit us (short limits.scalar catalog tops us c (tops-short tops h) e)
+      by (inr room) = fit limits us room within

@@ -1,10 +1,9 @@
 -- What was written as binary is accepted under the limits of its run, and shows what the text shows. Laws that contracts cite.
-use Rattle.std.specs.Prelude.{◌≡◌, ℕ, List, [], Some}
+use Rattle.std.specs.Prelude.{◌≡◌, ◌⊎◌, ℕ, ◌≤◌, List, [], Some}
 use Rattle.ion_meter.specs.Limits.{AreChecked}
 use Rattle.ion_meter.specs.declared.limits.Limits.{Limits}
 use Rattle.ion_value.specs.Outcome.{Accepted}
 use Rattle.ion_value.specs.Value.{SymbolAt, UserSymbol, Top}
-use Rattle.ion_value.specs.Writable.{AreBytes}
 use Rattle.ion_symbols.specs.Table.{Shared, system}
 use Rattle.ion_symbols.specs.TextsOfUsers.{CatalogHas, IsShort}
 use Rattle.ion_symbols.specs.Tree.{user_tops}
@@ -19,9 +18,10 @@ use Rattle.ion_transcode.specs.Forms.{form_of}
 use Rattle.ion_transcode.specs.Outputs.{resolved}
 use Rattle.ion_transcode.specs.Verdict.{HasVerdict}
 
--- the texts of a catalogue are no longer than the limit on scalars
-abbrev pub CatalogFits : Limits → List Shared → Type 0
-CatalogFits limits catalog = CatalogHas (IsShort limits.scalar) catalog
+-- no text that a declaration may have is longer than the limit on scalars: since none of the catalogue's is, or since the limit on
+-- symbols is no higher
+abbrev pub TextsFit : Limits → List Shared → Type 0
+TextsFit limits catalog = CatalogHas (IsShort limits.scalar) catalog ⊎ limits.symbols ≤ limits.scalar
 
 -- of a text with these user values: a run to text accepts it, and writes their canonical text; so does one over the binary that was
 -- written of it, whatever the catalogue is by which that is read; and one to nothing accepts it too. All count as many values
@@ -35,11 +35,10 @@ pub record IsAcceptedAgain (catalog other : List Shared) (limits : Limits) (byte
   pub as_other : HasVerdict other limits to.Other written (Accepted n) (text us)
   pub as_nothing : HasVerdict other limits to.Nothing written (Accepted n) []
 
--- so it is with each run to binary that accepts its text, under checked limits that allow declarations, where the texts of the
--- catalogue fit them
+-- so it is with each run to binary that accepts its text, under checked limits that allow declarations and their texts
 abbrev pub WrittenBinaryIsAccepted : Type 0
 WrittenBinaryIsAccepted =
-    (catalog other : List Shared) (limits : Limits) (asked : To) (bytes written : List ℕ) (n : ℕ) → AreBytes bytes
-    → CatalogIsText catalog → CatalogFits limits catalog → AreChecked limits → AllowDeclarations limits
+    (catalog other : List Shared) (limits : Limits) (asked : To) (bytes written : List ℕ) (n : ℕ)
+    → CatalogIsText catalog → AreChecked limits → AllowDeclarations limits → TextsFit limits catalog
     → resolved (form_of bytes) asked ≡ Some target.Binary → HasVerdict catalog limits asked bytes (Accepted n) written
     → IsAcceptedAgain catalog other limits bytes written n

@@ -332,10 +332,11 @@ pub fn written_binary_is_accepted()
 {
     what_is_accepted_is_read();
     what_is_read_is_accepted();
-    values_of_streams();
+    users_of_raw_values();
     text::streams_are_raw();
     text::values_read_are_within_limits();
     texts_of_users_are_short();
+    binary::texts_within_fit();
     binary::the_form_is_read();
     binary::what_is_within_is_short();
     binary::what_is_written_is_within_limits();

@@ -115,7 +115,7 @@ coefficient-lt d run e =
     let bytes : List ℕ = without_minus run in
     let p : Parts = parts_of bytes in
     let small : d.coefficient < 10 ^ (length p.whole + length p.fraction)
-        = IfOk-at_ok (λ (d : Decimal). d.coefficient < 10 ^ (length p.whole + length p.fraction)) e (parts-lt (has_minus run) p) in
+    = IfOk-at_ok (λ (d : Decimal). d.coefficient < 10 ^ (length p.whole + length p.fraction)) e (parts-lt (has_minus run) p) in
     let mark = cut-length is_exponent_mark bytes in
     let point = cut-length is_point (cut_at is_exponent_mark bytes).0 in
     let powers : 10 ^ (length p.whole + length p.fraction) ≤ 10 ^ length run = pow-le-pow_right {n = 10} (omega arith) (omega (arith, mark, point, unsigned-few run)) in

@@ -5,12 +5,12 @@ use ion_binary::laws::{
     closed_size_is_that_of_the_closing, declarations_are_accepted, each_step_falls,
     each_step_follows, headers_are_shortest, ids_are_given, items_add_their_octets,
     items_are_refused_as_in_trees, items_put_the_form, limits_are_exact, limits_only_cut_short,
-    no_stream_begins, none_is_refused_within, numbers_fit, one_path, one_stream,
-    open_items_put_what_is_whole, refusals_are_stable, refused_items_add_nothing, rightly_refused,
-    streams_are_raw, streams_are_read, streams_within_limits_are_read, the_form_is_read,
-    values_are_spelled, what_is_held_moves, what_is_read_is_spelled, what_is_spelled_is_read,
-    what_is_within_is_short, what_is_written_is_resolved, what_is_written_is_within_limits,
-    written_declarations_are_read,
+    no_stream_begins, none_is_refused_within, numbers_fit, numbers_in_text_fit, one_path,
+    one_stream, open_items_put_what_is_whole, refusals_are_stable, refused_items_add_nothing,
+    rightly_refused, streams_are_raw, streams_are_read, streams_within_limits_are_read,
+    texts_within_fit, the_form_is_read, values_are_spelled, what_is_held_moves,
+    what_is_read_is_spelled, what_is_spelled_is_read, what_is_within_is_short,
+    what_is_written_is_resolved, what_is_written_is_within_limits, written_declarations_are_read,
 };
 
 #[test]
@@ -50,4 +50,6 @@ fn states_laws() {
     numbers_fit();
     what_is_written_is_within_limits();
     what_is_written_is_resolved();
+    numbers_in_text_fit();
+    texts_within_fit();
 }

@@ -10,6 +10,7 @@ mod Refused
 mod Stable
 mod Free
 mod ExactLimits
+mod PassingRows
 mod Taken
 mod TypedValueSound
 mod WrapperSound

@@ -45,7 +45,7 @@ SpellsFit limits (Spells.inside path frames f annotations k ms n b x w header c 
 
 -- ---- limits that allow the bytes
 
-pub Ids-few : (q : ℕ) (annotations : List SymbolAt) (ids : List ℕ) → Ids q annotations ids → length annotations ≤ length ids
+Ids-few : (q : ℕ) (annotations : List SymbolAt) (ids : List ℕ) → Ids q annotations ids → length annotations ≤ length ids
 Ids-few _ _ _ (Ids.nothing q) = omega arith
 Ids-few _ _ _ (Ids.then q n b c annotations spells more) =
     omega (arith, VarUInt-pos n b spells, length-append b c, Ids-few (q + length b) annotations c more)

@@ -10,7 +10,6 @@ mod Refused
 mod Stable
 mod Free
 mod ExactLimits
-mod PassingRows
 mod Taken
 mod TypedValueSound
 mod WrapperSound

@@ -48,4 +48,3 @@ mod CatalogSteps
 mod CatalogMeaning
 mod CatalogRefusals
 mod CatalogTexts
-mod HigherLimits

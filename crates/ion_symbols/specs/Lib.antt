@@ -18,4 +18,3 @@ pub mod CatalogItems
 pub mod CatalogTrees
 pub mod CatalogLaws
 pub mod Building
-pub mod HigherLimit

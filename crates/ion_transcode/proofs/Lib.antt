@@ -26,7 +26,7 @@ mod ValuesAreSpelled
 mod TextOfValuesIsRead
 mod TextWithoutPlaces
 mod ReadAgain
-mod NoneRefused
+mod ShortRuns
 mod Accepted
 mod ReadWhole
 mod OpenContainers

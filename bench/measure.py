@@ -181,7 +181,7 @@ def speed(table, folder, runs, count, ion, yard, jq, cat):
                                 ('show', binary, 'binary to text')):
         works.append(('ion', work, [ion, command, file], file))
         if yard:
-            words = [yard, command, '--final', file]
+            words = [yard, command, file]
             works.append(('yard', work, words, file))
             same = digest([ion, command, file]) == digest(words)
             table.add('output', 'yard', work, value='the same as of ion' if same else 'other')

@@ -1,4 +1,4 @@
-//! Texts drawn at random, and what another program reads of them (`docs/rows/cut_texts.py`).
+//! Texts drawn at random, and what another program reads of them (`diff/cases/cut_texts.py`).
 
 use super::Row;
 

@@ -1,11 +1,12 @@
 #!/usr/bin/env bash
 # Compares ion_text_in's calls for tokens with a program in plain Rust; see docs/SPEED.md. Run from the root of the repository.
 # The first word is that program: run with the word `sum`, it reads Ion text from standard input and writes the sum that
-# docs/speed/tokens.rattle writes.
+# bench/parts/tokens.rattle writes. There is none in the repository: `-` measures ion_text_in alone.
 # A folder as the second word is where the built program and the streams are left. Further words are the kinds to measure.
 # CPU=x86-64-v3 in the environment builds for processors with AVX2.
 set -eu
-plain=$(realpath "$1")
+plain=-
+[ "$1" = - ] || plain=$(realpath "$1")
 if [ $# -gt 1 ]; then
     mkdir -p "$2"
     work=$(realpath "$2")
@@ -22,7 +23,7 @@ if [ ! -x "$ion" ]; then
     cp -r crates/ion_meter crates/ion_value crates/ion_text_in "$work/repository/crates/"
     # The calls for tokens are private: they are opened in the copy.
     sed -i 's/pub(crate)/pub/; s/^mod /pub mod /' "$work"/repository/crates/ion_text_in/src/*.rt
-    cp docs/speed/tokens.rattle "$crate/src/main.rt"
+    cp bench/parts/tokens.rattle "$crate/src/main.rt"
     cat > "$crate/proofs/sum/Invariants.antt" <<'ANTT'
 use Rattle.std.proofs.Common.{◌≡◌, ◌≤◌, ◌^◌, ◌+◌, length}
 use Rattle.ion_meter.specs.Sources.{Stands}
@@ -139,7 +140,9 @@ PY
 for name in "$@"; do
     python3 - "$ion" "$plain" "$work/$name" <<'PY'
 import os, resource, subprocess, sys
-programs = {'ion': [sys.argv[1]], 'plain Rust': sys.argv[2:3] + ['sum']}
+programs = {'ion': [sys.argv[1]]}
+if sys.argv[2] != '-':
+    programs['plain Rust'] = [sys.argv[2], 'sum']
 stream, best, sums = sys.argv[3], {}, set()
 for turn in range(5):
     for name, words in programs.items():
@@ -150,8 +153,9 @@ for turn in range(5):
         spent = end.ru_utime + end.ru_stime - begin.ru_utime - begin.ru_stime
         best[name] = min(spent, best.get(name, spent))
 size = os.path.getsize(stream) / 1e6
-ion, plain = best['ion'], best['plain Rust']
-print('%s: ion %.0f MB/s, plain Rust %.0f MB/s, ratio %.2f%s' % (
-    os.path.basename(stream), size / ion, size / plain, ion / plain, '' if len(sums) == 1 else ', DIFFERENT RESULTS'))
+told = ', '.join('%s %.0f MB/s' % (name, size / spent) for name, spent in best.items())
+if len(best) == 2:
+    told += ', ratio %.2f' % (best['ion'] / best['plain Rust'])
+print(os.path.basename(stream) + ': ' + told + ('' if len(sums) == 1 else ', DIFFERENT RESULTS'))
 PY
 done

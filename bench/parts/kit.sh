@@ -4,7 +4,7 @@ set -eu
 work=$(mktemp -d)
 trap 'rm -rf "$work"' EXIT
 mkdir -p "$work/crates/ion_speed/src"
-cp docs/speed/kit.rattle "$work/crates/ion_speed/src/main.rt"
+cp bench/parts/kit.rattle "$work/crates/ion_speed/src/main.rt"
 echo 'ion_speed: simdutf8 base64' > "$work/crates.txt"
 git -C "$work" init -q
 (cd "$work/crates/ion_speed" && echo u | rt run > "$work/log" 2>&1) || { cat "$work/log"; exit 1; }

@@ -1,4 +1,5 @@
-// Plain Rust for the comparison of scalars in docs/SPEED.md: the same readings and writings, with the same checks.
+// Plain Rust for the comparison of scalars in docs/SPEED.md: the same readings and writings, with the same checks. It shares nothing
+// with `crates/`.
 // Build: rustc -O -C target-cpu=x86-64-v2 scalars.rs
 use std::fmt::Write;
 use std::hint::black_box;

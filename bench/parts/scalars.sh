@@ -3,10 +3,10 @@
 set -u
 work=$(mktemp -d)
 trap 'rm -rf "$work"' EXIT
-rustc -O -C target-cpu=x86-64-v2 docs/speed/scalars.rs -o "$work/plain" || exit 1
+rustc -O -C target-cpu=x86-64-v2 bench/parts/scalars.rs -o "$work/plain" || exit 1
 mkdir -p "$work/repository/crates/ion_speed/src"
 cp -r crates/ion_meter crates/ion_value "$work/repository/crates/"
-cp docs/speed/scalars.rattle "$work/repository/crates/ion_speed/src/main.rt"
+cp bench/parts/scalars.rattle "$work/repository/crates/ion_speed/src/main.rt"
 { grep -E '^(ion_meter|ion_value):' crates.txt; echo 'ion_speed: ion_meter ion_value arrayvec'; } > "$work/repository/crates.txt"
 (cd "$work/repository/crates/ion_speed" && rt run -- none > "$work/log" 2>&1)
 ion="$work/repository/crates/ion_speed/out/ion_speed"

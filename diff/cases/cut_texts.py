@@ -1,15 +1,19 @@
 #!/usr/bin/env python3
-"""Reads texts token by token, from the Ion specification alone, and writes rows of a test; see docs/TEXT_INPUT.md.
+"""Reads texts token by token, from the Ion specification alone, and writes rows of a test. It shares nothing with `crates/`.
 
-usage: cut_texts.py [--choose N] [--longest N] [--each N] CASES.jsonl ..
+usage: diff/cases/cut_texts.py [--choose N] [--longest N] [--each N]
 
-Each line of a file is one case: `words` (the command line) and `input` (hex). Of each input that is no binary, and of
-each catalogue, a row is printed, as those of `crates/ion_text_tests/src/reading/drawn.rt`: the limit on scalars (1048576, or
-that of the words), the text, and its items in words. --choose takes N rows, half of them with faults, each fault in turn, that
-show the most kinds of tokens and bytes behind one another, --longest texts of at most N bytes (400), --each puts N rows
-into one constant (40). Nothing of the crates is read or run.
+The texts are those of tests/cases, catalogues among them. Of each that is no binary a row is printed, as those of
+`crates/ion_text_tests/src/reading/drawn.rt`: the limit on scalars (1048576, or that of the words), the text, and its items in
+words. --choose takes N rows, half of them with faults, each fault in turn, that show the most kinds of tokens and bytes
+behind one another, --longest texts of at most N bytes (400), --each puts N rows into one constant (40). Nothing of the
+crates is read or run.
 """
-import base64, calendar, json, re, sys
+import base64, calendar, json, os, re, subprocess, sys
+
+TESTS = os.path.join(os.path.dirname(os.path.abspath(__file__)), '..', '..', 'tests')
+sys.path.insert(0, TESTS)
+import answers
 
 WHITE = b' \t\n\v\f\r'
 OPERATOR = b'!#%&*+-./;<=>?@^`|~'
@@ -444,24 +448,27 @@ def choose(rows, count):
     return chosen
 
 
+def cases():
+    """The cases of tests/cases."""
+    listed = subprocess.run([sys.executable, f'{TESTS}/cases/run', '--list'], stdout=subprocess.PIPE, check=True).stdout.decode()
+    return [json.loads(row.split(' ', 2)[2]) for row in listed.splitlines()]
+
+
 def main(words):
     options = {'--choose': 0, '--longest': 400, '--each': 40}
     while words and words[0] in options:
         options[words[0]] = int(words[1])
         words = words[2:]
-    if not words:
+    if words:
         print(__doc__)
         return 2
     texts = {}
-    for name in words:
-        for line in open(name):
-            case = json.loads(line)
-            args = case['words']
-            limit = int(args[args.index('--scalar') + 1]) if '--scalar' in args else 1048576
-            for key in ('input', 'catalog'):
-                text = bytes.fromhex(case.get(key) or '')
-                if text and text[0] != 0xE0 and len(text) <= options['--longest']:
-                    texts[limit, text] = case['id']
+    for case in cases():
+        args = case['words']
+        limit = int(args[args.index('--scalar') + 1]) if '--scalar' in args else 1048576
+        for text in (answers.bytes_of(case['input']), bytes.fromhex(case.get('catalog', ''))):
+            if text and text[0] != 0xE0 and len(text) <= options['--longest']:
+                texts[limit, text] = None
     rows = [(limit, text, cut(text, limit)) for limit, text in texts]
     rows = choose(rows, options['--choose']) if options['--choose'] else rows
     rows = [row_of(limit, text) for limit, text, _ in rows]

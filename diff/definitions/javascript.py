@@ -1,25 +1,37 @@
 """Translates functions of the ghost language, clause by clause, into JavaScript that computes only what is asked for.
 
-`env` is what a name of the clause is called there, `m` the module that the clause stands in. What a function rests on is
-translated with it; where any of it has a form that is not known here, nothing is translated.
+`m` is the module that a clause stands in, `env` what a name of the clause is called in JavaScript. What a function rests on
+is translated with it; where any of it has a form that is not known here, nothing is translated. A value that is not computed yet
+is a `T`, which `F` computes; runtime.js has both, and what else is called here.
 """
 import re
 
 from modules import CON, resolve, resolve_in
-from syntax import P
+from syntax import Parser
+
+CALLS = {'+': 'ADD', '-': 'SUB', '*': 'MUL', '/': 'DIV', '%': 'MOD', '^': 'POW', '==': 'EQ', '+ℤ': 'ADDZ', '-ℤ': 'SUBZ', '*ℤ': 'MULZ'}
+LAZY_CALLS = {'∷': 'CONS', '++': 'APP'}
+PRIMITIVES = {'true': 'true', 'false': 'false', 'zero': '0', 'tt': 'TT', 'suc': 'SUC'}
 
 wanted = []
-uid = [0]
+parsed = {}
+names = [0]
 
 
-def fresh(n):
-    uid[0] += 1
-    return '$' + re.sub(r"[^A-Za-z0-9_]", '', n) + str(uid[0])
+def fresh(name):
+    """A name that nothing else has."""
+    names[0] += 1
+    return '$' + re.sub('[^A-Za-z0-9_]', '', name) + str(names[0])
 
+
+def mangled(name):
+    return re.sub('[^A-Za-z0-9_$]', lambda c: '$%x' % ord(c[0]), name)
+
+
+# -- names
 
 def lookup(m, env, name):
-    if name in env: return ('loc', env[name])
-    return resolve(m, name)
+    return ('loc', env[name]) if name in env else resolve(m, name)
 
 
 def qualified(m, env, e):
@@ -29,243 +41,267 @@ def qualified(m, env, e):
     return None
 
 
-def js_nat(n): return f'{n}' if n <= 2**53 - 1 else f'{n}n'
+def head(m, env, e):
+    """What stands in front of arguments."""
+    return lookup(m, env, e[1]) if e[0] == 'var' else qualified(m, env, e) or ('exp',)
 
 
 def ref(m, r):
-    """The JavaScript of a name; a function is wanted by this."""
-    if r[0] == 'loc': return r[1]
+    """The JavaScript of what a name means; a function is wanted by this."""
+    if r[0] == 'loc':
+        return r[1]
     if r[0] == 'con':
-        return f'C0({r[1]!r})' if r[2] == 0 and r[1] != '[]' else ('NIL' if r[1] == '[]' else f'CF({r[1]!r},{r[2]})')
+        if r[1] == '[]':
+            return 'NIL'
+        return f'C0({r[1]!r})' if r[2] == 0 else f'CF({r[1]!r},{r[2]})'
     if r[0] == 'fun':
         wanted.append(r[1:])
-        return 'G.' + mang(f'{r[1].id}${r[2]}')
-    if r[0] == 'nat': return f'N[{r[1]!r}]'
-    if r[0] == 'prim': return {'true': 'true', 'false': 'false', 'zero': '0', 'tt': 'TT', 'suc': 'SUC'}[r[1]]
+        return 'G.' + mangled(f'{r[1].id}${r[2]}')
+    if r[0] == 'nat':
+        return f'N[{r[1]!r}]'
+    if r[0] == 'prim':
+        return PRIMITIVES[r[1]]
     if r[1][0].isupper() or r[1][0] in 'ℕℤ⊤⊥':  # a type, of which nothing is computed
         return 'undefined'
     raise SyntaxError(f'{m.id}: {r[1]} has no meaning here')
 
 
-def mang(n): return re.sub(r'[^A-Za-z0-9_$]', lambda c: '$%x' % ord(c[0]), n)
+def number(n):
+    return f'{n}' if n <= 2**53 - 1 else f'{n}n'
 
 
-parsed = {}
+# -- expressions
+
+def needs_no_delay(m, env, e):
+    """Whether an expression is a value already, so that it need not wait in a `T`."""
+    if e[0] == 'app':
+        r = head(m, env, e[1])
+        return is_codes(env, e) or r[0] == 'con' and len(e[2]) == r[2]
+    return e[0] in ('num', 'var', 'lam', 'pair') or e[0] == 'rec' and e[1] is None or e[0] == 'op' and e[1] == '∷'
 
 
-def clauses_of(m, n):
+def delayed(m, env, e):
+    """The JavaScript of an expression that may never be asked for."""
+    if e[0] == 'var':
+        return ref(m, lookup(m, env, e[1]))
+    if qualified(m, env, e):
+        return ref(m, qualified(m, env, e))
+    return expression(m, env, e) if needs_no_delay(m, env, e) else f'new T(()=>{expression(m, env, e)})'
+
+
+def all_delayed(m, env, es):
+    return ','.join(delayed(m, env, e) for e in es)
+
+
+def expression(m, env, e):
+    """The JavaScript of an expression that is computed at once."""
+    return EXPRESSIONS[e[0]](m, env, e)
+
+
+def of_name(m, env, e):
+    r = lookup(m, env, e[1])
+    return f'F({ref(m, r)})' if r[0] in ('loc', 'fun', 'nat') else ref(m, r)
+
+
+def of_field(m, env, e):
+    q = qualified(m, env, e)
+    if q:
+        return f'F({ref(m, q)})'
+    return f'F({expression(m, env, e[1])}.{"p" + e[2] if e[2].isdigit() else e[2]})'
+
+
+def is_codes(env, e):
+    """`codes "text"`: the bytes of a text."""
+    return e[1] == ('var', 'codes') and 'codes' not in env and e[2][0][0] == 'str'
+
+
+def of_call(m, env, e):
+    if is_codes(env, e):
+        return f'LIST({list(e[2][0][1])!r})'
+    r, args = head(m, env, e[1]), e[2]
+    if r[0] == 'con' and len(args) == r[2]:
+        if r[1] == '∷':
+            return f'CONS({all_delayed(m, env, args)})'
+        return '{t:%r,%s}' % (r[1], ','.join(f'p{i}:{delayed(m, env, a)}' for i, a in enumerate(args)))
+    if r == ('prim', 'suc'):
+        return f'ADD({expression(m, env, args[0])},1)'
+    if r[0] == 'type':
+        return ref(m, r)
+    if r[0] == 'fun' and arity_of(r) and len(args) >= arity_of(r):
+        n = arity_of(r)
+        call = f'{ref(m, r)}({all_delayed(m, env, args[:n])})'
+        return call if len(args) == n else f'A({call},[{all_delayed(m, env, args[n:])}])'
+    function = expression(m, env, e[1]) if r[0] == 'exp' else ref(m, r)
+    return f'A({function},[{all_delayed(m, env, args)}])'
+
+
+def of_operator(m, env, e):
+    o, left, right = e[1:]
+    if o in LAZY_CALLS:
+        return f'{LAZY_CALLS[o]}({all_delayed(m, env, [left, right])})'
+    if o in ('&&', '||'):
+        return f'({expression(m, env, left)}{o}{expression(m, env, right)})'
+    if o == '>>=':
+        return f'BIND({expression(m, env, left)},{delayed(m, env, right)})'
+    if o == '>>':
+        return f'THEN({expression(m, env, left)},()=>{expression(m, env, right)})'
+    if o not in CALLS:
+        raise SyntaxError(f'{m.id}: {o} is not computed')
+    return f'{CALLS[o]}({expression(m, env, left)},{expression(m, env, right)})'
+
+
+def of_choice(m, env, e):
+    return f'({expression(m, env, e[1])}?{expression(m, env, e[2])}:{expression(m, env, e[3])})'
+
+
+def of_lambda(m, env, e):
+    inside, given = dict(env), []
+    for p in e[1]:
+        given.append(fresh(p[1]))
+        if p[1] != '_':
+            inside[p[1]] = given[-1]
+    body = expression(m, inside, e[2])
+    return f'(({",".join(given)})=>{f"({body})" if body.startswith("{") else body})'
+
+
+def of_record(m, env, e):
+    fields = ','.join(f'{name}:{delayed(m, env, x)}' for name, x in e[2])
+    return '({%s})' % fields if e[1] is None else '({...%s,%s})' % (expression(m, env, e[1]), fields)
+
+
+def of_statements(m, env, e):
+    return f'(()=>{{{statements(m, env, e)}}})()'
+
+
+def of_pair(m, env, e):
+    return '{p0:%s,p1:%s}' % (delayed(m, env, e[1]), delayed(m, env, e[2]))
+
+
+EXPRESSIONS = {'num': lambda m, env, e: number(e[1]), 'var': of_name, 'get': of_field, 'app': of_call, 'op': of_operator,
+               'if': of_choice, 'lam': of_lambda, 'pair': of_pair, 'rec': of_record,
+               'let': of_statements, 'elim': of_statements, 'do': of_statements}
+
+
+# -- statements that return the value
+
+def statements(m, env, e):
+    if e[0] == 'let':
+        name = fresh(e[1])
+        return f'const {name}={delayed(m, env, e[2])};{statements(m, env | {e[1]: name}, e[3])}'
+    if e[0] == 'if':
+        return f'if({expression(m, env, e[1])}){{{statements(m, env, e[2])}}}else{{{statements(m, env, e[3])}}}'
+    if e[0] == 'elim':
+        name = fresh('s')
+        cases = [when(m, env, [(p, name)], lambda inside, x=x: statements(m, inside, x)) for p, x in e[2]]
+        return f'const {name}={expression(m, env, e[1])};{"".join(cases)}throw new Error("no case in {m.id}");'
+    if e[0] == 'do':
+        out, env = '', dict(env)
+        for name, x in e[1][:-1]:
+            result = fresh('r')
+            out += f'const {result}={expression(m, env, x)};if({result}.t==="Err")return {result};'
+            if name is not None:
+                env[name] = f'{result}.p0'
+        return out + statements(m, env, e[1][-1][1])
+    return f'return {expression(m, env, e)};'
+
+
+def meaning_of(m, name):
+    """What a name in a pattern means: a constructor, a primitive, or anything else, which is bound."""
+    if '.' in name:
+        module, name = name.split('.')
+        return resolve_in(m.alias[module], name)
+    return ('con', name, CON[name]) if name in CON and name not in m.cons else resolve(m, name)
+
+
+def test(m, p, value):
+    """How a pattern that is no name to bind is tested: JavaScript that opens blocks, how many, and the parts to go on with."""
+    if p[0] == 'pn':
+        return f'if(F({value})==={number(p[1])}){{', 1, []
+    name = fresh('v')
+    if p[0] == 'pp':
+        return f'{{const {name}=F({value});', 1, [(p[1], name + '.p0'), (p[2], name + '.p1')]
+    r, args = meaning_of(m, p[1]), p[2]
+    if r == ('prim', 'tt'):
+        return '', 0, []
+    if r == ('prim', 'suc'):
+        return f'if(F({value})!==0){{const {name}=PRED(F({value}));', 1, [(args[0], name)]
+    if r[0] == 'prim':
+        return f'if(F({value})==={PRIMITIVES[r[1]]}){{', 1, []
+    if r[0] != 'con' or len(args) != r[2]:
+        raise SyntaxError(f'{m.id}: the pattern {p} is not known: {r}')
+    return f'{{const {name}=F({value});if({name}.t==={r[1]!r}){{', 2, [(a, f'{name}.p{i}') for i, a in enumerate(args)]
+
+
+def when(m, env, pairs, body):
+    """Tests patterns against values, binds their names, and goes on with the body where all hold."""
+    env, work, code, depth = dict(env), list(pairs), '', 0
+    while work:
+        p, value = work.pop(0)
+        if p[0] == 'pv':
+            if p[1] == '_':
+                continue
+            if meaning_of(m, p[1])[0] not in ('con', 'prim'):
+                env[p[1]] = value
+                continue
+            p = ('pc', p[1], [])
+        opens, blocks, parts = test(m, p, value)
+        code, depth, work = code + opens, depth + blocks, parts + work
+    return code + body(env) + '}' * depth
+
+
+# -- functions
+
+def clauses_of(m, name):
     """The clauses of a function, all with as many arguments."""
-    if (m.id, n) not in parsed:
-        found = parsed[m.id, n] = [parse_clause(toks, i, base) for toks, i, base in m.funs[n]]
+    if (m.id, name) not in parsed:
+        found = parsed[m.id, name] = [clause_of(toks, i) for toks, i in m.funs[name]]
         if len({len(pats) for pats, _, _ in found}) != 1:
-            raise SyntaxError(f'{m.id}: {n} has no clauses, or clauses with unlike numbers of arguments')
-    return parsed[m.id, n]
+            raise SyntaxError(f'{m.id}: {name} has no clauses, or clauses with unlike numbers of arguments')
+    return parsed[m.id, name]
 
 
-def fun_arity(r):
+def arity_of(r):
     return len(clauses_of(r[1], r[2])[0][0])
 
 
-def parse_clause(toks, i, base):
-    p = P(toks); p.i = i + 1; pats = []
-    while not p.raw().v == '=' or p.raw().k != 'op':
+def clause_of(toks, i):
+    """Patterns, body and the functions behind `where` of a clause; i is where the function's name stands."""
+    p, pats = Parser(toks), []
+    p.i = i + 1
+    while not (p.raw().v == '=' and p.raw().k == 'op'):
         if p.raw().v == '{':
-            while p.next().v != '}': pass
-            continue
-        pats.append(p.patom())
+            p.pass_braces()
+        else:
+            pats.append(p.pattern_atom())
     p.next()
-    p.ind = [-1]
-    body = p.expr(0)
-    wh = {}
-    t = p.raw()
-    if t is not None and t.v == 'where':
-        p.i += 1
-        rest = toks[p.i:]
-        col = rest[0].col
-        groups = []
-        for t in rest:
-            if t.first and t.col == col: groups.append([])
-            groups[-1].append(t)
-        for g in groups:
-            if g[1].v == ':': wh.setdefault(g[0].v, [])
-            else: wh[g[0].v].append(parse_clause(g, 0, col))
-    elif t is not None: raise SyntaxError(f'left {t} in clause of {toks[i]}')
-    return pats, body, wh
+    body, inner = p.expr(0), {}
+    if p.raw() is None:
+        return pats, body, inner
+    if p.raw().v != 'where':
+        raise SyntaxError(f'{p.raw()} is left of a clause of {toks[i]}')
+    rest, groups = toks[p.i + 1:], []
+    for t in rest:
+        if t.first and t.col == rest[0].col:
+            groups.append([])
+        groups[-1].append(t)
+    for group in groups:
+        clauses = inner.setdefault(group[0].v, [])
+        if group[1].v != ':':
+            clauses.append(clause_of(group, 0))
+    return pats, body, inner
 
 
-def atomic(m, env, e):
-    """js of an expression that needs no thunk, or None"""
-    if e[0] == 'num': return js_nat(e[1])
-    if e[0] == 'var': return ref(m, lookup(m, env, e[1]))
-    if e[0] == 'get':
-        q = qualified(m, env, e)
-        if q: return ref(m, q)
-        return None
-    if e[0] == 'lam': return gen(m, env, e)
-    if e[0] == 'rec' and e[1] is None: return gen(m, env, e)
-    if e[0] == 'pair': return gen(m, env, e)
-    if e[0] == 'op' and e[1] == '∷': return gen(m, env, e)
-    if e[0] == 'app':
-        if e[1][0] == 'var' and e[1][1] == 'codes' and 'codes' not in env: return gen(m, env, e)
-        r = head(m, env, e[1])
-        if r[0] == 'con' and len(e[2]) == r[2]: return gen(m, env, e)
-    return None
-
-
-def lazy(m, env, e):
-    a = atomic(m, env, e)
-    return a if a is not None else f'new T(()=>{gen(m, env, e)})'
-
-
-def head(m, env, e):
-    if e[0] == 'var': return lookup(m, env, e[1])
-    q = qualified(m, env, e)
-    return q if q else ('exp',)
-
-
-def gen(m, env, e):
-    k = e[0]
-    if k == 'num': return js_nat(e[1])
-    if k == 'var':
-        r = lookup(m, env, e[1])
-        j = ref(m, r)
-        return f'F({j})' if r[0] in ('loc', 'fun', 'nat') else j
-    if k == 'get':
-        q = qualified(m, env, e)
-        if q: return f'F({ref(m, q)})'
-        f = e[2]
-        return f'F({gen(m, env, e[1])}.{"p" + f if f.isdigit() else f})'
-    if k == 'app':
-        if e[1][0] == 'var' and e[1][1] == 'codes' and e[2][0][0] == 'str': return f'CODES({list(e[2][0][1])!r})'
-        r = head(m, env, e[1]); args = e[2]
-        if r[0] == 'con':
-            if len(args) == r[2]:
-                la = [lazy(m, env, a) for a in args]
-                if r[1] == '∷': return f'CONS({",".join(la)})'
-                return '{t:%r,%s}' % (r[1], ','.join(f'p{i}:{a}' for i, a in enumerate(la)))
-            return f'A({ref(m, r)},[{",".join(lazy(m, env, a) for a in args)}])'
-        if r[0] == 'prim':
-            if r[1] == 'suc': return f'ADD({gen(m, env, args[0])},1)'
-        if r[0] == 'fun':
-            n = fun_arity(r); la = [lazy(m, env, a) for a in args]
-            if n == 0: return f'A({ref(m, r)},[{",".join(la)}])'
-            if len(la) == n: return f'{ref(m, r)}({",".join(la)})'
-            if len(la) > n: return f'A({ref(m, r)}({",".join(la[:n])}),[{",".join(la[n:])}])'
-            return f'A({ref(m, r)},[{",".join(la)}])'
-        if r[0] == 'nat':
-            return f'A({ref(m, r)},[{",".join(lazy(m, env, a) for a in args)}])'
-        if r[0] == 'type': return ref(m, r)
-        f = ref(m, r) if r[0] == 'loc' else gen(m, env, e[1])
-        return f'A({f},[{",".join(lazy(m, env, a) for a in args)}])'
-    if k == 'op':
-        o = e[1]
-        if o == '∷': return f'CONS({lazy(m, env, e[2])},{lazy(m, env, e[3])})'
-        if o == '++': return f'APP({lazy(m, env, e[2])},{lazy(m, env, e[3])})'
-        if o == '&&': return f'({gen(m, env, e[2])}&&{gen(m, env, e[3])})'
-        if o == '||': return f'({gen(m, env, e[2])}||{gen(m, env, e[3])})'
-        if o == '>>=': return f'BIND({gen(m, env, e[2])},{lazy(m, env, e[3])})'
-        if o == '>>': return f'THEN({gen(m, env, e[2])},()=>{gen(m, env, e[3])})'
-        fn = {'+': 'ADD', '-': 'SUB', '*': 'MUL', '/': 'DIV', '%': 'MOD', '^': 'POW', '==': 'EQ', '+ℤ': 'ADDZ', '-ℤ': 'SUBZ', '*ℤ': 'MULZ'}[o]
-        return f'{fn}({gen(m, env, e[2])},{gen(m, env, e[3])})'
-    if k == 'if': return f'({gen(m, env, e[1])}?{gen(m, env, e[2])}:{gen(m, env, e[3])})'
-    if k == 'lam':
-        env2 = dict(env); ps = []
-        for p in e[1]:
-            n = p[1]; j = fresh(n); ps.append(j)
-            if n != '_': env2[n] = j
-        return f'(({",".join(ps)})=>{wrap(gen(m, env2, e[2]))})'
-    if k == 'pair': return '{p0:%s,p1:%s}' % (lazy(m, env, e[1]), lazy(m, env, e[2]))
-    if k == 'rec':
-        fs = ','.join(f'{n}:{lazy(m, env, x)}' for n, x in e[2])
-        return '({...%s,%s})' % (gen(m, env, e[1]), fs) if e[1] is not None else '({%s})' % fs
-    if k in ('let', 'elim', 'do'): return f'(()=>{{{stmt(m, env, e)}}})()'
-    raise SyntaxError(k)
-
-
-def wrap(j): return f'({j})' if j.startswith('{') else j
-
-
-def stmt(m, env, e):
-    """statements that return the value"""
-    k = e[0]
-    if k == 'let':
-        j = fresh(e[1]); env2 = dict(env); env2[e[1]] = j
-        return f'const {j}={lazy(m, env, e[2])};{stmt(m, env2, e[3])}'
-    if k == 'if': return f'if({gen(m, env, e[1])}){{{stmt(m, env, e[2])}}}else{{{stmt(m, env, e[3])}}}'
-    if k == 'elim':
-        j = fresh('s'); out = f'const {j}={gen(m, env, e[1])};'
-        for p, x in e[2]:
-            out += clause_js(m, env, [(p, j)], lambda env2: stmt(m, env2, x))
-        return out + f'throw new Error("no case in {m.id}");'
-    if k == 'do':
-        out, env = '', dict(env)
-        for n, x in e[1][:-1]:
-            j = fresh('r'); out += f'const {j}={gen(m, env, x)};if({j}.t==="Err")return {j};'
-            if n is not None: env[n] = f'{j}.p0'
-        return out + stmt(m, env, e[1][-1][1])
-    return f'return {gen(m, env, e)};'
-
-
-def clause_js(m, env, pairs, body):
-    """a block that tests patterns against js values, binds and runs the body"""
-    env2 = dict(env); pre, close = [], 0
-    code = ''
-    depth = 0
-    work = list(pairs)
-    while work:
-        p, j = work.pop(0)
-        if p[0] == 'pv':
-            n = p[1]
-            if n == '_': continue
-            r = None
-            if '.' in n:
-                a, b = n.split('.')
-                r = resolve_in(m.alias[a], b) if a in m.alias else None
-                if r is None: raise SyntaxError(n)
-            else: r = resolve(m, n)
-            if r[0] == 'con': p = ('pc', n, [])
-            elif r[0] == 'prim': p = ('pc', n, [])
-            else: env2[n] = j; continue
-        if p[0] == 'pn':
-            code += f'if(F({j})==={js_nat(p[1])}){{'; depth += 1; continue
-        if p[0] == 'pp':
-            v = fresh('v'); code += f'{{const {v}=F({j});'; depth += 1
-            work = [(p[1], v + '.p0'), (p[2], v + '.p1')] + work; continue
-        n, args = p[1], p[2]
-        if n == 'true' or n == 'false': code += f'if(F({j})==={n}){{'; depth += 1; continue
-        if n == 'tt': continue
-        if n == 'zero': code += f'if(F({j})===0){{'; depth += 1; continue
-        if n == 'suc':
-            v = fresh('v'); code += f'if(F({j})!==0){{const {v}=PRED(F({j}));'; depth += 1
-            work = [(args[0], v)] + work; continue
-        if '.' in n: a, b = n.split('.'); r = resolve_in(m.alias[a], b)
-        elif n in CON and n not in m.cons: r = ('con', n, CON[n])
-        else: r = resolve(m, n)
-        if r[0] != 'con': raise SyntaxError(f'{m.id}: pattern {p} {r}')
-        tag = r[1]
-        if len(args) != r[2]: raise SyntaxError(f'{m.id}: the pattern {p} wants {r[2]}')
-        v = fresh('v')
-        code += f'{{const {v}=F({j});if({v}.t==={tag!r}){{'; depth += 2
-        work = [(a, f'{v}.p{i}') for i, a in enumerate(args)] + work
-    return code + body(env2) + '}' * depth
-
-
-def fun_js(m, env, name, clauses):
-    a = max(len(c[0]) for c in clauses)
-    ps = [fresh('a') for _ in range(a)]
-    out = ''
-    for pats, body, wh in clauses:
-        def run(env2, body=body, wh=wh):
-            pre = ''
-            if wh:
-                env2 = dict(env2)
-                for w in wh: env2[w] = fresh(w)
-                for w, cl in wh.items(): pre += f'const {env2[w]}=' + fun_js(m, env2, w, cl) + ';'
-            return pre + stmt(m, env2, body)
-        out += '{' + clause_js(m, env, list(zip(pats, ps)), run) + '}'
-    out += f'throw new Error("no case: {name}");'
-    if a == 0: return f'new T(()=>{{{out}}})'
-    return f'function({",".join(ps)}){{{out}}}'
+def function(m, env, name, clauses):
+    """The JavaScript of a function, or of a value that is computed once."""
+    given, code = [fresh('a') for _ in clauses[0][0]], ''
+    for pats, body, inner in clauses:
+        def within(env, body=body, inner=inner):
+            env = env | {word: fresh(word) for word in inner}
+            before = ''.join(f'const {env[word]}={function(m, env, word, found)};' for word, found in inner.items())
+            return before + statements(m, env, body)
+        code += '{' + when(m, env, list(zip(pats, given)), within) + '}'
+    code += f'throw new Error("no case: {name}");'
+    return f'function({",".join(given)}){{{code}}}' if given else f'new T(()=>{{{code}}})'
 
 
 def translated(roots):
@@ -277,8 +313,8 @@ def translated(roots):
             raise SyntaxError(f'{path} has no function {name}')
         wanted.append(r[1:])
     while wanted:
-        m, n = wanted.pop()
-        if (m.id, n) not in done:
-            done.add((m.id, n))
-            code.append(f'G.{mang(f"{m.id}${n}")}={fun_js(m, {}, f"{m.id}.{n}", clauses_of(m, n))};')
+        m, name = wanted.pop()
+        if (m.id, name) not in done:
+            done.add((m.id, name))
+            code.append(f'G.{mangled(f"{m.id}${name}")}={function(m, {}, f"{m.id}.{name}", clauses_of(m, name))};')
     return '\n'.join(code), len(done)

@@ -6,7 +6,7 @@ the former are written by hand in runtime.js, of the latter the constructors are
 import os
 import re
 
-from syntax import P, tokens
+from syntax import tokens
 
 ROOT = os.path.dirname(os.path.dirname(os.path.dirname(os.path.abspath(__file__))))
 
@@ -23,47 +23,54 @@ mods = {}
 
 
 def chunks(lines, base):
-    """groups of lines that begin at an indentation: (line number, text)"""
+    """Groups of numbered lines, each of which begins at an indentation."""
     out = []
-    for n, l in lines:
-        if not l.strip() or l.strip().startswith('--'): continue
-        ind = len(l) - len(l.lstrip())
-        if ind == base and l.strip()[0] not in ']})': out.append([(n, l)])
-        else: out[-1].append((n, l))
+    for n, line in lines:
+        if not line.strip() or line.strip().startswith('--'):
+            continue
+        if len(line) - len(line.lstrip()) == base and line.strip()[0] not in ']})':
+            out.append([])
+        out[-1].append((n, line))
     return out
 
-def arity(ty):
-    """explicit arguments of a constructor's type, and its last part"""
-    d, parts, cur = 0, [], []
-    for t in ty:
-        if t.v in '([{': d += 1
-        if t.v in ')]}': d -= 1
-        if t.v == '→' and d == 0: parts.append(cur); cur = []
-        else: cur.append(t)
-    n = 0
-    for p in parts:
+
+def closing(part, i):
+    """Where the bracket that opens at i is closed, behind it, and how many names stand before its colon (none without one)."""
+    opens, closes = {'{': '{}', '(': '()'}[part[i].v]
+    depth, names, colon = 0, 0, False
+    while True:
+        depth += (part[i].v == opens) - (part[i].v == closes)
+        colon = colon or part[i].v == ':' and depth == 1
+        names += not colon and depth == 1 and part[i].k == 'id'
+        i += 1
+        if depth == 0:
+            return i, names if colon else 0
+
+
+def arity(type_words):
+    """The number of explicit arguments of a type, and the words of its last part."""
+    depth, parts, last = 0, [], []
+    for t in type_words:
+        depth += (t.v in '([{') - (t.v in ')]}')
+        if t.v == '→' and depth == 0:
+            parts.append(last)
+            last = []
+        else:
+            last.append(t)
+    count = 0
+    for part in parts:
         i = 0
-        while i < len(p):
-            if p[i].v == '{':
-                d = 0
-                while True:
-                    if p[i].v == '{': d += 1
-                    if p[i].v == '}': d -= 1
-                    i += 1
-                    if d == 0: break
-            elif p[i].v == '(':
-                j, d = i, 0; names = 0; colon = False
-                while True:
-                    if p[j].v == '(': d += 1
-                    if p[j].v == ')': d -= 1
-                    if p[j].v == ':' and d == 1: colon = True
-                    if not colon and d == 1 and p[j].k == 'id': names += 1
-                    j += 1
-                    if d == 0: break
-                if colon: n += names; i = j
-                else: n += 1; i = len(p)
-            else: n += 1; i = len(p)
-    return n, cur
+        while i < len(part):
+            names = 0
+            if part[i].v in '{(':
+                end, names = closing(part, i)
+            if part[i].v == '{':
+                i = end
+            elif names:
+                count, i = count + names, end
+            else:
+                count, i = count + 1, len(part)
+    return count, last
 
 
 def read_use(m, body):
@@ -113,7 +120,7 @@ def read_chunk(m, chunk, base):
             m.skip.add(toks[i].v)
         m.funs.setdefault(toks[i].v, [])
     elif toks[i].v not in m.skip:
-        m.funs.setdefault(toks[i].v, []).append((toks, i, base))
+        m.funs.setdefault(toks[i].v, []).append((toks, i))
 
 
 def module(path):

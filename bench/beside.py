@@ -3,8 +3,8 @@
 
 usage: bench/beside.py ION FOLDER [RUNS [KIND ..]]
 
-FOLDER is made by `bench/streams.py FOLDER [MB]`. Each command on each file, in text and in binary, one run of each program in turn,
-the best of RUNS (7) in processor time (user and system). A row in Markdown for each work: MB of input a second of both, the
+FOLDER is made by `bench/streams.py FOLDER [MB]`. Each command on each file, in text and in binary, one run of each program in
+turn, the best of RUNS (7) in processor time (user and system). A row in Markdown for each work: MB of input a second of both, the
 ratio of times (above 1: ion is slower), and whether the outputs are the same by SHA-256. Work that `ion` refuses is left
 out. `(cd bench/yard && cargo build --release --offline)` builds yard, which needs nothing but Rust's own library; YARD in
 the environment names another place of it.
@@ -68,7 +68,8 @@ def main(words):
         same = digest(own) == digest(other)
         differ += not same
         size = os.path.getsize(path) / 1e6
-        print(f'{row} | {size / best[0]:.0f} | {size / best[1]:.0f} | {best[0] / best[1]:.2f} | {"yes" if same else "NO"} |', flush=True)
+        ratio, verdict = best[0] / best[1], 'yes' if same else 'NO'
+        print(f'{row} | {size / best[0]:.0f} | {size / best[1]:.0f} | {ratio:.2f} | {verdict} |', flush=True)
     return 1 if differ else 0
 
 

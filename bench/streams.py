@@ -24,40 +24,181 @@ LEVEL = ['DEBUG', 'INFO', 'INFO', 'INFO', 'INFO', 'WARN', 'ERROR']
 REGION = ['eu_west_1', 'eu_central_1', 'us_east_1', 'us_west_2', 'ap_south_1']
 TAG = ['prod', 'canary', 'batch', 'mobile', 'web', 'internal', 'retry', 'cached', 'slow']
 VERB = ['GET', 'GET', 'GET', 'POST', 'PUT', 'DELETE', 'PATCH']
-WORD = 'request served from cache after upstream timeout connection reset by peer user session expired while loading profile payment accepted order shipped queue depth above threshold retrying in background'.split()
-AGENT = ['Mozilla/5.0 (X11; Linux x86_64) AppleWebKit/537.36', 'curl/8.5.0', 'okhttp/4.12.0', 'python-requests/2.31.0', 'Go-http-client/2.0']
+STATUS = [200, 200, 200, 201, 204, 301, 400, 401, 404, 500, 503]
+WORD = ('request served from cache after upstream timeout connection reset by peer user session expired while loading profile '
+        'payment accepted order shipped queue depth above threshold retrying in background').split()
+AGENT = ['Mozilla/5.0 (X11; Linux x86_64) AppleWebKit/537.36', 'curl/8.5.0', 'okhttp/4.12.0', 'python-requests/2.31.0',
+         'Go-http-client/2.0']
+SYMBOLS = {'level', 'region', 'method'}
+TEXTS = ['the quick brown fox jumps over the lazy dog while the band plays on and nobody minds the weather at all; ',
+         'Съешь же ещё этих мягких французских булок, да выпей чаю — и приходи завтра снова, если захочешь. ',
+         'いろはにほへと ちりぬるを わかよたれそ つねならむ うゐのおくやま けふこえて あさきゆめみし ゑひもせす。',
+         'Zwölf Boxkämpfer jagen Viktor quer über den großen Sylter Deich; Größe, Maß und Überfluß. ',
+         '天地玄黃 宇宙洪荒 日月盈昃 辰宿列張 寒來暑往 秋收冬藏 閏餘成歲 律呂調陽',
+         'emoji 😀🎉🚀 and ✓ marks, arrows → ⇒, math ∑∫√ ≠ ≤ ']
+LEAF = ['1', '22', 'true', 'a', '"s"', 'null', '-7']
+KEY = ['a', 'b', 'key', 'node', 'left', 'right']
+PART = ['listen', 'limits', 'pool', 'cache', 'tracing', 'rates', 'tenants', 'storage']
+SETTING = ['timeout', 'max_size', 'weight', 'ratio', 'interval', 'threshold', 'name', 'zone', 'enabled', 'since']
+
 
 def log_record(r):
+    """One record of a log, by its fields."""
     t = r.randrange(86400000)
-    h, t = divmod(t, 3600000); m, t = divmod(t, 60000); s, ms = divmod(t, 1000)
+    h, t = divmod(t, 3600000)
+    m, t = divmod(t, 60000)
+    s, ms = divmod(t, 1000)
     ts = '2024-%02d-%02dT%02d:%02d:%02d.%03dZ' % (r.randrange(1, 13), r.randrange(1, 29), h, m, s, ms)
     msg = ' '.join(r.choice(WORD) for _ in range(r.randrange(3, 12)))
-    if r.random() < .05: msg += ' "quoted\\tpath"'
-    return dict(ts=ts, level=r.choice(LEVEL), service=r.choice(SERV), region=r.choice(REGION), host='ip-10-%d-%d-%d' % (r.randrange(256), r.randrange(256), r.randrange(256)),
-        request_id='%016x' % r.getrandbits(64), user_id=r.randrange(1, 10 ** 7), method=r.choice(VERB), path='/v1/users/%d/orders/%d' % (r.randrange(10 ** 6), r.randrange(10 ** 5)),
-        status=r.choice([200, 200, 200, 201, 204, 301, 400, 401, 404, 500, 503]), duration_us=r.randrange(100, 3000000), bytes_out=r.randrange(0, 200000), cached=r.random() < .3,
-        agent=r.choice(AGENT), error=None if r.random() < .8 else 'E%04d' % r.randrange(10000), tags=r.sample(TAG, r.randrange(1, 4)),
+    if r.random() < .05:
+        msg += ' "quoted\\tpath"'
+    return dict(
+        ts=ts, level=r.choice(LEVEL), service=r.choice(SERV), region=r.choice(REGION),
+        host='ip-10-%d-%d-%d' % (r.randrange(256), r.randrange(256), r.randrange(256)),
+        request_id='%016x' % r.getrandbits(64), user_id=r.randrange(1, 10 ** 7), method=r.choice(VERB),
+        path='/v1/users/%d/orders/%d' % (r.randrange(10 ** 6), r.randrange(10 ** 5)), status=r.choice(STATUS),
+        duration_us=r.randrange(100, 3000000), bytes_out=r.randrange(0, 200000), cached=r.random() < .3,
+        agent=r.choice(AGENT), error=None if r.random() < .8 else 'E%04d' % r.randrange(10000),
+        tags=r.sample(TAG, r.randrange(1, 4)),
         spans=[[i, r.randrange(1, 50000), r.randrange(1, 50000)] for i in range(r.randrange(1, 5))],
-        ctx=dict(retry=r.randrange(3), shard=r.randrange(64), trace='%08x' % r.getrandbits(32), upstream=[r.choice(SERV) for _ in range(r.randrange(0, 3))]), message=msg)
+        ctx=dict(retry=r.randrange(3), shard=r.randrange(64), trace='%08x' % r.getrandbits(32),
+                 upstream=[r.choice(SERV) for _ in range(r.randrange(0, 3))]),
+        message=msg)
 
-def ion_str(s): return '"' + s.replace('\\', '\\\\').replace('"', '\\"') + '"'
-SYM = {'level', 'region', 'method'}
-def log_ion(d):
+
+def ion_string(s):
+    return '"' + s.replace('\\', '\\\\').replace('"', '\\"') + '"'
+
+
+def ion_of(name, x):
+    """A field's value as Ion text."""
+    if name == 'ts' or name in SYMBOLS:
+        return x
+    if x is None:
+        return 'null.string'
+    if isinstance(x, (bool, int)):
+        return str(x).lower()
+    if isinstance(x, str):
+        return ion_string(x)
+    if name == 'tags':
+        return '[' + ','.join(x) + ']'
+    if name == 'spans':
+        return '[' + ','.join('[%d,%d,%d]' % tuple(s) for s in x) + ']'
+    upstream = ','.join('"' + u + '"' for u in x['upstream'])
+    return '{retry:%d,shard:%d,trace:"%s",upstream:[%s]}' % (x['retry'], x['shard'], x['trace'], upstream)
+
+
+def log_line(record):
+    return '{' + ','.join(name + ':' + ion_of(name, x) for name, x in record.items()) + '}\n'
+
+
+def ints(r):
+    """A list of ints: small, of up to 32 bits, of up to 63, or of up to 127."""
+    k, kind = r.randrange(100, 2000), r.random()
+    if kind < .4:
+        return '[' + ','.join(str(r.randrange(-1000, 1000)) for _ in range(k)) + ']\n'
+    if kind < .7:
+        return '[' + ','.join(str(r.getrandbits(r.randrange(1, 33))) for _ in range(k)) + ']\n'
+    if kind < .95:
+        return '[' + ', '.join(str(r.getrandbits(r.randrange(1, 64)) * r.choice((1, -1))) for _ in range(k)) + ']\n'
+    return '[' + ','.join(str(r.getrandbits(r.randrange(60, 128))) for _ in range(k)) + ']\n'
+
+
+def strings(r):
+    """A string of up to some 3,000 characters, some of them escapes."""
+    base = r.choice(TEXTS) if r.random() < .7 else TEXTS[0]
+    n, parts, length = r.randrange(100, 3000), [], 0
+    while length < n:
+        s = base[r.randrange(len(base) // 2):]
+        if r.random() < .15:
+            s += r.choice(['\\n', '\\t', '\\"', '\\\\', '\\u00e9', '\\x41'])
+        parts.append(s)
+        length += len(s)
+    return '"' + ''.join(parts) + '"\n'
+
+
+def blobs(r):
+    return '{{' + base64.b64encode(r.randbytes(r.randrange(1024, 10240))).decode() + '}}\n'
+
+
+def nested(r, depth):
+    """A value of containers: one member goes on downwards, the others now and then."""
+    if depth >= 30 or r.random() < .03:
+        return r.choice(LEAF)
+    members = [nested(r, depth + 1) if i == 0 or r.random() < .15 else r.choice(LEAF) for i in range(r.randrange(1, 4))]
+    r.shuffle(members)
+    kind = r.random()
+    if kind < .4:
+        return '[' + ','.join(members) + ']'
+    if kind < .75:
+        return '{' + ','.join(r.choice(KEY) + ':' + member for member in members) + '}'
+    return '(' + ' '.join(members) + ')'
+
+
+def deep(r):
+    return '[' + ','.join(nested(r, 0) for _ in range(r.randrange(5, 40))) + ']\n'
+
+
+def setting(r):
+    """The value of a setting."""
+    x = r.random()
+    if x < .3:
+        return 'seconds::%d.%d' % (r.randrange(600), r.randrange(1000))
+    if x < .45:
+        return 'bytes::%d' % (1 << r.randrange(8, 36))
+    if x < .6:
+        return '%d.%02dd%d' % (r.randrange(100), r.randrange(100), r.randrange(-6, 7))
+    if x < .7:
+        return '"%s"' % ' '.join(r.choice(WORD) for _ in range(r.randrange(1, 5)))
+    if x < .8:
+        return "zone::'%s'" % r.choice(['eu west', 'us-east-1', 'ap/south'])
+    if x < .88:
+        return r.choice(['true', 'false'])
+    if x < .94:
+        return '2024-%02d-%02d' % (r.randrange(1, 13), r.randrange(1, 29))
+    return '[ %s ]' % ', '.join(str(r.randrange(100000)) for _ in range(r.randrange(1, 8)))
+
+
+def config(r):
+    """Settings as a person writes them: indented, with comments and annotations."""
+    o = ['// section %d of the settings\n' % r.randrange(10000)]
+    o.append('service::%s::{\n' % r.choice(['primary', 'replica', "'blue green'"]))
+    for _ in range(r.randrange(3, 12)):
+        part = r.choice(PART)
+        o.append('    /* %s: see the handbook, chapter %d */\n    %s: {\n' % (part, r.randrange(40), part))
+        for _ in range(r.randrange(2, 9)):
+            name = r.choice(SETTING)
+            value = setting(r)
+            o.append('        %s: %s,%s\n' % (name, value, '  // tuned by hand' if r.random() < .2 else ''))
+        o.append('    },\n')
+    o.append('}\n\n')
+    return ''.join(o)
+
+
+def fields(r, names):
+    """A struct over many field names, the frequent ones first."""
     o = []
-    for k, v in d.items():
-        if k == 'ts' or k in SYM: x = v
-        elif v is None: x = 'null.string'
-        elif v is True: x = 'true'
-        elif v is False: x = 'false'
-        elif isinstance(v, int): x = str(v)
-        elif isinstance(v, str): x = ion_str(v)
-        elif k == 'tags': x = '[' + ','.join(v) + ']'
-        elif k == 'spans': x = '[' + ','.join('[%d,%d,%d]' % tuple(s) for s in v) + ']'
-        else: x = '{retry:%d,shard:%d,trace:"%s",upstream:[%s]}' % (v['retry'], v['shard'], v['trace'], ','.join('"' + u + '"' for u in v['upstream']))
-        o.append(k + ':' + x)
+    for _ in range(r.randrange(4, 24)):
+        name = names[min(len(names) - 1, int(r.paretovariate(0.6)) - 1)]
+        x = r.random()
+        value = str(r.randrange(10000)) if x < .5 else r.choice(names[:200]) if x < .8 else '"%x"' % r.getrandbits(40)
+        o.append(name + ':' + value)
     return '{' + ','.join(o) + '}\n'
 
+
+def nest(r):
+    """A value of some 20 KB below 40 to 60 containers, each with a few members of its own."""
+    inside = '[' + ','.join(str(r.randrange(100000)) for _ in range(3000)) + ']'
+    for _ in range(r.randrange(40, 60)):
+        if r.random() < .5:
+            inside = '{a:%d,b:%s,c:"%x"}' % (r.randrange(100), inside, r.getrandbits(32))
+        else:
+            inside = '[%d,%s]' % (r.randrange(1000), inside)
+    return inside + '\n'
+
+
 def fill(path, size, make):
+    """Writes values to a file until it has a size."""
     n = 0
     with open(path, 'w', encoding='utf-8', newline='\n', buffering=1 << 20) as f:
         while n < size:
@@ -65,96 +206,16 @@ def fill(path, size, make):
             n += len(s) if s.isascii() else len(s.encode())
             f.write(s)
 
-def ints(r):
-    k = r.randrange(100, 2000); kind = r.random()
-    if kind < .4: return '[' + ','.join(str(r.randrange(-1000, 1000)) for _ in range(k)) + ']\n'
-    if kind < .7: return '[' + ','.join(str(r.getrandbits(r.randrange(1, 33))) for _ in range(k)) + ']\n'
-    if kind < .95: return '[' + ', '.join(str(r.getrandbits(r.randrange(1, 64)) * r.choice((1, -1))) for _ in range(k)) + ']\n'
-    return '[' + ','.join(str(r.getrandbits(r.randrange(60, 128))) for _ in range(k)) + ']\n'
-
-def pool(r):
-    L = ['the quick brown fox jumps over the lazy dog while the band plays on and nobody minds the weather at all; ',
-         'Съешь же ещё этих мягких французских булок, да выпей чаю — и приходи завтра снова, если захочешь. ',
-         'いろはにほへと ちりぬるを わかよたれそ つねならむ うゐのおくやま けふこえて あさきゆめみし ゑひもせす。',
-         'Zwölf Boxkämpfer jagen Viktor quer über den großen Sylter Deich; Größe, Maß und Überfluß. ',
-         '天地玄黃 宇宙洪荒 日月盈昃 辰宿列張 寒來暑往 秋收冬藏 閏餘成歲 律呂調陽', 'emoji 😀🎉🚀 and ✓ marks, arrows → ⇒, math ∑∫√ ≠ ≤ ']
-    return L
-def strings(r, P):
-    base = r.choice(P) if r.random() < .7 else P[0]
-    n = r.randrange(100, 3000); o = []; l = 0
-    while l < n:
-        a = r.randrange(len(base) // 2); s = base[a:]
-        if r.random() < .15: s += r.choice(['\\n', '\\t', '\\"', '\\\\', '\\u00e9', '\\x41'])
-        o.append(s); l += len(s)
-    return '"' + ''.join(o) + '"\n'
-
-def blobs(r):
-    b = base64.b64encode(r.randbytes(r.randrange(1024, 10240))).decode()
-    return '{{' + b + '}}\n'
-
-def deep(r):
-    LEAF = ['1', '22', 'true', 'a', '"s"', 'null', '-7']
-    KEY = ['a', 'b', 'key', 'node', 'left', 'right']
-    def v(d):
-        # one member goes on downwards, the others now and then
-        if d >= 30 or r.random() < .03: return r.choice(LEAF)
-        m = [v(d + 1) if i == 0 or r.random() < .15 else r.choice(LEAF) for i in range(r.randrange(1, 4))]
-        r.shuffle(m); x = r.random()
-        if x < .4: return '[' + ','.join(m) + ']'
-        if x < .75: return '{' + ','.join(r.choice(KEY) + ':' + w for w in m) + '}'
-        return '(' + ' '.join(m) + ')'
-    return '[' + ','.join(v(0) for _ in range(r.randrange(5, 40))) + ']\n'
-
-def config(r):
-    o = ['// section %d of the settings\n' % r.randrange(10000), 'service::%s::{\n' % r.choice(['primary', 'replica', "'blue green'"])]
-    for _ in range(r.randrange(3, 12)):
-        k = r.choice(['listen', 'limits', 'pool', 'cache', 'tracing', 'rates', 'tenants', 'storage'])
-        o.append('    /* %s: see the handbook, chapter %d */\n    %s: {\n' % (k, r.randrange(40), k))
-        for _ in range(r.randrange(2, 9)):
-            f = r.choice(['timeout', 'max_size', 'weight', 'ratio', 'interval', 'threshold', 'name', 'zone', 'enabled', 'since'])
-            x = r.random()
-            if x < .3: v = 'seconds::%d.%d' % (r.randrange(600), r.randrange(1000))
-            elif x < .45: v = 'bytes::%d' % (1 << r.randrange(8, 36))
-            elif x < .6: v = '%d.%02dd%d' % (r.randrange(100), r.randrange(100), r.randrange(-6, 7))
-            elif x < .7: v = '"%s"' % ' '.join(r.choice(WORD) for _ in range(r.randrange(1, 5)))
-            elif x < .8: v = "zone::'%s'" % r.choice(['eu west', 'us-east-1', 'ap/south'])
-            elif x < .88: v = r.choice(['true', 'false'])
-            elif x < .94: v = '2024-%02d-%02d' % (r.randrange(1, 13), r.randrange(1, 29))
-            else: v = '[ %s ]' % ', '.join(str(r.randrange(100000)) for _ in range(r.randrange(1, 8)))
-            o.append('        %s: %s,%s\n' % (f, v, '  // tuned by hand' if r.random() < .2 else ''))
-        o.append('    },\n')
-    o.append('}\n\n')
-    return ''.join(o)
-
-def fields(r, names):
-    # structs over 5,000 field names, the frequent ones first
-    o = []
-    for _ in range(r.randrange(4, 24)):
-        name = names[min(len(names) - 1, int(r.paretovariate(0.6)) - 1)]
-        x = r.random()
-        o.append(name + ':' + (str(r.randrange(10000)) if x < .5 else r.choice(names[:200]) if x < .8 else '"%x"' % r.getrandbits(40)))
-    return '{' + ','.join(o) + '}\n'
-
-def nest(r):
-    # one value of some 20 KB below 40 to 60 containers, each with a few members of its own
-    inside = '[' + ','.join(str(r.randrange(100000)) for _ in range(3000)) + ']'
-    for i in range(r.randrange(40, 60)):
-        inside = '{a:%d,b:%s,c:"%x"}' % (r.randrange(100), inside, r.getrandbits(32)) if r.random() < .5 else '[%d,%s]' % (r.randrange(1000), inside)
-    return inside + '\n'
-
 
 def maker_of(kind, r):
     """What makes one value of a kind after the other."""
-    if kind == 'strings':
-        texts = pool(r)
-        return lambda: strings(r, texts)
     if kind == 'fields':
         names = ['%s_%s_%d' % (r.choice(TAG), r.choice(SERV).replace('-', '_'), i) for i in range(5000)]
         return lambda: fields(r, names)
-    return {'log': lambda: log_ion(log_record(r)),
+    return {'log': lambda: log_line(log_record(r)),
             'json': lambda: json.dumps(log_record(r), separators=(',', ':')) + '\n',
-            'ints': lambda: ints(r), 'blobs': lambda: blobs(r), 'deep': lambda: deep(r),
-            'config': lambda: config(r), 'nest': lambda: nest(r)}[kind]
+            'ints': lambda: ints(r), 'strings': lambda: strings(r), 'blobs': lambda: blobs(r),
+            'deep': lambda: deep(r), 'config': lambda: config(r), 'nest': lambda: nest(r)}[kind]
 
 
 def main(words):

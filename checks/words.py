@@ -106,7 +106,8 @@ def run_row(program, row):
                 made.write(content)
         done = subprocess.run([program, *words], input=given, cwd=folder, capture_output=True, timeout=60)
     got = (done.returncode, done.stdout if out != ANY or not done.stdout.startswith((b"Shows", b"Writes")) else ANY, done.stderr)
-    return None if got == (status, out, errors) else f"FAILED {name}: ion {' '.join(words)}\n  wanted: {(status, out, errors)}\n  got:    {got}"
+    wanted = (status, out, errors)
+    return None if got == wanted else f"FAILED {name}: ion {' '.join(words)}\n  wanted: {wanted}\n  got:    {got}"
 
 
 def run_on_a_full_device(program):

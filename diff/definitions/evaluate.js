@@ -1,9 +1,9 @@
 'use strict';
-// Runs the definitions, as translate has them, on lines of standard input: `TO DEPTH SCALAR SYMBOLS VALUE 1 CATALOGUE|- INPUT|-`, the
+// Runs the translated definitions on lines of standard input: `TO DEPTH SCALAR SYMBOLS VALUE 1 CATALOGUE|- INPUT|-`, the
 // bytes in hexadecimal, as `yard batch` of bench/yard takes them. It answers a line each: `ok VALUES FORM OUTPUT`,
 // `refused REASON PLACE OUTPUT`, `catalog REASON PLACE`; `BAD ..` where two definitions that must agree do not, and
-// `ERROR ..` where a definition could not be computed. It follows the relation `HasVerdictFrom` of ion_transcode's Verdict from rule to
-// rule; with `--by-item` the functions that compute the same item by item (ByItem) have to agree.
+// `ERROR ..` where a definition could not be computed. It follows the relation `HasVerdictFrom` of ion_transcode's Verdict
+// from rule to rule; with `--by-item` the functions that compute the same item by item (ByItem) have to agree.
 const { G, N, F, A, T, NIL, LIST, ARR } = require(process.env.DEFINITIONS);
 const INPUT_LIMIT = 2 ** 48;
 const unhex = (text) => (text === '-' ? [] : [...Buffer.from(text, 'hex')]);

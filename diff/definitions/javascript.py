@@ -9,7 +9,8 @@ import re
 from modules import CON, resolve, resolve_in
 from syntax import Parser
 
-CALLS = {'+': 'ADD', '-': 'SUB', '*': 'MUL', '/': 'DIV', '%': 'MOD', '^': 'POW', '==': 'EQ', '+ℤ': 'ADDZ', '-ℤ': 'SUBZ', '*ℤ': 'MULZ'}
+CALLS = {'+': 'ADD', '-': 'SUB', '*': 'MUL', '/': 'DIV', '%': 'MOD', '^': 'POW', '==': 'EQ',
+         '+ℤ': 'ADDZ', '-ℤ': 'SUBZ', '*ℤ': 'MULZ'}
 LAZY_CALLS = {'∷': 'CONS', '++': 'APP'}
 PRIMITIVES = {'true': 'true', 'false': 'false', 'zero': '0', 'tt': 'TT', 'suc': 'SUC'}
 

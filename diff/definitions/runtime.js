@@ -25,7 +25,8 @@ function CONS(head, tail) { return { t: '∷', p0: head, p1: tail }; }
 function CF(name, count) {
   const key = name + count;
   if (!makers.has(key)) {
-    const made = [, (a) => ({ t: name, p0: a }), (a, b) => ({ t: name, p0: a, p1: b }), (a, b, c) => ({ t: name, p0: a, p1: b, p2: c })][count];
+    const one = (a) => ({ t: name, p0: a }), two = (a, b) => ({ t: name, p0: a, p1: b });
+    const made = [null, one, two, (a, b, c) => ({ t: name, p0: a, p1: b, p2: c })][count];
     if (!made) throw new Error(`the constructor ${name} has ${count} arguments`);
     makers.set(key, made);
   }
@@ -147,7 +148,8 @@ function encoded(b) {
   let s = '';
   for (let i = 0; i < b.length; i += 3) {
     const n = Math.min(3, b.length - i), v = (b[i] << 16) | ((b[i + 1] || 0) << 8) | (b[i + 2] || 0);
-    s += ALPHABET[v >> 18] + ALPHABET[(v >> 12) & 63] + (n > 1 ? ALPHABET[(v >> 6) & 63] : '=') + (n > 2 ? ALPHABET[v & 63] : '=');
+    s += ALPHABET[v >> 18] + ALPHABET[(v >> 12) & 63];
+    s += (n > 1 ? ALPHABET[(v >> 6) & 63] : '=') + (n > 2 ? ALPHABET[v & 63] : '=');
   }
   return ascii(s);
 }

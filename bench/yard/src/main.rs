@@ -10,6 +10,7 @@ mod simd;
 mod symbols;
 mod text_in;
 mod text_out;
+mod words;
 
 use common::*;
 use run::*;
@@ -18,8 +19,8 @@ use std::io::Write;
 use std::mem::ManuallyDrop;
 use std::os::fd::FromRawFd;
 use symbols::Catalog;
+use words::{Asked, Wants, USAGE};
 
-const USAGE: &str = "Usage: yard show|check|convert [--catalog FILE] [--depth N] [--scalar N] [--symbols N] [--value N] [FILE]\n       yard batch [--window N] [--chunk N]\n";
 
 fn fd(n: i32) -> ManuallyDrop<File> {
     // SAFETY: never closed
@@ -30,9 +31,9 @@ fn say(s: &str) {
     let _ = fd(2).write_all(s.as_bytes());
 }
 
-fn usage(why: &str) -> u8 {
-    say(&format!("error: {why}\n\n{USAGE}"));
-    2
+fn cannot_open(name: &str) -> u8 {
+    say(&format!("cannot open {name}\n"));
+    3
 }
 
 fn fault(f: Fault, before: &str) -> u8 {
@@ -61,135 +62,46 @@ fn main() {
 }
 
 fn serve() -> u8 {
-    let mut words = Vec::new();
-    for w in std::env::args_os().skip(1) {
-        match w.into_string() {
-            Ok(w) => words.push(w),
-            Err(_) => return usage("a word is not UTF-8"),
+    match words::read(std::env::args_os().skip(1)) {
+        Err(why) => {
+            say(&format!("error: {why}\n\n{USAGE}"));
+            2
         }
-    }
-    let mut lim = Limits::default();
-    let command = match words.first().map(|s| s.as_str()) {
-        None => "show",
-        Some("-h" | "--help" | "help") => {
+        Ok(Wants::Help) => {
             let _ = fd(1).write_all(USAGE.as_bytes());
-            return 0;
-        }
-        Some(c @ ("show" | "check" | "convert" | "batch")) => c,
-        Some(w) => return usage(&format!("unrecognized subcommand '{w}'")),
-    };
-    let mut catalog = None;
-    let mut file = None;
-    let mut seen: Vec<String> = Vec::new();
-    let mut only_files = false;
-    let mut i = 1;
-    while i < words.len() {
-        let w = &words[i];
-        i += 1;
-        if !only_files && w == "--" {
-            only_files = true;
-            continue;
-        }
-        if only_files || !w.starts_with('-') || w == "-" {
-            if file.is_some() || command == "batch" {
-                return usage(&format!("unexpected argument '{w}'"));
-            }
-            file = Some(w.clone());
-            continue;
-        }
-        if w == "--help" || w == "-h" {
-            let _ = fd(1).write_all(USAGE.as_bytes());
-            return 0;
-        }
-        let (name, value) = match w.split_once('=') {
-            Some((n, v)) => (n.to_string(), Some(v.to_string())),
-            None => (w.clone(), None),
-        };
-        if seen.contains(&name) {
-            return usage(&format!("the argument '{name}' cannot be used multiple times"));
-        }
-        seen.push(name.clone());
-        let known = match command {
-            "batch" => matches!(name.as_str(), "--window" | "--chunk"),
-            _ => matches!(name.as_str(), "--catalog" | "--depth" | "--scalar" | "--symbols" | "--value"),
-        };
-        if !known {
-            return usage(&format!("unexpected argument '{w}'"));
-        }
-        let value = match value {
-            Some(v) => v,
-            None => {
-                if i == words.len() || words[i].starts_with("--") {
-                    return usage(&format!("a value is required for '{name}'"));
-                }
-                i += 1;
-                words[i - 1].clone()
-            }
-        };
-        if name == "--catalog" {
-            catalog = Some(value);
-            continue;
-        }
-        let max = match name.as_str() {
-            "--depth" => 65_535,
-            "--window" | "--chunk" => 1 << 40,
-            _ => 1 << 30,
-        };
-        let n = match value.parse::<u64>() {
-            Ok(n) if n <= max => n,
-            _ => return usage(&format!("invalid value '{value}' for '{name}'")),
-        };
-        match name.as_str() {
-            "--depth" => lim.depth = n as u32,
-            "--scalar" => lim.scalar = n,
-            "--symbols" => lim.symbols = n,
-            "--value" => lim.value = n,
-            "--window" => lim.window = n as usize,
-            _ => lim.chunk = (n as usize).max(1),
-        }
-    }
-    if command == "batch" {
-        return match batch::batch(lim.window, lim.chunk, &mut *fd(0), &mut *fd(1)) {
-            Ok(()) => 0,
-            Err(_) => 3,
-        };
-    }
-    let mut cat = Catalog::default();
-    if let Some(name) = catalog {
-        match File::open(&name) {
-            Ok(mut f) => match load_catalog(lim, &mut f) {
-                Ok(c) => cat = c,
-                Err(e) => return fault(e, "catalog "),
-            },
-            Err(_) => {
-                say(&format!("cannot open {name}\n"));
-                return 3;
-            }
-        }
-    }
-    let mut input = match &file {
-        None => fd(0),
-        Some(name) => match File::open(name) {
-            Ok(f) => ManuallyDrop::new(f),
-            Err(_) => {
-                say(&format!("cannot open {name}\n"));
-                return 3;
-            }
-        },
-    };
-    let to = match command {
-        "check" => To::Nothing,
-        "convert" => To::Other,
-        _ => To::Text,
-    };
-    let mut out = fd(1);
-    match run(&cat, lim, to, &mut *input, &mut *out) {
-        Ok(s) => {
-            if to == To::Nothing && out.write_all(format!("ok {} values\n", s.values).as_bytes()).is_err() {
-                return fault(Fault::Write, "");
-            }
             0
         }
+        Ok(Wants::Batch(lim)) => match batch::batch(lim.window, lim.chunk, &mut *fd(0), &mut *fd(1)) {
+            Ok(()) => 0,
+            Err(_) => 3,
+        },
+        Ok(Wants::Run(asked)) => one_run(&asked),
+    }
+}
+
+fn one_run(asked: &Asked) -> u8 {
+    let mut catalog = Catalog::default();
+    if let Some(name) = &asked.catalog {
+        let Ok(mut file) = File::open(name) else { return cannot_open(name) };
+        match load_catalog(asked.limits, &mut file) {
+            Ok(c) => catalog = c,
+            Err(e) => return fault(e, "catalog "),
+        }
+    }
+    let mut input = match &asked.file {
+        None => fd(0),
+        Some(name) => match File::open(name) {
+            Ok(file) => ManuallyDrop::new(file),
+            Err(_) => return cannot_open(name),
+        },
+    };
+    let mut out = fd(1);
+    match run(&catalog, asked.limits, asked.to, &mut *input, &mut *out) {
+        Ok(s) if asked.to == To::Nothing => match out.write_all(format!("ok {} values\n", s.values).as_bytes()) {
+            Ok(()) => 0,
+            Err(_) => fault(Fault::Write, ""),
+        },
+        Ok(_) => 0,
         Err(e) => fault(e, ""),
     }
 }

@@ -4,9 +4,11 @@
 ghost use Rattle.std.specs.Prelude.{⊤};
 
 mod act;
+mod ahead;
 mod serve;
 mod words;
 
+use ahead::ReadAhead;
 use ion_meter::fault::Fault;
 use ion_meter::meter::Meter;
 use ion_meter::stream::{FromRead, ToWrite};
@@ -23,18 +25,19 @@ struct RealFiles {
 }
 
 impl FileSource for RealFiles {
-    type File = File;
+    type File = ReadAhead<File>;
 
     ghost gives = { λ files name found. ⊤ };
 
-    fn open_named(&mut self, name: &str) -> Option<File> {
-        fs::open(&self.rt, name).ok()
+    fn open_named(&mut self, name: &str) -> Option<ReadAhead<File>> {
+        let file = fs::open(&self.rt, name).ok()?;
+        Some(ReadAhead::new(self.rt.alloc(), file))
     }
 }
 
 fn main(rt: HostRuntime) -> io::Result<ExitCode> {
     let alloc = rt.alloc();
-    let input = FromRead::new(rt.stdin());
+    let input = FromRead::new(ReadAhead::new(alloc, rt.stdin()));
     let out = ToWrite::new(rt.stdout());
     let mut err = ToWrite::new(rt.stderr());
     let words = match env::args(&rt) {

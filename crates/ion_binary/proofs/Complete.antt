@@ -1,5 +1,5 @@
 -- Whatever the grammar spells is read, where the limits allow it.
-use Rattle.std.proofs.Common.{◌≡◌, ℕ, suc, ◌+◌, ◌*◌, ◌<◌, ◌≤◌, List, [], ◌∷◌, ◌++◌, length, Option, None, Ok, refl, sym, ap, ◌∙◌, append_assoc, append-nil, arith}
+use Rattle.std.proofs.Common.{◌≡◌, ℕ, suc, ◌+◌, ◌*◌, ◌<◌, ◌≤◌, List, [], ◌∷◌, ◌++◌, length, Option, None, Ok, refl, sym, ap, subst, ◌∙◌, append_assoc, append-nil, arith}
 use Rattle.std.proofs.lemmas.List.{length-append}
 use Rattle.ion_meter.specs.declared.limits.Limits.{Limits}
 use Rattle.ion_value.specs.declared.ion_type.Kind.{Kind}
@@ -9,7 +9,7 @@ use Rattle.ion_value.specs.Path.{Path, closed, opened, nest_items, path_items}
 use Rattle.ion_value.specs.Reading.{Reading, Finished, items_of, behind, Ends, Gives, GoesOn, reading_by, Shrinks}
 use Rattle.ion_value.specs.ReadingLaws.{Allows}
 use Rattle.ion_value.proofs.ReadingLaws.{prefixes}
-use Rattle.ion_value.proofs.Readings.{behind-append, reading_by-ends, reading_by-gives, reading_by-goes_on, items_of-behind}
+use Rattle.ion_value.proofs.Readings.{reading_by-ends, reading_by-gives, reading_by-goes_on, items_of-behind}
 use Rattle.ion_value.proofs.Paths.{same_path}
 use Rattle.ion_binary.specs.Grammar.{IsNopPad, Annotated, Bin, Inside, Tops}
 use Rattle.ion_binary.specs.Laws.{Bodies, Complete, StreamsAreRead, OnePath, OneStream}
@@ -26,33 +26,43 @@ Shrinking = (limits : Limits) → Shrinks (step limits) size
 
 -- ---- from one state to another
 
-unfoldable read_from : Limits → State → Reading
+unfoldable pub read_from : Limits → State → Reading
 read_from limits s = reading_by (step limits) size s
 
--- from a state on these items are read, and what is read behind them is read from the other
-abbrev Reads : Limits → State → List PlacedItem → State → Type 0
-Reads limits s items t = read_from limits s ≡ behind items (read_from limits t)
+-- from a state on steps give these items, and lead to the other
+pub data Reads (limits : Limits) : State → List PlacedItem → State → Type 0 where
+  nothing : (s : State) → Reads limits s [] s
+  gives : (s t u : State) (item : PlacedItem) (items : List PlacedItem) → step limits s ≡ Gives item t → Reads limits t items u → Reads limits s (item ∷ items) u
+  goes_on : (s t u : State) (items : List PlacedItem) → step limits s ≡ GoesOn t → Reads limits t items u → Reads limits s items u
 
 Reads-then : (limits : Limits) (s t u : State) (xs ys : List PlacedItem) → Reads limits s xs t → Reads limits t ys u → Reads limits s (xs ++ ys) u
-Reads-then limits s t u xs ys p q = p ∙ ap (behind xs) q ∙ sym (behind-append xs ys (read_from limits u))
+Reads-then limits _ _ u _ ys (Reads.nothing s) q = q
+Reads-then limits _ _ u _ ys (Reads.gives s t v item items e p) q = Reads.gives s t u item (items ++ ys) e (Reads-then limits t v u items ys p q)
+Reads-then limits _ _ u _ ys (Reads.goes_on s t v items e p) q = Reads.goes_on s t u (items ++ ys) e (Reads-then limits t v u items ys p q)
 
 -- where nothing is read between the last two of three
 Reads-silent : (limits : Limits) (s t u : State) (xs : List PlacedItem) → Reads limits s xs t → Reads limits t [] u → Reads limits s xs u
-Reads-silent limits s t u xs p q = p ∙ ap (behind xs) q
+Reads-silent limits s t u xs p q = subst (λ (l : List PlacedItem). Reads limits s l u) (append-nil xs) (Reads-then limits s t u xs [] p q)
 
-Reads-gives : (limits : Limits) → Shrinks (step limits) size → (s t : State) (item : PlacedItem) → step limits s ≡ Gives item t → Reads limits s (item ∷ []) t
-unfolding read_from
-Reads-gives limits shrinks s t item e = reading_by-gives (step limits) size shrinks s t item e
+Reads-gives : (limits : Limits) (s t : State) (item : PlacedItem) → step limits s ≡ Gives item t → Reads limits s (item ∷ []) t
+Reads-gives limits s t item e = Reads.gives s t t item [] e (Reads.nothing t)
 
-Reads-goes_on : (limits : Limits) → Shrinks (step limits) size → (s t : State) → step limits s ≡ GoesOn t → Reads limits s [] t
+Reads-goes_on : (limits : Limits) (s t : State) → step limits s ≡ GoesOn t → Reads limits s [] t
+Reads-goes_on limits s t e = Reads.goes_on s t t [] e (Reads.nothing t)
+
+-- these items are read first, and what is read behind them is read from the other
+Reads-first : (limits : Limits) → Shrinks (step limits) size → (s t : State) (items : List PlacedItem) → Reads limits s items t → read_from limits s ≡ behind items (read_from limits t)
 unfolding read_from
-Reads-goes_on limits shrinks s t e = reading_by-goes_on (step limits) size shrinks s t e
+Reads-first limits shrinks _ t _ (Reads.nothing s) = refl
+Reads-first limits shrinks _ t _ (Reads.gives s u v item items e more) =
+    reading_by-gives (step limits) size shrinks s u item e ∙ ap (λ (r : Reading). Reading.More item r) (Reads-first limits shrinks u t items more)
+Reads-first limits shrinks _ t _ (Reads.goes_on s u v items e more) = reading_by-goes_on (step limits) size shrinks s u e ∙ Reads-first limits shrinks u t items more
 
 read_from-ends : (limits : Limits) → Shrinks (step limits) size → (s : State) → step limits s ≡ Ends → read_from limits s ≡ Finished
 unfolding read_from
 read_from-ends limits shrinks s e = reading_by-ends (step limits) size shrinks s e
 
-reading-read_from : (limits : Limits) (bytes : List ℕ) → reading limits bytes ≡ read_from limits (start bytes)
+pub reading-read_from : (limits : Limits) (bytes : List ℕ) → reading limits bytes ≡ read_from limits (start bytes)
 unfolding read_from reading
 reading-read_from limits bytes = refl
 
@@ -130,14 +140,14 @@ open_in-items (opened ts first nest) frames top q f b annotations h k ms stands 
     let same : top_of frames top q ≡ first = top_of-open frames top q stands.1 ∙ stands.0 in
     rw same (sym (append_assoc (top_items ts) (nest_items first nest) (placed_item first f annotations h (value.begin k) ∷ member_items first ms)))
 
-module _ (bodies : Bodies) (limits : Limits) (shrinks : Shrinks (step limits) size) where
+module _ (bodies : Bodies) (limits : Limits) where
   -- a NOP pad gives nothing
   nop_pad-reads : (frames : List Frame) (top p : ℕ) (f : Option SymbolAt) (b x rest : List ℕ) → FieldIn frames p f b → Within frames (p + length (b ++ x)) → IsNopPad x
       → Reads limits (state frames top (cursor_at p ((b ++ x) ++ rest))) [] (state frames (top_of frames top p) (cursor_at (p + length (b ++ x)) rest))
   nop_pad-reads frames top p f b x rest field within is =
       let place : p + length b + length x ≡ p + length (b ++ x) = omega (arith, length-append b x) in
       let found = IsNopPad-found limits (unwrapped frames) (p + length b) x is refl (rw place (Holds-within frames (p + length (b ++ x)) within)) in
-      Reads-goes_on limits shrinks (state frames top (cursor_at p ((b ++ x) ++ rest))) (state frames (top_of frames top p) (cursor_at (p + length (b ++ x)) rest))
+      Reads-goes_on limits (state frames top (cursor_at p ((b ++ x) ++ rest))) (state frames (top_of frames top p) (cursor_at (p + length (b ++ x)) rest))
       (bare_step limits frames top p f b a_nop_pad x rest field within found)
 
   mutual
@@ -152,7 +162,7 @@ module _ (bodies : Bodies) (limits : Limits) (shrinks : Shrinks (step limits) si
         let once = value_step limits frames top p f b q annotations (length x) (a_scalar v) w x rest field place annotated fits.0 (rw end within) (omega arith)
         (λ a same suits. Plain-found bodies limits a (q + length w) v x plain suits fits.1) in
         rw (append_assoc w x rest)
-        (Reads-gives limits shrinks (state frames top (cursor_at p (b ++ (w ++ (x ++ rest))))) (state frames (top_of frames top p) (cursor_at (q + length (w ++ x)) rest))
+        (Reads-gives limits (state frames top (cursor_at p (b ++ (w ++ (x ++ rest))))) (state frames (top_of frames top p) (cursor_at (q + length (w ++ x)) rest))
         (placed_item (top_of frames top p) f annotations (q + length w) (value.whole (placed_scalar (q + length w) v))) (rw end at once))
     Bin-reads _ _ _ _ _ (Bin.container q annotations k ms w header x annotated is_header inside) frames top p f b rest field place within fits =
         let long : length (w ++ header) ≡ length w + length header = length-append w header in
@@ -169,11 +179,11 @@ module _ (bodies : Bodies) (limits : Limits) (shrinks : Shrinks (step limits) si
         let before : State = state frames top (cursor_at p (b ++ (w ++ (header ++ (x ++ rest))))) in
         let begin : PlacedItem = placed_item (top_of frames top p) f annotations (q + length w) (value.begin k) in
         let end : PlacedItem = placed_item (top_of frames top p) None [] (q + length ((w ++ header) ++ x)) value.end in
-        let begins : Reads limits before (begin ∷ []) start_in = Reads-gives limits shrinks before start_in begin (rw (last, first) at once) in
+        let begins : Reads limits before (begin ∷ []) start_in = Reads-gives limits before start_in begin (rw (last, first) at once) in
         let place_in : q + length (w ++ header) + length x ≡ q + length ((w ++ header) ++ x) = omega arith in
         let members : Reads limits start_in (member_items (top_of frames top p) ms) end_in =
         rw place_in at (Inside-reads k (q + length (w ++ header)) ms x inside frames (top_of frames top p) (q + length ((w ++ header) ++ x)) rest (omega arith) fits.2) in
-        let ends : Reads limits end_in (end ∷ []) after = Reads-gives limits shrinks end_in after end (step-end limits k frames (top_of frames top p) (q + length ((w ++ header) ++ x)) rest) in
+        let ends : Reads limits end_in (end ∷ []) after = Reads-gives limits end_in after end (step-end limits k frames (top_of frames top p) (q + length ((w ++ header) ++ x)) rest) in
         rw (append_assoc (w ++ header) x rest, append_assoc w header (x ++ rest))
         (Reads-then limits before start_in after (begin ∷ []) (member_items (top_of frames top p) ms ++ end ∷ []) begins
         (Reads-then limits start_in end_in after (member_items (top_of frames top p) ms) (end ∷ []) members ends))
@@ -182,7 +192,7 @@ module _ (bodies : Bodies) (limits : Limits) (shrinks : Shrinks (step limits) si
     Inside-reads : (k : Kind) (q : ℕ) (ms : Members SymbolAt ℕ) (x : List ℕ) (inside : Inside k q ms x)
         → (frames : List Frame) (top end : ℕ) (rest : List ℕ) → q + length x ≤ end → InsideFits limits (suc (length frames)) inside
         → Reads limits (state (frame_of k end ∷ frames) top (cursor_at q (x ++ rest))) (member_items top ms) (state (frame_of k end ∷ frames) top (cursor_at (q + length x) rest))
-    Inside-reads _ _ _ _ (Inside.nothing k q) frames top end rest within fits = let same : q + 0 ≡ q = omega arith in rw same refl
+    Inside-reads _ _ _ _ (Inside.nothing k q) frames top end rest within fits = let same : q + 0 ≡ q = omega arith in rw same (Reads.nothing (state (frame_of k end ∷ frames) top (cursor_at q rest)))
     Inside-reads _ _ _ _ (Inside.nop_pad k q f ms c b p more field is) frames top end rest within fits =
         let long : length (c ++ (b ++ p)) ≡ length c + length (b ++ p) = length-append c (b ++ p) in
         let place : q + length c + length (b ++ p) ≡ q + length (c ++ (b ++ p)) = omega arith in
@@ -207,7 +217,7 @@ module _ (bodies : Bodies) (limits : Limits) (shrinks : Shrinks (step limits) si
   -- the items of what is spelled at top level are read
   Tops-reads : (ts : List (Top SymbolAt ℕ)) (b : List ℕ) (tops : Tops ts b) → TopsFit limits tops
       → (rest : List ℕ) → (top : ℕ) × Reads limits (start (b ++ rest)) (top_items ts) (state [] top (cursor_at (length b) rest))
-  Tops-reads _ _ Tops.nothing fits rest = (0, refl)
+  Tops-reads _ _ Tops.nothing fits rest = (0, Reads.nothing (start rest))
   Tops-reads _ _ (Tops.marker ts b more) fits rest =
       let four : List ℕ = 224 ∷ 1 ∷ 0 ∷ 234 ∷ [] in
       let long : length (b ++ four) ≡ length b + 4 = length-append b four in
@@ -218,7 +228,7 @@ module _ (bodies : Bodies) (limits : Limits) (shrinks : Shrinks (step limits) si
       let item : PlacedItem = placed_item (length b) None [] (length b) value.marker in
       let s : State = state [] before.0 (cursor_at (length b) (224 ∷ 1 ∷ 0 ∷ 234 ∷ rest)) in
       let t : State = state [] (length b) (cursor_at (length (b ++ four)) rest) in
-      let one : Reads limits s (item ∷ []) t = Reads-gives limits shrinks s t item (rw (same, ← long) at once) in (
+      let one : Reads limits s (item ∷ []) t = Reads-gives limits s t item (rw (same, ← long) at once) in (
         length b,
         rw (append_assoc b four rest, top_items-append ts (value.version (length b)))
             (Reads-then limits (start (b ++ (four ++ rest))) s t (top_items ts) (item ∷ []) before.1 one),
@@ -243,7 +253,7 @@ module _ (bodies : Bodies) (limits : Limits) (shrinks : Shrinks (step limits) si
       )
 
   -- the bytes of a path are read to where it stands: its frames are open, and its items are read
-  Spells-reads : (path : Path SymbolAt ℕ) (frames : List Frame) (b : List ℕ) (spells : Spells path frames b) → SpellsFit limits spells
+  pub Spells-reads : (path : Path SymbolAt ℕ) (frames : List Frame) (b : List ℕ) (spells : Spells path frames b) → SpellsFit limits spells
       → (rest : List ℕ) → (top : ℕ) × IsTopIn path frames top × Reads limits (start (b ++ rest)) (path_items path) (state frames top (cursor_at (length b) rest))
   Spells-reads _ _ _ (Spells.top ts b tops) fits rest =
       let whole = Tops-reads ts b tops fits rest in
@@ -267,7 +277,7 @@ module _ (bodies : Bodies) (limits : Limits) (shrinks : Shrinks (step limits) si
       let once = value_step limits frames before.0 (length b) f x (length (b ++ x)) annotations (length header + n) (a_container k (head + length header + n)) w header (c ++ rest) field l1 annotated fits.1
       (rw (sum, first) within) (omega arith)
       (λ a same suits. Header-found limits a head k n header is_header (rw sum at suits) (omega (arith, fits.2))) in
-      let begins : Reads limits s (begin ∷ []) t = Reads-gives limits shrinks s t begin (rw (first, ← l5) at once) in
+      let begins : Reads limits s (begin ∷ []) t = Reads-gives limits s t begin (rw (first, ← l5) at once) in
       let members : Reads limits t (member_items top ms) u = rw (← l4) at (Inside-reads k (length ((b ++ x) ++ (w ++ header))) ms c inside frames top end rest (omega arith) fits.3) in
       let parts : (((b ++ x) ++ (w ++ header)) ++ c) ++ rest ≡ b ++ (x ++ (w ++ (header ++ (c ++ rest)))) =
       append_assoc ((b ++ x) ++ (w ++ header)) c rest ∙ append_assoc (b ++ x) (w ++ header) (c ++ rest) ∙ append_assoc b x ((w ++ header) ++ (c ++ rest))
@@ -285,16 +295,20 @@ module _ (bodies : Bodies) (limits : Limits) (shrinks : Shrinks (step limits) si
 pub complete : Bodies → Shrinking → Complete
 complete bodies shrinks limits bytes q path allows is =
     let short : length bytes ≡ length is.before + length is.rest = ap length is.split ∙ length-append is.before is.rest in
-    let there = Spells-reads bodies limits (shrinks limits) path is.frames is.before is.spells
-    (Spells-allowed limits path is.frames is.before is.spells (omega (arith, allows.0)) (omega (arith, allows.1))) is.rest in
-    (read_from limits (state is.frames there.0 (cursor_at (length is.before) is.rest)), reading-read_from limits bytes ∙ ap (λ l. read_from limits (start l)) is.split ∙ there.2)
+    let there = Spells-reads bodies limits path is.frames is.before is.spells
+    (Spells-allowed limits path is.frames is.before is.spells (omega (arith, allows.0)) (omega (arith, allows.1))) is.rest in (
+      read_from limits (state is.frames there.0 (cursor_at (length is.before) is.rest)),
+      reading-read_from limits bytes ∙ ap (λ l. read_from limits (start l)) is.split
+          ∙ Reads-first limits (shrinks limits) (start (is.before ++ is.rest)) (state is.frames there.0 (cursor_at (length is.before) is.rest)) (path_items path) there.2,
+    )
 
 -- and a stream is read to its end, where each of its parts is within the limits
 pub fitting_streams : Bodies → Shrinking → (limits : Limits) (bytes : List ℕ) (ts : List (Top SymbolAt ℕ)) (tops : Tops ts bytes) → TopsFit limits tops
     → reading limits bytes ≡ behind (path_items (closed ts)) Finished
 fitting_streams bodies shrinks limits bytes ts tops fits =
-    let there = Tops-reads bodies limits (shrinks limits) ts bytes tops fits [] in
-    reading-read_from limits bytes ∙ ap (λ l. read_from limits (start l)) (sym (append-nil bytes)) ∙ there.1
+    let there = Tops-reads bodies limits ts bytes tops fits [] in
+    reading-read_from limits bytes ∙ ap (λ l. read_from limits (start l)) (sym (append-nil bytes))
+    ∙ Reads-first limits (shrinks limits) (start (bytes ++ [])) (state [] there.0 (cursor_at (length bytes) [])) (top_items ts) there.1
     ∙ ap (behind (top_items ts)) (read_from-ends limits (shrinks limits) (state [] there.0 (cursor_at (length bytes) [])) (step-ends limits there.0 (length bytes)))
 
 -- so it is of all where the limits allow the bytes

@@ -1,6 +1,6 @@
 -- A reading stops at a limit only where the limit is passed.
 use Rattle.std.proofs.Common.{◌≡◌, ℕ, zero, suc, ◌+◌, ◌-◌, ◌*◌, ◌<◌, ◌≤◌, Bool, true, false, not, ◌&&◌, ◌||◌, if◌then◌else◌, nat_le, nat_lt, nat_eq, eqb, List, [], ◌∷◌, ◌++◌, length, take, drop, Option, Some, None, Result, Ok, Err, refl, sym, ap, subst, ◌∙◌, append_assoc, arith}
-use Rattle.std.proofs.lemmas.Bool.{ltb-true, ltb-false, leb-true, eqb-false}
+use Rattle.std.proofs.lemmas.Bool.{ltb-true, ltb-false, leb-true, leb-false, eqb-false}
 use Rattle.std.proofs.lemmas.List.{length-append}
 use Rattle.ion_meter.specs.declared.fault.Reason.{Reason}
 use Rattle.ion_meter.specs.declared.fault.Reason.TheVariants.{Truncated, BadDescriptor, BadVersion, BadAnnotation, Overrun, Float, DepthLimit, ScalarLimit, AnnotationLimit}
@@ -23,7 +23,7 @@ use Rattle.ion_binary.specs.Bodies.{IsBodyTypeCode}
 use Rattle.ion_binary.specs.Grammar.{Descriptor, Ids, Header, Annotated, type_code, Tops}
 use Rattle.ion_binary.specs.Paths.{FieldIn, Spells, At, Follows}
 use Rattle.ion_value.specs.ReadingLaws.{ending_of, IsLimit}
-use Rattle.ion_binary.specs.Laws.{Bodies, StandNext, BeginNext, Passes, StopsAtLimit, ExactLimits}
+use Rattle.ion_binary.specs.Laws.{Bodies, IsBefore, StandNext, BeginNext, Passes, StopsAtLimit, ExactLimits}
 use Rattle.ion_value.proofs.Readings.{behind-append}
 use Rattle.ion_value.proofs.Faults.{Blames, bind_blames, then_blames, refuse_blames, blames_more, part_blames, if_blames, Free, free, refuse_free}
 use Rattle.ion_binary.proofs.Free.{octet_at-free, var_uint_at-free, length_at-free, scalar_of_body-free}
@@ -151,6 +151,7 @@ module _ (limits : Limits) where
 
 -- a cursor behind the field of the next member, and one behind what stands before its value
 record Next (s : State) (c : Cursor) : Type 0 where
+  inside : IsBefore s.frames s.cursor.place
   field : Option SymbolAt
   name : List ℕ
   field_is : FieldIn s.frames s.cursor.place field name
@@ -172,7 +173,7 @@ bare-begins s c h = record { first = c; next = h; annotations = []; n = 0; wrapp
 
 stand : (s : State) (c : Cursor) (x rest : List ℕ) → Next s c → c.rest ≡ x ++ rest → StandNext s c.place x
 stand s c x rest h is =
-    record { field = h.field; name = h.name; rest = rest; field_is = h.field_is; split = h.split ∙ ap (λ (l : List ℕ). h.name ++ l) is; place_is = h.place_is }
+    record { inside = h.inside; field = h.field; name = h.name; rest = rest; field_is = h.field_is; split = h.split ∙ ap (λ (l : List ℕ). h.name ++ l) is; place_is = h.place_is }
 
 begin : (s : State) (r : Region) (c : Cursor) (x : List ℕ) (d : Cursor) → Begins s c → Took r c x d → BeginNext s c.place x
 begin s r c x d h took = record {
@@ -330,7 +331,7 @@ module _ (limits : Limits) (now : State) where
       bind_blames L (ids_at w.0.ids limits w.0.ids 0 w.1) _
       (blames_more (PlacedLimited (OfIds limits w.0.ids 0 w.1)) L _ (ids_at-limited limits w.0.ids w.0.ids 0 w.1 (omega arith))
       (λ fault p k. in_wrapper s ((b ∷ lengths.head) ++ lengths.len) (b ∷ lengths.head) lengths.len (length lengths.len + lengths.ids_length + lengths.rest_length) lengths.ids_length w.0.ids w.1
-      fault.1 fault.0 refl next header (rw is lengths.descriptor) lengths.spells (p k)))
+      fault.1 fault.0 refl next header (rw is lengths.descriptor) lengths.spells (omega (arith, lengths.some_rest)) lengths.ids_end (p k)))
       (λ annotations e. inner_at-limited top f annotations.0 w.0.end annotations.1
       (in-wrapper r length_code b s c w annotations.0 annotations.1 is next first lengths (ids_at-taken w.0.ids limits w.0.ids 0 w.1 annotations (omega arith) e))))
     where
@@ -352,8 +353,10 @@ module _ (limits : Limits) (now : State) where
           }
 
       in_wrapper : (s : Cursor) (header head len : List ℕ) (m n end : ℕ) (c : Cursor) (place : ℕ) (why : Reason) → header ≡ head ++ len → Next now s
-          → Took (region_of frames) s header c → Descriptor 14 m head → VarUInt n len → OfIds limits end 0 c place why → Passes limits now place why
-      in_wrapper s header head len m n end c place _ same next took descriptor spells (annotation p) =
+          → Took (region_of frames) s header c → Descriptor 14 m head → VarUInt n len → length len + n < m → end ≡ c.place + n
+          → OfIds limits end 0 c place why → Passes limits now place why
+      in_wrapper s header head len m n end c place _ same next took descriptor spells some_rest end_is (annotation p) =
+          let within_ids : p.after.place ≤ end = p.took.inside (omega (arith, end_is)) in
           Passes.annotation (record {
             first = s.place;
             size = m;
@@ -368,6 +371,8 @@ module _ (limits : Limits) (now : State) where
                 (took.parts ∙ ap (λ (l : List ℕ). header ++ l) p.took.parts ∙ rw same (simp append_assoc));
             descriptor = descriptor;
             ids_length = spells;
+            some_rest = some_rest;
+            in_ids = omega (arith, within_ids, p.took.place, end_is, length-append p.ids p.octets);
             before = subst (λ (q : ℕ). Ids q p.annotations p.ids) (took.place ∙ ap (λ (l : List ℕ). s.place + length l) same) p.before;
             spells = p.spells;
             place_is = omega (arith, p.place_is, took.place, ap length same, length-append (head ++ len) p.ids);
@@ -383,13 +388,13 @@ module _ (limits : Limits) (now : State) where
       let w = wrapper_is b length_code is in
       annotated_at-limited top f s b length_code c next first w.0 w.1
 
-  member_at-limited : (top : ℕ) → Blames L (member_at limits frames top now.cursor)
+  member_at-limited : (top : ℕ) → IsBefore frames now.cursor.place → Blames L (member_at limits frames top now.cursor)
   unfolding member_at value_at
-  member_at-limited top =
+  member_at-limited top inside =
       let c : Cursor = now.cursor in
       bind_blames L (part c.place (field_at frames c)) _ (part_free PassesAt c.place _ (field_at-free frames c)) (λ f e.
       let field = field_at-taken frames c f (part_ok c.place _ _ e) in
-      let next : Next now f.1 = record { field = f.0; name = field.octets; field_is = field.spells; split = field.took.parts; place_is = field.took.place } in
+      let next : Next now f.1 = record { inside = inside; field = f.0; name = field.octets; field_is = field.spells; split = field.took.parts; place_is = field.took.place } in
       bind_blames L (part f.1.place (octet_at (region_of frames) f.1)) _ (part_free PassesAt f.1.place _ (octet_at-free (region_of frames) f.1)) (λ b e.
       choice-limited (wrapper_length (shape_of b.0)) (top_of frames top c.place) f.0 f.1 b.0 b.1 refl next
       (octet_at-taken (region_of frames) f.1 b (part_ok f.1.place _ _ e))))
@@ -461,7 +466,8 @@ top_step-right : (limits : Limits) (s : State) (rest : List ℕ) → s.frames �
 top_step-right limits s [] none = tt
 top_step-right limits s (b ∷ rest) none =
     subst (λ (frames : List Frame). Right limits s (step_of (member_at limits frames s.top s.cursor))) none
-    (step_of-right limits s (member_at limits s.frames s.top s.cursor) (member_at-limited limits s s.top) (member_at-leads limits s s.top s.cursor))
+    (step_of-right limits s (member_at limits s.frames s.top s.cursor)
+    (member_at-limited limits s s.top (subst (λ (frames : List Frame). IsBefore frames s.cursor.place) (sym none) tt)) (member_at-leads limits s s.top s.cursor))
 
 one_less : (kinds : List Kind) (n : ℕ) → length kinds ≡ suc n → length (drop 1 kinds) ≡ n
 one_less [] n e = absurd (omega (arith, e))
@@ -469,15 +475,17 @@ one_less (k ∷ kinds) n e = omega (arith, e)
 
 step_in-right : (limits : Limits) (s : State) (frames : List Frame) → s.frames ≡ frames → Right limits s (step_in limits frames s.top s.cursor)
 step_in-right limits s [] e = top_step-right limits s s.cursor.rest e
-step_in-right limits s (f ∷ frames) e = by_end (nat_le f.end s.cursor.place)
+step_in-right limits s (f ∷ frames) e = by_end (nat_le f.end s.cursor.place) refl
   where
-    by_end : (b : Bool) → Right limits s
+    by_end : (b : Bool) → nat_le f.end s.cursor.place ≡ b → Right limits s
         (if b then Gives (placed_item s.top None [] s.cursor.place value.end) (record { frames = frames; top = s.top; cursor = s.cursor })
         else step_of (member_at limits (f ∷ frames) s.top s.cursor))
-    by_end true = λ kinds level. one_less kinds (length frames) (level ∙ ap length e)
-    by_end false =
+    by_end true full = λ kinds level. one_less kinds (length frames) (level ∙ ap length e)
+    by_end false less =
+        let inside : IsBefore s.frames s.cursor.place =
+        subst (λ (open_ones : List Frame). IsBefore open_ones s.cursor.place) (sym e) (leb-false _ _ less) in
         subst (λ (open_ones : List Frame). Right limits s (step_of (member_at limits open_ones s.top s.cursor))) e
-        (step_of-right limits s (member_at limits s.frames s.top s.cursor) (member_at-limited limits s s.top) (member_at-leads limits s s.top s.cursor))
+        (step_of-right limits s (member_at limits s.frames s.top s.cursor) (member_at-limited limits s s.top inside) (member_at-leads limits s s.top s.cursor))
 
 step-right : (limits : Limits) (s : State) → Right limits s (step limits s)
 unfolding step

@@ -10,6 +10,8 @@ mod Refused
 mod Stable
 mod Free
 mod ExactLimits
+mod PassedLimits
+mod PassingRows
 mod Taken
 mod TypedValueSound
 mod WrapperSound

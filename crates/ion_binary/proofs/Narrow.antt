@@ -50,7 +50,7 @@ part-Cut place _ _ (same r) = same (part place r)
 part-Cut place _ _ (limit e r is) = limit (e, place) (part place r) is
 
 -- one step, or a limit's fault in its place
-data StepCut : Step State → Step State → Type 0 where
+pub data StepCut : Step State → Step State → Type 0 where
   same_step : (s : Step State) → StepCut s s
   limit_step : (reason : Reason) (place : ℕ) (s : Step State) → IsLimit reason → StepCut (Stops reason place) s
 
@@ -188,7 +188,7 @@ module _ (limits wide : Limits) (within : AreWithin limits wide) where
   step_in-Cut [] top c = top_step-Cut top c c.rest
   step_in-Cut (f ∷ frames) top c = if-step (nat_le f.end c.place) _ _ _ (step_of-Cut _ _ (member_at-Cut (f ∷ frames) top c))
 
-  step-Cut : (s : State) → StepCut (step limits s) (step wide s)
+  pub step-Cut : (s : State) → StepCut (step limits s) (step wide s)
   unfolding step
   step-Cut s = step_in-Cut s.frames s.top s.cursor
 

@@ -19,12 +19,12 @@ cut-limit _ _ (here why q s is) reason place e = let same : why ≡ reason = cc 
 cut-limit _ _ (later item r s cut) reason place e = cut-limit r s cut reason place e
 
 -- and so it ends
-cut-ends : (r s : Reading) → IsCut r s → (reason : Reason) × (place : ℕ) × IsLimit reason × (ending_of r ≡ Stopped reason place)
+pub cut-ends : (r s : Reading) → IsCut r s → (reason : Reason) × (place : ℕ) × IsLimit reason × (ending_of r ≡ Stopped reason place)
 cut-ends _ _ (here why q s is) = (why, q, is, refl)
 cut-ends _ _ (later item r s cut) = cut-ends r s cut
 
 -- limits that allow the bytes, and whatever these limits do
-abbrev wider : Limits → List ℕ → Limits
+abbrev pub wider : Limits → List ℕ → Limits
 wider limits bytes = record { depth = limits.depth + length bytes; scalar = limits.scalar + 16 * length bytes; symbols = 0; value = 0; input = 0 }
 
 pub rightly_refused : Bodies → Shrinking → RightlyRefused

@@ -26,7 +26,7 @@ usual = record { depth = 64; scalar = 1048576; symbols = 1048576; value = 167772
 abbrev shallow : Limits
 shallow = record { depth = 1; scalar = 2; symbols = 1048576; value = 16777216; input = 281474976710656 }
 
-unfoldable read : Limits → List ℕ → Reading
+unfoldable pub read : Limits → List ℕ → Reading
 unfolding octet_at var_at var_uint_at length_at shape_of marker_at bare_at nop_pad_at body_at scalar_at begin_at container_at sorted_at read_by_descriptor typed_value_at wrapper_at ids_at plain_at inner_at annotated_at value_at member_at step reading scalar_of_body decimal_of_bytes var_cut fields_cut timestamp_of_bytes local_of is_utf8 chars encode
 read limits bytes = reading limits bytes
 

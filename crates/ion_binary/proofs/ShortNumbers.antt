@@ -8,16 +8,15 @@ use Rattle.std.proofs.lemmas.Result.{IfOk-at_ok}
 use Rattle.std.proofs.lemmas.Nat.{pow-add}
 use Rattle.std.proofs.Math.Nat.{mul-le-mul_right, pow-le-pow_right}
 use Rattle.ion_meter.specs.declared.fault.Reason.{Reason}
-use Rattle.ion_meter.specs.declared.fault.Reason.TheVariants.{BadTimestamp, BadToken, Float, Range}
-use Rattle.ion_meter.specs.declared.limits.Limits.{Limits}
+use Rattle.ion_meter.specs.declared.fault.Reason.TheVariants.{BadToken, Float}
 use Rattle.ion_value.specs.declared.decimal.Decimal.{Decimal}
 use Rattle.ion_value.specs.declared.timestamp.Precision.{Precision}
 use Rattle.ion_value.specs.declared.timestamp.Precision.TheVariants.{Year, Month, Day, Minute, Second, Fraction}
 use Rattle.ion_value.specs.declared.timestamp.Timestamp.{Timestamp}
 use Rattle.ion_value.specs.Decimal.{IsDecimal, Parts, decimal_body, decimal_in_range, decimal_of_parts, decimal_of_text, exponent_octets, fraction_digits, is_decimal, is_float, is_nothing, is_point, is_exponent_mark, parts_of, power_value}
 use Rattle.ion_value.specs.Digits.{cut_at, digit_value, digits_value, has_minus, is_digit, without_minus}
-use Rattle.ion_value.specs.Number.{coefficient_octets, number, var_int_octets}
-use Rattle.ion_value.specs.Timestamp.{IsTimestamp, KeepsPrecision, date_in_range, fields, has_offset_shape, has_seconds_shape, is_moment, is_offset_mark, is_text_offset, looks_like, offset_of_text, precision_of_seconds, second_precision, time_in_range, time_of_parts, time_of_text, timestamp_body, timestamp_of_text, utc_of, with_utc, digits_at}
+use Rattle.ion_value.specs.Number.{coefficient_octets, var_int_octets}
+use Rattle.ion_value.specs.Timestamp.{IsTimestamp, KeepsPrecision, date_in_range, fields, has_offset_shape, has_seconds_shape, is_moment, is_offset_mark, is_text_offset, looks_like, offset_of_text, precision_of_seconds, second_precision, time_of_parts, timestamp_body, timestamp_of_text, utc_of, with_utc, digits_at}
 use Rattle.ion_value.specs.TimestampFields.{whole_octets}
 use Rattle.ion_value.proofs.DecimalOctets.{decimal_in_range-Made, exponent_octets-short}
 use Rattle.ion_value.proofs.Numbers.{number-lt}

@@ -50,10 +50,10 @@ pub record Wraps (limits : Limits) (q : ℕ) (annotations : List SymbolAt) (n : 
       → annotated_at limits frames top f q length_code (cursor_at (q + 1) (more ++ rest)) ≡ inner_at limits frames top f annotations (q + length w + n) (cursor_at (q + length w) rest)
 
 -- a wrapper's length is 3 or more
-wrapper_shape-long : (length_code : ℕ) → length_code < 15 → 3 ≤ length_code → shape_by 14 length_code ≡ wrapper length_code
+pub wrapper_shape-long : (length_code : ℕ) → length_code < 15 → 3 ≤ length_code → shape_by 14 length_code ≡ wrapper length_code
 wrapper_shape-long length_code small long = rw (ne_eqb length_code 15 (omega arith)) (rw (ne_eqb length_code 0 (omega arith), le-ltb length_code 3 long) refl)
 
-kept-long : (length_code all : ℕ) (more : List ℕ) → ((length_code ≡ all) × (more ≡ [])) ⊎ (length_code ≡ 14) → 3 ≤ all → 3 ≤ length_code
+pub kept-long : (length_code all : ℕ) (more : List ℕ) → ((length_code ≡ all) × (more ≡ [])) ⊎ (length_code ≡ 14) → 3 ≤ all → 3 ≤ length_code
 kept-long length_code all more (inl kept) long = omega (arith, kept.0)
 kept-long length_code all more (inr kept) long = omega arith
 

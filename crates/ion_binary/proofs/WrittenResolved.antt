@@ -1,5 +1,5 @@
 -- The declarations of what is written are accepted, and the ids stand in their tables.
-use Rattle.std.proofs.Common.{◌≡◌, ℕ, suc, ◌+◌, ◌*◌, ◌^◌, ◌<◌, ◌≤◌, Bool, true, false, inl, inr, List, [], ◌∷◌, ◌++◌, length, drop, map, Option, Some, None, Ok, option_map, IsUtf8, refl, ap, sym, ◌∙◌, subst, append_assoc, append-nil, arith, codes}
+use Rattle.std.proofs.Common.{◌≡◌, ℕ, suc, ◌+◌, ◌^◌, ◌<◌, ◌≤◌, Bool, true, false, inl, inr, List, [], ◌∷◌, ◌++◌, length, drop, map, Option, Some, None, Ok, IsUtf8, refl, ap, sym, ◌∙◌, subst, append_assoc, append-nil, arith}
 use Rattle.std.specs.List.{AllByRecursion}
 use Rattle.std.proofs.Math.Seq.{drop-append_seam}
 use Rattle.ion_meter.specs.declared.limits.Limits.{Limits}
@@ -15,7 +15,7 @@ use Rattle.ion_symbols.specs.Table.{Slot, Shared, Table, system, slot_of, text_o
 use Rattle.ion_symbols.specs.Tree.{declared, declares_table}
 use Rattle.ion_symbols.specs.UserValues.{IsUser}
 use Rattle.ion_symbols.proofs.OtherSymbols.{value_symbols-map}
-use Rattle.ion_binary.specs.Grammar.{Bin, Stream, Tops}
+use Rattle.ion_binary.specs.Grammar.{Stream, Tops}
 use Rattle.ion_binary.specs.Laws.{Bodies}
 use Rattle.ion_binary.specs.Canonical.{binary, declaration, id_in, is_over, marker_if, marker_octets, member_octets, octets_behind, texts_kept, tree_octets, value_octets, with_symbols}
 use Rattle.ion_binary.specs.Refusals.{AreWithin}

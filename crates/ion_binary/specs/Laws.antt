@@ -1,5 +1,5 @@
 -- What is true of the grammar and the reading: laws that contracts cite.
-use Rattle.std.specs.Prelude.{◌≡◌, ◌≢◌, ℕ, ◌+◌, ◌*◌, ◌<◌, ◌≤◌, ◌⊎◌, List, [], ◌++◌, length, Option, Ok}
+use Rattle.std.specs.Prelude.{◌≡◌, ◌≢◌, ℕ, ◌+◌, ◌*◌, ◌<◌, ◌≤◌, ◌⊎◌, List, [], ◌∷◌, ◌++◌, length, Option, Ok, ⊤}
 use Rattle.std.specs.List.{AllByRecursion}
 use Rattle.ion_meter.specs.declared.fault.Reason.{Reason}
 use Rattle.ion_meter.specs.declared.fault.Reason.TheVariants.{Truncated, DepthLimit, ScalarLimit, AnnotationLimit}
@@ -16,7 +16,7 @@ use Rattle.ion_value.specs.Writable.{AreBytes, IsRaw}
 use Rattle.ion_binary.specs.Bodies.{IsBodyTypeCode}
 use Rattle.ion_binary.specs.Grammar.{Descriptor, Body, Ids, Header, Annotated, Tops, Stream}
 use Rattle.ion_binary.specs.Paths.{FieldIn, IsPath, At, Follows}
-use Rattle.ion_binary.specs.Positions.{State}
+use Rattle.ion_binary.specs.Positions.{Frame, State}
 use Rattle.ion_binary.specs.Reading.{step, size, reading}
 
 -- the bodies that the grammar has are read, each to its value, and no others are
@@ -99,8 +99,14 @@ NoStreamBegins =
     → ending_of (reading limits bytes) ≡ Stopped reason place → (IsLimit reason → ⊥) → reason ≢ Truncated
     → Stream (bytes ++ more) ts → ⊥
 
--- these octets stand next at a state, at a place: behind the field of a member, where it has one
+-- a place is before the end of the innermost open container
+abbrev pub IsBefore : List Frame → ℕ → Type 0
+IsBefore [] place = ⊤
+IsBefore (frame ∷ frames) place = place < frame.end
+
+-- these octets stand next at a state, at a place: no container ends there, and they are behind the field of a member, where it has one
 pub record StandNext (s : State) (place : ℕ) (x : List ℕ) : Type 0 where
+  pub inside : IsBefore s.frames s.cursor.place
   pub field : Option SymbolAt
   pub name : List ℕ
   pub rest : List ℕ
@@ -118,7 +124,8 @@ pub record BeginNext (s : State) (place : ℕ) (x : List ℕ) : Type 0 where
   pub before : Annotated first annotations n wrapper
   pub place_is : place ≡ first + length wrapper
 
--- an annotation of the next wrapper, behind others: the first with which they cost more than the limit
+-- an annotation of the next wrapper, behind others, within the length of its ids, behind which it has room for a value: the first with which they
+-- cost more than the limit, each counting 16
 pub record PassesLimit (limits : Limits) (s : State) (place : ℕ) : Type 0 where
   pub first : ℕ
   pub size : ℕ
@@ -132,6 +139,8 @@ pub record PassesLimit (limits : Limits) (s : State) (place : ℕ) : Type 0 wher
   pub stands : StandNext s first (((head ++ len) ++ ids) ++ octets)
   pub descriptor : Descriptor 14 size head
   pub ids_length : VarUInt ids_size len
+  pub some_rest : length len + ids_size < size
+  pub in_ids : length ids + length octets ≤ ids_size
   pub before : Ids (first + length (head ++ len)) annotations ids
   pub spells : VarUInt id octets
   pub place_is : place ≡ first + length ((head ++ len) ++ ids)
@@ -168,3 +177,10 @@ WithinLimitsAreRead =
     (limits : Limits) (bytes : List ℕ) (tops : List (Top SymbolAt ℕ)) → Stream bytes tops
     → ((path : Path SymbolAt ℕ) (s : State) (reason : Reason) (place : ℕ) → At bytes path s → Passes limits s place reason → ⊥)
     → reading limits bytes ≡ behind (path_items (closed tops)) Finished
+
+-- and one that passes a limit at some place is not: its reading stops at a limit
+abbrev pub PassedLimitsStop : Type 0
+PassedLimitsStop =
+    (limits : Limits) (bytes : List ℕ) (tops : List (Top SymbolAt ℕ)) (path : Path SymbolAt ℕ) (s : State) (reason : Reason) (place : ℕ)
+    → Stream bytes tops → At bytes path s → Passes limits s place reason
+    → (why : Reason) × (stop : ℕ) × (ending_of (reading limits bytes) ≡ Stopped why stop) × IsLimit why

@@ -1,6 +1,6 @@
 //! Laws of the grammar and the reading of the binary form, each the contract of a function that
 //! does nothing.
-ghost use Rattle.ion_binary.specs.Laws.{Bodies, Complete, EachStepFalls, EachStepFollows, ExactLimits, Narrow, NoStreamBegins, OnePath, OneStream, RightlyRefused, Sound, Stable, StreamsAreRaw, StreamsAreRead, WithinLimitsAreRead};
+ghost use Rattle.ion_binary.specs.Laws.{Bodies, Complete, EachStepFalls, EachStepFollows, ExactLimits, Narrow, NoStreamBegins, OnePath, OneStream, PassedLimitsStop, RightlyRefused, Sound, Stable, StreamsAreRaw, StreamsAreRead, WithinLimitsAreRead};
 ghost use Rattle.ion_binary.specs.WritingLaws.{ClosedSizeIsThatOfTheClosing, IdsAreGiven, ItemsAddTheirOctets, ItemsPutTheForm, OpenItemsPutWhatIsWhole, RefusedItemsAddNothing};
 ghost use Rattle.ion_binary.specs.Refusals.{ItemsAreRefusedAsInTrees, NoneIsRefusedWithin};
 ghost use Rattle.ion_binary.specs.Held.{WhatIsHeldMoves};
@@ -91,6 +91,11 @@ pub fn limits_are_exact()
 /// A stream that passes no limit at any place is read to its end.
 pub fn streams_within_limits_are_read()
     ensures { WithinLimitsAreRead }
+{}
+
+/// A stream that passes a limit at some place is not: its reading stops at a limit.
+pub fn passed_limits_stop()
+    ensures { PassedLimitsStop }
 {}
 
 /// The items of whole values put the canonical form of the values, whatever the limit of symbol

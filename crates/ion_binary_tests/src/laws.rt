@@ -6,10 +6,10 @@ use ion_binary::laws::{
     each_step_follows, headers_are_shortest, ids_are_given, items_add_their_octets,
     items_are_refused_as_in_trees, items_put_the_form, limits_are_exact, limits_only_cut_short,
     no_stream_begins, none_is_refused_within, numbers_fit, numbers_in_text_fit, one_path,
-    one_stream, open_items_put_what_is_whole, refusals_are_stable, refused_items_add_nothing,
-    rightly_refused, streams_are_raw, streams_are_read, streams_within_limits_are_read,
-    texts_within_fit, the_form_is_read, values_are_spelled, what_is_held_moves,
-    what_is_read_is_spelled, what_is_spelled_is_read, what_is_within_is_short,
+    one_stream, open_items_put_what_is_whole, passed_limits_stop, refusals_are_stable,
+    refused_items_add_nothing, rightly_refused, streams_are_raw, streams_are_read,
+    streams_within_limits_are_read, texts_within_fit, the_form_is_read, values_are_spelled,
+    what_is_held_moves, what_is_read_is_spelled, what_is_spelled_is_read, what_is_within_is_short,
     what_is_written_is_resolved, what_is_written_is_within_limits, written_declarations_are_read,
 };
 
@@ -30,6 +30,7 @@ fn states_laws() {
     no_stream_begins();
     limits_are_exact();
     streams_within_limits_are_read();
+    passed_limits_stop();
     items_put_the_form();
     open_items_put_what_is_whole();
     items_add_their_octets();

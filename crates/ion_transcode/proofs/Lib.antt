@@ -26,7 +26,7 @@ mod ValuesAreSpelled
 mod TextOfValuesIsRead
 mod TextWithoutPlaces
 mod ReadAgain
-mod ShortRuns
+mod NoneRefused
 mod Accepted
 mod ReadWhole
 mod OpenContainers

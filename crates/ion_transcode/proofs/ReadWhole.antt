@@ -30,7 +30,7 @@ use Rattle.ion_transcode.specs.Outputs.{Outputs, outputs_of, resolved}
 use Rattle.ion_transcode.specs.UserPaths.{FaultlessPathsAreRead}
 use Rattle.ion_transcode.specs.Verdict.{Faultless, HasVerdictFrom, whole, refused, HasVerdictAs}
 use Rattle.ion_transcode.proofs.Faultless.{raw_in, user-step, faultless-prefixes}
-use Rattle.ion_transcode.proofs.ShortRuns.{within}
+use Rattle.ion_transcode.proofs.NoneRefused.{within}
 
 -- ---- by an encoding that is sound
 

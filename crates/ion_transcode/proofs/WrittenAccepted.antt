@@ -32,17 +32,9 @@ use Rattle.ion_transcode.specs.Forms.{encoding_of, form_of, reading_of}
 use Rattle.ion_transcode.specs.Outputs.{outputs_of, resolved}
 use Rattle.ion_transcode.specs.Verdict.{HasVerdict}
 use Rattle.ion_transcode.specs.WrittenAgain.{WrittenBinaryIsAccepted}
-use Rattle.ion_transcode.proofs.ReadAgain.{same-length}
+use Rattle.ion_transcode.proofs.ReadAgain.{same-length, of-text}
 use Rattle.ion_transcode.proofs.TextWithoutPlaces.{same-text}
 use Rattle.ion_transcode.proofs.WrittenFits.{users-of-read-fit}
-
--- binary is written of text alone
-of-text : (f : Form) (asked : To) → resolved f asked ≡ Some target.Binary → f ≡ form.Text
-of-text form.Text asked e = refl
-of-text form.Binary to.Text e = absurd (cc e)
-of-text form.Binary to.Binary e = absurd (cc e)
-of-text form.Binary to.Nothing e = absurd (cc e)
-of-text form.Binary to.Other e = absurd (cc e)
 
 -- what is asked for of binary, and comes to this target
 module _ (accepted : WhatIsReadIsAccepted) (other : List Shared) (limits : Limits) (us : List (Top UserSymbol ℕ)) (r : IsRead other limits.symbols us)

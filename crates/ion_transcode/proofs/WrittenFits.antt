@@ -1,15 +1,11 @@
 -- The user values of a text that was read under limits fit them in binary too.
-use Rattle.std.proofs.Common.{◌≡◌, inl, inr, ℕ, suc, ◌*◌, ◌≤◌, sum_by, List, [], ◌∷◌, length, map, Option, None, Some, Ok, IfSome, option_map, subst, arith}
+use Rattle.std.proofs.Common.{◌≡◌, inl, inr, ℕ, suc, ◌*◌, ◌≤◌, sum_by, List, [], ◌∷◌, length, map, Option, None, Some, IfSome, option_map, subst, arith}
 use Rattle.std.specs.List.{AllByRecursion}
 use Rattle.std.specs.Bool.{⊤}
 use Rattle.std.proofs.lemmas.List.Sums.{sum_by-cons}
 use Rattle.ion_meter.specs.declared.limits.Limits.{Limits}
-use Rattle.ion_value.specs.declared.decimal.Decimal.{Decimal}
 use Rattle.ion_value.specs.declared.ion_type.Kind.{Kind}
-use Rattle.ion_value.specs.declared.timestamp.Timestamp.{Timestamp}
-use Rattle.ion_value.specs.Decimal.{IsDecimal, decimal_body, decimal_of_text}
 use Rattle.ion_value.specs.Standing.{InRange}
-use Rattle.ion_value.specs.Timestamp.{IsTimestamp, timestamp_body, timestamp_of_text}
 use Rattle.ion_value.specs.Value as value
 use Rattle.ion_value.specs.Value.{Symbol, SymbolAt, UserSymbol, Known, Unknown, Scalar, Value, Members, scalar, container, nothing, member, Top, version, tree, map_scalar, map_value, map_members}
 use Rattle.ion_value.specs.Writable.{IsWritable, AreWritable, IsRaw, value_symbols}

@@ -46,7 +46,7 @@ WhatIsReadIsAccepted =
     → AreResolved catalog limits.symbols system tops → user_tops catalog system tops ≡ Some us → AreTaken target limits us
     → HasVerdict catalog limits to bytes (Accepted (length us)) ((outputs_of target limits).whole_output us)
 
--- so is a stream of the grammar of its form that passes no limit
+-- so is a stream of the grammar of its form that passes no limit, has its symbols resolved, and values of which the writer refuses nothing
 abbrev pub GoodStreamsAreAccepted : Type 0
 GoodStreamsAreAccepted =
     (catalog : List Shared) (limits : Limits) (to : To) (bytes : List ℕ) (target : Target) (tops : List (Top SymbolAt ℕ)) (us : List (Top UserSymbol ℕ))

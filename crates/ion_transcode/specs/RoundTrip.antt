@@ -14,8 +14,11 @@ use Rattle.ion_text_in.specs.Grammar as text_grammar
 use Rattle.ion_text_out.specs.Text.{text}
 use Rattle.ion_transcode.specs.declared.to.Form.{Form}
 use Rattle.ion_transcode.specs.declared.to.Form.TheVariants as form
+use Rattle.ion_transcode.specs.declared.to.Target.TheVariants as target
+use Rattle.ion_transcode.specs.declared.to.To.{To}
 use Rattle.ion_transcode.specs.declared.to.To.TheVariants as to
 use Rattle.ion_transcode.specs.Forms.{encoding_of, form_of}
+use Rattle.ion_transcode.specs.Outputs.{resolved}
 use Rattle.ion_transcode.specs.Verdict.{HasVerdict}
 
 -- ---- values
@@ -56,15 +59,29 @@ RoundTrip =
 -- their catalogues and their limits are
 abbrev pub ShowOnce : Type 0
 ShowOnce =
-    (catalog other : List Shared) (limits wide : Limits) (bytes shown again : List ℕ) (n m : ℕ)
-    → AreBytes bytes → CatalogIsText catalog → HasVerdict catalog limits to.Text bytes (Accepted n) shown
+    (catalog other : List Shared) (limits wide : Limits) (asked : To) (bytes shown again : List ℕ) (n m : ℕ)
+    → AreBytes bytes → CatalogIsText catalog → resolved (form_of bytes) asked ≡ Some target.Text
+    → HasVerdict catalog limits asked bytes (Accepted n) shown
     → HasVerdict other wide to.Text shown (Accepted m) again → (again ≡ shown) × (m ≡ n)
 
--- a run to text over the binary that was written of a text writes the same bytes as a run to text over that text, and all three
--- count as many values, where they are accepted: whatever their limits are, and the catalogue by which the binary is read
+-- of a text with these user values: what was shown back is their canonical text, and counts as many values; a run to text over the
+-- text itself is accepted under these limits, and shows the same; and so does each that is accepted, whatever its limits are
+pub record IsShownBack (catalog : List Shared) (limits : Limits) (bytes back : List ℕ) (n m : ℕ) : Type 0 where
+  pub tops : List (Top SymbolAt ℕ)
+  pub us : List (Top UserSymbol ℕ)
+  pub stream : text_grammar.Stream bytes tops
+  pub users_are : user_tops catalog system tops ≡ Some us
+  pub output : back ≡ text us
+  pub count : m ≡ n
+  pub shown : HasVerdict catalog limits to.Text bytes (Accepted n) (text us)
+  pub shown_by : (most : Limits) (out : List ℕ) (k : ℕ) → HasVerdict catalog most to.Text bytes (Accepted k) out
+      → (out ≡ back) × (k ≡ n)
+
+-- so it is where a run to binary accepts a text, and a run to text accepts what it wrote: whatever the limits of the second are,
+-- and the catalogue by which the binary is read
 abbrev pub ThereAndBack : Type 0
 ThereAndBack =
-    (catalog other : List Shared) (limits wide most : Limits) (bytes written back shown : List ℕ) (n m k : ℕ)
-    → CatalogIsText catalog → AreChecked limits → form_of bytes ≡ form.Text
-    → HasVerdict catalog limits to.Binary bytes (Accepted n) written → HasVerdict other wide to.Text written (Accepted m) back
-    → HasVerdict catalog most to.Text bytes (Accepted k) shown → (back ≡ shown) × ((m ≡ n) × (k ≡ n))
+    (catalog other : List Shared) (limits wide : Limits) (asked shown : To) (bytes written back : List ℕ) (n m : ℕ)
+    → CatalogIsText catalog → AreChecked limits → resolved (form_of bytes) asked ≡ Some target.Binary
+    → HasVerdict catalog limits asked bytes (Accepted n) written → resolved (form_of written) shown ≡ Some target.Text
+    → HasVerdict other wide shown written (Accepted m) back → IsShownBack catalog limits bytes back n m

@@ -222,28 +222,27 @@ pub fn round_trip()
 pub fn show_once()
     ensures { ShowOnce }
 {
+    what_is_accepted_is_read();
     values_of_streams();
     text_is_read();
     text::one_stream();
 }
 
 /// To convert a text and show the binary is to show the text: a run to text over the binary that was
-/// written of a text writes what a run to text over that text does, and counts as many values, where
-/// all three are accepted.
+/// written of a text writes the canonical text of its values, where both runs are accepted, and counts
+/// as many. A run to text over the text itself is then accepted under the first run's limits, and
+/// each that is accepted, under whatever limits, writes the same.
 pub fn there_and_back()
     ensures { ThereAndBack }
 {
+    what_is_accepted_is_read();
+    what_is_read_is_accepted();
     users_of_raw_values();
     text::streams_are_raw();
     binary::the_form_is_read();
-    text_is_spelled_once();
-    binary_is_spelled_once();
-    text_is_sound();
-    users_are_read();
-    faultless_paths_are_read();
-    binary::items_are_refused_as_in_trees();
-    binary::none_is_refused_within();
     binary::what_is_within_is_short();
+    binary_is_spelled_once();
+    text::one_stream();
 }
 
 /// What is read to its end, and has its symbols resolved, and values of which the writer refuses
@@ -259,7 +258,8 @@ pub fn what_is_read_is_accepted()
     binary::items_put_the_form();
 }
 
-/// So is each stream of the grammar of its form that passes no limit.
+/// So is each stream of the grammar of its form that passes no limit, has its symbols resolved, and
+/// values of which the writer refuses nothing.
 pub fn good_streams_are_accepted()
     ensures { GoodStreamsAreAccepted }
 {
@@ -289,9 +289,9 @@ pub fn what_is_read_is_no_deeper()
     ensures { WhatIsReadIsNoDeeper }
 {}
 
-/// The canonical text of values is read to its end under limits that the values fit, and its
-/// symbols are all resolved: of all values that a user of a stream can have. No number and no
-/// timestamp has more than 64 bytes.
+/// The canonical text of values is read to its end under limits that the values fit, where the limit
+/// on scalars is 64 or more, and its symbols are all resolved: of all values that a user of a stream
+/// can have. No number and no timestamp has more than 64 bytes.
 pub fn text_is_read_within()
     ensures { TextIsReadWithin }
 {
@@ -313,7 +313,8 @@ pub fn text_is_read_within()
 }
 
 /// What a run to text wrote is accepted, where its values fit the limits, and a run to text over it
-/// writes the same bytes. Only texts, lobs and annotations may be too long.
+/// writes the same bytes. Where depth is no lower and the limit on scalars is 64 or more, only texts,
+/// lobs and annotations may be too long.
 pub fn what_is_shown_is_accepted()
     ensures { WhatIsShownIsAccepted }
 {
@@ -326,7 +327,8 @@ pub fn what_is_shown_is_accepted()
 }
 
 /// Where a run to binary accepts a text, a run over what it wrote accepts that too, under the same
-/// limits and whatever the catalogue, and writes what a run to text over the text does.
+/// limits and whatever the catalogue, and writes what a run to text over the text does: under checked
+/// limits that allow a declaration and its texts.
 pub fn written_binary_is_accepted()
     ensures { WrittenBinaryIsAccepted }
 {

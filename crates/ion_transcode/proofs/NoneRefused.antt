@@ -1,6 +1,5 @@
--- Where a run to binary accepts a text, no item was refused, and so its values are as short as its limits allow.
+-- Where a run to binary accepts a text, no item was refused, and so its values are within its limits.
 use Rattle.std.proofs.Common.{◌≡◌, ◌⊎◌, inl, inr, ℕ, List, [], ◌∷◌, ◌++◌, None, Some, refl, ap, ap₂, sym, ◌∙◌, subst}
-use Rattle.ion_meter.specs.Limits.{AreChecked}
 use Rattle.ion_meter.specs.declared.limits.Limits.{Limits}
 use Rattle.ion_value.specs.Outcome.{Verdict, Accepted}
 use Rattle.ion_value.specs.Path.{Path, closed, path_items}
@@ -11,28 +10,18 @@ use Rattle.ion_symbols.specs.Table.{Shared, system}
 use Rattle.ion_symbols.specs.Tree.{user_tops}
 use Rattle.ion_symbols.specs.Users as users
 use Rattle.ion_binary.specs.Refusals.{refused_behind, ItemsAreRefusedAsInTrees, NoneIsRefused, AreWithin, NoneIsRefusedWithin}
-use Rattle.ion_binary.specs.Spelling.{AreShort, WhatIsWithinIsShort}
 use Rattle.ion_binary.specs.Writing.{binary_refusal}
 use Rattle.ion_text_in.specs.Laws.{OneStream}
-use Rattle.ion_transcode.specs.declared.to.Form.{Form}
 use Rattle.ion_transcode.specs.declared.to.Form.TheVariants as form
-use Rattle.ion_transcode.specs.declared.to.To.TheVariants as to
 use Rattle.ion_transcode.specs.declared.to.Target.TheVariants as target
 use Rattle.ion_transcode.specs.Encoding.{Encoding, Follows}
-use Rattle.ion_transcode.specs.Forms.{form_of, text_encoding}
+use Rattle.ion_transcode.specs.Forms.{text_encoding}
 use Rattle.ion_transcode.specs.Laws.{TextIsSound}
-use Rattle.ion_transcode.specs.Outputs.{to_binary, resolved}
+use Rattle.ion_transcode.specs.Outputs.{to_binary}
 use Rattle.ion_transcode.specs.UserPaths.{FaultlessPathsAreRead}
-use Rattle.ion_transcode.specs.Verdict.{Faultless, nothing, goes_on, taken_in, user, HasVerdict, HasVerdictAs, HasVerdictFrom, whole, refused}
+use Rattle.ion_transcode.specs.Verdict.{Faultless, nothing, goes_on, taken_in, user, HasVerdictFrom, whole, refused}
 use Rattle.ion_transcode.proofs.Agreeing.{path-is, with-next}
 use Rattle.ion_transcode.proofs.Faultless.{faultless-prefixes, faultless-tops}
-
-abbrev pub ShortRuns : Type 0
-ShortRuns =
-    (catalog : List Shared) (limits : Limits) (bytes written : List ℕ) (n : ℕ) (tops : List (Top SymbolAt ℕ))
-    (us : List (Top UserSymbol ℕ)) → AreChecked limits → form_of bytes ≡ form.Text
-    → HasVerdict catalog limits to.Binary bytes (Accepted n) written
-    → text_encoding.Stream bytes tops → user_tops catalog system tops ≡ Some us → AreShort limits.symbols [] us
 
 -- ---- one item more
 
@@ -150,11 +139,3 @@ module _ (sound : TextIsSound) (along : FaultlessPathsAreRead) (trees : ItemsAre
       (law limits mine us (read.2 ∙ ap top_items found)).0 (none-refused (top_items others) mine s u fine)
   within users_read law one v written n is (refused path mine s u reason place at faultless fault) tops us st users =
       absurd (cc is)
-
-pub short-runs : TextIsSound → UsersAreRead → FaultlessPathsAreRead → ItemsAreRefusedAsInTrees → NoneIsRefusedWithin
-    → WhatIsWithinIsShort → OneStream → ShortRuns
-short-runs sound users_read along trees law short one catalog limits bytes written n tops us checked is_text verdict stream are =
-    let as_text : HasVerdictAs (resolved form.Text to.Binary) form.Text catalog limits bytes (Accepted n) written =
-    subst (λ (f : Form). HasVerdictAs (resolved f to.Binary) f catalog limits bytes (Accepted n) written) is_text verdict in
-    short limits us checked
-    (within sound along trees catalog limits bytes users_read law one (Accepted n) written n refl as_text tops us stream are)

@@ -11,7 +11,7 @@ use std::test::Fail;
 mod devices;
 mod growing;
 mod heap;
-mod refusing;
+pub(crate) mod refusing;
 mod shapes;
 mod std_devices;
 mod windows;
@@ -66,14 +66,14 @@ fn refuse_each(rt: &impl Abort, alloc: Global, script: Script) -> u64 {
 
 /// What a meter counts.
 #[derive(Clone, Copy, Debug, PartialEq, Eq)]
-struct Counted {
-    held: u64,
-    peak: u64,
-    refused: u64,
+pub(crate) struct Counted {
+    pub(crate) held: u64,
+    pub(crate) peak: u64,
+    pub(crate) refused: u64,
 }
 
 /// What is counted. It is asserted to be little, which a call that grows requires.
-fn counts_of<A: Allocator + Copy>(rt: &impl Abort, meter: &Meter<A>) -> Counted
+pub(crate) fn counts_of<A: Allocator + Copy>(rt: &impl Abort, meter: &Meter<A>) -> Counted
     ensures held { meter.now.held < 2 ^ 32 }
     ensures refused { meter.now.refused < 2 ^ 32 }
     ensures same_refused { result.refused ≡ meter.now.refused }
@@ -89,7 +89,7 @@ fn counts_of<A: Allocator + Copy>(rt: &impl Abort, meter: &Meter<A>) -> Counted
 }
 
 /// Asserts that a refusal was counted since then, and nothing else.
-fn is_refused<A: Allocator + Copy>(rt: &impl Abort, meter: &Meter<A>, before: Counted)
+pub(crate) fn is_refused<A: Allocator + Copy>(rt: &impl Abort, meter: &Meter<A>, before: Counted)
     requires { before.refused < 2 ^ 32 }
 {
     let after = Counted {

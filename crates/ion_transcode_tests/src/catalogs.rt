@@ -2,7 +2,6 @@
 
 use super::devices::Giving;
 use super::hex::behind_marker;
-use super::refusing::Refusing;
 use super::runs::LIMITS;
 use ion_meter::fault::{Fault, Reason};
 use ion_meter::limits::Limits;
@@ -218,34 +217,4 @@ fn faults(rt: HostRuntime) -> Result<(), Fail> {
         Some(Fault::ReadFault)
     );
     Ok(())
-}
-
-// The first growth is refused, then the second alone, and so on until none is.
-#[test]
-fn each_growth_refused(rt: HostRuntime) -> Result<(), Fail> {
-    let alloc = rt.alloc();
-    for nth in 1..100 {
-        let refusing = Refusing::new(alloc, nth);
-        let mut meter = Meter::new(&refusing);
-        let input = FromRead::new(NAME_FIRST.as_bytes());
-        let (outcome, _input) = load_catalog(&mut meter, LIMITS, input);
-        assert!(rt; meter.peak() <= bound(LIMITS, Form::Text, To::Nothing) + LIMITS.symbols);
-        match outcome {
-            Ok(catalog) => {
-                assert!(rt; !refusing.has_refused());
-                assert_eq!(rt; meter.refused(), 0);
-                assert!(rt; nth > 5);
-                assert_eq!(rt; meter.held(), COST);
-                catalog.release(&mut meter);
-                return Ok(());
-            }
-            Err(fault) => {
-                assert_eq!(rt; fault, Fault::Memory);
-                assert!(rt; refusing.has_refused());
-                assert_eq!(rt; meter.refused(), 1);
-                assert_eq!(rt; meter.held(), 0);
-            }
-        }
-    }
-    panic!(rt; "each run met a refusal")
 }

@@ -24,3 +24,13 @@ fn octets_behind(rt: &impl Abort, mut octets: Vec<u8>, text: &str) -> Result<Vec
     }
     Ok(octets)
 }
+
+/// Adds the octets of a text.
+pub fn add(rt: &impl Abort, octets: &mut Vec<u8>, text: &str) {
+    for digits in text.split_whitespace() {
+        let Ok(octet) = u8::from_str_radix(digits, 16) else {
+            panic!(rt; "no octet")
+        };
+        assert!(rt; octets.push(octet).is_ok());
+    }
+}

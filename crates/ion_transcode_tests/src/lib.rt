@@ -10,6 +10,14 @@ mod catalogs;
 #[cfg(test)]
 mod devices;
 #[cfg(test)]
+mod failing_devices;
+#[cfg(test)]
+mod growth_rows;
+#[cfg(test)]
+mod growths;
+#[cfg(test)]
+mod heaps;
+#[cfg(test)]
 mod hex;
 #[cfg(test)]
 mod laws;
@@ -17,5 +25,7 @@ mod laws;
 mod refusing;
 #[cfg(test)]
 mod runs;
+#[cfg(test)]
+mod same;
 #[cfg(test)]
 mod to_binary;

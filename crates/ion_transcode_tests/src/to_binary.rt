@@ -174,10 +174,8 @@ fn limits_of_values(rt: HostRuntime) -> Result<(), Fail> {
     expect_value(&rt, alloc, 15, row)
 }
 
-// Twenty lists around 1,400 strings of 64 letters, of which one copy is held.
-#[test]
-fn one_value_is_held(rt: HostRuntime) -> Result<(), Fail> {
-    let alloc = rt.alloc();
+/// Twenty lists around 1,400 strings of 64 letters.
+pub fn nested_strings(alloc: Global) -> Result<Vec<u8>, Fail> {
     let mut input = Vec::from_slice(alloc, b"[[[[[[[[[[[[[[[[[[[[")?;
     for _ in 0..1_400 {
         input.extend_from_slice(
@@ -185,18 +183,28 @@ fn one_value_is_held(rt: HostRuntime) -> Result<(), Fail> {
         )?;
     }
     input.extend_from_slice(b"]]]]]]]]]]]]]]]]]]]]")?;
-    let limits = Limits {
-        depth: 32,
-        scalar: 64,
-        symbols: 64,
-        value: 100_000,
-        ..LIMITS
-    };
-    assert_eq!(rt; bound(limits, Form::Text, To::Binary), 109_600);
+    Ok(input)
+}
+
+/// Limits that they keep.
+pub const NESTED: Limits = Limits {
+    depth: 32,
+    scalar: 64,
+    symbols: 64,
+    value: 100_000,
+    input: 281_474_976_710_656,
+};
+
+// One copy of a value is held.
+#[test]
+fn one_value_is_held(rt: HostRuntime) -> Result<(), Fail> {
+    let alloc = rt.alloc();
+    let input = nested_strings(alloc)?;
+    assert_eq!(rt; bound(NESTED, Form::Text, To::Binary), 109_600);
     let (outcome, out) = answer(
         &rt,
         alloc,
-        limits,
+        NESTED,
         To::Binary,
         input.as_slice(),
         Vec::new(alloc),

@@ -1,4 +1,4 @@
-// A run in a heap of fixed size.
+// Windows and a buffer in a heap of fixed size.
 use super::devices::{has_more, sink_on, source_on};
 use super::{LIMITS, counts_of, many_bytes};
 use crate::same::same;
@@ -55,7 +55,7 @@ fn copy_all<I: Input, O: Output, A: Allocator + Copy>(
 }
 
 /// Copies these bytes by windows and a buffer of this allocator. In the end it holds nothing.
-fn run<A: Allocator + Copy>(rt: &impl Abort, inner: A, alloc: Global, text: &[u8]) {
+fn copy_in<A: Allocator + Copy>(rt: &impl Abort, inner: A, alloc: Global, text: &[u8]) {
     let mut meter = Meter::new(inner);
     let limits = Limits {
         input: 10_000,
@@ -73,10 +73,10 @@ fn run<A: Allocator + Copy>(rt: &impl Abort, inner: A, alloc: Global, text: &[u8
 }
 
 #[test]
-fn a_run_fits_into_a_heap(rt: HostRuntime) -> Result<(), Fail> {
+fn a_copy_fits_into_a_heap(rt: HostRuntime) -> Result<(), Fail> {
     let text = many_bytes(rt.alloc(), 10_000)?;
     let heap = LocalHeap::new(rt.alloc(), 65_536)?;
-    run(&rt, &heap, rt.alloc(), text.as_slice());
+    copy_in(&rt, &heap, rt.alloc(), text.as_slice());
     same(&rt, heap.used(), 0);
     Ok(())
 }

@@ -19,3 +19,5 @@ mod refusing;
 mod runs;
 #[cfg(test)]
 mod to_binary;
+#[cfg(test)]
+mod vectors;

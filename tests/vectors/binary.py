@@ -118,7 +118,7 @@ GREATEST = "7F 7F 7F 7F 7F 7F 7F 7F FF"
 UNENDED = "7F 7F 7F 7F 7F 7F 7F 7F"
 
 ENDINGS = [
-    ("A list may say that it has 2 to the power of 63 octets, and what there is of it is written.", "M BE 00 00 00 80",
+    ("A list may say that it has 9223372036854775807 octets, and what there is of it is written.", "M BE 00 00 00 80",
      f"M BE {GREATEST}"),
     ("It may not say so in more than nine octets.", "M BE 00 00 00 00 00 00 00 00 80", f"M BE {UNENDED} 7F"),
     ("A string that says so is refused by its length.", "M 8E 00 81 61", f"M 8E {GREATEST}"),

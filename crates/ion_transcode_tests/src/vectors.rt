@@ -1,8 +1,8 @@
-//! Sentences of the format, each with inputs that are accepted and that are refused, through whole runs: as they
-//! are, in whatever two pieces they come, a byte a read, cut short, and with one byte replaced.
+//! Sentences of the format, each with inputs that are accepted and that are refused, through whole
+//! runs: as they are, in two pieces cut at each place, a byte a read, cut short, and with a byte replaced.
 //!
-//! The tables are written by tests/vectors/make.py. What must come of an input is there taken from a program that
-//! shares nothing with the crates.
+//! The tables are written by tests/vectors/make.py. What must come of an input is there taken from a
+//! program that shares nothing with the crates.
 
 mod binary_containers;
 mod binary_heads;
@@ -33,9 +33,10 @@ use std::alloc::Global;
 use std::process::Abort;
 use std::test::Fail;
 
-/// An input; its verdict, which is how many values it has or a fault; what is written of it as text and as binary; the
-/// checksum over the answers to all mangled inputs; and a mark for each place: the checksum of the answers to the input
-/// cut short there and with each of `OTHERS` there, cut to a character.
+/// An input; its verdict, which is how many values it has or a fault; what is written of it as text
+/// and as binary; the checksum over the answers to all mangled inputs; and a mark for each place: the
+/// checksum of the answers to the input cut short there and with each of `OTHERS` there, cut to a
+/// character.
 pub type Vector = (
     &'static [u8],
     Result<u64, Fault>,
@@ -94,7 +95,7 @@ enum Beside<'a> {
 }
 
 /// What a run answers of a stream with a catalogue; where the catalogue is refused, its fault. All
-/// memory has to be given back, and no more be held at any moment than the bound.
+/// memory has to be given back.
 fn answer_with(
     rt: &impl Abort,
     alloc: Global,
@@ -283,7 +284,8 @@ fn symbol_sentences(rt: HostRuntime) -> Result<(), Fail> {
 /// Octets of a pad, and bytes of a comment.
 const OCTETS: [u8; 4_096] = [0xE0; 4_096];
 
-// 8,388,608 octets of a pad or of a comment are passed over; a scalar of so many is refused by its length.
+// 8,388,608 octets of a pad or of a comment are passed over; a scalar of so many is refused by its
+// length.
 #[test]
 fn long_inputs(rt: HostRuntime) {
     let limits = Limits {

@@ -6,7 +6,7 @@ use ion_meter::fault::Reason;
 
 pub const ROWS: &[Row] = &[
     (
-        "A list may say that it has 2 to the power of 63 octets, and what there is of it is written.",
+        "A list may say that it has 9223372036854775807 octets, and what there is of it is written.",
         &[
             (
                 b"\xE0\x01\x00\xEA\xBE\x00\x00\x00\x80",

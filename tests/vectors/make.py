@@ -211,7 +211,9 @@ def write_table(table, answers):
     rows = []
     for sentence, vectors in table.rows:
         written = []
-        for vector in vectors:
+        for nth, vector in enumerate(vectors):
+            if (answers[at].split(" ")[0] == "ok") != (nth == 0):
+                sys.exit(f"the first input, and no other, is accepted: {sentence}: {vector.octets!r}: {answers[at]}")
             count = sum(1 for _ in vector.lines())
             written.append(write_vector(vector, answers[at:at + count]))
             at += count

@@ -104,17 +104,19 @@ fn answer_with(
     to: To,
 ) -> Answer {
     assert!(rt; LIMITS.check());
-    let mut meter = Meter::new(alloc);
-    let (loaded, _input) = load_catalog(&mut meter, LIMITS, FromRead::new(catalogue));
+    let mut kept = Meter::new(alloc);
+    let (loaded, _input) = load_catalog(&mut kept, LIMITS, FromRead::new(catalogue));
     let catalog = match loaded {
         Ok(catalog) => catalog,
         Err(fault) => return (Err(fault), Vec::new(alloc)),
     };
+    let mut meter = Meter::new(alloc);
     let input = FromRead::new(stream);
     let output = ToWrite::new(Vec::new(alloc));
     let (outcome, _input, output) = run(&mut meter, &catalog, LIMITS, to, input, output);
-    catalog.release(&mut meter);
     assert_eq!(rt; meter.held(), 0);
+    catalog.release(&mut kept);
+    assert_eq!(rt; kept.held(), 0);
     (outcome, output.into_inner())
 }
 

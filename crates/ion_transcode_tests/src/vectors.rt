@@ -212,26 +212,25 @@ fn expect_mangled(
     sentence: &str,
     vector: &Vector,
     octets: &mut [u8],
-) -> Result<(), Fail> {
+) {
     let (_, _, _, _, whole, marks) = *vector;
     let mut places = SEED;
     for place in 0..octets.len() {
         let octet = octets[place];
-        let mut sums = Vec::new(alloc);
-        sums.push(sum_of(rt, alloc, beside, &octets[..place]))?;
-        for other in OTHERS {
-            octets[place] = other;
-            sums.push(sum_of(rt, alloc, beside, octets))?;
+        let mut sums = [0; 5];
+        sums[0] = sum_of(rt, alloc, beside, &octets[..place]);
+        for other in 0..OTHERS.len() {
+            octets[place] = OTHERS[other];
+            sums[other + 1] = sum_of(rt, alloc, beside, octets);
         }
         octets[place] = octet;
-        let sum = folded(sums.as_slice());
+        let sum = folded(&sums);
         let mark = b'#' + (sum % 57) as u8;
         let is_marked = marks.as_bytes().get(place) == Some(&mark);
         assert!(rt; is_marked, "{sentence} {octets:?} at {place}: {sums:?}");
         places = put(places, &sum.to_le_bytes());
     }
     assert_eq!(rt; places, whole, "{sentence} {octets:?}");
-    Ok(())
 }
 
 /// Asserts what comes of the inputs of a table.
@@ -247,7 +246,7 @@ fn expect_rows(
                 expect_whole(rt, alloc, beside, sentence, vector, to);
             }
             let mut octets = Vec::from_slice(alloc, vector.0)?;
-            expect_mangled(rt, alloc, beside, sentence, vector, octets.as_mut_slice())?;
+            expect_mangled(rt, alloc, beside, sentence, vector, octets.as_mut_slice());
         }
     }
     Ok(())

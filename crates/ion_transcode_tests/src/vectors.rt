@@ -219,7 +219,7 @@ fn expect_mangled(
         let octet = octets[place];
         let mut sums = [0; 5];
         sums[0] = sum_of(rt, alloc, beside, &octets[..place]);
-        for other in 0..OTHERS.len() {
+        for other in 0..4 {
             octets[place] = OTHERS[other];
             sums[other + 1] = sum_of(rt, alloc, beside, octets);
         }

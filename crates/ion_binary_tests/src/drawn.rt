@@ -1,8 +1,8 @@
 //! Streams drawn at random, each refused for what the reader itself refuses.
 
+use crate::cut_short::expect_prefixes;
 use crate::hex::octets;
 use crate::limits::LIMITS;
-use crate::mangling::mangle;
 use crate::reading::read_each_way;
 use ion_meter::limits::Limits;
 
@@ -260,7 +260,7 @@ const OTHERS: &[Row] = &[
     ),
 ];
 
-// In whatever pieces the stream comes, and mangled in each way.
+// In whatever pieces the stream comes, and cut short at each place.
 #[test]
 fn drawn_streams_are_refused(rt: HostRuntime) {
     for rows in [SOME, OTHERS] {
@@ -270,10 +270,10 @@ fn drawn_streams_are_refused(rt: HostRuntime) {
                 scalar: *scalar,
                 ..LIMITS
             };
-            let mut octets = octets(&rt, rt.alloc(), b"", digits);
+            let octets = octets(&rt, rt.alloc(), b"", digits);
             let all = read_each_way(&rt, rt.alloc(), limits, None, octets.as_slice());
             all.expect_end(&rt, rt.alloc(), ending);
-            mangle(&rt, rt.alloc(), limits, octets.as_mut_slice());
+            expect_prefixes(&rt, rt.alloc(), limits, octets.as_slice());
         }
     }
 }

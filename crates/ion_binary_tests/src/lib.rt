@@ -8,6 +8,8 @@
 #[cfg(test)]
 mod containers;
 #[cfg(test)]
+mod cut_short;
+#[cfg(test)]
 mod declarations;
 #[cfg(test)]
 mod drawn;
@@ -23,8 +25,6 @@ mod laws;
 mod limits;
 #[cfg(test)]
 mod long;
-#[cfg(test)]
-mod mangling;
 #[cfg(test)]
 mod one_declaration;
 #[cfg(test)]

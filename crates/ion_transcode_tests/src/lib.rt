@@ -29,3 +29,5 @@ mod runs;
 mod same;
 #[cfg(test)]
 mod to_binary;
+#[cfg(test)]
+mod vectors;

@@ -1,0 +1,324 @@
+//! Sentences of the format, each with inputs that are accepted and that are refused, through whole
+//! runs: as they are, in two pieces cut at each place, a byte a read, cut short, and with a byte replaced.
+//!
+//! The tables are written by tests/vectors/make.py. What must come of an input is there taken from a
+//! program that shares nothing with the crates.
+
+mod binary_containers;
+mod binary_heads;
+mod binary_scalars;
+mod binary_timestamps;
+mod catalogues;
+mod endings;
+mod symbols_binary;
+mod symbols_imports;
+mod symbols_text;
+mod text_containers;
+mod text_numbers;
+mod text_strings;
+mod text_symbols;
+mod text_tokens;
+
+use super::devices;
+use super::devices::Giving;
+use super::runs::{LIMITS, refused, text};
+use ion_meter::fault::{Fault, Reason};
+use ion_meter::limits::Limits;
+use ion_meter::meter::Meter;
+use ion_meter::stream::{FromRead, ToWrite};
+use ion_transcode::load::load_catalog;
+use ion_transcode::run::run;
+use ion_transcode::to::{Form, Summary, To};
+use std::alloc::Global;
+use std::process::Abort;
+use std::test::Fail;
+
+/// An input; its verdict, which is how many values it has or a fault; what is written of it as text
+/// and as binary; the checksum over the answers to all mangled inputs; and a mark for each place: the
+/// checksum of the answers to the input cut short there and with each of `OTHERS` there, cut to a
+/// character.
+pub type Vector = (
+    &'static [u8],
+    Result<u64, Fault>,
+    &'static [u8],
+    &'static [u8],
+    u64,
+    &'static str,
+);
+
+/// A sentence, and its inputs.
+pub type Row = (&'static str, &'static [Vector]);
+
+/// What may stand in the place of a byte.
+const OTHERS: [u8; 4] = [0x00, 0x7F, 0x80, 0xFF];
+
+/// The targets of each input, in their order in a checksum.
+const TARGETS: [To; 3] = [To::Text, To::Nothing, To::Binary];
+
+/// Checksums are FNV-1a of 64 bits.
+const SEED: u64 = 0xCBF2_9CE4_8422_2325;
+
+/// The checksum of some bytes behind those of this one.
+fn put(sum: u64, bytes: &[u8]) -> u64 {
+    let mut sum = sum;
+    for byte in bytes {
+        sum = (sum ^ u64::from(*byte)).wrapping_mul(0x100_0000_01B3);
+    }
+    sum
+}
+
+/// What a run answers: its verdict, and what it wrote.
+type Answer = (Result<Summary, Fault>, Vec<u8>);
+
+/// The checksum with an answer: a code, a place or how many values, and the output with its length.
+fn put_answer(sum: u64, answer: &Answer) -> u64 {
+    let (code, number) = match answer.0 {
+        Ok(summary) => (
+            if summary.form == Form::Text { 0 } else { 255 },
+            summary.values,
+        ),
+        Err(Fault::Refused(reason, place)) => (reason.number(), place),
+        Err(_) => (254, 0),
+    };
+    let output = answer.1.as_slice();
+    let sum = put(put(sum, &[code]), &number.to_le_bytes());
+    put(put(sum, &(output.len() as u64).to_le_bytes()), output)
+}
+
+/// What is the same in each run of a table.
+#[derive(Clone, Copy)]
+enum Beside<'a> {
+    /// The inputs are streams, read with this catalogue.
+    Catalogue(&'a [u8]),
+    /// The inputs are catalogues, with which this stream is read.
+    Stream(&'a [u8]),
+}
+
+/// What a run answers of a stream with a catalogue; where the catalogue is refused, its fault. All
+/// memory has to be given back.
+fn answer_with(
+    rt: &impl Abort,
+    alloc: Global,
+    catalogue: Giving<'_>,
+    stream: Giving<'_>,
+    to: To,
+) -> Answer {
+    assert!(rt; LIMITS.check());
+    let mut kept = Meter::new(alloc);
+    let (loaded, _input) = load_catalog(&mut kept, LIMITS, FromRead::new(catalogue));
+    let catalog = match loaded {
+        Ok(catalog) => catalog,
+        Err(fault) => return (Err(fault), Vec::new(alloc)),
+    };
+    let mut meter = Meter::new(alloc);
+    let input = FromRead::new(stream);
+    let output = ToWrite::new(Vec::new(alloc));
+    let (outcome, _input, output) = run(&mut meter, &catalog, LIMITS, to, input, output);
+    assert_eq!(rt; meter.held(), 0);
+    catalog.release(&mut kept);
+    assert_eq!(rt; kept.held(), 0);
+    (outcome, output.into_inner())
+}
+
+/// What a run answers of an input.
+fn answer(rt: &impl Abort, alloc: Global, beside: Beside<'_>, input: Giving<'_>, to: To) -> Answer {
+    match beside {
+        Beside::Catalogue(catalogue) => {
+            answer_with(
+                rt,
+                alloc,
+                Giving::all(catalogue, catalogue.len()),
+                input,
+                to,
+            )
+        }
+        Beside::Stream(stream) => {
+            answer_with(rt, alloc, input, Giving::all(stream, stream.len()), to)
+        }
+    }
+}
+
+/// What is wanted of a whole input.
+fn wanted(beside: Beside<'_>, vector: &Vector, to: To) -> (Result<Summary, Fault>, &'static [u8]) {
+    let (input, verdict, shown, converted, ..) = *vector;
+    let form = match beside {
+        Beside::Catalogue(_) if input.starts_with(b"\xE0") => Form::Binary,
+        _ => Form::Text,
+    };
+    let written = match (to, form) {
+        (To::Nothing, _) => b"".as_slice(),
+        (To::Binary, Form::Binary) => {
+            return (Err(Fault::Refused(Reason::SameForm, 0)), b"");
+        }
+        (To::Text, _) | (To::Other, Form::Binary) => shown,
+        (To::Binary | To::Other, Form::Text) => converted,
+    };
+    match verdict {
+        Ok(values) => (Ok(Summary { form, values }), written),
+        Err(fault) => (Err(fault), written),
+    }
+}
+
+/// Asserts what comes of a whole input, in one piece or two, or a byte a read.
+fn expect_whole(
+    rt: &impl Abort,
+    alloc: Global,
+    beside: Beside<'_>,
+    sentence: &str,
+    vector: &Vector,
+    to: To,
+) {
+    let input = vector.0;
+    let want = wanted(beside, vector, to);
+    let ways = [Giving::all(input, input.len()), Giving::all(input, 1)];
+    for way in ways {
+        let (outcome, output) = answer(rt, alloc, beside, way, to);
+        assert_eq!(rt; (outcome, output.as_slice()), want, "{sentence} {input:?}");
+    }
+    for at in 0..input.len() {
+        let (outcome, output) = answer(rt, alloc, beside, Giving::cut(input, at), to);
+        assert_eq!(rt;
+            (outcome, output.as_slice()),
+            want,
+            "cut at {at}: {sentence} {input:?}"
+        );
+    }
+}
+
+/// The checksum of what comes of an input with each target.
+fn sum_of(rt: &impl Abort, alloc: Global, beside: Beside<'_>, input: &[u8]) -> u64 {
+    let mut sum = SEED;
+    for to in TARGETS {
+        let answer = answer(rt, alloc, beside, Giving::all(input, input.len()), to);
+        sum = put_answer(sum, &answer);
+    }
+    sum
+}
+
+/// The checksum over some checksums.
+fn folded(sums: &[u64]) -> u64 {
+    let mut whole = SEED;
+    for sum in sums {
+        whole = put(whole, &sum.to_le_bytes());
+    }
+    whole
+}
+
+/// Asserts what comes of some octets when they are cut short or have another one.
+fn expect_mangled(
+    rt: &impl Abort,
+    alloc: Global,
+    beside: Beside<'_>,
+    sentence: &str,
+    vector: &Vector,
+    octets: &mut [u8],
+) {
+    let (_, _, _, _, whole, marks) = *vector;
+    let mut places = SEED;
+    for place in 0..octets.len() {
+        let octet = octets[place];
+        let mut sums = [0; 5];
+        sums[0] = sum_of(rt, alloc, beside, &octets[..place]);
+        for other in 0..4 {
+            octets[place] = OTHERS[other];
+            sums[other + 1] = sum_of(rt, alloc, beside, octets);
+        }
+        octets[place] = octet;
+        let sum = folded(&sums);
+        let mark = b'#' + (sum % 57) as u8;
+        let is_marked = marks.as_bytes().get(place) == Some(&mark);
+        assert!(rt; is_marked, "{sentence} {octets:?} at {place}: {sums:?}");
+        places = put(places, &sum.to_le_bytes());
+    }
+    assert_eq!(rt; places, whole, "{sentence} {octets:?}");
+}
+
+/// Asserts what comes of the inputs of a table.
+fn expect_rows(
+    rt: &impl Abort,
+    alloc: Global,
+    beside: Beside<'_>,
+    rows: &[Row],
+) -> Result<(), Fail> {
+    for (sentence, vectors) in rows {
+        for vector in *vectors {
+            for to in [To::Text, To::Nothing, To::Binary, To::Other] {
+                expect_whole(rt, alloc, beside, sentence, vector, to);
+            }
+            let mut octets = Vec::from_slice(alloc, vector.0)?;
+            expect_mangled(rt, alloc, beside, sentence, vector, octets.as_mut_slice());
+        }
+    }
+    Ok(())
+}
+
+#[test]
+fn binary_sentences(rt: HostRuntime) -> Result<(), Fail> {
+    let beside = Beside::Catalogue(b"");
+    expect_rows(&rt, rt.alloc(), beside, binary_heads::ROWS)?;
+    expect_rows(&rt, rt.alloc(), beside, binary_scalars::ROWS)?;
+    expect_rows(&rt, rt.alloc(), beside, binary_containers::ROWS)?;
+    expect_rows(&rt, rt.alloc(), beside, binary_timestamps::ROWS)?;
+    expect_rows(&rt, rt.alloc(), beside, endings::ROWS)
+}
+
+#[test]
+fn text_sentences(rt: HostRuntime) -> Result<(), Fail> {
+    let beside = Beside::Catalogue(b"");
+    expect_rows(&rt, rt.alloc(), beside, text_tokens::ROWS)?;
+    expect_rows(&rt, rt.alloc(), beside, text_numbers::ROWS)?;
+    expect_rows(&rt, rt.alloc(), beside, text_strings::ROWS)?;
+    expect_rows(&rt, rt.alloc(), beside, text_symbols::ROWS)?;
+    expect_rows(&rt, rt.alloc(), beside, text_containers::ROWS)
+}
+
+#[test]
+fn symbol_sentences(rt: HostRuntime) -> Result<(), Fail> {
+    let beside = Beside::Catalogue(symbols_text::CATALOGUE);
+    expect_rows(&rt, rt.alloc(), beside, symbols_text::ROWS)?;
+    expect_rows(&rt, rt.alloc(), beside, symbols_imports::ROWS)?;
+    expect_rows(&rt, rt.alloc(), beside, symbols_binary::ROWS)?;
+    let beside = Beside::Stream(catalogues::STREAM);
+    expect_rows(&rt, rt.alloc(), beside, catalogues::ROWS)
+}
+
+/// Octets of a pad, and bytes of a comment.
+const OCTETS: [u8; 4_096] = [0xE0; 4_096];
+
+// 8,388,608 octets of a pad or of a comment are passed over; a scalar of so many is refused by its
+// length.
+#[test]
+fn long_inputs(rt: HostRuntime) {
+    let limits = Limits {
+        scalar: 1,
+        ..LIMITS
+    };
+    let pad = b"\xE0\x01\x00\xEA\x0E\x04\x00\x00\x80";
+    let clob = b"\xE0\x01\x00\xEA\x9E\x04\x00\x00\x80";
+    let form = Form::Binary;
+    let rows = [
+        (
+            pad.as_slice(),
+            b"".as_slice(),
+            Ok(Summary { form, values: 0 }),
+            b"".as_slice(),
+        ),
+        (pad, b"\x20", Ok(Summary { form, values: 1 }), b"0\n"),
+        (clob, b"", refused(Reason::ScalarLimit, 4), b""),
+        (b"/*", b"*/7", text(1), b"7\n"),
+        (b"//", b"\n7", text(1), b"7\n"),
+    ];
+    for (first, last, want, shown) in rows {
+        let reader = Giving {
+            again: &OCTETS,
+            times: 2_048,
+            last,
+            ..Giving::all(first, 4_096)
+        };
+        for (to, written) in [(To::Text, shown), (To::Nothing, b"")] {
+            let output = Vec::new(rt.alloc());
+            let (outcome, output) = devices::answer(&rt, rt.alloc(), limits, to, reader, output);
+            assert_eq!(rt; (outcome, output.as_slice()), (want, written), "{first:?}");
+        }
+    }
+}

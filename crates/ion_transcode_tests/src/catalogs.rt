@@ -67,20 +67,24 @@ fn refused(reason: Reason, place: u64) -> Option<Fault> {
 }
 
 /// The table with its name first, and with its name last.
-const NAME_FIRST: &str = "$ion_shared_symbol_table::{name:\"x\",version:1,symbols:[\"p\",\"q\"]}";
+pub const NAME_FIRST: &str =
+    "$ion_shared_symbol_table::{name:\"x\",version:1,symbols:[\"p\",\"q\"]}";
 
 const NAME_LAST: &str = "$ion_shared_symbol_table::{symbols:[\"p\",\"q\"],version:1,name:\"x\"}";
+
+/// Texts of that table alone.
+pub const ONE_TABLE: &[&str] = &[
+    NAME_FIRST,
+    NAME_LAST,
+    "'$ion_shared_symbol_table'::b::{max_id:5,symbols:[a::\"p\",\"q\"],name:c::\"x\"}",
+    "$9::{version:-3,a:[{name:1}],symbols:[\"p\",\"q\"],name:'''x'''} // all",
+    "$ion_symbol_table::{symbols:[\"name\"]} $9::{$10:\"x\",version:[2],symbols:[\"p\",\"q\"]}",
+];
 
 #[test]
 fn one_table(rt: HostRuntime) -> Result<(), Fail> {
     let alloc = rt.alloc();
-    for text in [
-        NAME_FIRST,
-        NAME_LAST,
-        "'$ion_shared_symbol_table'::b::{max_id:5,symbols:[a::\"p\",\"q\"],name:c::\"x\"}",
-        "$9::{version:-3,a:[{name:1}],symbols:[\"p\",\"q\"],name:'''x'''} // all",
-        "$ion_symbol_table::{symbols:[\"name\"]} $9::{$10:\"x\",version:[2],symbols:[\"p\",\"q\"]}",
-    ] {
+    for text in ONE_TABLE {
         expect(&rt, alloc, LIMITS, text.as_bytes(), None);
     }
     let octets = behind_marker(

@@ -158,12 +158,25 @@ pub fn answer<R: Read + Drop, W: Write + Drop>(
     reader: R,
     writer: W,
 ) -> (Result<Summary, Fault>, W) {
+    let catalog = Catalog::new(&Meter::new(alloc));
+    answer_by(rt, alloc, &catalog, limits, to, reader, writer)
+}
+
+/// The same by a catalogue.
+pub fn answer_by<R: Read + Drop, W: Write + Drop>(
+    rt: &impl Abort,
+    alloc: Global,
+    catalog: &Catalog<Global>,
+    limits: Limits,
+    to: To,
+    reader: R,
+    writer: W,
+) -> (Result<Summary, Fault>, W) {
     assert!(rt; limits.check());
     let mut meter = Meter::new(alloc);
-    let catalog = Catalog::new(&meter);
     let input = FromRead::new(reader);
     let output = ToWrite::new(writer);
-    let (outcome, _input, output) = run(&mut meter, &catalog, limits, to, input, output);
+    let (outcome, _input, output) = run(&mut meter, catalog, limits, to, input, output);
     assert_eq!(rt; meter.held(), 0);
     let form = outcome.map_or(Form::Text, |summary| summary.form);
     assert!(rt; meter.peak() <= bound(limits, form, to));

@@ -24,6 +24,8 @@ mod laws;
 #[cfg(test)]
 mod refusing;
 #[cfg(test)]
+mod round_trip;
+#[cfg(test)]
 mod runs;
 #[cfg(test)]
 mod same;

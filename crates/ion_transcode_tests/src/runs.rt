@@ -2,6 +2,7 @@
 
 use super::devices::{Giving, Taking, Telling, Waiting, answer};
 use super::hex::{behind_marker, octets};
+use super::round_trip::expect_round_trip;
 use ion_meter::fault::{Fault, Reason};
 use ion_meter::limits::Limits;
 use ion_transcode::run::bound;
@@ -24,7 +25,7 @@ pub const LIMITS: Limits = Limits {
 type Row = (&'static str, Result<Summary, Fault>, &'static str);
 
 /// So many values of a binary stream.
-fn binary(values: u64) -> Result<Summary, Fault> {
+pub fn binary(values: u64) -> Result<Summary, Fault> {
     Ok(Summary {
         form: Form::Binary,
         values,
@@ -99,14 +100,20 @@ fn expect_read(
     }
 }
 
-/// Asserts the verdicts on streams behind a version marker.
-fn expect_rows(rt: &impl Abort, alloc: Global, limits: Limits, rows: &[Row]) -> Result<(), Fail> {
+/// Asserts the verdicts on streams behind a version marker, and that what is accepted goes there and back.
+pub fn expect_rows(
+    rt: &impl Abort,
+    alloc: Global,
+    limits: Limits,
+    rows: &[Row],
+) -> Result<(), Fail> {
     for (digits, want, text) in rows {
         let octets = behind_marker(rt, alloc, digits)?;
         let octets = octets.as_slice();
         expect_read(rt, alloc, limits, octets, *want, text);
         let same = refused(Reason::SameForm, 0);
         expect(rt, alloc, limits, To::Binary, octets, same, "");
+        expect_round_trip(rt, alloc, limits, octets, *want);
     }
     Ok(())
 }
@@ -229,13 +236,15 @@ fn expect_cut(
     }
 }
 
-/// Asserts the verdicts on texts, and what is written of them as text.
-fn expect_texts(rt: &impl Abort, alloc: Global, limits: Limits, rows: &[Row]) {
+/// Asserts the verdicts on texts, and what is written of them as text, and that what is accepted goes there
+/// and back.
+pub fn expect_texts(rt: &impl Abort, alloc: Global, limits: Limits, rows: &[Row]) {
     for (input, want, shown) in rows {
         let input = input.as_bytes();
         expect(rt, alloc, limits, To::Text, input, *want, shown);
         expect(rt, alloc, limits, To::Nothing, input, *want, "");
         expect_cut(rt, alloc, limits, input, *want, shown);
+        expect_round_trip(rt, alloc, limits, input, *want);
     }
 }
 
@@ -352,6 +361,7 @@ fn first_bytes(rt: HostRuntime) -> Result<(), Fail> {
         let octets = octets.as_slice();
         expect(&rt, alloc, LIMITS, To::Text, octets, want, shown);
         expect(&rt, alloc, LIMITS, To::Nothing, octets, want, "");
+        expect_round_trip(&rt, alloc, LIMITS, octets, want);
         let converted = behind_marker(&rt, alloc, converted)?;
         for to in [To::Binary, To::Other] {
             expect_bytes(&rt, alloc, LIMITS, to, octets, want, converted.as_slice());
@@ -477,6 +487,21 @@ fn what_text_ignores_is_not_held(rt: HostRuntime) -> Result<(), Fail> {
     Ok(())
 }
 
+/// Asserts that a stream in pieces goes there and back.
+fn expect_joined(
+    rt: &impl Abort,
+    alloc: Global,
+    pieces: &[(&[u8], usize)],
+    want: Result<Summary, Fault>,
+) -> Result<(), Fail> {
+    let mut octets = Vec::new(alloc);
+    for (piece, _) in pieces {
+        octets.extend_from_slice(piece)?;
+    }
+    expect_round_trip(rt, alloc, LIMITS, octets.as_slice(), want);
+    Ok(())
+}
+
 /// Asserts that of a stream whose pieces come one by one just so much is written before each of them, and
 /// this text in all.
 fn expect_live(
@@ -557,6 +582,7 @@ const LIVE_TEXTS: &[(&[(&[u8], usize)], u64, &str)] = &[
 fn texts_are_written_as_they_come(rt: HostRuntime) -> Result<(), Fail> {
     for (pieces, values, shown) in LIVE_TEXTS {
         expect_live(&rt, rt.alloc(), pieces, text(*values), shown);
+        expect_joined(&rt, rt.alloc(), pieces, text(*values))?;
     }
     Ok(())
 }
@@ -607,6 +633,7 @@ const LIVE_OCTETS: &[(&[(&[u8], usize)], u64, &str)] = &[
 fn octets_are_written_as_they_come(rt: HostRuntime) -> Result<(), Fail> {
     for (pieces, values, shown) in LIVE_OCTETS {
         expect_live(&rt, rt.alloc(), pieces, binary(*values), shown);
+        expect_joined(&rt, rt.alloc(), pieces, binary(*values))?;
     }
     Ok(())
 }

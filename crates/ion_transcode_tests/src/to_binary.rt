@@ -2,6 +2,7 @@
 
 use super::devices::answer;
 use super::hex::behind_marker;
+use super::round_trip::expect_round_trip;
 use super::runs::{LIMITS, expect_bytes, refused, text};
 use ion_meter::fault::{Fault, Reason};
 use ion_meter::limits::Limits;
@@ -14,18 +15,8 @@ use std::test::Fail;
 /// A text, its verdict, and the octets that are written of it behind the version marker.
 type Row = (&'static str, Result<Summary, Fault>, &'static str);
 
-/// Asserts that the octets of a text show the same as the text.
-fn expect_shown(rt: &impl Abort, alloc: Global, limits: Limits, input: &[u8], octets: &[u8]) {
-    let (_, shown) = answer(rt, alloc, limits, To::Text, input, Vec::new(alloc));
-    let (_, again) = answer(rt, alloc, limits, To::Other, octets, Vec::new(alloc));
-    assert_eq!(rt;
-        again.as_slice(),
-        shown.as_slice(),
-        "shown again: {input:?}"
-    );
-}
-
-/// Asserts the verdicts on texts that are written as binary, and what is written of them.
+/// Asserts the verdicts on texts that are written as binary, and what is written of them, and that what
+/// is accepted goes there and back.
 fn expect_converted(
     rt: &impl Abort,
     alloc: Global,
@@ -38,9 +29,7 @@ fn expect_converted(
         for to in [To::Binary, To::Other] {
             expect_bytes(rt, alloc, limits, to, input, *want, octets.as_slice());
         }
-        if want.is_ok() {
-            expect_shown(rt, alloc, limits, input, octets.as_slice());
-        }
+        expect_round_trip(rt, alloc, limits, input, *want);
     }
     Ok(())
 }

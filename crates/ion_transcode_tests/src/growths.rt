@@ -196,6 +196,7 @@ fn texts(rt: HostRuntime) -> Result<(), Fail> {
 #[test]
 fn limited_texts(rt: HostRuntime) -> Result<(), Fail> {
     let heap = LocalHeap::new(rt.alloc(), 1 << 20)?;
+    let mut refused: u64 = 0;
     for (with, input, verdict, shown, verdict_to_binary, digits) in LIMITED {
         let row = Row {
             catalog: "",
@@ -206,7 +207,7 @@ fn limited_texts(rt: HostRuntime) -> Result<(), Fail> {
             verdict_to_binary: *verdict_to_binary,
             octets: b"",
         };
-        refuse_text(&rt, rt.alloc(), &heap, row, digits);
+        refused = refused.saturating_add(refuse_text(&rt, rt.alloc(), &heap, row, digits));
     }
     for (catalog, with, input, verdict, shown, digits) in IMPORTS {
         let row = Row {
@@ -218,14 +219,16 @@ fn limited_texts(rt: HostRuntime) -> Result<(), Fail> {
             verdict_to_binary: *verdict,
             octets: b"",
         };
-        refuse_text(&rt, rt.alloc(), &heap, row, digits);
+        refused = refused.saturating_add(refuse_text(&rt, rt.alloc(), &heap, row, digits));
     }
+    assert!(rt; refused > 110);
     Ok(())
 }
 
 #[test]
 fn octet_streams(rt: HostRuntime) -> Result<(), Fail> {
     let heap = LocalHeap::new(rt.alloc(), 1 << 20)?;
+    let mut refused: u64 = 0;
     for (digits, with, verdict, shown) in OCTETS {
         let mut input = Vec::new(rt.alloc());
         add(&rt, &mut input, digits);
@@ -238,14 +241,16 @@ fn octet_streams(rt: HostRuntime) -> Result<(), Fail> {
             verdict_to_binary: Err((Reason::SameForm, 0)),
             octets: b"",
         };
-        refuse_each_way(&rt, rt.alloc(), &heap, row);
+        refused = refused.saturating_add(refuse_each_way(&rt, rt.alloc(), &heap, row));
     }
+    assert!(rt; refused > 250);
     Ok(())
 }
 
 #[test]
 fn a_long_value(rt: HostRuntime) -> Result<(), Fail> {
     let heap = LocalHeap::new(rt.alloc(), 1 << 20)?;
+    let mut refused: u64 = 0;
     let input = nested_strings(rt.alloc())?;
     let input = input.as_slice();
     for (to, length) in [(To::Text, 93_840), (To::Binary, 92_484), (To::Nothing, 0)] {
@@ -259,8 +264,9 @@ fn a_long_value(rt: HostRuntime) -> Result<(), Fail> {
             verdict: Ok(1),
             output: output.as_slice(),
         };
-        refuse_each(&rt, rt.alloc(), &heap, case);
+        refused = refused.saturating_add(refuse_each(&rt, rt.alloc(), &heap, case));
     }
+    assert!(rt; refused > 20);
     Ok(())
 }
 
@@ -320,8 +326,10 @@ fn refuse_each_of_load(rt: &impl Abort, heap: &LocalHeap, text: &str, verdict: V
 #[test]
 fn catalogues(rt: HostRuntime) -> Result<(), Fail> {
     let heap = LocalHeap::new(rt.alloc(), 1 << 20)?;
+    let mut refused: u64 = 0;
     for (text, verdict) in CATALOGS {
-        refuse_each_of_load(&rt, &heap, text, *verdict);
+        refused = refused.saturating_add(refuse_each_of_load(&rt, &heap, text, *verdict));
     }
+    assert!(rt; refused > 15);
     Ok(())
 }

@@ -4,7 +4,7 @@ ghost use Rattle.ion_symbols.specs.Table.{catalog_cost, shared_cost};
 ghost use Rattle.ion_symbols.specs.Output.{texts_cost};
 
 use crate::meter::refusing::Refusing;
-use crate::meter::{counts_of, is_refused};
+use crate::meter::{Counted, counts_of, is_refused};
 use crate::same::same;
 use ion_meter::fault::Fault;
 use ion_meter::limits::Limits;
@@ -63,6 +63,18 @@ fn expect_table<A: Allocator + Copy>(
     }
 }
 
+/// Asserts that a refusal was counted since then, that as much is held, and that no more was at any
+/// moment than so much on top.
+fn is_undone<A: Allocator + Copy>(rt: &impl Abort, meter: &Meter<A>, before: Counted, most: u64) {
+    let after = counts_of(rt, meter);
+    same(
+        rt,
+        (after.held, after.refused),
+        (before.held, before.refused.saturating_add(1)),
+    );
+    assert!(rt; after.peak <= before.peak.max(before.held.saturating_add(most)));
+}
+
 /// Pushes a slot.
 #[tactic(auto, using(ion_symbols::proofs::Keeping::cost_push))]
 fn push<A: Allocator + Copy>(
@@ -99,7 +111,7 @@ fn push_again<A: Allocator + Copy>(
         return true;
     }
     same(rt, pushed, Err(Fault::Memory));
-    is_refused(rt, meter, before);
+    is_undone(rt, meter, before, 16 + 100);
     expect_table(rt, table, "x", count);
     push(rt, meter, table, slot).is_ok()
 }
@@ -255,7 +267,7 @@ fn id_again<A: Allocator + Copy>(
         return true;
     }
     same(rt, given, Err(Fault::Memory));
-    same(rt, counts_of(rt, meter).refused, before.refused + 1);
+    is_undone(rt, meter, before, 16 + 100);
     expect_texts(rt, meter, texts, count);
     texts.id_of(meter, text.as_bytes()) == want
 }
@@ -313,16 +325,10 @@ fn refuse_each(rt: &impl Abort, alloc: Global, script: Script) -> u64 {
     panic!(rt; "each run met a refusal")
 }
 
-const SCRIPTS: &[(&str, Script, u64)] = &[
-    ("a table", Script::Table, 0),
-    ("a catalogue", Script::Catalog, 0),
-    ("texts", Script::Texts, 0),
-];
-
 #[test]
 fn tables_grow_past_each_refusal(rt: HostRuntime) {
-    for (name, script, growths) in SCRIPTS {
-        let refused = refuse_each(&rt, rt.alloc(), *script);
-        same(&rt, (*name, refused), (*name, *growths));
-    }
+    let table = refuse_each(&rt, rt.alloc(), Script::Table);
+    let catalog = refuse_each(&rt, rt.alloc(), Script::Catalog);
+    let texts = refuse_each(&rt, rt.alloc(), Script::Texts);
+    assert!(rt; table >= 3 && catalog >= 6 && texts >= 6);
 }

@@ -269,6 +269,7 @@ fn id_again<A: Allocator + Copy>(
     same(rt, given, Err(Fault::Memory));
     is_undone(rt, meter, before, 16 + 100);
     expect_texts(rt, meter, texts, count);
+    counts_of(rt, meter);
     texts.id_of(meter, text.as_bytes()) == want
 }
 

@@ -1,23 +1,12 @@
-// An allocator for tests, which refuses one allocation, or one and all behind it.
+// An allocator for tests, which refuses one allocation.
 use std::alloc::{AllocError, Allocator};
 use std::cell::Cell;
 
-/// Which allocations are refused.
-#[derive(Clone, Copy)]
-struct Refusals {
-    /// How many calls there are to the next one that is refused, with it; none is refused where this is 0.
-    left: u64,
-    /// Whether all behind that one are refused too.
-    onward: bool,
-    /// Whether one was refused.
-    is_met: bool,
-}
-
-/// An allocator that refuses exactly its nth allocation, or that and all behind it, and passes every
-/// other call on.
+/// An allocator that refuses exactly its nth allocation, and passes every other call on.
 pub struct Refusing<B: Allocator> {
     inner: B,
-    refusals: Cell<Refusals>,
+    left: Cell<u64>,
+    nth: u64,
 }
 
 impl<B: Allocator> Refusing<B> {
@@ -25,26 +14,14 @@ impl<B: Allocator> Refusing<B> {
     pub fn new(inner: B, nth: u64) -> Refusing<B> {
         Refusing {
             inner,
-            refusals: Cell::new(Refusals {
-                left: nth,
-                onward: false,
-                is_met: false,
-            }),
+            left: Cell::new(nth),
+            nth,
         }
-    }
-
-    /// Refuses the nth allocation from now on, or that and all behind it.
-    pub fn refuse(&self, nth: u64, onward: bool) {
-        self.refusals.set(Refusals {
-            left: nth,
-            onward,
-            is_met: false,
-        });
     }
 
     /// Whether the nth allocation was met.
     pub fn has_refused(&self) -> bool {
-        self.refusals.get().is_met
+        self.nth > 0 && self.left.get() == 0
     }
 }
 
@@ -52,28 +29,24 @@ impl<B: Allocator> Drop for Refusing<B> {
     fn drop(self) {
         let Self {
             inner: _,
-            refusals: _,
+            left: _,
+            nth: _,
         } = self;
     }
 }
 
-/// Counts an allocation, and says whether it is one to refuse.
-fn refuses(refusals: &Cell<Refusals>) -> bool {
-    let before = refusals.get();
-    let is_refused = before.left == 1 || (before.onward && before.is_met);
-    refusals.set(Refusals {
-        left: before.left.saturating_sub(1),
-        onward: before.onward,
-        is_met: before.is_met || is_refused,
-    });
-    is_refused
+/// Counts an allocation, and says whether it is the one to refuse.
+fn refuses(left: &Cell<u64>) -> bool {
+    let before = left.get();
+    left.set(before.saturating_sub(1));
+    before == 1
 }
 
 unsafe impl<B: Allocator> Allocator for Refusing<B> {
     ghost dealloc_token = { λ heap ty ptr. B.dealloc_token heap.inner ty ptr };
 
     fn allocate(&self, size: usize, align: usize) -> Result<*mut u8, AllocError> {
-        if refuses(&self.refusals) {
+        if refuses(&self.left) {
             return Err(AllocError);
         }
         self.inner.allocate(size, align)

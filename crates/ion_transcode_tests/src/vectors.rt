@@ -266,9 +266,24 @@ fn binary_sentences(rt: HostRuntime) -> Result<(), Fail> {
 fn text_sentences(rt: HostRuntime) -> Result<(), Fail> {
     let beside = Beside::Catalogue(b"");
     expect_rows(&rt, rt.alloc(), beside, text_tokens::ROWS)?;
-    expect_rows(&rt, rt.alloc(), beside, text_numbers::ROWS)?;
-    expect_rows(&rt, rt.alloc(), beside, text_strings::ROWS)?;
-    expect_rows(&rt, rt.alloc(), beside, text_symbols::ROWS)?;
+    expect_rows(&rt, rt.alloc(), beside, text_numbers::ROWS)
+}
+
+#[test]
+fn text_sentences_of_strings(rt: HostRuntime) -> Result<(), Fail> {
+    let beside = Beside::Catalogue(b"");
+    expect_rows(&rt, rt.alloc(), beside, text_strings::ROWS)
+}
+
+#[test]
+fn text_sentences_of_symbols(rt: HostRuntime) -> Result<(), Fail> {
+    let beside = Beside::Catalogue(b"");
+    expect_rows(&rt, rt.alloc(), beside, text_symbols::ROWS)
+}
+
+#[test]
+fn text_sentences_of_containers(rt: HostRuntime) -> Result<(), Fail> {
+    let beside = Beside::Catalogue(b"");
     expect_rows(&rt, rt.alloc(), beside, text_containers::ROWS)
 }
 

@@ -108,6 +108,9 @@ CONTAINERS = [
     ("White space and comments may stand before the colons and behind them.", "a /*x*/ :: //y\n b", "a : : b",
      "a :/**/: b"),
     ("Two colons together are one token.", "{a:b::c}", "{a::b}", "{a:b:c}", "{a: :b}"),
+]
+
+LOBS = [
     ("{{ begins a lob.", "{{}} {a:{}}", "{{a:1}}", "{{", "{{}"),
     ("A blob is base64 with padding.", "{{aGVsbG8=}} {{aGVsbA==}} {{aGVs}}", "{{aGVsbG8}}", "{{aGVs=}}", "{{a===}}",
      "{{aGVs-_==}}"),
@@ -134,5 +137,6 @@ TABLES = [
     ("text_numbers", "Of the text encoding: decimals, floats and timestamps.", "stream", b"", NUMBERS),
     ("text_strings", "Of the text encoding: strings and quoted symbols.", "stream", b"", STRINGS),
     ("text_symbols", "Of the text encoding: symbols, keywords, operators and version markers.", "stream", b"", SYMBOLS),
-    ("text_containers", "Of the text encoding: containers, annotations and lobs.", "stream", b"", CONTAINERS),
+    ("text_containers", "Of the text encoding: containers and annotations.", "stream", b"", CONTAINERS),
+    ("text_lobs", "Of the text encoding: lobs.", "stream", b"", LOBS),
 ]

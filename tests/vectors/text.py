@@ -28,6 +28,11 @@ NUMBERS = [
     ("A decimal's exponent is less by the digits behind the point.", "1.50d1 1.0d2147483648", "1.0d-2147483648",
      "1d2147483648"),
     ("A number with e or E is a float, and refused.", "null.float", "1e0", "1.5E-3", "1e", "-0E+0"),
+    ("Underscores may stand on either side of a decimal's point.", "1_0.5_0 1_0d1", "1_.5", "1._5", "1.5_"),
+    ("None stand in exponents.", "1d10", "1d1_0", "1_d1"),
+]
+
+TIMESTAMPS = [
     ("A timestamp may be to the year.", "2000T 0001T", "2000 000T", "200T", "0000T", "12345T"),
     ("A timestamp may be to the month.", "2000-01T 2000-12T", "2000-01", "2000-13T", "2000-1T"),
     ("A timestamp may be to the day, with or without T.", "2000-02-29T 2000-01-31", "2000-02-30", "2000-01-1T",
@@ -45,9 +50,7 @@ NUMBERS = [
      "2000-01-02T03:04-01:60"),
     ("A timestamp in UTC is of the years 1 to 9999 too.", "0001-01-01T00:00-00:01", "0001-01-01T00:00+00:01",
      "9999-12-31T23:59-00:01"),
-    ("Underscores may stand on either side of a decimal's point.", "1_0.5_0 1_0d1", "1_.5", "1._5", "1.5_"),
-    ("None stand in exponents.", "1d10", "1d1_0", "1_d1"),
-    ("None stand in timestamps.", "2000-01-02T", "2_000T", "2000-01-0_2T"),
+    ("Underscores stand in no timestamp.", "2000-01-02T", "2_000T", "2000-01-0_2T"),
 ]
 
 STRINGS = [
@@ -134,7 +137,8 @@ OTHERWISE = {"{{'a": "Truncated", "{{'a'": "Truncated", "{{'a'}": "Truncated"}
 
 TABLES = [
     ("text_tokens", "Of the text encoding: bytes, comments and ints.", "stream", b"", TOKENS),
-    ("text_numbers", "Of the text encoding: decimals, floats and timestamps.", "stream", b"", NUMBERS),
+    ("text_numbers", "Of the text encoding: decimals and floats.", "stream", b"", NUMBERS),
+    ("text_timestamps", "Of the text encoding: timestamps.", "stream", b"", TIMESTAMPS),
     ("text_strings", "Of the text encoding: strings and quoted symbols.", "stream", b"", STRINGS),
     ("text_symbols", "Of the text encoding: symbols, keywords, operators and version markers.", "stream", b"", SYMBOLS),
     ("text_containers", "Of the text encoding: containers and annotations.", "stream", b"", CONTAINERS),

@@ -1,12 +1,23 @@
-// An allocator for tests, which refuses one allocation.
+// An allocator for tests, which refuses one allocation, or one and all behind it.
 use std::alloc::{AllocError, Allocator};
 use std::cell::Cell;
 
-/// An allocator that refuses exactly its nth allocation, and passes every other call on.
+/// Which allocations are refused.
+#[derive(Clone, Copy)]
+struct Refusals {
+    /// How many calls there are to the next one that is refused, with it; none is refused where this is 0.
+    left: u64,
+    /// Whether all behind that one are refused too.
+    onward: bool,
+    /// Whether one was refused.
+    is_met: bool,
+}
+
+/// An allocator that refuses exactly its nth allocation, or that and all behind it, and passes every
+/// other call on.
 pub struct Refusing<B: Allocator> {
     inner: B,
-    left: Cell<u64>,
-    nth: u64,
+    refusals: Cell<Refusals>,
 }
 
 impl<B: Allocator> Refusing<B> {
@@ -14,14 +25,26 @@ impl<B: Allocator> Refusing<B> {
     pub fn new(inner: B, nth: u64) -> Refusing<B> {
         Refusing {
             inner,
-            left: Cell::new(nth),
-            nth,
+            refusals: Cell::new(Refusals {
+                left: nth,
+                onward: false,
+                is_met: false,
+            }),
         }
+    }
+
+    /// Refuses the nth allocation from now on, or that and all behind it.
+    pub fn refuse(&self, nth: u64, onward: bool) {
+        self.refusals.set(Refusals {
+            left: nth,
+            onward,
+            is_met: false,
+        });
     }
 
     /// Whether the nth allocation was met.
     pub fn has_refused(&self) -> bool {
-        self.nth > 0 && self.left.get() == 0
+        self.refusals.get().is_met
     }
 }
 
@@ -29,24 +52,28 @@ impl<B: Allocator> Drop for Refusing<B> {
     fn drop(self) {
         let Self {
             inner: _,
-            left: _,
-            nth: _,
+            refusals: _,
         } = self;
     }
 }
 
-/// Counts an allocation, and says whether it is the one to refuse.
-fn refuses(left: &Cell<u64>) -> bool {
-    let before = left.get();
-    left.set(before.saturating_sub(1));
-    before == 1
+/// Counts an allocation, and says whether it is one to refuse.
+fn refuses(refusals: &Cell<Refusals>) -> bool {
+    let before = refusals.get();
+    let is_refused = before.left == 1 || (before.onward && before.is_met);
+    refusals.set(Refusals {
+        left: before.left.saturating_sub(1),
+        onward: before.onward,
+        is_met: before.is_met || is_refused,
+    });
+    is_refused
 }
 
 unsafe impl<B: Allocator> Allocator for Refusing<B> {
     ghost dealloc_token = { λ heap ty ptr. B.dealloc_token heap.inner ty ptr };
 
     fn allocate(&self, size: usize, align: usize) -> Result<*mut u8, AllocError> {
-        if refuses(&self.left) {
+        if refuses(&self.refusals) {
             return Err(AllocError);
         }
         self.inner.allocate(size, align)

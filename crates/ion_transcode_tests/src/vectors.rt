@@ -18,6 +18,7 @@ mod text_lobs;
 mod text_numbers;
 mod text_strings;
 mod text_symbols;
+mod text_timestamps;
 mod text_tokens;
 
 use super::devices;
@@ -274,6 +275,12 @@ fn tokens_of_text(rt: HostRuntime) -> Result<(), Fail> {
 fn numbers_of_text(rt: HostRuntime) -> Result<(), Fail> {
     let beside = Beside::Catalogue(b"");
     expect_rows(&rt, rt.alloc(), beside, text_numbers::ROWS)
+}
+
+#[test]
+fn timestamps_of_text(rt: HostRuntime) -> Result<(), Fail> {
+    let beside = Beside::Catalogue(b"");
+    expect_rows(&rt, rt.alloc(), beside, text_timestamps::ROWS)
 }
 
 #[test]

@@ -33,7 +33,7 @@ use denote.Triple.Walked.{Stays, stay_dropped, walk_of, ends_at, walked, Goes-dr
 use types.Kit.{Sq, ‵, raw, ◌⊛◌, some, later, given, learn, prop, at_ret, ◌$◌, ◌∵◌, !, qed, move, keep, drop, use0, use1, use2, split, join, pick, fsplit, fjoin, feq_i, feq_l, show, check, updating, now as at_once, suffices, await, done}
 use types.ByLocal.{alloc_all, pass_all, free_all, look_at, get, through, sets, lands_as, env}
 use denote.RawPtr.{block_ptr}
-use denote.Builtin.{u64, bool, usize, RefOf}
+use denote.Builtin.{bool, usize, RefOf}
 use denote.Triple.Call.{calls_at}
 use Rattle.std.proofs.alloc.Calls.{Al, α, seen, Answer, answer_val, Answer-typed, Answer-Ok, Answer-err, takes_key, Takes, at_takes, Answered, Takes-goes, Takes-gives, answers}
 use Rattle.ion_binary_tests.proofs.refusing.refuses.Symbol as c_sym
@@ -41,6 +41,7 @@ use Rattle.ion_binary_tests.proofs.refusing.refuses.Met as c_met
 use Rattle.std.proofs.VecSteps.Shapes.{after}
 use Rattle.std.specs.contracts.cell.Cell as CE
 use Rattle.ion_binary_tests.specs.contracts.refusing.refuses as asks
+use Rattle.ion_binary_tests.specs.contracts.refusing.Refusals as refusals
 use Rattle.ion_binary_tests.specs.contracts.refusing.Refusing as wrapper
 use Rattle.ion_binary_tests.specs.contracts.refusing.RefusingAllocator.allocate as F
 use Rattle.ion_binary_tests.specs.contracts.refusing.RefusingAllocator.allocate.Key as key
@@ -49,7 +50,7 @@ use Rattle.ion_binary_tests.proofs.refusing.RefusingAllocator.allocate.Code as c
 
 -- ---- `refuses` at a call: what it is handed, and what a caller has of it
 abbrev Left : RattleType
-Left = CE.the_row u64
+Left = CE.the_row refusals.the_row
 
 module _ {M : Type 1} {𝓤 : Ura M} (𝓛 : Logic 𝓤) (at_mem : Memory → SProp 𝓤) (run : Routine → Fun 𝓤) where
   open 𝓛 use {H, A}

@@ -1,0 +1,93 @@
+//! Callers of the library, each proved: what a program that has Ion in memory, or a device of its
+//! own, writes.
+#![tactic(auto)]
+
+ghost use Rattle.std.specs.Prelude.{◌≡◌, ◌^◌, ◌<◌, ℕ, List, [], IfOk};
+ghost use Rattle.ion_meter.specs.Limits.{AreChecked};
+ghost use Rattle.ion_value.specs.Outcome.{Accepted};
+ghost use Rattle.ion_symbols.specs.Table.{Shared};
+ghost use Rattle.ion_transcode.specs.Catalogues.{IsCatalog};
+ghost use Rattle.ion_transcode.specs.Verdict.{HasVerdict, IsWritten};
+ghost use Rattle.ion_transcode.specs.declared.to.To.TheVariants as to;
+
+use ion_meter::device::{Input, Output};
+use ion_meter::fault::Fault;
+use ion_meter::limits::Limits;
+use ion_meter::meter::Meter;
+use ion_meter::stream::{FromRead, ToWrite};
+use ion_symbols::catalog::Catalog;
+use ion_transcode::load::load_catalog;
+use ion_transcode::run::run;
+use ion_transcode::to::{Summary, To};
+use linked_list_allocator::LocalHeap;
+use std::alloc::{AllocError, Global};
+
+/// The canonical text of a stream, text or binary, or why there is none.
+pub fn text_of(alloc: Global, limits: Limits, stream: &[u8]) -> Result<Vec<u8>, Fault>
+    requires { AreChecked limits }
+    ensures text { IfOk result (λ text. (n : ℕ)
+        × HasVerdict [] limits to.Text stream.now (Accepted n) text.items) }
+{
+    let mut meter = Meter::new(alloc);
+    let catalog = Catalog::new(&meter);
+    let input = FromRead::new(stream);
+    let output = ToWrite::new(Vec::new(alloc));
+    let (answer, _, output) = run(&mut meter, &catalog, limits, To::Text, input, output);
+    catalog.release(&mut meter);
+    match answer {
+        Ok(_) => Ok(output.into_inner()),
+        Err(fault) => Err(fault),
+    }
+}
+
+/// How many values a stream has whose imports are found in these tables, or why there is no answer:
+/// a fault of the tables or of the stream.
+pub fn count_with(
+    alloc: Global,
+    limits: Limits,
+    tables: &[u8],
+    stream: &[u8],
+) -> Result<u64, Fault>
+    requires { AreChecked limits }
+    ensures count { IfOk result (λ n. (catalog : List Shared) × IsCatalog limits tables.now catalog
+        × HasVerdict catalog limits to.Nothing stream.now (Accepted n) []) }
+{
+    let mut meter = Meter::new(alloc);
+    let (loaded, _) = load_catalog(&mut meter, limits, FromRead::new(tables));
+    let catalog = match loaded {
+        Ok(catalog) => catalog,
+        Err(fault) => return Err(fault),
+    };
+    let input = FromRead::new(stream);
+    let output = ToWrite::new(Vec::new(alloc));
+    let (answer, _, _) = run(&mut meter, &catalog, limits, To::Nothing, input, output);
+    catalog.release(&mut meter);
+    match answer {
+        Ok(summary) => Ok(summary.values),
+        Err(fault) => Err(fault),
+    }
+}
+
+/// A stream from a device to another as text, in a heap of so many bytes, which is all the memory
+/// that it takes; none is taken where the heap itself finds no memory.
+pub fn show_within<I: Input, O: Output>(
+    alloc: Global,
+    size: usize,
+    limits: Limits,
+    input: I,
+    output: O,
+) -> Result<(Result<Summary, Fault>, I, O), AllocError>
+    requires checked { AreChecked limits }
+    requires reads { I.failure_count input < 2 ^ 64 - 1 }
+    requires writes { O.failure_count output < 2 ^ 64 - 1 }
+    ensures shown { IfOk result (λ ran. I.observable input → (s : Summary) → ran.0 ≡ Ok s
+        → IsWritten [] limits to.Text (I.rest input) (Accepted s.values)
+        (O.observable output) (O.written output) (O.written ran.2)) }
+{
+    let heap = LocalHeap::new(alloc, size)?;
+    let mut meter = Meter::new(&heap);
+    let catalog = Catalog::new(&meter);
+    let ran = run(&mut meter, &catalog, limits, To::Text, input, output);
+    catalog.release(&mut meter);
+    Ok(ran)
+}

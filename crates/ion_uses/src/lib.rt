@@ -2,13 +2,14 @@
 //! own, writes.
 #![tactic(auto)]
 
-ghost use Rattle.std.specs.Prelude.{◌≡◌, ◌^◌, ◌<◌, ℕ, List, [], IfOk};
+ghost use Rattle.std.specs.Prelude.{◌≡◌, ◌^◌, ◌-◌, ◌<◌, ℕ, List, [], IfOk, Ok};
 ghost use Rattle.ion_meter.specs.Limits.{AreChecked};
 ghost use Rattle.ion_value.specs.Outcome.{Accepted};
 ghost use Rattle.ion_symbols.specs.Table.{Shared};
 ghost use Rattle.ion_transcode.specs.Catalogues.{IsCatalog};
 ghost use Rattle.ion_transcode.specs.Verdict.{HasVerdict, IsWritten};
 ghost use Rattle.ion_transcode.specs.declared.to.To.TheVariants as to;
+ghost use Rattle.ion_transcode.specs.declared.to.Summary.{Summary};
 
 use ion_meter::device::{Input, Output};
 use ion_meter::fault::Fault;
@@ -20,7 +21,7 @@ use ion_transcode::load::load_catalog;
 use ion_transcode::run::run;
 use ion_transcode::to::{Summary, To};
 use linked_list_allocator::LocalHeap;
-use std::alloc::{AllocError, Global};
+use std::alloc::Global;
 
 /// The canonical text of a stream, text or binary, or why there is none.
 pub fn text_of(alloc: Global, limits: Limits, stream: &[u8]) -> Result<Vec<u8>, Fault>
@@ -69,25 +70,27 @@ pub fn count_with(
 }
 
 /// A stream from a device to another as text, in a heap of so many bytes, which is all the memory
-/// that it takes; none is taken where the heap itself finds no memory.
+/// that it takes. Where the heap itself finds no memory that is `Memory` too.
 pub fn show_within<I: Input, O: Output>(
     alloc: Global,
     size: usize,
     limits: Limits,
     input: I,
     output: O,
-) -> Result<(Result<Summary, Fault>, I, O), AllocError>
+) -> (Result<Summary, Fault>, I, O)
     requires checked { AreChecked limits }
     requires reads { I.failure_count input < 2 ^ 64 - 1 }
     requires writes { O.failure_count output < 2 ^ 64 - 1 }
-    ensures shown { IfOk result (λ ran. I.observable input → (s : Summary) → ran.0 ≡ Ok s
+    ensures shown { I.observable input → (s : Summary) → result.0 ≡ Ok s
         → IsWritten [] limits to.Text (I.rest input) (Accepted s.values)
-        (O.observable output) (O.written output) (O.written ran.2)) }
+        (O.observable output) (O.written output) (O.written result.2) }
 {
-    let heap = LocalHeap::new(alloc, size)?;
+    let Ok(heap) = LocalHeap::new(alloc, size) else {
+        return (Err(Fault::Memory), input, output);
+    };
     let mut meter = Meter::new(&heap);
     let catalog = Catalog::new(&meter);
     let ran = run(&mut meter, &catalog, limits, To::Text, input, output);
     catalog.release(&mut meter);
-    Ok(ran)
+    ran
 }

@@ -7,6 +7,7 @@ pub mod TextsOfUsers
 pub mod Output
 pub mod Laws
 pub mod Resolved
+pub mod Yielding
 pub mod Kept
 pub mod Catalogue
 pub mod Present

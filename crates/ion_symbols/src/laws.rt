@@ -4,6 +4,7 @@ ghost use Rattle.ion_symbols.specs.Laws.{DeclarationsAreRead, OpenUsersAreRead, 
 ghost use Rattle.ion_symbols.specs.Resolved.{WhatIsAcceptedIsResolved, WhatIsResolvedIsAccepted};
 ghost use Rattle.ion_symbols.specs.TextsOfUsers.{TextsOfUsersAreShort};
 ghost use Rattle.ion_symbols.specs.UserValues.{UsersOfRawValues};
+ghost use Rattle.ion_symbols.specs.Yielding.{WhatYieldsIsResolved};
 
 /// The streaming and the tree definitions of a declaration agree: its items give the table that its
 /// tree gives, or its tree's first fault, at each item first its symbols, then what it means.
@@ -59,6 +60,16 @@ pub fn why_users_stop()
 pub fn what_is_resolved_is_accepted()
     ensures { WhatIsResolvedIsAccepted }
 {}
+
+/// The symbols of a stream are all resolved where each declaration says a table by its tree, within
+/// the limit, no symbol of it is above the table before it and no field stands twice, and each
+/// symbol of a user value stands in its table.
+pub fn what_yields_is_resolved()
+    ensures { WhatYieldsIsResolved }
+{
+    what_is_declared();
+    why_refused();
+}
 
 /// And no other stream is accepted.
 pub fn what_is_accepted_is_resolved()

@@ -48,3 +48,4 @@ mod CatalogSteps
 mod CatalogMeaning
 mod CatalogRefusals
 mod CatalogTexts
+mod HigherLimits

@@ -18,3 +18,4 @@ pub mod CatalogItems
 pub mod CatalogTrees
 pub mod CatalogLaws
 pub mod Building
+pub mod HigherLimit

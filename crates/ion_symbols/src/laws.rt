@@ -1,5 +1,6 @@
 //! Laws of the definitions of symbol tables, each the contract of a function that does nothing.
 ghost use Rattle.ion_symbols.specs.CatalogLaws.{CatalogsAreRead, CatalogsAreTables, TablesOfUsersAreText, WhyCatalogsAreRefused};
+ghost use Rattle.ion_symbols.specs.HigherLimit.{ResolvedUnderHigherLimits};
 ghost use Rattle.ion_symbols.specs.Laws.{DeclarationsAreRead, OpenUsersAreRead, SymbolsStand, UsersAreRead, WhatIsAccepted, WhatIsDeclared, WhyRefused, WhyUsersStop};
 ghost use Rattle.ion_symbols.specs.Resolved.{WhatIsAcceptedIsResolved, WhatIsResolvedIsAccepted};
 ghost use Rattle.ion_symbols.specs.TextsOfUsers.{TextsOfUsersAreShort};
@@ -64,6 +65,14 @@ pub fn what_is_resolved_is_accepted()
 pub fn what_is_accepted_is_resolved()
     ensures { WhatIsAcceptedIsResolved }
 {}
+
+/// What is resolved under a limit is resolved under a higher one.
+pub fn what_is_resolved_stays()
+    ensures { ResolvedUnderHigherLimits }
+{
+    what_is_resolved_is_accepted();
+    what_is_accepted_is_resolved();
+}
 
 /// The user values of what a reader gives are such that a user can have: numbers in range, texts in
 /// UTF-8, bytes below 256, and no declaration; where the texts of the catalogue are UTF-8.

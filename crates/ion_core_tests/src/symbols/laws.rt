@@ -4,7 +4,8 @@ use ion_symbols::laws::{
     catalogs_are_read, catalogs_are_tables, declarations_are_read, open_users_are_read,
     symbols_stand, tables_of_users_are_text, texts_of_users_are_short, users_are_read,
     users_of_raw_values, what_is_accepted, what_is_accepted_is_resolved, what_is_declared,
-    what_is_resolved_is_accepted, why_catalogs_are_refused, why_refused, why_users_stop,
+    what_is_resolved_is_accepted, what_is_resolved_stays, why_catalogs_are_refused, why_refused,
+    why_users_stop,
 };
 
 #[test]
@@ -22,6 +23,7 @@ fn states_laws() {
     why_catalogs_are_refused();
     what_is_resolved_is_accepted();
     what_is_accepted_is_resolved();
+    what_is_resolved_stays();
     users_of_raw_values();
     tables_of_users_are_text();
     texts_of_users_are_short();

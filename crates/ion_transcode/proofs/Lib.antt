@@ -29,6 +29,7 @@ mod ReadAgain
 mod NoneRefused
 mod Accepted
 mod ReadWhole
+mod Raising
 mod OpenContainers
 mod NoDeeper
 mod WrittenFits

@@ -1,22 +1,29 @@
--- What was written as binary is accepted under the limits of its run, and shows what the text shows.
+-- What was written as binary is accepted under the limits of its run and under higher ones, and shows what the text shows.
 use Rattle.std.proofs.Common.{◌≡◌, ℕ, List, [], length, Some, refl, ap, sym, ◌∙◌, subst, subst₂}
+use Rattle.std.proofs.Math.Nat.{le_refl}
 use Rattle.std.specs.List.{AllByRecursion}
+use Rattle.ion_meter.specs.Limits.{AreChecked}
 use Rattle.ion_meter.specs.declared.limits.Limits.{Limits}
 use Rattle.ion_value.specs.Outcome.{Accepted}
 use Rattle.ion_value.specs.Path.{closed, path_items}
 use Rattle.ion_value.specs.Reading.{Finished, behind}
+use Rattle.ion_value.specs.ReadingLaws as reading_laws
 use Rattle.ion_value.specs.Value.{UserSymbol, Top}
+use Rattle.ion_symbols.specs.HigherLimit.{ResolvedUnderHigherLimits}
 use Rattle.ion_symbols.specs.Resolved.{AreResolved}
 use Rattle.ion_symbols.specs.Table.{Shared, system}
 use Rattle.ion_symbols.specs.TextsOfUsers.{TextsOfUsersAreShort}
 use Rattle.ion_symbols.specs.UserValues.{AreUsers, UsersOfRawValues}
 use Rattle.ion_binary.specs.Canonical.{binary}
+use Rattle.ion_binary.specs.Laws as binary_laws
 use Rattle.ion_binary.specs.Reading as binary_reading
+use Rattle.ion_binary.specs.Refusals.{AreWithin}
 use Rattle.ion_binary.specs.Spelling.{IsRead, TheFormIsRead, WhatIsWithinIsShort}
-use Rattle.ion_binary.specs.WrittenLimits.{FitsBinary, WhatIsWrittenIsWithinLimits}
+use Rattle.ion_binary.specs.WrittenLimits.{AllowDeclarations, FitsBinary, WhatIsWrittenIsWithinLimits}
 use Rattle.ion_binary.specs.WrittenNumbers.{NumbersInTextFit}
 use Rattle.ion_binary.specs.WrittenSymbols.{TextsWithinFit, WhatIsWrittenIsResolved}
 use Rattle.ion_text_in.specs.Grammar as text_grammar
+use Rattle.ion_text_in.specs.Laws as text_laws
 use Rattle.ion_text_in.specs.Laws.{StreamsAreRaw}
 use Rattle.ion_text_in.specs.Reading as text_reading
 use Rattle.ion_text_in.specs.ReadWithin.{ValuesReadAreWithin}
@@ -32,47 +39,70 @@ use Rattle.ion_transcode.specs.Forms.{encoding_of, form_of, reading_of}
 use Rattle.ion_transcode.specs.Outputs.{outputs_of, resolved}
 use Rattle.ion_transcode.specs.Verdict.{HasVerdict}
 use Rattle.ion_transcode.specs.WrittenAgain.{WrittenBinaryIsAccepted}
+use Rattle.ion_transcode.proofs.Raising.{read-higher, taken-higher}
 use Rattle.ion_transcode.proofs.ReadAgain.{same-length, of-text}
 use Rattle.ion_transcode.proofs.TextWithoutPlaces.{same-text}
 use Rattle.ion_transcode.proofs.WrittenFits.{users-of-read-fit}
 
--- what is asked for of binary, and comes to this target
-module _ (accepted : WhatIsReadIsAccepted) (other : List Shared) (limits : Limits) (us : List (Top UserSymbol ℕ)) (r : IsRead other limits.symbols us)
-    (read : binary_reading.reading limits (binary limits.symbols us) ≡ behind (path_items (closed r.raw)) Finished)
-    (resolved_are : AreResolved other limits.symbols system r.raw) where
-  written-form : form_of (binary limits.symbols us) ≡ form.Binary
+-- what is asked for of binary under these limits, and comes to this target; `symbols` is the limit by which it was written
+module _ (accepted : WhatIsReadIsAccepted) (other : List Shared) (wide : Limits) (symbols : ℕ) (us : List (Top UserSymbol ℕ)) (r : IsRead other symbols us)
+    (read : binary_reading.reading wide (binary symbols us) ≡ behind (path_items (closed r.raw)) Finished)
+    (resolved_are : AreResolved other wide.symbols system r.raw) where
+  written-form : form_of (binary symbols us) ≡ form.Binary
   written-form = ap form_of r.stream.begins.1
 
-  read-again : (asked : To) (t : Target) → resolved form.Binary asked ≡ Some t → AreTaken t limits r.users
-      → HasVerdict other limits asked (binary limits.symbols us) (Accepted (length us)) ((outputs_of t limits).whole_output r.users)
+  read-again : (asked : To) (t : Target) → resolved form.Binary asked ≡ Some t → AreTaken t wide r.users
+      → HasVerdict other wide asked (binary symbols us) (Accepted (length us)) ((outputs_of t wide).whole_output r.users)
   read-again asked t to_is taken =
-      let bytes : List ℕ = binary limits.symbols us in
+      let bytes : List ℕ = binary symbols us in
       let to_target : resolved (form_of bytes) asked ≡ Some t = ap (λ (f : Form). resolved f asked) written-form ∙ to_is in
-      let as_read : reading_of (form_of bytes) limits bytes ≡ behind (path_items (closed r.raw)) Finished = ap (λ (f : Form). reading_of f limits bytes) written-form ∙ read in
-      subst (λ (n : ℕ). HasVerdict other limits asked bytes (Accepted n) ((outputs_of t limits).whole_output r.users)) (same-length r.users us r.same)
-      (accepted other limits asked bytes t r.raw r.users to_target as_read resolved_are r.users_are taken)
+      let as_read : reading_of (form_of bytes) wide bytes ≡ behind (path_items (closed r.raw)) Finished = ap (λ (f : Form). reading_of f wide bytes) written-form ∙ read in
+      subst (λ (n : ℕ). HasVerdict other wide asked bytes (Accepted n) ((outputs_of t wide).whole_output r.users)) (same-length r.users us r.same)
+      (accepted other wide asked bytes t r.raw r.users to_target as_read resolved_are r.users_are taken)
+
+-- the limits of a reader of these, and those of the writer that wrote what is read
+module _ (limits wide : Limits) where
+  abbrev between : Limits
+  between = record { depth = wide.depth; scalar = wide.scalar; symbols = limits.symbols; value = limits.value; input = limits.input }
+
+  between-checked : AreChecked limits → AreChecked wide → AreChecked between
+  between-checked c d = record { depth = d.depth; scalar = d.scalar; symbols = c.symbols; value = c.value; input = c.input }
+
+  between-allows : AllowDeclarations wide → AllowDeclarations between
+  between-allows h = record { depth = h.depth; scalar = h.scalar }
+
+  to-between : reading_laws.AreWithin limits wide → reading_laws.AreWithin limits between
+  to-between h = record { depth = h.depth; scalar = h.scalar }
+
+  from-between : reading_laws.AreWithin between wide
+  from-between = record { depth = le_refl wide.depth; scalar = le_refl wide.scalar }
 
 module _ (is_read : WhatIsAcceptedIsRead) (accepted : WhatIsReadIsAccepted) (values : UsersOfRawValues) (raw : StreamsAreRaw) (kept : ValuesReadAreWithin)
     (texts : TextsOfUsersAreShort) (room : TextsWithinFit) (is_binary : TheFormIsRead) (short : WhatIsWithinIsShort) (within : WhatIsWrittenIsWithinLimits) (stands : WhatIsWrittenIsResolved)
-    (numbers : NumbersInTextFit) where
+    (numbers : NumbersInTextFit) (binary_narrow : binary_laws.Narrow) (text_narrow : text_laws.Narrow) (stays : ResolvedUnderHigherLimits) where
   pub written-binary : WrittenBinaryIsAccepted
-  written-binary catalog other limits asked bytes written n is_text checked allow declared to_is verdict =
+  written-binary catalog other limits wide asked bytes written n is_text checked checked_too higher more allow declared to_is verdict =
       let f : Form = form_of bytes in
+      let mid : Limits = between limits wide in
       let w = is_read catalog limits asked bytes target.Binary n written to_is verdict in
       let f_is : f ≡ form.Text = of-text f asked to_is in
       let us : List (Top UserSymbol ℕ) = w.us in
       let stream : text_grammar.Stream bytes w.tops = subst (λ (g : Form). (encoding_of g).Stream bytes w.tops) f_is w.stream in
       let read : text_reading.reading limits bytes ≡ behind (path_items (closed w.tops)) Finished =
       subst (λ (g : Form). reading_of g limits bytes ≡ behind (path_items (closed w.tops)) Finished) f_is w.read in
+      let read_higher = read-higher binary_narrow text_narrow form.Text limits mid bytes (path_items (closed w.tops)) (to-between limits wide higher) read in
       let raw_are = raw bytes w.tops stream in
       let are : AreUsers us = values catalog w.tops us is_text raw_are w.users_are in
-      let fits : AllByRecursion (FitsBinary limits) us =
-      users-of-read-fit limits numbers allow.scalar texts room catalog w.tops us declared raw_are (kept limits bytes w.tops stream read) w.taken w.users_are in
+      let taken : AreWithin mid [] us = taken-higher target.Binary limits mid us (refl, le_refl limits.value) w.taken in
+      let fits : AllByRecursion (FitsBinary mid) us =
+      users-of-read-fit mid numbers allow.scalar texts room catalog w.tops us declared raw_are (kept mid bytes w.tops stream read_higher) taken w.users_are in
       let r = is_binary other limits.symbols us are.0 (short limits us checked w.taken) in
-      let read_again = within limits us r.raw checked allow are.0 w.taken fits r.stream in
-      let resolved_again = stands other limits us r.raw checked are.0 w.taken r.stream in
+      let read_mid = within mid us r.raw (between-checked limits wide checked checked_too) (between-allows limits wide allow) are.0 taken fits r.stream in
+      let octets : List ℕ = binary limits.symbols us in
+      let read_again = read-higher binary_narrow text_narrow form.Binary mid wide octets (path_items (closed r.raw)) (from-between limits wide) read_mid in
+      let resolved_again = stays other limits.symbols wide.symbols r.raw more (stands other limits us r.raw checked are.0 w.taken r.stream) in
       let same : text r.users ≡ text us = same-text r.users us r.same in
-      let again = read-again accepted other limits us r read_again resolved_again in
+      let again = read-again accepted other wide limits.symbols us r read_again resolved_again in
       let shown = accepted catalog limits to.Text bytes target.Text w.tops us (ap (λ (g : Form). resolved g to.Text) f_is) w.read w.resolved_are w.users_are tt in
       record {
         tops = w.tops;
@@ -82,11 +112,11 @@ module _ (is_read : WhatIsAcceptedIsRead) (accepted : WhatIsReadIsAccepted) (val
         shown = subst (λ (m : ℕ). HasVerdict catalog limits to.Text bytes (Accepted m) (text us)) (sym w.count) shown;
         as_text = moved to.Text us w.output w.count same (again to.Text target.Text refl tt);
         as_other = moved to.Other us w.output w.count same (again to.Other target.Text refl tt);
-        as_nothing = subst₂ (λ (xs : List ℕ) (m : ℕ). HasVerdict other limits to.Nothing xs (Accepted m) []) (sym w.output) (sym w.count) (again to.Nothing target.Nothing refl tt);
+        as_nothing = subst₂ (λ (xs : List ℕ) (m : ℕ). HasVerdict other wide to.Nothing xs (Accepted m) []) (sym w.output) (sym w.count) (again to.Nothing target.Nothing refl tt);
       }
     where
       moved : (asked : To) (us : List (Top UserSymbol ℕ)) → written ≡ binary limits.symbols us → n ≡ length us → {out : List ℕ} → out ≡ text us
-          → HasVerdict other limits asked (binary limits.symbols us) (Accepted (length us)) out → HasVerdict other limits asked written (Accepted n) (text us)
+          → HasVerdict other wide asked (binary limits.symbols us) (Accepted (length us)) out → HasVerdict other wide asked written (Accepted n) (text us)
       moved asked us output count same v =
-          subst₂ (λ (xs : List ℕ) (m : ℕ). HasVerdict other limits asked xs (Accepted m) (text us)) (sym output) (sym count)
-          (subst (λ (o : List ℕ). HasVerdict other limits asked (binary limits.symbols us) (Accepted (length us)) o) same v)
+          subst₂ (λ (xs : List ℕ) (m : ℕ). HasVerdict other wide asked xs (Accepted m) (text us)) (sym output) (sym count)
+          (subst (λ (o : List ℕ). HasVerdict other wide asked (binary limits.symbols us) (Accepted (length us)) o) same v)

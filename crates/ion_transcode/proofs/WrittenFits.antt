@@ -164,12 +164,12 @@ module _ (limits : Limits) where
 
   -- what was read within the limits has user values that fit them, where their declared texts do
   pub users-of-read-fit : NumbersInTextFit → 16 ≤ limits.scalar → TextsOfUsersAreShort → TextsWithinFit
-      → (catalog : List Shared) (tops : List (Top SymbolAt ℕ)) (us : List (Top UserSymbol ℕ)) → TextsFit limits catalog
+      → (catalog : List Shared) (tops : List (Top SymbolAt ℕ)) (us : List (Top UserSymbol ℕ)) → TextsFit limits limits catalog
       → AllByRecursion IsRaw tops → AllByRecursion (TopIsWithin limits) tops → AreWithin limits [] us → user_tops catalog system tops ≡ Some us
       → AllByRecursion (FitsBinary limits) us
   users-of-read-fit numbers enough short fit catalog tops us texts raw h within e =
       both-fit us (subst (λ o. IfSome o TopsFit) e (tops-fit numbers enough catalog tops raw h system)) (by texts)
     where
-      by : TextsFit limits catalog → AllByRecursion (SymbolsFit limits) us
+      by : TextsFit limits limits catalog → AllByRecursion (SymbolsFit limits) us
       by (inl c) = symbols-fit us (short limits.scalar catalog tops us c (tops-short tops h) e)
       by (inr room) = fit limits us room within

@@ -13,6 +13,7 @@ pub mod UserPaths
 pub mod RoundTrip
 pub mod Acceptance
 pub mod Depth
+pub mod Raised
 pub mod WrittenAgain
 pub mod ShownAgain
 pub mod Calls

@@ -4,6 +4,7 @@ ghost use Rattle.ion_transcode.specs.Catalogues.{CatalogVerdictsAreRead, Catalog
 ghost use Rattle.ion_transcode.specs.Depth.{WhatIsReadIsNoDeeper};
 ghost use Rattle.ion_transcode.specs.Forms.{binary_encoding, text_encoding};
 ghost use Rattle.ion_transcode.specs.Laws.{BinaryIsComplete, BinaryIsSound, OneSpelling, OneVerdict, SpellsOnce, StreamsAreRead, TextIsComplete, TextIsSound};
+ghost use Rattle.ion_transcode.specs.Raised.{WhatIsAcceptedStays};
 ghost use Rattle.ion_transcode.specs.RoundTrip.{RoundTrip, ShowOnce, TextIsRead, ThereAndBack, ValuesOfStreams};
 ghost use Rattle.ion_transcode.specs.ShownAgain.{TextIsReadWithin, WhatIsShownIsAccepted};
 ghost use Rattle.ion_transcode.specs.UserPaths.{FaultlessPathsAreRead, RefusedOutputIsThatOfAPath};
@@ -13,7 +14,7 @@ use ion_binary::laws as binary;
 use ion_symbols::laws::{
     catalogs_are_read, catalogs_are_tables, open_users_are_read, tables_of_users_are_text,
     texts_of_users_are_short, users_are_read, users_of_raw_values, what_is_accepted_is_resolved,
-    what_is_resolved_is_accepted,
+    what_is_resolved_is_accepted, what_is_resolved_stays,
 };
 use ion_text_in::laws as text;
 use ion_text_out::laws::{path_text_is_that_of_items, text_is_that_of_items};
@@ -283,6 +284,18 @@ pub fn what_is_accepted_is_read()
     text::one_stream();
 }
 
+/// What is accepted under limits is accepted under higher ones, and written the same: to binary where
+/// the limit on symbols, by which texts keep their ids, is the same.
+pub fn what_is_accepted_stays()
+    ensures { WhatIsAcceptedStays }
+{
+    what_is_accepted_is_read();
+    what_is_read_is_accepted();
+    binary::limits_only_cut_short();
+    text::limits_only_cut_short();
+    what_is_resolved_stays();
+}
+
 /// The values of a stream that is read to its end open no more containers inside each other than
 /// the limit says.
 pub fn what_is_read_is_no_deeper()
@@ -327,8 +340,8 @@ pub fn what_is_shown_is_accepted()
 }
 
 /// Where a run to binary accepts a text, a run over what it wrote accepts that too, under the same
-/// limits and whatever the catalogue, and writes what a run to text over the text does: under checked
-/// limits that allow a declaration and its texts.
+/// limits or higher ones, and whatever the catalogue, and writes what a run to text over the text does:
+/// under checked limits that allow a declaration and its texts.
 pub fn written_binary_is_accepted()
     ensures { WrittenBinaryIsAccepted }
 {
@@ -344,4 +357,7 @@ pub fn written_binary_is_accepted()
     binary::what_is_written_is_within_limits();
     binary::what_is_written_is_resolved();
     binary::numbers_in_text_fit();
+    binary::limits_only_cut_short();
+    text::limits_only_cut_short();
+    what_is_resolved_stays();
 }

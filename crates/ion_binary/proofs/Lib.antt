@@ -53,3 +53,8 @@ mod RawStreams
 mod ShortValues
 mod NumbersFit
 mod ShortNumbers
+mod ShownParts
+mod Handing
+mod Feeding
+mod PlainAdded
+mod Reserved

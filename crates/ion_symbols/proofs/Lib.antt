@@ -14,6 +14,7 @@ mod Answering
 mod Sharing
 mod Turns
 mod UserTurns
+mod Feeding
 mod DeclarationReadings
 mod Yields
 mod DeclarationLists
@@ -40,6 +41,7 @@ mod OutputTexts
 mod Orders
 mod Adding
 mod Finding
+mod InBuckets
 mod CatalogRows
 mod CatalogReadings
 mod CatalogViews

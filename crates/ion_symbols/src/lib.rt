@@ -11,6 +11,7 @@ pub mod catalog;
 pub mod catalog_builder;
 mod checks;
 mod entry_view;
+mod hash;
 mod item_view;
 mod known_text;
 pub mod laws;

@@ -15,12 +15,14 @@ ghost use Rattle.ion_text_in.specs.Reading.{reading};
 ghost use Rattle.ion_text_in.specs.Tokens.{as_symbol, going, overrun_of, token_view, BodyInRange, TokenInRange};
 ghost use Rattle.ion_text_in.specs.Symbols.{is_annotated, kept_text};
 ghost use Rattle.ion_text_in.specs.Expecting.{wanted, MayExpect};
+ghost use Rattle.ion_text_in.specs.Feeding.{reader_lane, window_end, CanFeed, Moved, PassedLent};
 ghost use Rattle.ion_text_in.specs.Steps.{annotations_in, as_head, closing, ending, given_by, held_by, left_to, lent_by, naming, naming_here, opened_in, opening, scalar_by, share_of, sound-within, taking, to_come_by, to_come_in, with_colons, without_colons, CanAdvance, CanStep, IsInside, IsReady, IsSized, IsSound, ReadyAfter, StepGives, Stepped};
 
 mod lanes;
 
 use crate::blank::pass_blanks;
 use crate::expected::{Expected, at_member, behind_comma, behind_member, is_colons, is_same};
+use crate::feed::{Spot, feed_items};
 use crate::first::{First, next_first, pass_to_token, told_first};
 use crate::operator::{pass_colons, pass_mark};
 use crate::symbol::{FieldName, annotation_place, keep_text, lent_field, lent_symbol};
@@ -28,16 +30,18 @@ use crate::token::{Body, Symbol, Token};
 use crate::version::{is_version, is_version_word};
 use crate::waiting::shows_item;
 use ion_meter::buf::Buf;
-use ion_meter::device::Input;
+use ion_meter::device::{Input, Output};
 use ion_meter::fault::{Fault, Reason};
 use ion_meter::limits::Limits;
 use ion_meter::meter::Meter;
+use ion_meter::sink::Sink;
 use ion_meter::source::Source;
 use ion_meter::stack::Stack;
 use ion_value::ion_type::Kind;
 use ion_value::item::{Annotation, Annotations, Head, Item};
-use ion_value::names::NoNames;
-use ion_value::reader::RawReader;
+use ion_value::names::{Names, NoNames};
+use ion_value::reader::{Fed, RawReader};
+use ion_value::writer::ValueWriter;
 use std::alloc::Allocator;
 use std::mem;
 
@@ -698,6 +702,46 @@ impl<I: Input, A: Allocator + Copy> TextReader<I, A> {
         }
     }
 
+    // Hands on what lies whole in the window, between two items: how many values at top level end.
+    #[inline(never)]
+    fn feed_window<W: ValueWriter<O, A>, O: Output>(
+        &mut self,
+        meter: &mut Meter<A>,
+        writer: &mut W,
+        sink: &mut Sink<O, A>,
+    ) -> u64
+        requires stands { Stands self.old.source }
+        requires can { CanFeed W.ValueWriter self.old.limits (window_end self.old.source)
+            (reader_lane self.old 0 writer.old sink.old meter.old) }
+        ensures moved { Moved W.ValueWriter self.old.limits (window_end self.old.source)
+            (reader_lane self.old 0 writer.old sink.old meter.old)
+            (reader_lane self.new result writer.new sink.new meter.new) }
+        ensures passed { PassedLent self.old.source self.new.source }
+        ensures same { self.new ≡ record self.old {
+          source = self.new.source;
+          kinds = self.new.kinds;
+          expected = self.new.expected;
+          top = self.new.top;
+        } }
+    {
+        let bytes = self.source.buffer();
+        let count = bytes.len();
+        let spot = Spot {
+            rest: bytes,
+            expected: self.expected,
+            top: self.top,
+            values: 0,
+        };
+        let end = self.source.place() + count as u64;
+        let last = feed_items(spot, self.limits, end, &mut self.kinds, meter, writer, sink);
+        let taken = count - last.rest.len();
+        self.expected = last.expected;
+        self.top = last.top;
+        let values = last.values;
+        self.source.consume(taken);
+        values
+    }
+
     // What the item is that is lent.
     #[inline]
     fn head(&self) -> Head<'_>
@@ -781,6 +825,28 @@ impl<I: Input, A: Allocator + Copy> RawReader<A> for TextReader<I, A> {
             self.place,
             self.top,
         )
+    }
+
+    #[inline(always)]
+    fn feed<N: Names, W: ValueWriter<O, A>, O: Output>(
+        &mut self,
+        meter: &mut Meter<A>,
+        _names: &N,
+        writer: &mut W,
+        sink: &mut Sink<O, A>,
+    ) -> Fed {
+        if self.done || self.unfinished.is_some() {
+            return Fed {
+                values: 0,
+                level: self.kinds.as_slice().len() as u32,
+            };
+        }
+        self.forget(meter);
+        let values = self.feed_window(meter, writer, sink);
+        Fed {
+            values,
+            level: self.kinds.as_slice().len() as u32,
+        }
     }
 
     #[inline(always)]

@@ -40,6 +40,10 @@ fn start(rt: &impl Abort, alloc: Global, symbols: u64) -> Texting
 enum Step<'a> {
     /// The id of a text.
     Id(&'a str, Option<u32>),
+    /// The id of a text, found without a search where it has one.
+    Give(&'a str, Option<u32>),
+    /// The id that a text has.
+    Known(&'a str, Option<u32>),
     /// The texts from an id on.
     Since(u32, &'a [&'a str]),
     /// Where a text stands in order of bytes, or where it belongs.
@@ -63,6 +67,17 @@ impl Texting {
         assert!(rt; self.meter.held() < 1 << 32);
         assert!(rt; self.meter.refused() < 1 << 32);
         let given = self.texts.id_of(&mut self.meter, text.as_bytes());
+        same(rt, (text, given), (text, Ok(id)));
+    }
+
+    // Asserts the id of a text, which is found without a search where it has one.
+    fn expect_given(&mut self, rt: &impl Abort, text: &str, id: Option<u32>)
+        requires held { texts_cost self.old.texts.texts ≤ self.old.meter.held }
+        ensures held { texts_cost self.new.texts.texts ≤ self.new.meter.held }
+    {
+        assert!(rt; self.meter.held() < 1 << 32);
+        assert!(rt; self.meter.refused() < 1 << 32);
+        let given = self.texts.give_id(&mut self.meter, text.as_bytes());
         same(rt, (text, given), (text, Ok(id)));
     }
 
@@ -94,6 +109,10 @@ impl Texting {
     {
         match step {
             Step::Id(text, id) => self.expect_id(rt, text, id),
+            Step::Give(text, id) => self.expect_given(rt, text, id),
+            Step::Known(text, id) => {
+                same(rt, (text, self.texts.known(text.as_bytes())), (text, id));
+            }
             Step::Since(id, texts) => self.expect_since(rt, id, texts),
             Step::Place(text, place) => self.expect_place(rt, text, place),
             Step::Cost(cost) => {
@@ -202,6 +221,53 @@ const SYSTEM: &[Step] = &[
 #[test]
 fn system_texts_have_ids_without_probes(rt: HostRuntime) {
     follow(&rt, rt.alloc(), 1_024, SYSTEM);
+}
+
+const KNOWN: &[Step] = &[
+    Step::Known("b", None),
+    Step::Known("name", Some(4)),
+    Step::Give("b", Some(10)),
+    Step::Give("name", Some(4)),
+    Step::Give("", Some(11)),
+    Step::Id("abc", Some(12)),
+    Step::Give("b", Some(10)),
+    Step::Known("b", Some(10)),
+    Step::Known("", Some(11)),
+    Step::Known("abc", Some(12)),
+    Step::Known("abd", None),
+    Step::Known("$ion_shared_symbol_table", Some(9)),
+    Step::Probes(2, 2),
+    Step::Cost(3 * 16 + 1 + 3),
+    Step::Since(10, &["b", "", "abc"]),
+    Step::Clear,
+    Step::Known("b", None),
+    Step::Give("abc", Some(10)),
+    Step::Known("abc", Some(10)),
+];
+
+// Texts that differ in no byte that is read for their bucket, more than are compared there.
+const IN_ONE_BUCKET: &[Step] = &[
+    Step::Give("aaaaaaaaaaaaaaaa00bbbbbbbbbbbbbbbb", Some(10)),
+    Step::Give("aaaaaaaaaaaaaaaa07bbbbbbbbbbbbbbbb", Some(11)),
+    Step::Give("aaaaaaaaaaaaaaaa04bbbbbbbbbbbbbbbb", Some(12)),
+    Step::Give("aaaaaaaaaaaaaaaa09bbbbbbbbbbbbbbbb", Some(13)),
+    Step::Give("aaaaaaaaaaaaaaaa02bbbbbbbbbbbbbbbb", Some(14)),
+    Step::Give("aaaaaaaaaaaaaaaa06bbbbbbbbbbbbbbbb", Some(15)),
+    Step::Give("aaaaaaaaaaaaaaaa01bbbbbbbbbbbbbbbb", Some(16)),
+    Step::Give("aaaaaaaaaaaaaaaa08bbbbbbbbbbbbbbbb", Some(17)),
+    Step::Give("aaaaaaaaaaaaaaaa03bbbbbbbbbbbbbbbb", Some(18)),
+    Step::Give("aaaaaaaaaaaaaaaa05bbbbbbbbbbbbbbbb", Some(19)),
+    Step::Known("aaaaaaaaaaaaaaaa00bbbbbbbbbbbbbbbb", Some(10)),
+    Step::Known("aaaaaaaaaaaaaaaa07bbbbbbbbbbbbbbbb", Some(11)),
+    Step::Known("aaaaaaaaaaaaaaaa04bbbbbbbbbbbbbbbb", Some(12)),
+    Step::Known("aaaaaaaaaaaaaaaa05bbbbbbbbbbbbbbbb", Some(19)),
+    Step::Known("aaaaaaaaaaaaaaaa10bbbbbbbbbbbbbbbb", None),
+];
+
+#[test]
+fn a_text_that_has_an_id_is_known(rt: HostRuntime) {
+    follow(&rt, rt.alloc(), 1_024, KNOWN);
+    follow(&rt, rt.alloc(), 1_024, IN_ONE_BUCKET);
 }
 
 const PAST_THE_LIMIT: &[Step] = &[

@@ -17,6 +17,10 @@ impl Names for OneName {
     fn text_of(&self, id: u32) -> Option<&[u8]> {
         if id == 10 { Some(b"name") } else { None }
     }
+
+    fn simple_text(&self, id: u32) -> Option<&[u8]> {
+        self.text_of(id)
+    }
 }
 
 const ENTRIES: [Annotation; 3] = [

@@ -101,26 +101,6 @@ shows_named texts octets here f id behind t struct v has simple at = record {
       (ap (var_uint_at (Some f.end)) (sym (skip-none here octets more)) ∙ v.gives here more (Some f.end) reaches);
 }
 
--- and there is none outside structs
-pub shows_unnamed : (texts : ℕ → Option (List ℕ)) (octets : List ℕ) (here : ℕ) (f : Option frame.Frame) → in_struct (map (λ x. x.kind) (innermost f)) ≡ false → ShowsField texts octets here (innermost f) None 0
-shows_unnamed texts octets here f none = record {
-  raw = None;
-  within = omega arith;
-  named = refl;
-  simple = tt;
-  there = sym none;
-  gives = λ more reaches. no_field f (window here octets more) none ∙ ap (λ c. Ok (None, c)) (sym (skip-none here octets more));
-}
-  where
-    no_field : (f : Option frame.Frame) (c : Cursor) → in_struct (map (λ x. x.kind) (innermost f)) ≡ false → field_at (innermost f) c ≡ Ok (None, c)
-    no_field None c e = refl
-    no_field (Some f) c e = by_kind f.kind e
-      where
-        by_kind : (k : Kind) → in_struct (k ∷ []) ≡ false → field_in k (Some f.end) c ≡ Ok (None, c)
-        by_kind kind.List e = refl
-        by_kind kind.Sexp e = refl
-        by_kind kind.Struct e = absurd (cc e)
-
 -- ---- a member, and where the reader stands behind it
 
 top-innermost : (frames : List Frame) (f : Option frame.Frame) (top place : ℕ) → IsInnermost frames f → top_of frames top place ≡ top_of (innermost f) top place

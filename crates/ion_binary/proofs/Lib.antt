@@ -57,4 +57,3 @@ mod ShownParts
 mod Handing
 mod Feeding
 mod PlainAdded
-mod Reserved

@@ -292,29 +292,7 @@ room-begun limits v w x code checked o small eo eh ec room =
       fits = omega (arith, f, long, few, room);
     }
 
--- ---- the two innermost headers
-
-two-first : {X : Type 0} (ys : List X) (d : X) → 1 < length ys → ys ≡ get_or ys 0 d ∷ (get_or ys 1 d ∷ drop 2 ys)
-two-first [] d h = absurd (omega (arith, h))
-two-first (y ∷ []) d h = absurd (omega (arith, h))
-two-first (y ∷ z ∷ ys) d h = refl
-
-pub two-last : {X : Type 0} (xs : List X) (d : X) → 1 < length xs → reverse xs ≡ get_or xs (length xs - 1) d ∷ (get_or xs (length xs - 2) d ∷ drop 2 (reverse xs))
-two-last {X} xs d h =
-    let long : length (reverse xs) ≡ length xs = length-reverse xs in
-    let first : get_or (reverse xs) 0 d ≡ get_or xs (length xs - 1) d = get_or-reverse xs 0 d (omega (arith, h)) ∙ ap (λ k. get_or xs k d) (omega arith) in
-    let second : get_or (reverse xs) 1 d ≡ get_or xs (length xs - 2) d = get_or-reverse xs 1 d (omega (arith, h)) ∙ ap (λ k. get_or xs k d) (omega arith) in
-    two-first (reverse xs) d (omega (arith, long, h))
-    ∙ (ap (λ (y : X). y ∷ (get_or (reverse xs) 1 d ∷ drop 2 (reverse xs))) first ∙ ap (λ (y : X). get_or xs (length xs - 1) d ∷ (y ∷ drop 2 (reverse xs))) second)
-
--- a container that has no wrapper and stands in another closes
-pub closed-plain : (octets : List ℕ) (hs : List HeaderPlace) (h g : HeaderPlace) (rest : List HeaderPlace) → hs ≡ h ∷ (g ∷ rest) → g.code ≢ 14
-    → (closed_in octets hs ≡ headed_at h octets) × (headers_around hs ≡ g ∷ rest)
-closed-plain octets hs h g rest e ne =
-    let no : nat_eq g.code 14 ≡ false = ne_eqb g.code 14 ne in (
-      ap (closed_in octets) e ∙ ap (λ (b : Bool). if b then headed_at g (headed_at h octets) else headed_at h octets) no,
-      ap (λ (xs : List HeaderPlace). headers_around xs) e ∙ ap (λ (b : Bool). if b then rest else g ∷ rest) no,
-    )
+-- ---- the innermost header
 
 -- one was taken off where there was one
 pub popped : (o : Option HeaderPlace) (hs gs rest : List HeaderPlace) (h : HeaderPlace) → hs ≡ h ∷ rest → MatchOption o ((hs ≡ []) × (gs ≡ [])) (λ x. hs ≡ x ∷ gs) → gs ≡ rest

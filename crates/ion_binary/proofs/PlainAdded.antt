@@ -122,31 +122,6 @@ scalar-added h item new known w e =
 
 -- ---- one call
 
-declines-taken : {A : Type 0} (w : BinWriter A) (m : Counts) → CanTake w m → Taken w w m m None
-declines-taken w m c = record {
-  sound = c.sound;
-  limits = refl;
-  failed = refl;
-  memory = record { memory = λ e. absurd (Prim.cc e); counted = λ e. refl };
-  charges =
-      let within = binary-within w c.sound in
-      let share = within.share in
-      let held = c.held in
-      record { held = omega arith; share = share; peak = omega arith; rises = omega arith };
-}
-
--- it was declined
-pub plain-declined : {A : Type 0} (w : BinWriter A) (m : Counts) (item : PlacedItem) → CanTake w m → AddsPlain w w m m item false
-plain-declined w m item c = record {
-  held = λ e. absurd (Prim.cc e);
-  is_open = λ e. absurd (Prim.cc e);
-  passes = λ e. absurd (Prim.cc e);
-  keeps = λ e. absurd (Prim.cc e);
-  inside = λ e. absurd (Prim.cc e);
-  declines = λ e. (refl, refl);
-  taken = declines-taken w m c;
-}
-
 -- its open value has moved
 pub plain-taken : {A : Type 0} (w : BinWriter A) (v : OpenValue A) (before after : Counts) → CanTake w before → Stepped w.limits w.open_value v before after None
     → Taken w (record w { open_value = v }) before after None
@@ -221,37 +196,6 @@ by-parts P item f ss head ef es eh p =
     let C : Head SymbolAt → Type 0 = λ x. P (with_parts item f ss x) in
     subst A (sym ef) (subst B (sym es) (subst C (sym eh) p))
 
-begun-have : (texts : List (List ℕ)) (f : Option SymbolAt) → HaveIds texts (field_symbols f) → HaveIds texts (field_symbols f ++ [])
-begun-have texts f h = have-append texts (field_symbols f) [] h tt
-
--- a container that begins without annotations has ids where its field has one
-pub begun-known : (texts : List (List ℕ)) (item : PlacedItem) (k : Kind) → item.annotations ≡ [] → item.head ≡ value.begin k → HaveIds texts (field_symbols item.field) → HaveIds texts (item_symbols item)
-begun-known texts item k bare head known =
-    by-parts (λ i. HaveIds texts (item_symbols i)) item item.field [] (value.begin k) refl bare head (begun-have texts item.field known)
-
--- it adds its field, and lacks its header
-pub begun-added : (h : Held) (item : PlacedItem) (k : Kind) (os : List ℕ) (hs : List HeaderPlace) → item.annotations ≡ [] → item.head ≡ value.begin k → HaveIds h.texts (field_symbols item.field)
-    → os ≡ h.octets ++ field_octets (id_in h.texts) (user_item item).field
-    → hs ≡ header_at (length h.octets + length (field_octets (id_in h.texts) (user_item item).field)) (type_code k) ∷ h.headers
-    → record h { octets = os; headers = hs } ≡ added h item
-begun-added h item k os hs bare head known eo eh =
-    by-parts (λ i. record h { octets = os; headers = hs } ≡ added h i) item item.field [] (value.begin k) refl bare head here
-  where
-    i : PlacedItem
-    i = with_parts item item.field [] (value.begin k)
-
-    field : List ℕ
-    field = field_octets (id_in h.texts) (user_item item).field
-
-    here : record h { octets = os; headers = hs } ≡ added h i
-    here =
-        let octets : octets_with h (user_item i) ≡ h.octets ++ field = begun-is h.octets field (id_in h.texts) [] ∙ ap (λ (x : List ℕ). h.octets ++ x) (append-nil field) in
-        let headers : headers_with h (user_item i) ≡ header_at (length h.octets + length field) (type_code k) ∷ h.headers =
-        headers-begun h.octets field (id_in h.texts) [] k h.headers ∙ ap (λ n. header_at (length h.octets + n) (type_code k) ∷ h.headers) (omega arith) in
-        ap (λ (x : List ℕ). record h { octets = x; headers = hs }) (eo ∙ sym octets)
-        ∙ (ap (λ (x : List HeaderPlace). record h { octets = octets_with h (user_item i); headers = x }) (eh ∙ sym headers)
-        ∙ sym (added-is h i (begun-have h.texts item.field known)))
-
 -- one that ends has no symbols
 pub ended-known : (texts : List (List ℕ)) (item : PlacedItem) → item.field ≡ None → item.annotations ≡ [] → item.head ≡ value.end → HaveIds texts (item_symbols item)
 ended-known texts item none bare head = by-parts (λ i. HaveIds texts (item_symbols i)) item None [] value.end none bare head tt
@@ -270,16 +214,8 @@ ended-added h item os hs none bare head eo eh =
         ap (λ (x : List ℕ). record h { octets = x; headers = hs }) (eo ∙ sym octets)
         ∙ (ap (λ (x : List HeaderPlace). record h { octets = octets_with h (user_item i); headers = x }) eh ∙ sym (added-is h i tt))
 
--- what an item asks for by its head
-pub begun-deep : {A : Type 0} (limits : Limits) (v : OpenValue A) (item : PlacedItem) (k : Kind) → item.head ≡ value.begin k → MayAdd limits v item.head item → length v.headers + 2 ≤ 2 * limits.depth
-begun-deep {A} limits v item k e may = let P : Head SymbolAt → Type 0 = λ h. MayAdd {A = A} limits v h item in subst P e may
-
 pub ended-bare : {A : Type 0} (limits : Limits) (v : OpenValue A) (item : PlacedItem) → item.head ≡ value.end → MayAdd limits v item.head item → (item.field ≡ None) × (item.annotations ≡ [])
 ended-bare {A} limits v item e may = let P : Head SymbolAt → Type 0 = λ h. MayAdd {A = A} limits v h item in subst P e may
-
-pub listed-none : (a : Option TextAt) → is_some a ≡ false → listed (option_map placed_text a) ≡ []
-listed-none None e = refl
-listed-none (Some t) e = absurd (Prim.cc e)
 
 -- a header of one octet, and a short body
 pub short-headed : (code k : ℕ) (xs u : List ℕ) → k ≤ 8 → take k xs ≡ u → (16 * code + length (take k xs)) ∷ take k xs ≡ headed code u
@@ -334,18 +270,6 @@ module _ {A : Type 0} (old new : BinWriter A) (before after : Counts) (s : Writt
       ∙ ap (λ (x : List ℕ). pending ++ x)
       (put-behind old.limits.symbols old.limits.depth s item (held_in old) ends-begun comes.0.codes comes.1
       ∙ ap (λ (r : Option (Reason × ℕ)). unless_refused r (item_puts old.limits.symbols s (user_item item))) (sym ends-passes))
-
--- it was declined
-pub ends-declined : {A : Type 0} (w : BinWriter A) (m : Counts) (item : PlacedItem) (pending : List ℕ) → CanTake w m → EndsPlain w w m m item pending pending false
-ends-declined w m item pending c = record {
-  held = λ e. absurd (Prim.cc e);
-  puts = λ e. absurd (Prim.cc e);
-  is_open = λ e. absurd (Prim.cc e);
-  passes = λ e. absurd (Prim.cc e);
-  keeps = λ e. absurd (Prim.cc e);
-  declines = λ e. (refl, refl);
-  taken = declines-taken w m c;
-}
 
 drop-all : (ts : List (List ℕ)) → drop (length ts) ts ≡ []
 drop-all [] = refl

@@ -111,14 +111,6 @@ not_of_system texts t h = by_id (system_id t) (position texts t) h
     by_id None place h = refl
     by_id (Some id) place h = absurd (cc)
 
--- texts of other lengths are not the same
-pub not_as_long : (s t : List ℕ) → (length s ≡ length t → ⊥) → bytes_eq s t ≡ false
-not_as_long s t h = by_test (bytes_eq s t) (λ e. h (ap length ((bytes_eq-Decides s t).0 e)))
-  where
-    by_test : (b : Bool) → (b ≡ true → ⊥) → b ≡ false
-    by_test true h = absurd (h refl)
-    by_test false h = refl
-
 -- ---- a text that is looked for
 
 -- none from a place on is the text, and the one before that place stands in its bucket
@@ -126,16 +118,6 @@ pub record Looks (texts : List (List ℕ)) (t : List ℕ) (at : ℕ) : Type 0 wh
   pub within : at ≤ length texts
   pub none_behind : (i : ℕ) → at ≤ i → i < length texts → get_or texts i [] ≡ t → ⊥
   pub there : 0 < at → bucket_of (get_or texts (at - 1) []) ≡ bucket_of t
-
--- from the last of its bucket on
-pub begins : (texts : List (List ℕ)) (places : List Place) (buckets : List ℕ) (t : List ℕ) (of at : ℕ) → Chained texts places buckets → of ≡ bucket_of t → of < 512 → at ≡ get_or buckets of 0 → Looks texts t at
-begins texts places buckets t of at h o l a =
-    let head : IsLatest texts of (length texts) at = subst (IsLatest texts of (length texts)) (sym a) (h.heads of l) in
-    record {
-      within = head.within;
-      none_behind = λ i b m e. head.none_behind i b m (ap bucket_of e ∙ sym o);
-      there = λ p. head.there p ∙ o;
-    }
 
 -- a text that is not the one before the place is not found from the one before it in its bucket on
 pub goes_on : (texts : List (List ℕ)) (places : List Place) (buckets : List ℕ) (t : List ℕ) (at at2 : ℕ) (d : Place) → Chained texts places buckets → Looks texts t at → 0 < at

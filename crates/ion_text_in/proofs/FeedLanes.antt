@@ -24,16 +24,6 @@ module _ {W O A : Type 0} (w : WriterOf W O A) (limits : Limits) (end : ℕ) whe
   pub can-held : (l : Lane W O) → CanFeed w limits end l → lane_held w l ≤ lane_share w limits l
   can-held l can = (let few = can.few in let share = can.share.share in omega (arith, few, share))
 
-  -- a writer may be asked, in memory that it has room for
-  pub room-held : (l : Lane W O) → CanFeed w limits end l → l.meter.held + 16 ≤ 2 ^ 62
-  room-held l can =
-      let few = can.few in
-      let share = can.share.share in
-      let small = can.share.small in
-      let deep = can.checked.depth in
-      let room = can.room in
-      omega (arith, few, share, small, deep, room)
-
   stays-same : (l : Lane W O) → CanFeed w limits end l → StaysWell w l.writer l.writer l.sink l.sink l.meter l.meter
   stays-same l can = record { sound = can.takes.sound; failed = refl; limits = refl; most = refl; device = refl; fault = refl; refused = refl }
 

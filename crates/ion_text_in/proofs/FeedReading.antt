@@ -92,14 +92,6 @@ passes-white bytes n there white ends slash =
       bare = λ p more. bare-by p rest more (omega (arith, long, there)) ends slash;
     }
 
-pub passes-none : (bytes : List ℕ) → IsBare bytes → PassesBlanks bytes bytes
-passes-none bytes bare = record {
-  part = none-behind bytes;
-  fewer = omega arith;
-  blank = λ p q more e. let same : p ≡ q = omega (arith, e) in bare p more ∙ ap (λ (k : ℕ). Ok (at k (bytes ++ more))) same;
-  bare = bare;
-}
-
 not-same : (x b : ℕ) → (x ≡ b → ⊥) → (x == b) ≡ false
 not-same x b other = grind (arith, other)
 
@@ -180,13 +172,6 @@ onward-then limits kinds top p q a b c x y z e f g = record {
   part = behind-then x y z f.part g.part;
   fewer = omega (arith, f.fewer, g.fewer);
   same = λ r more h. f.same q more e ∙ g.same r more (omega (arith, e, h));
-}
-
-pub onward-none : (limits : Limits) (kinds : List Kind) (top place : ℕ) (wants : Wants) (bytes : List ℕ) → Onward limits kinds top place wants bytes wants bytes
-onward-none limits kinds top place wants bytes = record {
-  part = none-behind bytes;
-  fewer = omega arith;
-  same = λ q more e. let same : place ≡ q = omega (arith, e) in ap (λ (k : ℕ). later limits (state kinds top wants k (bytes ++ more))) same;
 }
 
 -- ---- heads

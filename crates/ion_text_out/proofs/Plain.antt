@@ -51,9 +51,6 @@ pub begin_put : (cs : Open) (item : PlainItem) (kind : Kind) → IsSimple (place
     → plain_begin cs item (opener kind) ≡ item_text cs (user_item (placed_item item))
 begin_put cs item kind simple head = rw (head, front_is item simple) refl
 
-pub end_put : (cs : Open) (item : PlainItem) → raw_head item.head ≡ v.end → end_text cs ≡ item_text cs (user_item (placed_item item))
-end_put cs item head = rw head refl
-
 -- ---- marks are short
 
 pub before-short : (cs : Open) → length (before_item cs) ≤ 1

@@ -4,7 +4,7 @@ use Rattle.ion_value.specs.PlainItems.{placed_item}
 use Rattle.ion_value.specs.Value as value
 use Rattle.ion_value.specs.Value.{Head, SymbolAt}
 use Rattle.ion_text_out.specs.Writing.{shown, HasRoom}
-use Rattle.ion_text_out.proofs.Plain.{adds_here, begin_put, end_put, scalar_put}
+use Rattle.ion_text_out.proofs.Plain.{adds_here, begin_put, scalar_put}
 use Rattle.ion_text_out.proofs.WriterSteps.{has_room}
 use Rattle.ion_text_out.proofs.writer.TextWriterValueWriter.take_plain.Goals as goal
 

@@ -6,7 +6,6 @@ ghost use Rattle.ion_meter.specs.Counts.{Counts, Shrinks};
 ghost use Rattle.ion_meter.specs.Limits.{AreChecked};
 ghost use Rattle.ion_meter.specs.Sources.{BytesAreLeft, Cursor, cursor, skip, Exceeds, Stands};
 ghost use Rattle.ion_meter.specs.Windows.{left, lent};
-ghost use Rattle.ion_value.specs.Items.{raw_head};
 ghost use Rattle.ion_value.specs.Reading.{Finished, More, Stopped};
 ghost use Rattle.ion_text_in.specs.Blanks.{blanks};
 ghost use Rattle.ion_text_in.specs.Positions.{at, innermost, in_sexp};
@@ -15,17 +14,17 @@ ghost use Rattle.ion_text_in.specs.Reading.{reading};
 ghost use Rattle.ion_text_in.specs.Tokens.{as_symbol, going, overrun_of, token_view, BodyInRange, TokenInRange};
 ghost use Rattle.ion_text_in.specs.Symbols.{is_annotated, kept_text};
 ghost use Rattle.ion_text_in.specs.Expecting.{wanted, MayExpect};
-ghost use Rattle.ion_text_in.specs.Feeding.{reader_lane, window_end, CanFeed, Moved, PassedLent};
-ghost use Rattle.ion_text_in.specs.Steps.{annotations_in, as_head, closing, ending, given_by, held_by, left_to, lent_by, naming, naming_here, opened_in, opening, scalar_by, share_of, sound-within, taking, to_come_by, to_come_in, with_colons, without_colons, CanAdvance, CanStep, IsInside, IsReady, IsSized, IsSound, ReadyAfter, StepGives, Stepped};
+ghost use Rattle.ion_text_in.specs.Steps.{annotations_in, closing, ending, given_by, held_by, left_to, lent_by, naming, naming_here, opened_in, opening, scalar_by, share_of, sound-within, taking, to_come_by, to_come_in, with_colons, without_colons, CanAdvance, CanStep, IsInside, IsReady, IsSized, IsSound, ReadyAfter, StepGives, Stepped};
 
 mod lanes;
+mod lent;
+mod window;
 
 use crate::blank::pass_blanks;
 use crate::expected::{Expected, at_member, behind_comma, behind_member, is_colons, is_same};
-use crate::feed::{Spot, feed_items};
 use crate::first::{First, next_first, pass_to_token, told_first};
 use crate::operator::{pass_colons, pass_mark};
-use crate::symbol::{FieldName, annotation_place, keep_text, lent_field, lent_symbol};
+use crate::symbol::{FieldName, annotation_place, keep_text, lent_field};
 use crate::token::{Body, Symbol, Token};
 use crate::version::{is_version, is_version_word};
 use crate::waiting::shows_item;
@@ -38,7 +37,7 @@ use ion_meter::sink::Sink;
 use ion_meter::source::Source;
 use ion_meter::stack::Stack;
 use ion_value::ion_type::Kind;
-use ion_value::item::{Annotation, Annotations, Head, Item};
+use ion_value::item::{Annotation, Annotations, Item};
 use ion_value::names::{Names, NoNames};
 use ion_value::reader::{Fed, RawReader};
 use ion_value::writer::ValueWriter;
@@ -699,71 +698,6 @@ impl<I: Input, A: Allocator + Copy> TextReader<I, A> {
                 Ok(StepResult::Item) => return Ok(true),
                 Ok(StepResult::Passed) => {}
             }
-        }
-    }
-
-    // Hands on what lies whole in the window, between two items: how many values at top level end.
-    #[inline(never)]
-    fn feed_window<W: ValueWriter<O, A>, O: Output>(
-        &mut self,
-        meter: &mut Meter<A>,
-        writer: &mut W,
-        sink: &mut Sink<O, A>,
-    ) -> u64
-        requires stands { Stands self.old.source }
-        requires can { CanFeed W.ValueWriter self.old.limits (window_end self.old.source)
-            (reader_lane self.old 0 writer.old sink.old meter.old) }
-        ensures moved { Moved W.ValueWriter self.old.limits (window_end self.old.source)
-            (reader_lane self.old 0 writer.old sink.old meter.old)
-            (reader_lane self.new result writer.new sink.new meter.new) }
-        ensures passed { PassedLent self.old.source self.new.source }
-        ensures same { self.new ≡ record self.old {
-          source = self.new.source;
-          kinds = self.new.kinds;
-          expected = self.new.expected;
-          top = self.new.top;
-        } }
-    {
-        let bytes = self.source.buffer();
-        let count = bytes.len();
-        let spot = Spot {
-            rest: bytes,
-            expected: self.expected,
-            top: self.top,
-            values: 0,
-        };
-        let end = self.source.place() + count as u64;
-        let last = feed_items(spot, self.limits, end, &mut self.kinds, meter, writer, sink);
-        let taken = count - last.rest.len();
-        self.expected = last.expected;
-        self.top = last.top;
-        let values = last.values;
-        self.source.consume(taken);
-        values
-    }
-
-    // What the item is that is lent.
-    #[inline]
-    fn head(&self) -> Head<'_>
-        ensures { raw_head result ≡ as_head self.now.text self.now.place self.now.what }
-    {
-        match self.what {
-            ItemKind::Begin(kind) => Head::Begin(kind),
-            ItemKind::End => Head::End,
-            ItemKind::Marker => Head::Marker,
-            ItemKind::Scalar(body) => match body {
-                Body::Null(ion_type) => Head::Null(ion_type),
-                Body::Bool(truth) => Head::Bool(truth),
-                Body::Int(int) => Head::Int(int),
-                Body::Decimal(decimal) => Head::Decimal(decimal),
-                Body::Timestamp(timestamp) => Head::Timestamp(timestamp),
-                Body::Symbol(symbol) => {
-                    Head::Symbol(lent_symbol(self.text.as_slice(), symbol, self.place))
-                }
-                Body::String => Head::String(self.text.as_slice()),
-                Body::Clob => Head::Clob(self.text.as_slice()),
-                Body::Blob => Head::Blob(self.text.as_slice()),
-            },
         }
     }
 }

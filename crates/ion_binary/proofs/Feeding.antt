@@ -46,18 +46,6 @@ takes-more w see reads old new depth depth_then from to earlier later t h s e =
       );
     }
 
--- what stays over one call and then another
-pub stays-then : {W O A : Type 0} (w : WriterOf W O A) (x y z : W) (from at to : Outgoing O) (a b c : Counts) → StaysWell w x y from at a b → StaysWell w y z at to b c → StaysWell w x z from to a c
-stays-then w x y z from at to a b c s t = record {
-  sound = t.sound;
-  failed = t.failed ∙ s.failed;
-  limits = t.limits ∙ s.limits;
-  most = t.most ∙ s.most;
-  device = t.device ∙ s.device;
-  fault = t.fault ∙ s.fault;
-  refused = t.refused ∙ s.refused;
-}
-
 -- where the stream has ended, nothing is handed on
 pub finished-feeds : {W O A : Type 0} (w : WriterOf W O A) (see : PlacedItem → PlacedItem) (reads : Type 0) (old new : Joint W) → Feeds w see reads old new → reads → old.coming ≡ Finished → new.coming ≡ Finished
 finished-feeds w see reads old _ nothing r ends = ends

@@ -97,21 +97,6 @@ left_fed ended count fed now then most h e f = omega (arith, h, e, f)
 pub falls_fed : (fed then now before : ℕ) → fed + then ≤ now → now < before → then < before
 falls_fed fed then now before h f = omega (arith, h, f)
 
--- the same where the reader is observable for another reason
-pub feeds-same : {W O A : Type 0} {w : WriterOf W O A} {reads now : Type 0} {old new : Joint W} → (now → reads) → Feeds w (λ item. item) reads old new → Feeds w (λ item. item) now old new
-feeds-same f nothing = nothing
-feeds-same f (more at _ feeds hands) = more at _ (feeds-same f feeds) (record {
-  item = hands.item;
-  simple = hands.simple;
-  gives = λ n. hands.gives (f n);
-  opens = hands.opens;
-  counts = hands.counts;
-  limits = hands.limits;
-  stands = hands.stands;
-  taken = hands.taken;
-  puts = hands.puts;
-})
-
 -- nothing is harmed by items that are handed on
 pub unharmed_fed : {O : Type 0} {old now new : Counts} {reads_old reads_now reads_new : ℕ} {output : OutputOf O} {before at after : O}
     → Unharmed old now reads_old reads_now output before at → new.refused ≡ now.refused → reads_new ≡ reads_now → after ≡ at → Unharmed old new reads_old reads_new output before after

@@ -11,8 +11,9 @@ use Rattle.ion_symbols.specs.User.{coming_to, lent_by, owned_by, share_of}
 use Rattle.ion_value.proofs.Outcomes.{open_behind-append, walk-more, walk-prefix, walk-fault, walk-refused, prefix-then, prefix-behind, output_behind-prefix}
 use Rattle.ion_meter.specs.declared.limits.Limits.{Limits}
 use Rattle.ion_value.specs.Feeding.{Joint, Feeds}
+use Rattle.ion_value.proofs.Handing.{feeds-under}
 use Rattle.ion_transcode.proofs.Following.{followed-more, followed-all}
-use Rattle.ion_transcode.proofs.Feeding.{charges_fed, feeds-same, followed-feeds, falls_fed, held_after, left_fed, room_after, unharmed_fed, walk-feeds, walk-same}
+use Rattle.ion_transcode.proofs.Feeding.{charges_fed, followed-feeds, falls_fed, held_after, left_fed, room_after, unharmed_fed, walk-feeds, walk-same}
 use Rattle.ion_transcode.proofs.Copying.{none_is, err_is, same_ok, ok_is, refused_as, not_refused, Unharmed, continues_with, taken_as, level_with, left_with, same_share, charges_read, charges_written, item_causes, flush_causes, whole_causes, read_causes, unharmed_read, unharmed_put}
 use Rattle.ion_transcode.proofs.copy_items.copy_items.Goals as goal
 
@@ -313,7 +314,7 @@ returns-in-Err-flush_ended-clause-puts g c reading o =
     let after : Joint g.row.W.Denot =
     record { coming = coming_to r.reading c.feed-fed.new.self; opened = r.opened c.feed-fed.new.self.raw; writer = c.feed-fed.new.writer; pending = c.feed-fed.new.sink.pending; values = c.feed-fed.result.values } in
     let reads = r.observable c.args.reader.now.raw in
-    let feeds : Feeds w (λ x. x) reads before after = feeds-same (λ o. c.next.ensures.observable.1 (i.read.1 o)) c.feed-fed.ensures.feeds in
+    let feeds : Feeds w (λ x. x) reads before after = feeds-under w (λ o. c.next.ensures.observable.1 (i.read.1 o)) c.feed-fed.ensures.feeds in
     let fed = walk-same (walk-feeds w limits reads (out.observable c.args.sink.now.device) _ _ (out.written c.item.new.sink.device) c.values_behind-ended.result before after (g.met.W.ValueWriter.grows limits)
     (c.item.ensures.limits ∙ i.limits) feeds (walk-same with_item (λ _. refl) (sym (add-zero _)))) (λ _. ap (λ d. out.written d ++ c.feed-fed.new.sink.pending) kept.device) refl in
     let at_fed : out.observable c.args.sink.now.device → out.observable c.feed-fed.new.sink.device = λ o. subst out.observable (sym kept.device) (at o) in
@@ -422,7 +423,7 @@ items-preserved g c =
     let after : Joint g.row.W.Denot =
     record { coming = coming_to r.reading c.feed-fed.new.self; opened = r.opened c.feed-fed.new.self.raw; writer = c.feed-fed.new.writer; pending = c.feed-fed.new.sink.pending; values = c.feed-fed.result.values } in
     let reads = r.observable c.args.reader.now.raw in
-    let feeds : Feeds w (λ x. x) reads before after = feeds-same (λ o. c.next.ensures.observable.1 (i.read.1 o)) c.feed-fed.ensures.feeds in
+    let feeds : Feeds w (λ x. x) reads before after = feeds-under w (λ o. c.next.ensures.observable.1 (i.read.1 o)) c.feed-fed.ensures.feeds in
     let fed = walk-same (walk-feeds w limits reads (out.observable c.args.sink.now.device) _ _ (out.written c.item.new.sink.device) c.values_behind-ended.result before after (g.met.W.ValueWriter.grows limits)
     (c.item.ensures.limits ∙ i.limits) feeds (walk-same with_item (λ _. refl) (sym (add-zero _)))) (λ _. ap (λ d. out.written d ++ c.feed-fed.new.sink.pending) kept.device) refl in
     let at_fed : out.observable c.args.sink.now.device → out.observable c.feed-fed.new.sink.device = λ o. subst out.observable (sym kept.device) (at o) in

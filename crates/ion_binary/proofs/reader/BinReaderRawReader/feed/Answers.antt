@@ -5,10 +5,11 @@ use Rattle.ion_value.specs.Feeding.{Feeds, Hands, nothing, more}
 use Rattle.ion_value.specs.Items.{named_item}
 use Rattle.ion_value.specs.Outcome.{one_if_closed}
 use Rattle.ion_value.specs.Shares.{Charges}
+use Rattle.ion_value.proofs.Handing.{stays-then}
 use Rattle.ion_binary.specs.Lane.{joint}
 use Rattle.ion_binary.specs.Reader.{kinds_of, most_of}
 use Rattle.ion_binary.specs.Steps.{held_by, left_to, opened_in, share_of, sound-within}
-use Rattle.ion_binary.proofs.Feeding.{charges-none, exceeds-same, falls-more, finished-feeds, hands-same, held-again, room-again, stays-then, takes-more}
+use Rattle.ion_binary.proofs.Feeding.{charges-none, exceeds-same, falls-more, finished-feeds, hands-same, held-again, room-again, takes-more}
 use Rattle.ion_binary.proofs.ReaderParts.{charges-then}
 use Rattle.ion_binary.proofs.reader.BinReaderRawReader.feed.Goals as goal
 
@@ -91,7 +92,7 @@ items-preserved g c =
       feeds = more old new i.feeds one;
       takes = takes-more w see (input.observable r.source.device) old new c.items.self.limits.depth c.hand.new.self.limits.depth c.items.sink c.hand.new.sink c.items.meter c.hand.new.meter i.takes one k.writer
           (ap (λ (l : Limits). l.depth) k.limits);
-      stays = stays-then w c.args.writer.now c.items.writer c.hand.new.writer c.args.sink.now c.items.sink c.hand.new.sink c.args.meter.now c.items.meter c.hand.new.meter i.stays k.writer;
+      stays = stays-then w i.stays k.writer;
       falls = falls-more (opened_in c.hand.new.self) c.items.values c.values_behind-values.result (left_to c.items.self) (left_to c.hand.new.self) (left_to r) i.falls counts h.falls;
       charges = charges-then c.args.meter.now c.items.meter c.hand.new.meter (held_by r + w.own c.args.writer.now) (held_by c.items.self + w.own c.items.writer)
           (held_by c.hand.new.self + w.own c.hand.new.writer) (share_of r + w.most c.args.writer.now) c.requires.held i.charges
@@ -157,8 +158,7 @@ returns-clause-bytes_left g c =
 
 pub returns-clause-writer : goal.returns-clause-writer
 returns-clause-writer g c =
-    stays-then g.W.ValueWriter c.args.writer.now c.items.writer c.hand.new.writer c.args.sink.now c.items.sink c.hand.new.sink c.args.meter.now c.items.meter c.hand.new.meter
-    c.items.invariant.stays c.hand.ensures.keeps.writer
+    stays-then g.W.ValueWriter c.items.invariant.stays c.hand.ensures.keeps.writer
 
 pub returns-clause-charges : goal.returns-clause-charges
 returns-clause-charges g c =

@@ -16,7 +16,8 @@ use Rattle.ion_binary.specs.declared.open_value.OpenValue.{OpenValue}
 use Rattle.ion_binary.specs.declared.writer.BinWriter.{BinWriter}
 use Rattle.ion_value.specs.Number.{digits_within, marked, var_uint_octets}
 use Rattle.ion_binary.specs.Grammar.{type_code}
-use Rattle.ion_binary.specs.Canonical.{annotation_octets, declaration, header, marker_if, field_octets, field_symbols, headed, id_in, id_octets, member_octets, wrapped, with_symbol, with_symbols, with_text}
+use Rattle.ion_value.specs.Writable.{field_symbols}
+use Rattle.ion_binary.specs.Canonical.{annotation_octets, declaration, header, marker_if, field_octets, headed, id_in, id_octets, member_octets, wrapped, with_symbol, with_symbols, with_text}
 use Rattle.ion_binary.specs.Held.{Held, closed_in, counted_ids, headed_at, header_at, headers_around, headers_with, held_forgotten, held_of, ids_place, moved_headers, moved_octets, octets_with, size_of, value_held, value_put, whole_at, with_front, with_names}
 use Rattle.ion_binary.specs.ItemOctets.{head_octets}
 use Rattle.ion_binary.specs.Opening.{IsOpen, MayAdd, MayCome, Stepped, wrapper_octets}

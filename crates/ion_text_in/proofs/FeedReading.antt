@@ -38,7 +38,7 @@ use Rattle.ion_text_in.specs.Steps.{comes, later}
 use Rattle.ion_text_in.specs.Token as tokens
 use Rattle.ion_text_in.specs.Token.{First, Token, first_at, token_of}
 use Rattle.ion_text_in.proofs.BlankTurns.{no-slash}
-use Rattle.ion_text_in.proofs.ShownBlanks.{white-over}
+use Rattle.ion_text_in.proofs.BlankRuns.{white-over}
 use Rattle.ion_text_in.proofs.ReaderLanes.{may-begin, may-comma, may-end}
 use Rattle.ion_text_in.proofs.ReaderSteps.{blanks-going, later-moved, part-token, step-part}
 

@@ -3,9 +3,10 @@ ghost use Rattle.std.specs.Prelude.{◌≡◌, ◌≤◌, ◌<◌, ◌^◌, ◌�
 ghost use Rattle.ion_value.specs.Items.{raw_head, symbol_at};
 ghost use Rattle.ion_value.specs.PlainItems.{listed, placed_item, placed_text};
 ghost use Rattle.ion_value.specs.Standing.{HeadInRange};
+ghost use Rattle.ion_value.specs.Writable.{field_symbols};
 ghost use Rattle.ion_value.specs.Number.{uint_octets, var_uint_octets};
 ghost use Rattle.ion_value.specs.Value.{begin, end, int, string, symbol, user_symbol_at, whole};
-ghost use Rattle.ion_binary.specs.Canonical.{annotation_octets, field_octets, field_symbols, headed, id_in, member_octets, wrapped};
+ghost use Rattle.ion_binary.specs.Canonical.{annotation_octets, field_octets, headed, id_in, member_octets, wrapped};
 ghost use Rattle.ion_binary.specs.ItemOctets.{head_name, head_octets, user_head};
 ghost use Rattle.ion_binary.specs.Opening.{MayCome, both_octets};
 ghost use Rattle.ion_binary.specs.Plain.{AddsPlain, EndsPlain, HaveIds, IsWhole};

@@ -2,7 +2,8 @@ use Rattle.std.proofs.Common.{rules, inl, ◌≡◌, ◌≢◌, ◌++◌, ◌<�
 use Rattle.ion_value.specs.PlainItems.{placed_item}
 use Rattle.ion_value.specs.Value.{PlacedItem, SymbolAt, user_item}
 use Rattle.ion_binary.specs.declared.headers.HeaderPlace.{HeaderPlace}
-use Rattle.ion_binary.specs.Canonical.{field_symbols, id_in, member_octets}
+use Rattle.ion_value.specs.Writable.{field_symbols}
+use Rattle.ion_binary.specs.Canonical.{id_in, member_octets}
 use Rattle.ion_binary.specs.ItemOctets.{head_octets}
 use Rattle.ion_binary.specs.Opening.{both_octets}
 use Rattle.ion_binary.specs.Plain.{HaveIds}

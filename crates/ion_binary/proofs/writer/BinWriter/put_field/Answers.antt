@@ -4,7 +4,8 @@ use Rattle.ion_value.specs.Number.{var_uint_octets}
 use Rattle.ion_value.specs.PlainItems.{placed_text}
 use Rattle.ion_value.specs.Value.{user_symbol_at}
 use Rattle.ion_symbols.specs.Output.{known_id}
-use Rattle.ion_binary.specs.Canonical.{field_octets, field_symbols, id_in}
+use Rattle.ion_value.specs.Writable.{field_symbols}
+use Rattle.ion_binary.specs.Canonical.{field_octets, id_in}
 use Rattle.ion_binary.specs.Plain.{HaveIds}
 use Rattle.ion_binary.proofs.PlainAdded.{known-is, known-kept}
 use Rattle.ion_binary.proofs.writer.BinWriter.put_field.Goals as goal

@@ -88,3 +88,14 @@ exceeds-same device s t d l n = (
   λ e o. subst (λ k. k < s.place + length (left device.rest s)) l (subst (λ k. t.limit < k) n (e (subst device.observable (sym d) o))),
   λ e o. subst (λ k. k < t.place + length (left device.rest t)) (sym l) (subst (λ k. s.limit < k) (sym n) (e (subst device.observable d o))),
 )
+
+-- where nothing was left of an input, nothing is
+pub nothing-left : {I : Type 0} (device : InputOf I) (s t : Incoming I) → s.place ≤ t.place → t.place + length (left device.rest t) ≡ s.place + length (left device.rest s)
+    → left device.rest s ≡ [] → left device.rest t ≡ []
+nothing-left device s t further total none =
+    let before : length (left device.rest s) ≡ 0 = ap (λ (l : List ℕ). length l) none in
+    empty (left device.rest t) (omega (arith, further, total, before))
+  where
+    empty : (l : List ℕ) → length l ≤ 0 → l ≡ []
+    empty [] few = refl
+    empty (b ∷ l) few = absurd (omega (arith, few))

@@ -37,6 +37,7 @@ joint device r writer sink values = record { coming = to_come_by device r; opene
 pub record HandsItem {I A W O : Type 0} (device : InputOf I) (w : WriterOf W O A) (see : PlacedItem → PlacedItem) (old new : BinReader I A) (pen then : W) (from to : Outgoing O) : Type 0 where
   pub hands : (values : ℕ) → Hands w see (device.observable old.source.device) (joint device old pen from values) (joint device new then to (values + one_if_closed (opened_in new)))
   pub falls : left_to new < left_to old
+  pub further : old.source.place ≤ new.source.place
   pub total : new.source.place + length (left device.rest new.source) ≡ old.source.place + length (left device.rest old.source)
   pub bytes : BytesAreLeft device new.source → BytesAreLeft device old.source
 

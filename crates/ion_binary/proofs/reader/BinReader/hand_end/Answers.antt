@@ -35,6 +35,7 @@ returns-clause-hands g c e =
           (end_fits (w.limits c.args.writer.now).depth (opened_in r) c.place.result r.top (open_one r.frames some.0 inner)) refl taken.same.1
           (taken.stands refl) (taken.puts refl);
       falls = omega (arith, less);
+      further = omega arith;
       total = refl;
       bytes = λ b. b;
     })

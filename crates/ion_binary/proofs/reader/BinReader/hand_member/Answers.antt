@@ -92,6 +92,7 @@ returns-else-not-take_plain-clause-hands g c e =
           (whole-value texts (r.source.place + c.in-Some.at) (shown_scalar c.in-Scalar.scalar) seen.head head) taken.same.1 (taken.stands refl) (taken.puts refl);
       falls = falls_scalar r.source.limit r.source.place t.limit t.place c.in-Some.at c.in-Some-shown_value.behind (length r.frames) c.consume.ensures.place c.consume.ensures.limit v.further
           (lent-CanPass r.source c.in-Some-shown_value.behind v.within).1;
+      further = omega (arith, c.consume.ensures.place);
       total = IsPassed-total device.rest r.source t c.in-Some-shown_value.behind (lent-CanPass r.source c.in-Some-shown_value.behind v.within).0 c.consume.ensures;
       bytes = (IsPassed-moves device r.source t c.in-Some-shown_value.behind v.within c.consume.ensures).bytes;
     })
@@ -131,6 +132,7 @@ returns-else-not-take_plain-2-clause-hands g c e =
           (record { field = name.simple; annotations = tt; head = tt }) (kinds_of-push r.frames frame) deep refl taken.same.1 (taken.stands refl) (taken.puts refl);
       falls = falls_begin r.source.limit r.source.place t.limit t.place c.in-Some.at c.in-Some-shown_value.behind (length r.frames) (length (r.frames ++ frame ∷ [])) c.consume-in-Begin.ensures.place
           c.consume-in-Begin.ensures.limit v.further (lent-CanPass r.source c.in-Some-shown_value.behind v.within).1 (length_push r.frames frame);
+      further = omega (arith, c.consume-in-Begin.ensures.place);
       total = IsPassed-total device.rest r.source t c.in-Some-shown_value.behind (lent-CanPass r.source c.in-Some-shown_value.behind v.within).0 c.consume-in-Begin.ensures;
       bytes = (IsPassed-moves device r.source t c.in-Some-shown_value.behind v.within c.consume-in-Begin.ensures).bytes;
     })

@@ -1,5 +1,6 @@
 use Rattle.std.proofs.Common.{◌≡◌, ℕ, ◌+◌, ◌<◌, ◌≤◌, ◌↔◌, length, refl, ap, sym, subst, ◌∙◌, arith}
 use Rattle.ion_meter.specs.Sources.{BytesAreLeft, Exceeds}
+use Rattle.ion_meter.specs.Windows.{left}
 use Rattle.ion_meter.specs.declared.limits.Limits.{Limits}
 use Rattle.ion_value.specs.Feeding.{Feeds, Hands, nothing, more}
 use Rattle.ion_value.specs.Items.{named_item}
@@ -9,7 +10,7 @@ use Rattle.ion_value.proofs.Handing.{stays-then}
 use Rattle.ion_binary.specs.Lane.{joint}
 use Rattle.ion_binary.specs.Reader.{kinds_of, most_of}
 use Rattle.ion_binary.specs.Steps.{held_by, left_to, opened_in, share_of, sound-within}
-use Rattle.ion_binary.proofs.Feeding.{charges-none, exceeds-same, falls-more, finished-feeds, hands-same, held-again, room-again, takes-more}
+use Rattle.ion_binary.proofs.Feeding.{charges-none, exceeds-same, falls-more, finished-feeds, hands-same, held-again, nothing-left, room-again, takes-more}
 use Rattle.ion_binary.proofs.ReaderParts.{charges-then}
 use Rattle.ion_binary.proofs.reader.BinReaderRawReader.feed.Goals as goal
 
@@ -28,6 +29,7 @@ items-init g c =
       done = refl;
       same_device = refl;
       limit = refl;
+      further = omega arith;
       total = refl;
       bytes_left = λ b. b;
       feeds = nothing;
@@ -87,6 +89,7 @@ items-preserved g c =
       done = k.done ∙ i.done;
       same_device = k.device ∙ i.same_device;
       limit = k.limit ∙ i.limit;
+      further = omega (arith, i.further, h.further);
       total = h.total ∙ i.total;
       bytes_left = λ b. i.bytes_left (h.bytes b);
       feeds = more old new i.feeds one;
@@ -111,9 +114,12 @@ returns-clause-sound g c =
       record { sized = k.sized; small = k.stands.small; stands = λ _. k.stands; one_ending = λ _. k.failed ∙ (i.failed ∙ c.requires.fresh) },
       λ d o.
           let observable = subst input.observable (k.device ∙ i.same_device) o in
-          ap (λ s. (joint input s c.items.writer c.items.sink 0).coming) n.reader
-          ∙ finished-feeds w see (input.observable r.source.device) (joint input r c.args.writer.now c.args.sink.now 0) (joint input c.items.self c.items.writer c.items.sink c.items.values) i.feeds observable
-          (c.requires.sound.1 (sym (k.done ∙ i.done) ∙ d) observable),
+          let over = c.requires.sound.1 (sym (k.done ∙ i.done) ∙ d) observable in (
+            ap (λ s. (joint input s c.items.writer c.items.sink 0).coming) n.reader
+                ∙ finished-feeds w see (input.observable r.source.device) (joint input r c.args.writer.now c.args.sink.now 0) (joint input c.items.self c.items.writer c.items.sink c.items.values) i.feeds observable
+                over.0,
+            ap (λ s. left input.rest s.source) n.reader ∙ nothing-left input r.source c.items.self.source i.further i.total over.1,
+          ),
     )
 
 pub returns-clause-observable : goal.returns-clause-observable

@@ -20,6 +20,7 @@ invariant-items g l =
       done : l.self.done ≡ l.fn.self.done;
       same_device : l.self.source.device ≡ l.fn.self.source.device;
       limit : l.self.source.limit ≡ l.fn.self.source.limit;
+      further : l.fn.self.source.place ≤ l.self.source.place;
       total : l.self.source.place + length (left input.rest l.self.source) ≡ l.fn.self.source.place + length (left input.rest l.fn.self.source);
       bytes_left : BytesAreLeft input l.self.source → BytesAreLeft input l.fn.self.source;
       feeds : Feeds w (named_item (g.N.Names.text l.names)) (input.observable l.fn.self.source.device) (joint input l.fn.self l.fn.writer l.fn.sink 0) (joint input l.self l.writer l.sink l.values);

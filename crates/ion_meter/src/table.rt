@@ -160,6 +160,39 @@ impl<T, A: Allocator + Copy> Table<T, A> {
         Ok(())
     }
 
+    /// Adds an entry here, and puts one in at a place of others, counted from 0. Where there is no
+    /// memory for one of them it does neither, and hands the first back.
+    pub fn push_and_insert<U>(
+        &mut self,
+        others: &mut Table<U, A>,
+        meter: &mut Meter<A>,
+        entry: T,
+        place: usize,
+        other: U,
+    ) -> Result<(), (T, Fault)>
+    where
+        U: Copy,
+        requires within { place ≤ length others.old.items }
+        requires room { meter.old.held + (self.old.cost + others.old.cost) < 2 ^ 63 }
+        requires countable { meter.old.refused < 2 ^ 64 - 1 }
+        ensures added { OnOk result (self.new.items ≡ self.old.items ++ entry ∷ []) }
+        ensures inserted { OnOk result (others.new.items ≡ insert others.old.items place other) }
+        ensures cost { OnOk result (Grows meter.old meter.new (self.old.cost + others.old.cost)) }
+        ensures same_cost { self.new.cost ≡ self.old.cost }
+        ensures same_other_cost { others.new.cost ≡ others.old.cost }
+        ensures returned { IfErr result (λ e. (e.0 ≡ entry) × (e.1 ≡ Fault.Memory)) }
+        ensures err { OnErr result ((self.new ≡ self.old) × (others.new ≡ others.old)) }
+        ensures refused { OnErr result (IsRefused meter.old meter.new) }
+    {
+        if self.items.reserve(1).is_err() || others.items.insert(place, other).is_err() {
+            meter.refuse();
+            return Err((entry, Fault::Memory));
+        }
+        self.items.push_reserved(entry);
+        meter.add(self.cost + others.cost);
+        Ok(())
+    }
+
     /// Writes an entry over the one at a place, counted from 0.
     pub fn set(&mut self, place: usize, entry: T)
     where

@@ -3,6 +3,7 @@ mod TableRows
 mod Listed
 pub mod Keeping
 mod Catalogued
+mod Ranking
 mod Importing
 mod Moving
 mod Taking

@@ -16,7 +16,7 @@ use Rattle.ion_symbols.proofs.TextOrder.{not_less, not_greater, one_place, one_o
 -- ---- the texts in order are the texts
 
 -- where the order has the id of a text, the texts in order have the text
-order_has : (texts : List (List ℕ)) (order : List ℕ) (t : List ℕ) (i k : ℕ) → slice_get texts i ≡ Some t → slice_get order k ≡ Some i → slice_get (in_order texts order) k ≡ Some t
+pub order_has : (texts : List (List ℕ)) (order : List ℕ) (t : List ℕ) (i k : ℕ) → slice_get texts i ≡ Some t → slice_get order k ≡ Some i → slice_get (in_order texts order) k ≡ Some t
 order_has texts order t i k h e =
     slice_get-map (λ i. get_or texts i []) order k ∙ (ap (option_map (λ i. get_or texts i [])) e ∙ ap Some (get_or_from_slice_get texts i t [] h))
 

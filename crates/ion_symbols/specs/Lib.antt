@@ -14,6 +14,7 @@ pub mod Buffer
 pub mod Steps
 pub mod User
 pub mod Ordered
+pub mod Ranks
 pub mod Buckets
 pub mod CatalogItems
 pub mod CatalogTrees

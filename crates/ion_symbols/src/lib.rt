@@ -17,6 +17,7 @@ mod known_text;
 pub mod laws;
 mod ordered;
 pub mod output;
+mod ranks;
 pub mod search;
 pub mod shared;
 mod slots;

@@ -102,6 +102,31 @@ fn top_at(frame: Option<Frame>, top: u64, here: u64) -> u64
     }
 }
 
+// An item with no annotation.
+#[inline(always)]
+fn bare_item<'n, 'h>(
+    field: Option<TextAt<'n>>,
+    head: Head<'h>,
+    place: u64,
+    top: u64,
+) -> PlainItem<'n, 'h>
+    ensures { result ≡ record {
+      field = field.entry;
+      annotation = None;
+      head = head.entry;
+      place = place;
+      top = top;
+    } }
+{
+    PlainItem {
+        field,
+        annotation: None,
+        head,
+        place,
+        top,
+    }
+}
+
 impl<I: Input, A: Allocator + Copy> BinReader<I, A> {
     // Hands the next item on, where that is possible; else it answers false, and nothing is changed.
     #[inline(always)]
@@ -201,13 +226,7 @@ impl<I: Input, A: Allocator + Copy> BinReader<I, A> {
                 let Some(head) = shown_head(scalar, place, names) else {
                     return false;
                 };
-                let item = PlainItem {
-                    field,
-                    annotation: None,
-                    head,
-                    place,
-                    top,
-                };
+                let item = bare_item(field, head, place, top);
                 if !writer.take_plain(meter, sink, item) {
                     return false;
                 }
@@ -216,13 +235,7 @@ impl<I: Input, A: Allocator + Copy> BinReader<I, A> {
                 true
             }
             Shown::Begin(kind, end) => {
-                let item = PlainItem {
-                    field,
-                    annotation: None,
-                    head: Head::Begin(kind),
-                    place,
-                    top,
-                };
+                let item = bare_item(field, Head::Begin(kind), place, top);
                 if !self.frames.push_within(meter, Frame { kind, end }) {
                     return false;
                 }

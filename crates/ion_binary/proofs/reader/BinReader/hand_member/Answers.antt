@@ -35,8 +35,8 @@ take_plain-requires-clause-path g c =
     let plain : PlainItem = record { field = c.in-Some.field; annotation = None; head = c.in-Some-shown_head.head; place = c.place-here.result + c.in-Some.at; top = c.top_at-top.result } in
     let fits = scalar_fits r.limits.depth r.frames f texts (r.source.place + c.in-Some.at) (shown_scalar c.in-Scalar.scalar) plain inner name.there head v.may_be in
     let write = c.requires.can_hand.writer in
-    path_here w r.limits.depth (opened_in r) c.args.writer.now (PlainItems.placed_item plain) write.depth_of fits
-    (whole-value texts (r.source.place + c.in-Some.at) (shown_scalar c.in-Scalar.scalar) (PlainItems.placed_item plain).head head) write.behind
+    rw c.bare_item-item.ensures (path_here w r.limits.depth (opened_in r) c.args.writer.now (PlainItems.placed_item plain) write.depth_of fits
+    (whole-value texts (r.source.place + c.in-Some.at) (shown_scalar c.in-Scalar.scalar) (PlainItems.placed_item plain).head head) write.behind)
 
 pub take_plain-requires-in-Begin-clause-path : goal.take_plain-requires-in-Begin-clause-path
 take_plain-requires-in-Begin-clause-path g c =
@@ -52,7 +52,7 @@ take_plain-requires-in-Begin-clause-path g c =
     let few : length r.frames < r.limits.depth = subst (λ n. n < r.limits.depth) (as_frames-length r.frames) v.may_be in
     let fits = begin_fits r.limits.depth r.frames f c.in-Begin.kind plain inner name.there refl few in
     let write = c.requires.can_hand.writer in
-    path_here w r.limits.depth (opened_in r) c.args.writer.now (PlainItems.placed_item plain) write.depth_of fits refl write.behind
+    rw c.bare_item-item-in-Begin.ensures (path_here w r.limits.depth (opened_in r) c.args.writer.now (PlainItems.placed_item plain) write.depth_of fits refl write.behind)
 
 pub take_plain-requires-in-Begin-clause-room : goal.take_plain-requires-in-Begin-clause-room
 take_plain-requires-in-Begin-clause-room g c = omega (arith, (c.push_within.ensures.cost c.if-not-push_within.false).held)
@@ -71,7 +71,7 @@ returns-else-not-take_plain-clause-hands g c e =
     let plain : PlainItem = record { field = c.in-Some.field; annotation = None; head = c.in-Some-shown_head.head; place = c.place-here.result + c.in-Some.at; top = c.top_at-top.result } in
     let fits = scalar_fits r.limits.depth r.frames f texts (r.source.place + c.in-Some.at) (shown_scalar c.in-Scalar.scalar) plain inner name.there head v.may_be in
     let write = c.requires.can_hand.writer in
-    let taken = c.if-not-take_plain.ensures in
+    let taken = rw c.bare_item-item.ensures at c.if-not-take_plain.ensures in
     let t = c.consume.new.self in
     let top = top_of (innermost f) r.top r.source.place in
     let seen = PlainItems.placed_item plain in
@@ -111,7 +111,7 @@ returns-else-not-take_plain-2-clause-hands g c e =
     let few : length r.frames < r.limits.depth = subst (λ n. n < r.limits.depth) (as_frames-length r.frames) v.may_be in
     let fits = begin_fits r.limits.depth r.frames f c.in-Begin.kind plain inner name.there refl few in
     let write = c.requires.can_hand.writer in
-    let taken = c.if-not-take_plain-2.ensures in
+    let taken = rw c.bare_item-item-in-Begin.ensures at c.if-not-take_plain-2.ensures in
     let t = c.consume-in-Begin.new.self in
     let top = top_of (innermost f) r.top r.source.place in
     let seen = PlainItems.placed_item plain in

@@ -1,60 +1,12 @@
--- A reader's loop that hands items on: what one turn adds to those before it. All of this holds for any reader.
-use Rattle.std.proofs.Common.{◌≡◌, ℕ, ◌+◌, ◌-◌, ◌*◌, ◌^◌, ◌<◌, ◌≤◌, ◌↔◌, List, [], ◌∷◌, ◌++◌, length, None, refl, ap, sym, subst, ◌∙◌, arith}
+-- A reader's loop that hands items on: what one turn adds to the counts and the places of those before it.
+use Rattle.std.proofs.Common.{◌≡◌, ℕ, ◌+◌, ◌^◌, ◌<◌, ◌≤◌, ◌↔◌, List, [], ◌∷◌, length, refl, ap, sym, subst, arith}
 use Rattle.ion_meter.specs.Counts.{Counts}
 use Rattle.ion_meter.specs.Sources.{Exceeds}
-use Rattle.ion_meter.specs.Windows.{Incoming, Outgoing, left}
+use Rattle.ion_meter.specs.Windows.{Incoming, left}
 use Rattle.ion_meter.specs.declared.device.Input.{Ghosts as InputOf}
-use Rattle.ion_meter.specs.declared.limits.Limits.{Limits}
 use Rattle.ion_value.specs.declared.ion_type.Kind.{Kind}
-use Rattle.ion_value.specs.declared.writer.ValueWriter.{Ghosts as WriterOf}
-use Rattle.ion_value.specs.Feeding.{CanTake, Feeds, Hands, Joint, StaysWell, nothing, more}
 use Rattle.ion_value.specs.Outcome.{one_if_closed}
-use Rattle.ion_value.specs.Reading.{Reading, Finished, More}
 use Rattle.ion_value.specs.Shares.{Charges}
-use Rattle.ion_value.specs.Standing.{open_after, open_behind}
-use Rattle.ion_value.specs.Value.{PlacedItem}
-use Rattle.ion_value.proofs.Outcomes.{open_behind-append}
-
--- the same where the reader is observable for another reason
-pub hands-same : {W O A : Type 0} {w : WriterOf W O A} {see : PlacedItem → PlacedItem} {reads now : Type 0} {old new : Joint W} → (now → reads) → Hands w see reads old new → Hands w see now old new
-hands-same f h = record {
-  item = h.item;
-  simple = h.simple;
-  gives = λ n. h.gives (f n);
-  opens = h.opens;
-  counts = h.counts;
-  limits = h.limits;
-  stands = h.stands;
-  taken = h.taken;
-  puts = h.puts;
-}
-
--- behind an item the writer can take the next one
-pub takes-more : {W O A : Type 0} (w : WriterOf W O A) (see : PlacedItem → PlacedItem) (reads : Type 0) (old new : Joint W) (depth depth_then : ℕ) (from to : Outgoing O) (earlier later : Counts)
-    → CanTake w depth old.opened old.writer from → Hands w see reads old new → StaysWell w old.writer new.writer from to earlier later → depth_then ≡ depth → CanTake w depth_then new.opened new.writer to
-takes-more w see reads old new depth depth_then from to earlier later t h s e =
-    let path = t.behind.0 in
-    record {
-      sound = s.sound;
-      fresh = s.failed ∙ t.fresh;
-      well = s.fault ∙ t.well;
-      depth_of = ap (λ (l : Limits). l.depth) s.limits ∙ (t.depth_of ∙ sym e);
-      behind = (
-        path ++ see h.item ∷ [],
-        h.stands path t.behind.1 t.behind.2,
-        open_behind-append [] path (see h.item) ∙ (ap (λ k. open_after k (see h.item).head) t.behind.2 ∙ sym h.opens),
-      );
-    }
-
--- where the stream has ended, nothing is handed on
-pub finished-feeds : {W O A : Type 0} (w : WriterOf W O A) (see : PlacedItem → PlacedItem) (reads : Type 0) (old new : Joint W) → Feeds w see reads old new → reads → old.coming ≡ Finished → new.coming ≡ Finished
-finished-feeds w see reads old _ nothing r ends = ends
-finished-feeds w see reads old new (more now _ feeds hands) r ends =
-    let over = finished-feeds w see reads old now feeds r ends in
-    absurd (no_more (sym (hands.gives r) ∙ over))
-  where
-    no_more : {item : PlacedItem} {rest : Reading} → More item rest ≡ Finished → ⊥
-    no_more e = cc e
 
 -- one value at most ends by an item
 one-most : (kinds : List Kind) → one_if_closed kinds ≤ 1

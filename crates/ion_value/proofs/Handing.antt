@@ -10,7 +10,7 @@ use Rattle.ion_value.specs.Feeding.{CanTake, Feeds, nothing, more, Hands, Joint,
 use Rattle.ion_value.specs.Items.{named, named_at, named_item}
 use Rattle.ion_value.specs.Outcome.{one_if_closed}
 use Rattle.ion_value.specs.PlainItems.{AreSimple, HasSimpleName, HasSimpleSymbol, IsSimple, IsSimpleHead, IsSimpleText}
-use Rattle.ion_value.specs.Reading.{Reading, More}
+use Rattle.ion_value.specs.Reading.{Finished, Reading, More}
 use Rattle.ion_value.specs.Standing.{open_after, open_behind, is_marker, Continues, Fits}
 use Rattle.ion_value.specs.Value as value
 use Rattle.ion_value.specs.Value.{Symbol, SymbolAt, Scalar, Head, PlacedItem, map_head, map_scalar}
@@ -74,6 +74,47 @@ pub record Stands (depth : ℕ) (opened : List Kind) (item : PlacedItem) : Type 
   pub value : is_marker item.head ≡ false
   pub simple : IsSimple item
 
+-- the same where the reader is observable for another reason
+pub hands-same : {W O A : Type 0} {w : WriterOf W O A} {see : PlacedItem → PlacedItem} {reads now : Type 0} {old new : Joint W} → (now → reads) → Hands w see reads old new → Hands w see now old new
+hands-same f h = record {
+  item = h.item;
+  simple = h.simple;
+  gives = λ n. h.gives (f n);
+  opens = h.opens;
+  counts = h.counts;
+  limits = h.limits;
+  stands = h.stands;
+  taken = h.taken;
+  puts = h.puts;
+}
+
+-- behind an item the writer can take the next one
+pub takes-more : {W O A : Type 0} (w : WriterOf W O A) (see : PlacedItem → PlacedItem) (reads : Type 0) (old new : Joint W) (depth depth_then : ℕ) (from to : Outgoing O) (earlier later : Counts)
+    → CanTake w depth old.opened old.writer from → Hands w see reads old new → StaysWell w old.writer new.writer from to earlier later → depth_then ≡ depth → CanTake w depth_then new.opened new.writer to
+takes-more w see reads old new depth depth_then from to earlier later t h s e =
+    let path = t.behind.0 in
+    record {
+      sound = s.sound;
+      fresh = s.failed ∙ t.fresh;
+      well = s.fault ∙ t.well;
+      depth_of = ap (λ (l : Limits). l.depth) s.limits ∙ (t.depth_of ∙ sym e);
+      behind = (
+        path ++ see h.item ∷ [],
+        h.stands path t.behind.1 t.behind.2,
+        open_behind-append [] path (see h.item) ∙ (ap (λ k. open_after k (see h.item).head) t.behind.2 ∙ sym h.opens),
+      );
+    }
+
+-- where the stream has ended, nothing is handed on
+pub finished-feeds : {W O A : Type 0} (w : WriterOf W O A) (see : PlacedItem → PlacedItem) (reads : Type 0) (old new : Joint W) → Feeds w see reads old new → reads → old.coming ≡ Finished → new.coming ≡ Finished
+finished-feeds w see reads old _ nothing r ends = ends
+finished-feeds w see reads old new (more now _ feeds hands) r ends =
+    let over = finished-feeds w see reads old now feeds r ends in
+    absurd (no_more (sym (hands.gives r) ∙ over))
+  where
+    no_more : {item : PlacedItem} {rest : Reading} → More item rest ≡ Finished → ⊥
+    no_more e = cc e
+
 module _ {W O A : Type 0} (w : WriterOf W O A) where
   -- it continues each path where these are open
   continues : (limits : Limits) (depth : ℕ) (opened : List Kind) (path : List PlacedItem) (item : PlacedItem) → limits.depth ≡ depth → Stands depth opened item → open_behind [] path ≡ opened → Continues limits path item
@@ -134,17 +175,7 @@ module _ {W O A : Type 0} (w : WriterOf W O A) where
   -- where the reader is observable under another condition
   pub feeds-under : {see : PlacedItem → PlacedItem} {reads now : Type 0} {a b : Joint W} → (now → reads) → Feeds w see reads a b → Feeds w see now a b
   feeds-under f nothing = nothing
-  feeds-under f (more at _ feeds hands) = more at _ (feeds-under f feeds) (record {
-    item = hands.item;
-    simple = hands.simple;
-    gives = λ n. hands.gives (f n);
-    opens = hands.opens;
-    counts = hands.counts;
-    limits = hands.limits;
-    stands = hands.stands;
-    taken = hands.taken;
-    puts = hands.puts;
-  })
+  feeds-under f (more at _ feeds hands) = more at _ (feeds-under f feeds) (hands-same f hands)
 
   pub stays-then : {a b c : W} {p q r : Outgoing O} {x y z : Counts} → StaysWell w a b p q x y → StaysWell w b c q r y z → StaysWell w a c p r x z
   stays-then f g = record {

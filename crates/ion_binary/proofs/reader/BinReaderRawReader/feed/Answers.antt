@@ -6,11 +6,11 @@ use Rattle.ion_value.specs.Feeding.{Feeds, Hands, nothing, more}
 use Rattle.ion_value.specs.Items.{named_item}
 use Rattle.ion_value.specs.Outcome.{one_if_closed}
 use Rattle.ion_value.specs.Shares.{Charges}
-use Rattle.ion_value.proofs.Handing.{stays-then}
+use Rattle.ion_value.proofs.Handing.{finished-feeds, hands-same, stays-then, takes-more}
 use Rattle.ion_binary.specs.Lane.{joint}
 use Rattle.ion_binary.specs.Reader.{kinds_of, most_of}
 use Rattle.ion_binary.specs.Steps.{held_by, left_to, opened_in, share_of, sound-within}
-use Rattle.ion_binary.proofs.Feeding.{charges-none, exceeds-same, falls-more, finished-feeds, hands-same, held-again, nothing-left, room-again, takes-more}
+use Rattle.ion_binary.proofs.Feeding.{charges-none, exceeds-same, falls-more, held-again, nothing-left, room-again}
 use Rattle.ion_binary.proofs.ReaderParts.{charges-then}
 use Rattle.ion_binary.proofs.reader.BinReaderRawReader.feed.Goals as goal
 

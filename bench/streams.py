@@ -6,7 +6,8 @@ usage: bench/streams.py FOLDER [MB] [KIND ..]
 Kinds: log ints strings blobs deep config fields nest, each as text (KIND.ion) and the same values as binary (KIND.10n, by
 `yard convert`; bench/beside.py says how `yard` is built), and json (log.json, the records of log.ion). All of them where
 none is named; 100 MB of text each where MB is not given. A value at top level is some 100 KB at most, so the default
-limits hold.
+limits hold. A further kind has to be named: bucket, structs over 3,000 names that no byte tells apart which `ion` reads for
+the bucket of a text, its first and last sixteen.
 """
 import base64
 import json
@@ -18,6 +19,7 @@ import sys
 HERE = os.path.dirname(os.path.abspath(__file__))
 YARD = os.environ.get('YARD') or os.path.join(HERE, 'yard', 'target', 'release', 'yard')
 KINDS = ['log', 'json', 'ints', 'strings', 'blobs', 'deep', 'config', 'fields', 'nest']
+MORE = ['bucket']
 
 SERV = ['auth-api', 'billing', 'catalog', 'checkout', 'gateway', 'inventory', 'mailer', 'orders', 'search', 'users']
 LEVEL = ['DEBUG', 'INFO', 'INFO', 'INFO', 'INFO', 'WARN', 'ERROR']
@@ -186,6 +188,12 @@ def fields(r, names):
     return '{' + ','.join(o) + '}\n'
 
 
+def bucket(r):
+    """A struct over names of one bucket, each as frequent as the others."""
+    names = ['aaaaaaaaaaaaaaaa%dbbbbbbbbbbbbbbbb' % r.randrange(1000, 4000) for _ in range(12)]
+    return '{' + ','.join('%s:%d' % (name, r.randrange(100)) for name in names) + '}\n'
+
+
 def nest(r):
     """A value of some 20 KB below 40 to 60 containers, each with a few members of its own."""
     inside = '[' + ','.join(str(r.randrange(100000)) for _ in range(3000)) + ']'
@@ -215,7 +223,7 @@ def maker_of(kind, r):
     return {'log': lambda: log_line(log_record(r)),
             'json': lambda: json.dumps(log_record(r), separators=(',', ':')) + '\n',
             'ints': lambda: ints(r), 'strings': lambda: strings(r), 'blobs': lambda: blobs(r),
-            'deep': lambda: deep(r), 'config': lambda: config(r), 'nest': lambda: nest(r)}[kind]
+            'deep': lambda: deep(r), 'config': lambda: config(r), 'nest': lambda: nest(r), 'bucket': lambda: bucket(r)}[kind]
 
 
 def main(words):
@@ -225,7 +233,7 @@ def main(words):
     folder, size = words[0], int(float(words[1] if len(words) > 1 else 100) * 1000 * 1000)
     os.makedirs(folder, exist_ok=True)
     for kind in words[2:] or KINDS:
-        if kind not in KINDS:
+        if kind not in KINDS + MORE:
             sys.exit(f'there is no kind {kind}')
         r = random.Random('yard ' + kind.replace('json', 'log'))
         path = os.path.join(folder, 'log.json' if kind == 'json' else kind + '.ion')

@@ -7,7 +7,7 @@ use Rattle.std.proofs.lemmas.List.Sums.{sum_by-cons}
 use Rattle.ion_binary.specs.declared.headers.HeaderPlace.{HeaderPlace}
 use Rattle.ion_binary.specs.Counting.{ArePlaced, AreReached, AreSettledTo, IsCounted, beyond, content_around, counted_length, cut, most_at, place_around, place_of_header, sizes_from}
 use Rattle.ion_binary.specs.Places.{AreSettled, IsSettledAt, closed_length, contents, counted_size, header_size, thresholds}
-use Rattle.ion_binary.proofs.PlacedHeaders.{AreSizesCounted, Descend, all-below, among, among-all, are-counted, contents-ascend, contents-length, counts-of, missing-counted, sizes-among, sizes_of}
+use Rattle.ion_binary.proofs.PlacedHeaders.{counted-reached, size-reached, AreSizesCounted, Descend, all-below, among, among-all, are-counted, contents-ascend, contents-length, counts-of, missing-counted, sizes-among, sizes_of}
 
 -- ---- a count is raised
 
@@ -232,12 +232,16 @@ module _ (ns : List ℕ) (n : ℕ) (hs : List HeaderPlace) (i : IsCounted ns n h
 
 -- ---- the innermost header goes in
 
-first-size : (ns : List ℕ) (n : ℕ) (h : HeaderPlace) (hs : List HeaderPlace) → IsCounted ns n (h ∷ hs) → ArePlaced n (h ∷ hs) → counted_length ns n (h ∷ hs) < 2 ^ 35
-    → header_size (n - h.place) ≡ counted_size ns (length hs)
-first-size ns n h hs i p small =
-    let c = sizes-counted ns n (h ∷ hs) i p small in
-    let zero-more : n - h.place + 0 ≡ n - h.place = omega arith in
-    sym (ap header_size zero-more) ∙ (c.0 ∙ ap (counted_size ns) (length-map hs place_of_header))
+first-size : (ns : List ℕ) (n : ℕ) (h : HeaderPlace) (hs : List HeaderPlace) → AreReached ns n (h ∷ hs) → n < 2 ^ 35 → counted_size ns (length hs) ≤ header_size (n - h.place)
+first-size ns n h hs r small =
+    let none : beyond ns (suc (length hs)) ≡ 0 = beyond-none ns (suc (length hs)) r.within in
+    let a = around-first h hs in
+    let is = size-reached (n - h.place) (omega (arith, small)) in
+    let long = counted-reached ns thresholds (length hs) (n - h.place) r.five (λ c lt more.
+    let w : get_or ns c 0 ≤ suc (length hs) = r.within c in
+    let l = r.reached c (length hs) (omega (arith, w, more)) in
+    omega (arith, l, none, a)) in
+    omega (arith, is, long)
 
 beyond-cut : (ns : List ℕ) (total j : ℕ) → j ≤ total → ((c : ℕ) → get_or ns c 0 ≤ suc total) → beyond (cut total ns) j + counted_size ns total ≡ beyond ns j + 1
 beyond-cut [] total j le h = refl
@@ -268,18 +272,18 @@ cut-at [] total c = omega arith
 cut-at (n ∷ ns) total zero = refl
 cut-at (n ∷ ns) total (suc c) = cut-at ns total c
 
-module _ (ns : List ℕ) (n : ℕ) (h : HeaderPlace) (hs : List HeaderPlace) (i : IsCounted ns n (h ∷ hs)) (p : ArePlaced n (h ∷ hs)) (small : counted_length ns n (h ∷ hs) < 2 ^ 35) where
+module _ (ns : List ℕ) (n : ℕ) (h : HeaderPlace) (hs : List HeaderPlace) (r : AreReached ns n (h ∷ hs)) (p : ArePlaced n (h ∷ hs)) (small : n < 2 ^ 35) where
   -- the header's size with those of the others
-  cut-sizes : (j : ℕ) → j ≤ length hs → header_size (n - h.place) + sizes_from (cut (length hs) ns) (length hs) j ≡ sizes_from ns (suc (length hs)) j
+  cut-sizes : (j : ℕ) → j ≤ length hs → sizes_from ns (suc (length hs)) j ≤ header_size (n - h.place) + sizes_from (cut (length hs) ns) (length hs) j
   cut-sizes j le =
-      let s = first-size ns n h hs i p small in
-      let b = beyond-cut ns (length hs) j le i.reached.within in
+      let s = first-size ns n h hs r small in
+      let b = beyond-cut ns (length hs) j le r.within in
       omega (arith, s, b, le)
 
   placed-around : (k : ℕ) → place_around hs k ≤ n
   placed-around k = let q = around-within h.place hs p.1 k in omega (arith, q, p.0)
 
-  cut-content : (k : ℕ) → k < length hs → content_around (cut (length hs) ns) (n + header_size (n - h.place)) hs k ≡ content_around ns n (h ∷ hs) k
+  cut-content : (k : ℕ) → k < length hs → content_around ns n (h ∷ hs) k ≤ content_around (cut (length hs) ns) (n + header_size (n - h.place)) hs k
   cut-content k lt =
       let s = cut-sizes (suc k) (omega (arith, lt)) in
       let a = around-more h hs k lt in
@@ -307,38 +311,23 @@ module _ (ns : List ℕ) (n : ℕ) (h : HeaderPlace) (hs : List HeaderPlace) (i 
       let m = cut-at ns (length hs) c in
       let lt : k < length hs = omega (arith, e, m) in
       let x = cut-content k lt in
-      let w : get_or ns c 0 ≤ suc (length hs) = i.reached.within c in
+      let w : get_or ns c 0 ≤ suc (length hs) = r.within c in
       elim (cases_lt (length hs) (get_or ns c 0)) [
         | inl over ↦
             let at : suc k ≡ length hs = omega (arith, e, m, over) in
-            let l = i.reached.reached c (suc k) (omega (arith, over, w, at)) in
+            let l = r.reached c (suc k) (omega (arith, over, w, at)) in
             let less = inner-less k at in
             omega (arith, x, l, less)
-        | inr within ↦ let l = i.reached.reached c k (omega (arith, e, m, within)) in omega (arith, x, l)
+        | inr within ↦ let l = r.reached c k (omega (arith, e, m, within)) in omega (arith, x, l)
       ]
 
-  cut-settled : AreSettledTo 5 (cut (length hs) ns) (n + header_size (n - h.place)) hs
-  cut-settled c lt less =
-      let m = cut-at ns (length hs) c in
-      let same : get_or (cut (length hs) ns) c 0 ≡ get_or ns c 0 = omega (arith, m, less) in
-      let s = i.settled c lt (omega (arith, same, less)) in
-      let x = cut-content (get_or (cut (length hs) ns) c 0) less in
-      let y : content_around ns n (h ∷ hs) (get_or (cut (length hs) ns) c 0) ≡ content_around ns n (h ∷ hs) (get_or ns c 0) = ap (content_around ns n (h ∷ hs)) same in
-      omega (arith, s, x, y)
-
-  pub cut-counted : IsCounted (cut (length hs) ns) (n + header_size (n - h.place)) hs
-  cut-counted = record {
-    reached = record {
-      five = length-map ns (λ m. min m (length hs)) ∙ i.reached.five;
-      within = λ c. let m = cut-at ns (length hs) c in omega (arith, m);
-      descend = λ b c lt. let m = cut-at ns (length hs) c in let o = cut-at ns (length hs) b in let d = i.reached.descend b c lt in omega (arith, m, o, d);
-      reached = cut-reached;
-    };
-    settled = cut-settled;
+  pub cut-is-reached : AreReached (cut (length hs) ns) (n + header_size (n - h.place)) hs
+  cut-is-reached = record {
+    five = length-map ns (λ m. min m (length hs)) ∙ r.five;
+    within = λ c. let m = cut-at ns (length hs) c in omega (arith, m);
+    descend = λ b c lt. let m = cut-at ns (length hs) c in let o = cut-at ns (length hs) b in let d = r.descend b c lt in omega (arith, m, o, d);
+    reached = cut-reached;
   }
-
-  pub cut-length : counted_length (cut (length hs) ns) (n + header_size (n - h.place)) hs ≡ counted_length ns n (h ∷ hs)
-  cut-length = let s = cut-sizes 0 (omega arith) in omega (arith, s)
 
 -- ---- in the code the outermost is the first
 

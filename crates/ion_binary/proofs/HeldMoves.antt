@@ -30,7 +30,7 @@ put-seam n x xs ys e = ap (λ (a : List ℕ). a ++ (x ++ drop n (xs ++ ys))) (ta
 length-behind : (n : ℕ) (xs ys : List ℕ) → n ≡ length xs → length (xs ++ ys) - n ≡ length ys
 length-behind n xs ys e = let l : length (xs ++ ys) ≡ length xs + length ys = length-append xs ys in omega (arith, l, e)
 
-headed-seam : (n t : ℕ) (xs ys : List ℕ) → n ≡ length xs → headed_at (header_at n t) (xs ++ ys) ≡ xs ++ headed t ys
+pub headed-seam : (n t : ℕ) (xs ys : List ℕ) → n ≡ length xs → headed_at (header_at n t) (xs ++ ys) ≡ xs ++ headed t ys
 headed-seam n t xs ys e = ap (λ k. put_at n (header t k) (xs ++ ys)) (length-behind n xs ys e) ∙ put-seam n (header t (length ys)) xs ys e
 
 regrouped : (base field notes x : List ℕ) → base ++ (field ++ (notes ++ x)) ≡ (base ++ (field ++ notes)) ++ x
@@ -94,7 +94,7 @@ pub counted-some : (xs : List ℕ) → 0 < length xs → counted_ids xs ≡ var_
 counted-some [] some = absurd (omega (arith, some))
 counted-some (x ∷ xs) some = refl
 
-counted-are : (ids : UserSymbol → ℕ) (ss : List UserSymbol) → counted_ids (id_octets ids ss) ≡ annotation_octets ids ss
+pub counted-are : (ids : UserSymbol → ℕ) (ss : List UserSymbol) → counted_ids (id_octets ids ss) ≡ annotation_octets ids ss
 counted-are ids [] = refl
 counted-are ids (s ∷ ss) = counted-some (id_octets ids (s ∷ ss)) (id-some ids s ss)
 
@@ -121,19 +121,19 @@ module _ (o field : List ℕ) (ids : UserSymbol → ℕ) (ss : List UserSymbol) 
       ap (drop (length o + length field)) (sym (append_assoc o field (id_octets ids ss)))
       ∙ drop-seam (length o + length field) (o ++ field) (id_octets ids ss) (sym (length-append o field))
 
-  whole-is : (x : List ℕ) → whole_at (length o + length field) (o ++ (field ++ id_octets ids ss)) x ≡ o ++ (field ++ wrapped (annotation_octets ids ss) x)
+  pub whole-is : (x : List ℕ) → whole_at (length o + length field) (o ++ (field ++ id_octets ids ss)) x ≡ o ++ (field ++ wrapped (annotation_octets ids ss) x)
   whole-is x =
       ap (λ (a : List ℕ). a ++ wrapped (counted_ids (drop (length o + length field) (o ++ (field ++ id_octets ids ss)))) x) front-taken
       ∙ (ap (λ (a : List ℕ). (o ++ field) ++ wrapped (counted_ids a) x) front-dropped
       ∙ (ap (λ (a : List ℕ). (o ++ field) ++ wrapped a x) (counted-are ids ss) ∙ append_assoc o field (wrapped (annotation_octets ids ss) x)))
 
-  begun-is : begun_at (length o + length field) (o ++ (field ++ id_octets ids ss)) ≡ o ++ (field ++ annotation_octets ids ss)
+  pub begun-is : begun_at (length o + length field) (o ++ (field ++ id_octets ids ss)) ≡ o ++ (field ++ annotation_octets ids ss)
   begun-is =
       ap (λ (a : List ℕ). a ++ counted_ids (drop (length o + length field) (o ++ (field ++ id_octets ids ss)))) front-taken
       ∙ (ap (λ (a : List ℕ). (o ++ field) ++ counted_ids a) front-dropped
       ∙ (ap (λ (a : List ℕ). (o ++ field) ++ a) (counted-are ids ss) ∙ append_assoc o field (annotation_octets ids ss)))
 
-  headers-begun : (k : Kind) (hs : List HeaderPlace)
+  pub headers-begun : (k : Kind) (hs : List HeaderPlace)
       → begun_headers (length o + length field) (o ++ (field ++ id_octets ids ss)) k hs
       ≡ header_at (length o + (length field + length (annotation_octets ids ss))) (type_code k) ∷ (wrapper_headers (annotation_octets ids ss) (length o + length field) ++ hs)
   headers-begun k hs =

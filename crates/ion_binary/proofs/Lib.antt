@@ -55,3 +55,7 @@ mod RawStreams
 mod ShortValues
 mod NumbersFit
 mod ShortNumbers
+mod ShownParts
+mod Handing
+mod Feeding
+mod PlainAdded

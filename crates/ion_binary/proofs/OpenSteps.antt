@@ -1,22 +1,27 @@
 -- The headers that are missing stay right as one goes in, and as containers begin and values come.
-use Rattle.std.proofs.Common.{◌≡◌, ℕ, suc, ◌+◌, ◌-◌, ◌*◌, ◌^◌, ◌<◌, ◌≤◌, inl, inr, Bool, if◌then◌else◌, List, [], ◌∷◌, ◌++◌, length, map, take, drop, get_or, None, refl, ap, sym, subst, ◌∙◌, arith, append_assoc, length-append, ne_eqb, suc-mul}
+use Rattle.std.proofs.Common.{◌≡◌, ◌≢◌, false, nat_eq, reverse, ℕ, suc, ◌+◌, ◌-◌, ◌*◌, ◌^◌, ◌<◌, ◌≤◌, inl, inr, Bool, if◌then◌else◌, List, [], ◌∷◌, ◌++◌, length, map, take, drop, get_or, Option, Some, None, refl, ap, sym, subst, ◌∙◌, arith, append_assoc, length-append, ne_eqb, suc-mul, lit<}
+use Rattle.std.specs.Prelude.{MatchOption}
 use Rattle.std.specs.List.{AllByRecursion}
 use Rattle.std.proofs.lemmas.Bool.{cases_lt}
-use Rattle.std.proofs.lemmas.List.{length-take-le, length-drop}
+use Rattle.std.proofs.lemmas.List.{length-take-le, length-drop, length-reverse, get_or-reverse}
 use Rattle.ion_meter.specs.Counts.{Counts, Grows, Shrinks}
 use Rattle.ion_meter.specs.Limits.{AreChecked}
 use Rattle.ion_meter.specs.declared.limits.Limits.{Limits}
+use Rattle.ion_value.specs.declared.ion_type.Kind.{Kind}
+use Rattle.ion_value.specs.declared.ion_type.Kind.TheVariants as kind
 use Rattle.ion_value.specs.Number.{var_uint_octets}
+use Rattle.ion_binary.specs.Grammar.{type_code}
 use Rattle.ion_value.specs.Shares.{Charges}
 use Rattle.ion_binary.specs.declared.headers.HeaderPlace.{HeaderPlace}
 use Rattle.ion_binary.specs.declared.open_value.OpenValue.{OpenValue}
 use Rattle.ion_binary.specs.Canonical.{header, headed, wrapped}
 use Rattle.ion_binary.specs.Counting.{ArePlaced, AreReached, IsCounted, beyond, counted_length, cut, place_of_header}
-use Rattle.ion_binary.specs.Held.{begun_at, counted_ids, headed_at, header_at, whole_at, wrapper_headers}
+use Rattle.ion_binary.specs.Held.{begun_at, closed_in, counted_ids, headed_at, header_at, headers_around, size_of, whole_at, wrapper_headers}
 use Rattle.ion_binary.specs.ItemOctets.{opening}
 use Rattle.ion_binary.specs.Opening.{CanStep, IsOpen, IsOpenTo, Stepped, wrapper_octets}
-use Rattle.ion_binary.specs.Places.{closed_length, header_size}
-use Rattle.ion_binary.proofs.CountedHeaders.{closed-counted, cut-counted, cut-length, reached-inner, reached-more}
+use Rattle.ion_binary.specs.Places.{closed_length, header_size, missing}
+use Rattle.ion_binary.proofs.CountedHeaders.{closed-counted, cut-is-reached, reached-inner, reached-more}
+use Rattle.ion_binary.proofs.PlacedHeaders.{header-few}
 use Rattle.ion_binary.proofs.HeldMoves.{counted-some, wrapper-headers-some}
 
 pub placed-more : (n m : ℕ) (hs : List HeaderPlace) → n ≤ m → ArePlaced n hs → ArePlaced m hs
@@ -32,40 +37,71 @@ put-length h octets le =
     let d : length (drop h.place octets) ≡ length octets - h.place = length-drop h.place octets in
     omega (arith, a, b, t, d, le)
 
+-- a header that goes in leaves the closed size as it is
+missing-put : (n k m : ℕ) (hs : List HeaderPlace) → ArePlaced n hs → missing (n + k) (map place_of_header hs) m + k ≡ missing n (map place_of_header hs) (m + k)
+missing-put n k m [] p = refl
+missing-put n k m (h ∷ hs) p =
+    let x : ℕ = header_size (n - h.place + (m + k)) in
+    let le = p.0 in
+    ap (λ i. missing (n + k) (map place_of_header hs) (m + header_size i) + k) (omega (arith, le))
+    ∙ (missing-put n k (m + x) hs (placed-more h.place n hs p.0 p.1) ∙ ap (missing n (map place_of_header hs)) (omega arith))
+
+pub closed-put : (n : ℕ) (h : HeaderPlace) (hs : List HeaderPlace) → ArePlaced n (h ∷ hs)
+    → closed_length (n + header_size (n - h.place)) (map place_of_header hs) ≡ closed_length n (map place_of_header (h ∷ hs))
+closed-put n h hs p =
+    let x : ℕ = header_size (n - h.place) in
+    let e = missing-put n x 0 hs (placed-more h.place n hs p.0 p.1) in
+    let s : missing n (map place_of_header hs) (0 + header_size (n - h.place + 0)) ≡ missing n (map place_of_header hs) (0 + x) =
+    ap (λ i. missing n (map place_of_header hs) (0 + header_size i)) (omega arith) in
+    omega (arith, e, s)
+
+-- six octets for each header are enough
+missing-few : (n m : ℕ) (hs : List HeaderPlace) → n + (m + 6 * length hs) < 2 ^ 35 → missing n (map place_of_header hs) m ≤ m + 6 * length hs
+missing-few n m [] small = omega arith
+missing-few n m (h ∷ hs) small =
+    let f = header-few (n - h.place + m) (omega (arith, small)) in
+    let r = missing-few n (m + header_size (n - h.place + m)) hs (omega (arith, small, f)) in
+    omega (arith, r, f)
+
+pub closed-few : (n : ℕ) (hs : List HeaderPlace) → n + 6 * length hs < 2 ^ 35 → closed_length n (map place_of_header hs) ≤ n + 6 * length hs
+closed-few n hs small = let r = missing-few n 0 hs (omega (arith, small)) in omega (arith, r)
+
 -- a header goes in, and is counted no more
 record IsPut (limits : Limits) (ns octets : List ℕ) (hs : List HeaderPlace) : Type 0 where
   placed : ArePlaced (length octets) hs
-  counted : IsCounted ns (length octets) hs
-  fits : counted_length ns (length octets) hs ≤ limits.value
+  reached : AreReached ns (length octets) hs
+  fits : size_of octets hs ≤ limits.value
 
 is-put : (limits : Limits) (ns octets : List ℕ) (h : HeaderPlace) (hs : List HeaderPlace) → AreChecked limits
-    → ArePlaced (length octets) (h ∷ hs) → IsCounted ns (length octets) (h ∷ hs) → counted_length ns (length octets) (h ∷ hs) ≤ limits.value
+    → ArePlaced (length octets) (h ∷ hs) → AreReached ns (length octets) (h ∷ hs) → size_of octets (h ∷ hs) ≤ limits.value
     → IsPut limits (cut (length hs) ns) (headed_at h octets) hs
-is-put limits ns octets h hs checked p i fits =
-    let small : counted_length ns (length octets) (h ∷ hs) < 2 ^ 35 = let v = checked.value in omega (arith, fits, v) in
+is-put limits ns octets h hs checked p r fits =
+    let small : length octets < 2 ^ 35 = let v = checked.value in omega (arith, fits, v) in
     let l = put-length h octets p.0 in
-    let P : ℕ → Type 0 = λ n. IsCounted (cut (length hs) ns) n hs in
-    let same = cut-length ns (length octets) h hs i p small in
+    let P : ℕ → Type 0 = λ n. AreReached (cut (length hs) ns) n hs in
+    let long : closed_length (length (headed_at h octets)) (map place_of_header hs) ≡ closed_length (length octets + header_size (length octets - h.place)) (map place_of_header hs) =
+    ap (λ n. closed_length n (map place_of_header hs)) l in
+    let same = closed-put (length octets) h hs p in
     record {
       placed = placed-more h.place (length (headed_at h octets)) hs (omega (arith, l, p.0)) p.1;
-      counted = subst P (sym l) (cut-counted ns (length octets) h hs i p small);
-      fits = omega (arith, same, fits, l);
+      reached = subst P (sym l) (cut-is-reached ns (length octets) h hs r p small);
+      fits = omega (arith, same, fits, long);
     }
 
 pub innermost-open : {A : Type 0} (limits : Limits) (v w : OpenValue A) (h : HeaderPlace) (hs : List HeaderPlace) → AreChecked limits → IsOpen limits v
     → v.headers ≡ h ∷ hs → w.headers ≡ hs → w.octets ≡ headed_at h v.octets → w.counts ≡ cut (length hs) v.counts → IsOpen limits w
 innermost-open limits v w h hs checked o eh ehs eo ec =
     let A : List HeaderPlace → Type 0 = λ gs. ArePlaced (length v.octets) gs in
-    let B : List HeaderPlace → Type 0 = λ gs. IsCounted v.counts (length v.octets) gs in
-    let C : List HeaderPlace → Type 0 = λ gs. counted_length v.counts (length v.octets) gs ≤ limits.value in
+    let B : List HeaderPlace → Type 0 = λ gs. AreReached v.counts (length v.octets) gs in
+    let C : List HeaderPlace → Type 0 = λ gs. size_of v.octets gs ≤ limits.value in
     let D : List HeaderPlace → Type 0 = λ gs. AllByRecursion (λ g. g.code < 16) gs in
-    let put = is-put limits v.counts v.octets h hs checked (subst A eh o.placed) (subst B eh o.counted) (subst C eh o.fits) in
+    let put = is-put limits v.counts v.octets h hs checked (subst A eh o.placed) (subst B eh o.reached) (subst C eh o.fits) in
     let P : List HeaderPlace → Type 0 = λ gs. IsPut limits (cut (length hs) v.counts) (headed_at h v.octets) gs in
     let Q : List ℕ → Type 0 = λ os. IsPut limits (cut (length hs) v.counts) os w.headers in
     let R : List ℕ → Type 0 = λ ns. IsPut limits ns w.octets w.headers in
     let here = subst R (sym ec) (subst Q (sym eo) (subst P (sym ehs) put)) in
     let codes = subst D eh o.codes in
-    record { placed = here.placed; codes = subst D (sym ehs) codes.1; counted = here.counted; fits = here.fits }
+    record { placed = here.placed; codes = subst D (sym ehs) codes.1; reached = here.reached; fits = here.fits }
 
 -- a step may follow another
 pub can-step-again : {A : Type 0} (limits : Limits) (v w : OpenValue A) (before after : Counts) → CanStep limits v before → Stepped limits v w before after None → CanStep limits w after
@@ -112,7 +148,7 @@ wrapped-some : (xs x : List ℕ) → 0 < length xs → wrapped xs x ≡ headed 1
 wrapped-some [] x some = absurd (omega (arith, some))
 wrapped-some (a ∷ xs) x some = refl
 
-wrapper-around : (d x : List ℕ) → wrapper_octets (length d) (length x) ++ (d ++ x) ≡ wrapped (counted_ids d) x
+pub wrapper-around : (d x : List ℕ) → wrapper_octets (length d) (length x) ++ (d ++ x) ≡ wrapped (counted_ids d) x
 wrapper-around [] x = refl
 wrapper-around (a ∷ m) x =
     let d : List ℕ = a ∷ m in
@@ -145,19 +181,30 @@ whole-length place o x le =
     let r : length (drop place o) ≡ length o - place = length-drop place o in
     omega (arith, e, a, b, d, t, r, le)
 
+-- the closed value is no longer than the counts say, where they are settled
+pub counted-fits : (limits : Limits) (ns octets : List ℕ) (hs : List HeaderPlace) → AreChecked limits → ArePlaced (length octets) hs → length hs ≤ 2 * limits.depth
+    → IsCounted ns (length octets) hs → counted_length ns (length octets) hs ≤ limits.value → size_of octets hs ≤ limits.value
+counted-fits limits ns octets hs checked p few i fits =
+    let depth = checked.depth in
+    let v = checked.value in
+    let s = size-counted ns (length octets) hs i p (omega (arith, few, depth)) (omega (arith, fits, v)) in
+    omega (arith, s, fits)
+
 -- the headers are right where more octets are there, and the counts with them
-pub opened : {A : Type 0} (limits : Limits) (v w : OpenValue A) (place n : ℕ) → IsOpenTo v place → place ≤ n → length w.octets ≡ n → w.headers ≡ v.headers
+pub opened : {A : Type 0} (limits : Limits) (v w : OpenValue A) (place n : ℕ) → AreChecked limits → length w.headers ≤ 2 * limits.depth → IsOpenTo v place → place ≤ n → length w.octets ≡ n → w.headers ≡ v.headers
     → IsCounted w.counts n w.headers → counted_length w.counts n w.headers ≤ limits.value → IsOpen limits w
-opened limits v w place n o le long same i fits =
+opened limits v w place n checked few o le long same i fits =
     let A : List HeaderPlace → Type 0 = λ hs. ArePlaced n hs in
     let B : List HeaderPlace → Type 0 = λ hs. AllByRecursion (λ h. h.code < 16) hs in
     let P : ℕ → Type 0 = λ m. ArePlaced m w.headers in
     let Q : ℕ → Type 0 = λ m. IsCounted w.counts m w.headers in
+    let placed = subst P (sym long) (subst A (sym same) (placed-more place n v.headers le o.placed)) in
+    let counted = subst Q (sym long) i in
     record {
-      placed = subst P (sym long) (subst A (sym same) (placed-more place n v.headers le o.placed));
+      placed = placed;
       codes = subst B (sym same) o.codes;
-      counted = subst Q (sym long) i;
-      fits = omega (arith, long, fits);
+      reached = counted.reached;
+      fits = counted-fits limits w.counts w.octets w.headers checked placed few counted (omega (arith, long, fits));
     }
 
 -- ---- a container begins
@@ -203,3 +250,71 @@ begun-more place o le =
           let t : length (take place o) ≡ place = length-take-le place o le in
           omega (arith, a, t, all)
     ]
+
+-- ---- octets come where there is surely room for all headers
+
+pub room-open : {A : Type 0} (limits : Limits) (v w : OpenValue A) (x : List ℕ) → AreChecked limits → IsOpen limits v → w.octets ≡ v.octets ++ x → w.headers ≡ v.headers → w.counts ≡ v.counts
+    → length v.octets + (length x + 6 * length v.headers) ≤ limits.value → IsOpen limits w
+room-open limits v w x checked o eo eh ec room =
+    let value = checked.value in
+    let long : length w.octets ≡ length v.octets + length x = ap (λ (os : List ℕ). length os) eo ∙ length-append v.octets x in
+    let few : length w.headers ≡ length v.headers = ap (λ (hs : List HeaderPlace). length hs) eh in
+    let A : List HeaderPlace → Type 0 = λ hs. ArePlaced (length w.octets) hs in
+    let B : List HeaderPlace → Type 0 = λ hs. AllByRecursion (λ h. h.code < 16) hs in
+    let C : List HeaderPlace → Type 0 = λ hs. AreReached v.counts (length w.octets) hs in
+    let D : List ℕ → Type 0 = λ ns. AreReached ns (length w.octets) w.headers in
+    let f = closed-few (length w.octets) w.headers (omega (arith, long, few, room, value)) in
+    record {
+      placed = subst A (sym eh) (placed-more (length v.octets) (length w.octets) v.headers (omega (arith, long)) o.placed);
+      codes = subst B (sym eh) o.codes;
+      reached = subst D (sym ec) (subst C (sym eh) (reached-more v.counts (length v.octets) (length w.octets) v.headers (omega (arith, long)) o.reached));
+      fits = omega (arith, f, long, few, room);
+    }
+
+-- so does a container that begins
+pub room-begun : {A : Type 0} (limits : Limits) (v w : OpenValue A) (x : List ℕ) (code : ℕ) → AreChecked limits → IsOpen limits v → code < 16 → w.octets ≡ v.octets ++ x
+    → w.headers ≡ header_at (length v.octets + length x) code ∷ v.headers → w.counts ≡ v.counts
+    → length v.octets + (length x + 6 * (length v.headers + 1)) ≤ limits.value → IsOpen limits w
+room-begun limits v w x code checked o small eo eh ec room =
+    let value = checked.value in
+    let h : HeaderPlace = header_at (length v.octets + length x) code in
+    let long : length w.octets ≡ length v.octets + length x = ap (λ (os : List ℕ). length os) eo ∙ length-append v.octets x in
+    let few : length w.headers ≡ suc (length v.headers) = ap (λ (hs : List HeaderPlace). length hs) eh in
+    let A : List HeaderPlace → Type 0 = λ hs. ArePlaced (length w.octets) hs in
+    let B : List HeaderPlace → Type 0 = λ hs. AllByRecursion (λ h. h.code < 16) hs in
+    let C : List HeaderPlace → Type 0 = λ hs. AreReached v.counts (length w.octets) hs in
+    let D : List ℕ → Type 0 = λ ns. AreReached ns (length w.octets) w.headers in
+    let f = closed-few (length w.octets) w.headers (omega (arith, long, few, room, value)) in
+    record {
+      placed = subst A (sym eh) (omega (arith, long), placed-more (length v.octets) (length v.octets + length x) v.headers (omega arith) o.placed);
+      codes = subst B (sym eh) (small, o.codes);
+      reached = subst D (sym ec) (subst C (sym eh) (reached-inner v.counts (length w.octets) h v.headers (reached-more v.counts (length v.octets) (length w.octets) v.headers (omega (arith, long)) o.reached)));
+      fits = omega (arith, f, long, few, room);
+    }
+
+-- ---- the innermost header
+
+-- one was taken off where there was one
+pub popped : (o : Option HeaderPlace) (hs gs rest : List HeaderPlace) (h : HeaderPlace) → hs ≡ h ∷ rest → MatchOption o ((hs ≡ []) × (gs ≡ [])) (λ x. hs ≡ x ∷ gs) → gs ≡ rest
+popped None hs gs rest h e m = absurd (Prim.cc (sym e ∙ m.0))
+popped (Some x) hs gs rest h e m = ap (λ (l : List HeaderPlace). drop 1 l) (sym m ∙ e)
+
+pub popped-cost : (o : Option HeaderPlace) (hs gs rest : List HeaderPlace) (h : HeaderPlace) (m n : Counts) → hs ≡ h ∷ rest → MatchOption o ((hs ≡ []) × (gs ≡ [])) (λ x. hs ≡ x ∷ gs)
+    → MatchOption o (n ≡ m) (λ x. Shrinks m n 8) → Shrinks m n 8
+popped-cost None hs gs rest h m n e i c = absurd (Prim.cc (sym e ∙ i.0))
+popped-cost (Some x) hs gs rest h m n e i c = c
+
+-- something grows, and then something is given back
+pub grow-shrink : (m n o : Counts) (more less before after most : ℕ) → Grows m n more → Shrinks n o less → before + more ≡ after + less → before ≤ m.held → before + more ≤ most
+    → Charges m o before after most
+grow-shrink m n o more less before after most g s e held share =
+    let sh = s.held in
+    let sp = s.peak in
+    let gh = g.held in
+    let gp = g.peak in
+    record { held = omega (arith, sh, gh, e, held); share = omega (arith, e, share); peak = omega (arith, sh, sp, gh, gp, e, held, share); rises = omega (arith, sp, gp) }
+
+pub kind-small : (k : Kind) → type_code k < 16
+kind-small kind.List = lit< tt
+kind-small kind.Sexp = lit< tt
+kind-small kind.Struct = lit< tt

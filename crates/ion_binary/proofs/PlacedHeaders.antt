@@ -1,5 +1,5 @@
 -- The closed size by the places of headers, and by counts of them.
-use Rattle.std.proofs.Common.{◌≡◌, ℕ, zero, suc, ◌+◌, ◌-◌, ◌^◌, ◌<◌, ◌≤◌, ◌⊎◌, inl, inr, min, nat_lt, nat_le, Bool, true, false, if◌then◌else◌, List, [], ◌∷◌, ◌++◌, length, sum, refl, ap, ap₂, sym, ◌∙◌, arith, length-append, ltb-true, ltb-false, lt-ltb, le-ltb, le-leb}
+use Rattle.std.proofs.Common.{◌≡◌, ℕ, zero, suc, ◌+◌, ◌-◌, ◌^◌, ◌<◌, ◌≤◌, ◌⊎◌, inl, inr, min, nat_lt, nat_le, Bool, true, false, if◌then◌else◌, List, [], ◌∷◌, ◌++◌, length, sum, get_or, refl, ap, ap₂, sym, ◌∙◌, arith, length-append, ltb-true, ltb-false, lt-ltb, le-ltb, le-leb}
 use Rattle.std.specs.Bool.{⊤}
 use Rattle.std.specs.List.{AllByRecursion}
 use Rattle.std.proofs.lemmas.Bool.{cases_lt, lt-leb}
@@ -203,7 +203,7 @@ counts-of (n ∷ ns) [] xs u h = absurd h
 counts-of (n ∷ ns) (t ∷ ts) xs u h = (all-counted 0 n t xs (none-above xs) u h.1.0 (λ k. absurd (omega (arith, k, h.0))), counts-of ns ts xs u h.1.1)
 
 -- how many thresholds a number reaches, and one
-abbrev reached : List ℕ → ℕ → ℕ
+abbrev pub reached : List ℕ → ℕ → ℕ
 reached [] x = 1
 reached (t ∷ ts) x = reached ts x + (if nat_le t x then 1 else 0)
 
@@ -281,7 +281,7 @@ size-5 x l h =
     rw (le-ltb x 14 (omega (arith, l)), le-leb 14 x (omega (arith, l)), le-leb 128 x (omega (arith, l)), le-leb 16384 x (omega (arith, l)), le-leb 2097152 x (omega (arith, l)), le-leb 268435456 x l)
     (ap suc (var-long x 4 (omega (arith, l)) (omega (arith, h))))
 
-size-reached : (x : ℕ) → x < 2 ^ 35 → IsReached x
+pub size-reached : (x : ℕ) → x < 2 ^ 35 → IsReached x
 size-reached x h =
     elim (cases_lt x 14) [
       | inl a ↦ size-0 x a
@@ -296,6 +296,34 @@ size-reached x h =
         ]
       ]
     ]
+
+-- six octets at most
+reached-few : (ts : List ℕ) (x : ℕ) → reached ts x ≤ 1 + length ts
+reached-few [] x = omega arith
+reached-few (t ∷ ts) x = let r = reached-few ts x in one-more-few (nat_le t x) (reached ts x) (length ts) r
+  where
+    one-more-few : (b : Bool) (r n : ℕ) → r ≤ 1 + n → r + (if b then 1 else 0) ≤ 1 + suc n
+    one-more-few true r n h = omega (arith, h)
+    one-more-few false r n h = omega (arith, h)
+
+pub header-few : (x : ℕ) → x < 2 ^ 35 → header_size x ≤ 6
+header-few x h = let s = size-reached x h in let f = reached-few thresholds x in omega (arith, s, f)
+
+-- no fewer than are counted, where each threshold that is counted is reached
+pub counted-reached : (ns ts : List ℕ) (k x : ℕ) → length ns ≡ length ts → ((c : ℕ) → c < length ns → k < get_or ns c 0 → get_or ts c 0 ≤ x) → counted_size ns k ≤ reached ts x
+counted-reached [] [] k x e h = omega arith
+counted-reached [] (t ∷ ts) k x e h = absurd (omega (arith, e))
+counted-reached (n ∷ ns) [] k x e h = absurd (omega (arith, e))
+counted-reached (n ∷ ns) (t ∷ ts) k x e h =
+    let r = counted-reached ns ts k x (omega (arith, e)) (λ c lt more. h (suc c) (omega (arith, lt)) more) in
+    let o = one-each (nat_lt k n) (nat_le t x) refl refl (h 0 (omega arith)) in
+    omega (arith, r, o)
+  where
+    one-each : (a b : Bool) → nat_lt k n ≡ a → nat_le t x ≡ b → (k < n → t ≤ x) → (if a then 1 else 0) ≤ (if b then 1 else 0)
+    one-each false false e f g = omega arith
+    one-each false true e f g = omega arith
+    one-each true true e f g = omega arith
+    one-each true false e f g = absurd (Prim.cc (sym f ∙ le-leb t x (g (ltb-true k n e))))
 
 -- ---- the places of headers descend
 

@@ -54,11 +54,11 @@ struct-first kind.List ks = refl
 struct-first kind.Sexp ks = refl
 struct-first kind.Struct ks = refl
 
-innermost-struct : (frames : List Frame) (f : Option frame.Frame) → IsInnermost frames f → in_struct (map (λ x. x.kind) frames) ≡ in_struct (map (λ x. x.kind) (innermost f))
+pub innermost-struct : (frames : List Frame) (f : Option frame.Frame) → IsInnermost frames f → in_struct (map (λ x. x.kind) frames) ≡ in_struct (map (λ x. x.kind) (innermost f))
 innermost-struct _ _ at_top = refl
 innermost-struct _ _ (inside f outer) = struct-first f.kind (map (λ x. x.kind) outer)
 
-kinds-frames : (frames : List frame.Frame) → kinds_of frames ≡ map (λ x. x.kind) (as_frames frames)
+pub kinds-frames : (frames : List frame.Frame) → kinds_of frames ≡ map (λ x. x.kind) (as_frames frames)
 kinds-frames frames = kinds (reverse frames)
   where
     kinds : (fs : List frame.Frame) → map (λ f. f.kind) fs ≡ map (λ x. x.kind) (map as_frame fs)

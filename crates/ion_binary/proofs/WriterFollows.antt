@@ -113,7 +113,7 @@ codes-head w ids f annotations value.marker codes = codes
 same-open : (limit : ℕ) (w : Written) (i : Item UserSymbol ℕ) → (with_ids_given limit w i).open_containers ≡ w.open_containers
 same-open limit w i = forgetting-open w w.open_containers (not (is_marker i.head) && is_over limit w.texts)
 
-codes-after : (limit : ℕ) (w : Written) (i : Item UserSymbol ℕ) → HaveCodes w.open_containers → HaveCodes (after limit w i).open_containers
+pub codes-after : (limit : ℕ) (w : Written) (i : Item UserSymbol ℕ) → HaveCodes w.open_containers → HaveCodes (after limit w i).open_containers
 codes-after limit w i codes =
     let n : Written = with_ids_given limit w i in
     let P : List Unclosed → Type 0 = λ cs. HaveCodes cs in

@@ -1,6 +1,5 @@
 -- The writer of binary follows the streaming definition from item to item.
 use Rattle.std.proofs.Common.{◌≡◌, ℕ, zero, suc, ◌+◌, ◌-◌, ◌/◌, ◌<◌, ◌≤◌, ◌⊎◌, inl, inr, Bool, true, false, if◌then◌else◌, List, [], ◌∷◌, ◌++◌, length, map, drop, Option, Some, None, option_map, Result, Ok, Err, OnOk, refl, ap, sym, subst, ◌∙◌, arith, append-nil, length-append, lt-ltb, le-ltb}
-use Rattle.ion_meter.specs.Limits.{AreChecked}
 use Rattle.ion_meter.specs.Windows.{Outgoing}
 use Rattle.ion_meter.specs.declared.device.Output.{Ghosts as OutputOf}
 use Rattle.ion_meter.specs.declared.fault.Fault.{Fault}
@@ -20,11 +19,11 @@ use Rattle.ion_binary.specs.Canonical.{field_octets, id_in, id_octets, is_over, 
 use Rattle.ion_binary.specs.Held.{Held, ids_place, moved_headers, moved_octets, size_of, texts_forgotten, value_put, with_front, with_names}
 use Rattle.ion_binary.specs.ItemOctets.{head_name}
 use Rattle.ion_binary.specs.Numbering.{IsFront}
-use Rattle.ion_binary.specs.Opening.{IsOpen, IsOpenTo, IsWithin, MayAdd, MayFollow}
+use Rattle.ion_binary.specs.Opening.{IsOpen, IsOpenTo, MayAdd, MayFollow}
 use Rattle.ion_binary.specs.Writer.{PutsOctets, added, item_refusal}
 use Rattle.ion_binary.specs.Writing.{first_over, item_symbols, refused_by}
 use Rattle.ion_binary.proofs.CountedHeaders.{reached-more}
-use Rattle.ion_binary.proofs.OpenSteps.{begun-more, placed-more, size-counted, whole-length}
+use Rattle.ion_binary.proofs.OpenSteps.{begun-more, placed-more, whole-length}
 
 -- ---- what is held, by its parts
 
@@ -86,16 +85,6 @@ module _ (limits : Limits) (h : Held) (item : PlacedItem) where
   not-refused none fits =
       ap (refused_by limits.value (size_of (added h item).octets (added h item).headers) item.top) none
       ∙ ap (λ (b : Bool). if b then Some (ValueLimit, item.top) else None) (le-ltb limits.value (size_of (added h item).octets (added h item).headers) fits)
-
-pub open-size : {A : Type 0} (limits : Limits) (v : OpenValue A) → AreChecked limits → IsWithin limits v → IsOpen limits v → size_of v.octets v.headers ≤ limits.value
-open-size limits v checked within o =
-    let few = within.headers in
-    let depth = checked.depth in
-    let octets = within.octets in
-    let val = checked.value in
-    let fits = o.fits in
-    let s = size-counted v.counts (length v.octets) v.headers o.counted o.placed (omega (arith, few, depth)) (omega (arith, octets, val)) in
-    omega (arith, s, fits)
 
 -- ---- what comes first of an item
 
@@ -165,20 +154,20 @@ may-follow-by limits v octets place (value.whole body) item o low high same may 
       within = high;
       placed = placed-more (length v.octets) place v.headers low o.placed;
       codes = o.codes;
-      reached = reached-more v.counts (length v.octets) place v.headers low o.counted.reached;
+      reached = reached-more v.counts (length v.octets) place v.headers low o.reached;
     }
 may-follow-by limits v octets place (value.begin k) item o low high same may = (
   record {
     within = high;
     placed = placed-more (length v.octets) place v.headers low o.placed;
     codes = o.codes;
-    reached = reached-more v.counts (length v.octets) place v.headers low o.counted.reached;
+    reached = reached-more v.counts (length v.octets) place v.headers low o.reached;
   },
   may,
 )
 may-follow-by {A} limits v octets place value.end item o low high same may =
     let P : List ℕ → Type 0 = λ os. IsOpen {A = A} limits (record v { octets = os }) in
-    subst P (sym (same may.0 may.1)) (record { placed = o.placed; codes = o.codes; counted = o.counted; fits = o.fits })
+    subst P (sym (same may.0 may.1)) (record { placed = o.placed; codes = o.codes; reached = o.reached; fits = o.fits })
 may-follow-by limits v octets place value.marker item o low high same may = absurd may
 
 pub may-follow : {A : Type 0} (limits : Limits) (v : OpenValue A) (h : Held) (item : PlacedItem) (octets : List ℕ) (place : ℕ) (head : Head SymbolAt)

@@ -16,7 +16,7 @@ use Rattle.ion_binary.specs.declared.scalar.Octets.{Octets}
 use Rattle.ion_binary.specs.declared.scalar.Spelled.{Spelled}
 use Rattle.ion_binary.specs.Held.{size_of, whole_at}
 use Rattle.ion_binary.specs.ItemOctets.{opening}
-use Rattle.ion_binary.specs.Counting.{ArePlaced, AreReached, IsCounted, counted_length}
+use Rattle.ion_binary.specs.Counting.{ArePlaced, AreReached}
 
 -- the counted bytes that it holds
 abbrev pub open_cost : {A : Type 0} → OpenValue A → ℕ
@@ -31,12 +31,13 @@ pub record IsWithin {A : Type 0} (limits : Limits) (v : OpenValue A) : Type 0 wh
   pub octets : length v.octets ≤ limits.value
   pub headers : length v.headers ≤ 2 * limits.depth
 
--- the headers that are missing are right, and the counts of them
+-- the headers that are missing are right, no count of them is too high, and the closed value is not too long. A count may be too low: whoever
+-- asks for the closed size raises it first
 pub record IsOpen {A : Type 0} (limits : Limits) (v : OpenValue A) : Type 0 where
   pub placed : ArePlaced (length v.octets) v.headers
   pub codes : AllByRecursion (λ h. h.code < 16) v.headers
-  pub counted : IsCounted v.counts (length v.octets) v.headers
-  pub fits : counted_length v.counts (length v.octets) v.headers ≤ limits.value
+  pub reached : AreReached v.counts (length v.octets) v.headers
+  pub fits : size_of v.octets v.headers ≤ limits.value
 
 -- the same before a place behind which there are more octets
 pub record IsOpenTo {A : Type 0} (v : OpenValue A) (place : ℕ) : Type 0 where

@@ -59,9 +59,9 @@ pub(crate) fn id_of(n: u64) -> u32
     n.min(1 << 31) as u32
 }
 
-// The id that a UInt spells.
+/// The id that a UInt spells.
 #[inline]
-fn uint_id(octets: &[u8]) -> u32
+pub(crate) fn uint_id(octets: &[u8]) -> u32
     ensures { result ≡ raw_id (uint octets.now) }
 {
     match int_from_bytes(false, octets) {
@@ -90,9 +90,9 @@ fn number(type_code: u8, octets: &[u8], body: &mut Body) -> Result<(), Reason>
     Ok(())
 }
 
-// Whether octets are UTF-8.
+/// Whether octets are UTF-8.
 #[inline]
-fn is_text(octets: &[u8]) -> bool
+pub(crate) fn is_text(octets: &[u8]) -> bool
     ensures { IsTrue result ↔ IsUtf8 octets.now }
 {
     simdutf8::basic::from_utf8(octets).is_ok()

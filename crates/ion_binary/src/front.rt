@@ -211,7 +211,7 @@ fn id_of<A: Allocator + Copy>(
     let Sym::Text(text) = at.sym else {
         return Ok(0);
     };
-    match symbols.id_of(meter, text) {
+    match symbols.give_id(meter, text) {
         Ok(Some(id)) => Ok(id),
         Ok(None) => Err(Fault::Refused(Reason::SymbolLimit, at.place)),
         Err(fault) => Err(fault),

@@ -1,8 +1,9 @@
 //! The headers of open containers, which go in as the containers end.
-ghost use Rattle.std.specs.Prelude.{◌≡◌, ◌+◌, ◌*◌, ◌-◌, ◌^◌, ◌<◌, ◌≤◌, ◌∷◌, [], length, slice_get, OnOk, OnErr, IfErr, MatchOption};
+ghost use Rattle.std.specs.Prelude.{◌≡◌, ◌+◌, ◌*◌, ◌-◌, ◌^◌, ◌<◌, ◌≤◌, ◌∷◌, ◌++◌, [], true, false, length, drop, slice_get, OnOk, OnErr, IfErr, IfSome, MatchOption};
 ghost use Rattle.ion_meter.specs.Counts.{Grows, Shrinks, IsRefused};
 ghost use Rattle.ion_binary.specs.Counting.{place_around};
 
+use ion_meter::buf::Buf;
 use ion_meter::fault::Fault;
 use ion_meter::meter::Meter;
 use ion_meter::table::Table;
@@ -68,6 +69,49 @@ impl<A: Allocator + Copy> Headers<A> {
         ensures { result ≡ slice_get self.now 0 }
     {
         self.table.as_slice().last().copied()
+    }
+
+    /// The one header that there is, where there is one alone.
+    pub fn only(&self) -> Option<HeaderPlace>
+        ensures { IfSome result (λ header. self.now ≡ header ∷ []) }
+    {
+        let headers = self.table.as_slice();
+        if headers.len() != 1 {
+            return None;
+        }
+        Some(headers[0])
+    }
+
+    /// The innermost, and the one around it.
+    pub fn two(&self) -> Option<(HeaderPlace, HeaderPlace)>
+        ensures { IfSome result (λ two. self.now ≡ two.0 ∷ (two.1 ∷ drop 2 self.now)) }
+    {
+        let headers = self.table.as_slice();
+        let n = headers.len();
+        if n < 2 {
+            return None;
+        }
+        Some((headers[n - 1], headers[n - 2]))
+    }
+
+    /// Adds an innermost header, and octets to others, where there is room for both. Else it answers
+    /// false, and nothing is changed.
+    #[inline(always)]
+    pub fn push_with(
+        &mut self,
+        others: &mut Buf<A>,
+        meter: &mut Meter<A>,
+        header: HeaderPlace,
+        octets: &[u8],
+    ) -> bool
+        requires { meter.old.held + 8 + length octets.now < 2 ^ 63 }
+        ensures headers { result ≡ true → self.new ≡ header ∷ self.old }
+        ensures octets { result ≡ true → others.new ≡ others.old ++ octets.now }
+        ensures cost { result ≡ true → Grows meter.old meter.new (8 + length octets.now) }
+        ensures declines { result ≡ false → (self.new ≡ self.old) × (others.new ≡ others.old)
+            × (meter.new ≡ meter.old) }
+    {
+        self.table.push_with(others, meter, header, octets)
     }
 
     /// Adds an innermost header.

@@ -18,6 +18,7 @@ mod opening;
 mod put;
 pub mod reader;
 mod scalar;
+mod shown;
 mod typed_value;
 mod value;
 mod waiting;

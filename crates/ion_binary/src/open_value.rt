@@ -1,5 +1,5 @@
 //! The value at top level that is being written.
-ghost use Rattle.std.specs.Prelude.{◌≡◌, ◌+◌, ◌-◌, ◌*◌, ◌^◌, ◌<◌, ◌≤◌, ℕ, true, false, [], ◌++◌, if◌then◌else◌, length, drop, take, Ok, OnOk, OnErr, IfErr};
+ghost use Rattle.std.specs.Prelude.{◌≡◌, ◌+◌, ◌-◌, ◌*◌, ◌^◌, ◌<◌, ◌≤◌, ℕ, true, false, [], ◌∷◌, ◌++◌, if◌then◌else◌, length, drop, take, Ok, OnOk, OnErr, IfErr, None};
 ghost use Rattle.ion_meter.specs.Counts.{IsRefused, Shrinks};
 ghost use Rattle.ion_meter.specs.declared.limits.Limits.{Limits};
 ghost use Rattle.ion_value.specs.Items.{raw_head};
@@ -10,9 +10,10 @@ ghost use Rattle.ion_value.specs.Int.{IsInt};
 ghost use Rattle.ion_value.specs.Number.{uint_octets};
 ghost use Rattle.ion_binary.specs.Canonical.{headed};
 ghost use Rattle.ion_binary.specs.Grammar.{type_code};
-ghost use Rattle.ion_binary.specs.Held.{begun_at, begun_headers, closed_in, headers_around, innermost_in, moved_headers, moved_octets, size_of, whole_at, wrapper_headers};
+ghost use Rattle.ion_binary.specs.Held.{begun_at, begun_headers, closed_in, headers_around, innermost_in, moved_headers, moved_octets, size_of, whole_at, wrapper_headers, header_at};
 ghost use Rattle.ion_binary.specs.ItemOctets.{head_name, user_head};
-ghost use Rattle.ion_binary.specs.Opening.{CanStep, IsOpen, IsOpenTo, MayFollow, PutsScalar, Raises, Stepped, both_octets, open_cost, spelled_octets, wrapper_octets};
+ghost use Rattle.ion_meter.specs.Limits.{AreChecked};
+ghost use Rattle.ion_binary.specs.Opening.{CanStep, IsOpen, IsOpenTo, IsWithin, MayFollow, PutsScalar, Raises, Stepped, both_octets, open_cost, spelled_octets, wrapper_octets};
 
 use crate::front::Front;
 use crate::header::header;
@@ -303,6 +304,127 @@ impl<A: Allocator + Copy> OpenValue<A> {
         }
     }
 
+    // Whether so many octets and headers more surely keep the value within its limit: a header has six
+    // octets at most.
+    #[inline(always)]
+    fn surely_fits(&self, limits: Limits, octets: usize, headers: usize) -> bool
+        requires checked { AreChecked limits }
+        requires within { IsWithin limits self.now }
+        requires more { headers ≤ 2 }
+        ensures { result ≡ true → length self.now.octets
+            + (octets + 6 * (length self.now.headers + headers)) ≤ limits.value }
+    {
+        if octets as u64 > limits.value {
+            return false;
+        }
+        let headers = 6 * (self.headers.len() + headers) as u64;
+        self.octets.as_slice().len() as u64 + octets as u64 + headers <= limits.value
+    }
+
+    /// Adds octets behind the others, where there is room for them and the value surely keeps within
+    /// its limit. Else it answers false, and nothing is changed.
+    #[inline(always)]
+    pub fn extend_if_room(
+        &mut self,
+        meter: &mut Meter<A>,
+        limits: Limits,
+        octets: &Octets<'_>,
+    ) -> bool
+        requires can_step { CanStep limits self.old meter.old }
+        requires open { IsOpen limits self.old }
+        ensures octets { result ≡ true
+            → self.new.octets ≡ self.old.octets ++ both_octets octets.now }
+        ensures headers { self.new.headers ≡ self.old.headers }
+        ensures open { result ≡ true → IsOpen limits self.new }
+        ensures declines { result ≡ false → (self.new ≡ self.old) × (meter.new ≡ meter.old) }
+        ensures stepped { Stepped limits self.old self.new meter.old meter.new None }
+    {
+        if !self.surely_fits(limits, octets.front.len() + octets.rest.len(), 0) {
+            return false;
+        }
+        self.octets.extend_if_room(meter, octets.front, octets.rest)
+    }
+
+    /// Begins a container behind octets that come first of its item, where there is room for all and
+    /// the value surely keeps within its limit. Else it answers false, and nothing is changed.
+    #[inline(always)]
+    pub fn begin_if_room(
+        &mut self,
+        meter: &mut Meter<A>,
+        limits: Limits,
+        front: &[u8],
+        kind: Kind,
+    ) -> bool
+        requires can_step { CanStep limits self.old meter.old }
+        requires open { IsOpen limits self.old }
+        requires deep { length self.old.headers + 1 ≤ 2 * limits.depth }
+        ensures octets { result ≡ true → self.new.octets ≡ self.old.octets ++ front.now }
+        ensures headers { result ≡ true → self.new.headers
+            ≡ header_at (length self.old.octets + length front.now) (type_code kind)
+            ∷ self.old.headers }
+        ensures open { result ≡ true → IsOpen limits self.new }
+        ensures declines { result ≡ false → (self.new ≡ self.old) × (meter.new ≡ meter.old) }
+        ensures stepped { Stepped limits self.old self.new meter.old meter.new None }
+    {
+        if !self.surely_fits(limits, front.len(), 1) {
+            return false;
+        }
+        let header = HeaderPlace {
+            place: (self.octets.as_slice().len() + front.len()) as u32,
+            code: type_code(kind),
+        };
+        self.headers
+            .push_with(&mut self.octets, meter, header, front)
+    }
+
+    /// Closes the innermost container, where it has no wrapper, stands in another, and there is room
+    /// for its header. Else it answers false, and nothing is changed.
+    #[inline(always)]
+    pub fn end_if_room(&mut self, meter: &mut Meter<A>, limits: Limits) -> bool
+        requires can_step { CanStep limits self.old meter.old }
+        requires open { IsOpen limits self.old }
+        ensures octets { result ≡ true
+            → self.new.octets ≡ closed_in self.old.octets self.old.headers }
+        ensures headers { result ≡ true → self.new.headers ≡ headers_around self.old.headers }
+        ensures inside { result ≡ true → (0 < length self.old.headers)
+            × (0 < length self.new.headers) }
+        ensures open { result ≡ true → IsOpen limits self.new }
+        ensures declines { result ≡ false → (self.new ≡ self.old) × (meter.new ≡ meter.old) }
+        ensures stepped { Stepped limits self.old self.new meter.old meter.new None }
+    {
+        let Some((innermost, around)) = self.headers.two() else {
+            return false;
+        };
+        if around.code == WRAPPER {
+            return false;
+        }
+        let place = innermost.place as usize;
+        let octets = header(
+            innermost.code,
+            (self.octets.as_slice().len() - place) as u64,
+        );
+        if !self.octets.insert_if_room(meter, place, octets.as_slice()) {
+            return false;
+        }
+        let _innermost = self.headers.pop(meter);
+        self.cut();
+        true
+    }
+
+    /// Nothing is open any more: the last header and the octets are given back.
+    #[inline(always)]
+    pub fn clear(&mut self, meter: &mut Meter<A>, limits: Limits)
+        requires can_step { CanStep limits self.old meter.old }
+        requires one { length self.old.headers ≡ 1 }
+        ensures nothing { (self.new.octets ≡ []) × (self.new.headers ≡ []) }
+        ensures open { IsOpen limits self.new }
+        ensures stepped { Stepped limits self.old self.new meter.old meter.new None }
+    {
+        let _last = self.headers.pop(meter);
+        self.octets.clear(meter);
+        self.counts = [0; 5];
+    }
+
     // Puts an int: one that 64 bits hold without an `ArrayVec` of its octets, which would be moved.
     fn int(
         &mut self,
@@ -491,9 +613,9 @@ fn extend_some<A: Allocator + Copy>(
     octets.extend(meter, more)
 }
 
-// What stands before the ids of annotations of so many octets and a value of so many: the header of
-// all of it, and the length of the ids. Where there are none, nothing does.
-fn wrapper(ids: u64, value: u64) -> ArrayVec<u8, LONGEST>
+/// What stands before the ids of annotations of so many octets and a value of so many: the header of
+/// all of it, and the length of the ids. Where there are none, nothing does.
+pub(crate) fn wrapper(ids: u64, value: u64) -> ArrayVec<u8, LONGEST>
     requires ids { ids ≤ 2 ^ 32 }
     requires value { value ≤ 2 ^ 32 }
     ensures octets { result.items ≡ wrapper_octets ids value }

@@ -69,9 +69,9 @@ pub(crate) fn spell<'a>(head: Head<'a>, name: u32) -> Spelled<'a>
     }
 }
 
-// The type code of the null of a type.
+/// The type code of the null of a type.
 #[inline]
-fn type_code(of: IonType) -> u8
+pub(crate) fn type_code(of: IonType) -> u8
     ensures code { result ≡ type_code of }
     ensures small { result < 14 }
 {

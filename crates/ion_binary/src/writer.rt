@@ -16,6 +16,8 @@ ghost use Rattle.ion_binary.specs.Writing.{Written, binary_adds, binary_puts, bi
 ghost use Rattle.ion_binary.specs.ItemPuts.{binary_grows, binary_silent};
 ghost use Rattle.ion_binary.specs.WriterWithin.{binary-within};
 
+mod plain;
+
 use crate::declaration::put_declaration;
 use crate::front::put_front;
 use crate::open_value::OpenValue;
@@ -26,8 +28,9 @@ use ion_meter::limits::Limits;
 use ion_meter::meter::Meter;
 use ion_meter::sink::Sink;
 use ion_symbols::output::OutSymbols;
-use ion_value::item::Item;
+use ion_value::item::{Head, Item};
 use ion_value::names::Names;
+use ion_value::plain_item::PlainItem;
 use ion_value::writer::ValueWriter;
 use std::alloc::Allocator;
 
@@ -270,6 +273,21 @@ impl<O: Output, A: Allocator + Copy> ValueWriter<O, A> for BinWriter<A> {
                 Err(fault)
             }
         }
+    }
+
+    #[inline(always)]
+    fn take_plain(
+        &mut self,
+        meter: &mut Meter<A>,
+        sink: &mut Sink<O, A>,
+        item: PlainItem<'_, '_>,
+    ) -> bool {
+        if self.open_value.headers.len() == 1 {
+            if let Head::End = item.head {
+                return self.end_whole(meter, sink, &item);
+            }
+        }
+        self.add_plain(meter, item)
     }
 
     ghost grows = { binary_grows };

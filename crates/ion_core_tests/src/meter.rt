@@ -34,6 +34,7 @@ enum Script {
     SplicedBytes,
     Stack,
     Table,
+    TwoTables,
     Input,
     Output,
 }
@@ -44,6 +45,7 @@ fn run(rt: &impl Abort, alloc: Global, refusing: &Refusing<Global>, script: Scri
         Script::SplicedBytes => growing::grow_spliced_bytes(rt, alloc, refusing),
         Script::Stack => growing::grow_stack(rt, alloc, refusing),
         Script::Table => growing::grow_table(rt, alloc, refusing),
+        Script::TwoTables => growing::grow_two_tables(rt, alloc, refusing),
         Script::Input => windows::read_byte(rt, refusing),
         Script::Output => windows::write_bytes(rt, alloc, refusing),
     }

@@ -7,6 +7,7 @@ mod int;
 mod int_text;
 mod item;
 mod laws;
+mod name;
 mod timestamp;
 mod timestamp_text;
 mod var;

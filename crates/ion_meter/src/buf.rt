@@ -1,5 +1,5 @@
 //! Bytes whose every growth is counted.
-ghost use Rattle.std.specs.Prelude.{◌≡◌, ◌+◌, ◌-◌, ◌^◌, ◌<◌, ◌≤◌, ◌++◌, ◌∷◌, [], length, take, drop, slice_set, OnOk, OnErr, IfErr, MatchOption};
+ghost use Rattle.std.specs.Prelude.{◌≡◌, true, false, ◌+◌, ◌-◌, ◌^◌, ◌<◌, ◌≤◌, ◌++◌, ◌∷◌, [], length, take, drop, slice_set, OnOk, OnErr, IfErr, MatchOption};
 ghost use Rattle.std.specs.List.{insert};
 ghost use Rattle.ion_meter.specs.Counts.{Grows, Shrinks, IsRefused};
 
@@ -76,6 +76,60 @@ impl<A: Allocator + Copy> Buf<A> {
         }
         meter.add(bytes.len() as u64);
         Ok(())
+    }
+
+    /// Adds these bytes at the end, and more behind them, where there is room for all. Else it
+    /// answers false, and nothing is changed.
+    #[inline(always)]
+    pub fn extend_if_room(&mut self, meter: &mut Meter<A>, bytes: &[u8], more: &[u8]) -> bool
+        requires { meter.old.held + (length bytes.now + length more.now) < 2 ^ 63 }
+        ensures bytes { result ≡ true → self.new ≡ self.old ++ (bytes.now ++ more.now) }
+        ensures cost { result ≡ true
+            → Grows meter.old meter.new (length bytes.now + length more.now) }
+        ensures declines { result ≡ false → (self.new ≡ self.old) × (meter.new ≡ meter.old) }
+    {
+        let end = self.bytes.len();
+        let room = self.bytes.capacity().saturating_sub(end);
+        if room < bytes.len() || room - bytes.len() < more.len() {
+            return false;
+        }
+        if self.bytes.extend_from_slice(bytes).is_err() {
+            return false;
+        }
+        if more.is_empty() {
+            meter.add(bytes.len() as u64);
+            return true;
+        }
+        if self.bytes.extend_from_slice(more).is_err() {
+            self.bytes.truncate(end);
+            return false;
+        }
+        meter.add((bytes.len() + more.len()) as u64);
+        true
+    }
+
+    /// Puts these bytes in at a place, counted from 0, where there is room for them. Else it answers
+    /// false, and nothing is changed.
+    #[inline(always)]
+    pub fn insert_if_room(&mut self, meter: &mut Meter<A>, place: usize, bytes: &[u8]) -> bool
+        requires within { place ≤ length self.old }
+        requires room { meter.old.held + length bytes.now < 2 ^ 63 }
+        ensures bytes { result ≡ true → self.new
+            ≡ take place self.old ++ (bytes.now ++ drop place self.old) }
+        ensures cost { result ≡ true → Grows meter.old meter.new (length bytes.now) }
+        ensures declines { result ≡ false → (self.new ≡ self.old) × (meter.new ≡ meter.old) }
+    {
+        if self.bytes.capacity().saturating_sub(self.bytes.len()) < bytes.len() {
+            return false;
+        }
+        let (end, to) = (self.bytes.len(), place + bytes.len());
+        if self.bytes.extend_from_slice(bytes).is_err() {
+            return false;
+        }
+        self.bytes.copy_within(place..end, to);
+        self.bytes[place..to].copy_from_slice(bytes);
+        meter.add(bytes.len() as u64);
+        true
     }
 
     /// Puts a byte in at a place, counted from 0.

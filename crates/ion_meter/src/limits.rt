@@ -1,6 +1,6 @@
 //! The limits of a run.
-ghost use Rattle.std.specs.Prelude.{◌↔◌, IsTrue};
-ghost use Rattle.ion_meter.specs.Limits.{AreChecked};
+ghost use Rattle.std.specs.Prelude.{◌≡◌, ◌↔◌, IsTrue};
+ghost use Rattle.ion_meter.specs.Limits.{AreChecked, default_limits};
 
 /// How much a run may take. Calls that take limits want them checked.
 #[derive(Clone, Copy, Debug, PartialEq, Eq)]
@@ -28,5 +28,21 @@ impl Limits {
             && self.symbols <= 1 << 30
             && self.value <= 1 << 30
             && self.input <= 1 << 48
+    }
+}
+
+impl Default for Limits {
+    ghost is_default = { λ limits. (limits ≡ default_limits) × AreChecked limits };
+
+    /// The limits of a run where a caller gives none: 64 containers, 1 MiB for a scalar, for a value's
+    /// annotations and for a symbol table, 16 MiB for a top-level value, 2^48 bytes of input.
+    fn default() -> Limits {
+        Limits {
+            depth: 64,
+            scalar: 1_048_576,
+            symbols: 1_048_576,
+            value: 16_777_216,
+            input: 281_474_976_710_656,
+        }
     }
 }

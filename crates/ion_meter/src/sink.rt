@@ -1,5 +1,5 @@
 //! A window of 4,096 bytes on an output.
-ghost use Rattle.std.specs.Prelude.{◌≡◌, ◌+◌, ◌-◌, ◌^◌, ◌<◌, ◌≤◌, ◌++◌, [], length, take, min, None, Some, Err, OnOk, OnErr, IfOk, IfErr, IfSome, MatchResult};
+ghost use Rattle.std.specs.Prelude.{◌≡◌, ◌+◌, ◌-◌, ◌^◌, ◌<◌, ◌≤◌, ◌++◌, ◌∷◌, [], length, take, min, None, Some, Err, OnOk, OnErr, IfOk, IfErr, IfSome, MatchResult};
 ghost use Rattle.ion_meter.specs.Counts.{Grows, Shrinks, IsRefused};
 ghost use Rattle.ion_meter.specs.Windows.{Outgoing, so_far, Puts, write_failures_in};
 
@@ -145,6 +145,36 @@ impl<O: Output, A: Allocator + Copy> Sink<O, A> {
             return Ok(());
         }
         self.put_slowly(bytes)
+    }
+
+    /// How many bytes the window has room for.
+    #[inline(always)]
+    pub fn room(&self) -> usize
+        ensures { result + length self.now.pending ≡ WINDOW }
+    {
+        WINDOW - self.len
+    }
+
+    /// Puts these bytes, for which the window has room.
+    #[inline(always)]
+    pub fn put_within(&mut self, bytes: &[u8])
+        requires { length self.old.pending + length bytes.now ≤ WINDOW }
+        ensures { self.new ≡ record self.old { pending = self.old.pending ++ bytes.now } }
+    {
+        let from = self.len;
+        let to = from + bytes.len();
+        self.window[from..to].copy_from_slice(bytes);
+        self.len = to;
+    }
+
+    /// Puts a byte, for which the window has room.
+    #[inline(always)]
+    pub fn put_byte(&mut self, byte: u8)
+        requires { length self.old.pending < WINDOW }
+        ensures { self.new ≡ record self.old { pending = self.old.pending ++ byte ∷ [] } }
+    {
+        self.window[self.len] = byte;
+        self.len += 1;
     }
 
     /// Writes all that was put.

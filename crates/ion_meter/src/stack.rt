@@ -1,5 +1,5 @@
 //! Entries whose every growth is counted, at a cost of 16 each.
-ghost use Rattle.std.specs.Prelude.{◌≡◌, ◌+◌, ◌*◌, ◌-◌, ◌^◌, ◌<◌, ◌≤◌, ◌++◌, ◌∷◌, [], length, take, slice_set, OnOk, OnErr, IfErr, MatchOption};
+ghost use Rattle.std.specs.Prelude.{◌≡◌, ◌+◌, ◌*◌, ◌-◌, ◌^◌, ◌<◌, ◌≤◌, ◌++◌, ◌∷◌, [], true, false, length, take, slice_set, OnOk, OnErr, IfErr, MatchOption};
 ghost use Rattle.std.specs.List.{insert};
 ghost use Rattle.ion_meter.specs.Counts.{Grows, Shrinks, IsRefused};
 
@@ -59,6 +59,20 @@ impl<T, A: Allocator + Copy> Stack<T, A> {
         ensures refused { OnErr result (IsRefused meter.old meter.new) }
     {
         self.table.push(meter, entry)
+    }
+
+    /// Adds an entry where there is room for it without a growth. False where there is none, and then
+    /// nothing is changed.
+    #[inline(always)]
+    pub fn push_within(&mut self, meter: &mut Meter<A>, entry: T) -> bool
+    where
+        T: Copy,
+        requires room { meter.old.held + 16 < 2 ^ 63 }
+        ensures ok { result ≡ true → self.new ≡ self.old ++ entry ∷ [] }
+        ensures cost { result ≡ true → Grows meter.old meter.new 16 }
+        ensures declines { result ≡ false → (self.new ≡ self.old) × (meter.new ≡ meter.old) }
+    {
+        self.table.push_within(meter, entry)
     }
 
     /// Adds copies of these entries at the end.

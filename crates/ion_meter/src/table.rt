@@ -1,9 +1,10 @@
 //! Entries whose every growth is counted, at a fixed cost each.
-ghost use Rattle.std.specs.Prelude.{◌≡◌, ◌+◌, ◌*◌, ◌-◌, ◌^◌, ◌<◌, ◌≤◌, ◌++◌, ◌∷◌, [], length, take, slice_set, OnOk, OnErr, IfErr, MatchOption};
+ghost use Rattle.std.specs.Prelude.{◌≡◌, ◌+◌, ◌*◌, ◌-◌, ◌^◌, ◌<◌, ◌≤◌, ◌++◌, ◌∷◌, [], true, false, length, take, slice_set, OnOk, OnErr, IfErr, MatchOption};
 ghost use Rattle.std.specs.List.{insert};
 ghost use Rattle.ion_meter.specs.Counts.{Grows, Shrinks, IsRefused};
 ghost use Rattle.ion_meter.specs.Entries.{Entries, cost_of};
 
+use crate::buf::Buf;
 use crate::fault::Fault;
 use crate::meter::Meter;
 use std::alloc::Allocator;
@@ -65,6 +66,58 @@ impl<T, A: Allocator + Copy> Table<T, A> {
         Ok(())
     }
 
+    /// Adds an entry, and bytes to others, where there is room for both. Else it answers false, and
+    /// nothing is changed.
+    #[inline(always)]
+    pub fn push_with(
+        &mut self,
+        others: &mut Buf<A>,
+        meter: &mut Meter<A>,
+        entry: T,
+        bytes: &[u8],
+    ) -> bool
+    where
+        T: Copy,
+        requires { meter.old.held + self.old.cost + length bytes.now < 2 ^ 63 }
+        ensures items { result ≡ true → self.new.items ≡ self.old.items ++ entry ∷ [] }
+        ensures bytes { result ≡ true → others.new ≡ others.old ++ bytes.now }
+        ensures cost { result ≡ true
+            → Grows meter.old meter.new (self.old.cost + length bytes.now) }
+        ensures same_cost { self.new.cost ≡ self.old.cost }
+        ensures declines { result ≡ false → (self.new ≡ self.old) × (others.new ≡ others.old)
+            × (meter.new ≡ meter.old) }
+    {
+        if self.items.len() >= self.items.capacity() {
+            return false;
+        }
+        if !others.extend_if_room(meter, bytes, &[]) {
+            return false;
+        }
+        self.items.push_reserved(entry);
+        meter.add(self.cost);
+        true
+    }
+
+    /// Adds an entry where there is room for it without a growth. False where there is none, and then
+    /// nothing is changed.
+    #[inline(always)]
+    pub fn push_within(&mut self, meter: &mut Meter<A>, entry: T) -> bool
+    where
+        T: Copy,
+        requires room { meter.old.held + self.old.cost < 2 ^ 63 }
+        ensures ok { result ≡ true → self.new.items ≡ self.old.items ++ entry ∷ [] }
+        ensures cost { result ≡ true → Grows meter.old meter.new self.old.cost }
+        ensures same_cost { self.new.cost ≡ self.old.cost }
+        ensures declines { result ≡ false → (self.new ≡ self.old) × (meter.new ≡ meter.old) }
+    {
+        if self.items.len() >= self.items.capacity() {
+            return false;
+        }
+        self.items.push_reserved(entry);
+        meter.add(self.cost);
+        true
+    }
+
     /// Adds copies of these entries at the end.
     pub fn extend(&mut self, meter: &mut Meter<A>, entries: &[T]) -> Result<(), Fault>
     where
@@ -104,6 +157,39 @@ impl<T, A: Allocator + Copy> Table<T, A> {
             return Err((failed.value, Fault::Memory));
         }
         meter.add(self.cost);
+        Ok(())
+    }
+
+    /// Adds an entry here, and puts one in at a place of others, counted from 0. Where there is no
+    /// memory for one of them it does neither, and hands the first back.
+    pub fn push_and_insert<U>(
+        &mut self,
+        others: &mut Table<U, A>,
+        meter: &mut Meter<A>,
+        entry: T,
+        place: usize,
+        other: U,
+    ) -> Result<(), (T, Fault)>
+    where
+        U: Copy,
+        requires within { place ≤ length others.old.items }
+        requires room { meter.old.held + (self.old.cost + others.old.cost) < 2 ^ 63 }
+        requires countable { meter.old.refused < 2 ^ 64 - 1 }
+        ensures added { OnOk result (self.new.items ≡ self.old.items ++ entry ∷ []) }
+        ensures inserted { OnOk result (others.new.items ≡ insert others.old.items place other) }
+        ensures cost { OnOk result (Grows meter.old meter.new (self.old.cost + others.old.cost)) }
+        ensures same_cost { self.new.cost ≡ self.old.cost }
+        ensures same_other_cost { others.new.cost ≡ others.old.cost }
+        ensures returned { IfErr result (λ e. (e.0 ≡ entry) × (e.1 ≡ Fault.Memory)) }
+        ensures err { OnErr result ((self.new ≡ self.old) × (others.new ≡ others.old)) }
+        ensures refused { OnErr result (IsRefused meter.old meter.new) }
+    {
+        if self.items.reserve(1).is_err() || others.items.insert(place, other).is_err() {
+            meter.refuse();
+            return Err((entry, Fault::Memory));
+        }
+        self.items.push_reserved(entry);
+        meter.add(self.cost + others.cost);
         Ok(())
     }
 

@@ -68,7 +68,7 @@ given_push limit most texts texts2 t n cost h m c l e f =
     ap₂ (λ (k : ℕ) (ts : List (List ℕ)). (Some k, ts)) i f ∙ sym (new_given most texts t (known_id texts t) h (omega (arith, m, c, l)))
 
 -- its cost is charged in three parts
-pub charges_push : (m0 m1 m2 m3 : Counts) (limit most : ℕ) (texts texts2 : List (List ℕ)) (t : List ℕ) (of_place of_id cost : ℕ) → Grows m0 m1 (length t) → Grows m1 m2 of_place → Grows m2 m3 of_id → of_place ≡ 8 → of_id ≡ 8 → texts_cost texts ≤ m0.held → limit ≡ most → cost ≡ texts_cost texts → cost + 16 + length t ≤ limit → texts2 ≡ texts ++ t ∷ [] → Charges m0 m3 (texts_cost texts) (texts_cost texts2) most
+pub charges_push : (m0 m1 m2 m3 : Counts) (limit most : ℕ) (texts texts2 : List (List ℕ)) (t : List ℕ) (of_place of_id cost : ℕ) → Grows m0 m1 (length t) → Grows m1 m2 of_place → Grows m2 m3 of_id → of_place ≡ 12 → of_id ≡ 4 → texts_cost texts ≤ m0.held → limit ≡ most → cost ≡ texts_cost texts → cost + 16 + length t ≤ limit → texts2 ≡ texts ++ t ∷ [] → Charges m0 m3 (texts_cost texts) (texts_cost texts2) most
 charges_push m0 m1 m2 m3 limit most texts texts2 t of_place of_id cost a b c x y h m d l f =
     let k : texts_cost texts2 ≡ texts_cost texts + (16 + length t) = ap texts_cost f ∙ cost_push texts t in
     record {
@@ -79,10 +79,10 @@ charges_push m0 m1 m2 m3 limit most texts texts2 t of_place of_id cost a b c x y
     }
 
 -- there is enough to give back for a place that was added
-pub held_push : (bytes : List ℕ) (places places2 : List Place) (p : Place) (order : List ℕ) (texts : List (List ℕ)) (m0 m1 m2 : Counts) (a of_place of_place2 held : ℕ) → Ordered bytes places order → texts_in bytes places ≡ texts → places2 ≡ places ++ p ∷ [] → texts_cost texts ≤ m0.held → Grows m0 m1 a → Grows m1 m2 of_place → of_place ≡ 8 → of_place2 ≡ of_place → held ≡ m2.held → of_place2 * length places2 ≤ held
+pub held_push : (bytes : List ℕ) (places places2 : List Place) (p : Place) (order : List ℕ) (texts : List (List ℕ)) (m0 m1 m2 : Counts) (a of_place of_place2 held : ℕ) → Ordered bytes places order → texts_in bytes places ≡ texts → places2 ≡ places ++ p ∷ [] → texts_cost texts ≤ m0.held → Grows m0 m1 a → Grows m1 m2 of_place → of_place ≡ 12 → of_place2 ≡ of_place → held ≡ m2.held → of_place2 * length places2 ≤ held
 held_push bytes places places2 p order texts m0 m1 m2 a of_place of_place2 held h e b l g f x y i =
     let k = kept_cost bytes places order h in
     let s : texts_cost (texts_in bytes places) ≡ texts_cost texts = ap texts_cost e in
     let n : length places2 ≡ length places + 1 = ap length b ∙ length_push places p in
-    let z : of_place2 * length places2 ≡ 8 * length places2 = ap (λ k. k * length places2) (y ∙ x) in
+    let z : of_place2 * length places2 ≡ 12 * length places2 = ap (λ k. k * length places2) (y ∙ x) in
     omega (arith, k, s, n, z, l, g.held, f.held, x, i)

@@ -24,6 +24,10 @@ found_within bytes places order order2 texts t place e h o =
 pub known_by : (texts : List (List ℕ)) (t : List ℕ) (place : Option ℕ) → None ≡ system_id t → position texts t ≡ place → known_id texts t ≡ option_map (λ n. n + 10) place
 known_by texts t place h e = ap₂ or_given (sym h) e
 
+-- a text that is known is given its id, and nothing is added
+pub known_given : (limit : ℕ) (texts by_id : List (List ℕ)) (t : List ℕ) (id : ℕ) → texts ≡ by_id → Some id ≡ known_id by_id t → ◌≡◌ {A = Option ℕ × List (List ℕ)} (Some id, texts) (id_given limit by_id t)
+known_given limit texts by_id t id i k = ap (λ (ts : List (List ℕ)). (Some id, ts)) i ∙ ap (id_or_new limit by_id t) k
+
 -- a text that was not found is not known
 pub not_known : (bytes : List ℕ) (places : List Place) (order : List ℕ) (texts : List (List ℕ)) (t : List ℕ) (place : ℕ) → Ordered bytes places order → ordered_texts bytes places order ≡ texts → None ≡ system_id t → Belongs texts t place → known_id (texts_in bytes places) t ≡ None
 not_known bytes places order texts t place h e s b =
@@ -35,13 +39,18 @@ belongs_sorted bytes places order texts t place h e b sorted is =
     subst (λ ts. Belongs ts t place) (sym e ∙ one_sorted (texts_in bytes places) (ordered_texts bytes places order) sorted (orders_sorted (texts_in bytes places) order h.orders) is) b
 
 -- and one that was found has the id that the order gives there
-pub found_given : (bytes : List ℕ) (places : List Place) (order order2 : List ℕ) (texts by_id : List (List ℕ)) (t : List ℕ) (place limit : ℕ) → Ordered bytes places order → ordered_texts bytes places order ≡ texts → texts_in bytes places ≡ by_id → order2 ≡ order → None ≡ system_id t → slice_get texts place ≡ Some t → ◌≡◌ {A = Option ℕ × List (List ℕ)} (Some (10 + get_or order2 place 0), texts_in bytes places) (id_given limit by_id t)
-found_given bytes places order order2 texts by_id t place limit h e i o s f =
+pub found_known : (bytes : List ℕ) (places : List Place) (order order2 : List ℕ) (texts by_id : List (List ℕ)) (t : List ℕ) (place : ℕ) → Ordered bytes places order → ordered_texts bytes places order ≡ texts → texts_in bytes places ≡ by_id → order2 ≡ order → None ≡ system_id t → slice_get texts place ≡ Some t → ◌≡◌ {A = Option ℕ} (Some (10 + get_or order2 place 0)) (known_id by_id t)
+found_known bytes places order order2 texts by_id t place h e i o s f =
     let there : slice_get (ordered_texts bytes places order) place ≡ Some t = subst (λ ts. slice_get ts place ≡ Some t) (sym e) f in
     let k : known_id (texts_in bytes places) t ≡ Some (get_or order place 0 + 10)
     = known_by (texts_in bytes places) t (Some (get_or order place 0)) s (found_position (texts_in bytes places) order t place h.orders there) in
     let n : get_or order place 0 + 10 ≡ 10 + get_or order2 place 0 = ap (λ k. k + 10) (ap (λ ids. get_or ids place 0) (sym o)) ∙ omega arith in
-    ap (λ (n : ℕ). (Some n, texts_in bytes places)) (sym n) ∙ (ap (id_or_new limit (texts_in bytes places) t) (sym k) ∙ ap (λ ts. id_given limit ts t) i)
+    ap Some (sym n) ∙ (sym k ∙ ap (λ ts. known_id ts t) i)
+
+-- which is the id that it is given
+pub found_given : (bytes : List ℕ) (places : List Place) (order order2 : List ℕ) (texts by_id : List (List ℕ)) (t : List ℕ) (place limit : ℕ) → Ordered bytes places order → ordered_texts bytes places order ≡ texts → texts_in bytes places ≡ by_id → order2 ≡ order → None ≡ system_id t → slice_get texts place ≡ Some t → ◌≡◌ {A = Option ℕ × List (List ℕ)} (Some (10 + get_or order2 place 0), texts_in bytes places) (id_given limit by_id t)
+found_given bytes places order order2 texts by_id t place limit h e i o s f =
+    known_given limit (texts_in bytes places) by_id t (10 + get_or order2 place 0) i (found_known bytes places order order2 texts by_id t place h e i o s f)
 
 -- no text was added, and no memory is charged
 pub found_charges : (bytes : List ℕ) (places : List Place) (order : List ℕ) (texts : List (List ℕ)) (of_place of_id limit most : ℕ) (m : Counts) → Ordered bytes places order → IsWithin bytes places of_place of_id limit → texts_in bytes places ≡ texts → limit ≡ most → Charges m m (texts_cost texts) (texts_cost (texts_in bytes places)) most

@@ -3,6 +3,7 @@ mod TableRows
 mod Listed
 pub mod Keeping
 mod Catalogued
+mod Ranking
 mod Importing
 mod Moving
 mod Taking
@@ -14,6 +15,7 @@ mod Answering
 mod Sharing
 mod Turns
 mod UserTurns
+mod Feeding
 mod DeclarationReadings
 mod Yields
 mod DeclarationLists
@@ -40,6 +42,7 @@ mod OutputTexts
 mod Orders
 mod Adding
 mod Finding
+mod InBuckets
 mod CatalogRows
 mod CatalogReadings
 mod CatalogViews

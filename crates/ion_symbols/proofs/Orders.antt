@@ -16,7 +16,7 @@ use Rattle.ion_symbols.proofs.TextOrder.{not_less, not_greater, one_place, one_o
 -- ---- the texts in order are the texts
 
 -- where the order has the id of a text, the texts in order have the text
-order_has : (texts : List (List ℕ)) (order : List ℕ) (t : List ℕ) (i k : ℕ) → slice_get texts i ≡ Some t → slice_get order k ≡ Some i → slice_get (in_order texts order) k ≡ Some t
+pub order_has : (texts : List (List ℕ)) (order : List ℕ) (t : List ℕ) (i k : ℕ) → slice_get texts i ≡ Some t → slice_get order k ≡ Some i → slice_get (in_order texts order) k ≡ Some t
 order_has texts order t i k h e =
     slice_get-map (λ i. get_or texts i []) order k ∙ (ap (option_map (λ i. get_or texts i [])) e ∙ ap Some (get_or_from_slice_get texts i t [] h))
 
@@ -162,3 +162,15 @@ pub position_past : (s : List ℕ) (ss : List (List ℕ)) (t u : List ℕ) (r : 
 position_past s ss t u r a b e h =
     let f : bytes_eq t s ≡ false = ap (bytes_eq t) (sym b) ∙ (sym a ∙ e) in
     position_without (bytes_eq s t) (position ss t) (nat_list_eq_equiv.symm s t ∙ f) h
+
+-- a text that stands at a place has that as its position
+pub there_position : (texts : List (List ℕ)) (order : List ℕ) (t : List ℕ) (i : ℕ) → Orders texts order → i < length texts → get_or texts i [] ≡ t → position texts t ≡ Some i
+there_position texts order t i h l e =
+    let there : slice_get texts i ≡ Some t = slice_get-get_or texts i [] l ∙ ap Some e in
+    let w = h.whole i l in
+    found_position texts order t w.0 h (order_has texts order t i w.0 there w.1) ∙ ap Some (get_or_from_slice_get order w.0 i 0 w.1)
+
+-- a text that stands at no place has no position
+pub absent_position : (texts : List (List ℕ)) (t : List ℕ) → ((i : ℕ) → i < length texts → get_or texts i [] ≡ t → ⊥) → position texts t ≡ None
+absent_position texts t h =
+    none_if (position texts t) (λ j e. let s = position_has texts t j e in h j (slice_get_within texts j t s) (get_or_from_slice_get texts j t [] s))

@@ -118,8 +118,8 @@ from_since bytes bytes2 places places2 m first a b h =
 pub costs : (bytes : List ℕ) (places : List Place) (order : List ℕ) (texts : List (List ℕ)) (of_place of_id limit : ℕ) → Ordered bytes places order → IsWithin bytes places of_place of_id limit → texts_in bytes places ≡ texts → length bytes + (of_place * length places + of_id * length order) ≡ texts_cost texts
 costs bytes places order texts of_place of_id limit h w e =
     let k = kept_cost bytes places order h in
-    let a : of_place * length places ≡ 8 * length places = ap (λ n. n * length places) w.place_cost in
-    let b : of_id * length order ≡ 8 * length order = ap (λ n. n * length order) w.id_cost in
+    let a : of_place * length places ≡ 12 * length places = ap (λ n. n * length places) w.place_cost in
+    let b : of_id * length order ≡ 4 * length order = ap (λ n. n * length order) w.id_cost in
     let l : length order ≡ length places = simp length-map at h.orders.long in
     let t : texts_cost (texts_in bytes places) ≡ texts_cost texts = ap texts_cost e in
     omega (arith, k, a, b, l, t)

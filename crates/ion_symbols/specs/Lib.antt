@@ -14,6 +14,8 @@ pub mod Buffer
 pub mod Steps
 pub mod User
 pub mod Ordered
+pub mod Ranks
+pub mod Buckets
 pub mod CatalogItems
 pub mod CatalogTrees
 pub mod CatalogLaws

@@ -43,7 +43,7 @@ pub record Ordered (bytes : List ℕ) (places : List Place) (order : List ℕ) :
 
 -- what a place and an id cost, and the limit that their cost keeps
 pub record IsWithin (bytes : List ℕ) (places : List Place) (of_place of_id limit : ℕ) : Type 0 where
-  pub place_cost : of_place ≡ 8
-  pub id_cost : of_id ≡ 8
+  pub place_cost : of_place ≡ 12
+  pub id_cost : of_id ≡ 4
   pub share : 16 * length places + length bytes ≤ limit
   pub most : limit ≤ 2 ^ 30

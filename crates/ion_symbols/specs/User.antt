@@ -108,6 +108,7 @@ pub record UserSteps {R A T : Type 0} (r : RawReaderOf R A) (item over : T) (old
   pub cheap : table_cost new.symbols.table ≤ new.limits.symbols
   -- the item that is lent
   pub lends : result ≡ Ok item → r.lends new.raw
+  pub level : result ≡ Ok item → new.count ≡ length (r.opened new.raw)
   pub comes : result ≡ Ok item → MayCome (r.depth old.raw) (r.opened old.raw) (r.opened new.raw) (lent_by r.current new)
   pub ended : result ≡ Ok over → r.ended new.raw
   pub stays : r.ended old.raw → (result ≡ Ok over) × (new ≡ old) × (after ≡ before)

@@ -12,6 +12,7 @@ ghost use Rattle.ion_symbols.specs.Declaration.{import_of, is_ignored};
 ghost use Rattle.ion_symbols.specs.UserValues.{CatalogIsText, SlotsAreText};
 ghost use Rattle.ion_symbols.specs.Catalogue.{FoundAs, Points, WhyNotAdded};
 
+use crate::ranks::rank_of;
 use crate::shared::SharedTable;
 use crate::slots::MOST_SLOTS;
 use ion_meter::fault::{Fault, Reason};
@@ -20,8 +21,14 @@ use ion_meter::table::Table;
 use std::alloc::Allocator;
 use std::marker::Model;
 
-/// The cost of a table in a catalogue besides its own, in counted bytes.
+/// The cost of a table in a catalogue besides its own, in counted bytes: its entry and its place.
 pub(crate) const TABLE_COST: u64 = 32;
+
+// The cost of its entry among the tables.
+const ENTRY_COST: u64 = 24;
+
+// The cost of its place in the order.
+const PLACE_COST: u64 = 8;
 
 /// The greatest version that a table may have.
 pub(crate) const MAX_VERSION: u32 = 2_147_483_647;
@@ -45,17 +52,20 @@ pub(crate) enum Import {
 #[derive(Drop)]
 pub struct Catalog<A: Allocator + Copy> {
     tables: Table<SharedTable<A>, A>,
+    // The tables' places in order of name and version.
+    order: Table<usize, A>,
 }
 
 impl<A: Allocator + Copy> Model for Catalog<A> {
     ghost use Rattle.std.specs.Prelude.{◌≡◌, List};
     ghost use Rattle.ion_symbols.specs.Table.{Shared};
+    ghost use Rattle.ion_symbols.specs.Ranks.{IsRanked};
 
     ghost Value = { List Shared };
 
     ghost view = { λ c. c.tables.items };
 
-    ghost invariant = { λ c. c.tables.cost ≡ 32 };
+    ghost invariant = { λ c. IsRanked c.tables.items c.order.items c.tables.cost c.order.cost };
 }
 
 impl<A: Allocator + Copy> Catalog<A> {
@@ -64,7 +74,8 @@ impl<A: Allocator + Copy> Catalog<A> {
         ensures { result ≡ [] }
     {
         Catalog {
-            tables: Table::new(meter, TABLE_COST),
+            tables: Table::new(meter, ENTRY_COST),
+            order: Table::new(meter, PLACE_COST),
         }
     }
 
@@ -93,7 +104,19 @@ impl<A: Allocator + Copy> Catalog<A> {
         if !self.may_take(&table) {
             return Err((table, Fault::Refused(Reason::CatalogEntry, 0)));
         }
-        self.tables.push(meter, table)
+        let (tables, order) = (self.tables.as_slice(), self.order.as_slice());
+        let Err(rank) = rank_of(tables, order, table.name(), table.version() as u128) else {
+            return Err((table, Fault::Refused(Reason::CatalogEntry, 0)));
+        };
+        let place = tables.len();
+        let order = &mut self.order;
+        if let Err(failed) = self
+            .tables
+            .push_and_insert(order, meter, table, rank, place)
+        {
+            return Err(failed);
+        }
+        Ok(())
     }
 
     // Whether a table may be added.
@@ -135,44 +158,30 @@ impl<A: Allocator + Copy> Catalog<A> {
     pub(crate) fn place_of(&self, name: &[u8], version: u128) -> Option<usize>
         ensures { Points self.now (find self.now name.now version) result }
     {
-        let mut place = 0;
-        while place < self.tables.as_slice().len() {
-            let table = &self.tables.as_slice()[place];
-            if table.name() == name && table.version() as u128 == version {
-                return Some(place);
-            }
-            place += 1;
+        let order = self.order.as_slice();
+        match rank_of(self.tables.as_slice(), order, name, version) {
+            Ok(rank) => Some(order[rank]),
+            Err(_) => None,
         }
-        None
     }
 
     // Where the table of this name with the greatest version stands.
     pub(crate) fn greatest(&self, name: &[u8]) -> Option<usize>
         ensures { Points self.now (greatest self.now name.now) result }
     {
-        let mut best: Option<usize> = None;
-        let mut place = 0;
-        while place < self.tables.as_slice().len() {
-            let table = &self.tables.as_slice()[place];
-            if table.name() == name && self.is_less(best, table.version()) {
-                best = Some(place);
-            }
-            place += 1;
+        let (tables, order) = (self.tables.as_slice(), self.order.as_slice());
+        let past = match rank_of(tables, order, name, MAX_VERSION as u128 + 1) {
+            Ok(_) => return None,
+            Err(rank) => rank,
+        };
+        if past == 0 {
+            return None;
         }
-        best
-    }
-
-    // Whether it is none, or a table of a smaller version.
-    fn is_less(&self, best: Option<usize>, version: u32) -> bool
-        ensures { MatchOption best (result ≡ true) (λ b. MatchOption (slice_get self.now b)
-            (result ≡ true) (λ s. result ≡ nat_lt s.version version)) }
-    {
-        match best {
-            None => true,
-            Some(place) => match self.get(place) {
-                None => true,
-                Some(table) => table.version() < version,
-            },
+        let place = order[past - 1];
+        if tables[place].name() == name {
+            Some(place)
+        } else {
+            None
         }
     }
 
@@ -224,7 +233,8 @@ impl<A: Allocator + Copy> Catalog<A> {
         requires { catalog_cost self ≤ meter.old.held }
         ensures { Shrinks meter.old meter.new (catalog_cost self) }
     {
-        let Catalog { mut tables } = self;
+        let Catalog { mut tables, order } = self;
+        order.release(meter);
         while let Some(table) = tables.pop(meter) {
             table.release(meter);
         }

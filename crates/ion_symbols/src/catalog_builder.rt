@@ -26,6 +26,7 @@ use ion_meter::sink::Sink;
 use ion_value::ion_type::Kind;
 use ion_value::item::Item;
 use ion_value::names::Names;
+use ion_value::plain_item::PlainItem;
 use ion_value::writer::ValueWriter;
 use std::alloc::Allocator;
 use std::mem;
@@ -340,6 +341,16 @@ impl<O: Output, A: Allocator + Copy> ValueWriter<O, A> for CatalogBuilder<A> {
             self.failed = Some(fault);
         }
         outcome
+    }
+
+    #[inline(always)]
+    fn take_plain(
+        &mut self,
+        _meter: &mut Meter<A>,
+        _sink: &mut Sink<O, A>,
+        _item: PlainItem<'_, '_>,
+    ) -> bool {
+        false
     }
 
     ghost grows = { λ limits path item none. refl };

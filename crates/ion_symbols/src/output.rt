@@ -4,9 +4,11 @@ ghost use Rattle.ion_meter.specs.declared.fault.Fault.TheVariants.{Memory};
 ghost use Rattle.ion_meter.specs.Limits.{AreChecked};
 ghost use Rattle.ion_meter.specs.Counts.{Shrinks};
 ghost use Rattle.ion_value.specs.Shares.{Charges};
+ghost use Rattle.std.specs.Str.{bytes_eq};
 ghost use Rattle.ion_symbols.specs.Output.{Belongs, CanAdd, IsSorted, binary_digits, id_given, known_id, probes_for, system_id, texts_cost};
 ghost use Rattle.ion_value.specs.Items.{is_none_left};
 
+use crate::hash::{BUCKETS, bucket, no_buckets};
 use crate::ordered::{Place, Search};
 use crate::search::place_of;
 use ion_meter::buf::Buf;
@@ -17,8 +19,17 @@ use ion_meter::table::Table;
 use std::alloc::Allocator;
 use std::marker::Model;
 
-/// The cost of a place and of an id, in counted bytes.
-const ENTRY_COST: u64 = 8;
+/// The cost of a place, in counted bytes.
+const PLACE_COST: u64 = 12;
+
+/// The cost of an id in the order, in counted bytes.
+const ID_COST: u64 = 4;
+
+/// The most texts of a bucket that are compared before the search by halving.
+const MOST_COMPARED: u32 = 8;
+
+/// The most texts that are looked for in buckets: where there are more, halving compares fewer.
+const MOST_IN_BUCKETS: usize = 4_096;
 
 /// The first id behind the system table's.
 const FIRST_ID: u32 = 10;
@@ -34,6 +45,8 @@ pub struct OutSymbols<A: Allocator + Copy> {
     bytes: Buf<A>,
     places: Table<Place, A>,
     order: Table<u32, A>,
+    // One more than the place of the last text of each bucket, or 0. They do not grow.
+    buckets: [u32; BUCKETS],
     limit: u64,
     probes: u32,
 }
@@ -48,6 +61,7 @@ pub struct Texts<'a> {
 impl<A: Allocator + Copy> Model for OutSymbols<A> {
     ghost use Rattle.ion_symbols.specs.Output.{Output};
     ghost use Rattle.ion_symbols.specs.Ordered.{Ordered, IsWithin, texts_in};
+    ghost use Rattle.ion_symbols.specs.Buckets.{Chained};
 
     ghost Value = { Output };
 
@@ -58,7 +72,8 @@ impl<A: Allocator + Copy> Model for OutSymbols<A> {
     } };
 
     ghost invariant = { λ s. Ordered s.bytes s.places.items s.order.items
-        × IsWithin s.bytes s.places.items s.places.cost s.order.cost s.limit };
+        × IsWithin s.bytes s.places.items s.places.cost s.order.cost s.limit
+        × Chained (texts_in s.bytes s.places.items) s.places.items s.buckets };
 }
 
 impl<'a> Model for Texts<'a> {
@@ -80,8 +95,9 @@ impl<A: Allocator + Copy> OutSymbols<A> {
     {
         OutSymbols {
             bytes: Buf::new(meter),
-            places: Table::new(meter, ENTRY_COST),
-            order: Table::new(meter, ENTRY_COST),
+            places: Table::new(meter, PLACE_COST),
+            order: Table::new(meter, ID_COST),
+            buckets: no_buckets(),
             limit: limits.symbols,
             probes: 0,
         }
@@ -126,6 +142,103 @@ impl<A: Allocator + Copy> OutSymbols<A> {
         }
     }
 
+    /// The id of a text, as `id_of` gives it, where it has one. It compares the text with the last few
+    /// of its bucket, and looks for it by halving only where there are more, or where buckets are
+    /// long. Nothing is changed.
+    #[inline]
+    pub fn known(&self, text: &[u8]) -> Option<u32>
+        ensures { result ≡ known_id self.now.texts text.now }
+    {
+        let bytes = self.bytes.as_slice();
+        let places = self.places.as_slice();
+        if places.len() > MOST_IN_BUCKETS {
+            return self.known_by_halving(text);
+        }
+        let mut at = self.buckets[bucket(text)];
+        let mut left = MOST_COMPARED;
+        while at > 0 {
+            if left == 0 {
+                return self.known_by_halving(text);
+            }
+            let place = places[at as usize - 1];
+            if is_same(&bytes[place.from as usize..place.to as usize], text) {
+                return Some(FIRST_ID + at - 1);
+            }
+            at = place.next;
+            left -= 1;
+        }
+        system_id(text)
+    }
+
+    // The id of a text, by halving.
+    #[cold]
+    #[inline(never)]
+    fn known_by_halving(&self, text: &[u8]) -> Option<u32>
+        ensures { result ≡ known_id self.now.texts text.now }
+    {
+        if let Some(id) = system_id(text) {
+            return Some(id);
+        }
+        let mut search = Search::new(
+            self.bytes.as_slice(),
+            self.places.as_slice(),
+            self.order.as_slice(),
+        );
+        match place_of(&mut search, text) {
+            Ok(place) => Some(FIRST_ID + self.order.as_slice()[place as usize]),
+            Err(_) => None,
+        }
+    }
+
+    /// As `id_of`, but a text that has an id is found as by `known`. What `last_probes` says is left,
+    /// or is that of `id_of`.
+    #[inline]
+    pub fn give_id(&mut self, meter: &mut Meter<A>, text: &[u8]) -> Result<Option<u32>, Fault>
+        requires room { meter.old.held ≤ 2 ^ 62 + 2 ^ 31 }
+        requires held { texts_cost self.old.texts ≤ meter.old.held }
+        requires countable { meter.old.refused < 2 ^ 64 - 1 }
+        ensures gives { IfOk result
+            (λ id. (id, self.new.texts) ≡ id_given self.old.limit self.old.texts text.now) }
+        ensures limit { self.new.limit ≡ self.old.limit }
+        ensures memory { IfErr result (λ fault. (fault ≡ Memory)
+            × (self.new.texts ≡ self.old.texts) × (meter.new.refused ≡ meter.old.refused + 1)) }
+        ensures counted { OnOk result (meter.new.refused ≡ meter.old.refused) }
+        ensures charges { Charges meter.old meter.new
+            (texts_cost self.old.texts) (texts_cost self.new.texts) self.old.limit }
+    {
+        if self.places.as_slice().len() > MOST_IN_BUCKETS {
+            return self.id_of(meter, text);
+        }
+        if let Some(id) = self.known(text) {
+            return Ok(Some(id));
+        }
+        self.add_new(meter, text)
+    }
+
+    // A text that is new.
+    fn add_new(&mut self, meter: &mut Meter<A>, text: &[u8]) -> Result<Option<u32>, Fault>
+        requires can_add { CanAdd self.old.texts meter.old }
+        requires new { known_id self.old.texts text.now ≡ None }
+        ensures gives { IfOk result
+            (λ id. (id, self.new.texts) ≡ id_given self.old.limit self.old.texts text.now) }
+        ensures kept { (self.new.limit ≡ self.old.limit) × (self.new.probes ≡ self.old.probes) }
+        ensures memory { IfErr result (λ fault. (fault ≡ Memory)
+            × (self.new.texts ≡ self.old.texts) × (meter.new.refused ≡ meter.old.refused + 1)) }
+        ensures counted { OnOk result (meter.new.refused ≡ meter.old.refused) }
+        ensures charges { Charges meter.old meter.new
+            (texts_cost self.old.texts) (texts_cost self.new.texts) self.old.limit }
+    {
+        let mut search = Search::new(
+            self.bytes.as_slice(),
+            self.places.as_slice(),
+            self.order.as_slice(),
+        );
+        match place_of(&mut search, text) {
+            Ok(_) => unreachable!(),
+            Err(place) => self.add(meter, place, text),
+        }
+    }
+
     // A text that is new, at its place in order of bytes.
     fn add(&mut self, meter: &mut Meter<A>, place: u32, text: &[u8]) -> Result<Option<u32>, Fault>
         requires can_add { CanAdd self.old.texts meter.old }
@@ -148,9 +261,11 @@ impl<A: Allocator + Copy> OutSymbols<A> {
             return Ok(None);
         }
         self.bytes.extend(meter, text)?;
+        let of = bucket(text);
         let stands = Place {
             from: from as u32,
             to: (from + text.len()) as u32,
+            next: self.buckets[of],
         };
         if let Err(failed) = self.places.push(meter, stands) {
             self.bytes.truncate(meter, from);
@@ -161,6 +276,7 @@ impl<A: Allocator + Copy> OutSymbols<A> {
             self.bytes.truncate(meter, from);
             return Err(failed.1);
         }
+        self.buckets[of] = id as u32 + 1;
         Ok(Some(FIRST_ID + id as u32))
     }
 
@@ -211,6 +327,7 @@ impl<A: Allocator + Copy> OutSymbols<A> {
         self.bytes.clear(meter);
         self.places.clear(meter);
         self.order.clear(meter);
+        self.buckets = no_buckets();
         self.probes = 0; // No search of these texts is left.
     }
 
@@ -223,6 +340,7 @@ impl<A: Allocator + Copy> OutSymbols<A> {
             bytes,
             places,
             order,
+            buckets: _,
             limit: _,
             probes: _,
         } = self;
@@ -255,6 +373,17 @@ impl<'a> Texts<'a> {
         let place = self.places.get(index)?;
         Some(&self.bytes[place.from as usize..place.to as usize])
     }
+}
+
+// Whether two texts are the same; most that are not differ in their lengths.
+#[inline(always)]
+fn is_same(text: &[u8], other: &[u8]) -> bool
+    ensures { result ≡ bytes_eq text.now other.now }
+{
+    if text.len() != other.len() {
+        return false;
+    }
+    text == other
 }
 
 // The id of a text of the system table.

@@ -12,6 +12,7 @@ use crate::slots::Slots;
 use ion_meter::fault::Fault;
 use ion_meter::meter::Meter;
 use ion_meter::table::Table;
+use ion_value::name::is_simple;
 use ion_value::names::Names;
 use std::alloc::Allocator;
 use std::marker::Model;
@@ -286,5 +287,11 @@ impl<'c, A: Allocator + Copy> Names for Symbols<'c, A> {
             Slot::Known(text) => Some(text),
             _ => None,
         }
+    }
+
+    #[inline(always)]
+    fn simple_text(&self, id: u32) -> Option<&[u8]> {
+        let text = self.text_of(id)?;
+        if is_simple(text) { Some(text) } else { None }
     }
 }

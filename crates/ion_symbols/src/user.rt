@@ -1,11 +1,12 @@
 //! The reader of user values.
-ghost use Rattle.std.specs.Prelude.{◌≡◌, ◌≢◌, ◌+◌, ◌*◌, ◌-◌, ◌^◌, ◌<◌, ◌≤◌, ◌↔◌, ℕ, [], Option, Some, None, Ok, Err, OnOk, IfOk, true, false};
+ghost use Rattle.std.specs.Prelude.{◌≡◌, ◌≢◌, ◌+◌, ◌*◌, ◌-◌, ◌^◌, ◌<◌, ◌≤◌, ◌↔◌, ℕ, [], length, Option, Some, None, Ok, Err, OnOk, IfOk, true, false};
 ghost use Rattle.ion_meter.specs.declared.fault.Reason.{Reason};
 ghost use Rattle.ion_meter.specs.declared.fault.Fault.{Fault};
 ghost use Rattle.ion_meter.specs.declared.fault.Fault.TheVariants.{Refused};
 ghost use Rattle.ion_meter.specs.Limits.{AreChecked};
 ghost use Rattle.ion_meter.specs.Counts.{Shrinks};
 ghost use Rattle.ion_value.specs.Items.{item_of, raw_head, raw_item};
+ghost use Rattle.ion_value.specs.Feeding.{CanTake, Feeds, StaysWell};
 ghost use Rattle.ion_value.specs.Reading.{Reading, Finished, Stopped, More};
 ghost use Rattle.ion_value.specs.Shares.{Charges, ReadCauses, fault_of};
 ghost use Rattle.ion_value.specs.Standing.{is_marker};
@@ -19,13 +20,16 @@ use crate::checks::check_item;
 use crate::item_view::word_in;
 use crate::known_text::Word;
 use crate::symbols::Symbols;
+use ion_meter::device::Output;
 use ion_meter::fault::Fault;
 use ion_meter::limits::Limits;
 use ion_meter::meter::Meter;
+use ion_meter::sink::Sink;
 use ion_value::ion_type::Kind;
 use ion_value::item::{Head, Item};
 use ion_value::names::NoNames;
-use ion_value::reader::RawReader;
+use ion_value::reader::{Fed, RawReader};
+use ion_value::writer::ValueWriter;
 use std::alloc::Allocator;
 
 /// Reads the user values of a stream one item at a time, their symbols resolved by the table at
@@ -233,6 +237,8 @@ impl<'c, R: RawReader<A>, A: Allocator + Copy> UserReader<'c, R, A> {
             → (r : Reason) (p : ℕ) → result ≡ Err (Refused r p)
             → coming_to R.reading self.old ≡ Stopped r p }
         ensures lends { result ≡ Ok true → R.lends (raw_of self.new) }
+        ensures level { result ≡ Ok true
+            → level_of self.new ≡ length (R.opened (raw_of self.new)) }
 
         // Each step, whether the device's bytes are observable or not.
         ensures comes { result ≡ Ok true → MayCome (R.depth (raw_of self.old))
@@ -269,6 +275,67 @@ impl<'c, R: RawReader<A>, A: Allocator + Copy> UserReader<'c, R, A> {
             self.failed = Some(fault);
         }
         outcome
+    }
+
+    /// Hands items of user values to a writer, as many as the raw reader can (`RawReader::feed`). It is
+    /// called behind an item that `next` took, or behind another call of it.
+    #[inline(always)]
+    pub fn feed<W: ValueWriter<O, A>, O: Output>(
+        &mut self,
+        meter: &mut Meter<A>,
+        writer: &mut W,
+        sink: &mut Sink<O, A>,
+    ) -> Fed
+        requires room { meter.old.held ≤ 2 ^ 61 }
+        requires held { owned_by R.own self.old + W.own writer.old ≤ meter.old.held }
+        requires countable { meter.old.refused < 2 ^ 64 - 1 }
+        requires ready { IsReady R.sound R.opened R.failed R.ended self.old }
+        requires fresh { answered_by self.old ≡ None }
+        requires level { level_of self.old ≡ length (R.opened (raw_of self.old)) }
+        requires writer { CanTake W.ValueWriter (R.depth (raw_of self.old))
+            (R.opened (raw_of self.old)) writer.old sink.old }
+        ensures ready { IsReady R.sound R.opened R.failed R.ended self.new }
+        ensures observable { R.observable (raw_of self.new) ↔ R.observable (raw_of self.old) }
+
+        // The items.
+        ensures feeds { Feeds W.ValueWriter (λ item. item) (R.observable (raw_of self.old))
+            (record {
+              coming = coming_to R.reading self.old;
+              opened = R.opened (raw_of self.old);
+              writer = writer.old;
+              pending = sink.old.pending;
+              values = 0;
+            })
+            (record {
+              coming = coming_to R.reading self.new;
+              opened = R.opened (raw_of self.new);
+              writer = writer.new;
+              pending = sink.new.pending;
+              values = result.values;
+            }) }
+        ensures level { (level_of self.new ≡ length (R.opened (raw_of self.new)))
+            × (result.level ≡ length (R.opened (raw_of self.new))) }
+        ensures falls { result.values + R.left (raw_of self.new) ≤ R.left (raw_of self.old) }
+
+        // What stays, and memory.
+        ensures same { (limits_of self.new ≡ limits_of self.old)
+            × (catalog_of self.new ≡ catalog_of self.old)
+            × (answered_by self.new ≡ answered_by self.old) }
+        ensures kept { (R.depth (raw_of self.new) ≡ R.depth (raw_of self.old))
+            × (R.most (raw_of self.new) ≡ R.most (raw_of self.old))
+            × (R.failures (raw_of self.new) ≡ R.failures (raw_of self.old)) }
+        ensures exceeds { R.exceeds (raw_of self.new) ↔ R.exceeds (raw_of self.old) }
+        ensures bytes_left { R.bytes_left (raw_of self.new) → R.bytes_left (raw_of self.old) }
+        ensures writer { StaysWell W.ValueWriter writer.old writer.new sink.old sink.new
+            meter.old meter.new }
+        ensures charges { Charges meter.old meter.new
+            (owned_by R.own self.old + W.own writer.old)
+            (owned_by R.own self.new + W.own writer.new)
+            (share_of R.most self.old + W.most writer.old) }
+    {
+        let fed = self.raw.feed(meter, &self.symbols, writer, sink);
+        self.count = fed.level;
+        fed
     }
 
     /// Whether the next call of `next` may have to wait for the device, as `RawReader::may_wait` says

@@ -30,7 +30,7 @@ held-none device s m n most stands le there = record {
   charges = charges-none m n most le there;
 }
 
-charges-then : (a b c : Counts) (k l n most : ℕ) → k ≤ a.held → Charges a b k l most → Charges b c l n most → Charges a c k n most
+pub charges-then : (a b c : Counts) (k l n most : ℕ) → k ≤ a.held → Charges a b k l most → Charges b c l n most → Charges a c k n most
 charges-then a b c k l n most there x y =
     let hx = x.held in let hy = y.held in let px = x.peak in let py = y.peak in let rx = x.rises in let ry = y.rises in
     record {

@@ -77,3 +77,9 @@ mod Lanes
 mod Blocks
 mod SureRuns
 mod Suspects
+pub mod FeedReading
+pub mod FeedNames
+pub mod FeedHeads
+pub mod FeedLanes
+pub mod FeedItems
+pub mod FeedReader

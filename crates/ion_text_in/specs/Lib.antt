@@ -29,3 +29,4 @@ pub mod Symbols
 pub mod Expecting
 pub mod Steps
 pub mod Waiting
+pub mod Feeding

@@ -283,9 +283,9 @@ fn few_without(first: u8, second: u8, bytes: &[u8]) -> usize
     bytes.len()
 }
 
-// How many bytes at the front of these are white space. Mostly there are few.
+/// How many bytes at the front of these are white space. Mostly there are few.
 #[inline(always)]
-fn white_run(bytes: &[u8]) -> usize
+pub(crate) fn white_run(bytes: &[u8]) -> usize
     ensures within { result ≤ length bytes.now }
     ensures run { all_are is_white (take result bytes.now) ≡ true }
     ensures ends { first_is is_white (drop result bytes.now) ≡ false }

@@ -254,10 +254,10 @@ fn quote(others: &[u8]) -> Option<First>
     }
 }
 
-// What begins with a brace.
+/// What begins with a brace.
 #[tactic(auto, unfolding(crate::specs::Token::first_at))]
 #[inline(always)]
-fn brace(others: &[u8]) -> Option<First>
+pub(crate) fn brace(others: &[u8]) -> Option<First>
     ensures shows { (in_sexp : Bool) → IfSome result (λ f. (more : List ℕ)
         → first_at in_sexp (123 ∷ (others.now ++ more)) ≡ first_of f) }
     ensures wide { IfSome result (λ f. width (first_of f) ≤ 1 + length others.now) }

@@ -4,6 +4,7 @@
 
 mod blank;
 mod expected;
+mod feed;
 mod first;
 mod gather;
 pub mod laws;

@@ -1,6 +1,6 @@
 //! Ints and decimals that 64 bits hold, without underscores and bases, read in one pass
 //! (Ion specification, "Integers" and "Real Numbers").
-ghost use Rattle.std.specs.Prelude.{◌≡◌, ◌≤◌, ◌&&◌, ◌||◌, ◌==◌, Ok, drop, take, get_or, IfSome};
+ghost use Rattle.std.specs.Prelude.{◌≡◌, ◌<◌, ◌≤◌, ◌&&◌, ◌||◌, ◌==◌, Ok, drop, take, get_or, IfSome};
 ghost use Rattle.ion_value.specs.Digits.{first_is, is_digit};
 ghost use Rattle.ion_value.specs.Number.{signed};
 ghost use Rattle.ion_value.specs.Standing.{InRange};
@@ -37,6 +37,7 @@ pub(crate) fn scan_quick(limit: u64, bytes: &[u8]) -> Option<Quick>
     ensures shows { IfSome result (λ x. Shows number_token bytes.now
         (Whole (as_quick x) x.count) (token_of (Some limit) a_run)) }
     ensures range { IfSome result (λ x. InRange (as_number (as_quick x))) }
+    ensures some { IfSome result (λ x. 0 < x.count) }
 {
     // A digit and a dash as fourth and fifth byte are those of a timestamp: no plain number has them.
     if matches!(bytes, [_, _, _, fourth, b'-', ..] if fourth.is_ascii_digit()) {
@@ -58,6 +59,7 @@ fn quick_number(bytes: &[u8]) -> Option<Quick>
     ensures gives { IfSome result (λ x. run_token (take x.count bytes.now)
         ≡ Ok (number_token (as_quick x))) }
     ensures range { IfSome result (λ x. InRange (as_number (as_quick x))) }
+    ensures some { IfSome result (λ x. 0 < x.count) }
 {
     let (negative, digits) = sign(bytes);
     let Some(quick) = quick_digits(negative, digits) else {

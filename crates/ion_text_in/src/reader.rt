@@ -6,7 +6,6 @@ ghost use Rattle.ion_meter.specs.Counts.{Counts, Shrinks};
 ghost use Rattle.ion_meter.specs.Limits.{AreChecked};
 ghost use Rattle.ion_meter.specs.Sources.{BytesAreLeft, Cursor, cursor, skip, Exceeds, Stands};
 ghost use Rattle.ion_meter.specs.Windows.{left, lent};
-ghost use Rattle.ion_value.specs.Items.{raw_head};
 ghost use Rattle.ion_value.specs.Reading.{Finished, More, Stopped};
 ghost use Rattle.ion_text_in.specs.Blanks.{blanks};
 ghost use Rattle.ion_text_in.specs.Positions.{at, innermost, in_sexp};
@@ -15,29 +14,33 @@ ghost use Rattle.ion_text_in.specs.Reading.{reading};
 ghost use Rattle.ion_text_in.specs.Tokens.{as_symbol, going, overrun_of, token_view, BodyInRange, TokenInRange};
 ghost use Rattle.ion_text_in.specs.Symbols.{is_annotated, kept_text};
 ghost use Rattle.ion_text_in.specs.Expecting.{wanted, MayExpect};
-ghost use Rattle.ion_text_in.specs.Steps.{annotations_in, as_head, closing, ending, given_by, held_by, left_to, lent_by, naming, naming_here, opened_in, opening, scalar_by, share_of, sound-within, taking, to_come_by, to_come_in, with_colons, without_colons, CanAdvance, CanStep, IsInside, IsReady, IsSized, IsSound, ReadyAfter, StepGives, Stepped};
+ghost use Rattle.ion_text_in.specs.Steps.{annotations_in, closing, ending, given_by, held_by, left_to, lent_by, naming, naming_here, opened_in, opening, scalar_by, share_of, sound-within, taking, to_come_by, to_come_in, with_colons, without_colons, CanAdvance, CanStep, IsInside, IsReady, IsSized, IsSound, ReadyAfter, StepGives, Stepped};
 
 mod lanes;
+mod lent;
+mod window;
 
 use crate::blank::pass_blanks;
 use crate::expected::{Expected, at_member, behind_comma, behind_member, is_colons, is_same};
 use crate::first::{First, next_first, pass_to_token, told_first};
 use crate::operator::{pass_colons, pass_mark};
-use crate::symbol::{FieldName, annotation_place, keep_text, lent_field, lent_symbol};
+use crate::symbol::{FieldName, annotation_place, keep_text, lent_field};
 use crate::token::{Body, Symbol, Token};
 use crate::version::{is_version, is_version_word};
 use crate::waiting::shows_item;
 use ion_meter::buf::Buf;
-use ion_meter::device::Input;
+use ion_meter::device::{Input, Output};
 use ion_meter::fault::{Fault, Reason};
 use ion_meter::limits::Limits;
 use ion_meter::meter::Meter;
+use ion_meter::sink::Sink;
 use ion_meter::source::Source;
 use ion_meter::stack::Stack;
 use ion_value::ion_type::Kind;
-use ion_value::item::{Annotation, Annotations, Head, Item};
-use ion_value::names::NoNames;
-use ion_value::reader::RawReader;
+use ion_value::item::{Annotation, Annotations, Item};
+use ion_value::names::{Names, NoNames};
+use ion_value::reader::{Fed, RawReader};
+use ion_value::writer::ValueWriter;
 use std::alloc::Allocator;
 use std::mem;
 
@@ -697,31 +700,6 @@ impl<I: Input, A: Allocator + Copy> TextReader<I, A> {
             }
         }
     }
-
-    // What the item is that is lent.
-    #[inline]
-    fn head(&self) -> Head<'_>
-        ensures { raw_head result ≡ as_head self.now.text self.now.place self.now.what }
-    {
-        match self.what {
-            ItemKind::Begin(kind) => Head::Begin(kind),
-            ItemKind::End => Head::End,
-            ItemKind::Marker => Head::Marker,
-            ItemKind::Scalar(body) => match body {
-                Body::Null(ion_type) => Head::Null(ion_type),
-                Body::Bool(truth) => Head::Bool(truth),
-                Body::Int(int) => Head::Int(int),
-                Body::Decimal(decimal) => Head::Decimal(decimal),
-                Body::Timestamp(timestamp) => Head::Timestamp(timestamp),
-                Body::Symbol(symbol) => {
-                    Head::Symbol(lent_symbol(self.text.as_slice(), symbol, self.place))
-                }
-                Body::String => Head::String(self.text.as_slice()),
-                Body::Clob => Head::Clob(self.text.as_slice()),
-                Body::Blob => Head::Blob(self.text.as_slice()),
-            },
-        }
-    }
 }
 
 impl<I: Input, A: Allocator + Copy> RawReader<A> for TextReader<I, A> {
@@ -781,6 +759,28 @@ impl<I: Input, A: Allocator + Copy> RawReader<A> for TextReader<I, A> {
             self.place,
             self.top,
         )
+    }
+
+    #[inline(always)]
+    fn feed<N: Names, W: ValueWriter<O, A>, O: Output>(
+        &mut self,
+        meter: &mut Meter<A>,
+        _names: &N,
+        writer: &mut W,
+        sink: &mut Sink<O, A>,
+    ) -> Fed {
+        if self.done || self.unfinished.is_some() {
+            return Fed {
+                values: 0,
+                level: self.kinds.as_slice().len() as u32,
+            };
+        }
+        self.forget(meter);
+        let values = self.feed_window(meter, writer, sink);
+        Fed {
+            values,
+            level: self.kinds.as_slice().len() as u32,
+        }
     }
 
     #[inline(always)]

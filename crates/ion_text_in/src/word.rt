@@ -5,9 +5,11 @@ ghost use Rattle.ion_meter.specs.Windows.{lent};
 ghost use Rattle.ion_value.specs.Calls.{AnswersBy, CanRead, ReadsInto};
 ghost use Rattle.ion_value.specs.Digits.{first_is};
 ghost use Rattle.ion_text_in.specs.Runs.{CanAppend};
-ghost use Rattle.ion_value.specs.Name.{begins_with, type_named};
+ghost use Rattle.ion_value.specs.Name.{begins_with, is_identifier_start, type_named};
 ghost use Rattle.ion_text_in.specs.Scanners.{Shows};
-ghost use Rattle.ion_text_in.specs.Token.{a_word, token_of, word_of, word_token};
+ghost use Rattle.ion_text_in.specs.Token.{a_word, name, token_of, word_of, word_token};
+ghost use Rattle.ion_text_in.specs.Feeding.{IsSimpleWord};
+ghost use Rattle.ion_value.specs.Value.{Text};
 ghost use Rattle.ion_text_in.specs.Views.{AreShown, IsWithin, id_in, is_point, may_be_keyword, shown_text, spelled, with_name, text_or_container, word_token_of};
 
 use crate::gather::{append, copy, gather, gather_token};
@@ -57,6 +59,45 @@ pub(crate) fn scan_word(limit: u64, bytes: &[u8]) -> Scanned<Word>
         Ok(word) => Scanned::Whole(word, count),
         Err(reason) => Scanned::Fault(reason),
     }
+}
+
+/// How many bytes the word has that begins at the front of a slice, where the slice shows it, it has
+/// no more than the limit, and it is a symbol that does not begin with a dollar sign.
+#[inline(always)]
+pub(crate) fn simple_word(limit: u64, bytes: &[u8]) -> Option<usize>
+    ensures { IfSome result (IsSimpleWord limit bytes.now) }
+{
+    let [first, others @ ..] = bytes else {
+        return None;
+    };
+    if !begins_simple(*first) {
+        return None;
+    }
+    let extent = word_run(others);
+    if !extent.ended {
+        return None;
+    }
+    let count = 1 + extent.len;
+    if limit < count as u64 || !is_name(&bytes[..count]) {
+        return None;
+    }
+    Some(count)
+}
+
+// Whether an identifier may begin with this byte that is no dollar sign.
+#[inline(always)]
+fn begins_simple(first: u8) -> bool
+    ensures { result ≡ true → (is_identifier_start first ≡ true) × ((first == 36) ≡ false) }
+{
+    matches!(first, b'a'..=b'z' | b'A'..=b'Z' | b'_')
+}
+
+// Whether a word is a symbol by its text.
+#[inline(always)]
+fn is_name(word: &[u8]) -> bool
+    ensures { result ≡ true → word_token word.now ≡ Ok (name false (Text word.now)) }
+{
+    matches!(word_by(word), Ok(Word::Name))
 }
 
 /// The word that begins here: the bytes of a symbol are copied to `text`.

@@ -4,5 +4,5 @@ mod Annotations
 mod Paths
 mod Quoted
 mod Rows
-mod Words
 mod WriterSteps
+mod Plain

@@ -20,7 +20,7 @@ all_behind test bytes n m first second = rw (take-add n m bytes, all_joined test
 
 -- ---- their text
 
-shown_text : (quote top : ℕ) (bytes : List ℕ) → all_are (is_shown quote top) bytes ≡ true → flat_map (byte_text quote top) bytes ≡ bytes
+pub shown_text : (quote top : ℕ) (bytes : List ℕ) → all_are (is_shown quote top) bytes ≡ true → flat_map (byte_text quote top) bytes ≡ bytes
 shown_text quote top [] all = refl
 shown_text quote top (b ∷ bytes) all =
     elim (cases_Bool (is_shown quote top b)) [

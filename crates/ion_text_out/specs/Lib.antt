@@ -2,5 +2,6 @@ pub mod Escape
 pub mod Text
 pub mod Laws
 pub mod Writing
+pub mod Lane
 pub mod Written
 pub mod Steps

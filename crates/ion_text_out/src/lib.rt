@@ -5,9 +5,9 @@
 mod between;
 mod blob;
 mod item;
+mod lane;
 pub mod laws;
 mod put;
 mod quote;
 mod scalar;
-mod word;
 pub mod writer;

@@ -1,5 +1,5 @@
 //! Bytes between quotes.
-ghost use Rattle.std.specs.Prelude.{◌≡◌, ◌<◌, ◌≤◌, true, false, None, length, take, drop};
+ghost use Rattle.std.specs.Prelude.{◌≡◌, ◌<◌, ◌≤◌, ◌++◌, ◌∷◌, [], true, false, None, length, take, drop};
 ghost use Rattle.std.specs.List.{flat_map};
 ghost use Rattle.ion_text_out.specs.Escape.{hex_digit, letter, is_shown, escaped, byte_text, between_quotes};
 ghost use Rattle.ion_meter.specs.Sinks.{IsPut};
@@ -76,6 +76,15 @@ fn shown_run(quote: u8, top: u16, bytes: &[u8]) -> usize
         at += BLOCK;
     }
     at + few_shown(quote, top, &bytes[at..])
+}
+
+/// Whether bytes stand for themselves between these quotes: they have no escape.
+#[inline]
+pub fn stands_for_itself(quote: u8, top: u16, bytes: &[u8]) -> bool
+    ensures { result ≡ true → between_quotes quote top bytes.now
+        ≡ quote ∷ (bytes.now ++ quote ∷ []) }
+{
+    shown_run(quote, top, bytes) == bytes.len()
 }
 
 // Whether all these bytes stand for themselves. No byte ends the loop, so that it can look at many

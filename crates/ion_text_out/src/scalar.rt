@@ -2,7 +2,7 @@
 ghost use Rattle.std.specs.Prelude.{◌≡◌, ◌++◌, None, codes};
 ghost use Rattle.base64.specs.Engines.{standard};
 ghost use Rattle.base64.specs.GeneralPurpose.{encode_of};
-ghost use Rattle.ion_value.specs.Name.{null_text};
+ghost use Rattle.ion_value.specs.Name.{bool_text, null_text};
 ghost use Rattle.ion_value.specs.Int.{IsInt, int_text};
 ghost use Rattle.ion_value.specs.Decimal.{IsDecimal, decimal_text};
 ghost use Rattle.ion_value.specs.Timestamp.{IsTimestamp, timestamp_text};
@@ -19,7 +19,6 @@ use crate::between::opener;
 use crate::blob::put_base64;
 use crate::put::{put, put_mark};
 use crate::quote::put_quoted;
-use crate::word::is_plain;
 use ion_meter::device::Output;
 use ion_meter::fault::Fault;
 use ion_meter::sink::Sink;
@@ -27,11 +26,12 @@ use ion_value::decimal::{Decimal, decimal_to_text};
 use ion_value::int::{Int, int_to_text};
 use ion_value::ion_type::IonType;
 use ion_value::item::{Head, Sym};
+use ion_value::name::is_plain;
 use ion_value::timestamp::{Timestamp, timestamp_to_text};
 use std::alloc::Allocator;
 
 /// The null of a type.
-fn null(of: IonType) -> &'static [u8]
+pub fn null(of: IonType) -> &'static [u8]
     ensures { result.now ≡ null_text of }
 {
     match of {
@@ -49,6 +49,14 @@ fn null(of: IonType) -> &'static [u8]
         IonType::Sexp => b"null.sexp",
         IonType::Struct => b"null.struct",
     }
+}
+
+/// A truth value.
+#[inline]
+pub fn bool_text(truth: bool) -> &'static [u8]
+    ensures { result.now ≡ bool_text truth }
+{
+    if truth { b"true" } else { b"false" }
 }
 
 /// Puts a symbol: its text, between quotes where it could be taken for something else, or `$0`

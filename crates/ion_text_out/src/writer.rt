@@ -1,29 +1,42 @@
 //! The writer of text.
-ghost use Rattle.std.specs.Prelude.{◌≡◌, ◌*◌, ◌≤◌, ◌<◌, ◌-◌, ℕ, [], length, None, Err, OnOk, OnErr, IfErr};
+ghost use Rattle.std.specs.Prelude.{◌≡◌, ◌*◌, ◌≤◌, ◌<◌, ◌-◌, ◌++◌, ◌∷◌, ℕ, [], length, drop, true, false, None, Err, OnOk, OnErr, IfErr};
 ghost use Rattle.ion_meter.specs.declared.fault.Reason.{Reason};
 ghost use Rattle.ion_meter.specs.declared.fault.Fault.TheVariants.{Refused};
 ghost use Rattle.ion_meter.specs.Limits.{AreChecked};
 ghost use Rattle.ion_meter.specs.Counts.{Shrinks};
 ghost use Rattle.ion_value.specs.Value.{map_head};
-ghost use Rattle.ion_value.specs.Items.{raw_head, item_of};
+ghost use Rattle.ion_value.specs.Decimal.{IsDecimal, decimal_text};
+ghost use Rattle.ion_value.specs.Timestamp.{IsTimestamp, timestamp_text};
+ghost use Rattle.ion_value.specs.Int.{int_text};
+ghost use Rattle.ion_value.specs.Items.{raw_head, item_of, symbol_of};
+ghost use Rattle.ion_value.specs.PlainItems.{IsSimpleText};
 ghost use Rattle.ion_value.specs.Shares.{MemoryCauses, WriteCauses, fault_of};
-ghost use Rattle.ion_text_out.specs.Text.{open_after};
+ghost use Rattle.ion_text_out.specs.Escape.{between_quotes};
+ghost use Rattle.ion_text_out.specs.Text.{end_text, open_after, opener, symbol_text, with_member};
+ghost use Rattle.ion_text_out.specs.Lane.{plain_begin, plain_scalar};
 ghost use Rattle.ion_text_out.specs.Writing.{text_puts, text_adds, text_refusal, IsReady, Shows};
-ghost use Rattle.ion_value.specs.Value.{user_symbol_at};
+ghost use Rattle.ion_value.specs.Value.{user_symbol, user_symbol_at};
 ghost use Rattle.ion_value.specs.Standing.{HeadInRange};
 ghost use Rattle.ion_text_out.specs.Steps.{CanStep, HasRoomFor, MayCome, PutsText, Stepped, held_by, opened_in, share_of, text_of};
 ghost use Rattle.ion_text_out.specs.Written.{text_grows, text-within};
 
+use crate::between::before;
 use crate::item::put_item;
+use crate::lane::{has_room, put_begin, put_end, put_int, put_scalar, put_string};
+use crate::scalar::{bool_text, null};
 use ion_meter::device::Output;
 use ion_meter::fault::Fault;
 use ion_meter::limits::Limits;
 use ion_meter::meter::Meter;
 use ion_meter::sink::Sink;
 use ion_meter::stack::Stack;
+use ion_value::decimal::{Decimal, decimal_to_text};
+use ion_value::int::Int;
 use ion_value::ion_type::Kind;
-use ion_value::item::{Head, Item};
+use ion_value::item::{Head, Item, Sym};
 use ion_value::names::Names;
+use ion_value::plain_item::PlainItem;
+use ion_value::timestamp::{Timestamp, timestamp_to_text};
 use ion_value::writer::ValueWriter;
 use std::alloc::Allocator;
 
@@ -128,6 +141,190 @@ impl<A: Allocator + Copy> TextWriter<A> {
     }
 }
 
+// The calls of `take_plain`, by what the item is: each puts all of the item and moves behind it, or
+// answers false and changes nothing.
+impl<A: Allocator + Copy> TextWriter<A> {
+    // A scalar of this text.
+    #[inline(always)]
+    fn take_scalar<O: Output>(
+        &mut self,
+        sink: &mut Sink<O, A>,
+        item: &PlainItem<'_, '_>,
+        text: &[u8],
+    ) -> bool
+        ensures declines { result ≡ false → (self.new ≡ self.old) × (sink.new ≡ sink.old) }
+        ensures puts { result ≡ true → sink.new ≡ record sink.old {
+          pending = sink.old.pending ++ plain_scalar (opened_in self.old) item.now text.now;
+        } }
+        ensures behind { result ≡ true → self.new ≡ record self.old { empty = false } }
+    {
+        if !put_scalar(sink, self.kinds.as_slice(), self.empty, item, text) {
+            return false;
+        }
+        self.empty = false;
+        true
+    }
+
+    // An int.
+    #[inline(always)]
+    fn take_int<O: Output>(
+        &mut self,
+        sink: &mut Sink<O, A>,
+        item: &PlainItem<'_, '_>,
+        int: Int,
+    ) -> bool
+        ensures declines { result ≡ false → (self.new ≡ self.old) × (sink.new ≡ sink.old) }
+        ensures puts { result ≡ true → sink.new ≡ record sink.old {
+          pending = sink.old.pending ++ plain_scalar (opened_in self.old) item.now (int_text int);
+        } }
+        ensures behind { result ≡ true → self.new ≡ record self.old { empty = false } }
+    {
+        if !put_int(sink, self.kinds.as_slice(), self.empty, item, int) {
+            return false;
+        }
+        self.empty = false;
+        true
+    }
+
+    // A decimal.
+    #[inline(always)]
+    fn take_decimal<O: Output>(
+        &mut self,
+        sink: &mut Sink<O, A>,
+        item: &PlainItem<'_, '_>,
+        decimal: Decimal,
+    ) -> bool
+        requires { IsDecimal decimal }
+        ensures declines { result ≡ false → (self.new ≡ self.old) × (sink.new ≡ sink.old) }
+        ensures puts { result ≡ true → sink.new ≡ record sink.old {
+          pending = sink.old.pending ++ plain_scalar (opened_in self.old) item.now
+              (decimal_text decimal);
+        } }
+        ensures behind { result ≡ true → self.new ≡ record self.old { empty = false } }
+    {
+        let text = decimal_to_text(decimal);
+        self.take_scalar(sink, item, text.as_str().as_bytes())
+    }
+
+    // A timestamp.
+    #[inline(always)]
+    fn take_timestamp<O: Output>(
+        &mut self,
+        sink: &mut Sink<O, A>,
+        item: &PlainItem<'_, '_>,
+        moment: Timestamp,
+    ) -> bool
+        requires { IsTimestamp moment }
+        ensures declines { result ≡ false → (self.new ≡ self.old) × (sink.new ≡ sink.old) }
+        ensures puts { result ≡ true → sink.new ≡ record sink.old {
+          pending = sink.old.pending ++ plain_scalar (opened_in self.old) item.now
+              (timestamp_text moment);
+        } }
+        ensures behind { result ≡ true → self.new ≡ record self.old { empty = false } }
+    {
+        let text = timestamp_to_text(moment);
+        self.take_scalar(sink, item, text.as_str().as_bytes())
+    }
+
+    // A symbol whose text is simple.
+    #[inline(always)]
+    fn take_symbol<O: Output>(
+        &mut self,
+        sink: &mut Sink<O, A>,
+        item: &PlainItem<'_, '_>,
+        symbol: Sym<'_>,
+    ) -> bool
+        requires { IsSimpleText (symbol_of symbol) }
+        ensures declines { result ≡ false → (self.new ≡ self.old) × (sink.new ≡ sink.old) }
+        ensures puts { result ≡ true → sink.new ≡ record sink.old {
+          pending = sink.old.pending ++ plain_scalar (opened_in self.old) item.now
+              (symbol_text (user_symbol (symbol_of symbol.entry)));
+        } }
+        ensures behind { result ≡ true → self.new ≡ record self.old { empty = false } }
+    {
+        match symbol {
+            Sym::Text(text) => self.take_scalar(sink, item, text),
+            Sym::Id(_) => false,
+        }
+    }
+
+    // A string that has no escapes.
+    #[inline(always)]
+    fn take_string<O: Output>(
+        &mut self,
+        sink: &mut Sink<O, A>,
+        item: &PlainItem<'_, '_>,
+        text: &[u8],
+    ) -> bool
+        ensures declines { result ≡ false → (self.new ≡ self.old) × (sink.new ≡ sink.old) }
+        ensures puts { result ≡ true → sink.new ≡ record sink.old {
+          pending = sink.old.pending ++ plain_scalar (opened_in self.old) item.now
+              (between_quotes 34 256 text.now);
+        } }
+        ensures behind { result ≡ true → self.new ≡ record self.old { empty = false } }
+    {
+        if !put_string(sink, self.kinds.as_slice(), self.empty, item, text) {
+            return false;
+        }
+        self.empty = false;
+        true
+    }
+
+    // The beginning of a container.
+    #[inline(always)]
+    fn take_begin<O: Output>(
+        &mut self,
+        meter: &mut Meter<A>,
+        sink: &mut Sink<O, A>,
+        item: &PlainItem<'_, '_>,
+        kind: Kind,
+    ) -> bool
+        requires can_step { CanStep self.old meter.old }
+        requires deep { length self.old.kinds < self.old.limits.depth }
+        ensures declines { result ≡ false
+            → (self.new ≡ self.old) × (sink.new ≡ sink.old) × (meter.new ≡ meter.old) }
+        ensures puts { result ≡ true → sink.new ≡ record sink.old {
+          pending = sink.old.pending ++ plain_begin (opened_in self.old) item.now (opener kind);
+        } }
+        ensures opens { result ≡ true
+            → opened_in self.new ≡ (kind, true) ∷ with_member (opened_in self.old) }
+        ensures counted { meter.new.refused ≡ meter.old.refused }
+        ensures stepped { Stepped self.old self.new meter.old meter.new }
+    {
+        if !has_room(sink, item, 1) {
+            return false;
+        }
+        let mark = before(self.kinds.as_slice(), self.empty);
+        if !self.kinds.push_within(meter, kind) {
+            return false;
+        }
+        put_begin(sink, mark, item, kind);
+        self.empty = true;
+        true
+    }
+
+    // The end of the innermost container.
+    #[inline(always)]
+    fn take_end<O: Output>(&mut self, meter: &mut Meter<A>, sink: &mut Sink<O, A>) -> bool
+        requires can_step { CanStep self.old meter.old }
+        ensures declines { result ≡ false
+            → (self.new ≡ self.old) × (sink.new ≡ sink.old) × (meter.new ≡ meter.old) }
+        ensures puts { result ≡ true → sink.new ≡ record sink.old {
+          pending = sink.old.pending ++ end_text (opened_in self.old);
+        } }
+        ensures opens { result ≡ true → opened_in self.new ≡ drop 1 (opened_in self.old) }
+        ensures counted { meter.new.refused ≡ meter.old.refused }
+        ensures stepped { Stepped self.old self.new meter.old meter.new }
+    {
+        if !put_end(sink, self.kinds.as_slice(), self.empty) {
+            return false;
+        }
+        self.kinds.pop(meter);
+        self.empty = false;
+        true
+    }
+}
+
 impl<O: Output, A: Allocator + Copy> ValueWriter<O, A> for TextWriter<A> {
     ghost puts = { text_puts };
 
@@ -173,6 +370,27 @@ impl<O: Output, A: Allocator + Copy> ValueWriter<O, A> for TextWriter<A> {
                 self.failed = Some(fault);
                 Err(fault)
             }
+        }
+    }
+
+    #[inline(always)]
+    fn take_plain(
+        &mut self,
+        meter: &mut Meter<A>,
+        sink: &mut Sink<O, A>,
+        item: PlainItem<'_, '_>,
+    ) -> bool {
+        match item.head {
+            Head::Null(of) => self.take_scalar(sink, &item, null(of)),
+            Head::Bool(truth) => self.take_scalar(sink, &item, bool_text(truth)),
+            Head::Int(int) => self.take_int(sink, &item, int),
+            Head::Decimal(decimal) => self.take_decimal(sink, &item, decimal),
+            Head::Timestamp(moment) => self.take_timestamp(sink, &item, moment),
+            Head::Symbol(at) => self.take_symbol(sink, &item, at.sym),
+            Head::String(text) => self.take_string(sink, &item, text),
+            Head::Begin(kind) => self.take_begin(meter, sink, &item, kind),
+            Head::End => self.take_end(meter, sink),
+            _ => false,
         }
     }
 

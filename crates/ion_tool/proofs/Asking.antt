@@ -10,7 +10,7 @@ use Rattle.ion_meter.specs.declared.limits.Limits.{Limits}
 use Rattle.ion_tool.specs.declared.words.Action.{Action}
 use Rattle.ion_tool.specs.declared.words.Request.{Request}
 use Rattle.ion_tool.specs.declared.words.Request.TheVariants.{Run, Help, Usage}
-use Rattle.ion_tool.specs.Words.{ion_app, AnswersError, Asks, AsksRun, IsHelp, IsRun}
+use Rattle.ion_tool.specs.Words.{ion_app, AnswersError, Asks, AsksRun, IsRun}
 
 -- the kind of an error that is not want of memory is among the kinds that may come
 among : (kinds : Kinds) (e : Error) → HasKind kinds e → kind_of e ≢ OutOfMemory → IsAmong (kind_of e) kinds

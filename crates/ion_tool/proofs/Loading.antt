@@ -1,21 +1,19 @@
 -- What is answered where a catalogue is loaded.
-use Rattle.std.proofs.Common.{◌≡◌, ◌⊎◌, ℕ, ◌<◌, List, length, Option, Some, None, Result, Ok, Err, inl, inr, refl, subst}
-use Rattle.std.specs.Prelude.{◌≢◌, IfOk}
+use Rattle.std.proofs.Common.{arith, ◌≡◌, ◌⊎◌, ℕ, ◌<◌, ◌≤◌, List, length, Result, Ok, Err, inl, inr, refl, ap, ap₂, subst, ◌∙◌}
+use Rattle.std.specs.Prelude.{IfOk}
 use Rattle.ion_meter.specs.Counts.{Counts}
 use Rattle.ion_meter.specs.declared.device.Input.{Ghosts as InputOf}
-use Rattle.ion_meter.specs.declared.device.Output.{Ghosts as OutputOf}
 use Rattle.ion_meter.specs.declared.fault.Fault.{Fault}
 use Rattle.ion_meter.specs.declared.fault.Fault.TheVariants.{Refused, Memory, ReadFault, WriteFault, InputLimit}
 use Rattle.ion_meter.specs.declared.fault.Reason.{Reason}
 use Rattle.ion_meter.specs.declared.limits.Limits.{Limits}
 use Rattle.ion_value.specs.Outcome.{Rejected}
-use Rattle.ion_symbols.specs.Table.{Shared}
-use Rattle.ion_transcode.specs.Catalogues.{HasCatalogVerdict, IsCatalog}
-use Rattle.clap.specs.Words.{Text}
-use Rattle.ion_tool.specs.Serving.{status_of, GivesSometime, IsJobServed, IsLoaded, SaysTables}
-use Rattle.ion_tool.specs.declared.words.Action.{Action}
+use Rattle.ion_symbols.specs.Table.{Shared, catalog_cost}
+use Rattle.ion_transcode.specs.Catalogues.{HasCatalogVerdict, IsCatalog, kept_in}
+use Rattle.ion_tool.specs.Serving.{fresh_counts, status_of, IsLoaded, SaysTables}
 
-says_tables : (limits : Limits) (bytes : List ℕ) (answer : Result (List Shared) Fault)
+-- what loading says of the bytes
+pub says_tables : (limits : Limits) (bytes : List ℕ) (answer : Result (List Shared) Fault)
     → IfOk answer (λ tables. IsCatalog limits bytes tables)
     → ((r : Reason) (p : ℕ) → answer ≡ Err (Refused r p) → HasCatalogVerdict limits bytes (Rejected r p))
     → (answer ≡ Err InputLimit → limits.input < length bytes)
@@ -27,37 +25,29 @@ says_tables limits bytes (Err Memory) is refused limit = tt
 says_tables limits bytes (Err ReadFault) is refused limit = tt
 says_tables limits bytes (Err WriteFault) is refused limit = tt
 
-loaded : {I : Type 0} (input : InputOf I) (limits : Limits) (device : I) (answer : Result (List Shared) Fault)
-    → (input.observable device → IfOk answer (λ tables. IsCatalog limits (input.rest device) tables))
-    → (input.observable device → (r : Reason) (p : ℕ) → answer ≡ Err (Refused r p) → HasCatalogVerdict limits (input.rest device) (Rejected r p))
-    → (input.observable device → answer ≡ Err InputLimit → limits.input < length (input.rest device))
-    → answer ≢ Err WriteFault
-    → IsLoaded input limits device answer
-loaded input limits device answer is refused limit no_writes = record {
-  says = λ o. says_tables limits (input.rest device) answer (is o) (refused o) (limit o);
-  no_writes = no_writes;
-}
+-- what was said of a device that is the one that was opened
+pub loaded_from : {I : Type 0} (input : InputOf I) (limits : Limits) (old new : Counts) (device opened after : I) (answer : Result (List Shared) Fault) → device ≡ opened
+    → IsLoaded input limits old new device after answer → IsLoaded input limits old new opened after answer
+loaded_from {I} input limits old new device opened after answer e is = subst (λ (d : I). IsLoaded input limits old new d after answer) e is
 
--- what loading answers agrees with the bytes of the device
-pub loaded_from : {I : Type 0} (input : InputOf I) (limits : Limits) (device opened : I) (result answer : Result (List Shared) Fault)
-    → device ≡ opened → result ≡ answer
-    → (input.observable device → IfOk result (λ tables. IsCatalog limits (input.rest device) tables))
-    → (input.observable device → (r : Reason) (p : ℕ) → result ≡ Err (Refused r p) → HasCatalogVerdict limits (input.rest device) (Rejected r p))
-    → (input.observable device → result ≡ Err InputLimit → limits.input < length (input.rest device))
-    → result ≢ Err WriteFault
-    → IsLoaded input limits opened answer
-loaded_from {I} input limits device opened result answer e r is refused limit no_writes =
-    subst (λ (a : Result (List Shared) Fault). IsLoaded input limits opened a) r
-    (subst (λ (d : I). IsLoaded input limits d result) e (loaded input limits device result is refused limit no_writes))
+abbrev counts : ℕ → ℕ → ℕ → Counts
+counts held peak refused = record { held = held; peak = peak; refused = refused }
 
--- what a source of files gives in one state it gives in some
-pub in_some_state : {S F I O E : Type 0} (gives : S → List ℕ → Option F → Type 0) (state : S) (remaining : F → Option (List ℕ)) (input : InputOf I) (output : OutputOf O) (errors : OutputOf E)
-    (catalog : List Shared) (asked : Action) (limits : Limits) (file : Option Text) (old new : Counts) (in_old in_new : I) (out_old out_new : O) (err_old err_new : E) (status : ℕ)
-    → IsJobServed (gives state) remaining input output errors catalog asked limits file old new in_old in_new out_old out_new err_old err_new status
-    → IsJobServed (GivesSometime gives) remaining input output errors catalog asked limits file old new in_old in_new out_old out_new err_old err_new status
-in_some_state gives state remaining input output errors catalog asked limits None old new in_old in_new out_old out_new err_old err_new status served = served
-in_some_state gives state remaining input output errors catalog asked limits (Some name) old new in_old in_new out_old out_new err_old err_new status served =
-    (served.0, (served.1.0, (state, served.1.1), served.1.2))
+fresh : (own : Counts) → own.held ≡ 0 → own.peak ≡ 0 → own.refused ≡ 0 → own ≡ fresh_counts
+fresh own held peak refused = ap₂ (λ h p. counts h p own.refused) held peak ∙ ap (counts 0 0) refused
+
+-- what was said of a meter that had counted nothing
+pub loaded_by : {I : Type 0} (input : InputOf I) (limits : Limits) (own new : Counts) (before after : I) (result answer : Result (List Shared) Fault)
+    → own.held ≡ 0 → own.peak ≡ 0 → own.refused ≡ 0 → result ≡ answer
+    → IsLoaded input limits own new before after result → IsLoaded input limits fresh_counts new before after answer
+loaded_by {I} input limits own new before after result answer held peak refused e is =
+    subst (λ (a : Result (List Shared) Fault). IsLoaded input limits fresh_counts new before after a) e
+    (subst (λ (m : Counts). IsLoaded input limits m new before after result) (fresh own held peak refused) is)
+
+-- the tables that are kept cost no more than the limit, and a fault keeps none
+pub kept_cheap : (limits : Limits) (answer : Result (List Shared) Fault) → IfOk answer (λ tables. catalog_cost tables ≤ limits.symbols) → kept_in answer ≤ limits.symbols
+kept_cheap limits (Ok tables) cheap = cheap
+kept_cheap limits (Err fault) cheap = omega arith
 
 -- the status of a fault
 pub fault_status : (fault : Fault) → (status_of (Err fault) ≡ 0) ⊎ ((status_of (Err fault) ≡ 1) ⊎ (status_of (Err fault) ≡ 3))

@@ -4,7 +4,8 @@ use Rattle.clap.proofs.OnLiterals.{clap_on_literals}
 use Rattle.clap.specs.Words.{Text, fault_of}
 use Rattle.clap.specs.declared.error.kind.ErrorKind.TheVariants.{DisplayVersion, ValueValidation}
 use Rattle.ion_meter.specs.declared.limits.Limits.{Limits}
-use Rattle.ion_tool.specs.Words.{default_limits, ion_app, limits_in, Names}
+use Rattle.ion_meter.specs.Limits.{default_limits}
+use Rattle.ion_tool.specs.Words.{ion_app, limits_in, Names}
 use Rattle.ion_tool.specs.declared.words.Action.TheVariants.{Show, Check, Convert}
 
 -- without options the limits are the usual ones

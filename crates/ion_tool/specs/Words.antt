@@ -9,7 +9,7 @@ use Rattle.clap.specs.Words.{subcommand_of, fault_of, first_of, one_of, IsAmong}
 use Rattle.clap.specs.declared.builder.value_parser.ValueParser.TheVariants.{Unsigned}
 use Rattle.clap.specs.declared.error.kind.ErrorKind.{ErrorKind}
 use Rattle.clap.specs.declared.error.kind.ErrorKind.TheVariants.{DisplayHelp, DisplayVersion, OutOfMemory}
-use Rattle.ion_meter.specs.Limits.{AreChecked}
+use Rattle.ion_meter.specs.Limits.{AreChecked, default_limits}
 use Rattle.ion_meter.specs.declared.limits.Limits.{Limits}
 use Rattle.ion_tool.specs.declared.words.Action.{Action}
 use Rattle.ion_tool.specs.declared.words.Action.TheVariants.{Show, Check, Convert}
@@ -52,10 +52,6 @@ abbrev pub action_name : Action → Text
 action_name Show = codes "show"
 action_name Check = codes "check"
 action_name Convert = codes "convert"
-
--- the limits of a run where the words give none
-abbrev pub default_limits : Limits
-default_limits = record { depth = 64; scalar = 1048576; symbols = 1048576; value = 16777216; input = 281474976710656 }
 
 -- the number of a text that the option takes: digits, of a number that is at most this one
 abbrev pub number_in : ℕ → Text → Option ℕ

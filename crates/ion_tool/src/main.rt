@@ -5,14 +5,16 @@ ghost use Rattle.std.specs.Prelude.{⊤};
 
 mod act;
 mod ahead;
+mod files;
 mod serve;
 mod words;
 
 use ahead::ReadAhead;
+use files::{FileSource, UsedFile};
 use ion_meter::fault::Fault;
 use ion_meter::meter::Meter;
 use ion_meter::stream::{FromRead, ToWrite};
-use serve::{FileSource, give_usage, report, serve};
+use serve::{give_usage, report, serve};
 use std::fs::File;
 use std::process::ExitCode;
 use std::rt::Files;
@@ -27,12 +29,18 @@ struct RealFiles {
 impl FileSource for RealFiles {
     type File = ReadAhead<File>;
 
-    ghost gives = { λ files name found. ⊤ };
+    ghost gives = { λ files name found after. ⊤ };
+
+    ghost closes = { λ files file after. ⊤ };
 
     fn open_named(&mut self, name: &str) -> Option<ReadAhead<File>> {
         let file = fs::open(&self.rt, name).ok()?;
         Some(ReadAhead::new(self.rt.alloc(), file))
     }
+
+    fn close(&mut self, _file: UsedFile<ReadAhead<File>>)
+        ensures { ⊤ }
+    {}
 }
 
 fn main(rt: HostRuntime) -> io::Result<ExitCode> {

@@ -1,17 +1,20 @@
 //! A run of the program over given devices.
 ghost use Rattle.std.specs.Prelude.{◌≡◌, ◌+◌, ◌-◌, ◌^◌, ◌<◌, ◌≤◌, ◌⊎◌, ◌++◌};
 ghost use Rattle.std.specs.Prelude.{List, [], ℕ, Option, None, Some, Err, length, map, option_map, string_bytes};
+ghost use Rattle.ion_meter.specs.Devices.{Counted};
 ghost use Rattle.ion_meter.specs.declared.fault.Fault.{Fault};
 ghost use Rattle.ion_meter.specs.declared.limits.Limits.{Limits};
 ghost use Rattle.ion_meter.specs.Limits.{AreChecked};
 ghost use Rattle.ion_transcode.specs.Calls.{HasRoom};
-ghost use Rattle.ion_tool.specs.Serving.{status_of, line_of, catalog_line, closed_line, fault_line};
+ghost use Rattle.ion_tool.specs.Serving.{status_of, line_of, catalog_line, unopened_line, fault_line};
 ghost use Rattle.ion_tool.specs.Serving.{refusal_text, Gets, IsServed, IsFileServed, IsJobServed};
-ghost use Rattle.ion_tool.specs.Serving.{IsCatalogServed, IsUnread, IsHelped, IsUsageError};
-ghost use Rattle.ion_tool.specs.Words.{default_limits, AsksRun, IsRun};
+ghost use Rattle.ion_tool.specs.Serving.{IsCatalogServed, IsLoaded, IsUnread, IsHelped, IsUsageError};
+ghost use Rattle.ion_tool.specs.Serving.{file_input, just_opened};
+ghost use Rattle.ion_tool.specs.Words.{AsksRun, IsRun};
 ghost use Rattle.ion_tool.specs.declared.words.Action.{Action};
 
 use crate::act::act;
+use crate::files::{FileSource, UsedFile};
 use crate::words::{Action, Job, Request, read_words};
 use arrayvec::ArrayString;
 use ion_meter::device::{Broken, Input, Output, write_all};
@@ -24,19 +27,6 @@ use ion_transcode::load::load_catalog;
 use ion_transcode::to::Summary;
 use itoa::Buffer;
 use std::alloc::{AllocError, Global};
-use std::io::Read;
-
-/// Where the files come from that the words name.
-pub trait FileSource {
-    type File: Read + Drop;
-
-    /// It may give this for a name.
-    ghost gives: { Self → List ℕ → Option Self.File → Type 0 };
-
-    /// The file of this name, where it can be read.
-    fn open_named(&mut self, name: &str) -> Option<Self::File>
-        ensures { gives self.old name.now result };
-}
 
 /// The most bytes that an input may have.
 const INPUT_LIMIT: u64 = 281_474_976_710_656;
@@ -191,9 +181,9 @@ fn serve_input<I: Input, O: Output, E: Output>(
 }
 
 /// Says that a file cannot be opened.
-fn say_closed<E: Output>(name: &str, err: &mut E)
+fn say_unopened<E: Output>(name: &str, err: &mut E)
     requires { E.failure_count err.old < 2 ^ 64 - 1 }
-    ensures { Gets E.Output (closed_line name.now) err.old err.new }
+    ensures { Gets E.Output (unopened_line name.now) err.old err.new }
 {
     if write_all(err, b"cannot open ").is_err() {
         return;
@@ -204,7 +194,7 @@ fn say_closed<E: Output>(name: &str, err: &mut E)
     say(err, b"\n");
 }
 
-/// Runs over a file, and says on standard error how it failed, if it did.
+/// Runs over a file, hands it back, and says on standard error how the run failed, if it did.
 fn serve_file<F: FileSource, O: Output, E: Output>(
     meter: &mut Meter<Global>,
     catalog: &Catalog<Global>,
@@ -220,16 +210,18 @@ fn serve_file<F: FileSource, O: Output, E: Output>(
     requires out_failures { O.failure_count out < 2 ^ 64 - 1 }
     requires err_failures { E.failure_count err < 2 ^ 64 - 1 }
     requires checked { AreChecked limits }
-    ensures served { IsFileServed (F.gives files.old) F.File.remaining O.Output E.Output
-        catalog.now action limits name.now meter.old meter.new out result.1 err result.2 result.0 }
+    ensures served { IsFileServed F.gives F.closes F.File.remaining O.Output E.Output catalog.now
+        action limits name.now meter.old meter.new files.old files.new
+        out result.1 err result.2 result.0 }
     ensures status { (result.0 ≡ 0) ⊎ ((result.0 ≡ 1) ⊎ (result.0 ≡ 3)) }
 {
     let Some(file) = files.open_named(name) else {
-        say_closed(name, &mut err);
+        say_unopened(name, &mut err);
         return (3, out, err);
     };
     let input = FromRead::new(file);
-    let (status, _, out, err) = serve_input(meter, catalog, action, limits, input, out, err);
+    let (status, device, out, err) = serve_input(meter, catalog, action, limits, input, out, err);
+    files.close(UsedFile::from_device(device));
     (status, out, err)
 }
 
@@ -248,9 +240,10 @@ fn serve_job<F: FileSource, I: Input, O: Output, E: Output>(
     requires out_failures { O.failure_count out < 2 ^ 64 - 1 }
     requires err_failures { E.failure_count err < 2 ^ 64 - 1 }
     requires checked { AreChecked job.limits }
-    ensures served { IsJobServed (F.gives files.old) F.File.remaining I.Input O.Output E.Output
+    ensures served { IsJobServed F.gives F.closes F.File.remaining I.Input O.Output E.Output
         catalog.now job.action job.limits (option_map string_bytes job.file)
-        meter.old meter.new input result.1 out result.2 err result.3 result.0 }
+        meter.old meter.new files.old files.new
+        input result.1 out result.2 err result.3 result.0 }
     ensures status { (result.0 ≡ 0) ⊎ ((result.0 ≡ 1) ⊎ (result.0 ≡ 3)) }
 {
     let Job {
@@ -264,6 +257,25 @@ fn serve_job<F: FileSource, I: Input, O: Output, E: Output>(
     let name = name.as_str();
     let (status, out, err) = serve_file(meter, catalog, action, limits, files, name, out, err);
     (status, input, out, err)
+}
+
+/// Loads a catalogue from a file, and hands the file back.
+fn load_file<F: FileSource>(
+    meter: &mut Meter<Global>,
+    limits: Limits,
+    files: &mut F,
+    file: F::File,
+) -> Result<Catalog<Global>, Fault>
+    requires held { meter.old.held ≤ 2 ^ 48 }
+    requires countable { meter.old.refused < 2 ^ 64 - 1 }
+    requires checked { AreChecked limits }
+    ensures { (after : Counted F.File) × F.closes files.old after files.new
+        × IsLoaded (file_input F.File.remaining) limits meter.old meter.new
+        (just_opened file) after result }
+{
+    let (loaded, device) = load_catalog(meter, limits, FromRead::new(file));
+    files.close(UsedFile::from_device(device));
+    loaded
 }
 
 /// Loads the catalogue of this name, with a meter of its own, and runs with its tables.
@@ -282,19 +294,18 @@ fn serve_named<F: FileSource, I: Input, O: Output, E: Output>(
     requires out_failures { O.failure_count out < 2 ^ 64 - 1 }
     requires err_failures { E.failure_count err < 2 ^ 64 - 1 }
     requires checked { AreChecked job.limits }
-    ensures served { IsCatalogServed F.gives files.old F.File.remaining
-        I.Input O.Output E.Output job.action job.limits tables.now
-        (option_map string_bytes job.file) meter.old meter.new
+    ensures served { IsCatalogServed F.gives F.closes F.File.remaining I.Input O.Output E.Output
+        job.action job.limits tables.now (option_map string_bytes job.file)
+        meter.old meter.new files.old files.new
         input result.1 out result.2 err result.3 result.0 }
     ensures status { (result.0 ≡ 0) ⊎ ((result.0 ≡ 1) ⊎ (result.0 ≡ 3)) }
 {
     let Some(file) = files.open_named(tables) else {
-        say_closed(tables, &mut err);
+        say_unopened(tables, &mut err);
         return (3, input, out, err);
     };
     let mut own = Meter::new(alloc);
-    let (loaded, _) = load_catalog(&mut own, job.limits, FromRead::new(file));
-    match loaded {
+    match load_file(&mut own, job.limits, files, file) {
         Ok(catalog) => {
             let served = serve_job(meter, &catalog, job, files, input, out, err);
             catalog.release(&mut own);
@@ -321,13 +332,15 @@ fn serve_run<F: FileSource, I: Input, O: Output, E: Output>(
     requires err_failures { E.failure_count err < 2 ^ 64 - 1 }
     requires checked { AreChecked job.limits }
     ensures plain { tables ≡ None
-        → IsJobServed (F.gives files.old) F.File.remaining I.Input O.Output E.Output
+        → IsJobServed F.gives F.closes F.File.remaining I.Input O.Output E.Output
         [] job.action job.limits (option_map string_bytes job.file)
-        meter.old meter.new input result.1 out result.2 err result.3 result.0 }
+        meter.old meter.new files.old files.new
+        input result.1 out result.2 err result.3 result.0 }
     ensures catalog { (name : List ℕ) → option_map string_bytes tables ≡ Some name
-        → IsCatalogServed F.gives files.old F.File.remaining I.Input O.Output E.Output
+        → IsCatalogServed F.gives F.closes F.File.remaining I.Input O.Output E.Output
         job.action job.limits name (option_map string_bytes job.file)
-        meter.old meter.new input result.1 out result.2 err result.3 result.0 }
+        meter.old meter.new files.old files.new
+        input result.1 out result.2 err result.3 result.0 }
     ensures status { (result.0 ≡ 0) ⊎ ((result.0 ≡ 1) ⊎ (result.0 ≡ 3)) }
 {
     let Some(name) = tables else {
@@ -356,45 +369,48 @@ pub fn serve<F: FileSource, I: Input + Drop, O: Output + Drop, E: Output + Drop>
     requires out_failures { O.failure_count out < 2 ^ 64 - 1 }
     requires err_failures { E.failure_count err < 2 ^ 64 - 1 }
 
-    // Words that ask for a run over the input: the status, both outputs, the failures and the
-    // memory are those of some answer of that run. Or the words could not be read.
+    // Words that ask for a run over the input: the source of files is left as it was; the status,
+    // both outputs, the failures and the memory are those of some answer of that run. Or the words
+    // could not be read.
     ensures ran { (action : Action) (limits : Limits)
         → IsRun (map string_bytes words.items) action limits None None
-        → IsServed I.Input O.Output E.Output [] action limits meter.old meter.new
+        → (files.new ≡ files.old)
+        × (IsServed I.Input O.Output E.Output [] action limits meter.old meter.new
         input result.1 out result.2 err result.3 result.0
-        ⊎ IsUnread E.Output (map string_bytes words.items) meter.old meter.new
-        input result.1 out result.2 err result.3 result.0 }
+        ⊎ IsUnread E.Output (map string_bytes words.items) meter.old meter.new files.old files.new
+        input result.1 out result.2 err result.3 result.0) }
 
     // Words that name a file: the input is not read, and the same is said of what the name opens
-    // to.
+    // to, which is handed back as the run leaves it.
     ensures file { (action : Action) (limits : Limits) (name : List ℕ)
         → IsRun (map string_bytes words.items) action limits None (Some name)
         → (result.1 ≡ input)
-        × (IsFileServed (F.gives files.old) F.File.remaining O.Output E.Output []
-        action limits name meter.old meter.new out result.2 err result.3 result.0
-        ⊎ IsUnread E.Output (map string_bytes words.items) meter.old meter.new
+        × (IsFileServed F.gives F.closes F.File.remaining O.Output E.Output []
+        action limits name meter.old meter.new files.old files.new
+        out result.2 err result.3 result.0
+        ⊎ IsUnread E.Output (map string_bytes words.items) meter.old meter.new files.old files.new
         input result.1 out result.2 err result.3 result.0) }
 
     // Words that name a catalogue: by what its name opens to, a run is served with its tables, over
     // the input or over the file that is named too, or a line says why there are none, and nothing
-    // else is done.
+    // else is done. The catalogue's file is handed back before.
     ensures catalog { (action : Action) (limits : Limits) (name : List ℕ) (file : Option (List ℕ))
         → IsRun (map string_bytes words.items) action limits (Some name) file
-        → IsCatalogServed F.gives files.old F.File.remaining I.Input O.Output E.Output
-        action limits name file meter.old meter.new
+        → IsCatalogServed F.gives F.closes F.File.remaining I.Input O.Output E.Output
+        action limits name file meter.old meter.new files.old files.new
         input result.1 out result.2 err result.3 result.0
-        ⊎ IsUnread E.Output (map string_bytes words.items) meter.old meter.new
+        ⊎ IsUnread E.Output (map string_bytes words.items) meter.old meter.new files.old files.new
         input result.1 out result.2 err result.3 result.0 }
 
     // Other words: help on standard output, or on standard error why there is nothing to do, or
     // that the words could not be read.
     ensures unread { ¬ AsksRun (map string_bytes words.items)
-        → (result.1 ≡ input) × (meter.new ≡ meter.old) }
+        → (result.1 ≡ input) × (meter.new ≡ meter.old) × (files.new ≡ files.old) }
     ensures other { ¬ AsksRun (map string_bytes words.items)
         → IsHelped O.Output E.Output (map string_bytes words.items)
         out result.2 err result.3 result.0
         ⊎ (IsUsageError E.Output (map string_bytes words.items) out result.2 err result.3 result.0
-        ⊎ IsUnread E.Output (map string_bytes words.items) meter.old meter.new
+        ⊎ IsUnread E.Output (map string_bytes words.items) meter.old meter.new files.old files.new
         input result.1 out result.2 err result.3 result.0) }
     ensures usage { result.0 ≡ 2 → (¬ AsksRun (map string_bytes words.items))
         × IsUsageError E.Output (map string_bytes words.items) out result.2 err result.3 result.0 }

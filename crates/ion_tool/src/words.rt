@@ -51,15 +51,6 @@ struct Asked<'a> {
     file: Option<&'a str>,
 }
 
-/// The limits of a run where the words give none.
-const DEFAULT_LIMITS: Limits = Limits {
-    depth: 64,
-    scalar: 1_048_576,
-    symbols: 1_048_576,
-    value: 16_777_216,
-    input: 281_474_976_710_656,
-};
-
 const ABOUT: &str = "Shows, checks and converts Amazon Ion 1.0, a data format like JSON with more
 types and a binary form. A stream that begins with the byte E0 is binary.
 
@@ -259,16 +250,17 @@ fn limits_of(options: &ArgMatches<'_>) -> Option<Limits>
     ensures checked { IfSome result AreChecked }
 {
     let most = 1_073_741_824;
-    let depth = limit_of(options, "depth", 65_535, u64::from(DEFAULT_LIMITS.depth))?;
-    let scalar = limit_of(options, "scalar", most, DEFAULT_LIMITS.scalar)?;
-    let symbols = limit_of(options, "symbols", most, DEFAULT_LIMITS.symbols)?;
-    let value = limit_of(options, "value", most, DEFAULT_LIMITS.value)?;
+    let usual = Limits::default();
+    let depth = limit_of(options, "depth", 65_535, u64::from(usual.depth))?;
+    let scalar = limit_of(options, "scalar", most, usual.scalar)?;
+    let symbols = limit_of(options, "symbols", most, usual.symbols)?;
+    let value = limit_of(options, "value", most, usual.value)?;
     Some(Limits {
         depth: depth as u32,
         scalar,
         symbols,
         value,
-        input: DEFAULT_LIMITS.input,
+        input: usual.input,
     })
 }
 
@@ -355,7 +347,7 @@ pub fn read_words(alloc: Global, words: &[String]) -> Result<Request, AllocError
     if words.is_empty() {
         let job = Job {
             action: Action::Show,
-            limits: DEFAULT_LIMITS,
+            limits: Limits::default(),
             file: None,
         };
         return Ok(Request::Run(None, job));

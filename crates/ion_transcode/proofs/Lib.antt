@@ -12,6 +12,7 @@ mod TextSound
 mod UserPaths
 mod Loading
 mod Following
+mod Feeding
 mod Copying
 mod LoadParts
 mod TableStreams

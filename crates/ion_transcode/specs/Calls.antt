@@ -136,13 +136,16 @@ pub record Joined {R W O A T : Type 0} (reader : ReaderOf R A) (writer : WriterO
   pub stays : StaysSound writer before after
   pub well : StaysWell answer fault
 
--- the meter behind a stream whose windows are made: that on the input is given back, and no more was held than the share of the form
-pub record GivesBackSource (limits : Limits) (to : To) (is_binary : Type 0) (old new : Counts) : Type 0 where
+-- the meter behind a stream whose windows are made: that on the input is given back, and no more was held than the share of text, nor, where a stream
+-- is accepted, than that of its form
+pub record GivesBackSource (limits : Limits) (to : To) (is_binary : Type 0) (answer : Result Summary Fault) (old new : Counts) : Type 0 where
   pub charges : Charges old new 4096 0 (4096 + share limits forms.Text to)
+  pub charges_of_form : (s : Summary) → answer ≡ Ok s → Charges old new 4096 0 (4096 + share limits s.form to)
   pub charges_of_binary : is_binary → Charges old new 4096 0 (4096 + share limits forms.Binary to)
 
--- the meter behind a run: all is given back, and no more was held than the bound of the form
-pub record GivesBack (limits : Limits) (to : To) (is_binary : Type 0) (old new : Counts) : Type 0 where
+-- the meter behind a run: all is given back, and no more was held than the bound of text, nor, where a stream is accepted, than that of its form
+pub record GivesBack (limits : Limits) (to : To) (is_binary : Type 0) (answer : Result Summary Fault) (old new : Counts) : Type 0 where
   pub held : new.held ≡ old.held
   pub peak : new.peak ≤ max old.peak (old.held + bound limits forms.Text to)
+  pub peak_of_form : (s : Summary) → answer ≡ Ok s → new.peak ≤ max old.peak (old.held + bound limits s.form to)
   pub peak_of_binary : is_binary → new.peak ≤ max old.peak (old.held + bound limits forms.Binary to)

@@ -45,15 +45,15 @@ fn values_behind(values: u64, level: u32) -> u64
     if level == 0 { values + 1 } else { values }
 }
 
-// Writes all that was put, where a value has ended behind which the reader may have to wait. It
-// answers whether one has that is not written yet.
+// Writes all that was put, where a value has ended since behind which the reader may have to wait. It
+// answers how many values had ended when all that was put was written last.
 #[inline]
 fn flush_ended<R: RawReader<A>, O: Output, A: Allocator + Copy>(
-    unflushed: bool,
-    level: u32,
+    values: u64,
+    flushed: u64,
     reader: &UserReader<'_, R, A>,
     sink: &mut Sink<O, A>,
-) -> Result<bool, Fault>
+) -> Result<u64, Fault>
     requires well { sink.old.fault ≡ None }
     ensures puts { Puts O.written O.observable sink.old sink.new [] }
     ensures same { OnOk result (O.observable sink.old.device
@@ -63,21 +63,19 @@ fn flush_ended<R: RawReader<A>, O: Output, A: Allocator + Copy>(
     ensures count { O.failure_count sink.new.device
         ≡ O.failure_count sink.old.device + write_failures_in None result }
 {
-    if !unflushed && level > 0 {
-        return Ok(false);
-    }
-    if !reader.may_wait() {
-        return Ok(true);
+    if values == flushed || !reader.may_wait() {
+        return Ok(flushed);
     }
     match sink.flush() {
         Err(fault) => Err(fault),
-        Ok(()) => Ok(false),
+        Ok(()) => Ok(values),
     }
 }
 
 /// Puts each item of the user values that are read, and counts the values at top level.
 ///
-/// Where the reader may have to wait for its device, what was put is written first, if a value at top
+/// Behind each item that is read and put one at a time, the reader hands on what lies whole in its
+/// window. Where the reader may have to wait for its device, what was put is written first, if a value at top
 /// level has ended since it was written last.
 pub fn copy_items<R: RawReader<A>, W: ValueWriter<O, A>, O: Output, A: Allocator + Copy>(
     meter: &mut Meter<A>,
@@ -113,19 +111,22 @@ pub fn copy_items<R: RawReader<A>, W: ValueWriter<O, A>, O: Output, A: Allocator
     writer.begin(sink)?;
     let mut values: u64 = 0;
     let mut level: u32 = 0;
-    // Whether a value has ended since all that was put was written.
-    let mut unflushed = false;
+    // How many values had ended when all that was put was written last.
+    let mut flushed: u64 = 0;
     'items: while reader.next(meter)? {
         let item = reader.item();
         let head = item.head();
         if let Err(fault) = writer.item(meter, sink, &item) {
             return Err(fault);
         }
-        level = level_behind(level, &head);
-        values = values_behind(values, level);
-        match flush_ended(unflushed, level, reader, sink) {
+        let now = level_behind(level, &head);
+        let ended = values_behind(values, now);
+        let fed = reader.feed(meter, writer, sink);
+        level = fed.level;
+        values = ended + fed.values;
+        match flush_ended(values, flushed, reader, sink) {
             Err(fault) => return Err(fault),
-            Ok(left) => unflushed = left,
+            Ok(count) => flushed = count,
         }
     }
     Ok(values)

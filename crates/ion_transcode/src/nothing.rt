@@ -10,6 +10,7 @@ use ion_meter::meter::Meter;
 use ion_meter::sink::Sink;
 use ion_value::item::Item;
 use ion_value::names::Names;
+use ion_value::plain_item::PlainItem;
 use ion_value::writer::ValueWriter;
 use std::alloc::Allocator;
 
@@ -76,6 +77,16 @@ impl<O: Output, A: Allocator + Copy> ValueWriter<O, A> for NoWriter {
             self.failed = Some(fault);
         }
         outcome
+    }
+
+    #[inline(always)]
+    fn take_plain(
+        &mut self,
+        _meter: &mut Meter<A>,
+        _sink: &mut Sink<O, A>,
+        _item: PlainItem<'_, '_>,
+    ) -> bool {
+        true
     }
 
     ghost grows = { λ limits path item none. refl };

@@ -2,15 +2,17 @@
 
 use super::devices::Giving;
 use super::hex::behind_marker;
-use super::runs::LIMITS;
+use super::runs::{LIMITS, text};
 use ion_meter::fault::{Fault, Reason};
 use ion_meter::limits::Limits;
 use ion_meter::meter::Meter;
-use ion_meter::stream::FromRead;
+use ion_meter::stream::{FromRead, ToWrite};
+use ion_symbols::catalog::Catalog;
 use ion_transcode::load::load_catalog;
-use ion_transcode::run::bound;
+use ion_transcode::run::{bound, run};
 use ion_transcode::to::{Form, To};
 use std::alloc::Global;
+use std::fmt::Write;
 use std::io::Read;
 use std::process::Abort;
 use std::test::Fail;
@@ -220,5 +222,81 @@ fn faults(rt: HostRuntime) -> Result<(), Fail> {
         fault_of(&rt, rt.alloc(), LIMITS, reader),
         Some(Fault::ReadFault)
     );
+    Ok(())
+}
+
+/// Names in order of bytes, of which each has 30 versions in `many_tables`: 2, 4 and so on.
+const NAMES: [&str; 10] = ["$", "A", "a", "aa", "ab", "b", "x", "xy", "y", "\u{E9}"];
+
+/// A catalogue of 300 tables, each with one text, its name and version.
+fn many_tables(rt: &impl Abort, alloc: Global) -> Result<String, Fail> {
+    let mut tables = String::new(alloc);
+    for number in 0..300_usize {
+        // A factor that has no divisor with 300, so that each comes once, in no order.
+        let rank = number * 77 % 300;
+        let Some(name) = NAMES.get(rank / 30) else {
+            panic!(rt; "no rank {rank}")
+        };
+        let version = rank % 30 * 2 + 2;
+        write!(tables, "$9::{{name:\"{name}\",version:{version},")?;
+        write!(tables, "symbols:[\"{name} {version}\"]}}")?;
+    }
+    Ok(tables)
+}
+
+/// Asserts that an import of a name and a version stands for the text of the version that is wanted.
+fn expect_import(
+    rt: &impl Abort,
+    alloc: Global,
+    catalog: &Catalog<Global>,
+    name: &str,
+    version: u32,
+    want: u32,
+) -> Result<(), Fail> {
+    let declared = format!(in alloc; "name:\"{name}\",version:{version},max_id:1")?;
+    let stream = format!(in alloc; "$3::{{imports:[{{{declared}}}]}} $10")?;
+    let written = format!(in alloc; "'{name} {want}'\n")?;
+    let mut meter = Meter::new(alloc);
+    let input = FromRead::new(stream.as_bytes());
+    let output = ToWrite::new(Vec::new(alloc));
+    let (outcome, _input, output) = run(&mut meter, catalog, LIMITS, To::Text, input, output);
+    assert_eq!(rt; outcome, text(1));
+    let output = output.into_inner();
+    assert_eq!(rt; output.as_slice(), written.as_bytes());
+    Ok(())
+}
+
+/// Versions that are asked for, and which are taken: where one is not there, the greatest.
+const TAKEN: [(u32, u32); 8] = [
+    (2, 2),
+    (30, 30),
+    (60, 60),
+    (1, 60),
+    (3, 60),
+    (59, 60),
+    (61, 60),
+    (2_147_483_648, 60),
+];
+
+#[test]
+fn an_import_takes_its_version_or_the_greatest(rt: HostRuntime) -> Result<(), Fail> {
+    let alloc = rt.alloc();
+    let tables = many_tables(&rt, alloc)?;
+    let mut meter = Meter::new(alloc);
+    let input = FromRead::new(tables.as_bytes());
+    let (outcome, _input) = load_catalog(&mut meter, LIMITS, input);
+    match outcome {
+        Err(_) => panic!(rt; "no catalogue"),
+        Ok(catalog) => {
+            assert_eq!(rt; catalog.len(), 300);
+            for name in NAMES {
+                for (version, want) in TAKEN {
+                    expect_import(&rt, alloc, &catalog, name, version, want)?;
+                }
+            }
+            catalog.release(&mut meter);
+            assert_eq!(rt; meter.held(), 0);
+        }
+    }
     Ok(())
 }

@@ -32,3 +32,5 @@ pub mod Outcomes
 pub mod ValueRows
 pub mod Cursors
 pub mod Passing
+mod Words
+pub mod Handing

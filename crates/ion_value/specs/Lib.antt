@@ -17,6 +17,8 @@ pub mod Calls
 pub mod Standing
 pub mod Writable
 pub mod Outcome
+pub mod PlainItems
+pub mod Feeding
 pub mod TimestampFields
 pub mod TimestampRuns
 pub mod DigitReading

@@ -117,6 +117,10 @@ version_word = codes "$ion_1_0"
 abbrev pub is_plain : List ℕ → Bool
 is_plain name = is_identifier name && is_none (keyword name) && not (is_id name) && not (is_version name)
 
+-- such a text that does not begin with a dollar sign, as all texts do that mean something to symbol tables
+abbrev pub is_simple : List ℕ → Bool
+is_simple name = is_plain name && not (first_is (λ b. b == 36) name)
+
 -- ---- operators
 
 -- whether a byte is one of a list

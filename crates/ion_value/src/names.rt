@@ -1,5 +1,6 @@
 //! The texts that ids stand for.
-ghost use Rattle.std.specs.Prelude.{◌≡◌, ℕ, List, Option, Some, None, MatchOption};
+ghost use Rattle.std.specs.Prelude.{◌≡◌, ℕ, List, Option, Some, None, true, MatchOption, IfSome};
+ghost use Rattle.ion_value.specs.Name.{is_simple};
 
 /// A symbol table as items see it: which ids have a text.
 pub trait Names {
@@ -10,6 +11,12 @@ pub trait Names {
     fn text_of(&self, id: u32) -> Option<&[u8]>
         ensures { MatchOption result (text self.now id ≡ None)
             (λ t. text self.now id ≡ Some t.now) };
+
+    /// The text of an id, where it has one that is simple: an identifier that means nothing else and
+    /// does not begin with a dollar sign. It may answer none of such an id too.
+    fn simple_text(&self, id: u32) -> Option<&[u8]>
+        ensures { IfSome result (λ t. (text self.now id ≡ Some t.now)
+            × (is_simple t.now ≡ true)) };
 }
 
 /// No id has a text, so that ids stay ids.
@@ -20,6 +27,10 @@ impl Names for NoNames {
     ghost text = { λ _ _. None };
 
     fn text_of(&self, _id: u32) -> Option<&[u8]> {
+        None
+    }
+
+    fn simple_text(&self, _id: u32) -> Option<&[u8]> {
         None
     }
 }

@@ -1,20 +1,33 @@
 //! What reads items.
-ghost use Rattle.std.specs.Prelude.{◌≡◌, ℕ, ◌-◌, ◌^◌, ◌<◌, ◌≤◌, ◌↔◌, ◌≢◌, List, length, Option, Some, None, Ok, Err, true, false, IfErr};
+ghost use Rattle.std.specs.Prelude.{◌≡◌, ℕ, ◌+◌, ◌-◌, ◌^◌, ◌<◌, ◌≤◌, ◌↔◌, ◌≢◌, List, length, Option, Some, None, Ok, Err, true, false, IfErr};
 ghost use Rattle.ion_meter.specs.declared.fault.Reason.{Reason};
 ghost use Rattle.ion_meter.specs.declared.fault.Fault.{Fault};
 ghost use Rattle.ion_meter.specs.declared.fault.Fault.TheVariants.{Refused};
 ghost use Rattle.ion_value.specs.declared.ion_type.Kind.{Kind};
 ghost use Rattle.ion_value.specs.Value.{PlacedItem};
-ghost use Rattle.ion_value.specs.Items.{raw_item};
+ghost use Rattle.ion_value.specs.Items.{named_item, raw_item};
+ghost use Rattle.ion_value.specs.Feeding.{CanTake, Feeds, StaysWell};
 ghost use Rattle.ion_value.specs.Reading.{Reading, Finished, Stopped, More};
 ghost use Rattle.ion_value.specs.Shares.{Charges, ReadCauses, fault_of};
 ghost use Rattle.ion_value.specs.Standing.{Fits, open_after, ReadsWithin};
 
 use crate::item::Item;
-use crate::names::NoNames;
+use crate::names::{Names, NoNames};
+use crate::writer::ValueWriter;
+use ion_meter::device::Output;
 use ion_meter::fault::Fault;
 use ion_meter::meter::Meter;
+use ion_meter::sink::Sink;
 use std::alloc::Allocator;
+
+/// What a call of `feed` did.
+#[derive(Clone, Copy)]
+pub struct Fed {
+    /// How many values at top level ended.
+    pub values: u64,
+    /// How many containers are open behind the items.
+    pub level: u32,
+}
 
 /// What reads a stream one item at a time, symbols as the stream has them.
 ///
@@ -122,6 +135,55 @@ pub trait RawReader<A: Allocator + Copy> {
     fn item(&self) -> Item<'_, NoNames>
         requires { lends self.now }
         ensures { raw_item result ≡ current self.now };
+
+    /// Hands items to a writer, as many of those that lie whole in the window as both can take without
+    /// a device and without a fault: those whose symbols are simple texts, by the names that are given.
+    /// The items behind them are for `next`.
+    fn feed<N: Names, W: ValueWriter<O, A>, O: Output>(
+        &mut self,
+        meter: &mut Meter<A>,
+        names: &N,
+        writer: &mut W,
+        sink: &mut Sink<O, A>,
+    ) -> Fed
+        requires room { meter.old.held ≤ 2 ^ 61 }
+        requires held { own self.old + W.own writer.old ≤ meter.old.held }
+        requires countable { meter.old.refused < 2 ^ 64 - 1 }
+        requires sound { sound self.old }
+        requires fresh { failed self.old ≡ None }
+        requires writer { CanTake W.ValueWriter (depth self.old) (opened self.old)
+            writer.old sink.old }
+        ensures sound { sound self.new }
+        ensures observable { observable self.new ↔ observable self.old }
+
+        // The items.
+        ensures feeds { Feeds W.ValueWriter (named_item (N.text names.now)) (observable self.old)
+            (record {
+              coming = reading self.old;
+              opened = opened self.old;
+              writer = writer.old;
+              pending = sink.old.pending;
+              values = 0;
+            })
+            (record {
+              coming = reading self.new;
+              opened = opened self.new;
+              writer = writer.new;
+              pending = sink.new.pending;
+              values = result.values;
+            }) }
+        ensures level { result.level ≡ length (opened self.new) }
+        ensures falls { result.values + left self.new ≤ left self.old }
+
+        // What stays, and memory.
+        ensures same { (failed self.new ≡ failed self.old) × (depth self.new ≡ depth self.old)
+            × (most self.new ≡ most self.old) × (failures self.new ≡ failures self.old) }
+        ensures exceeds { exceeds self.new ↔ exceeds self.old }
+        ensures bytes_left { bytes_left self.new → bytes_left self.old }
+        ensures writer { StaysWell W.ValueWriter writer.old writer.new sink.old sink.new
+            meter.old meter.new }
+        ensures charges { Charges meter.old meter.new (own self.old + W.own writer.old)
+            (own self.new + W.own writer.new) (most self.old + W.most writer.old) };
 
     /// Whether the next call of `next` may read from a device that gave less than was asked for, and
     /// so may have to wait. What was put of the items so far is best written before that.

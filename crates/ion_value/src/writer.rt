@@ -1,5 +1,5 @@
 //! What writes items.
-ghost use Rattle.std.specs.Prelude.{◌≡◌, ℕ, ◌+◌, ◌-◌, ◌^◌, ◌<◌, ◌≤◌, ◌↔◌, ◌≢◌, ◌∷◌, ◌++◌, List, [], Option, Some, None, Ok, Err, OnErr, OnOk};
+ghost use Rattle.std.specs.Prelude.{◌≡◌, true, false, ℕ, ◌+◌, ◌-◌, ◌^◌, ◌<◌, ◌≤◌, ◌↔◌, ◌≢◌, ◌∷◌, ◌++◌, List, [], Option, Some, None, Ok, Err, OnErr, OnOk};
 ghost use Rattle.ion_meter.specs.declared.fault.Reason.{Reason};
 ghost use Rattle.ion_meter.specs.declared.fault.Fault.{Fault};
 ghost use Rattle.ion_meter.specs.declared.fault.Fault.TheVariants.{Refused, Memory, WriteFault};
@@ -7,11 +7,13 @@ ghost use Rattle.ion_meter.specs.declared.limits.Limits.{Limits};
 ghost use Rattle.ion_meter.specs.Windows.{so_far, Puts, PutsPart, HasPrefix};
 ghost use Rattle.ion_value.specs.Value.{PlacedItem};
 ghost use Rattle.ion_value.specs.Items.{item_of};
+ghost use Rattle.ion_value.specs.PlainItems.{IsSimple, placed_item};
 ghost use Rattle.ion_value.specs.Shares.{Charges, MemoryCauses, WriteCauses, fault_of};
 ghost use Rattle.ion_value.specs.Standing.{Continues, WritesWithin};
 
 use crate::item::Item;
 use crate::names::Names;
+use crate::plain_item::PlainItem;
 use ion_meter::device::Output;
 use ion_meter::fault::Fault;
 use ion_meter::meter::Meter;
@@ -139,6 +141,46 @@ pub trait ValueWriter<O: Output, A: Allocator + Copy> {
         ensures charges { Charges meter.old meter.new
             (own self.old) (own self.new) (most self.old) }
         ensures most { most self.new ≡ most self.old };
+
+    /// Takes such an item as `item` does, or declines it: then it answers false, and nothing is
+    /// changed. Nothing fails, and no device is used.
+    fn take_plain(
+        &mut self,
+        meter: &mut Meter<A>,
+        sink: &mut Sink<O, A>,
+        item: PlainItem<'_, '_>,
+    ) -> bool
+        requires room { meter.old.held ≤ 2 ^ 62 }
+        requires held { own self.old ≤ meter.old.held }
+        requires countable { meter.old.refused < 2 ^ 64 - 1 }
+        requires sound { sound self.old }
+        requires fresh { failed self.old ≡ None }
+        requires well { sink.old.fault ≡ None }
+        requires simple { IsSimple (placed_item item) }
+        requires path { (path : List PlacedItem) × stands self.old path
+            × Continues (limits self.old) path (placed_item item) }
+        ensures sound { sound self.new }
+
+        // What is put, for whatever items the writer stands behind.
+        ensures stands { result ≡ true → (path : List PlacedItem) → stands self.old path
+            → Continues (limits self.old) path (placed_item item.entry)
+            → stands self.new (path ++ placed_item item.entry ∷ [])
+            × (refusal (limits self.old) path (placed_item item.entry) ≡ None) }
+        ensures puts { result ≡ true → (path : List PlacedItem) → stands self.old path
+            → Continues (limits self.old) path (placed_item item.entry)
+            → sink.new.pending
+            ≡ sink.old.pending ++ adds (limits self.old) path (placed_item item.entry) }
+        ensures declines { result ≡ false
+            → (self.new ≡ self.old) × (sink.new ≡ sink.old) × (meter.new ≡ meter.old) }
+
+        // What stays.
+        ensures same { (failed self.new ≡ failed self.old) × (limits self.new ≡ limits self.old)
+            × (most self.new ≡ most self.old) }
+        ensures device { (sink.new.device ≡ sink.old.device)
+            × (sink.new.fault ≡ sink.old.fault) }
+        ensures counted { meter.new.refused ≡ meter.old.refused }
+        ensures charges { Charges meter.old meter.new
+            (own self.old) (own self.new) (most self.old) };
 
     /// What is put for one item more.
     ghost grows: { (limits : Limits) (path : List PlacedItem) (item : PlacedItem)

@@ -391,6 +391,33 @@ fn write_on<O: Output + Drop>(
     sink.release(&mut meter)
 }
 
+/// Puts a byte and then these, for which the window has room. Behind them it has room for so many.
+fn put_within<O: Output, A: Allocator + Copy>(
+    rt: &impl Abort,
+    sink: &mut Sink<O, A>,
+    bytes: &[u8],
+    room: usize,
+) {
+    assert!(rt; bytes.len() < sink.room());
+    sink.put_byte(b'>');
+    sink.put_within(bytes);
+    same(rt, sink.room(), room);
+}
+
+#[test]
+fn bytes_are_put_where_the_window_has_room(rt: HostRuntime) {
+    let mut meter = Meter::new(rt.alloc());
+    let mut sink = sink_on(&rt, &mut meter, ToWrite::new(Vec::new(rt.alloc())));
+    same(&rt, sink.room(), 4_096);
+    put_within(&rt, &mut sink, b"ab", 4_093);
+    put_within(&rt, &mut sink, b"", 4_092);
+    same(&rt, sink.put(b"c"), Ok(()));
+    same(&rt, sink.flush(), Ok(()));
+    same(&rt, sink.room(), 4_096);
+    let written = sink.release(&mut meter).into_inner();
+    same(&rt, written.as_slice(), b">ab>c".as_slice());
+}
+
 /// Asserts what such an output has taken, and its calls and failures.
 fn has_taken(rt: &impl Abort, device: Narrow, taken: &[u8], calls: usize, failures: u64) {
     same(rt, device.taken.as_slice(), taken);

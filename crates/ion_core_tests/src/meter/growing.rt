@@ -98,6 +98,34 @@ impl<A: Allocator + Copy> Growing<A> for Priced<A> {
     }
 }
 
+/// Two tables with known costs. The second has the entries of the first, the last one first.
+#[derive(Drop)]
+struct Paired<A: Allocator + Copy> {
+    table: Table<u8, A>,
+    others: Table<u8, A>,
+    ghost cost: { table.cost ≡ 24 },
+    ghost other_cost: { others.cost ≡ 8 },
+}
+
+impl<A: Allocator + Copy> Growing<A> for Paired<A> {
+    fn contents(&self) -> &[u8] {
+        self.table.as_slice()
+    }
+
+    fn make(&mut self, rt: &impl Abort, meter: &mut Meter<A>, call: Call) -> Result<(), Fault> {
+        counts_of(rt, meter);
+        let Call::Push(entry) = call else {
+            panic!(rt; "no call of two tables")
+        };
+        let others = &mut self.others;
+        let pushed = self.table.push_and_insert(others, meter, entry, 0, entry);
+        let answer = handed_back(rt, pushed, entry);
+        let length = self.table.as_slice().len();
+        same(rt, self.others.as_slice().len(), length);
+        answer
+    }
+}
+
 /// Bytes whose every growth is a slice that is put in.
 #[derive(Drop)]
 struct Spliced<A: Allocator + Copy> {
@@ -211,6 +239,20 @@ pub fn grow_table(rt: &impl Abort, alloc: Global, refusing: &Refusing<Global>) -
     grow_often(rt, alloc, &mut meter, &mut Priced { table }, 4_800)
 }
 
+pub fn grow_two_tables(rt: &impl Abort, alloc: Global, refusing: &Refusing<Global>) -> u64 {
+    let mut meter = Meter::new(refusing);
+    let table = Table::new(&meter, 24);
+    let others = Table::new(&meter, 8);
+    let mut paired = Paired { table, others };
+    for entry in 0..40 {
+        grow(rt, alloc, &mut meter, &mut paired, Call::Push(entry));
+    }
+    same(rt, meter.held(), 1_280);
+    same(rt, meter.peak(), 1_280);
+    same(rt, paired.others.as_slice().first(), Some(&39));
+    meter.refused()
+}
+
 /// Four of the pushes are refused, then the extension, then an insertion.
 const REFUSALS: u64 = 6;
 
@@ -227,4 +269,10 @@ fn each_grows_past_each_refusal(rt: HostRuntime) {
         let runs = refuse_each(&rt, rt.alloc(), *script);
         same(&rt, (*name, runs), (*name, REFUSALS));
     }
+}
+
+// Of each table four growths.
+#[test]
+fn two_tables_grow_past_each_refusal(rt: HostRuntime) {
+    same(&rt, refuse_each(&rt, rt.alloc(), Script::TwoTables), 8);
 }

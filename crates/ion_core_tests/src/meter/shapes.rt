@@ -23,6 +23,10 @@ enum ByteCall<'a> {
     Extend(&'a [u8]),
     Insert(usize, u8),
     InsertSlice(usize, &'a [u8]),
+    /// Whether these and more behind them are added, since there is room.
+    ExtendIfRoom(&'a [u8], &'a [u8], bool),
+    /// Whether these are put in, since there is room.
+    InsertIfRoom(usize, &'a [u8], bool),
     Set(usize, u8),
     Pop(Option<u8>),
     Truncate(usize),
@@ -47,6 +51,14 @@ fn call_buf(rt: &impl Abort, meter: &mut Meter<Global>, buf: &mut Buf<Global>, c
         ByteCall::InsertSlice(place, bytes) => {
             assert!(rt; place <= length && bytes.len() < 1_000);
             same(rt, buf.insert_slice(meter, place, bytes), Ok(()));
+        }
+        ByteCall::ExtendIfRoom(bytes, more, added) => {
+            assert!(rt; bytes.len() < 1_000 && more.len() < 1_000);
+            same(rt, buf.extend_if_room(meter, bytes, more), added);
+        }
+        ByteCall::InsertIfRoom(place, bytes, added) => {
+            assert!(rt; place <= length && bytes.len() < 1_000);
+            same(rt, buf.insert_if_room(meter, place, bytes), added);
         }
         ByteCall::Set(place, byte) => {
             assert!(rt; place < length);
@@ -95,17 +107,31 @@ const PUT_IN: &[(ByteCall, &[u8])] = &[
     (ByteCall::InsertSlice(1, b"xy"), b"axyb"),
 ];
 
+const WHERE_ROOM_IS: &[(ByteCall, &[u8])] = &[
+    (ByteCall::ExtendIfRoom(b"a", b"b", false), b""),
+    (ByteCall::InsertIfRoom(0, b"a", false), b""),
+    (ByteCall::Extend(b"abcdefgh"), b"abcdefgh"),
+    // What is taken off leaves its room.
+    (ByteCall::Truncate(1), b"a"),
+    (ByteCall::ExtendIfRoom(b"xy", b"z", true), b"axyz"),
+    (ByteCall::InsertIfRoom(1, b"bc", true), b"abcxyz"),
+    (ByteCall::ExtendIfRoom(b"12", b"", true), b"abcxyz12"),
+];
+
 #[test]
 fn bytes_are_put_in_and_taken_off(rt: HostRuntime) {
     follow_buf(&rt, rt.alloc(), CUT, 4);
     follow_buf(&rt, rt.alloc(), TAKEN_OFF, 2);
     follow_buf(&rt, rt.alloc(), PUT_IN, 4);
+    follow_buf(&rt, rt.alloc(), WHERE_ROOM_IS, 8);
 }
 
 /// A call on entries.
 #[derive(Clone, Copy)]
 enum EntryCall<'a> {
     Push(u32),
+    /// Whether this is added, since there is room.
+    PushWithin(u32, bool),
     Extend(&'a [u32]),
     Insert(usize, u32),
     Set(usize, u32),
@@ -127,6 +153,7 @@ fn call_stack(
     assert!(rt; 16 * length as u64 <= meter.held());
     match call {
         EntryCall::Push(entry) => same(rt, stack.push(meter, entry), Ok(())),
+        EntryCall::PushWithin(entry, added) => same(rt, stack.push_within(meter, entry), added),
         EntryCall::Extend(entries) => {
             assert!(rt; entries.len() < 1_000);
             same(rt, stack.extend(meter, entries), Ok(()));
@@ -146,12 +173,14 @@ fn call_stack(
 }
 
 const STACK: &[(EntryCall, &[u32], u64)] = &[
+    (EntryCall::PushWithin(1, false), &[], 0),
     (EntryCall::Extend(&[1, 2]), &[1, 2], 32),
     (EntryCall::Set(0, 7), &[7, 2], 32),
     (EntryCall::Pop(Some(2)), &[7], 16),
     (EntryCall::Insert(0, 5), &[5, 7], 32),
     (EntryCall::Push(9), &[5, 7, 9], 48),
     (EntryCall::Truncate(1), &[5], 16),
+    (EntryCall::PushWithin(6, true), &[5, 6], 32),
     (EntryCall::Clear, &[], 0),
     (EntryCall::Push(3), &[3], 16),
 ];
@@ -187,6 +216,7 @@ fn call_table(
     assert!(rt; 24 * length as u64 <= meter.held());
     match call {
         EntryCall::Push(entry) => same(rt, table.push(meter, entry), Ok(())),
+        EntryCall::PushWithin(entry, added) => same(rt, table.push_within(meter, entry), added),
         EntryCall::Extend(entries) => {
             assert!(rt; entries.len() < 1_000);
             same(rt, table.extend(meter, entries), Ok(()));
@@ -206,12 +236,14 @@ fn call_table(
 }
 
 const TABLE: &[(EntryCall, &[u32], u64)] = &[
+    (EntryCall::PushWithin(1, false), &[], 0),
     (EntryCall::Push(7), &[7], 24),
     (EntryCall::Set(0, 8), &[8], 24),
     (EntryCall::Extend(&[1, 2]), &[8, 1, 2], 72),
     (EntryCall::Insert(1, 5), &[8, 5, 1, 2], 96),
     (EntryCall::Pop(Some(2)), &[8, 5, 1], 72),
     (EntryCall::Truncate(1), &[8], 24),
+    (EntryCall::PushWithin(6, true), &[8, 6], 48),
     (EntryCall::Clear, &[], 0),
     (EntryCall::Push(3), &[3], 24),
 ];
@@ -229,6 +261,39 @@ fn an_entry_of_a_table_has_its_cost(rt: HostRuntime) {
     table.release(&mut meter);
     same(&rt, meter.held(), 0);
     same(&rt, meter.peak(), 96);
+}
+
+/// Adds an entry and bytes, if both have room.
+fn push_both(
+    rt: &impl Abort,
+    meter: &mut Meter<Global>,
+    table: &mut Table<u32, Global>,
+    bytes: &mut Buf<Global>,
+    added: bool,
+)
+    requires cost { table.old.cost ≡ 24 }
+    ensures cost { table.new.cost ≡ 24 }
+{
+    counts_of(rt, meter);
+    same(rt, table.push_with(bytes, meter, 7, b"ab"), added);
+}
+
+#[test]
+fn an_entry_and_bytes_are_added_where_both_have_room(rt: HostRuntime) {
+    let mut meter = Meter::new(rt.alloc());
+    let mut table = Table::new(&meter, 24);
+    let mut bytes = Buf::new(&meter);
+    push_both(&rt, &mut meter, &mut table, &mut bytes, false);
+    call_buf(&rt, &mut meter, &mut bytes, ByteCall::Extend(b"xyz"));
+    call_buf(&rt, &mut meter, &mut bytes, ByteCall::Clear);
+    push_both(&rt, &mut meter, &mut table, &mut bytes, false);
+    same(&rt, (bytes.as_slice().len(), meter.held()), (0, 0));
+    call_table(&rt, &mut meter, &mut table, EntryCall::Push(5));
+    call_table(&rt, &mut meter, &mut table, EntryCall::Clear);
+    push_both(&rt, &mut meter, &mut table, &mut bytes, true);
+    same(&rt, table.as_slice(), [7].as_slice());
+    same(&rt, bytes.as_slice(), b"ab".as_slice());
+    same(&rt, (meter.held(), meter.peak()), (26, 26));
 }
 
 #[test]
@@ -286,6 +351,21 @@ fn limits_are_checked(rt: HostRuntime) {
     for limits in above {
         same(&rt, (limits, limits.check()), (limits, false));
     }
+}
+
+/// The limits that README names as defaults, and 2^48 bytes of input.
+const DEFAULT: Limits = Limits {
+    depth: 64,
+    scalar: 1_048_576,
+    symbols: 1_048_576,
+    value: 16_777_216,
+    input: 281_474_976_710_656,
+};
+
+#[test]
+fn default_limits_are_those_that_are_documented(rt: HostRuntime) {
+    same(&rt, Limits::default(), DEFAULT);
+    assert!(rt; Limits::default().check());
 }
 
 #[test]

@@ -233,3 +233,86 @@ const BY_NAME_AND_VERSION: &[Step] = &[
 fn a_table_is_found_by_name_and_version(rt: HostRuntime) {
     follow(&rt, rt.alloc(), BY_NAME_AND_VERSION);
 }
+
+/// Names in order of bytes.
+const NAMES: [&str; 20] = [
+    "$",
+    "$ion_",
+    "A",
+    "B",
+    "Z",
+    "a",
+    "aa",
+    "aaa",
+    "ab",
+    "b",
+    "ba",
+    "bb",
+    "c",
+    "ca",
+    "x",
+    "xy",
+    "xyz",
+    "y",
+    "\u{E9}",
+    "\u{10000}",
+];
+
+/// How many tables there are, and how many of one name.
+const MANY: usize = 300;
+
+const OF_ONE_NAME: usize = 15;
+
+/// In which order tables are added.
+#[derive(Clone, Copy)]
+enum Order {
+    Ascending,
+    Descending,
+    Mixed,
+}
+
+/// The rank of the table that is added behind so many.
+fn rank_in(order: Order, number: usize) -> usize
+    requires { number < MANY }
+{
+    match order {
+        Order::Ascending => number,
+        Order::Descending => MANY - 1 - number,
+        // A factor that has no divisor with 300, so that each comes once, in no order.
+        Order::Mixed => number * 77 % MANY,
+    }
+}
+
+/// The name and the version at a rank. Versions are even.
+fn table_at(rt: &impl Abort, rank: usize) -> (&'static str, u32) {
+    let Some(name) = NAMES.get(rank / OF_ONE_NAME) else {
+        panic!(rt; "no rank {rank}")
+    };
+    (*name, (rank % OF_ONE_NAME) as u32 * 2 + 2)
+}
+
+/// Asserts that many tables that are added in an order are found, and no others.
+fn add_many(rt: &impl Abort, alloc: Global, order: Order) {
+    let mut shelf = Shelf::new(alloc);
+    for number in 0..MANY {
+        let (name, version) = table_at(rt, rank_in(order, number));
+        shelf.expect(rt, Step::Missing(name, version));
+        shelf.expect(rt, Step::Add(name, version, &[Some(name)]));
+        shelf.expect(rt, Step::Found(name, version, &[Some(name)]));
+    }
+    same(rt, shelf.catalog.len(), MANY);
+    for rank in 0..MANY {
+        let (name, version) = table_at(rt, rank);
+        shelf.expect(rt, Step::Found(name, version, &[Some(name)]));
+        shelf.expect(rt, Step::Missing(name, version ^ 1));
+        shelf.expect(rt, Step::Refused(name, version));
+    }
+    shelf.finish(rt);
+}
+
+#[test]
+fn many_tables_are_found_in_whatever_order_they_were_added(rt: HostRuntime) {
+    for order in [Order::Ascending, Order::Descending, Order::Mixed] {
+        add_many(&rt, rt.alloc(), order);
+    }
+}

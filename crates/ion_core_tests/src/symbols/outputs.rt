@@ -40,6 +40,10 @@ fn start(rt: &impl Abort, alloc: Global, symbols: u64) -> Texting
 enum Step<'a> {
     /// The id of a text.
     Id(&'a str, Option<u32>),
+    /// The id of a text, found without a search where it has one.
+    Give(&'a str, Option<u32>),
+    /// The id that a text has.
+    Known(&'a str, Option<u32>),
     /// The texts from an id on.
     Since(u32, &'a [&'a str]),
     /// Where a text stands in order of bytes, or where it belongs.
@@ -63,6 +67,17 @@ impl Texting {
         assert!(rt; self.meter.held() < 1 << 32);
         assert!(rt; self.meter.refused() < 1 << 32);
         let given = self.texts.id_of(&mut self.meter, text.as_bytes());
+        same(rt, (text, given), (text, Ok(id)));
+    }
+
+    // Asserts the id of a text, which is found without a search where it has one.
+    fn expect_given(&mut self, rt: &impl Abort, text: &str, id: Option<u32>)
+        requires held { texts_cost self.old.texts.texts ≤ self.old.meter.held }
+        ensures held { texts_cost self.new.texts.texts ≤ self.new.meter.held }
+    {
+        assert!(rt; self.meter.held() < 1 << 32);
+        assert!(rt; self.meter.refused() < 1 << 32);
+        let given = self.texts.give_id(&mut self.meter, text.as_bytes());
         same(rt, (text, given), (text, Ok(id)));
     }
 
@@ -94,6 +109,10 @@ impl Texting {
     {
         match step {
             Step::Id(text, id) => self.expect_id(rt, text, id),
+            Step::Give(text, id) => self.expect_given(rt, text, id),
+            Step::Known(text, id) => {
+                same(rt, (text, self.texts.known(text.as_bytes())), (text, id));
+            }
             Step::Since(id, texts) => self.expect_since(rt, id, texts),
             Step::Place(text, place) => self.expect_place(rt, text, place),
             Step::Cost(cost) => {
@@ -109,6 +128,44 @@ impl Texting {
         }
     }
 
+    // Asserts which id the text of a number has, and which one it is given. No byte in which these texts
+    // differ is read for their bucket, so all of them are in one.
+    fn expect_in_bucket(
+        &mut self,
+        rt: &impl Abort,
+        alloc: Global,
+        number: u32,
+        known: Option<u32>,
+        given: u32,
+    )
+        requires held { texts_cost self.old.texts.texts ≤ self.old.meter.held }
+        ensures held { texts_cost self.new.texts.texts ≤ self.new.meter.held }
+    {
+        let Ok(text) = format!(in alloc; "aaaaaaaaaaaaaaaa{number}bbbbbbbbbbbbbbbb") else {
+            panic!(rt; "no memory")
+        };
+        same(
+            rt,
+            (number, self.texts.known(text.as_bytes())),
+            (number, known),
+        );
+        self.expect_given(rt, text.as_str(), Some(given));
+    }
+
+    // Asserts the ids of many texts of one bucket, which they have, or are given now.
+    fn expect_bucket(&mut self, rt: &impl Abort, alloc: Global, are_known: bool)
+        requires held { texts_cost self.old.texts.texts ≤ self.old.meter.held }
+        ensures held { texts_cost self.new.texts.texts ≤ self.new.meter.held }
+    {
+        for number in 0..IN_BUCKET {
+            // A factor that has no divisor with 3,000, so that each text comes once, in no order.
+            let name = number * 1_103 % IN_BUCKET + 1_000;
+            let id = number + 10;
+            let known = if are_known { Some(id) } else { None };
+            self.expect_in_bucket(rt, alloc, name, known, id);
+        }
+    }
+
     // Gives all back, after which nothing is held.
     fn finish(self, rt: &impl Abort)
         requires { texts_cost self.texts.texts ≤ self.meter.held }
@@ -119,6 +176,9 @@ impl Texting {
         same(rt, meter.held(), 0);
     }
 }
+
+/// How many texts share a bucket where many do, numbered with four digits.
+const IN_BUCKET: u32 = 3_000;
 
 /// Asserts what each call answers, on new texts of which the cost may be so much, and gives all back.
 fn follow(rt: &impl Abort, alloc: Global, symbols: u64, steps: &[Step]) {
@@ -204,6 +264,74 @@ fn system_texts_have_ids_without_probes(rt: HostRuntime) {
     follow(&rt, rt.alloc(), 1_024, SYSTEM);
 }
 
+const KNOWN: &[Step] = &[
+    Step::Known("b", None),
+    Step::Known("name", Some(4)),
+    Step::Give("b", Some(10)),
+    Step::Give("name", Some(4)),
+    Step::Give("", Some(11)),
+    Step::Id("abc", Some(12)),
+    Step::Give("b", Some(10)),
+    Step::Known("b", Some(10)),
+    Step::Known("", Some(11)),
+    Step::Known("abc", Some(12)),
+    Step::Known("abd", None),
+    Step::Known("$ion_shared_symbol_table", Some(9)),
+    Step::Probes(2, 2),
+    Step::Cost(3 * 16 + 1 + 3),
+    Step::Since(10, &["b", "", "abc"]),
+    Step::Clear,
+    Step::Known("b", None),
+    Step::Give("abc", Some(10)),
+    Step::Known("abc", Some(10)),
+];
+
+// Texts that differ in no byte that is read for their bucket, more than are compared there.
+const IN_ONE_BUCKET: &[Step] = &[
+    Step::Give("aaaaaaaaaaaaaaaa00bbbbbbbbbbbbbbbb", Some(10)),
+    Step::Give("aaaaaaaaaaaaaaaa07bbbbbbbbbbbbbbbb", Some(11)),
+    Step::Give("aaaaaaaaaaaaaaaa04bbbbbbbbbbbbbbbb", Some(12)),
+    Step::Give("aaaaaaaaaaaaaaaa09bbbbbbbbbbbbbbbb", Some(13)),
+    Step::Give("aaaaaaaaaaaaaaaa02bbbbbbbbbbbbbbbb", Some(14)),
+    Step::Give("aaaaaaaaaaaaaaaa06bbbbbbbbbbbbbbbb", Some(15)),
+    Step::Give("aaaaaaaaaaaaaaaa01bbbbbbbbbbbbbbbb", Some(16)),
+    Step::Give("aaaaaaaaaaaaaaaa08bbbbbbbbbbbbbbbb", Some(17)),
+    Step::Give("aaaaaaaaaaaaaaaa03bbbbbbbbbbbbbbbb", Some(18)),
+    Step::Give("aaaaaaaaaaaaaaaa05bbbbbbbbbbbbbbbb", Some(19)),
+    Step::Known("aaaaaaaaaaaaaaaa00bbbbbbbbbbbbbbbb", Some(10)),
+    Step::Known("aaaaaaaaaaaaaaaa07bbbbbbbbbbbbbbbb", Some(11)),
+    Step::Known("aaaaaaaaaaaaaaaa04bbbbbbbbbbbbbbbb", Some(12)),
+    Step::Known("aaaaaaaaaaaaaaaa05bbbbbbbbbbbbbbbb", Some(19)),
+    Step::Known("aaaaaaaaaaaaaaaa10bbbbbbbbbbbbbbbb", None),
+];
+
+#[test]
+fn a_text_that_has_an_id_is_known(rt: HostRuntime) {
+    follow(&rt, rt.alloc(), 1_024, KNOWN);
+    follow(&rt, rt.alloc(), 1_024, IN_ONE_BUCKET);
+}
+
+const BEHIND_THE_BUCKET: &[Step] = &[
+    Step::Known("aaaaaaaaaaaaaaaa4000bbbbbbbbbbbbbbbb", None),
+    Step::Known("aaaaaaaaaaaaaaaa0999bbbbbbbbbbbbbbbb", None),
+    Step::Id("aaaaaaaaaaaaaaaa1000bbbbbbbbbbbbbbbb", Some(10)),
+    Step::Since(3_009, &["aaaaaaaaaaaaaaaa2897bbbbbbbbbbbbbbbb"]),
+    Step::Cost(3_000 * (16 + 36)),
+    Step::Id("one more", Some(3_010)),
+];
+
+#[test]
+fn texts_of_one_bucket_have_their_ids(rt: HostRuntime) {
+    let mut texting = start(&rt, rt.alloc(), 1_048_576);
+    for known in [false, true] {
+        texting.expect_bucket(&rt, rt.alloc(), known);
+    }
+    for step in BEHIND_THE_BUCKET {
+        texting.expect(&rt, *step);
+    }
+    texting.finish(&rt);
+}
+
 const PAST_THE_LIMIT: &[Step] = &[
     Step::Id("ab", None),
     Step::Id("a", Some(10)),
@@ -256,6 +384,14 @@ const FEW_PROBES: &[Step] = &[
     Step::Id("text 0", Some(10)),
     Step::Id("text 1103", Some(11)),
     Step::Probes(1, 13),
+    // More texts than are looked for in buckets.
+    Step::Give("one more", Some(4_106)),
+    Step::Known("one more", Some(4_106)),
+    Step::Known("text 0", Some(10)),
+    Step::Known("text", None),
+    Step::Known("name", Some(4)),
+    Step::Give("text 1103", Some(11)),
+    Step::Give("another", Some(4_107)),
 ];
 
 #[test]

@@ -26,6 +26,9 @@ fn expect_texts(rt: &impl Abort, symbols: &Symbols<Global>) {
     for text in TEXTS {
         same(rt, (id, symbols.text(id)), (id, Slot::Known(text)));
         same(rt, (id, symbols.text_of(id)), (id, Some(text)));
+        // Those that do not begin with a dollar sign are simple.
+        let simple = if id < 4 || id == 9 { None } else { Some(text) };
+        same(rt, (id, symbols.simple_text(id)), (id, simple));
         assert!(rt; id < 10);
         id += 1;
     }
@@ -38,6 +41,7 @@ fn expect_no_texts(rt: &impl Abort, symbols: &Symbols<Global>) {
     for id in [10, 11, 2_147_483_648, u32::MAX] {
         same(rt, (id, symbols.text(id)), (id, Slot::Above));
         same(rt, (id, symbols.text_of(id)), (id, None));
+        same(rt, (id, symbols.simple_text(id)), (id, None));
     }
     same(rt, symbols.text_of(0), None);
 }

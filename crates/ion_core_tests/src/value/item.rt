@@ -17,6 +17,10 @@ impl Names for OneName {
     fn text_of(&self, id: u32) -> Option<&[u8]> {
         if id == 10 { Some(b"name") } else { None }
     }
+
+    fn simple_text(&self, id: u32) -> Option<&[u8]> {
+        self.text_of(id)
+    }
 }
 
 const ENTRIES: [Annotation; 3] = [
@@ -69,4 +73,5 @@ fn gives_ids_as_they_are_and_as_their_texts(rt: HostRuntime) {
 fn there_may_be_no_annotations_and_no_names(rt: HostRuntime) {
     assert!(rt; Annotations::new(&[], &[], &NoNames).is_empty());
     same(&rt, NoNames.text_of(10), None);
+    same(&rt, NoNames.simple_text(10), None);
 }

@@ -1,11 +1,12 @@
 //! Whole runs over devices in memory, and over a real file.
-ghost use Rattle.std.specs.Prelude.{⊤};
+ghost use Rattle.std.specs.Prelude.{⊤, ◌≡◌};
 
 use super::*;
 use crate::RealFiles;
 use ion_meter::stream::{FromRead, ToWrite};
-use std::fs;
+use std::io::Read;
 use std::test::Fail;
+use std::{fs, io};
 
 /// Two files in memory, by the names `file` and `c`.
 #[derive(Drop)]
@@ -17,7 +18,9 @@ struct TwoFiles {
 impl FileSource for TwoFiles {
     type File = &'static [u8];
 
-    ghost gives = { λ files name found. ⊤ };
+    ghost gives = { λ files name found after. ⊤ };
+
+    ghost closes = { λ files file after. ⊤ };
 
     fn open_named(&mut self, name: &str) -> Option<&'static [u8]> {
         match name {
@@ -26,6 +29,10 @@ impl FileSource for TwoFiles {
             _ => None,
         }
     }
+
+    fn close(&mut self, _file: UsedFile<&'static [u8]>)
+        ensures { ⊤ }
+    {}
 }
 
 /// What a run answers, and what it writes to standard output and to standard error.
@@ -383,6 +390,145 @@ fn takes_catalogues(rt: HostRuntime) -> Result<(), Fail> {
         assert_eq!(rt; answer.status, row.status);
         assert_eq!(rt; answer.out.as_slice(), row.out.as_bytes());
         assert_eq!(rt; answer.err.as_slice(), row.err.as_bytes());
+    }
+    Ok(())
+}
+
+/// A file in memory that ends behind its bytes, or fails there.
+#[derive(Drop)]
+struct Piece {
+    left: &'static [u8],
+    fails: bool,
+}
+
+impl Read for Piece {
+    fn read(&mut self, into: &mut [u8]) -> io::Result<usize> {
+        if self.left.is_empty() && self.fails {
+            return Err(io::ErrorKind::Other.into());
+        }
+        let n = self.left.len().min(into.len());
+        into[..n].copy_from_slice(&self.left[..n]);
+        self.left = &self.left[n..];
+        Ok(n)
+    }
+}
+
+/// Files of which the one called `broken` fails; how many were handed back, and how often the last
+/// one had failed.
+#[derive(Drop)]
+struct Kept {
+    closed: u32,
+    failures: u64,
+}
+
+impl FileSource for Kept {
+    type File = Piece;
+
+    ghost gives = { λ files name found after. after ≡ files };
+
+    ghost closes = { λ files file after. after.failures ≡ file.failures };
+
+    fn open_named(&mut self, name: &str) -> Option<Piece> {
+        let whole: &'static [u8] = b"\xE0\x01\x00\xEA\x21\x05";
+        let (left, fails): (&'static [u8], bool) = match name {
+            "whole" => (whole, false),
+            "broken" => (whole, true),
+            "empty" => (b"", false),
+            _ => return None,
+        };
+        Some(Piece { left, fails })
+    }
+
+    fn close(&mut self, file: UsedFile<Piece>)
+        ensures { self.new.failures ≡ file.failures }
+    {
+        self.closed = self.closed.saturating_add(1);
+        self.failures = file.failures();
+    }
+}
+
+/// Words, what they answer, and what was handed back.
+struct Closed {
+    words: &'static [&'static str],
+    status: u8,
+    out: &'static str,
+    err: &'static str,
+    closed: u32,
+    failures: u64,
+}
+
+const CLOSED: [Closed; 7] = [
+    Closed {
+        words: &["show", "whole"],
+        status: 0,
+        out: "5\n",
+        err: "",
+        closed: 1,
+        failures: 0,
+    },
+    Closed {
+        words: &["show", "broken"],
+        status: 3,
+        out: "5\n",
+        err: "read fault\n",
+        closed: 1,
+        failures: 1,
+    },
+    Closed {
+        words: &["show", "other"],
+        status: 3,
+        out: "",
+        err: "cannot open other\n",
+        closed: 0,
+        failures: 0,
+    },
+    Closed {
+        words: &["show", "--catalog", "empty", "whole"],
+        status: 0,
+        out: "5\n",
+        err: "",
+        closed: 2,
+        failures: 0,
+    },
+    Closed {
+        words: &["check", "--catalog", "empty", "broken"],
+        status: 3,
+        out: "",
+        err: "read fault\n",
+        closed: 2,
+        failures: 1,
+    },
+    Closed {
+        words: &["show", "--catalog", "broken", "whole"],
+        status: 3,
+        out: "",
+        err: "read fault\n",
+        closed: 1,
+        failures: 1,
+    },
+    Closed {
+        words: &["show", "--catalog", "whole", "broken"],
+        status: 1,
+        out: "",
+        err: "catalog refused CatalogEntry at 4\n",
+        closed: 1,
+        failures: 0,
+    },
+];
+
+#[test]
+fn hands_files_back_with_their_failures(rt: HostRuntime) -> Result<(), Fail> {
+    for row in &CLOSED {
+        let mut files = Kept {
+            closed: 0,
+            failures: 0,
+        };
+        let answer = served_from(rt.alloc(), row.words, &mut files, b"")?;
+        assert_eq!(rt; answer.status, row.status);
+        assert_eq!(rt; answer.out.as_slice(), row.out.as_bytes());
+        assert_eq!(rt; answer.err.as_slice(), row.err.as_bytes());
+        assert_eq!(rt; files.closed, row.closed);
+        assert_eq!(rt; files.failures, row.failures);
     }
     Ok(())
 }

@@ -12,7 +12,8 @@ returns-in-Ok-Run-clause-ran g c action limits run =
     let asks = rw (c.in-Ok-Run.field-0-is, c.as_slice.ensures.value) at c.in-Ok-Run.ensures.asks in
     let same = one_run _ action job.action limits job.limits None (option_map string_bytes tables) None (option_map string_bytes job.file) run asks.0 in
     let served = c.serve_run.ensures.plain (no_file string_bytes tables same.2) in
-    inl (rw (same.0, same.1) (rw (← same.3) at served))
+    let plain = rw (← same.3) at served in
+    (plain.0, inl (rw (same.0, same.1) plain.1))
 
 pub returns-in-Ok-Run-clause-file : goal.returns-in-Ok-Run-clause-file
 returns-in-Ok-Run-clause-file g c action limits name run =
@@ -37,14 +38,18 @@ returns-clause-ran g c action limits run =
     elim c.match-read_words.branch [
       | in-Ok-Help w ↦ let asks = rw (w.in-Ok-Help.field-0-is, c.as_slice.ensures.value) at w.in-Ok-Help.ensures.asks in elim (asks.0 (action, limits, None, None, run)) [ ]
       | in-Ok-Usage w ↦ let asks = rw (w.in-Ok-Usage.field-0-is, c.as_slice.ensures.value) at w.in-Ok-Usage.ensures.asks in elim (asks.0 (action, limits, None, None, run)) [ ]
-      | in-Err w ↦ inr (record {
-        some_words = rw c.as_slice.ensures.value at w.in-Err.ensures.some_words;
-        status_is = search rules;
-        memory = search rules;
-        input = search rules;
-        output = search rules;
-        said = search rules;
-      })
+      | in-Err w ↦ (
+        search rules,
+        inr (record {
+          some_words = rw c.as_slice.ensures.value at w.in-Err.ensures.some_words;
+          status_is = search rules;
+          memory = search rules;
+          files = search rules;
+          input = search rules;
+          output = search rules;
+          said = search rules;
+        }),
+      )
     ]
 
 pub returns-clause-file : goal.returns-clause-file
@@ -58,6 +63,7 @@ returns-clause-file g c action limits name run =
           some_words = rw c.as_slice.ensures.value at w.in-Err.ensures.some_words;
           status_is = search rules;
           memory = search rules;
+          files = search rules;
           input = search rules;
           output = search rules;
           said = search rules;
@@ -74,6 +80,7 @@ returns-clause-catalog g c action limits name file run =
         some_words = rw c.as_slice.ensures.value at w.in-Err.ensures.some_words;
         status_is = search rules;
         memory = search rules;
+        files = search rules;
         input = search rules;
         output = search rules;
         said = search rules;
@@ -108,6 +115,7 @@ returns-clause-other g c none =
         some_words = rw c.as_slice.ensures.value at w.in-Err.ensures.some_words;
         status_is = search rules;
         memory = search rules;
+        files = search rules;
         input = search rules;
         output = search rules;
         said = search rules;

@@ -1,10 +1,11 @@
-use Rattle.std.proofs.Common.{◌≡◌, ◌<◌, ◌≤◌, ◌++◌, ◌∷◌, ℕ, List, length, drop, sym, ap, subst, ◌∙◌, rules, arith}
+use Rattle.std.proofs.Common.{◌≡◌, ◌<◌, ◌≤◌, ◌*◌, ◌++◌, ◌∷◌, ℕ, List, length, drop, sym, ap, subst, ◌∙◌, rules, arith}
 use Rattle.std.proofs.lemmas.Grind.{common_steps}
 use Rattle.ion_binary.specs.declared.headers.HeaderPlace.{HeaderPlace}
-use Rattle.ion_binary.specs.Counting.{AreReached, IsCounted, counted_length}
+use Rattle.std.specs.List.{AllByRecursion}
+use Rattle.ion_binary.specs.Counting.{ArePlaced, AreReached, IsCounted, counted_length}
 use Rattle.ion_binary.specs.Grammar.{type_code}
 use Rattle.ion_binary.specs.Held.{begun_at, begun_headers, header_at, wrapper_headers}
-use Rattle.ion_binary.proofs.OpenSteps.{begun-few, begun-more, begun-placed, begun-reached, size-counted}
+use Rattle.ion_binary.proofs.OpenSteps.{begun-few, begun-more, begun-placed, begun-reached, counted-fits, size-counted}
 use Rattle.ion_binary.proofs.open_value.OpenValue.begin.Goals as goal
 
 pub closed_size-requires-clause-reached : goal.closed_size-requires-clause-reached
@@ -65,4 +66,20 @@ returns-then-closed_size-limits-clause-over g c is =
     omega (arith, t, size, sized, s)
 
 pub returns-clause-open : goal.returns-clause-open
-returns-clause-open g c = grind (arith, common_steps)
+returns-clause-open g c is =
+    let w = c.closed_size.new.self in
+    let placed : ArePlaced (length w.octets) w.headers = grind (arith, common_steps) in
+    let reached : AreReached w.counts (length w.octets) w.headers = grind (arith, common_steps) in
+    let codes : AllByRecursion (λ h. h.code < 16) w.headers = grind (arith, common_steps) in
+    let few : length w.headers ≤ 2 * c.args.limits.depth = grind (arith, common_steps) in
+    let n : length c.as_slice-2.result.now ≡ length w.octets = ap (λ (os : List ℕ). length os) c.as_slice-2.ensures ∙ ap (λ (os : List ℕ). length os) (sym c.closed_size.ensures.octets) in
+    let P : ℕ → Type 0 = λ k. IsCounted w.counts k w.headers in
+    let t = c.if-closed_size-limits.false in
+    let size = c.closed_size.ensures.size in
+    let long : counted_length w.counts (length c.as_slice-2.result.now) w.headers ≡ counted_length w.counts (length w.octets) w.headers = ap (λ k. counted_length w.counts k w.headers) n in
+    record {
+      placed = placed;
+      codes = codes;
+      reached = reached;
+      fits = counted-fits c.args.limits w.counts w.octets w.headers c.requires.can_step.checked placed few (subst P n c.closed_size.ensures.counted) (omega (arith, t, size, long));
+    }

@@ -77,7 +77,9 @@ returns-clause-open g c is =
     let long : length c.extend_some.new.octets ≡ n = let k = c.len-length.ensures in omega (arith, o, l, w, v, len, e, k) in
     let t = c.if-closed_size-limits.false in
     let size = c.closed_size.ensures.size in
-    opened c.args.limits c.args.self.now (record { octets = c.extend_some.new.octets; headers = c.closed_size.new.self.headers; counts = c.closed_size.new.self.counts }) c.args.place n c.requires.open
+    let few = c.requires.can_step.within.headers in
+    let same : length c.closed_size.new.self.headers ≡ length c.args.self.now.headers = ap (λ (gs : List HeaderPlace). length gs) c.closed_size.ensures.headers in
+    opened c.args.limits c.args.self.now (record { octets = c.extend_some.new.octets; headers = c.closed_size.new.self.headers; counts = c.closed_size.new.self.counts }) c.args.place n c.requires.can_step.checked (omega (arith, few, same)) c.requires.open
     (omega (arith, e, within)) long c.closed_size.ensures.headers c.closed_size.ensures.counted (omega (arith, t, size))
 
 pub returns-then-length-limits-clause-over : goal.returns-then-length-limits-clause-over

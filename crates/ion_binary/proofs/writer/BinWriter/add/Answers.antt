@@ -10,7 +10,7 @@ use Rattle.ion_binary.specs.Held.{Held, moved_headers, moved_octets, size_of, wi
 use Rattle.ion_binary.specs.ItemOctets.{head_name, user_head}
 use Rattle.ion_binary.specs.Writer.{added, held_in}
 use Rattle.ion_binary.specs.Writing.{first_over, item_symbols}
-use Rattle.ion_binary.proofs.WriterSteps.{front-name, front-octets, front-over, front-place, front-refused, headers-moved, may-follow, not-refused, octets-moved, open-size, refused-long, same-why}
+use Rattle.ion_binary.proofs.WriterSteps.{front-name, front-octets, front-over, front-place, front-refused, headers-moved, may-follow, not-refused, octets-moved, refused-long, same-why}
 use Rattle.ion_binary.proofs.writer.BinWriter.add.Goals as goal
 
 fits-of : (b : Bool) → not b ≡ false → b ≡ true
@@ -60,7 +60,7 @@ returns-in-Ok-true-clause-passes g c =
     c.in-Ok-true.ensures.octets (id_in n.texts) name ok ∙ octets-moved (held_in w) item c.in-Ok.front.ids c.put_front.new.buffer (raw_head c.head-head.result) place front head in
     let headers : c.take.new.self.headers ≡ (added (held_in w) item).headers =
     c.in-Ok-true.ensures.headers ok ∙ headers-moved (held_in w) item c.in-Ok.front.ids c.put_front.new.buffer (raw_head c.head-head.result) place front head in
-    let s = open-size w.limits c.take.new.self c.requires.can_take.sound.checked c.in-Ok-true.ensures.stepped.within (c.in-Ok-true.ensures.open ok) in
+    let s = (c.in-Ok-true.ensures.open ok).fits in
     let size : size_of c.take.new.self.octets c.take.new.self.headers ≡ size_of (added (held_in w) item).octets (added (held_in w) item).headers =
     ap (λ (os : List ℕ). size_of os c.take.new.self.headers) octets ∙ ap (size_of (added (held_in w) item).octets) headers in
     not-refused w.limits (held_in w) item none (omega (arith, s, size))

@@ -1,46 +1,34 @@
-use Rattle.std.proofs.Common.{◌≡◌, ◌<◌, ◌≤◌, ◌+◌, length, slice_index_or, ap, sym, subst, ◌∙◌, arith}
-use Rattle.std.proofs.lemmas.Grind.{common_steps}
+use Rattle.std.proofs.Common.{◌≡◌, true, false, sym, subst, ◌∙◌, arith}
 use Rattle.std.specs.Str.{bytes_eq}
-use Rattle.ion_symbols.proofs.Catalogued.{IsLess, greater_here, lesser_here, other_here}
+use Rattle.ion_symbols.specs.Table.{greatest}
+use Rattle.ion_symbols.proofs.Ranking.{orders_lent, versions_lent, found_lent, greatest_absent, greatest_last, greatest_other, no_greater_version}
 use Rattle.ion_symbols.proofs.catalog.Catalog.greatest.Goals as goal
-use Rattle.ion_symbols.proofs.catalog.Catalog.greatest.Goals.{then-eq+then-is_less, else-eq, else-eq-via-then-eq+else-is_less, else-eq-via-else-eq}
 
-pub loop-place-preserved : goal.loop-place-preserved
-loop-place-preserved g c =
-    let s = c.index-as_slice-place.result in
-    let i = c.loop-place.place in
-    let long : length c.as_slice.result.now ≡ length c.args.self.now = ap length (c.as_slice.ensures ∙ c.self.view_is) in
-    let h : i < length c.args.self.now = omega (arith, long, c.loop-place-test.true) in
-    let e : s ≡ slice_index_or c.args.self.now i s = c.index-as_slice-place.is ∙ ap (λ ss. slice_index_or ss i s) (c.as_slice-in-loop-place.ensures ∙ c.self.view_is) in
-    let named : c.eq.result ≡ bytes_eq s.name c.args.name.now = c.eq.ensures ∙ ap (λ n. bytes_eq n c.args.name.now) c.name.ensures in
-    let w2 : c.loop-place.place + 1 ≤ length c.args.self.now = omega (arith, h) in
-    elim c.if-eq.branch [
-      | then-eq+then-is_less w ↦ record {
-        within = w2;
-        found = greater_here c.args.self.now c.args.name.now i s c.loop-place.best c.if-eq.best w.is_less.result h e c.loop-place.invariant.found
-            (subst (λ v. IsLess c.args.self.now c.loop-place.best v w.is_less.result) w.version.ensures w.is_less.ensures) (sym named ∙ w.if-eq.true) w.if-is_less.true w.best-is;
-      }
-      | else-eq w ↦ elim w.else-eq.branch [
-        | else-eq-via-then-eq+else-is_less w' ↦ record {
-          within = w2;
-          found = lesser_here c.args.self.now c.args.name.now i s c.loop-place.best c.if-eq.best w'.is_less.result h e c.loop-place.invariant.found
-              (subst (λ v. IsLess c.args.self.now c.loop-place.best v w'.is_less.result) w'.version.ensures w'.is_less.ensures) (sym named ∙ w'.if-eq.true) w'.if-is_less.false w.best-is;
-        }
-        | else-eq-via-else-eq w' ↦ record {
-          within = w2;
-          found = other_here c.args.self.now c.args.name.now i s c.loop-place.best c.if-eq.best h e c.loop-place.invariant.found (sym named ∙ w'.if-eq.false) w.best-is;
-        }
-      ]
-    ]
+pub returns-in-Ok : goal.returns-in-Ok
+returns-in-Ok g c =
+    let h = orders_lent c.self.inside.tables.items c.as_slice-tables.result.now c.self.inside.order.items c.as_slice-order.result.now c.self.invariant.orders c.as_slice-tables.ensures c.as_slice-order.ensures in
+    let v = versions_lent c.self.inside.tables.items c.as_slice-tables.result.now c.self.invariant.versions c.as_slice-tables.ensures in
+    no_greater_version c.as_slice-tables.result.now c.as_slice-order.result.now c.args.name.now c.in-Ok.field-0 h v c.in-Ok.ensures.found
 
-pub returns : goal.returns
-returns g c = grind (arith, common_steps)
+pub returns-then-past-eq0 : goal.returns-then-past-eq0
+returns-then-past-eq0 g c =
+    let h = orders_lent c.self.inside.tables.items c.as_slice-tables.result.now c.self.inside.order.items c.as_slice-order.result.now c.self.invariant.orders c.as_slice-tables.ensures c.as_slice-order.ensures in
+    let v = versions_lent c.self.inside.tables.items c.as_slice-tables.result.now c.self.invariant.versions c.as_slice-tables.ensures in
+    found_lent (λ ts. greatest ts c.args.name.now) c.self.inside.tables.items c.as_slice-tables.result.now c.args.self.now _ c.self.view_is c.as_slice-tables.ensures
+    (greatest_absent c.as_slice-tables.result.now c.as_slice-order.result.now c.args.name.now c.in-Err.rank h v c.in-Err.ensures.belongs c.if-past-eq0.true)
 
-pub offset_bounds-as_slice-place : goal.offset_bounds-as_slice-place
-offset_bounds-as_slice-place g c = grind (arith, common_steps)
+pub returns-then-eq : goal.returns-then-eq
+returns-then-eq g c =
+    let h = orders_lent c.self.inside.tables.items c.as_slice-tables.result.now c.self.inside.order.items c.as_slice-order.result.now c.self.invariant.orders c.as_slice-tables.ensures c.as_slice-order.ensures in
+    let v = versions_lent c.self.inside.tables.items c.as_slice-tables.result.now c.self.invariant.versions c.as_slice-tables.ensures in
+    let named : bytes_eq c.index-tables-place.result.name c.args.name.now ≡ true = subst (λ n. bytes_eq n c.args.name.now ≡ true) c.name.ensures (sym c.eq.ensures ∙ c.if-eq.true) in
+    found_lent (λ ts. greatest ts c.args.name.now) c.self.inside.tables.items c.as_slice-tables.result.now c.args.self.now _ c.self.view_is c.as_slice-tables.ensures
+    (greatest_last c.as_slice-tables.result.now c.as_slice-order.result.now c.args.name.now c.in-Err.rank c.index-tables-place.result h v c.in-Err.ensures.belongs (omega (arith, c.if-past-eq0.false)) c.index-tables-place.is named)
 
-pub bounds-as_slice-place : goal.bounds-as_slice-place
-bounds-as_slice-place g c = grind (arith, common_steps)
-
-pub loop-place-smaller : goal.loop-place-smaller
-loop-place-smaller g c = grind (arith, common_steps)
+pub returns-else-eq : goal.returns-else-eq
+returns-else-eq g c =
+    let h = orders_lent c.self.inside.tables.items c.as_slice-tables.result.now c.self.inside.order.items c.as_slice-order.result.now c.self.invariant.orders c.as_slice-tables.ensures c.as_slice-order.ensures in
+    let v = versions_lent c.self.inside.tables.items c.as_slice-tables.result.now c.self.invariant.versions c.as_slice-tables.ensures in
+    let named : bytes_eq c.index-tables-place.result.name c.args.name.now ≡ false = subst (λ n. bytes_eq n c.args.name.now ≡ false) c.name.ensures (sym c.eq.ensures ∙ c.if-eq.false) in
+    found_lent (λ ts. greatest ts c.args.name.now) c.self.inside.tables.items c.as_slice-tables.result.now c.args.self.now _ c.self.view_is c.as_slice-tables.ensures
+    (greatest_other c.as_slice-tables.result.now c.as_slice-order.result.now c.args.name.now c.in-Err.rank c.index-tables-place.result h v c.in-Err.ensures.belongs (omega (arith, c.if-past-eq0.false)) c.index-tables-place.is named)

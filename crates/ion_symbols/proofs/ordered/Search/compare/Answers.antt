@@ -10,18 +10,18 @@ slice_bounds-cmp-count c = (kept_place _ _ _ _ c.self.invariant (ap (λ (s : Sea
 
 pub slice_bounds-cmp-start : goal.slice_bounds-cmp-start
 slice_bounds-cmp-start c =
-    let h = kept_place _ _ _ _ c.self.invariant (ap (λ (s : Searched). s.texts) c.self.view_is) c.args.place c.requires.within (record { from = 0; to = 0 }) in
+    let h = kept_place _ _ _ _ c.self.invariant (ap (λ (s : Searched). s.texts) c.self.view_is) c.args.place c.requires.within (record { from = 0; to = 0; next = 0 }) in
     omega (arith, h.0, h.1)
 
 pub slice_bounds-cmp-end : goal.slice_bounds-cmp-end
 slice_bounds-cmp-end c =
-    let h = kept_place _ _ _ _ c.self.invariant (ap (λ (s : Searched). s.texts) c.self.view_is) c.args.place c.requires.within (record { from = 0; to = 0 }) in
+    let h = kept_place _ _ _ _ c.self.invariant (ap (λ (s : Searched). s.texts) c.self.view_is) c.args.place c.requires.within (record { from = 0; to = 0; next = 0 }) in
     omega (arith, h.0, h.1)
 
 pub returns-clause-order : goal.returns-clause-order
 returns-clause-order c =
     let e = ap (λ (s : Searched). s.texts) c.self.view_is in
-    let k = kept_text _ _ _ _ c.self.invariant e c.args.place c.requires.within (record { from = 0; to = 0 }) in
+    let k = kept_text _ _ _ _ c.self.invariant e c.args.place c.requires.within (record { from = 0; to = 0; next = 0 }) in
     at_place (λ kept. c.cmp.result ≡ text_cmp kept c.args.text.now) c.args.self.now.texts c.args.place c.requires.within (c.cmp.ensures ∙ ap (λ s. text_cmp s c.args.text.now) (sym k))
 
 pub returns-clause-probes : goal.returns-clause-probes

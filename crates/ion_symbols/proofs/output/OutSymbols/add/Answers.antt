@@ -1,8 +1,10 @@
-use Rattle.std.proofs.Common.{◌+◌, length, ap, ◌∙◌, sym, arith}
+use Rattle.std.proofs.Common.{◌+◌, length, refl, ap, ◌∙◌, sym, arith}
 use Rattle.std.proofs.lemmas.Grind.{common_steps}
 use Rattle.std.proofs.lemmas.List.{length-map}
 use Rattle.ion_symbols.specs.Output.{Output}
 use Rattle.ion_symbols.proofs.Adding.{nothing_charged, share_kept, belongs_kept, place_within, ordered_push, share_push, few_push, texts_pushed, given_push, charges_push, held_push}
+use Rattle.ion_symbols.specs.Ordered.{place_text}
+use Rattle.ion_symbols.proofs.InBuckets.{chained_push, not_of_system}
 use Rattle.ion_symbols.proofs.output.OutSymbols.add.Goals as goal
 
 pub returns-then-length-self-clause-charges : goal.returns-then-length-self-clause-charges
@@ -21,15 +23,16 @@ pop-last-requires g c =
     (length c.args.text.now) c.self.inside.places.cost c.push.new.self.cost c.insert.new.meter.held
     c.self.invariant.0 t c.in_default.ensures.ok c.requires.can_add.held c.in_ok-extend.ensures.cost c.in_default.ensures.cost c.self.invariant.1.place_cost c.push.ensures.same_cost c.in-Err-insert.ensures.refused.held
 
-pub invariant_of-self-in_default-insert : goal.invariant_of-self-in_default-insert
-invariant_of-self-in_default-insert g c =
+pub invariant_of-self-2 : goal.invariant_of-self-2
+invariant_of-self-2 g c =
     let t = ap (λ (s : Output). s.texts) c.self.view_is in
     let b = belongs_kept c.self.inside.bytes c.self.inside.places.items c.self.inside.order.items c.args.self.now.texts c.args.text.now c.args.place c.self.invariant.0 t c.requires.belongs in
     let share = share_push c.self.inside.bytes c.extend.new.self c.args.text.now c.self.inside.places.items c.push.new.self.items _ c.self.inside.order.items c.args.self.now.texts c.cost.result c.self.inside.limit
     c.self.invariant.0 t c.in_ok-extend.ensures.ok c.in_default.ensures.ok c.cost.ensures c.if-cost-length.false in
     let few = few_push c.extend.new.self c.self.inside.places.items c.push.new.self.items _ c.self.inside.limit c.in_default.ensures.ok share c.self.invariant.1.most in
     let from = ap length c.as_slice-from.ensures in
-    let n = ap length c.as_slice-id.ensures in (
+    let n = ap length c.as_slice-id.ensures in
+    let long = length-map c.self.inside.places.items (place_text c.self.inside.bytes) in (
       ordered_push c.self.inside.bytes c.extend.new.self c.args.text.now c.self.inside.places.items c.push.new.self.items _ c.self.inside.order.items c.insert.new.self.items c.args.place (length c.as_slice-id.result.now)
           c.self.invariant.0 b c.in_ok-extend.ensures.ok c.in_default.ensures.ok c.in_default-insert.ensures.ok n from (ap (λ k. k + length c.args.text.now) from) few,
       record {
@@ -38,6 +41,10 @@ invariant_of-self-in_default-insert g c =
         share = share;
         most = c.self.invariant.1.most;
       },
+      chained_push _ _ c.self.inside.places.items c.push.new.self.items c.self.inside.buckets _ c.args.text.now _ c.bucket-of.result (length c.as_slice-id.result.now + 1)
+          c.self.invariant.2 (sym long) (texts_pushed c.self.inside.bytes c.extend.new.self c.args.text.now c.self.inside.places.items c.push.new.self.items _ c.self.inside.order.items _
+          c.self.invariant.0 refl c.in_ok-extend.ensures.ok c.in_default.ensures.ok from (ap (λ k. k + length c.args.text.now) from))
+          c.in_default.ensures.ok refl (ap (λ m. m + 1) (n ∙ sym long)) c.bucket-of.ensures.of c.bucket-of.ensures.within refl (not_of_system c.args.self.now.texts c.args.text.now c.requires.new),
     )
 
 pub returns-clause-gives : goal.returns-clause-gives

@@ -2,6 +2,7 @@ use Rattle.std.proofs.Common.{ap, ◌∙◌, arith}
 use Rattle.std.proofs.lemmas.Grind.{common_steps}
 use Rattle.ion_symbols.specs.Output.{Output}
 use Rattle.ion_symbols.proofs.OutputTexts.{costs}
+use Rattle.ion_symbols.proofs.InBuckets.{nothing_kept}
 use Rattle.ion_symbols.proofs.output.OutSymbols.clear.Goals as goal
 
 pub clear-requires : goal.clear-requires
@@ -30,3 +31,7 @@ returns-clause-cost g c =
 
 pub returns-clause-cleared : goal.returns-clause-cleared
 returns-clause-cleared g c = grind (arith, common_steps) steps 400000
+
+pub invariant_of-self : goal.invariant_of-self
+invariant_of-self g c =
+    nothing_kept _ _ _ _ _ _ _ c.clear.ensures.bytes c.clear-2.ensures.items c.clear-3.ensures.items c.no_buckets-self-inside.ensures (c.clear-2.ensures.same_cost ∙ c.self.invariant.1.place_cost) (c.clear-3.ensures.same_cost ∙ c.self.invariant.1.id_cost) c.self.invariant.1.most

@@ -210,6 +210,8 @@ returns-clause-steps g c =
       sound = c.next.ensures.sound;
       cheap = ready.cheap;
       lends = λ _. c.next.ensures.lends ok;
+      level = λ _. level_opens c.level_after-self.result u.count (r.opened u.raw) (r.opened c.next.new.self) i.head
+          (ready.level c.requires.can_turn.well more) (c.level_after-self.ensures ∙ ap (level_after u.count) head) (c.next.ensures.opens ok);
       comes = λ _. item_comes u.symbols.table (r.depth u.raw) (r.opened u.raw) (r.opened c.next.new.self) i (c.next.ensures.fits ok) marker (c.next.ensures.opens ok);
       ended = λ e. absurd (item-not-end e);
       stays = λ e. absurd (more e);

@@ -1,0 +1,272 @@
+-- An item that a window shows whole is the next one of the reading.
+use Rattle.std.proofs.Common.{◌≡◌, ℕ, ◌+◌, ◌-◌, ◌*◌, ◌<◌, ◌≤◌, Bool, true, false, List, [], ◌∷◌, ◌++◌, length, take, drop, map, Option, Some, None, Ok, refl, ap, sym, subst, ◌∙◌, arith}
+use Rattle.std.specs.Prelude.{option_map, is_some, slice_get}
+use Rattle.std.proofs.lemmas.Option.{slice_get-get_or}
+use Rattle.std.proofs.lemmas.Grind.{common_steps}
+use Rattle.std.proofs.lemmas.List.{take-append-drop, take_all}
+use Rattle.ion_meter.specs.Sources.{Cursor, cursor, skip}
+use Rattle.ion_meter.specs.Windows.{Incoming, left, lent}
+use Rattle.ion_meter.specs.declared.device.Input.{Ghosts as InputOf}
+use Rattle.ion_meter.specs.declared.limits.Limits.{Limits}
+use Rattle.ion_meter.proofs.Lent.{lent-take}
+use Rattle.ion_value.specs.declared.ion_type.Kind.{Kind}
+use Rattle.ion_value.specs.declared.ion_type.Kind.TheVariants as kind
+use Rattle.ion_value.specs.Name.{is_simple, raw_id}
+use Rattle.ion_value.specs.Reading.{Gives, More}
+use Rattle.ion_value.specs.Standing.{Fits, in_struct}
+use Rattle.ion_value.specs.Value as value
+use Rattle.ion_value.specs.Value.{SymbolAt, PlacedItem}
+use Rattle.ion_value.proofs.Readings.{reading_by-gives}
+use Rattle.ion_binary.specs.declared.wrapper.Frame as frame
+use Rattle.ion_binary.specs.declared.shown.Shown.{Shown}
+use Rattle.ion_binary.specs.Positions.{Frame, State, placed_scalar, symbol_id}
+use Rattle.ion_binary.specs.Descriptor.{var_uint_at}
+use Rattle.ion_binary.specs.Reading.{field_at, field_in, member_at, placed_item, region_of, step, step_for, step_of, top_of, value_at}
+use Rattle.ion_binary.specs.Reader.{IsInnermost, at_top, inside}
+use Rattle.ion_binary.specs.Shown.{Reaches, ShowsValue, ShowsVar, shown_value, window}
+use Rattle.ion_binary.proofs.ShownParts.{reaches-less}
+use Rattle.ion_value.specs.declared.plain_item.TextAt.{TextAt}
+use Rattle.ion_meter.specs.Windows.{IsPassed}
+use Rattle.ion_value.specs.declared.writer.ValueWriter.{Ghosts as WriterOf}
+use Rattle.ion_value.specs.declared.plain_item.PlainItem.{PlainItem}
+use Rattle.ion_value.specs.Feeding.{Hands}
+use Rattle.ion_value.specs.Items.{named_at, named_item, raw_head}
+use Rattle.ion_value.specs.Outcome.{one_if_closed}
+use Rattle.ion_value.specs.PlainItems as PlainItems
+use Rattle.ion_value.specs.PlainItems.{IsSimple, placed_text}
+use Rattle.ion_value.specs.Reading.{Reading}
+use Rattle.ion_value.specs.Standing.{Continues, HasAnnotations, HasPlace, InRange, has_field, is_marker, open_after, open_behind}
+use Rattle.ion_value.specs.Value.{Head, Scalar, Symbol, map_head, map_scalar}
+use Rattle.ion_value.proofs.Passing.{IsPassed-cursor}
+use Rattle.ion_binary.specs.Reader.{kinds_of, state_of, to_come}
+use Rattle.ion_binary.specs.Reading.{size}
+use Rattle.ion_binary.proofs.ReaderParts.{as_frames-length, innermost-struct, last-innermost, kinds-frames, kinds_of-length}
+use Rattle.ion_binary.proofs.Termination.{step-shrinks}
+use Rattle.std.specs.Prelude.{reverse}
+use Rattle.ion_binary.specs.Lane.{EndsHere, GoesOn, ShowsField}
+use Rattle.ion_binary.specs.Wrappers.{as_frame, as_frames, innermost}
+use Rattle.ion_binary.proofs.ReaderParts.{innermost-field, innermost-region, inside-member, inside-top, member_at-field, top-member}
+
+-- what is left of a source is what its window lends, and more
+pub left-window : {I : Type 0} (device : InputOf I) (s : Incoming I) → cursor device s ≡ window s.place (lent s) (drop (length (lent s)) (left device.rest s))
+left-window device s =
+    let n = length (lent s) in
+    let prefix : take n (left device.rest s) ≡ lent s = lent-take device.rest s n (omega arith) ∙ take_all n (lent s) (omega arith) in
+    ap (λ (l : List ℕ). record { place = s.place; rest = l }) (sym (take-append-drop n (left device.rest s)) ∙ ap (λ l. l ++ drop n (left device.rest s)) prefix)
+
+step-top : (limits : Limits) (frames : List Frame) (top here : ℕ) (octets more : List ℕ) → frames ≡ [] → 0 < length octets
+    → step limits (record { frames = frames; top = top; cursor = window here octets more }) ≡ step_of (member_at limits frames top (window here octets more))
+step-top limits frames top here [] more e some = absurd (omega (arith, some))
+step-top limits frames top here (b ∷ octets) more e some = top-member limits frames top (window here (b ∷ octets) more) b e refl
+
+top-frames : (frames : List Frame) → IsInnermost frames None → frames ≡ []
+top-frames _ at_top = refl
+
+step-member : (limits : Limits) (frames : List Frame) (f : Option frame.Frame) (top here : ℕ) (octets more : List ℕ) → IsInnermost frames f → GoesOn f here → 0 < length octets
+    → step limits (record { frames = frames; top = top; cursor = window here octets more }) ≡ step_of (member_at limits frames top (window here octets more))
+step-member limits frames None top here octets more inner goes_on some = step-top limits frames top here octets more (top-frames frames inner) some
+step-member limits frames (Some f) top here octets more inner goes_on some = inside-member limits frames f top (window here octets more) inner goes_on
+
+-- a member that is shown is the next step
+pub member_shown : (limits : Limits) (frames : List Frame) (f : Option frame.Frame) (top here at behind : ℕ) (texts : ℕ → Option (List ℕ)) (octets more : List ℕ) (field : Option TextAt) (found : Shown)
+    → IsInnermost frames f → GoesOn f here → (name : ShowsField texts octets here (innermost f) field at) → ShowsValue limits octets here (region_of (innermost f)) (length frames) at behind found
+    → step limits (record { frames = frames; top = top; cursor = window here octets more })
+    ≡ step_for frames (top_of frames top here) name.raw [] (here + at) (shown_value found) (skip behind (window here octets more))
+member_shown limits frames f top here at behind texts octets more field found inner goes_on name v =
+    let some : 0 < length octets = omega (arith, v.further, v.within) in
+    let c = window here octets more in
+    let reaches : Reaches (region_of (innermost f)) (here + at) = reaches-less (region_of (innermost f)) (here + at) (here + (at + 1)) (omega arith) v.reaches in
+    let named : field_at frames c ≡ Ok (name.raw, skip at c) = innermost-field frames f c inner ∙ name.gives more reaches in
+    step-member limits frames f top here octets more inner goes_on some
+    ∙ (ap step_of (member_at-field limits frames top c (skip at c) name.raw named ∙ v.gives more frames (top_of frames top here) name.raw (innermost-region frames f inner) refl))
+
+-- ---- the names of fields
+
+skip-none : (here : ℕ) (octets more : List ℕ) → skip 0 (window here octets more) ≡ window here octets more
+skip-none here octets more = let same : here + 0 ≡ here = omega arith in rw same refl
+
+named_field : (f : frame.Frame) (c d : Cursor) {id : ℕ} → f.kind ≡ kind.Struct → var_uint_at (Some f.end) c ≡ Ok (id, d) → field_at (innermost (Some f)) c ≡ Ok (Some (symbol_id id c.place), d)
+named_field f c d struct v = rw (struct, v) refl
+
+-- a field whose id has a simple text
+pub shows_named : (texts : ℕ → Option (List ℕ)) (octets : List ℕ) (here : ℕ) (f : frame.Frame) (id behind : ℕ) (t : TextAt) → f.kind ≡ kind.Struct → ShowsVar octets 0 behind id
+    → texts (raw_id id) ≡ Some t.text.now → is_simple t.text.now ≡ true → t.place ≡ here → ShowsField texts octets here (innermost (Some f)) (Some t) behind
+shows_named texts octets here f id behind t struct v has simple at = record {
+  raw = Some (symbol_id id here);
+  within = v.within;
+  named = rw (has, at) refl;
+  simple = simple;
+  there = rw struct refl;
+  gives = λ more reaches. named_field f (window here octets more) (skip behind (window here octets more)) struct
+      (ap (var_uint_at (Some f.end)) (sym (skip-none here octets more)) ∙ v.gives here more (Some f.end) reaches);
+}
+
+-- ---- a member, and where the reader stands behind it
+
+top-innermost : (frames : List Frame) (f : Option frame.Frame) (top place : ℕ) → IsInnermost frames f → top_of frames top place ≡ top_of (innermost f) top place
+top-innermost _ _ top place at_top = refl
+top-innermost _ _ top place (inside f outer) = refl
+
+-- the step that a member gives that is shown, its octets being passed over
+pub step_shown : {I : Type 0} (device : InputOf I) (limits : Limits) (frames : List Frame) (f : Option frame.Frame) (top behind at : ℕ) (s t : Incoming I) (texts : ℕ → Option (List ℕ)) (field : Option TextAt)
+    (found : Shown) → IsInnermost frames f → GoesOn f s.place → (name : ShowsField texts (lent s) s.place (innermost f) field at)
+    → ShowsValue limits (lent s) s.place (region_of (innermost f)) (length frames) at behind found → IsPassed s t behind
+    → step limits (record { frames = frames; top = top; cursor = cursor device s })
+    ≡ step_for frames (top_of (innermost f) top s.place) name.raw [] (s.place + at) (shown_value found) (cursor device t)
+step_shown device limits frames f top behind at s t texts field found inner goes_on name v passed =
+    let more = drop (length (lent s)) (left device.rest s) in
+    let shown = left-window device s in
+    let further : skip behind (window s.place (lent s) more) ≡ cursor device t = ap (skip behind) (sym shown) ∙ sym (IsPassed-cursor device s t behind v.within passed) in
+    ap (λ c. step limits (record { frames = frames; top = top; cursor = c })) shown
+    ∙ (member_shown limits frames f top s.place at behind texts (lent s) more field found inner goes_on name v
+    ∙ (ap (λ n. step_for frames n name.raw [] (s.place + at) (shown_value found) (skip behind (window s.place (lent s) more))) (top-innermost frames f top s.place inner)
+    ∙ ap (λ c. step_for frames (top_of (innermost f) top s.place) name.raw [] (s.place + at) (shown_value found) c) further))
+
+reverse-push : {X : Type 0} (xs : List X) (x : X) → reverse (xs ++ x ∷ []) ≡ x ∷ reverse xs
+reverse-push xs x = grind (arith, common_steps)
+
+-- a container is opened
+pub as_frames-push : (frames : List frame.Frame) (f : frame.Frame) → as_frames (frames ++ f ∷ []) ≡ as_frame f ∷ as_frames frames
+as_frames-push frames f = ap (map as_frame) (reverse-push frames f)
+
+pub kinds_of-push : (frames : List frame.Frame) (f : frame.Frame) → kinds_of (frames ++ f ∷ []) ≡ f.kind ∷ kinds_of frames
+kinds_of-push frames f = ap (map (λ x. x.kind)) (reverse-push frames f)
+
+-- the reading behind a step
+pub to_come-gives : {I : Type 0} (device : InputOf I) (limits : Limits) (frames then : List frame.Frame) (top top_then : ℕ) (s t : Incoming I) (item : PlacedItem)
+    → step limits (state_of device frames top s) ≡ Gives item (state_of device then top_then t) → to_come device limits frames top s ≡ More item (to_come device limits then top_then t)
+to_come-gives device limits frames then top top_then s t item e =
+    reading_by-gives (step limits) size (step-shrinks limits) (state_of device frames top s) (state_of device then top_then t) item e
+
+-- ---- where it may stand
+
+named-range : (f : SymbolAt → SymbolAt) (place : ℕ) (v : Scalar Symbol) → InRange v → InRange (map_scalar f (placed_scalar place v))
+named-range f place (value.null t) h = tt
+named-range f place (value.bool t) h = tt
+named-range f place (value.int n) h = h
+named-range f place (value.decimal n) h = h
+named-range f place (value.timestamp n) h = h
+named-range f place (value.symbol n) h = tt
+named-range f place (value.string n) h = tt
+named-range f place (value.clob n) h = tt
+named-range f place (value.blob n) h = tt
+
+field-there : (field : Option TextAt) → is_some (option_map placed_text field) ≡ is_some field
+field-there None = refl
+field-there (Some t) = refl
+
+-- a field stands at a struct's members
+pub field_fits : (frames : List frame.Frame) (f : Option frame.Frame) (field : Option TextAt) → IsInnermost (as_frames frames) f → is_some field ≡ in_struct (map (λ x. x.kind) (innermost f))
+    → is_some (option_map placed_text field) ≡ in_struct (kinds_of frames)
+field_fits frames f field inner there = field-there field ∙ (there ∙ (sym (innermost-struct (as_frames frames) f inner) ∙ ap in_struct (sym (kinds-frames frames))))
+
+-- ---- an item as the writer takes it
+
+-- the item that is shown, with the texts of its ids, is the plain one
+pub plain_seen : (texts : ℕ → Option (List ℕ)) (top place : ℕ) (raw : Option SymbolAt) (head : Head SymbolAt) (item : PlainItem)
+    → option_map (named_at texts) raw ≡ option_map placed_text item.field → item.annotation ≡ None → raw_head item.head ≡ map_head (named_at texts) head → item.place ≡ place → item.top ≡ top
+    → named_item texts (placed_item top raw [] place head) ≡ PlainItems.placed_item item
+plain_seen texts top place raw head item named none head_is at first = rw (named, none, head_is, at, first) refl
+
+-- one item goes on, as the writer's contract has it
+pub hands_by : {W O A : Type 0} (w : WriterOf W O A) (see : PlacedItem → PlacedItem) (reads : Type 0) (coming then : Reading) (kinds kinds_then : List Kind) (pen pen_then : W) (from to : List ℕ) (values : ℕ)
+    (item seen : PlacedItem) → see item ≡ seen → (reads → coming ≡ More item then) → IsSimple seen → kinds_then ≡ open_after kinds seen.head → Fits (w.limits pen).depth kinds seen → is_marker seen.head ≡ false
+    → w.limits pen_then ≡ w.limits pen
+    → ((path : List PlacedItem) → w.stands pen path → Continues (w.limits pen) path seen → w.stands pen_then (path ++ seen ∷ []) × (w.refusal (w.limits pen) path seen ≡ None))
+    → ((path : List PlacedItem) → w.stands pen path → Continues (w.limits pen) path seen → to ≡ from ++ w.adds (w.limits pen) path seen)
+    → Hands w see reads (record { coming = coming; opened = kinds; writer = pen; pending = from; values = values })
+    (record { coming = then; opened = kinds_then; writer = pen_then; pending = to; values = values + one_if_closed kinds_then })
+hands_by w see reads coming then kinds kinds_then pen pen_then from to values item seen e gives simple opens fits value limits stands puts =
+    let back : seen ≡ see item = sym e in
+    let continues : (path : List PlacedItem) → open_behind [] path ≡ kinds → Continues (w.limits pen) path seen =
+    λ path at. record { fits = subst (λ (k : List Kind). Fits (w.limits pen).depth k seen) (sym at) fits; value = value } in
+    record {
+      item = item;
+      simple = subst (λ (i : PlacedItem). IsSimple i) back simple;
+      gives = gives;
+      opens = opens ∙ ap (λ (i : PlacedItem). open_after kinds i.head) back;
+      counts = refl;
+      limits = limits;
+      stands = λ path at kinds_at. subst (λ (i : PlacedItem). w.stands pen_then (path ++ i ∷ [])) back (stands path at (continues path kinds_at)).0;
+      taken = λ path at kinds_at. subst (λ (i : PlacedItem). w.refusal (w.limits pen) path i ≡ None) back (stands path at (continues path kinds_at)).1;
+      puts = λ path at kinds_at. subst (λ (i : PlacedItem). to ≡ from ++ w.adds (w.limits pen) path i) back (puts path at (continues path kinds_at));
+    }
+
+-- a scalar may stand where it is shown
+pub scalar_fits : (depth : ℕ) (frames : List frame.Frame) (f : Option frame.Frame) (texts : ℕ → Option (List ℕ)) (place : ℕ) (v : Scalar Symbol) (item : PlainItem) → IsInnermost (as_frames frames) f
+    → is_some item.field ≡ in_struct (map (λ x. x.kind) (innermost f)) → raw_head item.head ≡ map_head (named_at texts) (value.whole (placed_scalar place v)) → InRange v
+    → Fits depth (kinds_of frames) (PlainItems.placed_item item)
+scalar_fits depth frames f texts place v item inner there head range = record {
+  place = subst (λ (h : Head SymbolAt). HasPlace depth (kinds_of frames) h) (sym head) (named-range (named_at texts) place v range);
+  field = field_fits frames f item.field inner there ∙ sym (ap (has_field (kinds_of frames)) head);
+  annotations = subst (λ (h : Head SymbolAt). HasAnnotations h (PlainItems.placed_item item).annotations) (sym head) tt;
+}
+
+-- and so may a container's beginning
+pub begin_fits : (depth : ℕ) (frames : List frame.Frame) (f : Option frame.Frame) (kind : Kind) (item : PlainItem) → IsInnermost (as_frames frames) f
+    → is_some item.field ≡ in_struct (map (λ x. x.kind) (innermost f)) → raw_head item.head ≡ value.begin kind → length frames < depth
+    → Fits depth (kinds_of frames) (PlainItems.placed_item item)
+begin_fits depth frames f kind item inner there head deep = record {
+  place = subst (λ (h : Head SymbolAt). HasPlace depth (kinds_of frames) h) (sym head) (omega (arith, kinds_of-length frames));
+  field = field_fits frames f item.field inner there ∙ sym (ap (has_field (kinds_of frames)) head);
+  annotations = subst (λ (h : Head SymbolAt). HasAnnotations h (PlainItems.placed_item item).annotations) (sym head) tt;
+}
+
+-- an end may stand where a container is open
+pub end_fits : (depth : ℕ) (kinds : List Kind) (place top : ℕ) → 0 < length kinds → Fits depth kinds (placed_item top None [] place value.end)
+end_fits depth kinds place top open_one = record { place = open_one; field = refl; annotations = refl }
+
+-- what a writer asks of an item that comes next
+pub path_here : {W O A : Type 0} (w : WriterOf W O A) (depth : ℕ) (kinds : List Kind) (pen : W) (seen : PlacedItem) → (w.limits pen).depth ≡ depth → Fits depth kinds seen → is_marker seen.head ≡ false
+    → (path : List PlacedItem) × w.stands pen path × (open_behind [] path ≡ kinds) → (path : List PlacedItem) × w.stands pen path × Continues (w.limits pen) path seen
+path_here w depth kinds pen seen e fits value behind = (
+  behind.0,
+  behind.1,
+  record {
+    fits = subst (λ (n : ℕ). Fits n (open_behind [] behind.0) seen) (sym e) (subst (λ (k : List Kind). Fits depth k seen) (sym behind.2) fits);
+    value = value;
+  },
+)
+
+-- a head that is that of a scalar is no marker
+pub whole-value : (texts : ℕ → Option (List ℕ)) (place : ℕ) (v : Scalar Symbol) (head : Head SymbolAt) → head ≡ map_head (named_at texts) (value.whole (placed_scalar place v)) → is_marker head ≡ false
+whole-value texts place v head e = ap is_marker e
+
+-- a container is open where there is an innermost one
+inner-some : (frames : List Frame) (f : frame.Frame) → IsInnermost frames (Some f) → 0 < length frames
+inner-some _ _ (inside f outer) = omega arith
+
+pub open_one : (frames : List frame.Frame) (f : frame.Frame) → IsInnermost (as_frames frames) (Some f) → 0 < length (kinds_of frames)
+open_one frames f inner = omega (arith, inner-some (as_frames frames) f inner, kinds_of-length frames, as_frames-length frames)
+
+-- ---- what falls
+
+pub falls_scalar : (limit place limit_then place_then at behind n : ℕ) → place_then ≡ place + behind → limit_then ≡ limit → at + 1 ≤ behind → behind ≤ limit - place
+    → 2 * (limit_then - place_then) + n < 2 * (limit - place) + n
+falls_scalar limit place limit_then place_then at behind n p l further within = omega (arith, p, l, further, within)
+
+pub falls_begin : (limit place limit_then place_then at behind n m : ℕ) → place_then ≡ place + behind → limit_then ≡ limit → at + 1 ≤ behind → behind ≤ limit - place → m ≡ n + 1
+    → 2 * (limit_then - place_then) + m < 2 * (limit - place) + n
+falls_begin limit place limit_then place_then at behind n m p l further within more = omega (arith, p, l, further, within, more)
+
+-- and it opens and closes nothing
+pub whole-opens : (texts : ℕ → Option (List ℕ)) (place : ℕ) (v : Scalar Symbol) (head : Head SymbolAt) (kinds : List Kind) → head ≡ map_head (named_at texts) (value.whole (placed_scalar place v)) → kinds ≡ open_after kinds head
+whole-opens texts place v head kinds e = sym (ap (open_after kinds) e)
+
+-- ---- the innermost container, if one is open
+
+some_is : {Y : Type 0} {y : Y} → Some y ≡ None → ⊥
+some_is e = cc e
+
+no_last : {X : Type 0} (l : List X) → slice_get l (length l - 1) ≡ None → l ≡ []
+no_last [] e = refl
+no_last (x ∷ xs) e = absurd (some_is (sym (slice_get-get_or (x ∷ xs) (length (x ∷ xs) - 1) x (omega arith)) ∙ e))
+
+pub innermost-of : (frames : List frame.Frame) (o : Option frame.Frame) → slice_get frames (length frames - 1) ≡ o → IsInnermost (as_frames frames) o
+innermost-of frames None e = subst (λ (l : List frame.Frame). IsInnermost (as_frames l) None) (sym (no_last frames e)) at_top
+innermost-of frames (Some f) e = last-innermost frames f e
+
+-- one that ends here is open
+pub ends-some : (o : Option frame.Frame) (place : ℕ) → EndsHere o place → (f : frame.Frame) × (o ≡ Some f) × (f.end ≤ place)
+ends-some None place e = absurd e
+ends-some (Some f) place e = (f, refl, e)

@@ -1,0 +1,341 @@
+-- A plain item that is added to an open value is that of the streaming definition.
+use Rattle.std.proofs.Common.{◌≡◌, ℕ, zero, suc, ◌+◌, ◌-◌, ◌*◌, ◌/◌, ◌%◌, ◌<◌, ◌≤◌, ◌⊎◌, inl, is_some, option_map, subst, min, nat_lt, Bool, true, false, if◌then◌else◌, List, [], ◌∷◌, ◌++◌, length, map, take, drop, Option, Some, None, unwrap_or, Ok, refl, ap, sym, ◌∙◌, arith, append-nil, append_assoc, le-ltb, lt-ltb}
+use Rattle.std.specs.Prelude.{IfSome}
+use Rattle.std.proofs.lemmas.List.{length-take}
+use Rattle.ion_meter.specs.Counts.{Counts}
+use Rattle.ion_meter.specs.declared.limits.Limits.{Limits}
+use Rattle.ion_meter.specs.declared.fault.Reason.{Reason}
+use Rattle.ion_value.specs.declared.ion_type.Kind.{Kind}
+use Rattle.ion_value.specs.declared.plain_item.TextAt.{TextAt}
+use Rattle.ion_value.specs.PlainItems.{listed, placed_text}
+use Rattle.ion_value.specs.Value as value
+use Rattle.ion_value.specs.Value.{Head, Item, Known, PlacedItem, SymbolAt, UserSymbol, map_head, user_item, user_symbol_at}
+use Rattle.ion_symbols.specs.Output.{known_id, texts_cost}
+use Rattle.ion_binary.specs.declared.headers.HeaderPlace.{HeaderPlace}
+use Rattle.ion_binary.specs.declared.open_value.OpenValue.{OpenValue}
+use Rattle.ion_binary.specs.declared.writer.BinWriter.{BinWriter}
+use Rattle.ion_value.specs.Number.{digits_within, marked, var_uint_octets}
+use Rattle.ion_binary.specs.Grammar.{type_code}
+use Rattle.ion_value.specs.Writable.{field_symbols}
+use Rattle.ion_binary.specs.Canonical.{annotation_octets, declaration, header, marker_if, field_octets, headed, id_in, id_octets, member_octets, wrapped, with_symbol, with_symbols, with_text}
+use Rattle.ion_binary.specs.Held.{Held, closed_in, counted_ids, headed_at, header_at, headers_around, headers_with, held_forgotten, held_of, ids_place, moved_headers, moved_octets, octets_with, size_of, value_held, value_put, whole_at, with_front, with_names}
+use Rattle.ion_binary.specs.ItemOctets.{head_octets}
+use Rattle.ion_binary.specs.Opening.{IsOpen, MayAdd, MayCome, Stepped, wrapper_octets}
+use Rattle.ion_binary.specs.Plain.{AddsPlain, EndsPlain, HaveIds, IsWhole}
+use Rattle.ion_binary.specs.Writer.{CanTake, ComesAt, Follows, Taken, added, adds_at, held_in, item_refusal}
+use Rattle.ion_binary.specs.WriterWithin.{binary-within}
+use Rattle.ion_binary.specs.Writing.{Written, first_over, item_puts, item_symbols, refused_at, unless_refused}
+use Rattle.ion_binary.proofs.HeldMoves.{begun-is, counted-are, headers-begun, whole-is}
+use Rattle.ion_binary.proofs.Numbered.{users-item}
+use Rattle.ion_binary.specs.Counting.{ArePlaced}
+use Rattle.ion_binary.proofs.DeclarationOctets.{declaration-none}
+use Rattle.ion_binary.proofs.OpenSteps.{closed-put, put-length, wrapper-around}
+use Rattle.ion_binary.proofs.WriterFollows.{adds-are, codes-after, follows-out, forgotten-is, held-behind, may-add, put-behind, refusal-is}
+use Rattle.ion_binary.proofs.WriterSteps.{kept, not-refused, same-held}
+
+-- nothing is put while a container is open
+put-inside : (h : Held) (hs : List HeaderPlace) (octets : List ℕ) → 0 < length hs → value_put h hs octets ≡ []
+put-inside h [] octets some = absurd (omega (arith, some))
+put-inside h (e ∷ es) octets some = refl
+
+held-inside : (h : Held) (hs : List HeaderPlace) → h.headers ≡ hs → 0 < length hs → h ≡ value_held h hs h.octets
+held-inside h [] e some = absurd (omega (arith, some))
+held-inside h (x ∷ hs) e some = ap (λ (gs : List HeaderPlace). record h { headers = gs }) e
+
+module _ {A : Type 0} (old new : BinWriter A) (before after : Counts) (s : Written) (item : PlacedItem) (p : AddsPlain old new before after item true) (comes : ComesAt old s item) where
+  begun : held_in old ≡ held_forgotten old.limits.symbols (held_of s) (user_item item).head
+  begun =
+      sym (kept old.limits.symbols (held_in old) old.open_value.headers (p.keeps refl))
+      ∙ forgotten-is old.limits.symbols s (held_in old) (user_item item).head comes.0.held comes.1.value
+
+  pub plain-follows : Follows old new s item (Ok tt)
+  plain-follows =
+      follows-out old new new s item (Ok tt) (held_in old) comes begun (p.held refl) (p.passes refl)
+      (held-inside (held_in new) new.open_value.headers refl (p.inside refl)) (p.is_open refl) tt
+
+  pub plain-adds : adds_at old.limits s item ≡ []
+  plain-adds =
+      sym (adds-are old new s item (held_in old) comes begun (p.held refl) (p.passes refl))
+      ∙ put-inside (held_in new) new.open_value.headers new.open_value.octets (p.inside refl)
+
+pub plain-comes : {A : Type 0} (w : BinWriter A) (s : Written) (item : PlacedItem) → ComesAt w s item → MayCome w.limits w.open_value item
+plain-comes w s item comes = record { counted = comes.0.is_open; follows = may-add w.limits w.open_value s item (ap (λ (h : Held). h.headers) comes.0.held) comes.1 }
+
+-- ---- texts that have ids
+
+pub known-kept : (texts : List (List ℕ)) (t : List ℕ) (id : ℕ) → Some id ≡ known_id texts t → with_symbol texts (Known t) ≡ texts
+unfolding with_symbol
+known-kept texts t id e = ap (with_text texts t) (sym e)
+
+pub known-is : (texts : List (List ℕ)) (t : List ℕ) (id : ℕ) → Some id ≡ known_id texts t → id ≡ id_in texts (Known t)
+unfolding id_in
+known-is texts t id e = ap (λ (o : Option ℕ). unwrap_or o 0) e
+
+pub have-append : (texts : List (List ℕ)) (ss ts : List SymbolAt) → HaveIds texts ss → HaveIds texts ts → HaveIds texts (ss ++ ts)
+have-append texts [] ts h k = k
+have-append texts (s ∷ ss) ts h k = (h.0, have-append texts ss ts h.1 k)
+
+have-same : (texts : List (List ℕ)) (ss : List SymbolAt) → HaveIds texts ss → with_symbols texts (map user_symbol_at ss) ≡ texts
+have-same texts [] h = refl
+have-same texts (s ∷ ss) h = ap (λ (ts : List (List ℕ)). with_symbols ts (map user_symbol_at ss)) h.0 ∙ have-same texts ss h.1
+
+have-allowed : (limit : ℕ) (texts : List (List ℕ)) (ss : List SymbolAt) → texts_cost texts ≤ limit → HaveIds texts ss → first_over limit texts ss ≡ None
+have-allowed limit texts [] within h = refl
+have-allowed limit texts (s ∷ ss) within h =
+    ap (λ (ts : List (List ℕ)). if nat_lt limit (texts_cost ts) then Some s.place else first_over limit ts ss) h.0
+    ∙ (ap (λ (b : Bool). if b then Some s.place else first_over limit texts ss) (le-ltb limit (texts_cost texts) within) ∙ have-allowed limit texts ss within h.1)
+
+-- ---- the item adds its octets
+
+module _ (h : Held) (item : PlacedItem) (known : HaveIds h.texts (item_symbols item)) where
+  named : with_names h (user_item item) ≡ h
+  named = ap (λ (ts : List (List ℕ)). record h { texts = ts }) (ap (with_symbols h.texts) (sym (users-item item)) ∙ have-same h.texts (item_symbols item) known)
+
+  pub added-is : added h item ≡ record h { octets = octets_with h (user_item item); headers = headers_with h (user_item item) }
+  added-is = ap (λ (n : Held). record n { octets = octets_with n (user_item item); headers = headers_with n (user_item item) }) named
+
+whole-octets-by : (place : ℕ) (front : List ℕ) (hs : List HeaderPlace) (ids : UserSymbol → ℕ) (head : Head SymbolAt) → IsWhole head
+    → moved_octets place front hs ids (map_head user_symbol_at head) ≡ whole_at place front (head_octets ids (map_head user_symbol_at head))
+whole-octets-by place front hs ids (value.whole body) w = refl
+whole-octets-by place front hs ids (value.begin kind) w = absurd w
+whole-octets-by place front hs ids value.end w = absurd w
+whole-octets-by place front hs ids value.marker w = absurd w
+
+whole-headers-by : (place : ℕ) (front : List ℕ) (hs : List HeaderPlace) (head : Head SymbolAt) → IsWhole head
+    → moved_headers place front hs (map_head user_symbol_at head) ≡ hs
+whole-headers-by place front hs (value.whole body) w = refl
+whole-headers-by place front hs (value.begin kind) w = absurd w
+whole-headers-by place front hs value.end w = absurd w
+whole-headers-by place front hs value.marker w = absurd w
+
+-- a scalar adds those of a member
+pub scalar-added : (h : Held) (item : PlacedItem) (new : List ℕ) → HaveIds h.texts (item_symbols item) → IsWhole item.head
+    → new ≡ h.octets ++ member_octets (id_in h.texts) (user_item item).field (user_item item).annotations (head_octets (id_in h.texts) (user_item item).head)
+    → record h { octets = new } ≡ added h item
+scalar-added h item new known w e =
+    let i = user_item item in
+    let ids : UserSymbol → ℕ = id_in h.texts in
+    let octets : octets_with h i ≡ h.octets ++ member_octets ids i.field i.annotations (head_octets ids i.head) =
+    whole-octets-by (ids_place h i) (with_front h i) h.headers ids item.head w ∙ whole-is h.octets (field_octets ids i.field) ids i.annotations (head_octets ids i.head) in
+    let headers : headers_with h i ≡ h.headers = whole-headers-by (ids_place h i) (with_front h i) h.headers item.head w in
+    ap (λ (os : List ℕ). record h { octets = os }) (e ∙ sym octets)
+    ∙ (ap (λ (hs : List HeaderPlace). record h { octets = octets_with h i; headers = hs }) (sym headers) ∙ sym (added-is h item known))
+
+-- ---- one call
+
+-- its open value has moved
+pub plain-taken : {A : Type 0} (w : BinWriter A) (v : OpenValue A) (before after : Counts) → CanTake w before → Stepped w.limits w.open_value v before after None
+    → Taken w (record w { open_value = v }) before after None
+plain-taken w v before after c s = record {
+  sound = record { checked = c.sound.checked; within = s.within; limit = c.sound.limit; share = c.sound.share; few = c.sound.few };
+  limits = refl;
+  failed = refl;
+  memory = s.memory;
+  charges =
+      let texts = c.sound.share in
+      let held = s.charges.held in
+      let share = s.charges.share in
+      let peak = s.charges.peak in
+      let rises = s.charges.rises in
+      let own = c.held in
+      record { held = omega (arith, held); share = omega (arith, share, texts); peak = omega (arith, peak, texts, own); rises = rises };
+}
+
+-- it was added, if the call says so
+pub plain-added : {A : Type 0} (w : BinWriter A) (v : OpenValue A) (before after : Counts) (item : PlacedItem) (result : Bool)
+    → CanTake w before → HaveIds w.symbols.texts (item_symbols item) → (0 < length w.open_value.headers) ⊎ (texts_cost w.symbols.texts ≤ w.limits.symbols / 2) → (result ≡ true → 0 < length v.headers)
+    → (result ≡ true → held_in (record w { open_value = v }) ≡ added (held_in w) item) → (result ≡ true → IsOpen w.limits v)
+    → (result ≡ false → (v ≡ w.open_value) × (after ≡ before)) → Stepped w.limits w.open_value v before after None
+    → AddsPlain w (record w { open_value = v }) before after item result
+plain-added {A} w v before after item result c known some more held opened declines s = record {
+  held = held;
+  is_open = opened;
+  passes = λ e.
+      let allowed : first_over w.limits.symbols w.symbols.texts (item_symbols item) ≡ None = have-allowed w.limits.symbols w.symbols.texts (item_symbols item) c.sound.share known in
+      let fits = (opened e).fits in
+      let same : size_of v.octets v.headers ≡ size_of (added (held_in w) item).octets (added (held_in w) item).headers = ap (λ (h : Held). size_of h.octets h.headers) (held e) in
+      not-refused w.limits (held_in w) item allowed (omega (arith, fits, same));
+  keeps = λ e. some;
+  inside = more;
+  declines = λ e. (ap (λ (x : OpenValue A). record w { open_value = x }) (declines e).0, (declines e).1);
+  taken = plain-taken w v before after c s;
+}
+
+-- the id of a symbol value
+pub name-kept : (texts : List (List ℕ)) (t : List ℕ) (place : ℕ) (o : Option ℕ) → o ≡ known_id texts t
+    → IfSome o (λ n. HaveIds texts (record { symbol = value.Text t; place = place } ∷ []))
+name-kept texts t place None e = tt
+name-kept texts t place (Some id) e = (known-kept texts t id e, tt)
+
+pub name-is : (texts : List (List ℕ)) (t : List ℕ) (o : Option ℕ) → o ≡ known_id texts t → IfSome o (λ n. n ≡ id_in texts (Known t))
+name-is texts t None e = tt
+name-is texts t (Some id) e = known-is texts t id e
+
+-- an annotation's octets, and what stands before them
+pub annotation-front : (ids : UserSymbol → ℕ) (s : UserSymbol) (front d before x : List ℕ) (n : ℕ) → d ≡ var_uint_octets (ids s) → before ≡ wrapper_octets (length d) n → length x ≡ n
+    → ((front ++ before) ++ d) ++ x ≡ front ++ wrapped (annotation_octets ids (s ∷ [])) x
+annotation-front ids s front d before x n ed eb long =
+    let one : id_octets ids (s ∷ []) ≡ var_uint_octets (ids s) = append-nil (var_uint_octets (ids s)) in
+    append_assoc (front ++ before) d x
+    ∙ (append_assoc front before (d ++ x)
+    ∙ ap (λ (y : List ℕ). front ++ y)
+    (ap (λ (y : List ℕ). y ++ (d ++ x)) (eb ∙ ap (wrapper_octets (length d)) (sym long))
+    ∙ (wrapper-around d x
+    ∙ ap (λ (y : List ℕ). wrapped y x) (ap counted_ids (ed ∙ sym one) ∙ counted-are ids (s ∷ [])))))
+
+-- ---- containers begin and end
+
+abbrev with_parts : PlacedItem → Option SymbolAt → List SymbolAt → Head SymbolAt → PlacedItem
+with_parts item f ss head = record item { field = f; annotations = ss; head = head }
+
+-- an item by its parts
+by-parts : (P : PlacedItem → Type 0) (item : PlacedItem) (f : Option SymbolAt) (ss : List SymbolAt) (head : Head SymbolAt) → item.field ≡ f → item.annotations ≡ ss → item.head ≡ head
+    → P (with_parts item f ss head) → P item
+by-parts P item f ss head ef es eh p =
+    let A : Option SymbolAt → Type 0 = λ x. P (with_parts item x item.annotations item.head) in
+    let B : List SymbolAt → Type 0 = λ x. P (with_parts item f x item.head) in
+    let C : Head SymbolAt → Type 0 = λ x. P (with_parts item f ss x) in
+    subst A (sym ef) (subst B (sym es) (subst C (sym eh) p))
+
+-- one that ends has no symbols
+pub ended-known : (texts : List (List ℕ)) (item : PlacedItem) → item.field ≡ None → item.annotations ≡ [] → item.head ≡ value.end → HaveIds texts (item_symbols item)
+ended-known texts item none bare head = by-parts (λ i. HaveIds texts (item_symbols i)) item None [] value.end none bare head tt
+
+pub ended-added : (h : Held) (item : PlacedItem) (os : List ℕ) (hs : List HeaderPlace) → item.field ≡ None → item.annotations ≡ [] → item.head ≡ value.end
+    → os ≡ closed_in h.octets h.headers → hs ≡ headers_around h.headers → record h { octets = os; headers = hs } ≡ added h item
+ended-added h item os hs none bare head eo eh =
+    by-parts (λ i. record h { octets = os; headers = hs } ≡ added h i) item None [] value.end none bare head here
+  where
+    i : PlacedItem
+    i = with_parts item None [] value.end
+
+    here : record h { octets = os; headers = hs } ≡ added h i
+    here =
+        let octets : octets_with h (user_item i) ≡ closed_in h.octets h.headers = ap (λ (x : List ℕ). closed_in x h.headers) (append-nil h.octets) in
+        ap (λ (x : List ℕ). record h { octets = x; headers = hs }) (eo ∙ sym octets)
+        ∙ (ap (λ (x : List HeaderPlace). record h { octets = octets_with h (user_item i); headers = x }) eh ∙ sym (added-is h i tt))
+
+pub ended-bare : {A : Type 0} (limits : Limits) (v : OpenValue A) (item : PlacedItem) → item.head ≡ value.end → MayAdd limits v item.head item → (item.field ≡ None) × (item.annotations ≡ [])
+ended-bare {A} limits v item e may = let P : Head SymbolAt → Type 0 = λ h. MayAdd {A = A} limits v h item in subst P e may
+
+-- a header of one octet, and a short body
+pub short-headed : (code k : ℕ) (xs u : List ℕ) → k ≤ 8 → take k xs ≡ u → (16 * code + length (take k xs)) ∷ take k xs ≡ headed code u
+short-headed code k xs u few e =
+    let b : List ℕ = take k xs in
+    let long : length b ≡ min k (length xs) = length-take k xs in
+    let short : nat_lt (length b) 14 ≡ true = lt-ltb (length b) 14 (omega (arith, long, few)) in
+    let here : headed code b ≡ (16 * code + length b) ∷ b =
+    ap (λ (t : Bool). ((16 * code + (if t then length b else 14)) ∷ (if t then [] else var_uint_octets (length b))) ++ b) short in
+    sym here ∙ ap (headed code) e
+
+-- an id of one octet
+zero-digits : (k : ℕ) → digits_within k 128 0 ≡ []
+unfolding digits_within
+zero-digits zero = refl
+zero-digits (suc k) = refl
+
+pub var-one : (n : ℕ) → n < 128 → var_uint_octets n ≡ (128 + n) ∷ []
+unfolding digits_within
+var-one zero h = refl
+var-one (suc n) h =
+    let q : suc n / 128 ≡ 0 = omega (arith, h) in
+    let r : suc n % 128 ≡ suc n = omega (arith, h) in
+    ap marked (ap (λ (ds : List ℕ). ds ++ (suc n % 128 ∷ [])) (ap (digits_within n 128) q ∙ zero-digits n)) ∙ ap (λ k. k ∷ []) (omega (arith, r))
+
+-- ---- the value at top level ends
+
+module _ {A : Type 0} (old new : BinWriter A) (before after : Counts) (s : Written) (item : PlacedItem) (pending put : List ℕ) (p : EndsPlain old new before after item pending put true)
+    (comes : ComesAt old s item) where
+  ends-begun : held_in old ≡ held_forgotten old.limits.symbols (held_of s) (user_item item).head
+  ends-begun =
+      sym (kept old.limits.symbols (held_in old) old.open_value.headers (inl (p.keeps refl)))
+      ∙ forgotten-is old.limits.symbols s (held_in old) (user_item item).head comes.0.held comes.1.value
+
+  ends-passes : refused_at old.limits s item ≡ None
+  ends-passes = sym (refusal-is old.limits s item (held_in old) ends-begun comes.0.codes comes.1) ∙ p.passes refl
+
+  pub ends-follows : Follows old new s item (Ok tt)
+  ends-follows = record {
+    holds = record {
+      held = p.held refl ∙ held-behind old.limits.symbols old.limits.depth s item (held_in old) ends-begun comes.0.codes comes.1;
+      is_open = p.is_open refl;
+      codes = codes-after old.limits.symbols s (user_item item) comes.0.codes;
+    };
+    passes = ends-passes;
+    refuses = λ r q is. absurd (Prim.cc is);
+  }
+
+  pub ends-puts : put ≡ pending ++ adds_at old.limits s item
+  ends-puts =
+      p.puts refl
+      ∙ ap (λ (x : List ℕ). pending ++ x)
+      (put-behind old.limits.symbols old.limits.depth s item (held_in old) ends-begun comes.0.codes comes.1
+      ∙ ap (λ (r : Option (Reason × ℕ)). unless_refused r (item_puts old.limits.symbols s (user_item item))) (sym ends-passes))
+
+drop-all : (ts : List (List ℕ)) → drop (length ts) ts ≡ []
+drop-all [] = refl
+drop-all (t ∷ ts) = drop-all ts
+
+-- its header and its octets were put, and nothing else is due
+module _ {A : Type 0} (w : BinWriter A) (o : HeaderPlace) (item : PlacedItem) (x : List ℕ) (may : MayAdd w.limits w.open_value item.head item) (head : item.head ≡ value.end)
+    (one : w.open_value.headers ≡ o ∷ []) (first : o.place ≡ 0) (due : w.due ≡ false) (all : w.declared ≡ length w.symbols.texts)
+    (is : x ≡ header o.code (length w.open_value.octets)) where
+  abbrev octets : List ℕ
+  octets = w.open_value.octets
+
+  bare : (item.field ≡ None) × (item.annotations ≡ [])
+  bare = ended-bare w.limits w.open_value item head may
+
+  whole-added : added (held_in w) item ≡ record (held_in w) { octets = headed_at o octets; headers = [] }
+  whole-added =
+      sym (ended-added (held_in w) item (headed_at o octets) [] bare.0 bare.1 head (sym (ap (closed_in octets) one)) (sym (ap (λ (hs : List HeaderPlace). headers_around hs) one)))
+
+  whole-put : headed_at o octets ≡ x ++ octets
+  whole-put =
+      let all : length octets - 0 ≡ length octets = omega arith in
+      ap (λ k. take k octets ++ (header o.code (length octets - k) ++ drop k octets)) first
+      ∙ (ap (λ k. header o.code k ++ octets) all ∙ ap (λ (y : List ℕ). y ++ octets) (sym is))
+
+  whole-held : (v : OpenValue A) → v.octets ≡ [] → v.headers ≡ []
+      → held_in (record w { open_value = v }) ≡ value_held (added (held_in w) item) (added (held_in w) item).headers (added (held_in w) item).octets
+  whole-held v eo eh =
+      same-held v.octets [] v.headers [] w.symbols.texts w.symbols.texts w.declared (length w.symbols.texts) w.due false eo eh refl all due
+      ∙ sym (ap (λ (h : Held). value_held h h.headers h.octets) whole-added)
+
+  whole-puts : (pending put : List ℕ) → put ≡ (pending ++ x) ++ octets
+      → put ≡ pending ++ value_put (added (held_in w) item) (added (held_in w) item).headers (added (held_in w) item).octets
+  whole-puts pending put e =
+      let texts : List (List ℕ) = w.symbols.texts in
+      let rest : drop w.declared texts ≡ [] = ap (λ k. drop k texts) all ∙ drop-all texts in
+      let nothing : declaration (drop w.declared texts) ≡ [] = ap declaration rest ∙ declaration-none [] refl in
+      let value : value_put (record (held_in w) { octets = headed_at o octets; headers = [] }) [] (headed_at o octets) ≡ x ++ octets =
+      ap (λ (b : Bool). marker_if b ++ (declaration (drop w.declared texts) ++ headed_at o octets)) due
+      ∙ (ap (λ (y : List ℕ). y ++ headed_at o octets) nothing ∙ whole-put) in
+      e ∙ (append_assoc pending x octets ∙ ap (λ (y : List ℕ). pending ++ y) (sym (ap (λ (h : Held). value_put h h.headers h.octets) whole-added ∙ value)))
+
+  whole-passes : IsOpen w.limits w.open_value → texts_cost w.symbols.texts ≤ w.limits.symbols → item_refusal w.limits (held_in w) item ≡ None
+  whole-passes open_now share =
+      let known : HaveIds w.symbols.texts (item_symbols item) = ended-known w.symbols.texts item bare.0 bare.1 head in
+      let allowed = have-allowed w.limits.symbols w.symbols.texts (item_symbols item) share known in
+      let same : size_of (added (held_in w) item).octets (added (held_in w) item).headers ≡ size_of (headed_at o octets) [] = ap (λ (h : Held). size_of h.octets h.headers) whole-added in
+      let P : List HeaderPlace → Type 0 = λ hs. ArePlaced (length octets) hs in
+      let placed = subst P one open_now.placed in
+      let long = put-length o octets placed.0 in
+      let put = closed-put (length octets) o [] placed in
+      let before : size_of octets w.open_value.headers ≡ size_of octets (o ∷ []) = ap (size_of octets) one in
+      let fits = open_now.fits in
+      not-refused w.limits (held_in w) item allowed (omega (arith, same, long, put, before, fits))
+
+pub plain-ended : {A : Type 0} (w : BinWriter A) (v : OpenValue A) (o : HeaderPlace) (before after : Counts) (item : PlacedItem) (pending put x : List ℕ) → CanTake w before
+    → IsOpen w.limits w.open_value → MayAdd w.limits w.open_value item.head item → item.head ≡ value.end → w.open_value.headers ≡ o ∷ [] → o.place ≡ 0 → w.due ≡ false
+    → w.declared ≡ length w.symbols.texts → x ≡ header o.code (length w.open_value.octets) → put ≡ (pending ++ x) ++ w.open_value.octets → v.octets ≡ [] → v.headers ≡ []
+    → IsOpen w.limits v → Stepped w.limits w.open_value v before after None → EndsPlain w (record w { open_value = v }) before after item pending put true
+plain-ended w v o before after item pending put x c now may head one first due all is e eo eh open_then s = record {
+  held = λ t. whole-held w o item x may head one first due all is v eo eh;
+  puts = λ t. whole-puts w o item x may head one first due all is pending put e;
+  is_open = λ t. open_then;
+  passes = λ t. whole-passes w o item x may head one first due all is now c.sound.share;
+  keeps = λ t. let l : length w.open_value.headers ≡ 1 = ap (λ (hs : List HeaderPlace). length hs) one in omega (arith, l);
+  declines = λ t. absurd (Prim.cc t);
+  taken = plain-taken w v before after c s;
+}

@@ -1,0 +1,217 @@
+-- What a window shows is what reading gives, whatever follows it.
+use Rattle.std.proofs.Common.{◌≡◌, ℕ, suc, ◌+◌, ◌*◌, ◌-◌, ◌%◌, ◌<◌, ◌≤◌, Bool, true, false, ◌&&◌, leb, ltb, List, [], ◌∷◌, ◌++◌, length, take, drop, get_or, Option, Some, None, Result, Ok, Err, refl, ap, sym, subst, ◌∙◌, arith, add-one}
+use Rattle.std.specs.Prelude.{IfSome}
+use Rattle.std.proofs.lemmas.Bool.{le-leb, le-ltb, lt-leb, lt-ltb}
+use Rattle.std.proofs.lemmas.Grind.{common_steps}
+use Rattle.std.proofs.Math.ListN.{get_or-append}
+use Rattle.std.proofs.Math.Seq.{drop-cons}
+use Rattle.std.proofs.lemmas.List.{take-append-le, drop-append-le, drop-drop}
+use Rattle.ion_meter.specs.Sources.{Cursor, skip}
+use Rattle.ion_meter.specs.declared.fault.Reason.{Reason}
+use Rattle.ion_meter.specs.declared.fault.Reason.TheVariants.{ScalarLimit, Truncated, Overrun}
+use Rattle.ion_meter.specs.declared.limits.Limits.{Limits}
+use Rattle.ion_value.specs.declared.ion_type.Kind.{Kind}
+use Rattle.ion_value.specs.Parts.{◌>>=◌, ◌>>◌, Placed, part, refuse}
+use Rattle.ion_value.specs.Scalar.{scalar_of_body}
+use Rattle.ion_value.specs.Value as value
+use Rattle.ion_value.specs.Value.{Symbol, SymbolAt, Scalar}
+use Rattle.ion_value.specs.Reading.{Step}
+use Rattle.ion_binary.specs.Positions.{Frame, State}
+use Rattle.ion_binary.specs.Descriptor.{Region, Shape, null, bool, body, container, first_octet, is_at_end, octet_at, length_at, passes, shape_of, var_uint_at}
+use Rattle.ion_binary.specs.Finds.{end_by, IsOfDescriptor}
+use Rattle.ion_binary.specs.Parts.{body_here, var_from}
+use Rattle.ion_binary.specs.Reading.{Around, TypedValue, a_scalar, a_container, bare_at, container_at, fits, read_by_descriptor, region_of, scalar_at, step_for, typed_value_at, value_at, wrapper_length}
+use Rattle.ion_binary.specs.Shown.{IsShown, Reaches, ShowsBegin, ShowsBody, ShowsLength, ShowsValue, ShowsVar, shown_scalar, shown_value, window}
+use Rattle.ion_binary.specs.declared.shown.Shown.{Shown}
+use Rattle.ion_binary.specs.declared.shown.Shown.TheVariants as shown
+use Rattle.ion_binary.specs.declared.shown.ShownScalar.TheVariants as scalars
+use Rattle.ion_value.specs.declared.ion_type.IonType.{IonType}
+use Rattle.ion_binary.proofs.TypedValueCode.{container_at-begun, scalar_at-body, shape_of-is_of_descriptor}
+use Rattle.ion_binary.proofs.ValueParts.{value_at-plain}
+use Rattle.ion_binary.proofs.VarLoop.{var_from-ends, var_from-goes_on, var_uint_at-prefix}
+
+-- ---- octets
+
+-- a region that reaches behind an octet has not ended before it
+open_before : (r : Region) (place behind : ℕ) → place < behind → Reaches r behind → is_at_end r place ≡ false
+open_before None place behind h reaches = refl
+open_before (Some end) place behind h reaches = lt-leb end place (omega arith)
+
+pub reaches-less : (r : Region) (near far : ℕ) → near ≤ far → Reaches r far → Reaches r near
+reaches-less None near far h reaches = tt
+reaches-less (Some end) near far h reaches = omega arith
+
+-- the first of the octets from a place on
+drop-first : (octets more : List ℕ) (at : ℕ) → at < length octets → drop at (octets ++ more) ≡ get_or octets at 0 ∷ drop (at + 1) (octets ++ more)
+drop-first octets more at h = rw add-one (drop-cons (octets ++ more) at 0 (grind (arith, common_steps)) ∙ ap (λ x. x ∷ drop (suc at) (octets ++ more)) (get_or-append octets more 0 at h))
+
+pub octet_shown : (octets more : List ℕ) (at here : ℕ) (r : Region) → at < length octets → Reaches r (here + (at + 1))
+    → octet_at r (skip at (window here octets more)) ≡ Ok (get_or octets at 0, skip (at + 1) (window here octets more))
+unfolding octet_at
+octet_shown octets more at here r h reaches =
+    let starts : is_at_end r (here + at) ≡ false = open_before r (here + at) (here + (at + 1)) (omega arith) reaches in
+    rw starts (ap (first_octet (here + at)) (drop-first octets more at h)
+    ∙ ap (λ p. Ok (get_or octets at 0, record { place = p; rest = drop (at + 1) (octets ++ more) })) (omega arith))
+
+-- ---- lengths
+
+pub var_one : (octets more : List ℕ) (at here : ℕ) (r : Region) → at < length octets → 128 ≤ get_or octets at 0 → Reaches r (here + (at + 1))
+    → var_uint_at r (skip at (window here octets more)) ≡ Ok (get_or octets at 0 % 128, skip (at + 1) (window here octets more))
+var_one octets more at here r h high reaches =
+    var_uint_at-prefix r (skip at (window here octets more))
+    ∙ (var_from-ends 9 0 (get_or octets at 0) r _ _ (omega arith) (octet_shown octets more at here r h reaches) high ∙ ap (λ n. Ok (n, skip (at + 1) (window here octets more))) (omega arith))
+
+pub var_two : (octets more : List ℕ) (at here : ℕ) (r : Region) → at + 1 < length octets → get_or octets at 0 < 128 → 128 ≤ get_or octets (at + 1) 0 → Reaches r (here + (at + 2))
+    → var_uint_at r (skip at (window here octets more)) ≡ Ok (get_or octets at 0 * 128 + get_or octets (at + 1) 0 % 128, skip (at + 2) (window here octets more))
+var_two octets more at here r h low high reaches =
+    let first = get_or octets at 0 in
+    let c = window here octets more in
+    let near : Reaches r (here + (at + 1)) = reaches-less r (here + (at + 1)) (here + (at + 2)) (omega arith) reaches in
+    let far : Reaches r (here + (at + 1 + 1)) = reaches-less r (here + (at + 1 + 1)) (here + (at + 2)) (omega arith) reaches in
+    let same : at + 1 + 1 ≡ at + 2 = omega arith in
+    var_uint_at-prefix r (skip at c)
+    ∙ (var_from-goes_on 9 8 0 first r (skip at c) (skip (at + 1) c) refl (octet_shown octets more at here r (omega arith) near) low
+    ∙ (var_from-ends 8 (0 * 128 + first % 128) (get_or octets (at + 1) 0) r (skip (at + 1) c) (skip (at + 1 + 1) c) (omega arith) (octet_shown octets more (at + 1) here r h far) high
+    ∙ (ap (λ n. Ok (n, skip (at + 1 + 1) c)) (omega arith) ∙ ap (λ k. Ok (first * 128 + get_or octets (at + 1) 0 % 128, skip k c)) same)))
+
+-- a length that is the length code
+pub length_code_shown : (octets : List ℕ) (length_code at : ℕ) → at ≤ length octets → length_code < 14 → ShowsLength octets length_code at at length_code
+unfolding length_at
+length_code_shown octets length_code at h few = record {
+  further = omega arith;
+  within = h;
+  gives = λ here more r reaches. grind (arith, common_steps);
+}
+
+-- and one that follows its descriptor
+pub length_shown : (octets : List ℕ) (length_code at behind number : ℕ) → length_code ≡ 14 → ShowsVar octets at behind number → ShowsLength octets length_code at behind number
+unfolding length_at
+length_shown octets length_code at behind number is v = record {
+  further = v.further;
+  within = v.within;
+  gives = λ here more r reaches. rw is (v.gives here more r reaches);
+}
+
+-- ---- values
+
+-- a value behind its descriptor, by what that says
+value_shown : (limits : Limits) (octets more : List ℕ) (here : ℕ) (r : Region) (depth at : ℕ) (b : ℕ) (found : TypedValue) (c : Cursor) (frames : List Frame) (top : ℕ) (field : Option SymbolAt)
+    → region_of frames ≡ r → length frames ≡ depth → at < length octets → Reaches r (here + (at + 1)) → get_or octets at 0 ≡ b → wrapper_length (shape_of b) ≡ None
+    → read_by_descriptor limits (record { wrapped = false; region = r; depth = depth }) (shape_of b) (skip (at + 1) (window here octets more)) ≡ Ok (found, c)
+    → value_at limits frames top field (skip at (window here octets more)) ≡ Ok (step_for frames top field [] (here + at) found c)
+unfolding typed_value_at
+value_shown limits octets more here r depth at b found c frames top field e l h reaches is plain read =
+    let here_is = octet_shown octets more at here r h reaches ∙ ap (λ n. Ok (n, skip (at + 1) (window here octets more))) is in
+    value_at-plain limits frames top field (skip at (window here octets more)) (skip (at + 1) (window here octets more)) r depth b e l here_is plain ∙ rw read refl
+
+fits_shown : (r : Region) (depth place n : ℕ) → Reaches r (place + n) → fits (record { wrapped = false; region = r; depth = depth }) place n ≡ Ok tt
+fits_shown None depth place n reaches = refl
+fits_shown (Some end) depth place n reaches = let no : ltb end (place + n) ≡ false = le-ltb end (place + n) reaches in rw no refl
+
+-- what is read behind a descriptor is a value that is shown
+shows_by : (limits : Limits) (octets : List ℕ) (here : ℕ) (r : Region) (depth at behind : ℕ) (found : Shown) (b : ℕ)
+    → at < length octets → get_or octets at 0 ≡ b → wrapper_length (shape_of b) ≡ None → at + 1 ≤ behind → behind ≤ length octets → IsShown limits depth found → Reaches r (here + (at + 1))
+    → ((more : List ℕ) → read_by_descriptor limits (record { wrapped = false; region = r; depth = depth }) (shape_of b) (skip (at + 1) (window here octets more)) ≡ Ok (shown_value found, skip behind (window here octets more)))
+    → ShowsValue limits octets here r depth at behind found
+shows_by limits octets here r depth at behind found b h is plain further within may reaches read = record {
+  further = further;
+  within = within;
+  may_be = may;
+  reaches = reaches;
+  gives = λ more frames top field e l. value_shown limits octets more here r depth at b (shown_value found) (skip behind (window here octets more)) frames top field e l h reaches is plain (read more);
+}
+
+-- a null or a bool
+pub shows_null : (limits : Limits) (octets : List ℕ) (here : ℕ) (r : Region) (depth at : ℕ) (type : IonType) (b : ℕ)
+    → at < length octets → get_or octets at 0 ≡ b → shape_of b ≡ null type → Reaches r (here + (at + 1)) → ShowsValue limits octets here r depth at (at + 1) (shown.Scalar (scalars.Null type))
+unfolding read_by_descriptor bare_at
+shows_null limits octets here r depth at type b h is shape reaches =
+    shows_by limits octets here r depth at (at + 1) (shown.Scalar (scalars.Null type)) b h is (ap wrapper_length shape) (omega arith) (omega arith) tt reaches (λ more. rw shape refl)
+
+pub shows_bool : (limits : Limits) (octets : List ℕ) (here : ℕ) (r : Region) (depth at : ℕ) (truth : Bool) (b : ℕ)
+    → at < length octets → get_or octets at 0 ≡ b → shape_of b ≡ bool truth → Reaches r (here + (at + 1)) → ShowsValue limits octets here r depth at (at + 1) (shown.Scalar (scalars.Bool truth))
+unfolding read_by_descriptor bare_at
+shows_bool limits octets here r depth at truth b h is shape reaches =
+    shows_by limits octets here r depth at (at + 1) (shown.Scalar (scalars.Bool truth)) b h is (ap wrapper_length shape) (omega arith) (omega arith) tt reaches (λ more. rw shape refl)
+
+-- the octets of a body, which are in the window
+body_octets : (octets more : List ℕ) (from n : ℕ) → from + n ≤ length octets → take n (drop from (octets ++ more)) ≡ take n (drop from octets)
+body_octets octets more from n h =
+    ap (take n) (drop-append-le from octets more (omega arith)) ∙ take-append-le n (drop from octets) more (grind (arith, common_steps))
+
+body_shown : (limits : Limits) (octets more : List ℕ) (here from n : ℕ) (type_code : ℕ) (v : Scalar Symbol) → from + n ≤ length octets → n ≤ limits.scalar
+    → scalar_of_body type_code (take n (drop from octets)) ≡ Ok v → body_here limits type_code n (skip from (window here octets more)) ≡ Ok (v, skip n (skip from (window here octets more)))
+unfolding body_here
+body_shown limits octets more here from n type_code v h few meaning =
+    let short : ltb limits.scalar n ≡ false = le-ltb limits.scalar n few in
+    let there : ltb (length (drop from (octets ++ more))) n ≡ false = le-ltb (length (drop from (octets ++ more))) n (grind (arith, common_steps)) in
+    let reads : scalar_of_body type_code (take n (drop from (octets ++ more))) ≡ Ok v = ap (scalar_of_body type_code) (body_octets octets more from n h) ∙ meaning in
+    rw (short, there, reads) refl
+
+skip-skip : (octets more : List ℕ) (here m n behind : ℕ) → behind ≡ m + n → skip n (skip m (window here octets more)) ≡ skip behind (window here octets more)
+skip-skip octets more here m n behind e =
+    let place : here + m + n ≡ here + behind = omega arith in
+    let rest : drop n (drop m (octets ++ more)) ≡ drop behind (octets ++ more) = drop-drop n m (octets ++ more) ∙ ap (λ k. drop k (octets ++ more)) (omega arith) in
+    rw (place, rest) refl
+
+-- a scalar with a body
+pub shows_body : (limits : Limits) (octets : List ℕ) (here : ℕ) (r : Region) (depth at behind type_code length_code : ℕ) (found : Shown) (b : ℕ)
+    → at < length octets → get_or octets at 0 ≡ b → shape_of b ≡ body type_code length_code → ShowsBody limits octets here r type_code length_code at behind found
+    → ShowsValue limits octets here r depth at behind found
+unfolding read_by_descriptor
+shows_body limits octets here r depth at behind type_code length_code found b h is shape s =
+    let longer : at + 1 ≤ s.from = s.length_is.further in
+    let near : Reaches r (here + (at + 1)) = reaches-less r (here + (at + 1)) (here + behind) (omega (arith, s.ends)) s.reaches in
+    let header : Reaches r (here + s.from) = reaches-less r (here + s.from) (here + behind) (omega (arith, s.ends)) s.reaches in
+    let whole : Reaches r (here + s.from + s.number) = reaches-less r (here + s.from + s.number) (here + behind) (omega (arith, s.ends)) s.reaches in
+    let range : IsShown limits depth found = subst (λ f. IsShown limits depth f) (sym s.is) s.range in
+    shows_by limits octets here r depth at behind found b h is (ap wrapper_length shape) (omega (arith, s.ends)) s.within range near
+    (λ more. rw (shape, s.is)
+    (scalar_at-body limits (record { wrapped = false; region = r; depth = depth }) type_code length_code (skip (at + 1) (window here octets more)) s.number (skip s.from (window here octets more)) tt
+    (s.length_is.gives here more r header) (fits_shown r depth (here + s.from) s.number whole)
+    ∙ rw (body_shown limits octets more here s.from s.number type_code (shown_scalar s.scalar) (omega (arith, s.ends, s.within)) s.few s.meaning)
+    (ap (λ c. Ok (a_scalar (shown_scalar s.scalar), c)) (skip-skip octets more here s.from s.number behind s.ends))))
+
+-- a container's beginning
+ends_shown : (limits : Limits) (r : Region) (depth place n : ℕ) → Reaches r (place + n) → depth < limits.depth → end_by limits (record { wrapped = false; region = r; depth = depth }) place n ≡ Ok (place + n)
+ends_shown limits r depth place n reaches deep = let no : leb limits.depth depth ≡ false = lt-leb limits.depth depth deep in rw (fits_shown r depth place n reaches, no) refl
+
+pub shows_begin : (limits : Limits) (octets : List ℕ) (here : ℕ) (r : Region) (depth at behind length_code : ℕ) (kind : Kind) (found : Shown) (b : ℕ)
+    → at < length octets → get_or octets at 0 ≡ b → shape_of b ≡ container kind length_code → ShowsBegin limits octets here r depth kind length_code at behind found
+    → ShowsValue limits octets here r depth at behind found
+unfolding read_by_descriptor
+shows_begin limits octets here r depth at behind length_code kind found b h is shape s =
+    let longer : at + 1 ≤ behind = s.length_is.further in
+    let near : Reaches r (here + (at + 1)) = reaches-less r (here + (at + 1)) (here + behind + s.number) (omega arith) s.reaches in
+    let header : Reaches r (here + behind) = reaches-less r (here + behind) (here + behind + s.number) (omega arith) s.reaches in
+    let may : IsShown limits depth found = subst (λ f. IsShown limits depth f) (sym s.is) s.deep in
+    shows_by limits octets here r depth at behind found b h is (ap wrapper_length shape) longer s.length_is.within may near
+    (λ more. rw (shape, s.is)
+    (container_at-begun limits (record { wrapped = false; region = r; depth = depth }) kind length_code (skip (at + 1) (window here octets more)) s.number (skip behind (window here octets more))
+    (here + behind + s.number) (s.length_is.gives here more r header) (ends_shown limits r depth (here + behind) s.number s.reaches s.deep)))
+
+-- ---- what calls answer
+
+-- what follows from an answer, if there is one
+pub if_some : {T : Type 0} {P Q : T → Type 0} (o : Option T) → ((x : T) → P x → Q x) → IfSome o P → IfSome o Q
+if_some None f h = tt
+if_some (Some x) f h = f x h
+
+pub shows_one : (octets : List ℕ) (at : ℕ) → at < length octets → 128 ≤ get_or octets at 0 → get_or octets at 0 < 256 → ShowsVar octets at (at + 1) (get_or octets at 0 - 128)
+shows_one octets at h high small = record {
+  further = omega arith;
+  within = omega arith;
+  gives = λ here more r reaches. var_one octets more at here r h high reaches ∙ ap (λ n. Ok (n, skip (at + 1) (window here octets more))) (omega arith);
+}
+
+pub shows_two : (octets : List ℕ) (at : ℕ) → at + 1 < length octets → get_or octets at 0 < 128 → 128 ≤ get_or octets (at + 1) 0 → get_or octets (at + 1) 0 < 256
+    → ShowsVar octets at (at + 2) (get_or octets at 0 * 128 + (get_or octets (at + 1) 0 - 128))
+shows_two octets at h low high small = record {
+  further = omega arith;
+  within = omega arith;
+  gives = λ here more r reaches. var_two octets more at here r h low high reaches ∙ ap (λ n. Ok (n, skip (at + 2) (window here octets more))) (omega arith);
+}
+
+-- what the code says of a descriptor
+pub shape_read : (b : ℕ) (s : Shape) → s ≡ shape_of b → IsOfDescriptor s
+shape_read b s e = subst IsOfDescriptor (sym e) (shape_of-is_of_descriptor b)

@@ -1,0 +1,53 @@
+use Rattle.std.proofs.Common.{rules, ◌≡◌, ◌-◌, ◌∷◌, List, ℕ, drop, length, refl, ap, subst, ◌∙◌, arith}
+use Rattle.ion_meter.specs.Counts.{Shrinks}
+use Rattle.ion_binary.specs.declared.headers.HeaderPlace.{HeaderPlace}
+use Rattle.ion_binary.specs.Canonical.{header}
+use Rattle.ion_binary.specs.Counting.{ArePlaced, cut}
+use Rattle.ion_binary.specs.Held.{headed_at}
+use Rattle.ion_binary.specs.Opening.{IsOpen, open_cost, open_most}
+use Rattle.ion_binary.specs.Places.{header_size}
+use Rattle.ion_binary.proofs.OpenSteps.{grow-shrink, innermost-open, popped, popped-cost, put-length}
+use Rattle.ion_binary.proofs.open_value.OpenValue.end_if_room.Goals as goal
+
+pub returns-clause-open : goal.returns-clause-open
+returns-clause-open g c is =
+    let v = c.args.self.now in
+    let h : HeaderPlace = c.in-Some.innermost in
+    let rest : List HeaderPlace = c.in-Some.around ∷ drop 2 v.headers in
+    let two : v.headers ≡ h ∷ rest = c.in-Some.ensures in
+    let left : c.pop-innermost.new.self ≡ rest = popped c.pop-innermost.result v.headers c.pop-innermost.new.self rest h two c.pop-innermost.ensures.items in
+    let headers : c.cut.new.self.headers ≡ rest = c.cut.ensures.headers ∙ left in
+    let octets : c.cut.new.self.octets ≡ headed_at h v.octets = search rules in
+    let counts : c.cut.new.self.counts ≡ cut (length rest) v.counts = c.cut.ensures.counts ∙ ap (λ (hs : List HeaderPlace). cut (length hs) v.counts) left in
+    innermost-open c.args.limits v c.cut.new.self h rest c.requires.can_step.checked c.requires.open two headers octets counts
+
+pub returns-clause-stepped : goal.returns-clause-stepped
+returns-clause-stepped g c =
+    let v = c.args.self.now in
+    let w = c.cut.new.self in
+    let h : HeaderPlace = c.in-Some.innermost in
+    let rest : List HeaderPlace = c.in-Some.around ∷ drop 2 v.headers in
+    let two : v.headers ≡ h ∷ rest = c.in-Some.ensures in
+    let left : c.pop-innermost.new.self ≡ rest = popped c.pop-innermost.result v.headers c.pop-innermost.new.self rest h two c.pop-innermost.ensures.items in
+    let shrinks : Shrinks c.insert_if_room.new.meter c.pop-innermost.new.meter 8 =
+    popped-cost c.pop-innermost.result v.headers c.pop-innermost.new.self rest h c.insert_if_room.new.meter c.pop-innermost.new.meter two c.pop-innermost.ensures.items c.pop-innermost.ensures.cost in
+    let opened : IsOpen c.args.limits w = returns-clause-open g c refl in
+    let fits = opened.fits in
+    let before = c.requires.can_step.within.headers in
+    let few : length v.headers ≡ length (h ∷ rest) = ap (λ (hs : List HeaderPlace). length hs) two in
+    let now : length w.headers ≡ length rest = ap (λ (hs : List HeaderPlace). length hs) (c.cut.ensures.headers ∙ left) in
+    let octets : w.octets ≡ headed_at h v.octets = search rules in
+    let long : length w.octets ≡ length (headed_at h v.octets) = ap (λ (os : List ℕ). length os) octets in
+    let Placed : List HeaderPlace → Type 0 = λ hs. ArePlaced (length v.octets) hs in
+    let placed = subst Placed two c.requires.open.placed in
+    let put = put-length h v.octets placed.0 in
+    let x : c.as_slice-2.result.now ≡ header h.code (length v.octets - h.place) = search rules in
+    let size : length c.as_slice-2.result.now ≡ header_size (length v.octets - h.place) = ap (λ (os : List ℕ). length os) x in
+    record {
+      within = record { octets = omega (arith, fits); headers = omega (arith, few, before, now) };
+      memory = record { memory = λ e. absurd (Prim.cc e); counted = λ e. shrinks.refused ∙ (c.insert_if_room.ensures.cost c.if-not-insert_if_room.false).refused };
+      alone = λ f e. absurd (Prim.cc e);
+      charges =
+          grow-shrink c.args.meter.now c.insert_if_room.new.meter c.pop-innermost.new.meter (length c.as_slice-2.result.now) 8 (open_cost v) (open_cost w) (open_most c.args.limits)
+          (c.insert_if_room.ensures.cost c.if-not-insert_if_room.false) shrinks (omega (arith, few, now, long, put, size)) c.requires.can_step.held (omega (arith, fits, few, before, long, put, size));
+    }

@@ -1,0 +1,58 @@
+use Rattle.std.proofs.Common.{◌≡◌, ℕ, ◌<◌, [], None, List, length, refl, ap, sym, subst, ◌∙◌, arith}
+use Rattle.ion_meter.specs.Sources.{cursor}
+use Rattle.ion_value.specs.Reading.{Gives, More}
+use Rattle.ion_value.specs.Items.{named_item}
+use Rattle.ion_value.specs.Value as value
+use Rattle.ion_binary.specs.Positions.{Frame}
+use Rattle.ion_binary.specs.Reading.{placed_item, step}
+use Rattle.ion_binary.specs.Reader.{IsInnermost, to_come}
+use Rattle.ion_binary.specs.Steps.{opened_in}
+use Rattle.ion_binary.specs.Wrappers.{as_frames}
+use Rattle.ion_binary.proofs.Handing.{end_fits, ends-some, hands_by, open_one, path_here, to_come-gives}
+use Rattle.ion_binary.proofs.ReaderParts.{inside-ends, kinds_of-length}
+use Rattle.ion_binary.proofs.reader.BinReader.hand_end.Goals as goal
+
+pub returns-clause-hands : goal.returns-clause-hands
+returns-clause-hands g c e =
+    let device = g.I.Input in
+    let w = g.W.ValueWriter in
+    let r = c.args.self.now in
+    let new = c.close.new.self in
+    let taken = c.if-not-take_plain.ensures in
+    let item = placed_item r.top None [] c.place.result value.end in
+    let some = ends-some c.args._frame r.source.place c.requires.ends in
+    let inner = subst (λ o. IsInnermost (as_frames r.frames) o) some.1 c.requires.innermost in
+    let ends = inside-ends r.limits (as_frames r.frames) some.0 r.top (cursor device r.source) inner some.2 in
+    let here = ap (λ n. Gives (placed_item r.top None [] n value.end) (record { frames = as_frames new.frames; top = r.top; cursor = cursor device r.source })) (sym c.place.ensures) in
+    let closed = ap (λ (fs : List Frame). Gives (placed_item r.top None [] r.source.place value.end) (record { frames = fs; top = r.top; cursor = cursor device r.source })) (sym c.close.ensures.frames) in
+    let gives : to_come device r.limits r.frames r.top r.source ≡ More item (to_come device r.limits new.frames r.top r.source) =
+    to_come-gives device r.limits r.frames new.frames r.top r.top r.source r.source item (ends ∙ (closed ∙ here)) in
+    let less : length new.frames < length r.frames = omega (arith, c.close.ensures.fewer) in
+    rw c.close.ensures.end (record {
+      hands = λ values. hands_by w (named_item (g.N.Names.text c.args._names.now)) (device.observable r.source.device) (to_come device r.limits r.frames r.top r.source)
+          (to_come device r.limits new.frames r.top r.source) (opened_in r) (opened_in new) c.args.writer.now c.take_plain.new.self c.args.sink.now.pending c.take_plain.new.sink.pending values
+          item item refl (λ _. gives) (record { field = tt; annotations = tt; head = tt }) c.close.ensures.kinds
+          (end_fits (w.limits c.args.writer.now).depth (opened_in r) c.place.result r.top (open_one r.frames some.0 inner)) refl taken.same.1
+          (taken.stands refl) (taken.puts refl);
+      falls = omega (arith, less);
+      further = omega arith;
+      total = refl;
+      bytes = λ b. b;
+    })
+
+pub close-requires-clause-open : goal.close-requires-clause-open
+close-requires-clause-open g c =
+    let r = c.args.self.now in
+    let some = ends-some c.args._frame r.source.place c.requires.ends in
+    let inner = subst (λ o. IsInnermost (as_frames r.frames) o) some.1 c.requires.innermost in
+    omega (arith, open_one r.frames some.0 inner, kinds_of-length r.frames)
+
+pub take_plain-requires-clause-path : goal.take_plain-requires-clause-path
+take_plain-requires-clause-path g c =
+    let w = g.W.ValueWriter in
+    let r = c.args.self.now in
+    let write = c.requires.can_hand.writer in
+    let some = ends-some c.args._frame r.source.place c.requires.ends in
+    let inner = subst (λ o. IsInnermost (as_frames r.frames) o) some.1 c.requires.innermost in
+    path_here w r.limits.depth (opened_in r) c.args.writer.now (placed_item r.top None [] c.place.result value.end) write.depth_of
+    (end_fits r.limits.depth (opened_in r) c.place.result r.top (open_one r.frames some.0 inner)) refl write.behind

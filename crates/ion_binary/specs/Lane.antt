@@ -1,0 +1,79 @@
+-- What a call that hands one item to a writer asks for, gives, keeps and moves.
+use Rattle.std.specs.Prelude.{◌≡◌, ℕ, ◌+◌, ◌-◌, ◌^◌, ◌<◌, ◌≤◌, List, length, map, Option, Some, None, option_map, is_some, Ok, ⊤}
+use Rattle.ion_meter.specs.Counts.{Counts}
+use Rattle.ion_meter.specs.Windows.{Incoming, Outgoing, left}
+use Rattle.ion_meter.specs.Sources.{BytesAreLeft, Stands, skip}
+use Rattle.ion_meter.specs.declared.device.Input.{Ghosts as InputOf}
+use Rattle.ion_value.specs.declared.writer.ValueWriter.{Ghosts as WriterOf}
+use Rattle.ion_value.specs.Feeding.{CanTake, Hands, Joint, StaysWell}
+use Rattle.ion_value.specs.Outcome.{one_if_closed}
+use Rattle.ion_value.specs.Shares.{Charges}
+use Rattle.ion_value.specs.declared.plain_item.TextAt.{TextAt}
+use Rattle.ion_value.specs.Items.{named_at}
+use Rattle.ion_value.specs.PlainItems.{HasSimpleName, placed_text}
+use Rattle.ion_value.specs.Standing.{in_struct}
+use Rattle.ion_value.specs.Value.{PlacedItem, SymbolAt}
+use Rattle.ion_binary.specs.declared.wrapper.Frame as frame
+use Rattle.ion_binary.specs.Positions.{Frame}
+use Rattle.ion_binary.specs.Reading.{field_at, region_of}
+use Rattle.ion_binary.specs.Shown.{Reaches, window}
+use Rattle.ion_binary.specs.declared.reader.BinReader.{BinReader}
+use Rattle.ion_binary.specs.Steps.{IsSized, held_by, left_to, opened_in, share_of, to_come_by}
+
+-- a reader and a writer may hand an item on
+pub record CanHand {I A W O : Type 0} (w : WriterOf W O A) (r : BinReader I A) (pen : W) (sink : Outgoing O) (meter : Counts) : Type 0 where
+  pub room : meter.held + 16 ≤ 2 ^ 62
+  pub held : held_by r + w.own pen ≤ meter.held
+  pub countable : meter.refused < 2 ^ 64 - 1
+  pub sized : IsSized r
+  pub stands : Stands r.source
+  pub writer : CanTake w r.limits.depth (opened_in r) pen sink
+
+-- where the two stand
+abbrev pub joint : {I A W O : Type 0} → InputOf I → BinReader I A → W → Outgoing O → ℕ → Joint W
+joint device r writer sink values = record { coming = to_come_by device r; opened = opened_in r; writer = writer; pending = sink.pending; values = values }
+
+-- the item was handed on
+pub record HandsItem {I A W O : Type 0} (device : InputOf I) (w : WriterOf W O A) (see : PlacedItem → PlacedItem) (old new : BinReader I A) (pen then : W) (from to : Outgoing O) : Type 0 where
+  pub hands : (values : ℕ) → Hands w see (device.observable old.source.device) (joint device old pen from values) (joint device new then to (values + one_if_closed (opened_in new)))
+  pub falls : left_to new < left_to old
+  pub further : old.source.place ≤ new.source.place
+  pub total : new.source.place + length (left device.rest new.source) ≡ old.source.place + length (left device.rest old.source)
+  pub bytes : BytesAreLeft device new.source → BytesAreLeft device old.source
+
+-- or none was: all is as it was
+pub record HandsNothing {I A W O : Type 0} (old new : BinReader I A) (pen then : W) (from to : Outgoing O) : Type 0 where
+  pub reader : new ≡ old
+  pub writer : then ≡ pen
+  pub sink : to ≡ from
+
+-- what stays, and memory
+pub record KeepsOn {I A W O : Type 0} (w : WriterOf W O A) (old new : BinReader I A) (pen then : W) (from to : Outgoing O) (before after : Counts) : Type 0 where
+  pub sized : IsSized new
+  pub stands : Stands new.source
+  pub limits : new.limits ≡ old.limits
+  pub failed : new.failed ≡ old.failed
+  pub done : new.done ≡ old.done
+  pub device : new.source.device ≡ old.source.device
+  pub limit : new.source.limit ≡ old.source.limit
+  pub writer : StaysWell w pen then from to before after
+  pub charges : Charges before after (held_by old + w.own pen) (held_by new + w.own then) (share_of old + w.most pen)
+
+-- octets show what stands before a member: its field's name, which its id has, and how many octets the id has; or nothing outside structs
+pub record ShowsField (texts : ℕ → Option (List ℕ)) (octets : List ℕ) (here : ℕ) (frames : List Frame) (field : Option TextAt) (behind : ℕ) : Type 0 where
+  pub raw : Option SymbolAt
+  pub within : behind ≤ length octets
+  pub named : option_map (named_at texts) raw ≡ option_map placed_text field
+  pub simple : HasSimpleName (option_map placed_text field)
+  pub there : is_some field ≡ in_struct (map (λ f. f.kind) frames)
+  pub gives : (more : List ℕ) → Reaches (region_of frames) (here + behind) → field_at frames (window here octets more) ≡ Ok (raw, skip behind (window here octets more))
+
+-- the innermost container does not end here
+abbrev pub GoesOn : Option frame.Frame → ℕ → Type 0
+GoesOn None place = ⊤
+GoesOn (Some f) place = place < f.end
+
+-- it ends here
+abbrev pub EndsHere : Option frame.Frame → ℕ → Type 0
+EndsHere None place = ⊥
+EndsHere (Some f) place = f.end ≤ place

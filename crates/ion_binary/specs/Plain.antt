@@ -1,0 +1,44 @@
+-- What contracts see of plain items that are added at once to a value that is open and stays so.
+use Rattle.std.specs.Prelude.{◌≡◌, ℕ, ◌/◌, ◌<◌, ◌≤◌, ◌⊎◌, Bool, true, false, List, [], ◌∷◌, ◌++◌, length, None, ⊤}
+use Rattle.ion_meter.specs.Counts.{Counts}
+use Rattle.ion_value.specs.Value as value
+use Rattle.ion_value.specs.Value.{SymbolAt, user_symbol_at, Head, PlacedItem}
+use Rattle.ion_binary.specs.declared.writer.BinWriter.{BinWriter}
+use Rattle.ion_symbols.specs.Output.{texts_cost}
+use Rattle.ion_binary.specs.Canonical.{with_symbol}
+use Rattle.ion_binary.specs.Held.{value_held, value_put}
+use Rattle.ion_binary.specs.Opening.{IsOpen}
+use Rattle.ion_binary.specs.Writer.{Taken, added, held_in, item_refusal}
+
+-- a head is a scalar
+abbrev pub IsWhole : {S : Type 0} → Head S → Type 0
+IsWhole (value.whole body) = ⊤
+IsWhole (value.begin kind) = ⊥
+IsWhole value.end = ⊥
+IsWhole value.marker = ⊥
+
+-- each of these symbols has its id
+abbrev pub HaveIds : List (List ℕ) → List SymbolAt → Type 0
+HaveIds texts [] = ⊤
+HaveIds texts (s ∷ ss) = (with_symbol texts (user_symbol_at s) ≡ texts) × HaveIds texts ss
+
+-- the item ended the value at top level, which was put, and is not refused; or it was declined, and nothing is changed
+pub record EndsPlain {A : Type 0} (old new : BinWriter A) (before after : Counts) (item : PlacedItem) (pending put : List ℕ) (result : Bool) : Type 0 where
+  pub held : result ≡ true → held_in new ≡ value_held (added (held_in old) item) (added (held_in old) item).headers (added (held_in old) item).octets
+  pub puts : result ≡ true → put ≡ pending ++ value_put (added (held_in old) item) (added (held_in old) item).headers (added (held_in old) item).octets
+  pub is_open : result ≡ true → IsOpen new.limits new.open_value
+  pub passes : result ≡ true → item_refusal old.limits (held_in old) item ≡ None
+  pub keeps : result ≡ true → 0 < length old.open_value.headers
+  pub declines : result ≡ false → (new ≡ old) × (after ≡ before)
+  pub taken : Taken old new before after None
+
+-- the item was added to a value that is open behind it, no text being forgotten as it comes, and is not refused; or it was declined, and
+-- nothing is changed
+pub record AddsPlain {A : Type 0} (old new : BinWriter A) (before after : Counts) (item : PlacedItem) (result : Bool) : Type 0 where
+  pub held : result ≡ true → held_in new ≡ added (held_in old) item
+  pub is_open : result ≡ true → IsOpen new.limits new.open_value
+  pub passes : result ≡ true → item_refusal old.limits (held_in old) item ≡ None
+  pub keeps : result ≡ true → (0 < length old.open_value.headers) ⊎ (texts_cost old.symbols.texts ≤ old.limits.symbols / 2)
+  pub inside : result ≡ true → 0 < length new.open_value.headers
+  pub declines : result ≡ false → (new ≡ old) × (after ≡ before)
+  pub taken : Taken old new before after None

@@ -1,0 +1,91 @@
+-- What a window shows of an item that lies whole in it.
+use Rattle.std.specs.Prelude.{◌≡◌, ℕ, ◌+◌, ◌<◌, ◌≤◌, List, [], ◌++◌, length, take, drop, Option, Some, None, Result, Ok, Err, ⊤}
+use Rattle.ion_meter.specs.Sources.{Cursor, skip}
+use Rattle.ion_meter.specs.declared.limits.Limits.{Limits}
+use Rattle.ion_value.specs.declared.ion_type.Kind.{Kind}
+use Rattle.ion_value.specs.Scalar.{scalar_of_body}
+use Rattle.ion_value.specs.Value as value
+use Rattle.ion_value.specs.Value.{Symbol, SymbolAt, Scalar, Id}
+use Rattle.ion_value.specs.Standing.{InRange}
+use Rattle.ion_binary.specs.declared.shown.ShownScalar.{ShownScalar}
+use Rattle.ion_binary.specs.declared.shown.ShownScalar.TheVariants as scalars
+use Rattle.ion_binary.specs.declared.shown.Shown.{Shown}
+use Rattle.ion_binary.specs.declared.shown.Shown.TheVariants as shown
+use Rattle.ion_binary.specs.Positions.{Frame}
+use Rattle.ion_binary.specs.Descriptor.{Region, length_at, var_uint_at}
+use Rattle.ion_binary.specs.Reading.{TypedValue, a_scalar, a_container, region_of, step_for, value_at}
+
+-- the cursor at a place of the stream, where these octets are in the window, and more may come
+abbrev pub window : ℕ → List ℕ → List ℕ → Cursor
+window place octets more = record { place = place; rest = octets ++ more }
+
+-- a region goes as far as a place; the top level goes everywhere
+abbrev pub Reaches : Region → ℕ → Type 0
+Reaches None place = ⊤
+Reaches (Some end) place = place ≤ end
+
+-- a scalar that is shown
+abbrev pub shown_scalar : ShownScalar → Scalar Symbol
+shown_scalar (scalars.Null type) = value.null type
+shown_scalar (scalars.Bool truth) = value.bool truth
+shown_scalar (scalars.Int number) = value.int number
+shown_scalar (scalars.Decimal number) = value.decimal number
+shown_scalar (scalars.Timestamp moment) = value.timestamp moment
+shown_scalar (scalars.Symbol id) = value.symbol (Id id)
+shown_scalar (scalars.String bytes) = value.string bytes.now
+
+-- what is shown, as reading finds it
+abbrev pub shown_value : Shown → TypedValue
+shown_value (shown.Scalar scalar) = a_scalar (shown_scalar scalar)
+shown_value (shown.Begin kind end) = a_container kind end
+
+-- numbers are within their range, and a container may begin where so many are open
+abbrev pub IsShown : Limits → ℕ → Shown → Type 0
+IsShown limits depth (shown.Scalar scalar) = InRange (shown_scalar scalar)
+IsShown limits depth (shown.Begin kind end) = depth < limits.depth
+
+-- these octets show a VarUInt from one place of them to another, whatever follows them, where the region holds it
+pub record ShowsVar (octets : List ℕ) (at behind number : ℕ) : Type 0 where
+  pub further : at ≤ behind
+  pub within : behind ≤ length octets
+  pub gives : (here : ℕ) (more : List ℕ) (region : Region) → Reaches region (here + behind)
+      → var_uint_at region (skip at (window here octets more)) ≡ Ok (number, skip behind (window here octets more))
+
+-- the same of a length, by the length code of its descriptor
+pub record ShowsLength (octets : List ℕ) (length_code at behind number : ℕ) : Type 0 where
+  pub further : at ≤ behind
+  pub within : behind ≤ length octets
+  pub gives : (here : ℕ) (more : List ℕ) (region : Region) → Reaches region (here + behind)
+      → length_at length_code region (skip at (window here octets more)) ≡ Ok (number, skip behind (window here octets more))
+
+-- a scalar with a body, behind its descriptor at a place: where its length ends, its length, and its octets
+pub record ShowsBody (limits : Limits) (octets : List ℕ) (here : ℕ) (region : Region) (type_code length_code at behind : ℕ) (found : Shown) : Type 0 where
+  pub scalar : ShownScalar
+  pub is : found ≡ shown.Scalar scalar
+  pub range : InRange (shown_scalar scalar)
+  pub from : ℕ
+  pub number : ℕ
+  pub length_is : ShowsLength octets length_code (at + 1) from number
+  pub ends : behind ≡ from + number
+  pub within : behind ≤ length octets
+  pub few : number ≤ limits.scalar
+  pub reaches : Reaches region (here + behind)
+  pub meaning : scalar_of_body type_code (take number (drop from octets)) ≡ Ok (shown_scalar scalar)
+
+-- a container's beginning, behind its descriptor at a place
+pub record ShowsBegin (limits : Limits) (octets : List ℕ) (here : ℕ) (region : Region) (depth : ℕ) (kind : Kind) (length_code at behind : ℕ) (found : Shown) : Type 0 where
+  pub number : ℕ
+  pub is : found ≡ shown.Begin kind (here + behind + number)
+  pub length_is : ShowsLength octets length_code (at + 1) behind number
+  pub deep : depth < limits.depth
+  pub reaches : Reaches region (here + behind + number)
+
+-- and of a value behind its field
+pub record ShowsValue (limits : Limits) (octets : List ℕ) (here : ℕ) (region : Region) (depth at behind : ℕ) (found : Shown) : Type 0 where
+  pub further : at + 1 ≤ behind
+  pub within : behind ≤ length octets
+  pub may_be : IsShown limits depth found
+  pub reaches : Reaches region (here + (at + 1))
+  pub gives : (more : List ℕ) (frames : List Frame) (top : ℕ) (field : Option SymbolAt) → region_of frames ≡ region → length frames ≡ depth
+      → value_at limits frames top field (skip at (window here octets more))
+      ≡ Ok (step_for frames top field [] (here + at) (shown_value found) (skip behind (window here octets more)))

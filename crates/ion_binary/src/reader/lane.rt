@@ -1,0 +1,252 @@
+//! Items that lie whole in the window, handed to a writer.
+ghost use Rattle.std.specs.Prelude.{◌≡◌, ◌+◌, ◌-◌, ◌^◌, ◌<◌, ◌≤◌, length, false, true, Option, Some, None, IfSome, map};
+ghost use Rattle.ion_value.specs.Items.{named_at, named_item, raw_head};
+ghost use Rattle.ion_value.specs.PlainItems.{HasSimpleName, IsSimpleHead};
+ghost use Rattle.ion_binary.specs.Lane.{CanHand, EndsHere, GoesOn, HandsItem, HandsNothing, KeepsOn, ShowsField};
+ghost use Rattle.ion_binary.specs.Positions.{placed_scalar};
+ghost use Rattle.ion_binary.specs.Reader.{IsInnermost};
+ghost use Rattle.ion_binary.specs.Reading.{top_of};
+ghost use Rattle.ion_binary.specs.Shown.{shown_scalar};
+ghost use Rattle.ion_binary.specs.Wrappers.{as_frames, innermost};
+ghost use Rattle.ion_value.specs.Value.{map_head, whole};
+
+use super::{BinReader, region};
+use crate::body::id_of;
+use crate::shown::{Shown, ShownScalar, shown_value, shown_var};
+use crate::wrapper::Frame;
+use ion_meter::device::{Input, Output};
+use ion_meter::meter::Meter;
+use ion_meter::sink::Sink;
+use ion_value::ion_type::Kind;
+use ion_value::item::{Head, Sym, SymAt};
+use ion_value::names::Names;
+use ion_value::plain_item::{PlainItem, TextAt};
+use ion_value::writer::ValueWriter;
+use std::alloc::Allocator;
+
+// The name of a field that stands before a member, and how many octets its id has; none outside
+// structs. It answers none where the window does not show an id of a simple text.
+#[inline(always)]
+fn shown_field<'n, N: Names>(
+    octets: &[u8],
+    here: u64,
+    frame: Option<Frame>,
+    names: &'n N,
+) -> Option<(Option<TextAt<'n>>, usize)>
+    ensures { IfSome result
+        (λ r. ShowsField (N.text names.entry.now) octets.now here (innermost frame) r.0 r.1) }
+{
+    let Some(frame) = frame else {
+        return Some((None, 0));
+    };
+    match frame.kind {
+        Kind::List | Kind::Sexp => Some((None, 0)),
+        Kind::Struct => {
+            let Some((id, behind)) = shown_var(octets, 0) else {
+                return None;
+            };
+            let Some(text) = names.simple_text(id_of(id)) else {
+                return None;
+            };
+            Some((Some(TextAt { text, place: here }), behind))
+        }
+    }
+}
+
+// A scalar as a head, where it is no symbol without a simple text.
+#[inline(always)]
+fn shown_head<'h, N: Names>(scalar: ShownScalar<'h>, place: u64, names: &'h N) -> Option<Head<'h>>
+    ensures head { IfSome result (λ h. raw_head h ≡ map_head (named_at (N.text names.entry.now))
+        (whole (placed_scalar place (shown_scalar scalar.entry)))) }
+    ensures simple { IfSome result (λ h. IsSimpleHead (raw_head h)) }
+{
+    match scalar {
+        ShownScalar::Null(of) => Some(Head::Null(of)),
+        ShownScalar::Bool(truth) => Some(Head::Bool(truth)),
+        ShownScalar::Int(int) => Some(Head::Int(int)),
+        ShownScalar::Decimal(decimal) => Some(Head::Decimal(decimal)),
+        ShownScalar::Timestamp(moment) => Some(Head::Timestamp(moment)),
+        ShownScalar::String(text) => Some(Head::String(text)),
+        ShownScalar::Symbol(id) => {
+            let Some(text) = names.simple_text(id) else {
+                return None;
+            };
+            Some(Head::Symbol(SymAt {
+                sym: Sym::Text(text),
+                place,
+            }))
+        }
+    }
+}
+
+// Whether the innermost container ends at a place.
+#[inline(always)]
+fn ends_here(frame: Option<Frame>, place: u64) -> bool
+    ensures ends { result ≡ true → EndsHere frame place }
+    ensures goes_on { result ≡ false → GoesOn frame place }
+{
+    match frame {
+        None => false,
+        Some(frame) => frame.end <= place,
+    }
+}
+
+// Where the value at top level begins that a member belongs to.
+#[inline(always)]
+fn top_at(frame: Option<Frame>, top: u64, here: u64) -> u64
+    ensures { result ≡ top_of (innermost frame) top here }
+{
+    match frame {
+        None => here,
+        Some(_) => top,
+    }
+}
+
+// An item with no annotation.
+#[inline(always)]
+fn bare_item<'n, 'h>(
+    field: Option<TextAt<'n>>,
+    head: Head<'h>,
+    place: u64,
+    top: u64,
+) -> PlainItem<'n, 'h>
+    ensures { result ≡ record {
+      field = field.entry;
+      annotation = None;
+      head = head.entry;
+      place = place;
+      top = top;
+    } }
+{
+    PlainItem {
+        field,
+        annotation: None,
+        head,
+        place,
+        top,
+    }
+}
+
+impl<I: Input, A: Allocator + Copy> BinReader<I, A> {
+    // Hands the next item on, where that is possible; else it answers false, and nothing is changed.
+    #[inline(always)]
+    pub(super) fn hand<N: Names, W: ValueWriter<O, A>, O: Output>(
+        &mut self,
+        meter: &mut Meter<A>,
+        names: &N,
+        writer: &mut W,
+        sink: &mut Sink<O, A>,
+    ) -> bool
+        requires { CanHand W.ValueWriter self.old writer.old sink.old meter.old }
+        ensures hands { result ≡ true → HandsItem I.Input W.ValueWriter
+            (named_item (N.text names.now)) self.old self.new writer.old writer.new
+            sink.old sink.new }
+        ensures nothing { result ≡ false
+            → HandsNothing self.old self.new writer.old writer.new sink.old sink.new }
+        ensures keeps { KeepsOn W.ValueWriter self.old self.new writer.old writer.new
+            sink.old sink.new meter.old meter.new }
+    {
+        let frame = self.frames.as_slice().last().copied();
+        if ends_here(frame, self.source.place()) {
+            return self.hand_end(frame, meter, names, writer, sink);
+        }
+        self.hand_member(frame, meter, names, writer, sink)
+    }
+
+    // The end of the innermost container, which stands here.
+    #[inline(always)]
+    fn hand_end<N: Names, W: ValueWriter<O, A>, O: Output>(
+        &mut self,
+        _frame: Option<Frame>,
+        meter: &mut Meter<A>,
+        _names: &N,
+        writer: &mut W,
+        sink: &mut Sink<O, A>,
+    ) -> bool
+        requires can_hand { CanHand W.ValueWriter self.old writer.old sink.old meter.old }
+        requires innermost { IsInnermost (as_frames self.old.frames) _frame }
+        requires ends { EndsHere _frame self.old.source.place }
+        ensures hands { result ≡ true → HandsItem I.Input W.ValueWriter
+            (named_item (N.text _names.now)) self.old self.new writer.old writer.new
+            sink.old sink.new }
+        ensures nothing { result ≡ false
+            → HandsNothing self.old self.new writer.old writer.new sink.old sink.new }
+        ensures keeps { KeepsOn W.ValueWriter self.old self.new writer.old writer.new
+            sink.old sink.new meter.old meter.new }
+    {
+        let item = PlainItem {
+            field: None,
+            annotation: None,
+            head: Head::End,
+            place: self.source.place(),
+            top: self.top,
+        };
+        if !writer.take_plain(meter, sink, item) {
+            return false;
+        }
+        self.close(meter);
+        true
+    }
+
+    // The next member of the innermost container, or a value at top level.
+    #[inline(always)]
+    fn hand_member<N: Names, W: ValueWriter<O, A>, O: Output>(
+        &mut self,
+        frame: Option<Frame>,
+        meter: &mut Meter<A>,
+        names: &N,
+        writer: &mut W,
+        sink: &mut Sink<O, A>,
+    ) -> bool
+        requires can_hand { CanHand W.ValueWriter self.old writer.old sink.old meter.old }
+        requires innermost { IsInnermost (as_frames self.old.frames) frame }
+        requires goes_on { GoesOn frame self.old.source.place }
+        ensures hands { result ≡ true → HandsItem I.Input W.ValueWriter
+            (named_item (N.text names.now)) self.old self.new writer.old writer.new
+            sink.old sink.new }
+        ensures nothing { result ≡ false
+            → HandsNothing self.old self.new writer.old writer.new sink.old sink.new }
+        ensures keeps { KeepsOn W.ValueWriter self.old self.new writer.old writer.new
+            sink.old sink.new meter.old meter.new }
+    {
+        let here = self.source.place();
+        let octets = self.source.buffer();
+        let Some((field, at)) = shown_field(octets, here, frame, names) else {
+            return false;
+        };
+        let region = region(frame);
+        let depth = self.frames.as_slice().len() as u32;
+        let Some((found, behind)) = shown_value(octets, here, at, region, depth, self.limits) else {
+            return false;
+        };
+        let place = here + at as u64;
+        let top = top_at(frame, self.top, here);
+        match found {
+            Shown::Scalar(scalar) => {
+                let Some(head) = shown_head(scalar, place, names) else {
+                    return false;
+                };
+                let item = bare_item(field, head, place, top);
+                if !writer.take_plain(meter, sink, item) {
+                    return false;
+                }
+                self.top = top;
+                self.source.consume(behind);
+                true
+            }
+            Shown::Begin(kind, end) => {
+                let item = bare_item(field, Head::Begin(kind), place, top);
+                if !self.frames.push_within(meter, Frame { kind, end }) {
+                    return false;
+                }
+                if !writer.take_plain(meter, sink, item) {
+                    self.frames.pop(meter);
+                    return false;
+                }
+                self.top = top;
+                self.source.consume(behind);
+                true
+            }
+        }
+    }
+}

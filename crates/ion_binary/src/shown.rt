@@ -1,0 +1,270 @@
+//! What a window shows of items that lie whole in it. Where it does not, or where something is at fault
+//! or rare, it shows nothing, and the item is read by `value`.
+ghost use Rattle.std.specs.Prelude.{◌≡◌, ◌+◌, ◌-◌, ◌*◌, ◌^◌, ◌<◌, ◌≤◌, length, Ok, true, IfSome};
+ghost use Rattle.ion_value.specs.Int.{int_of_bytes};
+ghost use Rattle.ion_value.specs.Scalar.{scalar_of_body, with_value};
+ghost use Rattle.ion_value.specs.Decimal.{decimal_of_bytes};
+ghost use Rattle.ion_value.specs.Timestamp.{timestamp_of_bytes};
+ghost use Rattle.ion_value.specs.Value.{decimal, int, timestamp};
+ghost use Rattle.ion_value.specs.Standing.{InRange};
+ghost use Rattle.ion_binary.specs.Bodies.{IsBodyTypeCode};
+ghost use Rattle.ion_binary.specs.Shown.{Reaches, ShowsBegin, ShowsBody, ShowsLength, ShowsValue, ShowsVar, shown_scalar};
+
+use crate::body::{is_text, uint_id};
+use crate::descriptor::Shape;
+use ion_meter::limits::Limits;
+use ion_value::decimal::{Decimal, decimal_from_bytes};
+use ion_value::int::{Int, int_from_bytes};
+use ion_value::ion_type::{IonType, Kind};
+use ion_value::timestamp::{Timestamp, timestamp_from_bytes};
+
+/// A scalar that is shown.
+#[derive(Clone, Copy)]
+pub(crate) enum ShownScalar<'a> {
+    /// The null of a type.
+    Null(IonType),
+    /// A truth value.
+    Bool(bool),
+    /// An int.
+    Int(Int),
+    /// A decimal.
+    Decimal(Decimal),
+    /// A timestamp in local time.
+    Timestamp(Timestamp),
+    /// A symbol's id.
+    Symbol(u32),
+    /// A string.
+    String(&'a [u8]),
+}
+
+/// A value that is shown.
+#[derive(Clone, Copy)]
+pub(crate) enum Shown<'a> {
+    /// A scalar.
+    Scalar(ShownScalar<'a>),
+    /// A container's beginning, and the place of its end.
+    Begin(Kind, u64),
+}
+
+/// The number that a VarUInt of one octet or two spells from a place of these octets on, and the place
+/// behind it.
+#[inline(always)]
+pub(crate) fn shown_var(octets: &[u8], at: usize) -> Option<(u64, usize)>
+    requires { at ≤ length octets.now }
+    ensures shows { IfSome result (λ r. ShowsVar octets.now at r.1 r.0) }
+    ensures small { IfSome result (λ r. r.0 < 2 ^ 14) }
+{
+    if octets.len() - at < 2 {
+        return None;
+    }
+    let first = octets[at] as u64;
+    if first >= 128 {
+        return Some((first - 128, at + 1));
+    }
+    let second = octets[at + 1] as u64;
+    if second >= 128 {
+        return Some((first * 128 + (second - 128), at + 2));
+    }
+    None
+}
+
+// The length that a length code says, and the place behind it.
+#[inline(always)]
+fn shown_length(octets: &[u8], at: usize, length_code: u8) -> Option<(u64, usize)>
+    requires within { at ≤ length octets.now }
+    requires length_code { length_code < 15 }
+    ensures shows { IfSome result (λ r. ShowsLength octets.now length_code at r.1 r.0) }
+    ensures small { IfSome result (λ r. r.0 < 2 ^ 14) }
+{
+    if length_code < 14 {
+        return Some((length_code as u64, at));
+    }
+    shown_var(octets, at)
+}
+
+// Whether a region goes as far as a place.
+#[inline(always)]
+fn reaches(region: Option<u64>, place: u64) -> bool
+    ensures { result ≡ true → Reaches region place }
+{
+    match region {
+        None => true,
+        Some(end) => place <= end,
+    }
+}
+
+// A scalar of a type code and these octets.
+#[tactic(auto, unfolding(ion_value::specs::Scalar::scalar_of_body))]
+#[inline(always)]
+fn shown_body(type_code: u8, octets: &[u8]) -> Option<ShownScalar<'_>>
+    requires { IsBodyTypeCode type_code }
+    ensures gives { IfSome result
+        (λ s. scalar_of_body type_code octets.now ≡ Ok (shown_scalar s)) }
+    ensures range { IfSome result (λ s. InRange (shown_scalar s)) }
+{
+    match type_code {
+        2 => shown_int(false, octets),
+        3 => shown_int(true, octets),
+        5 => shown_decimal(octets),
+        6 => shown_timestamp(octets),
+        7 => Some(ShownScalar::Symbol(uint_id(octets))),
+        8 if is_text(octets) => Some(ShownScalar::String(octets)),
+        _ => None,
+    }
+}
+
+// An int of these octets.
+#[inline(always)]
+fn shown_int(negative: bool, octets: &[u8]) -> Option<ShownScalar<'_>>
+    ensures gives { IfSome result
+        (λ s. with_value int (int_of_bytes negative octets.now) ≡ Ok (shown_scalar s)) }
+    ensures range { IfSome result (λ s. InRange (shown_scalar s)) }
+{
+    if octets.len() > 8 {
+        return None;
+    }
+    match int_from_bytes(negative, octets) {
+        Ok(int) => Some(ShownScalar::Int(int)),
+        Err(_) => None,
+    }
+}
+
+// A decimal of these octets.
+#[inline(always)]
+fn shown_decimal(octets: &[u8]) -> Option<ShownScalar<'_>>
+    ensures gives { IfSome result
+        (λ s. with_value decimal (decimal_of_bytes octets.now) ≡ Ok (shown_scalar s)) }
+    ensures range { IfSome result (λ s. InRange (shown_scalar s)) }
+{
+    match decimal_from_bytes(octets) {
+        Ok(decimal) => Some(ShownScalar::Decimal(decimal)),
+        Err(_) => None,
+    }
+}
+
+// A timestamp of these octets.
+#[inline(always)]
+fn shown_timestamp(octets: &[u8]) -> Option<ShownScalar<'_>>
+    ensures gives { IfSome result
+        (λ s. with_value timestamp (timestamp_of_bytes octets.now) ≡ Ok (shown_scalar s)) }
+    ensures range { IfSome result (λ s. InRange (shown_scalar s)) }
+{
+    match timestamp_from_bytes(octets) {
+        Ok(moment) => Some(ShownScalar::Timestamp(moment)),
+        Err(_) => None,
+    }
+}
+
+/// The value that begins at a place of these octets, of which the first stands at `here` in the stream,
+/// and the place behind the value, or behind the header of a container.
+#[inline(always)]
+pub(crate) fn shown_value<'a>(
+    octets: &'a [u8],
+    here: u64,
+    at: usize,
+    region: Option<u64>,
+    depth: u32,
+    limits: Limits,
+) -> Option<(Shown<'a>, usize)>
+    requires small { here + length octets.now < 2 ^ 63 }
+    requires within { at ≤ length octets.now }
+    ensures shows { IfSome result
+        (λ r. ShowsValue limits octets.entry.now here region depth at r.1 r.0) }
+{
+    if at == octets.len() {
+        return None;
+    }
+    match Shape::of(octets[at]) {
+        Shape::Null(of) => shown_bare(here, at, region, ShownScalar::Null(of)),
+        Shape::Bool(truth) => shown_bare(here, at, region, ShownScalar::Bool(truth)),
+        Shape::Body {
+            type_code,
+            length_code,
+        } => shown_with_body(octets, here, at, region, limits, type_code, length_code),
+        Shape::Container(kind, length_code) => {
+            shown_begin(octets, here, at, region, depth, limits, kind, length_code)
+        }
+        _ => None,
+    }
+}
+
+// A scalar that is whole in its descriptor, which stands at a place.
+#[inline(always)]
+fn shown_bare<'a>(
+    here: u64,
+    at: usize,
+    region: Option<u64>,
+    scalar: ShownScalar<'a>,
+) -> Option<(Shown<'a>, usize)>
+    requires { here + at < 2 ^ 63 }
+    ensures { IfSome result (λ r. (r.0 ≡ Shown.Scalar scalar.entry) × (r.1 ≡ at + 1)
+        × Reaches region (here + (at + 1))) }
+{
+    if !reaches(region, here + (at + 1) as u64) {
+        return None;
+    }
+    Some((Shown::Scalar(scalar), at + 1))
+}
+
+// A scalar with a body, whose descriptor stands at a place.
+#[inline(always)]
+fn shown_with_body<'a>(
+    octets: &'a [u8],
+    here: u64,
+    at: usize,
+    region: Option<u64>,
+    limits: Limits,
+    type_code: u8,
+    length_code: u8,
+) -> Option<(Shown<'a>, usize)>
+    requires small { here + length octets.now < 2 ^ 63 }
+    requires within { at < length octets.now }
+    requires length_code { length_code < 15 }
+    requires type_code { IsBodyTypeCode type_code }
+    ensures { IfSome result
+        (λ r. ShowsBody limits octets.entry.now here region type_code length_code at r.1 r.0) }
+{
+    let Some((count, from)) = shown_length(octets, at + 1, length_code) else {
+        return None;
+    };
+    let count = count as usize;
+    if octets.len() - from < count || limits.scalar < count as u64 {
+        return None;
+    }
+    let to = from + count;
+    if !reaches(region, here + to as u64) {
+        return None;
+    }
+    match shown_body(type_code, &octets[from..to]) {
+        Some(scalar) => Some((Shown::Scalar(scalar), to)),
+        None => None,
+    }
+}
+
+// A container's beginning, whose descriptor stands at a place.
+#[inline(always)]
+fn shown_begin<'a>(
+    octets: &'a [u8],
+    here: u64,
+    at: usize,
+    region: Option<u64>,
+    depth: u32,
+    limits: Limits,
+    kind: Kind,
+    length_code: u8,
+) -> Option<(Shown<'a>, usize)>
+    requires small { here + length octets.now < 2 ^ 63 }
+    requires within { at < length octets.now }
+    requires length_code { length_code < 15 }
+    ensures { IfSome result (λ r. ShowsBegin limits octets.entry.now here region depth kind
+        length_code at r.1 r.0) }
+{
+    let Some((count, behind)) = shown_length(octets, at + 1, length_code) else {
+        return None;
+    };
+    let end = here + behind as u64 + count;
+    if limits.depth <= depth || !reaches(region, end) {
+        return None;
+    }
+    Some((Shown::Begin(kind, end), behind))
+}

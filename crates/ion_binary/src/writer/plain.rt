@@ -1,0 +1,407 @@
+//! Plain items, added at once to a value that is open.
+ghost use Rattle.std.specs.Prelude.{◌≡◌, ◌≤◌, ◌<◌, ◌^◌, ◌∷◌, ◌++◌, ℕ, List, [], true, false, length, map, option_map, IfSome};
+ghost use Rattle.ion_value.specs.Items.{raw_head, symbol_at};
+ghost use Rattle.ion_value.specs.PlainItems.{listed, placed_item, placed_text};
+ghost use Rattle.ion_value.specs.Standing.{HeadInRange};
+ghost use Rattle.ion_value.specs.Writable.{field_symbols};
+ghost use Rattle.ion_value.specs.Number.{uint_octets, var_uint_octets};
+ghost use Rattle.ion_value.specs.Value.{begin, end, int, string, symbol, user_symbol_at, whole};
+ghost use Rattle.ion_binary.specs.Canonical.{annotation_octets, field_octets, headed, id_in, member_octets, wrapped};
+ghost use Rattle.ion_binary.specs.ItemOctets.{head_name, head_octets, user_head};
+ghost use Rattle.ion_binary.specs.Opening.{MayCome, both_octets};
+ghost use Rattle.ion_binary.specs.Plain.{AddsPlain, EndsPlain, HaveIds, IsWhole};
+ghost use Rattle.ion_binary.specs.Writer.{CanTake};
+ghost use Rattle.ion_binary.specs.Writing.{head_symbols};
+
+use super::{BinWriter, FIRST_ID};
+use crate::header::header;
+use crate::open_value::wrapper;
+use crate::scalar::{Octets, spell, type_code};
+use arrayvec::ArrayVec;
+use ion_meter::device::Output;
+use ion_meter::meter::Meter;
+use ion_meter::sink::Sink;
+use ion_value::int::Int;
+use ion_value::ion_type::Kind;
+use ion_value::item::{Head, Sym, SymAt};
+use ion_value::plain_item::{PlainItem, TextAt};
+use ion_value::var::var_uint_write;
+use std::alloc::Allocator;
+
+/// The most octets of a field, of what stands before a value in a wrapper, and of a header with a
+/// short body.
+const FRONT: usize = 72;
+
+impl<A: Allocator + Copy> BinWriter<A> {
+    // Adds an item behind which a value is open, where all is there that it needs: ids of its texts,
+    // and room. Else it answers false.
+    #[inline(always)]
+    pub(super) fn add_plain(&mut self, meter: &mut Meter<A>, item: PlainItem<'_, '_>) -> bool
+        requires can_take { CanTake self.old meter.old }
+        requires comes { MayCome self.old.limits self.old.open_value (placed_item item) }
+        ensures { AddsPlain self.old self.new meter.old meter.new
+            (placed_item item.entry) result }
+    {
+        match item.head {
+            Head::Begin(kind) => self.begin_plain(meter, &item, kind),
+            Head::End => self.end_plain(meter, &item),
+            Head::Marker => false,
+            Head::Null(of) => self.add_short(meter, &item, 16 * type_code(of) + 15, &[]),
+            Head::Bool(truth) => self.add_short(meter, &item, if truth { 17 } else { 16 }, &[]),
+            Head::Int(int) => self.add_int(meter, &item, int),
+            Head::Symbol(at) => self.add_symbol(meter, &item, at),
+            Head::String(text) => self.add_string(meter, &item, text),
+            scalar => self.add_spelled(meter, &item, scalar),
+        }
+    }
+
+    // Begins a container that has no annotation, in another or at top level where no text is forgotten.
+    fn begin_plain(&mut self, meter: &mut Meter<A>, item: &PlainItem<'_, '_>, kind: Kind) -> bool
+        requires can_take { CanTake self.old meter.old }
+        requires comes { MayCome self.old.limits self.old.open_value (placed_item item.now) }
+        requires head { raw_head item.now.head ≡ begin kind }
+        ensures { AddsPlain self.old self.new meter.old meter.new
+            (placed_item item.now) result }
+    {
+        let begins = self.open_value.headers.len() == 0;
+        if begins && self.symbols.cost() > self.limits.symbols / 2 {
+            return false;
+        }
+        if item.annotation.is_some() {
+            return false;
+        }
+        let mut front = ArrayVec::new();
+        if !self.put_field(&mut front, item.field) {
+            return false;
+        }
+        self.open_value
+            .begin_if_room(meter, self.limits, front.as_slice(), kind)
+    }
+
+    // Ends a container that stands in another.
+    fn end_plain(&mut self, meter: &mut Meter<A>, item: &PlainItem<'_, '_>) -> bool
+        requires can_take { CanTake self.old meter.old }
+        requires comes { MayCome self.old.limits self.old.open_value (placed_item item.now) }
+        requires head { raw_head item.now.head ≡ end }
+        ensures { AddsPlain self.old self.new meter.old meter.new
+            (placed_item item.now) result }
+    {
+        let _item = item;
+        self.open_value.end_if_room(meter, self.limits)
+    }
+
+    // Ends the value at top level and puts it, where all is there that it needs: it has no wrapper, its
+    // texts have been declared, no version marker is due, and the sink has room for it. Else it
+    // answers false.
+    pub(super) fn end_whole<O: Output>(
+        &mut self,
+        meter: &mut Meter<A>,
+        sink: &mut Sink<O, A>,
+        item: &PlainItem<'_, '_>,
+    ) -> bool
+        requires can_take { CanTake self.old meter.old }
+        requires comes { MayCome self.old.limits self.old.open_value (placed_item item.now) }
+        requires head { raw_head item.now.head ≡ end }
+        ensures ends { EndsPlain self.old self.new meter.old meter.new
+            (placed_item item.now) sink.old.pending sink.new.pending result }
+        ensures declines { result ≡ false → sink.new ≡ sink.old }
+        ensures device { sink.new.device ≡ sink.old.device }
+        ensures fault { sink.new.fault ≡ sink.old.fault }
+    {
+        let _item = item;
+        let Some(outermost) = self.open_value.headers.only() else {
+            return false;
+        };
+        if self.due || outermost.place != 0 {
+            return false;
+        }
+        if self.symbols.new_since(FIRST_ID).len() != self.declared as usize {
+            return false;
+        }
+        let octets = self.open_value.octets.as_slice();
+        let before = header(outermost.code, octets.len() as u64);
+        if sink.room() < before.len() + octets.len() {
+            return false;
+        }
+        sink.put_within(before.as_slice());
+        sink.put_within(octets);
+        self.open_value.clear(meter, self.limits);
+        true
+    }
+
+    // Adds a scalar.
+    fn add_spelled(
+        &mut self,
+        meter: &mut Meter<A>,
+        item: &PlainItem<'_, '_>,
+        scalar: Head<'_>,
+    ) -> bool
+        requires can_take { CanTake self.old meter.old }
+        requires comes { MayCome self.old.limits self.old.open_value (placed_item item.now) }
+        requires head { raw_head scalar ≡ raw_head item.now.head }
+        requires whole { IsWhole (raw_head scalar) }
+        ensures { AddsPlain self.old self.new meter.old meter.new
+            (placed_item item.now) result }
+    {
+        let Some(name) = self.name_of(scalar) else {
+            return false;
+        };
+        let spelled = spell(scalar, name);
+        let octets = Octets {
+            front: spelled.front.as_slice(),
+            rest: spelled.lent,
+        };
+        self.add_scalar(meter, item, &octets)
+    }
+
+    // Adds an int: one that 64 bits hold without an `ArrayVec` of its octets.
+    #[inline]
+    fn add_int(&mut self, meter: &mut Meter<A>, item: &PlainItem<'_, '_>, number: Int) -> bool
+        requires can_take { CanTake self.old meter.old }
+        requires comes { MayCome self.old.limits self.old.open_value (placed_item item.now) }
+        requires head { raw_head item.now.head ≡ whole (int number) }
+        ensures { AddsPlain self.old self.new meter.old meter.new
+            (placed_item item.now) result }
+    {
+        let code = if number.negative { 3 } else { 2 };
+        match u64::try_from(number.magnitude) {
+            Ok(n) => self.add_number(meter, item, code, n),
+            Err(_) => self.add_spelled(meter, item, Head::Int(number)),
+        }
+    }
+
+    // Adds a symbol.
+    #[inline]
+    fn add_symbol(&mut self, meter: &mut Meter<A>, item: &PlainItem<'_, '_>, at: SymAt<'_>) -> bool
+        requires can_take { CanTake self.old meter.old }
+        requires comes { MayCome self.old.limits self.old.open_value (placed_item item.now) }
+        requires head { raw_head item.now.head ≡ whole (symbol (symbol_at at)) }
+        ensures { AddsPlain self.old self.new meter.old meter.new
+            (placed_item item.now) result }
+    {
+        let Sym::Text(text) = at.sym else {
+            return false;
+        };
+        match self.symbols.known(text) {
+            Some(id) => self.add_number(meter, item, 7, u64::from(id)),
+            None => false,
+        }
+    }
+
+    // Adds a string.
+    #[inline]
+    fn add_string(&mut self, meter: &mut Meter<A>, item: &PlainItem<'_, '_>, text: &[u8]) -> bool
+        requires can_take { CanTake self.old meter.old }
+        requires comes { MayCome self.old.limits self.old.open_value (placed_item item.now) }
+        requires head { raw_head item.now.head ≡ whole (string text.now) }
+        ensures { AddsPlain self.old self.new meter.old meter.new
+            (placed_item item.now) result }
+    {
+        if text.len() < 14 {
+            return self.add_short(meter, item, 128 + text.len() as u8, text);
+        }
+        let before = header(8, text.len() as u64);
+        let octets = Octets {
+            front: before.as_slice(),
+            rest: text,
+        };
+        self.add_scalar(meter, item, &octets)
+    }
+
+    // Adds a scalar whose body is a number of 64 bits.
+    #[inline]
+    fn add_number(
+        &mut self,
+        meter: &mut Meter<A>,
+        item: &PlainItem<'_, '_>,
+        code: u8,
+        n: u64,
+    ) -> bool
+        requires can_take { CanTake self.old meter.old }
+        requires comes { MayCome self.old.limits self.old.open_value (placed_item item.now) }
+        requires whole { IsWhole (raw_head item.now.head) }
+        requires known { HaveIds self.old.symbols.texts (head_symbols (raw_head item.now.head)) }
+        requires code { code < 16 }
+        requires octets { headed code (uint_octets n)
+            ≡ head_octets (id_in self.old.symbols.texts) (user_head item.now.head) }
+        ensures { AddsPlain self.old self.new meter.old meter.new
+            (placed_item item.now) result }
+    {
+        let octets = n.to_be_bytes();
+        let zeros = n.leading_zeros() as usize / 8;
+        let body = &octets[zeros..];
+        self.add_short(meter, item, 16 * code + body.len() as u8, body)
+    }
+
+    // Adds a scalar of a header of one octet, and this body.
+    #[inline]
+    fn add_short(
+        &mut self,
+        meter: &mut Meter<A>,
+        item: &PlainItem<'_, '_>,
+        header: u8,
+        body: &[u8],
+    ) -> bool
+        requires can_take { CanTake self.old meter.old }
+        requires comes { MayCome self.old.limits self.old.open_value (placed_item item.now) }
+        requires whole { IsWhole (raw_head item.now.head) }
+        requires known { HaveIds self.old.symbols.texts (head_symbols (raw_head item.now.head)) }
+        requires octets { header ∷ body.now
+            ≡ head_octets (id_in self.old.symbols.texts) (user_head item.now.head) }
+        ensures { AddsPlain self.old self.new meter.old meter.new
+            (placed_item item.now) result }
+    {
+        if self.open_value.headers.len() == 0 {
+            return false;
+        }
+        if item.annotation.is_some() {
+            let octets = Octets {
+                front: &[header],
+                rest: body,
+            };
+            return self.add_scalar(meter, item, &octets);
+        }
+        let mut front = ArrayVec::new();
+        if !self.put_field(&mut front, item.field) {
+            return false;
+        }
+        front.push(header);
+        let octets = Octets {
+            front: front.as_slice(),
+            rest: body,
+        };
+        self.open_value.extend_if_room(meter, self.limits, &octets)
+    }
+
+    // Adds a scalar of these octets.
+    fn add_scalar(
+        &mut self,
+        meter: &mut Meter<A>,
+        item: &PlainItem<'_, '_>,
+        scalar: &Octets<'_>,
+    ) -> bool
+        requires can_take { CanTake self.old meter.old }
+        requires comes { MayCome self.old.limits self.old.open_value (placed_item item.now) }
+        requires whole { IsWhole (raw_head item.now.head) }
+        requires known { HaveIds self.old.symbols.texts (head_symbols (raw_head item.now.head)) }
+        requires octets { both_octets scalar.now
+            ≡ head_octets (id_in self.old.symbols.texts) (user_head item.now.head) }
+        ensures { AddsPlain self.old self.new meter.old meter.new
+            (placed_item item.now) result }
+    {
+        if self.open_value.headers.len() == 0 {
+            return false;
+        }
+        if scalar.front.len() > 28 || scalar.len() > self.limits.value {
+            return false;
+        }
+        let mut front = ArrayVec::new();
+        if !self.put_lead(&mut front, item, scalar.len()) {
+            return false;
+        }
+        front.try_extend_from_slice(scalar.front).unwrap();
+        let octets = Octets {
+            front: front.as_slice(),
+            rest: scalar.rest,
+        };
+        self.open_value.extend_if_room(meter, self.limits, &octets)
+    }
+
+    // Puts what stands before a value of so many octets: its field and what its annotation needs,
+    // where both have ids.
+    fn put_lead(&self, front: &mut ArrayVec<u8, FRONT>, item: &PlainItem<'_, '_>, size: u64) -> bool
+        requires none { front.old.items ≡ [] }
+        requires short { size ≤ 2 ^ 32 }
+        ensures known { result ≡ true → HaveIds self.now.symbols.texts
+            (field_symbols (placed_item item.now).field ++ (placed_item item.now).annotations) }
+        ensures octets { result ≡ true → (x : List ℕ) → length x ≡ size
+            → front.new.items ++ x ≡ member_octets (id_in self.now.symbols.texts)
+            (option_map user_symbol_at (placed_item item.now).field)
+            (map user_symbol_at (placed_item item.now).annotations) x }
+        ensures few { length front.new.items ≤ 40 }
+    {
+        self.put_field(front, item.field) && self.put_annotation(front, item.annotation, size)
+    }
+
+    // Puts the id of a field, where its text has one.
+    fn put_field(&self, front: &mut ArrayVec<u8, FRONT>, field: Option<TextAt<'_>>) -> bool
+        requires { front.old.items ≡ [] }
+        ensures known { result ≡ true → HaveIds self.now.symbols.texts
+            (field_symbols (option_map placed_text field.entry)) }
+        ensures octets { result ≡ true → front.new.items
+            ≡ field_octets (id_in self.now.symbols.texts)
+            (option_map user_symbol_at (option_map placed_text field.entry)) }
+        ensures few { length front.new.items ≤ 9 }
+    {
+        let Some(at) = field else {
+            return true;
+        };
+        let Some(id) = self.symbols.known(at.text) else {
+            return false;
+        };
+        put_id(front, id);
+        true
+    }
+
+    // Puts what stands before a value of so many octets in its wrapper, where the text of its
+    // annotation has an id, and nothing where it has no annotation.
+    fn put_annotation(
+        &self,
+        front: &mut ArrayVec<u8, FRONT>,
+        annotation: Option<TextAt<'_>>,
+        size: u64,
+    ) -> bool
+        requires few { length front.old.items ≤ 9 }
+        requires short { size ≤ 2 ^ 32 }
+        ensures known { result ≡ true → HaveIds self.now.symbols.texts
+            (listed (option_map placed_text annotation.entry)) }
+        ensures octets { result ≡ true → (x : List ℕ) → length x ≡ size
+            → front.new.items ++ x ≡ front.old.items ++ wrapped
+            (annotation_octets (id_in self.now.symbols.texts)
+            (map user_symbol_at (listed (option_map placed_text annotation.entry)))) x }
+        ensures few { length front.new.items ≤ 40 }
+    {
+        let Some(at) = annotation else {
+            return true;
+        };
+        let Some(id) = self.symbols.known(at.text) else {
+            return false;
+        };
+        let ids = var_uint_write(u64::from(id));
+        let before = wrapper(ids.len() as u64, size);
+        front.try_extend_from_slice(before.as_slice()).unwrap();
+        front.try_extend_from_slice(ids.as_slice()).unwrap();
+        true
+    }
+
+    // The id of a symbol value, where its text has one, and 0 of other heads.
+    fn name_of(&self, head: Head<'_>) -> Option<u32>
+        ensures known { IfSome result (λ _. HaveIds self.now.symbols.texts
+            (head_symbols (raw_head head.entry))) }
+        ensures name { IfSome result (λ name. name
+            ≡ head_name (id_in self.now.symbols.texts) (user_head head.entry)) }
+    {
+        let Head::Symbol(at) = head else {
+            return Some(0);
+        };
+        let Sym::Text(text) = at.sym else {
+            return None;
+        };
+        self.symbols.known(text)
+    }
+}
+
+// Puts an id: mostly one octet.
+#[inline]
+fn put_id(front: &mut ArrayVec<u8, FRONT>, id: u32)
+    requires { front.old.items ≡ [] }
+    ensures octets { front.new.items ≡ var_uint_octets id }
+    ensures few { length front.new.items ≤ 9 }
+{
+    if id < 128 {
+        front.push(128 + id as u8);
+        return;
+    }
+    let octets = var_uint_write(u64::from(id));
+    front.try_extend_from_slice(octets.as_slice()).unwrap();
+}

@@ -1,0 +1,187 @@
+-- What a raw reader hands to a writer are items of user values.
+use Rattle.std.proofs.Common.{◌≡◌, ℕ, ◌+◌, ◌*◌, ◌≤◌, Bool, true, false, List, [], ◌∷◌, map, length, Option, None, Some, Ok, refl, ap, sym, subst, ◌∙◌, arith, if◌then◌else◌}
+use Rattle.std.specs.Prelude.{option_map, codes, ◌&&◌, ◌==◌, not}
+use Rattle.std.specs.Str.{bytes_eq}
+use Rattle.ion_meter.specs.Counts.{Counts}
+use Rattle.ion_value.specs.declared.ion_type.Kind.{Kind}
+use Rattle.ion_value.specs.declared.writer.ValueWriter.{Ghosts as WriterOf}
+use Rattle.ion_value.specs.Digits.{first_is}
+use Rattle.ion_value.specs.Name.{is_plain, is_simple}
+use Rattle.ion_value.specs.Value as value
+use Rattle.ion_value.specs.Value.{Symbol, SymbolAt, Scalar, Head, PlacedItem, map_head, map_scalar}
+use Rattle.ion_value.specs.Items.{named, named_at, named_item, text_or_id}
+use Rattle.ion_value.specs.PlainItems.{AreSimple, HasSimpleName, HasSimpleSymbol, IsSimple, IsSimpleHead, IsSimpleText}
+use Rattle.ion_value.specs.Feeding.{Joint, Hands, Feeds, nothing, more}
+use Rattle.ion_value.specs.Reading.{Reading, More}
+use Rattle.ion_value.specs.Shares.{Charges}
+use Rattle.ion_value.specs.Standing.{is_marker, open_after}
+use Rattle.ion_symbols.specs.declared.known_text.Word.{Word}
+use Rattle.ion_symbols.specs.declared.known_text.Word.TheVariants as word
+use Rattle.ion_symbols.specs.Table.{Slot, Shared, Table, known, unknown, gap, above, slot_of, text_at, text_of_slot, word_of}
+use Rattle.ion_symbols.specs.Declaration.{word_by_id, word_in}
+use Rattle.ion_symbols.specs.Users.{Checked, fine, annotations_checked, at_checked, begins_declaration, checked, declares, field_checked, head_checked, is_declaration, is_struct, level_after, or_else, plain, resolve, slot_checked, symbol_checked, users}
+use Rattle.ion_symbols.specs.User.{CheckedAs}
+use Rattle.ion_symbols.proofs.UserTurns.{item_given, level_opens}
+
+-- ---- the symbols of a simple item are fine
+
+slot_fine : (id place : ℕ) (s : Slot) → IsSimpleText (text_or_id id (text_of_slot s)) → slot_checked true place s ≡ fine
+slot_fine id place (known t) simple = refl
+slot_fine id place unknown simple = absurd simple
+slot_fine id place gap simple = absurd simple
+slot_fine id place above simple = absurd simple
+
+symbol_fine : (t : Table) (place : ℕ) (s : Symbol) → IsSimpleText (named (text_at t) s) → symbol_checked t true place s ≡ fine
+symbol_fine t place (value.Text bytes) simple = refl
+symbol_fine t place (value.Id id) simple = slot_fine id place (slot_of t id) simple
+
+field_fine : (t : Table) (field : Option SymbolAt) → HasSimpleName (option_map (named_at (text_at t)) field) → field_checked t true field ≡ fine
+field_fine t None simple = refl
+field_fine t (Some s) simple = symbol_fine t s.place s.symbol simple
+
+all_fine : (t : Table) (ss : List SymbolAt) → AreSimple (map (named_at (text_at t)) ss) → annotations_checked t true ss ≡ fine
+all_fine t [] simple = refl
+all_fine t (s ∷ ss) simple = rw (symbol_fine t s.place s.symbol simple.0) (all_fine t ss simple.1)
+
+head_fine : (t : Table) (head : Head SymbolAt) → IsSimpleHead (map_head (named_at (text_at t)) head) → head_checked t true head ≡ fine
+head_fine t (value.whole (value.null type)) simple = refl
+head_fine t (value.whole (value.bool truth)) simple = refl
+head_fine t (value.whole (value.int number)) simple = refl
+head_fine t (value.whole (value.decimal number)) simple = refl
+head_fine t (value.whole (value.timestamp moment)) simple = refl
+head_fine t (value.whole (value.symbol s)) simple = symbol_fine t s.place s.symbol simple
+head_fine t (value.whole (value.string bytes)) simple = refl
+head_fine t (value.whole (value.clob bytes)) simple = refl
+head_fine t (value.whole (value.blob bytes)) simple = refl
+head_fine t (value.begin kind) simple = refl
+head_fine t value.end simple = refl
+head_fine t value.marker simple = absurd simple
+
+item_fine : (t : Table) (i : PlacedItem) → IsSimple (named_item (text_at t) i) → CheckedAs (checked t true i) (Ok tt)
+item_fine t i simple =
+    let all : checked t true i ≡ fine = rw (field_fine t i.field simple.field, all_fine t i.annotations simple.annotations) (head_fine t i.head simple.head) in
+    rw all refl
+
+-- ---- and it is no marker and begins no declaration
+
+no_marker : (f : SymbolAt → SymbolAt) (head : Head SymbolAt) → IsSimpleHead (map_head f head) → is_marker head ≡ false
+no_marker f (value.whole body) simple = refl
+no_marker f (value.begin kind) simple = refl
+no_marker f value.end simple = refl
+no_marker f value.marker simple = absurd simple
+
+both-right : (a b : Bool) → (a && b) ≡ true → b ≡ true
+both-right true b e = e
+both-right false b e = absurd (cc e)
+
+other_word : (a b c d e f : Bool) → f ≡ false
+    → is_declaration (if a then word.Name else if b then word.Version else if c then word.MaxId else if d then word.Imports else if e then word.Symbols else if f then word.Declaration else word.Other) ≡ false
+other_word true b c d e f h = refl
+other_word false true c d e f h = refl
+other_word false false true d e f h = refl
+other_word false false false true e f h = refl
+other_word false false false false true f h = refl
+other_word false false false false false true h = absurd (cc h)
+other_word false false false false false false h = refl
+
+not_true : (a : Bool) → not a ≡ true → a ≡ false
+not_true true h = absurd (cc h)
+not_true false h = refl
+
+no_dollar : (bytes : List ℕ) → first_is (λ b. b == 36) bytes ≡ false → bytes_eq bytes (codes "$ion_symbol_table") ≡ false
+no_dollar [] h = refl
+no_dollar (b ∷ bytes) h = rw h refl
+
+simple_word : (bytes : List ℕ) → is_simple bytes ≡ true → is_declaration (word_of bytes) ≡ false
+simple_word bytes simple =
+    other_word _ _ _ _ _ _ (no_dollar bytes (not_true (first_is (λ b. b == 36) bytes) (both-right (is_plain bytes) (not (first_is (λ b. b == 36) bytes)) simple)))
+
+simple_symbol : (texts : ℕ → Option (List ℕ)) (s : Symbol) → IsSimpleText (named texts s) → is_declaration (word_in texts s) ≡ false
+simple_symbol texts (value.Text bytes) simple = simple_word bytes simple
+simple_symbol texts (value.Id id) simple = by_text (texts id) simple
+  where
+    by_text : (o : Option (List ℕ)) → IsSimpleText (text_or_id id o) → is_declaration (word_by_id o) ≡ false
+    by_text None h = absurd h
+    by_text (Some bytes) h = simple_word bytes h
+
+none_declares : (t : Table) (ss : List SymbolAt) → AreSimple (map (named_at (text_at t)) ss) → declares t ss ≡ false
+none_declares t [] simple = refl
+none_declares t (s ∷ ss) simple = simple_symbol (text_at t) s.symbol simple.0
+
+and_false : (a b c : Bool) → c ≡ false → (a && (b && c)) ≡ false
+and_false true true c e = e
+and_false true false c e = refl
+and_false false b c e = refl
+
+no_declaration : (t : Table) (n : ℕ) (i : PlacedItem) → IsSimple (named_item (text_at t) i) → begins_declaration t n i ≡ false
+no_declaration t n i simple = and_false (n == 0) (is_struct i.head) (declares t i.annotations) (none_declares t i.annotations simple.annotations)
+
+-- ---- so it is an item of a user value
+
+open_after-named : (f : SymbolAt → SymbolAt) (kinds : List Kind) (head : Head SymbolAt) → open_after kinds (map_head f head) ≡ open_after kinds head
+open_after-named f kinds (value.whole body) = refl
+open_after-named f kinds (value.begin kind) = refl
+open_after-named f kinds value.end = refl
+open_after-named f kinds value.marker = refl
+
+-- where the two stand, as a user of the stream sees it: by a table, and how many containers are open
+abbrev pub seen : {W : Type 0} → List Shared → ℕ → Table → ℕ → Joint W → Joint W
+seen catalog limit t level j = record {
+  coming = users catalog limit (record { table = t; mode = plain level }) j.coming;
+  opened = j.opened;
+  writer = j.writer;
+  pending = j.pending;
+  values = j.values;
+}
+
+-- the same where as many are open as the reader knows
+abbrev as_user : {W : Type 0} → List Shared → ℕ → Table → Joint W → Joint W
+as_user catalog limit t j = seen catalog limit t (length j.opened) j
+
+user_hands : {W O A : Type 0} (w : WriterOf W O A) (catalog : List Shared) (limit : ℕ) (t : Table) (reads : Type 0) (old new : Joint W)
+    → Hands w (named_item (text_at t)) reads old new → Hands w (λ item. item) reads (as_user catalog limit t old) (as_user catalog limit t new)
+user_hands w catalog limit t reads old new h =
+    let i = h.item in
+    let raw_opens : new.opened ≡ open_after old.opened i.head = h.opens ∙ open_after-named (named_at (text_at t)) old.opened i.head in
+    let level : level_after (length old.opened) i.head ≡ length new.opened = level_opens (level_after (length old.opened) i.head) (length old.opened) old.opened new.opened i.head refl refl raw_opens in
+    record {
+      item = resolve t i;
+      simple = h.simple;
+      gives = λ r. item_given catalog limit t (length old.opened) i old.coming new.coming (h.gives r) (no_marker (named_at (text_at t)) i.head h.simple.head)
+          (no_declaration t (length old.opened) i h.simple) (item_fine t i h.simple)
+          ∙ ap (λ n. More (resolve t i) (users catalog limit (record { table = t; mode = plain n }) new.coming)) level;
+      opens = h.opens;
+      counts = h.counts;
+      limits = h.limits;
+      stands = h.stands;
+      taken = h.taken;
+      puts = h.puts;
+    }
+
+feeds_users : {W O A : Type 0} (w : WriterOf W O A) (catalog : List Shared) (limit : ℕ) (t : Table) (reads : Type 0) (old new : Joint W)
+    → Feeds w (named_item (text_at t)) reads old new → Feeds w (λ item. item) reads (as_user catalog limit t old) (as_user catalog limit t new)
+feeds_users w catalog limit t reads old _ nothing = nothing
+feeds_users w catalog limit t reads old new (more now _ feeds hands) =
+    more (as_user catalog limit t now) (as_user catalog limit t new) (feeds_users w catalog limit t reads old now feeds) (user_hands w catalog limit t reads now new hands)
+
+-- what a raw reader hands on are items of user values
+pub user_feeds : {W O A : Type 0} (w : WriterOf W O A) (catalog : List Shared) (limit : ℕ) (t : Table) (reads : Type 0) (old new : Joint W) (before after : ℕ)
+    → before ≡ length old.opened → after ≡ length new.opened
+    → Feeds w (named_item (text_at t)) reads old new → Feeds w (λ item. item) reads (seen catalog limit t before old) (seen catalog limit t after new)
+user_feeds {W} w catalog limit t reads old new before after b a feeds =
+    let whole = feeds_users w catalog limit t reads old new feeds in
+    let Q : ℕ → Type 0 = λ n. Feeds w (λ item. item) reads (seen catalog limit t n old) (as_user catalog limit t new) in
+    let P : ℕ → Type 0 = λ n. Feeds w (λ item. item) reads (seen catalog limit t before old) (seen catalog limit t n new) in
+    subst P (sym a) (subst Q (sym b) whole)
+
+-- ---- memory
+
+-- a raw reader and a writer move, beside a table within the limit
+pub charges_fed : (a b : Counts) (k l v w cost most limit other : ℕ) → cost ≤ limit → (k + cost) + v ≤ a.held → Charges a b (k + v) (l + w) (most + other)
+    → Charges a b ((k + cost) + v) ((l + cost) + w) ((most + 2 * limit) + other)
+charges_fed a b k l v w cost most limit other cheap within q = record {
+  held = omega (arith, q.held);
+  share = omega (arith, q.share, cheap);
+  peak = omega (arith, q.peak, within, cheap);
+  rises = q.rises;
+}

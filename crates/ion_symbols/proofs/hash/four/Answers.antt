@@ -1,0 +1,6 @@
+use Rattle.ion_symbols.specs.Buckets.{four_at}
+use Rattle.ion_symbols.proofs.hash.four.Goals as goal
+
+pub returns : goal.returns
+unfolding four_at
+returns c = c.from_le_bytes.ensures

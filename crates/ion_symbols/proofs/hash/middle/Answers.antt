@@ -1,0 +1,11 @@
+use Rattle.std.proofs.Common.{rules}
+use Rattle.ion_symbols.specs.Buckets.{middle_of}
+use Rattle.ion_symbols.proofs.hash.middle.Goals as goal
+
+pub returns-then-text-gt16 : goal.returns-then-text-gt16
+unfolding middle_of
+returns-then-text-gt16 c = search rules
+
+pub returns-else-text-gt16 : goal.returns-else-text-gt16
+unfolding middle_of
+returns-else-text-gt16 c = search rules

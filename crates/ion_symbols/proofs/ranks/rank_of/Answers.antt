@@ -1,0 +1,45 @@
+use Rattle.std.proofs.Common.{◌+◌, ◌-◌, ◌/◌, ◌<◌, ◌≡◌, length, arith}
+use Rattle.std.proofs.lemmas.List.{length-map}
+use Rattle.ion_symbols.specs.Ranks.{key_of}
+use Rattle.ion_symbols.proofs.Ranking.{ranked_less, ranked_greater, ranked_equal}
+use Rattle.ion_symbols.proofs.ranks.rank_of.Goals as goal
+
+pub loop-low-preserved-in-Less : goal.loop-low-preserved-in-Less
+loop-low-preserved-in-Less g c =
+    let h = c.loop-low.invariant in
+    let middle = c.loop-low.low + (c.loop-low.high - c.loop-low.low) / 2 in
+    let l : middle < length c.args.order.now = omega (arith, c.loop-low-test.true, h.within) in
+    record {
+      below = omega (arith, c.loop-low-test.true);
+      within = h.within;
+      before = ranked_less c.args.tables.now c.args.order.now (key_of c.args.name.now c.args.version) middle c.index-tables-order.result c.requires l c.index-tables-order.is c.in-Less.ensures;
+      behind = h.behind;
+    }
+
+pub loop-low-preserved : goal.loop-low-preserved
+loop-low-preserved g c =
+    let h = c.loop-low.invariant in
+    let middle = c.loop-low.low + (c.loop-low.high - c.loop-low.low) / 2 in
+    let l : middle < length c.args.order.now = omega (arith, c.loop-low-test.true, h.within) in
+    record {
+      below = omega arith;
+      within = omega (arith, c.loop-low-test.true, h.within);
+      before = h.before;
+      behind = ranked_greater c.args.tables.now c.args.order.now (key_of c.args.name.now c.args.version) middle c.index-tables-order.result c.requires l c.index-tables-order.is c.in-Greater.ensures;
+    }
+
+pub returns-in-Equal-clause-found : goal.returns-in-Equal-clause-found
+returns-in-Equal-clause-found g c =
+    let middle = c.loop-low.low + (c.loop-low.high - c.loop-low.low) / 2 in
+    let l : middle < length c.args.order.now = omega (arith, c.loop-low-test.true, c.loop-low.invariant.within) in
+    ranked_equal c.args.tables.now c.args.order.now (key_of c.args.name.now c.args.version) middle c.index-tables-order.result c.requires l c.index-tables-order.is c.in-Equal.ensures
+
+pub returns-clause-belongs : goal.returns-clause-belongs
+returns-clause-belongs g c =
+    let h = c.loop-low.invariant in
+    let same : c.loop-low.high ≡ c.loop-low.low = omega (arith, c.loop-low-test.false, h.below) in
+    record {
+      within = simp length-map (omega (arith, h.below, h.within));
+      before = h.before;
+      behind = rw (← same) h.behind;
+    }

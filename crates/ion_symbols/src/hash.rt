@@ -1,0 +1,121 @@
+//! The bucket of a text.
+ghost use Rattle.std.specs.Prelude.{◌≡◌, ◌+◌, ◌-◌, ◌<◌, ◌≤◌, length, replicate};
+ghost use Rattle.ion_symbols.specs.Buckets.{back_of, bucket_of, eight_at, few_of, four_at, front_of, middle_of};
+
+/// How many buckets there are.
+pub(crate) const BUCKETS: usize = 512;
+
+// Odd numbers without a pattern, by which parts of a text are multiplied.
+const FRONT: u64 = 0x9E37_79B9_7F4A_7C15;
+
+const BACK: u64 = 0xD6E8_FEB8_6659_FD93;
+
+const MIDDLE: u64 = 0xA076_1D64_78BD_642F;
+
+const LENGTH: u64 = 0xE703_7ED1_A0B4_28DB;
+
+/// Buckets without texts.
+#[inline]
+pub(crate) fn no_buckets() -> [u32; BUCKETS]
+    ensures { result ≡ replicate BUCKETS 0 }
+{
+    [0; BUCKETS]
+}
+
+/// The bucket of a text: texts that are the same have the same one. It reads at most 32 bytes.
+#[inline]
+pub(crate) fn bucket(text: &[u8]) -> usize
+    ensures of { result ≡ bucket_of text.now }
+    ensures within { result < BUCKETS }
+{
+    let ends = front(text)
+        .wrapping_mul(FRONT)
+        .wrapping_add(back(text).wrapping_mul(BACK));
+    let rest = middle(text)
+        .wrapping_mul(MIDDLE)
+        .wrapping_add((text.len() as u64).wrapping_mul(LENGTH));
+    let sum = ends.wrapping_add(rest);
+    let mixed = sum.wrapping_add(sum / 4_294_967_296).wrapping_mul(FRONT);
+    (mixed / 36_028_797_018_963_968) as usize
+}
+
+// The first eight bytes of a text, or of a shorter one four, or what `few` reads.
+#[inline]
+fn front(text: &[u8]) -> u64
+    ensures { result ≡ front_of text.now }
+{
+    if text.len() >= 8 {
+        eight(text, 0)
+    } else if text.len() >= 4 {
+        four(text, 0)
+    } else {
+        few(text)
+    }
+}
+
+// The last eight bytes of a text, or of a shorter one four, or none.
+#[inline]
+fn back(text: &[u8]) -> u64
+    ensures { result ≡ back_of text.now }
+{
+    if text.len() >= 8 {
+        eight(text, text.len() - 8)
+    } else if text.len() >= 4 {
+        four(text, text.len() - 4)
+    } else {
+        0
+    }
+}
+
+// Of a text of more than 16 bytes eight behind the first eight and eight before the last eight.
+#[inline]
+fn middle(text: &[u8]) -> u64
+    ensures { result ≡ middle_of text.now }
+{
+    if text.len() > 16 {
+        eight(text, 8)
+            .wrapping_mul(FRONT)
+            .wrapping_add(eight(text, text.len() - 16))
+    } else {
+        0
+    }
+}
+
+// The first byte of a text below four bytes, the one in the middle, and the last.
+#[inline]
+fn few(text: &[u8]) -> u64
+    ensures { result ≡ few_of text.now }
+{
+    if text.is_empty() {
+        return 0;
+    }
+    let middle = text[text.len() / 2] as u64 * 256;
+    text[0] as u64 + middle + text[text.len() - 1] as u64 * 65_536
+}
+
+// Eight bytes of a text from a place on, as a number.
+#[inline]
+fn eight(text: &[u8], at: usize) -> u64
+    requires { at + 8 ≤ length text.now }
+    ensures { result ≡ eight_at text.now at }
+{
+    u64::from_le_bytes([
+        text[at],
+        text[at + 1],
+        text[at + 2],
+        text[at + 3],
+        text[at + 4],
+        text[at + 5],
+        text[at + 6],
+        text[at + 7],
+    ])
+}
+
+// Four bytes of a text from a place on, as a number.
+#[inline]
+fn four(text: &[u8], at: usize) -> u64
+    requires { at + 4 ≤ length text.now }
+    ensures { result ≡ four_at text.now at }
+{
+    u32::from_le_bytes([text[at], text[at + 1], text[at + 2], text[at + 3]]) as u64
+}

@@ -1,0 +1,151 @@
+-- How a lane moves: over bytes that are no item, over an item that is taken, and one move after the other.
+use Rattle.std.proofs.Common.{◌≡◌, ℕ, ◌+◌, ◌*◌, ◌-◌, ◌^◌, ◌<◌, ◌≤◌, Bool, false, List, [], ◌∷◌, ◌++◌, length, reverse, Option, None, refl, sym, ap, subst, ◌∙◌, arith}
+use Rattle.ion_meter.specs.Counts.{Counts}
+use Rattle.ion_meter.specs.Windows.{Outgoing}
+use Rattle.ion_meter.specs.declared.limits.Limits.{Limits}
+use Rattle.ion_value.specs.declared.ion_type.Kind.{Kind}
+use Rattle.ion_value.specs.declared.writer.ValueWriter.{Ghosts as WriterOf}
+use Rattle.ion_value.specs.Feeding.{CanTake, Feeds, nothing, more as hands_on, Joint, StaysWell}
+use Rattle.ion_value.specs.Items.{named_item}
+use Rattle.ion_value.specs.Outcome.{one_if_closed}
+use Rattle.ion_value.specs.Reading.{Reading, More}
+use Rattle.ion_value.specs.Shares.{Charges}
+use Rattle.ion_value.specs.Standing.{open_after, WritesWithin}
+use Rattle.ion_value.specs.Value.{PlacedItem}
+use Rattle.ion_value.proofs.Handing.{Stands, Took, can-took, feeds-then, hands-took, stays-then}
+use Rattle.ion_text_in.specs.declared.expected.Expected.{Expected}
+use Rattle.ion_text_in.specs.Expecting.{wanted, MayExpect}
+use Rattle.ion_text_in.specs.Feeding.{joint, lane_held, lane_share, state, CanFeed, IsBehind, Lane, Moved, Onward}
+use Rattle.ion_text_in.specs.Steps.{later}
+use Rattle.ion_text_in.proofs.FeedReading.{behind-then, none-behind}
+use Rattle.ion_text_in.proofs.Holding.{charges-then}
+
+module _ {W O A : Type 0} (w : WriterOf W O A) (limits : Limits) (end : ℕ) where
+  pub can-held : (l : Lane W O) → CanFeed w limits end l → lane_held w l ≤ lane_share w limits l
+  can-held l can = (let few = can.few in let share = can.share.share in omega (arith, few, share))
+
+  stays-same : (l : Lane W O) → CanFeed w limits end l → StaysWell w l.writer l.writer l.sink l.sink l.meter l.meter
+  stays-same l can = record { sound = can.takes.sound; failed = refl; limits = refl; most = refl; device = refl; fault = refl; refused = refl }
+
+  same-charges : (l : Lane W O) → CanFeed w limits end l → Charges l.meter l.meter (lane_held w l) (lane_held w l) (lane_share w limits l)
+  same-charges l can = record { held = refl; share = can-held l can; peak = omega arith; rises = omega arith }
+
+  -- nothing is moved
+  pub moved-none : (l : Lane W O) → CanFeed w limits end l → Moved w limits end l l
+  moved-none l can = record {
+    feeds = λ texts more. nothing;
+    falls = omega arith;
+    part = none-behind l.rest;
+    fewer = omega arith;
+    few = can.few;
+    expects = can.expects;
+    takes = can.takes;
+    share = can.share;
+    stays = stays-same l can;
+    charges = same-charges l can;
+  }
+
+  -- it may go on from where it was moved to
+  pub can-moved : (l n : Lane W O) → CanFeed w limits end l → Moved w limits end l n → CanFeed w limits end n
+  can-moved l n can moved =
+      let room = can.room in
+      let held = can.held in
+      let charged = moved.charges.held in
+      let fewer = moved.fewer in
+      let falls = moved.falls in
+      let within = can.within in
+      let small = can.small in
+      record {
+        room = omega (arith, room, held, charged);
+        held = omega (arith, held, charged);
+        countable = subst (λ (k : ℕ). k < 2 ^ 64 - 1) (sym moved.stays.refused) can.countable;
+        checked = can.checked;
+        within = omega (arith, within, fewer);
+        low = can.low;
+        small = omega (arith, small, falls);
+        few = moved.few;
+        expects = moved.expects;
+        takes = moved.takes;
+        share = moved.share;
+      }
+
+  -- one move after the other
+  pub moved-then : (l n r : Lane W O) → CanFeed w limits end l → Moved w limits end l n → Moved w limits end n r → Moved w limits end l r
+  moved-then l n r can f g =
+      let first_falls = f.falls in
+      let then_falls = g.falls in
+      let first_fewer = f.fewer in
+      let then_fewer = g.fewer in
+      let share : lane_share w limits n ≡ lane_share w limits l = ap (λ (k : ℕ). 16 * limits.depth + k) f.stays.most in
+      let then_charged : Charges n.meter r.meter (lane_held w n) (lane_held w r) (lane_share w limits l) =
+      subst (λ (k : ℕ). Charges n.meter r.meter (lane_held w n) (lane_held w r) k) share g.charges in
+      record {
+        feeds = λ texts more. feeds-then w (f.feeds texts more) (g.feeds texts more);
+        falls = omega (arith, first_falls, then_falls);
+        part = behind-then l.rest n.rest r.rest f.part g.part;
+        fewer = omega (arith, first_fewer, then_fewer);
+        few = g.few;
+        expects = g.expects;
+        takes = g.takes;
+        share = g.share;
+        stays = stays-then w f.stays g.stays;
+        charges = charges-then l.meter n.meter r.meter (lane_held w l) (lane_held w n) (lane_held w r) (lane_share w limits l) can.held f.charges then_charged;
+      }
+
+  -- bytes that are no item are passed over
+  pub moved-onward : (l : Lane W O) (expected : Expected) (rest : List ℕ) → CanFeed w limits end l → MayExpect expected (reverse l.kinds) None []
+      → Onward limits (reverse l.kinds) l.top (end - length l.rest) (wanted l.expected None []) l.rest (wanted expected None []) rest
+      → Moved w limits end l (record l { expected = expected; rest = rest })
+  moved-onward l expected rest can may onward =
+      let fewer = onward.fewer in
+      let within = can.within in
+      record {
+        feeds = λ texts more.
+            subst (λ (r : Reading). Feeds w (named_item texts) (Unit {0}) (joint limits end more l) (record { coming = r; opened = reverse l.kinds; writer = l.writer; pending = l.sink.pending; values = l.values }))
+            (onward.same (end - length rest) more (omega (arith, fewer, within))) nothing;
+        falls = omega (arith, fewer);
+        part = onward.part;
+        fewer = fewer;
+        few = can.few;
+        expects = may;
+        takes = can.takes;
+        share = can.share;
+        stays = stays-same l can;
+        charges = same-charges l can;
+      }
+
+  one-most : (kinds : List Kind) → one_if_closed kinds ≤ 1
+  one-most [] = omega arith
+  one-most (k ∷ kinds) = omega arith
+
+  -- an item is taken
+  pub moved-item : (l n : Lane W O) (item : PlacedItem) → CanFeed w limits end l → Stands limits.depth (reverse l.kinds) item → Took w item l.writer n.writer l.sink n.sink l.meter n.meter
+      → reverse n.kinds ≡ open_after (reverse l.kinds) item.head → n.values ≡ l.values + one_if_closed (reverse n.kinds) → IsBehind l.rest n.rest → length n.rest < length l.rest
+      → length n.kinds ≤ limits.depth → MayExpect n.expected (reverse n.kinds) None []
+      → w.own n.writer ≤ w.most l.writer → Charges l.meter n.meter (lane_held w l) (lane_held w n) (lane_share w limits l)
+      → ((more : List ℕ) → (joint limits end more l).coming ≡ More item (joint limits end more n).coming)
+      → Moved w limits end l n
+  moved-item l n item can stands took opens counts part less few may own charges gives =
+      let one = one-most (reverse n.kinds) in
+      record {
+        feeds = λ texts more.
+            hands_on (joint limits end more l) (joint limits end more n) nothing
+            (hands-took w texts (Unit {0}) limits.depth (joint limits end more l) (joint limits end more n) l.sink n.sink l.meter n.meter item can.takes stands took refl refl (λ _. gives more) opens counts);
+        falls = omega (arith, one, counts, less);
+        part = part;
+        fewer = omega (arith, less);
+        few = few;
+        expects = may;
+        takes = can-took w limits.depth (reverse l.kinds) (reverse n.kinds) l.writer n.writer l.sink n.sink l.meter n.meter item can.takes stands took opens;
+        share = record { share = subst (λ (k : ℕ). w.own n.writer ≤ k) (sym took.most) own; small = subst (λ (k : ℕ). k ≤ 2 ^ 59) (sym took.most) can.share.small };
+        stays = record {
+          sound = took.sound;
+          failed = took.failed;
+          limits = took.limits;
+          most = took.most;
+          device = took.device;
+          fault = took.fault;
+          refused = took.refused;
+        };
+        charges = charges;
+      }

@@ -1,0 +1,211 @@
+-- Words that are simple texts, and the names of fields in a lane.
+use Rattle.std.proofs.Common.{◌≡◌, ℕ, suc, ◌+◌, ◌-◌, ◌<◌, ◌≤◌, Bool, true, false, not, ◌&&◌, ◌||◌, ◌==◌, List, [], ◌∷◌, ◌++◌, length, take, drop, get_or, codes, Option, Some, None, IfSome, Result, Ok, refl, sym, ap, subst, ◌∙◌, arith, append-nil}
+use Rattle.std.specs.Prelude.{is_none}
+use Rattle.std.specs.Str.{bytes_eq}
+use Rattle.std.proofs.lemmas.Bool.{and_parts}
+use Rattle.std.proofs.lemmas.List.{length-drop, length-take-le}
+use Rattle.ion_meter.specs.Sources.{Cursor, skip}
+use Rattle.ion_meter.specs.declared.limits.Limits.{Limits}
+use Rattle.ion_meter.specs.declared.fault.Reason.{Reason}
+use Rattle.ion_value.specs.declared.ion_type.Kind.{Kind}
+use Rattle.ion_value.specs.declared.ion_type.IonType.TheVariants as type
+use Rattle.ion_value.specs.declared.plain_item.TextAt.{TextAt}
+use Rattle.ion_value.specs.Digits.{all_are, first_is}
+use Rattle.ion_value.specs.Name.{Keyword, a_null, a_bool, a_nan, begins_with, is_id, is_identifier_byte, is_identifier_start, is_simple, is_version, keyword}
+use Rattle.ion_value.specs.Parts.{Placed, ◌>>=◌}
+use Rattle.ion_value.specs.PlainItems.{placed_text}
+use Rattle.ion_value.specs.Value as value
+use Rattle.ion_value.specs.Value.{SymbolAt, Symbol}
+use Rattle.ion_text_in.specs.declared.scanned.Scanned.TheVariants as scanned
+use Rattle.ion_text_in.specs.Blanks.{blanks}
+use Rattle.ion_text_in.specs.Feeding.{state, Begins, IsBare, IsNamed, IsNext, IsSimpleWord, IsStart, Onward, PassesBlanks, ToColon}
+use Rattle.ion_text_in.specs.declared.expected.Expected.{Expected}
+use Rattle.ion_text_in.specs.declared.expected.Expected.TheVariants as codes_of
+use Rattle.ion_text_in.specs.declared.feed.Next.{Next}
+use Rattle.ion_text_in.specs.declared.feed.Spot.{Spot}
+use Rattle.ion_text_in.specs.declared.feed.Start.{Start}
+use Rattle.ion_text_in.specs.Expecting.{MayExpect}
+use Rattle.ion_text_in.specs.Firsts.{numbered}
+use Rattle.ion_text_in.specs.Meaning.{at}
+use Rattle.ion_text_in.specs.Places.{run_of}
+use Rattle.ion_text_in.specs.Positions.{Wants, a_field, a_value}
+use Rattle.ion_text_in.specs.Positions as positions
+use Rattle.ion_text_in.specs.Reading.{take as taken, may_come, colon_from, colon_of, field_step}
+use Rattle.ion_text_in.specs.Runs.{EndBehind}
+use Rattle.ion_text_in.specs.Steps.{comes, later}
+use Rattle.ion_text_in.specs.Token as tokens
+use Rattle.ion_text_in.specs.Token.{Token, by_keyword, first_at, in_word, token_of, word_of, word_token}
+use Rattle.ion_text_in.specs.Views.{AreShown}
+use Rattle.ion_text_in.proofs.FeedReading.{behind-then, some-behind, later-token, mark-behind, onward-blanks, onward-then}
+use Rattle.ion_text_in.proofs.ShownTokens.{word-shown}
+use Rattle.ion_text_in.proofs.WordTokens.{word-untyped}
+
+-- ---- words
+
+both : (x y : Bool) → x ≡ true → y ≡ true → (x && y) ≡ true
+both x y e f = rw (e, f) refl
+
+run-on : (b : ℕ) (bytes : List ℕ) → is_identifier_byte b ≡ true → run_of in_word (b ∷ bytes) ≡ (b ∷ (run_of in_word bytes).0, (run_of in_word bytes).1)
+unfolding run_of
+run-on b bytes e = rw (e, run_of) refl
+
+run-over : (b : ℕ) (bytes : List ℕ) → is_identifier_byte b ≡ false → run_of in_word (b ∷ bytes) ≡ ([], b ∷ bytes)
+unfolding run_of
+run-over b bytes e = rw (e, run_of) refl
+
+run-none : run_of in_word [] ≡ ([], [])
+unfolding run_of
+run-none = refl
+
+run-identifier : (bytes : List ℕ) → all_are is_identifier_byte (run_of in_word bytes).0 ≡ true
+run-identifier [] = ap (λ (z : List ℕ × List ℕ). all_are is_identifier_byte z.0) run-none
+run-identifier (b ∷ bytes) = by_first (is_identifier_byte b) refl (run-identifier bytes)
+  where
+    by_first : (test : Bool) → is_identifier_byte b ≡ test → all_are is_identifier_byte (run_of in_word bytes).0 ≡ true → all_are is_identifier_byte (run_of in_word (b ∷ bytes)).0 ≡ true
+    by_first true e others =
+        ap (λ (z : List ℕ × List ℕ). all_are is_identifier_byte z.0) (run-on b bytes e) ∙ both (is_identifier_byte b) (all_are is_identifier_byte (run_of in_word bytes).0) e others
+    by_first false e others = ap (λ (z : List ℕ × List ℕ). all_are is_identifier_byte z.0) (run-over b bytes e)
+
+-- the bytes of a run in a slice
+run-taken : (bytes : List ℕ) (n : ℕ) → EndBehind in_word bytes n → all_are is_identifier_byte (take n bytes) ≡ true
+run-taken bytes n ends = ap (λ (z : List ℕ × List ℕ). all_are is_identifier_byte z.0) (sym (ends [])) ∙ run-identifier (bytes ++ [])
+
+-- a symbol by its text is no keyword
+no-keyword : (k : Option Keyword) (word : List ℕ) → by_keyword k word ≡ Ok (tokens.name false (value.Text word)) → k ≡ None
+no-keyword None word e = refl
+no-keyword (Some (a_null (Some t))) word e = absurd (cc e)
+no-keyword (Some (a_null None)) word e = absurd (cc e)
+no-keyword (Some (a_bool b)) word e = absurd (cc e)
+no-keyword (Some a_nan) word e = absurd (cc e)
+
+name-keyword : (word : List ℕ) → word_token word ≡ Ok (tokens.name false (value.Text word)) → keyword word ≡ None
+unfolding word_token
+name-keyword word e = no-keyword (keyword word) word e
+
+null-keyword : (word : List ℕ) → keyword word ≡ None → bytes_eq (codes "null") word ≡ false
+null-keyword word none = by (bytes_eq (codes "null") word) refl
+  where
+    by : (b : Bool) → bytes_eq (codes "null") word ≡ b → bytes_eq (codes "null") word ≡ false
+    by false e = e
+    by true e = (let k : keyword word ≡ Some (a_null (Some type.Null)) = rw e refl in absurd (cc (k, none)))
+
+-- what begins with no dollar sign is no id and no word of a version
+dollar-id : (b : ℕ) (word : List ℕ) → (b == 36) ≡ false → is_id (b ∷ word) ≡ false
+dollar-id b word e = rw e refl
+
+pub dollar-version : (b : ℕ) (word : List ℕ) → (b == 36) ≡ false → is_version (b ∷ word) ≡ false
+dollar-version b word e = rw (other b e) refl
+  where
+    other : (b : ℕ) → (b == 36) ≡ false → (36 == b) ≡ false
+    other b e = grind (arith, e)
+
+simple-is : (b : ℕ) (word : List ℕ) → is_identifier_start b ≡ true → (b == 36) ≡ false → all_are is_identifier_byte word ≡ true → keyword (b ∷ word) ≡ None → is_simple (b ∷ word) ≡ true
+simple-is b word begins dollar all none = rw (begins, all, none, dollar-id b word dollar, dollar-version b word dollar, dollar) refl
+
+pub word-simple : (limit n : ℕ) (first : ℕ) (others : List ℕ) → n < length others → EndBehind in_word others n → is_identifier_start first ≡ true → (first == 36) ≡ false → 1 + n ≤ limit
+    → word_token (take (1 + n) (first ∷ others)) ≡ Ok (tokens.name false (value.Text (take (1 + n) (first ∷ others)))) → IsSimpleWord limit (first ∷ others) (1 + n)
+word-simple limit n first others within ends begins dollar le token =
+    let bytes : List ℕ = first ∷ others in
+    let word : List ℕ = take (1 + n) bytes in
+    let front : word ≡ first ∷ take n others = (let e : 1 + n ≡ suc n = omega arith in ap (λ (k : ℕ). take k bytes) e) in
+    let none = name-keyword word token in
+    let no_null = null-keyword word none in
+    let shown : AreShown word_of bytes (1 + n) = word-untyped bytes n (omega arith) within ends (ap (λ (b : Bool). b && first_is (λ b. b == 46) (drop (1 + n) bytes)) no_null) in
+    let shows = word-shown (λ (w : List ℕ). tokens.name false (value.Text w)) word limit (1 + n) bytes shown le token in
+    record {
+      some = omega arith;
+      within = shows.0;
+      simple = ap (λ (l : List ℕ). is_simple l) front ∙ simple-is first (take n others) begins dollar (run-taken others n ends) (ap keyword (sym front) ∙ none);
+      shown = shows.1;
+    }
+
+pub slice-simple : (limit n : ℕ) (bytes : List ℕ) → 1 ≤ length bytes → n < length (drop 1 bytes) → EndBehind in_word (drop 1 bytes) n → is_identifier_start (get_or bytes 0 0) ≡ true → (get_or bytes 0 0 == 36) ≡ false
+    → 1 + n ≤ limit → word_token (take (1 + n) bytes) ≡ Ok (tokens.name false (value.Text (take (1 + n) bytes))) → IsSimpleWord limit bytes (1 + n)
+slice-simple limit n [] some within ends begins dollar le token = absurd (omega (arith, some))
+slice-simple limit n (b ∷ bytes) some within ends begins dollar le token = word-simple limit n b bytes within ends begins dollar le token
+
+-- ---- names of fields
+
+may-name : may_come a_field tokens.a_word ≡ true
+unfolding may_come
+may-name = refl
+
+field-taken : (limits : Limits) (kinds : List Kind) (top place : ℕ) (name : List ℕ) (c : Cursor)
+    → comes limits (taken limits kinds top a_field place (tokens.name false (value.Text name)) c) ≡ comes limits (field_step kinds top (positions.at (value.Text name) place) c)
+unfolding taken
+field-taken limits kinds top place name c = refl
+
+colon-there : (kinds : List Kind) (top : ℕ) (a : SymbolAt) (c : Cursor) (rest more : List ℕ) → 0 < length rest → first_at false (rest ++ more) ≡ tokens.a_colon
+    → colon_from kinds top a c (rest ++ more) ≡ colon_of kinds top a c tokens.a_colon
+colon-there kinds top a c [] more some first = absurd (omega (arith, some))
+colon-there kinds top a c (b ∷ rest) more some first = ap (colon_of kinds top a c) first
+
+pub onward-name : (limits : Limits) (kinds : List Kind) (top place n : ℕ) (bytes colon rest : List ℕ) → IsBare bytes → ((in_sexp : Bool) (more : List ℕ) → first_at in_sexp (bytes ++ more) ≡ tokens.a_word)
+    → IsSimpleWord limits.scalar bytes n → ToColon (drop n bytes) colon → PassesBlanks (drop 1 colon) rest
+    → Onward limits kinds top place a_field bytes (a_value (Some (positions.at (value.Text (take n bytes)) place)) []) rest
+onward-name limits kinds top place n bytes colon rest bare begins word to_colon passes =
+    let within = word.within in
+    let some = word.some in
+    let long = length-drop n bytes in
+    let one = length-drop 1 colon in
+    let fewer = to_colon.passes.fewer in
+    let there = to_colon.some in
+    let last = passes.fewer in
+    let a = positions.at (value.Text (take n bytes)) place in
+    let wants : Wants = a_value (Some a) [] in
+    record {
+      part = behind-then bytes (drop 1 colon) rest
+          (behind-then bytes colon (drop 1 colon) (behind-then bytes (drop n bytes) colon (some-behind bytes n within) to_colon.passes.part) (some-behind colon 1 (omega (arith, there)))) passes.part;
+      fewer = omega (arith, long, one, fewer, last);
+      same = λ q more e.
+          let colon_place : ℕ = place + (length bytes - length colon) in
+          let behind_place : ℕ = colon_place + 1 in
+          later-token limits kinds top place (place + n) a_field bytes (drop n bytes) more tokens.a_word (tokens.name false (value.Text (take n bytes))) bare (omega (arith, within, some)) begins may-name (word.shown place more)
+          ∙ (field-taken limits kinds top place (take n bytes) (at (place + n) (drop n bytes ++ more))
+          ∙ (ap (λ (o : Placed Cursor). comes limits (o >>= (λ d. colon_from kinds top a d d.rest))) (to_colon.passes.blank (place + n) colon_place more (omega (arith, long, within, fewer)))
+          ∙ (ap (comes limits) (colon-there kinds top a (at colon_place (colon ++ more)) colon more there (to_colon.first more))
+          ∙ (ap (λ (c : Cursor). later limits (record { kinds = kinds; top = top; wants = wants; cursor = c })) (mark-behind colon more colon_place behind_place there (omega (arith, one, there)))
+          ∙ (onward-blanks limits kinds top behind_place wants (drop 1 colon) rest passes).same q more (omega (arith, e, one, there, long, fewer))))));
+    }
+
+-- the name, the colon and the blanks behind it
+pub named-start : (limits : Limits) (place n : ℕ) (next : Next) (start : Start) (text : TextAt) (colon : List ℕ) → start.field ≡ Some text → text.place ≡ place → text.text.now ≡ take n next.rest.now
+    → Begins next → 0 < next.told → numbered next.told ≡ tokens.a_word → IsSimpleWord limits.scalar next.rest.now n → ToColon (drop n next.rest.now) colon → IsNext (drop 1 colon) start.next → 0 < length start.next.rest.now
+    → IsNamed limits place next start
+named-start limits place n next start text colon is here bytes begins told first word to_colon behind some =
+    let passes = behind.passes some in
+    let name : positions.at (value.Text (take n next.rest.now)) place ≡ placed_text text =
+    ap (λ (l : List ℕ). positions.at (value.Text l) place) (sym bytes) ∙ ap (λ (p : ℕ). positions.at (value.Text text.text.now) p) (sym here) in
+    record {
+      text = text;
+      is = is;
+      simple = ap (λ (l : List ℕ). is_simple l) bytes ∙ word.simple;
+      some = told;
+      onward = λ kinds top.
+          subst (λ (s : SymbolAt). Onward limits kinds top place a_field next.rest.now (a_value (Some s) []) start.next.rest.now) name
+          (onward-name limits kinds top place n next.rest.now colon start.next.rest.now begins.bare (λ sexp more. begins.tells told sexp more ∙ first) word to_colon passes);
+      begins = record { some = some; tells = behind.tells; bare = passes.bare };
+    }
+
+pub start-field : (limits : Limits) (spot : Spot) (place named : ℕ) (next : Next) (start : Option Start) → spot.expected ≡ codes_of.Field → IsNext spot.rest.now next
+    → named ≡ place + (length spot.rest.now - length next.rest.now) → IfSome start (IsNamed limits named next) → IfSome start (IsStart limits spot place)
+start-field limits spot place named next None field is here h = tt
+start-field limits spot place named next (Some s) field is here h =
+    let passes = is.passes (is.some h.some) in
+    let fewer = passes.fewer in
+    record {
+      simple = rw h.is h.simple;
+      onward = λ kinds may.
+          rw (h.is, field) (onward-then limits kinds spot.top place named a_field a_field (a_value (Some (placed_text h.text)) []) spot.rest.now next.rest.now s.next.rest.now (omega (arith, here, fewer))
+          (onward-blanks limits kinds spot.top place a_field spot.rest.now next.rest.now passes) (h.onward kinds spot.top));
+      named = λ kinds may. rw h.is (sym (subst (λ (e : Expected). MayExpect e kinds None []) field may).0);
+      begins = h.begins;
+    }
+
+-- what is known of the next token, where its first byte tells it
+pub next-begins : (bytes : List ℕ) (next : Next) → IsNext bytes next → 0 < next.told → Begins next
+next-begins bytes next is told = (let some = is.some told in record { some = some; tells = is.tells; bare = (is.passes some).bare })
+
+pub not-empty : (bytes : List ℕ) → (length bytes == 0) ≡ false → 0 < length bytes
+not-empty [] e = absurd (cc e)
+not-empty (b ∷ bytes) e = omega arith

@@ -1,0 +1,309 @@
+-- What the bytes of a window show of the next token, as reading has it.
+use Rattle.std.proofs.Common.{◌≡◌, ℕ, zero, suc, ◌+◌, ◌-◌, ◌<◌, ◌≤◌, Bool, true, false, not, nat_le, ◌==◌, List, [], ◌∷◌, ◌++◌, length, take, drop, get_or, Option, Some, None, IfSome, Result, Ok, refl, sym, ap, subst, ◌∙◌, arith, append_assoc}
+use Rattle.std.proofs.lemmas.List.{take-append-drop, drop-drop, length-drop, length-take-le}
+use Rattle.ion_meter.specs.Sources.{Cursor, skip}
+use Rattle.ion_meter.specs.declared.limits.Limits.{Limits}
+use Rattle.ion_meter.specs.declared.fault.Reason.{Reason}
+use Rattle.ion_meter.specs.declared.fault.Reason.TheVariants.{BadToken, DepthLimit}
+use Rattle.ion_value.specs.declared.ion_type.Kind.{Kind}
+use Rattle.ion_value.specs.Digits.{all_are, first_is}
+use Rattle.ion_value.specs.Parts.{part, refuse, ◌>>=◌, ◌>>◌}
+use Rattle.ion_value.specs.Reading.{Reading, Step, Gives, GoesOn, More, next_reading}
+use Rattle.ion_value.specs.Standing.{open_after, HasPlace}
+use Rattle.ion_value.specs.Value as value
+use Rattle.ion_value.specs.Value.{SymbolAt, Scalar, Head, PlacedItem}
+use Rattle.ion_text_in.specs.Blanks.{blanks, is_white}
+use Rattle.ion_text_in.specs.declared.feed.Next.{Next}
+use Rattle.ion_text_in.specs.declared.feed.Spot.{Spot}
+use Rattle.ion_text_in.specs.declared.feed.Start.{Start}
+use Rattle.ion_text_in.specs.declared.expected.Expected.{Expected}
+use Rattle.ion_text_in.specs.declared.expected.Expected.TheVariants as codes
+use Rattle.ion_text_in.specs.declared.number.Number.{Number}
+use Rattle.ion_text_in.specs.declared.number.Number.TheVariants as numbers
+use Rattle.ion_text_in.specs.declared.quick.Quick.{Quick}
+use Rattle.ion_text_in.specs.declared.scanned.Scanned.TheVariants.{Whole}
+use Rattle.ion_text_in.specs.Expecting.{wanted, MayExpect}
+use Rattle.ion_text_in.specs.Quick.{as_quick}
+use Rattle.ion_text_in.specs.Scanners.{Shows}
+use Rattle.ion_text_in.specs.Views.{as_number, number_token}
+use Rattle.ion_value.specs.Items.{raw_head}
+use Rattle.ion_value.specs.PlainItems.{HasSimpleSymbol}
+use Rattle.ion_value.specs.Standing.{InRange}
+use Rattle.ion_text_in.specs.Feeding.{state, bare_item, behind_head, Begins, IsBare, IsBehind, IsHead, IsNext, IsStart, Onward, PassesBlanks}
+use Rattle.ion_text_in.specs.Meaning.{at}
+use Rattle.ion_text_in.specs.Positions.{State, Wants, a_value, a_field, a_separator, innermost, in_sexp}
+use Rattle.ion_text_in.specs.Reading.{step, step_of, take as taken, may_come, at_member, begin_step, end_step, behind_member, is_same, item_step, item_of, member_of, top_of, scalar_step}
+use Rattle.ion_text_in.specs.Scanning.{moved_to}
+use Rattle.ion_text_in.specs.Steps.{comes, later}
+use Rattle.ion_text_in.specs.Token as tokens
+use Rattle.ion_text_in.specs.Token.{First, Token, first_at, token_of}
+use Rattle.ion_text_in.proofs.BlankTurns.{no-slash}
+use Rattle.ion_text_in.proofs.BlankRuns.{white-over}
+use Rattle.ion_text_in.proofs.ReaderLanes.{may-begin, may-comma, may-end}
+use Rattle.ion_text_in.proofs.ReaderSteps.{blanks-going, later-moved, part-token, step-part}
+
+-- ---- what stands behind some bytes
+
+pub none-behind : (bytes : List ℕ) → IsBehind bytes bytes
+none-behind bytes = record { count = 0; within = omega arith; same = refl }
+
+pub some-behind : (bytes : List ℕ) (n : ℕ) → n ≤ length bytes → IsBehind bytes (drop n bytes)
+some-behind bytes n within = record { count = n; within = within; same = refl }
+
+pub behind-then : (a b c : List ℕ) → IsBehind a b → IsBehind b c → IsBehind a c
+behind-then a b c f g =
+    let long = length-drop f.count a in
+    let same = ap (λ (l : List ℕ). length l) f.same in
+    let within = f.within in
+    let then_within = g.within in
+    record {
+      count = f.count + g.count;
+      within = omega (arith, long, same, within, then_within);
+      same = g.same ∙ (ap (λ (l : List ℕ). drop g.count l) f.same ∙ drop-drop g.count f.count a);
+    }
+
+-- ---- blanks
+
+bare-first : (p b : ℕ) (bytes : List ℕ) → is_white b ≡ false → (b == 47) ≡ false → blanks (at p (b ∷ bytes)) ≡ Ok (at p (b ∷ bytes))
+bare-first p b bytes white slash = no-slash p b bytes white slash
+
+-- bytes that are no white space and no slash
+bare-by : (p : ℕ) (bytes more : List ℕ) → 0 < length bytes → first_is is_white bytes ≡ false → first_is (λ b. b == 47) bytes ≡ false
+    → blanks (at p (bytes ++ more)) ≡ Ok (at p (bytes ++ more))
+bare-by p [] more some white slash = absurd (omega (arith, some))
+bare-by p (b ∷ bytes) more some white slash = bare-first p b (bytes ++ more) white slash
+
+pub passes-white : (bytes : List ℕ) (n : ℕ) → n < length bytes → all_are is_white (take n bytes) ≡ true → first_is is_white (drop n bytes) ≡ false → first_is (λ b. b == 47) (drop n bytes) ≡ false
+    → PassesBlanks bytes (drop n bytes)
+passes-white bytes n there white ends slash =
+    let rest = drop n bytes in
+    let long : length rest ≡ length bytes - n = length-drop n bytes in
+    let taken_long : length (take n bytes) ≡ n = length-take-le n bytes (omega (arith, there)) in
+    record {
+      part = some-behind bytes n (omega (arith, there));
+      fewer = omega (arith, long);
+      blank = λ p q more e.
+          let q_is : p + length (take n bytes) ≡ q = omega (arith, e, long, there, taken_long) in
+          ap (λ (l : List ℕ). blanks (at p (l ++ more))) (sym (take-append-drop n bytes))
+          ∙ (ap (λ (l : List ℕ). blanks (at p l)) (append_assoc (take n bytes) rest more)
+          ∙ (white-over p (take n bytes) (rest ++ more) white
+          ∙ (ap (λ (k : ℕ). blanks (at k (rest ++ more))) q_is
+          ∙ bare-by q rest more (omega (arith, long, there)) ends slash)));
+      bare = λ p more. bare-by p rest more (omega (arith, long, there)) ends slash;
+    }
+
+not-same : (x b : ℕ) → (x ≡ b → ⊥) → (x == b) ≡ false
+not-same x b other = grind (arith, other)
+
+-- another byte stands there
+pub other-there : (bytes : List ℕ) (n b : ℕ) → n < length bytes → (get_or bytes n 0 ≡ b → ⊥) → first_is (λ x. x == b) (drop n bytes) ≡ false
+other-there [] n b there other = absurd (omega (arith, there))
+other-there (x ∷ bytes) zero b there other = not-same x b other
+other-there (x ∷ bytes) (suc n) b there other = other-there bytes n b (omega (arith, there)) other
+
+-- ---- a token
+
+-- blanks are passed over
+later-blanks : (limits : Limits) (kinds : List Kind) (top : ℕ) (wants : Wants) (c d : Cursor) → blanks c ≡ Ok d
+    → later limits (record { kinds = kinds; top = top; wants = wants; cursor = c }) ≡ later limits (record { kinds = kinds; top = top; wants = wants; cursor = d })
+later-blanks limits kinds top wants c d e = later-moved limits (record { kinds = kinds; top = top; wants = wants; cursor = c }) c d None (blanks-going c d e)
+
+pub onward-blanks : (limits : Limits) (kinds : List Kind) (top place : ℕ) (wants : Wants) (bytes rest : List ℕ) → PassesBlanks bytes rest → Onward limits kinds top place wants bytes wants rest
+onward-blanks limits kinds top place wants bytes rest passes = record {
+  part = passes.part;
+  fewer = passes.fewer;
+  same = λ q more e. later-blanks limits kinds top wants (at place (bytes ++ more)) (at q (rest ++ more)) (passes.blank place q more e);
+}
+
+some-longer : (bytes more : List ℕ) → 0 < length bytes → 0 < length (bytes ++ more)
+some-longer [] more some = absurd (omega (arith, some))
+some-longer (b ∷ bytes) more some = omega arith
+
+-- a token that begins here and is taken
+pub later-token : (limits : Limits) (kinds : List Kind) (top place q : ℕ) (wants : Wants) (bytes rest more : List ℕ) (first : First) (token : Token)
+    → IsBare bytes → 0 < length bytes → ((in_sexp : Bool) (more : List ℕ) → first_at in_sexp (bytes ++ more) ≡ first) → may_come wants first ≡ true
+    → token_of (Some limits.scalar) first (at place (bytes ++ more)) ≡ Ok (token, at q (rest ++ more))
+    → later limits (state kinds top wants place (bytes ++ more)) ≡ comes limits (taken limits kinds top wants place token (at q (rest ++ more)))
+later-token limits kinds top place q wants bytes rest more first token bare some begins may is =
+    let s = state kinds top wants place (bytes ++ more) in
+    let c = at place (bytes ++ more) in
+    step-part limits s c first (bare place more) (some-longer bytes more some) (begins (in_sexp (innermost kinds)) more)
+    ∙ part-token limits (moved_to c s) c (at q (rest ++ more)) first token may is
+
+-- ---- punctuation
+
+pub mark-behind : (bytes more : List ℕ) (p q : ℕ) → 0 < length bytes → p + length bytes ≡ q + length (drop 1 bytes) → skip 1 (at p (bytes ++ more)) ≡ at q (drop 1 bytes ++ more)
+mark-behind [] more p q some e = absurd (omega (arith, some))
+mark-behind (b ∷ bytes) more p q some e = (let same : p + 1 ≡ q = omega (arith, e) in ap (λ (k : ℕ). at k (bytes ++ more)) same)
+
+comma-token : (limit : Option ℕ) (c : Cursor) → token_of limit tokens.a_comma c ≡ Ok (tokens.comma, skip 1 c)
+unfolding token_of
+comma-token limit c = refl
+
+begin-token : (limit : Option ℕ) (k : Kind) (c : Cursor) → token_of limit (tokens.a_begin k) c ≡ Ok (tokens.begin k, skip 1 c)
+unfolding token_of
+begin-token limit k c = refl
+
+end-token : (limit : Option ℕ) (k : Kind) (c : Cursor) → token_of limit (tokens.an_end k) c ≡ Ok (tokens.end k, skip 1 c)
+unfolding token_of
+end-token limit k c = refl
+
+comma-taken : (limits : Limits) (kinds : List Kind) (top place : ℕ) (c : Cursor) → comes limits (taken limits kinds top a_separator place tokens.comma c) ≡ later limits (record { kinds = kinds; top = top; wants = at_member (innermost kinds); cursor = c })
+unfolding taken
+comma-taken limits kinds top place c = refl
+
+pub onward-comma : (limits : Limits) (kinds : List Kind) (top place : ℕ) (bytes : List ℕ) → IsBare bytes → 0 < length bytes
+    → ((in_sexp : Bool) (more : List ℕ) → first_at in_sexp (bytes ++ more) ≡ tokens.a_comma) → Onward limits kinds top place a_separator bytes (at_member (innermost kinds)) (drop 1 bytes)
+onward-comma limits kinds top place bytes bare some begins =
+    let long = length-drop 1 bytes in
+    record {
+      part = some-behind bytes 1 (omega (arith, some));
+      fewer = omega (arith, long);
+      same = λ q more e.
+          later-token limits kinds top place q a_separator bytes (drop 1 bytes) more tokens.a_comma tokens.comma bare some begins (may-comma a_separator)
+          (comma-token (Some limits.scalar) (at place (bytes ++ more)) ∙ ap (λ (c : Cursor). Ok (tokens.comma, c)) (mark-behind bytes more place q some e))
+          ∙ comma-taken limits kinds top place (at q (drop 1 bytes ++ more));
+    }
+
+-- one after the other
+pub onward-then : (limits : Limits) (kinds : List Kind) (top p q : ℕ) (a b c : Wants) (x y z : List ℕ) → p + length x ≡ q + length y → Onward limits kinds top p a x b y → Onward limits kinds top q b y c z
+    → Onward limits kinds top p a x c z
+onward-then limits kinds top p q a b c x y z e f g = record {
+  part = behind-then x y z f.part g.part;
+  fewer = omega (arith, f.fewer, g.fewer);
+  same = λ r more h. f.same q more e ∙ g.same r more (omega (arith, e, h));
+}
+
+-- ---- heads
+
+begin-taken : (limits : Limits) (kinds : List Kind) (top place : ℕ) (field : Option SymbolAt) (k : Kind) (c : Cursor) → nat_le limits.depth (length kinds) ≡ false
+    → comes limits (taken limits kinds top (a_value field []) place (tokens.begin k) c)
+    ≡ More (bare_item kinds top field place (value.begin k)) (later limits (record { kinds = k ∷ kinds; top = top_of kinds top [] place; wants = member_of k; cursor = c }))
+unfolding taken
+begin-taken limits kinds top place field k c few =
+    ap (λ (b : Bool). comes limits (part place (refuse b DepthLimit >> Ok (item_step kinds top field [] place (value.begin k) (k ∷ kinds) (member_of k) c)))) few
+
+plain-taken : (limits : Limits) (kinds : List Kind) (top place : ℕ) (field : Option SymbolAt) (body : Scalar SymbolAt) (c : Cursor)
+    → comes limits (taken limits kinds top (a_value field []) place (tokens.plain body) c)
+    ≡ More (bare_item kinds top field place (value.whole body)) (later limits (record { kinds = kinds; top = top_of kinds top [] place; wants = behind_member (innermost kinds); cursor = c }))
+unfolding taken
+plain-taken limits kinds top place field body c = refl
+
+pub may-value : (field : Option SymbolAt) (first : First) → may_come (a_value field []) first ≡ true
+unfolding may_come
+may-value field first = refl
+
+not_as_many : (n m : ℕ) → m < n → nat_le n m ≡ false
+not_as_many n m h = grind (arith, h)
+
+pub begin-gives : (limits : Limits) (place q : ℕ) (k : Kind) (bytes : List ℕ) → IsBare bytes → 0 < length bytes → ((in_sexp : Bool) (more : List ℕ) → first_at in_sexp (bytes ++ more) ≡ tokens.a_begin k)
+    → (kinds : List Kind) (top : ℕ) (field : Option SymbolAt) (more : List ℕ) → length kinds < limits.depth → place + length bytes ≡ q + length (drop 1 bytes)
+    → later limits (state kinds top (a_value field []) place (bytes ++ more))
+    ≡ More (bare_item kinds top field place (value.begin k)) (later limits (state (k ∷ kinds) (top_of kinds top [] place) (member_of k) q (drop 1 bytes ++ more)))
+begin-gives limits place q k bytes bare some begins kinds top field more few e =
+    later-token limits kinds top place q (a_value field []) bytes (drop 1 bytes) more (tokens.a_begin k) (tokens.begin k) bare some begins (may-value field (tokens.a_begin k))
+    (begin-token (Some limits.scalar) k (at place (bytes ++ more)) ∙ ap (λ (c : Cursor). Ok (tokens.begin k, c)) (mark-behind bytes more place q some e))
+    ∙ begin-taken limits kinds top place field k (at q (drop 1 bytes ++ more)) (not_as_many limits.depth (length kinds) few)
+
+pub plain-gives : (limits : Limits) (place q : ℕ) (first : First) (body : Scalar SymbolAt) (bytes rest : List ℕ) → IsBare bytes → 0 < length bytes → ((in_sexp : Bool) (more : List ℕ) → first_at in_sexp (bytes ++ more) ≡ first)
+    → (kinds : List Kind) (top : ℕ) (field : Option SymbolAt) (more : List ℕ)
+    → token_of (Some limits.scalar) first (at place (bytes ++ more)) ≡ Ok (tokens.plain body, at q (rest ++ more))
+    → later limits (state kinds top (a_value field []) place (bytes ++ more))
+    ≡ More (bare_item kinds top field place (value.whole body)) (later limits (state kinds (top_of kinds top [] place) (behind_member (innermost kinds)) q (rest ++ more)))
+plain-gives limits place q first body bytes rest bare some begins kinds top field more is =
+    later-token limits kinds top place q (a_value field []) bytes rest more first (tokens.plain body) bare some begins (may-value field first) is
+    ∙ plain-taken limits kinds top place field body (at q (rest ++ more))
+
+-- ---- a container's end
+
+-- what must come is no value behind a name or annotations
+pub data MayEnd : Wants → Type 0 where
+  at_value : MayEnd (a_value None [])
+  at_field : MayEnd a_field
+  at_separator : MayEnd a_separator
+
+end-taken : (limits : Limits) (j k : Kind) (kinds : List Kind) (top place : ℕ) (wants : Wants) (c : Cursor) → MayEnd wants → is_same j k ≡ true
+    → comes limits (taken limits (j ∷ kinds) top wants place (tokens.end k) c)
+    ≡ More (item_of top None [] place value.end) (later limits (record { kinds = kinds; top = top; wants = behind_member (innermost kinds); cursor = c }))
+unfolding taken
+end-taken limits j k kinds top place _ c at_value same =
+    ap (λ (b : Bool). comes limits (part place (refuse (not b) BadToken >> Ok (Gives (item_of top None [] place value.end) (record { kinds = kinds; top = top; wants = behind_member (innermost kinds); cursor = c }))))) same
+end-taken limits j k kinds top place _ c at_field same =
+    ap (λ (b : Bool). comes limits (part place (refuse (not b) BadToken >> Ok (Gives (item_of top None [] place value.end) (record { kinds = kinds; top = top; wants = behind_member (innermost kinds); cursor = c }))))) same
+end-taken limits j k kinds top place _ c at_separator same =
+    ap (λ (b : Bool). comes limits (part place (refuse (not b) BadToken >> Ok (Gives (item_of top None [] place value.end) (record { kinds = kinds; top = top; wants = behind_member (innermost kinds); cursor = c }))))) same
+
+pub end-gives : (limits : Limits) (j k : Kind) (kinds : List Kind) (top place q : ℕ) (wants : Wants) (bytes more : List ℕ) → MayEnd wants → is_same j k ≡ true → IsBare bytes → 0 < length bytes
+    → ((in_sexp : Bool) (more : List ℕ) → first_at in_sexp (bytes ++ more) ≡ tokens.an_end k) → place + length bytes ≡ q + length (drop 1 bytes)
+    → later limits (state (j ∷ kinds) top wants place (bytes ++ more))
+    ≡ More (item_of top None [] place value.end) (later limits (state kinds top (behind_member (innermost kinds)) q (drop 1 bytes ++ more)))
+end-gives limits j k kinds top place q wants bytes more may same bare some begins e =
+    later-token limits (j ∷ kinds) top place q wants bytes (drop 1 bytes) more (tokens.an_end k) (tokens.end k) bare some begins (may-end k wants)
+    (end-token (Some limits.scalar) k (at place (bytes ++ more)) ∙ ap (λ (c : Cursor). Ok (tokens.end k, c)) (mark-behind bytes more place q some e))
+    ∙ end-taken limits j k kinds top place wants (at q (drop 1 bytes ++ more)) may same
+
+-- ---- what is found
+
+pub head-begin : (limits : Limits) (place : ℕ) (k : Kind) (bytes rest : List ℕ) → rest ≡ drop 1 bytes
+    → IsBare bytes → 0 < length bytes → ((in_sexp : Bool) (more : List ℕ) → first_at in_sexp (bytes ++ more) ≡ tokens.a_begin k) → IsHead limits place bytes (value.begin k) rest
+head-begin limits place k bytes rest behind bare some begins =
+    let long = length-drop 1 bytes in
+    subst (λ (l : List ℕ). IsHead limits place bytes (value.begin k) l) (sym behind) (record {
+      part = some-behind bytes 1 (omega (arith, some));
+      fewer = omega (arith, long, some);
+      simple = tt;
+      range = tt;
+      member = λ kinds. refl;
+      value = refl;
+      gives = λ kinds top q field more few e. begin-gives limits place q k bytes bare some begins kinds top field more few e;
+    })
+
+pub number-simple : (x : Number) → HasSimpleSymbol (as_number x)
+number-simple (numbers.Int i) = tt
+number-simple (numbers.Decimal d) = tt
+number-simple (numbers.Timestamp t) = tt
+
+pub head-number : (limits : Limits) (place : ℕ) (x : Quick) (bytes rest : List ℕ) (head : Head SymbolAt) → head ≡ value.whole (as_number (as_quick x)) → rest ≡ drop x.count bytes → 0 < x.count
+    → Shows number_token bytes (Whole (as_quick x) x.count) (token_of (Some limits.scalar) tokens.a_run) → InRange (as_number (as_quick x))
+    → IsBare bytes → 0 < length bytes → ((in_sexp : Bool) (more : List ℕ) → first_at in_sexp (bytes ++ more) ≡ tokens.a_run) → IsHead limits place bytes head rest
+head-number limits place x bytes rest head is behind counts shows range bare some begins =
+    let long = length-drop x.count bytes in
+    let n : x.count ≤ length bytes = shows.0 in
+    subst (λ (h : Head SymbolAt). IsHead limits place bytes h rest) (sym is)
+    (subst (λ (l : List ℕ). IsHead limits place bytes (value.whole (as_number (as_quick x))) l) (sym behind) (record {
+      part = some-behind bytes x.count n;
+      fewer = omega (arith, long, counts, n);
+      simple = number-simple (as_quick x);
+      range = range;
+      member = λ kinds. refl;
+      value = refl;
+      gives = λ kinds top q field more fits e.
+          let q_is : place + x.count ≡ q = omega (arith, e, long, n) in
+          plain-gives limits place q tokens.a_run (as_number (as_quick x)) bytes (drop x.count bytes) bare some begins kinds top field more
+          (shows.1 place more ∙ ap (λ (k : ℕ). Ok (number_token (as_quick x), at k (drop x.count bytes ++ more))) q_is);
+    }))
+
+-- ---- where a value begins
+
+pub onward-separator : (limits : Limits) (opened : List Kind) (top place : ℕ) (expected after : Expected) (bytes rest behind : List ℕ) → expected ≡ codes.Separator → PassesBlanks bytes rest → 0 < length rest
+    → ((in_sexp : Bool) (more : List ℕ) → first_at in_sexp (rest ++ more) ≡ tokens.a_comma) → behind ≡ drop 1 rest → wanted after None [] ≡ at_member (innermost opened)
+    → Onward limits opened top place (wanted expected None []) bytes (wanted after None []) behind
+onward-separator limits opened top place expected after bytes rest behind separator passes some comma is wants =
+    let fewer = passes.fewer in
+    rw (separator, wants, is)
+    (onward-then limits opened top place (place + (length bytes - length rest)) a_separator a_separator (at_member (innermost opened)) bytes rest (drop 1 rest) (omega (arith, fewer))
+    (onward-blanks limits opened top place a_separator bytes rest passes) (onward-comma limits opened top (place + (length bytes - length rest)) rest passes.bare some comma))
+
+pub start-value : (limits : Limits) (spot : Spot) (place : ℕ) (next : Next) (start : Option Start) → spot.expected ≡ codes.Value → IsNext spot.rest.now next
+    → IfSome start (λ s. s.field ≡ None) → IfSome start (λ s. s.next ≡ next) → IfSome start (λ s. 0 < length next.rest.now) → IfSome start (IsStart limits spot place)
+start-value limits spot place next None value is none same some = tt
+start-value limits spot place next (Some s) value is none same some =
+    let passes = is.passes some in
+    let at_next : Begins next = record { some = some; tells = is.tells; bare = passes.bare } in
+    let begins : Begins s.next = subst (λ (n : Next). Begins n) (sym same) at_next in
+    record {
+      simple = rw none tt;
+      onward = λ kinds may. rw (none, same, value) (onward-blanks limits kinds spot.top place (a_value None []) spot.rest.now next.rest.now passes);
+      named = λ kinds may. rw none (subst (λ (e : Expected). MayExpect e kinds None []) value may);
+      begins = begins;
+    }

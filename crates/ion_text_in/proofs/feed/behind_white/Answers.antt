@@ -1,0 +1,13 @@
+use Rattle.std.proofs.Common.{◌≡◌, ◌≤◌, ◌<◌, ◌==◌, ℕ, List, Bool, false, length, drop, get_or, subst, sym, arith}
+use Rattle.ion_value.specs.Digits.{first_is}
+use Rattle.ion_text_in.specs.Feeding.{PassesBlanks}
+use Rattle.ion_text_in.proofs.FeedReading.{passes-white, other-there}
+use Rattle.ion_text_in.proofs.feed.behind_white.Goals as goal
+
+pub returns : goal.returns
+returns c _ =
+    let bytes = c.args.bytes.now in
+    let white = c.white_run-white in
+    let there : white.result < length bytes = grind (arith, white.ensures.within, c.if-white-bytes.false) in
+    subst (λ (l : List ℕ). PassesBlanks bytes l) (sym c.behind.ensures)
+    (passes-white bytes white.result there white.ensures.run white.ensures.ends (other-there bytes white.result 47 there c.if-bytes-white-eq47.false))

@@ -1,0 +1,34 @@
+use Rattle.ion_text_in.specs.Feeding.{lane}
+use Rattle.ion_text_in.proofs.FeedLanes.{can-moved, moved-none, moved-then}
+use Rattle.ion_text_in.proofs.feed.feed_items.Goals as goal
+
+pub items-init : goal.items-init
+items-init g c = record { moved = moved-none g.W.ValueWriter c.args.limits c.args.end (lane c.args.kinds.now c.args.spot c.args.writer.now c.args.sink.now c.args.meter.now) c.requires.can }
+
+pub turn-turned-requires : goal.turn-turned-requires
+turn-turned-requires g c =
+    let a = c.args in
+    let l = c.items in
+    record {
+      can = can-moved g.W.ValueWriter a.limits a.end (lane a.kinds.now a.spot a.writer.now a.sink.now a.meter.now) (lane l.kinds l.at l.writer l.sink l.meter) c.requires.can l.invariant.moved;
+    }
+
+pub returns-then-not-turned : goal.returns-then-not-turned
+returns-then-not-turned g c =
+    let a = c.args in
+    let l = c.items in
+    let t = c.turn-turned in
+    record {
+      moved = moved-then g.W.ValueWriter a.limits a.end (lane a.kinds.now a.spot a.writer.now a.sink.now a.meter.now) (lane l.kinds l.at l.writer l.sink l.meter)
+          (lane t.new.kinds t.result.spot t.new.writer t.new.sink t.new.meter) c.requires.can l.invariant.moved t.ensures.moved;
+    }
+
+pub items-preserved : goal.items-preserved
+items-preserved g c =
+    let a = c.args in
+    let l = c.items in
+    let t = c.turn-turned in
+    record {
+      moved = moved-then g.W.ValueWriter a.limits a.end (lane a.kinds.now a.spot a.writer.now a.sink.now a.meter.now) (lane l.kinds l.at l.writer l.sink l.meter)
+          (lane t.new.kinds t.result.spot t.new.writer t.new.sink t.new.meter) c.requires.can l.invariant.moved t.ensures.moved;
+    }

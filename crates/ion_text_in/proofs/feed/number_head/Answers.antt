@@ -1,0 +1,10 @@
+use Rattle.ion_value.specs.Items.{raw_head}
+use Rattle.ion_text_in.proofs.FeedReading.{head-number}
+use Rattle.ion_text_in.proofs.feed.number_head.Goals as goal
+
+pub returns : goal.returns
+returns c =
+    let x = c.in-Some.quick in
+    let e = c.in-Some.ensures in
+    head-number c.args.limits c.args.place x c.args.bytes.now c.behind.result.now (raw_head c.quick_head.result) c.quick_head.ensures c.behind.ensures e.some e.shows e.range
+    c.requires.bare c.requires.some c.requires.first

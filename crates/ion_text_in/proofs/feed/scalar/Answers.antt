@@ -1,0 +1,54 @@
+use Rattle.std.proofs.Common.{◌≡◌, ◌∙◌, ◌-◌, Option, List, ℕ, length, reverse, refl, sym, ap}
+use Rattle.ion_value.specs.declared.ion_type.Kind.{Kind}
+use Rattle.ion_value.specs.Items.{raw_head}
+use Rattle.ion_value.proofs.Handing.{may-take}
+use Rattle.ion_text_in.specs.Reading.{behind_member}
+use Rattle.ion_text_in.proofs.FeedItems.{charges-scalar, head-stands, moved-declined, moved-head, whole-behind, whole-open, whole-place}
+use Rattle.ion_text_in.proofs.feed.scalar.Goals as goal
+
+pub take_plain-requires-clause-path : goal.take_plain-requires-clause-path
+take_plain-requires-clause-path g c =
+    let w = g.W.ValueWriter in
+    let a = c.args in
+    let r = c.requires in
+    let head = raw_head a.found.head in
+    may-take w a.limits.depth (reverse a.kinds.now) a.writer.now a.sink.now _ r.can.takes
+    (head-stands w a.limits a.end a.kinds.now a.spot a.start head c.top_at-top.result (a.end - length a.spot.rest.now) (a.end - length a.start.next.rest.now) a.found.rest.now r.can.expects r.start r.found
+    (whole-place a.limits.depth (reverse a.kinds.now) a.found.head r.whole r.found.range r.found.value r.found.member))
+
+pub returns-then-not-take_plain-clause-moved : goal.returns-then-not-take_plain-clause-moved
+returns-then-not-take_plain-clause-moved g c =
+    let d = c.take_plain.ensures.declines c.if-not-take_plain.true in
+    moved-declined g.W.ValueWriter c.args.limits c.args.end c.args.kinds.now c.args.spot c.stop.result.spot c.args.writer.now c.take_plain.new.self c.args.sink.now c.take_plain.new.sink
+    c.args.meter.now c.take_plain.new.meter c.stop.ensures.0 d.0 d.1 d.2 c.requires.can
+
+pub returns-clause-moved : goal.returns-clause-moved
+returns-clause-moved g c =
+    let w = g.W.ValueWriter in
+    let a = c.args in
+    let r = c.requires in
+    let t = c.take_plain in
+    let e = t.ensures in
+    let yes = c.if-not-take_plain.false in
+    let opened = reverse a.kinds.now in
+    let inner = sym c.innermost-inner.ensures in
+    let stays = whole-open opened a.found.head r.whole r.found.value r.found.member in
+    moved-head w a.limits a.end a.kinds.now a.kinds.now a.spot
+    (record { rest = a.found.rest; expected = c.behind_member.result; top = c.top_at-top.result; values = c.values_behind.result }) a.start (raw_head a.found.head)
+    a.writer.now t.new.self a.sink.now t.new.sink a.meter.now t.new.meter r.can r.start r.found
+    (whole-place a.limits.depth opened a.found.head r.whole r.found.range r.found.value r.found.member)
+    (sym stays) (c.top_at-top.ensures opened inner)
+    (c.behind_member.ensures.is ∙ (ap (λ (k : Option Kind). behind_member k) c.innermost-inner.ensures ∙ sym (whole-behind opened a.found.head r.whole r.found.value r.found.member)))
+    (c.behind_member.ensures.may opened inner) (c.values_behind.ensures opened inner) r.can.few
+    (record {
+      sound = e.sound;
+      stands = e.stands yes;
+      puts = e.puts yes;
+      failed = e.same.0;
+      limits = e.same.1;
+      most = e.same.2;
+      device = e.device.0;
+      fault = e.device.1;
+      refused = e.counted;
+    })
+    e.charges.share (charges-scalar w a.limits a.end a.kinds.now a.meter.now t.new.meter (w.own a.writer.now) (w.own t.new.self) (w.most a.writer.now) r.can.few r.can.held e.charges)

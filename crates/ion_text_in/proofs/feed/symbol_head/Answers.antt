@@ -1,0 +1,15 @@
+use Rattle.std.proofs.Common.{◌<◌, ℕ, List, sym, subst, arith}
+use Rattle.ion_value.specs.Value.{symbol, whole, Text}
+use Rattle.ion_text_in.specs.Feeding.{IsHead}
+use Rattle.ion_text_in.specs.Positions.{at}
+use Rattle.ion_text_in.proofs.FeedHeads.{head-symbol}
+use Rattle.ion_text_in.proofs.feed.symbol_head.Goals as goal
+
+pub returns : goal.returns
+returns c =
+    let a = c.args in
+    let rest = c.behind-rest.result.now in
+    let next = c.next_told-next.result in
+    let told : 0 < next.told = omega (arith, c.if-next-eq0.false) in
+    subst (λ (l : List ℕ). IsHead a.limits a.place a.bytes.now (whole (symbol (at (Text l) a.place))) rest) (sym c.front.ensures)
+    (head-symbol a.limits a.place a.count a.bytes.now rest next c.behind-rest.ensures c.requires.word c.next_told-next.ensures told c.requires.bare c.requires.first)

@@ -1,0 +1,232 @@
+-- A lane over the bytes of a window: where it stands, what it reads of them, and what it moves.
+use Rattle.std.specs.Prelude.{◌≡◌, ℕ, ◌+◌, ◌*◌, ◌-◌, ◌^◌, ◌<◌, ◌≤◌, Bool, true, false, List, [], ◌∷◌, ◌++◌, take, drop, length, reverse, is_some, Option, Some, None, Ok, option_map}
+use Rattle.ion_meter.specs.Counts.{Counts}
+use Rattle.ion_meter.specs.declared.limits.Limits.{Limits}
+use Rattle.ion_meter.specs.Limits.{AreChecked}
+use Rattle.ion_meter.specs.Windows.{Incoming, lent, Outgoing, IsPassed}
+use Rattle.ion_value.specs.declared.ion_type.Kind.{Kind}
+use Rattle.ion_value.specs.declared.plain_item.TextAt.{TextAt}
+use Rattle.ion_value.specs.declared.writer.ValueWriter.{Ghosts as WriterOf}
+use Rattle.ion_value.specs.Feeding.{CanTake, Feeds, Joint, StaysWell}
+use Rattle.ion_value.specs.Items.{named_item, raw_head}
+use Rattle.ion_value.specs.PlainItems.{placed_text, HasSimpleName, IsSimpleHead}
+use Rattle.ion_value.specs.Reading.{Reading, More}
+use Rattle.ion_value.specs.Shares.{Charges}
+use Rattle.ion_value.specs.Standing.{open_after, in_struct, has_field, is_marker, HasPlace, HeadInRange, WritesWithin}
+use Rattle.ion_value.specs.Value as value
+use Rattle.ion_value.specs.Value.{SymbolAt, Head, PlacedItem}
+use Rattle.ion_text_in.specs.declared.expected.Expected.{Expected}
+use Rattle.ion_text_in.specs.declared.reader.TextReader.{TextReader}
+use Rattle.ion_text_in.specs.declared.feed.Spot.{Spot}
+use Rattle.ion_text_in.specs.declared.feed.Next.{Next}
+use Rattle.ion_text_in.specs.declared.feed.Start.{Start}
+use Rattle.ion_text_in.specs.declared.feed.Found.{Found}
+use Rattle.ion_text_in.specs.Blanks.{blanks}
+use Rattle.ion_text_in.specs.Expecting.{wanted, MayExpect}
+use Rattle.ion_text_in.specs.Firsts.{numbered}
+use Rattle.ion_text_in.specs.Meaning.{at}
+use Rattle.ion_text_in.specs.Positions.{State, Wants, a_field, a_value, innermost}
+use Rattle.ion_text_in.specs.Reading.{behind_member, item_of, member_of, top_of}
+use Rattle.ion_text_in.specs.Steps.{later}
+use Rattle.ion_text_in.specs.Token.{a_colon, a_word, first_at, name, token_of}
+use Rattle.ion_value.specs.Name.{is_simple}
+
+-- ---- bytes
+
+-- what stands behind some of these bytes
+pub record IsBehind (bytes rest : List ℕ) : Type 0 where
+  pub count : ℕ
+  pub within : count ≤ length bytes
+  pub same : rest ≡ drop count bytes
+
+-- no blank stands at the front of some bytes, whatever follows
+abbrev pub IsBare : List ℕ → Type 0
+IsBare bytes = (p : ℕ) (more : List ℕ) → blanks (at p (bytes ++ more)) ≡ Ok (at p (bytes ++ more))
+
+-- blanks stand between the front of some bytes and a rest of them, whatever follows
+pub record PassesBlanks (bytes rest : List ℕ) : Type 0 where
+  pub part : IsBehind bytes rest
+  pub fewer : length rest ≤ length bytes
+  pub blank : (p q : ℕ) (more : List ℕ) → p + length bytes ≡ q + length rest → blanks (at p (bytes ++ more)) ≡ Ok (at q (rest ++ more))
+  pub bare : IsBare rest
+
+-- what a slice shows of the next token behind blanks, by the number of what its first byte tells alone: 0 is known of nothing
+pub record IsNext (bytes : List ℕ) (next : Next) : Type 0 where
+  pub passes : 0 < length next.rest.now → PassesBlanks bytes next.rest.now
+  pub some : 0 < next.told → 0 < length next.rest.now
+  pub tells : 0 < next.told → (in_sexp : Bool) (more : List ℕ) → first_at in_sexp (next.rest.now ++ more) ≡ numbered next.told
+
+-- so many bytes in front are a word that is a simple text, within a limit
+pub record IsSimpleWord (limit : ℕ) (bytes : List ℕ) (n : ℕ) : Type 0 where
+  pub some : 0 < n
+  pub within : n ≤ length bytes
+  pub simple : is_simple (take n bytes) ≡ true
+  pub shown : (place : ℕ) (more : List ℕ)
+      → token_of (Some limit) a_word (at place (bytes ++ more)) ≡ Ok (name false (value.Text (take n bytes)), at (place + n) (drop n bytes ++ more))
+
+-- behind blanks a colon stands there
+pub record ToColon (bytes rest : List ℕ) : Type 0 where
+  pub passes : PassesBlanks bytes rest
+  pub some : 0 < length rest
+  pub first : (more : List ℕ) → first_at false (rest ++ more) ≡ a_colon
+
+-- ---- what reading makes of them
+
+-- where this must come, from a place on
+abbrev pub state : List Kind → ℕ → Wants → ℕ → List ℕ → State
+state kinds top wants place rest = record { kinds = kinds; top = top; wants = wants; cursor = at place rest }
+
+-- without an item reading goes on from some bytes at a place to a rest of them, whatever follows
+pub record Onward (limits : Limits) (kinds : List Kind) (top place : ℕ) (wants : Wants) (bytes : List ℕ) (after : Wants) (rest : List ℕ) : Type 0 where
+  pub part : IsBehind bytes rest
+  pub fewer : length rest ≤ length bytes
+  pub same : (q : ℕ) (more : List ℕ) → place + length bytes ≡ q + length rest
+      → later limits (state kinds top wants place (bytes ++ more)) ≡ later limits (state kinds top after q (rest ++ more))
+
+-- what must come behind the head of an item that stands where these containers are open
+abbrev pub behind_head : List Kind → Head SymbolAt → Wants
+behind_head kinds (value.whole body) = behind_member (innermost kinds)
+behind_head kinds (value.begin kind) = member_of kind
+behind_head kinds value.end = a_value None []
+behind_head kinds value.marker = a_value None []
+
+-- an item without annotations by its parts
+abbrev pub bare_item : List Kind → ℕ → Option SymbolAt → ℕ → Head SymbolAt → PlacedItem
+bare_item kinds top field place head = item_of (top_of kinds top [] place) field [] place head
+
+-- ---- parts of an item
+
+-- a token begins here, of the kind that its first byte tells, if it does
+pub record Begins (next : Next) : Type 0 where
+  pub some : 0 < length next.rest.now
+  pub tells : 0 < next.told → (in_sexp : Bool) (more : List ℕ) → first_at in_sexp (next.rest.now ++ more) ≡ numbered next.told
+  pub bare : IsBare next.rest.now
+
+-- behind a name that begins at a place, and a colon, a value begins
+pub record IsNamed (limits : Limits) (place : ℕ) (next : Next) (start : Start) : Type 0 where
+  pub text : TextAt
+  pub is : start.field ≡ Some text
+  pub simple : is_simple text.text.now ≡ true
+  pub some : 0 < next.told
+  pub onward : (kinds : List Kind) (top : ℕ) → Onward limits kinds top place a_field next.rest.now (a_value (Some (placed_text text)) []) start.next.rest.now
+  pub begins : Begins start.next
+
+-- a value begins here, behind the name of a field where one must come
+pub record IsStart (limits : Limits) (spot : Spot) (place : ℕ) (start : Start) : Type 0 where
+  pub simple : HasSimpleName (option_map placed_text start.field)
+  pub onward : (kinds : List Kind) → MayExpect spot.expected kinds None []
+      → Onward limits kinds spot.top place (wanted spot.expected None []) spot.rest.now (a_value (option_map placed_text start.field) []) start.next.rest.now
+  pub named : (kinds : List Kind) → MayExpect spot.expected kinds None [] → is_some start.field ≡ in_struct kinds
+  pub begins : Begins start.next
+
+-- a head stands at the front of some bytes, and these behind it
+pub record IsHead (limits : Limits) (place : ℕ) (bytes : List ℕ) (head : Head SymbolAt) (rest : List ℕ) : Type 0 where
+  pub part : IsBehind bytes rest
+  pub fewer : length rest < length bytes
+  pub simple : IsSimpleHead head
+  pub range : HeadInRange head
+  pub member : (kinds : List Kind) → has_field kinds head ≡ in_struct kinds
+  pub value : is_marker head ≡ false
+  pub gives : (kinds : List Kind) (top q : ℕ) (field : Option SymbolAt) (more : List ℕ) → HasPlace limits.depth kinds head → place + length bytes ≡ q + length rest
+      → later limits (state kinds top (a_value field []) place (bytes ++ more))
+      ≡ More (bare_item kinds top field place head) (later limits (state (open_after kinds head) (top_of kinds top [] place) (behind_head kinds head) q (rest ++ more)))
+
+-- the same of what the code found
+abbrev pub IsFound : Limits → ℕ → List ℕ → Found → Type 0
+IsFound limits place bytes found = IsHead limits place bytes (raw_head found.head) found.rest.now
+
+-- ---- a lane
+
+-- what it moves: the reader's part of it, and what items are handed to
+pub record Lane (W O : Type 0) : Type 0 where
+  pub kinds : List Kind
+  pub expected : Expected
+  pub top : ℕ
+  pub rest : List ℕ
+  pub values : ℕ
+  pub writer : W
+  pub sink : Outgoing O
+  pub meter : Counts
+
+-- where it stands, by the parts of the code
+abbrev pub lane : {W O : Type 0} → List Kind → Spot → W → Outgoing O → Counts → Lane W O
+lane kinds spot writer sink meter = record {
+  kinds = kinds;
+  expected = spot.expected;
+  top = spot.top;
+  rest = spot.rest.now;
+  values = spot.values;
+  writer = writer;
+  sink = sink;
+  meter = meter;
+}
+
+-- the same as a reader and a writer stand, where the window ends at a place, and with what follows it
+abbrev pub joint : {W O : Type 0} → Limits → ℕ → List ℕ → Lane W O → Joint W
+joint limits end more l = record {
+  coming = later limits (state (reverse l.kinds) l.top (wanted l.expected None []) (end - length l.rest) (l.rest ++ more));
+  opened = reverse l.kinds;
+  writer = l.writer;
+  pending = l.sink.pending;
+  values = l.values;
+}
+
+-- the counted bytes that it holds
+abbrev pub lane_held : {W O A : Type 0} → WriterOf W O A → Lane W O → ℕ
+lane_held w l = 16 * length l.kinds + w.own l.writer
+
+-- the most that it may hold
+abbrev pub lane_share : {W O A : Type 0} → WriterOf W O A → Limits → Lane W O → ℕ
+lane_share w limits l = 16 * limits.depth + w.most l.writer
+
+-- it may go on
+pub record CanFeed {W O A : Type 0} (w : WriterOf W O A) (limits : Limits) (end : ℕ) (l : Lane W O) : Type 0 where
+  pub room : l.meter.held ≤ 2 ^ 61 + lane_held w l
+  pub held : lane_held w l ≤ l.meter.held
+  pub countable : l.meter.refused < 2 ^ 64 - 1
+  pub checked : AreChecked limits
+  pub within : length l.rest ≤ end
+  pub low : end ≤ 2 ^ 62
+  pub small : l.values + length l.rest ≤ 2 ^ 62
+  pub few : length l.kinds ≤ limits.depth
+  pub expects : MayExpect l.expected (reverse l.kinds) None []
+  pub takes : CanTake w limits.depth (reverse l.kinds) l.writer l.sink
+  pub share : WritesWithin (w.own l.writer) (w.most l.writer)
+
+-- what it does: items go from the bytes to the writer, nothing fails, and the device is not used
+pub record Moved {W O A : Type 0} (w : WriterOf W O A) (limits : Limits) (end : ℕ) (old new : Lane W O) : Type 0 where
+  pub feeds : (texts : ℕ → Option (List ℕ)) (more : List ℕ) → Feeds w (named_item texts) (Unit {0}) (joint limits end more old) (joint limits end more new)
+  pub falls : new.values + length new.rest ≤ old.values + length old.rest
+  pub part : IsBehind old.rest new.rest
+  pub fewer : length new.rest ≤ length old.rest
+  pub few : length new.kinds ≤ limits.depth
+  pub expects : MayExpect new.expected (reverse new.kinds) None []
+  pub takes : CanTake w limits.depth (reverse new.kinds) new.writer new.sink
+  pub share : WritesWithin (w.own new.writer) (w.most new.writer)
+  pub stays : StaysWell w old.writer new.writer old.sink new.sink old.meter new.meter
+  pub charges : Charges old.meter new.meter (lane_held w old) (lane_held w new) (lane_share w limits old)
+
+-- ---- the lane of a reader
+
+-- where its window ends, within its limit
+abbrev pub window_end : {I : Type 0} → Incoming I → ℕ
+window_end s = s.place + length (lent s)
+
+-- a lane over what its window lends, where so many values have ended
+abbrev pub reader_lane : {I A W O : Type 0} → TextReader I A → ℕ → W → Outgoing O → Counts → Lane W O
+reader_lane r values writer sink meter = record {
+  kinds = r.kinds;
+  expected = r.expected;
+  top = r.top;
+  rest = lent r.source;
+  values = values;
+  writer = writer;
+  sink = sink;
+  meter = meter;
+}
+
+-- bytes that a window lends were passed over
+pub record PassedLent {I : Type 0} (old new : Incoming I) : Type 0 where
+  pub count : ℕ
+  pub within : count ≤ length (lent old)
+  pub passed : IsPassed old new count

@@ -1,0 +1,54 @@
+//! What lies whole in the window, handed to a writer.
+ghost use Rattle.std.specs.Prelude.{◌≡◌};
+ghost use Rattle.ion_meter.specs.Sources.{Stands};
+ghost use Rattle.ion_text_in.specs.Feeding.{reader_lane, window_end, CanFeed, Moved, PassedLent};
+
+use super::TextReader;
+use crate::feed::{Spot, feed_items};
+use ion_meter::device::{Input, Output};
+use ion_meter::meter::Meter;
+use ion_meter::sink::Sink;
+use ion_value::writer::ValueWriter;
+use std::alloc::Allocator;
+
+impl<I: Input, A: Allocator + Copy> TextReader<I, A> {
+    // Hands on what lies whole in the window, between two items: how many values at top level end.
+    #[inline(never)]
+    pub(super) fn feed_window<W: ValueWriter<O, A>, O: Output>(
+        &mut self,
+        meter: &mut Meter<A>,
+        writer: &mut W,
+        sink: &mut Sink<O, A>,
+    ) -> u64
+        requires stands { Stands self.old.source }
+        requires can { CanFeed W.ValueWriter self.old.limits (window_end self.old.source)
+            (reader_lane self.old 0 writer.old sink.old meter.old) }
+        ensures moved { Moved W.ValueWriter self.old.limits (window_end self.old.source)
+            (reader_lane self.old 0 writer.old sink.old meter.old)
+            (reader_lane self.new result writer.new sink.new meter.new) }
+        ensures passed { PassedLent self.old.source self.new.source }
+        ensures same { self.new ≡ record self.old {
+          source = self.new.source;
+          kinds = self.new.kinds;
+          expected = self.new.expected;
+          top = self.new.top;
+        } }
+    {
+        let bytes = self.source.buffer();
+        let count = bytes.len();
+        let spot = Spot {
+            rest: bytes,
+            expected: self.expected,
+            top: self.top,
+            values: 0,
+        };
+        let end = self.source.place() + count as u64;
+        let last = feed_items(spot, self.limits, end, &mut self.kinds, meter, writer, sink);
+        let taken = count - last.rest.len();
+        self.expected = last.expected;
+        self.top = last.top;
+        let values = last.values;
+        self.source.consume(taken);
+        values
+    }
+}

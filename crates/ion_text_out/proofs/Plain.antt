@@ -1,0 +1,85 @@
+-- What is put of a plain item is its text.
+use Rattle.std.proofs.Common.{◌≡◌, ℕ, ◌+◌, ◌≤◌, Bool, true, false, ◌&&◌, List, [], ◌∷◌, ◌++◌, length, Option, Some, None, refl, sym, ap, ◌∙◌, append-nil, append_assoc, arith}
+use Rattle.std.specs.Prelude.{map, option_map, not, codes}
+use Rattle.std.specs.List.{flat_map}
+use Rattle.ion_value.specs.Digits.{first_is}
+use Rattle.ion_value.specs.Name.{is_plain, is_simple}
+use Rattle.ion_value.specs.Value as v
+use Rattle.ion_value.specs.Value.{PlacedItem, SymbolAt, Symbol, map_head, map_scalar, user_symbol, user_symbol_at, user_item}
+use Rattle.ion_value.specs.Items.{raw_head}
+use Rattle.ion_value.specs.PlainItems.{AreSimple, HasSimpleName, IsSimple, IsSimpleText, listed, placed_item, placed_text}
+use Rattle.ion_value.specs.declared.ion_type.Kind.{Kind}
+use Rattle.ion_value.specs.declared.ion_type.Kind.TheVariants as kind
+use Rattle.ion_value.specs.declared.plain_item.TextAt.{TextAt}
+use Rattle.ion_value.specs.declared.plain_item.PlainItem.{PlainItem}
+use Rattle.ion_text_out.specs.Text.{Open, annotation_text, before_item, behind_value, end_text, field_text, item_text, opener, scalar_text, separator, symbol_text}
+use Rattle.ion_meter.specs.declared.limits.Limits.{Limits}
+use Rattle.ion_text_out.specs.Writing.{behind_end, closing, shown, text_adds, Shows}
+use Rattle.ion_text_out.specs.Lane.{plain_begin, plain_front, plain_name, plain_note, plain_scalar}
+
+both-left : (a b : Bool) → (a && b) ≡ true → a ≡ true
+both-left true b e = refl
+both-left false b e = absurd (cc e)
+
+-- a simple text stands without quotes
+pub simple_text : (bytes : List ℕ) → is_simple bytes ≡ true → symbol_text (v.Known bytes) ≡ bytes
+simple_text bytes simple = let plain : is_plain bytes ≡ true = both-left (is_plain bytes) _ simple in rw plain refl
+
+pub simple_symbol : (s : Symbol) (bytes : List ℕ) → s ≡ v.Text bytes → IsSimpleText s → symbol_text (user_symbol s) ≡ bytes
+simple_symbol (v.Text b) bytes e simple = simple_text b simple ∙ cc e
+simple_symbol (v.Id id) bytes e simple = absurd simple
+
+name_is : (field : Option TextAt) → HasSimpleName (option_map placed_text field) → field_text (option_map user_symbol_at (option_map placed_text field)) ≡ plain_name field
+name_is None simple = refl
+name_is (Some t) simple = ap (λ (l : List ℕ). l ++ codes ":") (simple_text t.text.now simple)
+
+note_is : (annotation : Option TextAt) → AreSimple (listed (option_map placed_text annotation))
+    → flat_map annotation_text (map user_symbol_at (listed (option_map placed_text annotation))) ≡ plain_note annotation
+note_is None simple = refl
+note_is (Some t) simple = append-nil (symbol_text (v.Known t.text.now) ++ codes "::") ∙ ap (λ (l : List ℕ). l ++ codes "::") (simple_text t.text.now simple.0)
+
+-- what stands in front of its head
+front_is : (item : PlainItem) → IsSimple (placed_item item)
+    → field_text (user_item (placed_item item)).field ++ flat_map annotation_text (user_item (placed_item item)).annotations ≡ plain_front item
+front_is item simple = rw (name_is item.field simple.field, note_is item.annotation simple.annotations) refl
+
+pub scalar_put : (cs : Open) (item : PlainItem) (body : v.Scalar SymbolAt) (text : List ℕ) → IsSimple (placed_item item) → raw_head item.head ≡ v.whole body → text ≡ scalar_text (map_scalar user_symbol_at body)
+    → plain_scalar cs item text ≡ item_text cs (user_item (placed_item item))
+scalar_put cs item body text simple head is = rw (head, front_is item simple, is) refl
+
+pub begin_put : (cs : Open) (item : PlainItem) (kind : Kind) → IsSimple (placed_item item) → raw_head item.head ≡ v.begin kind
+    → plain_begin cs item (opener kind) ≡ item_text cs (user_item (placed_item item))
+begin_put cs item kind simple head = rw (head, front_is item simple) refl
+
+-- ---- marks are short
+
+pub before-short : (cs : Open) → length (before_item cs) ≤ 1
+before-short [] = omega arith
+before-short ((kind.List, true) ∷ cs) = omega arith
+before-short ((kind.Sexp, true) ∷ cs) = omega arith
+before-short ((kind.Struct, true) ∷ cs) = omega arith
+before-short ((kind.List, false) ∷ cs) = omega arith
+before-short ((kind.Sexp, false) ∷ cs) = omega arith
+before-short ((kind.Struct, false) ∷ cs) = omega arith
+
+pub behind-short : (cs : Open) → length (behind_value cs) ≤ 1
+behind-short [] = omega arith
+behind-short (c ∷ cs) = omega arith
+
+pub closing-short : (cs : Open) → length (closing cs) ≤ 1
+closing-short [] = omega arith
+closing-short ((kind.List, empty) ∷ cs) = omega arith
+closing-short ((kind.Sexp, empty) ∷ cs) = omega arith
+closing-short ((kind.Struct, empty) ∷ cs) = omega arith
+
+pub behind_end-short : (cs : Open) → length (behind_end cs) ≤ 1
+behind_end-short [] = omega arith
+behind_end-short (c ∷ cs) = behind-short cs
+
+-- ---- the writer
+
+-- what was put is what the item adds behind the path
+pub adds_here : (limits : Limits) (kinds : List Kind) (empty : Bool) (path : List PlacedItem) (item : PlainItem) (before after text : List ℕ)
+    → Shows kinds empty path → after ≡ before ++ text → text ≡ item_text (shown kinds empty) (user_item (placed_item item)) → after ≡ before ++ text_adds limits path (placed_item item)
+adds_here limits kinds empty path item before after text shows put is =
+    put ∙ ap (λ (l : List ℕ). before ++ l) (is ∙ ap (λ (cs : Open). item_text cs (user_item (placed_item item))) (sym shows))

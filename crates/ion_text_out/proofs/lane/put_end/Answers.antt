@@ -1,0 +1,22 @@
+use Rattle.std.proofs.Common.{length, ap, arith}
+use Rattle.std.proofs.lemmas.List.{length-append}
+use Rattle.ion_text_out.specs.Writing.{behind_end, closing, shown}
+use Rattle.ion_text_out.proofs.Plain.{behind_end-short, closing-short}
+use Rattle.ion_text_out.proofs.lane.put_end.Goals as goal
+
+pub put_mark-requires : goal.put_mark-requires
+put_mark-requires g c =
+    omega (arith, ap length (c.closing.ensures c.args.empty), closing-short (shown c.args.kinds.now c.args.empty))
+
+pub put_mark-requires-2 : goal.put_mark-requires-2
+put_mark-requires-2 g c =
+    let cs = shown c.args.kinds.now c.args.empty in
+    omega (
+      arith,
+      ap length (c.closing.ensures c.args.empty),
+      closing-short cs,
+      ap (λ s. length s.pending) c.put_mark.ensures,
+      length-append c.args.sink.now.pending c.closing.result.now,
+      ap length (c.behind_end.ensures c.args.empty),
+      behind_end-short cs,
+    )

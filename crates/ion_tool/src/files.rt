@@ -1,0 +1,66 @@
+//! Where the files come from that the words name.
+ghost use Rattle.std.specs.Prelude.{◌≡◌, ℕ, List, Option};
+ghost use Rattle.ion_meter.specs.Devices.{Counted};
+
+use ion_meter::device::Input;
+use ion_meter::stream::FromRead;
+use std::io::Read;
+use std::marker::Model;
+
+/// A file behind its run, with how often a read of it failed.
+///
+/// Only a device makes one, so that nobody can make the count up.
+#[derive(Drop)]
+pub struct UsedFile<F> {
+    file: F,
+    failures: u64,
+}
+
+impl<F> Model for UsedFile<F> {
+    ghost use Rattle.ion_meter.specs.Devices.{Counted};
+
+    ghost Value = { Counted F };
+
+    ghost view = { λ used. record { inner = used.file; failures = used.failures } };
+}
+
+impl<F: Read> UsedFile<F> {
+    /// The file of this device, with its count of failures.
+    pub fn from_device(device: FromRead<F>) -> UsedFile<F>
+        ensures { result ≡ device }
+    {
+        let failures = device.failures();
+        UsedFile {
+            file: device.into_inner(),
+            failures,
+        }
+    }
+}
+
+impl<F> UsedFile<F> {
+    /// How often a read of it failed.
+    pub fn failures(&self) -> u64
+        ensures { result ≡ self.now.failures }
+    {
+        self.failures
+    }
+}
+
+/// Where the files come from that the words name.
+pub trait FileSource {
+    type File: Read + Drop;
+
+    /// It may give this for a name, and be so then.
+    ghost gives: { Self → List ℕ → Option Self.File → Self → Type 0 };
+
+    /// It may be so when this file is handed back to it.
+    ghost closes: { Self → Counted Self.File → Self → Type 0 };
+
+    /// The file of this name, where it can be read.
+    fn open_named(&mut self, name: &str) -> Option<Self::File>
+        ensures { gives self.old name.now result self.new };
+
+    /// Takes back a file that it gave, as the run leaves it.
+    fn close(&mut self, file: UsedFile<Self::File>)
+        ensures { closes self.old file self.new };
+}

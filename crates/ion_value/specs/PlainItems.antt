@@ -1,0 +1,68 @@
+-- What is seen of plain items: those whose symbols are simple texts.
+use Rattle.std.specs.Prelude.{◌≡◌, ℕ, true, List, [], ◌∷◌, Option, Some, None, option_map, ⊤}
+use Rattle.ion_value.specs.declared.plain_item.TextAt.{TextAt}
+use Rattle.ion_value.specs.declared.plain_item.PlainItem.{PlainItem}
+use Rattle.ion_value.specs.Name.{is_simple}
+use Rattle.ion_value.specs.Items.{raw_head}
+use Rattle.ion_value.specs.Value.{Symbol, Text, Id, SymbolAt, Scalar, null, bool, int, decimal, timestamp, symbol, string, clob, blob, Head, whole, begin, end, marker, PlacedItem}
+
+-- a text with its place, as a symbol
+abbrev pub placed_text : TextAt → SymbolAt
+placed_text t = record { symbol = Text t.text.now; place = t.place }
+
+-- the annotations of an item that has one at most
+abbrev pub listed : Option SymbolAt → List SymbolAt
+listed None = []
+listed (Some s) = s ∷ []
+
+-- the item
+abbrev pub placed_item : PlainItem → PlacedItem
+placed_item item = record {
+  field = option_map placed_text item.field;
+  annotations = listed (option_map placed_text item.annotation);
+  head = raw_head item.head;
+  place = item.place;
+  top = item.top;
+}
+
+-- ---- items whose symbols are simple texts
+
+-- a symbol is a simple text
+abbrev pub IsSimpleText : Symbol → Type 0
+IsSimpleText (Text bytes) = is_simple bytes ≡ true
+IsSimpleText (Id id) = ⊥
+
+-- so is a field's name, if there is one
+abbrev pub HasSimpleName : Option SymbolAt → Type 0
+HasSimpleName None = ⊤
+HasSimpleName (Some s) = IsSimpleText s.symbol
+
+-- so is each annotation
+abbrev pub AreSimple : List SymbolAt → Type 0
+AreSimple [] = ⊤
+AreSimple (s ∷ ss) = IsSimpleText s.symbol × AreSimple ss
+
+-- so is a scalar that is a symbol
+abbrev pub HasSimpleSymbol : Scalar SymbolAt → Type 0
+HasSimpleSymbol (null type) = ⊤
+HasSimpleSymbol (bool truth) = ⊤
+HasSimpleSymbol (int number) = ⊤
+HasSimpleSymbol (decimal number) = ⊤
+HasSimpleSymbol (timestamp moment) = ⊤
+HasSimpleSymbol (symbol s) = IsSimpleText s.symbol
+HasSimpleSymbol (string bytes) = ⊤
+HasSimpleSymbol (clob bytes) = ⊤
+HasSimpleSymbol (blob bytes) = ⊤
+
+-- the same of a head that is no version marker
+abbrev pub IsSimpleHead : Head SymbolAt → Type 0
+IsSimpleHead (whole body) = HasSimpleSymbol body
+IsSimpleHead (begin kind) = ⊤
+IsSimpleHead end = ⊤
+IsSimpleHead marker = ⊥
+
+-- all symbols of an item are simple texts, and it is no version marker
+pub record IsSimple (item : PlacedItem) : Type 0 where
+  pub field : HasSimpleName item.field
+  pub annotations : AreSimple item.annotations
+  pub head : IsSimpleHead item.head

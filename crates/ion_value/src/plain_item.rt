@@ -1,0 +1,31 @@
+//! Items whose symbols are simple texts: what most items are, and what is copied with the fewest steps.
+ghost use Rattle.std.specs.Prelude.{◌≡◌};
+ghost use Rattle.ion_value.specs.PlainItems.{placed_item};
+
+use crate::item::Head;
+
+/// A text and the place of its first byte in the input, counted from 0.
+#[derive(Clone, Copy, Debug, PartialEq, Eq)]
+pub struct TextAt<'a> {
+    /// The bytes of the text in UTF-8.
+    pub text: &'a [u8],
+    /// The place of its first byte.
+    pub place: u64,
+}
+
+/// An item of a user value that has one annotation at most, with all its symbols as simple texts:
+/// identifiers that mean nothing else and do not begin with a dollar sign. Names have a lifetime of
+/// their own, since they may stand in a symbol table.
+#[derive(Clone, Copy)]
+pub struct PlainItem<'n, 'h> {
+    /// The field's name, inside a struct.
+    pub field: Option<TextAt<'n>>,
+    /// The annotation, if there is one.
+    pub annotation: Option<TextAt<'n>>,
+    /// What the item is.
+    pub head: Head<'h>,
+    /// The place of the head's first byte in the input.
+    pub place: u64,
+    /// The place of the first byte of the value at top level that the item belongs to.
+    pub top: u64,
+}

@@ -413,8 +413,8 @@ impl Read for Piece {
     }
 }
 
-/// Files of which the one called `broken` fails; how many were handed back, and how often the last
-/// one had failed.
+/// Files of which `broken` fails behind a value, and `cut` behind a version marker; how many were
+/// handed back, and how often the last one had failed.
 #[derive(Drop)]
 struct Kept {
     closed: u32,
@@ -433,6 +433,7 @@ impl FileSource for Kept {
         let (left, fails): (&'static [u8], bool) = match name {
             "whole" => (whole, false),
             "broken" => (whole, true),
+            "cut" => (&whole[..4], true),
             "empty" => (b"", false),
             _ => return None,
         };
@@ -499,7 +500,7 @@ const CLOSED: [Closed; 7] = [
         failures: 1,
     },
     Closed {
-        words: &["show", "--catalog", "broken", "whole"],
+        words: &["show", "--catalog", "cut", "whole"],
         status: 3,
         out: "",
         err: "read fault\n",

@@ -9,7 +9,7 @@ use std::marker::Model;
 
 /// A file behind its run, with how often a read of it failed.
 ///
-/// Only a device makes one, so that nobody can make the count up.
+/// Only a device makes one, so that no call sets the count.
 #[derive(Drop)]
 pub struct UsedFile<F> {
     file: F,

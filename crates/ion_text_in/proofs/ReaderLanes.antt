@@ -1,4 +1,4 @@
--- Lanes of frequent tokens: which may come where the reader stands, and what they make of it.
+-- Frequent tokens: which may come where the reader stands, and what they make of it.
 use Rattle.std.proofs.Common.{◌≡◌, ℕ, ◌≤◌, true, false, List, [], ◌∷◌, length, None, Some, Ok, Err, refl, ap, subst, ◌∙◌, arith, ℤ}
 use Rattle.ion_meter.specs.Counts.{Counts}
 use Rattle.ion_meter.specs.declared.device.Input.{Ghosts as InputOf}

@@ -1,4 +1,4 @@
-//! Each frequent kind of token on a lane of its own: what was read is taken at once, and no token is
+//! Each frequent kind of token in a function of its own: what was read is taken at once, and no token is
 //! built that is copied and told apart again.
 ghost use Rattle.std.specs.Prelude.{◌≡◌, ◌<◌, ◌≤◌, length, Ok, OnOk};
 ghost use Rattle.ion_meter.specs.Counts.{Counts};
@@ -54,7 +54,7 @@ impl<I: Input, A: Allocator + Copy> TextReader<I, A> {
         }
     }
 
-    // Reads the token that so begins, and takes it: a frequent kind on its own lane.
+    // Reads the token that so begins, and takes it: a frequent kind in its own function.
     #[inline(never)]
     pub(super) fn part(&mut self, first: First, meter: &mut Meter<A>) -> Result<StepResult, Fault>
         requires can_step { CanStep self.old meter.old }

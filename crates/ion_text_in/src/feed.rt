@@ -147,7 +147,8 @@ fn to_member(spot: Spot<'_>, inner: Option<Kind>) -> Member<'_>
         (wanted spot.entry.expected None []) spot.entry.rest.now
         (wanted result.spot.expected None []) result.spot.rest.now }
     ensures expects { (opened : List kind_of.Kind) → innermost opened ≡ inner
-        → MayExpect spot.entry.expected opened None [] → MayExpect result.spot.expected opened None [] }
+        → MayExpect spot.entry.expected opened None []
+        → MayExpect result.spot.expected opened None [] }
     ensures same { (result.spot.top ≡ spot.entry.top) × (result.spot.values ≡ spot.entry.values) }
     ensures next { IsNext result.spot.rest.now result.next }
 {
@@ -212,7 +213,8 @@ fn to_start<'a>(member: Member<'a>, limits: Limits, place: u64) -> Option<Start<
 #[inline(always)]
 fn place_behind(place: u64, member: Member<'_>) -> u64
     requires small { place + length member.spot.rest.now < 2 ^ 63 }
-    ensures { result ≡ place + (length member.entry.spot.rest.now - length member.entry.next.rest.now) }
+    ensures { result ≡ place
+        + (length member.entry.spot.rest.now - length member.entry.next.rest.now) }
 {
     place
         + member

@@ -45,8 +45,8 @@ fn values_behind(values: u64, level: u32) -> u64
     if level == 0 { values + 1 } else { values }
 }
 
-// Writes all that was put, where a value has ended since behind which the reader may have to wait. It
-// answers how many values had ended when all that was put was written last.
+// Writes all that was put, where a value has ended since that was done last, and the reader may have
+// to wait. It answers how many values had ended when it was done last.
 #[inline]
 fn flush_ended<R: RawReader<A>, O: Output, A: Allocator + Copy>(
     values: u64,
@@ -75,8 +75,8 @@ fn flush_ended<R: RawReader<A>, O: Output, A: Allocator + Copy>(
 /// Puts each item of the user values that are read, and counts the values at top level.
 ///
 /// Behind each item that is read and put one at a time, the reader hands on what lies whole in its
-/// window. Where the reader may have to wait for its device, what was put is written first, if a value at top
-/// level has ended since it was written last.
+/// window. Where the reader may have to wait for its device, what was put is written first, if a
+/// value at top level has ended since it was written last.
 pub fn copy_items<R: RawReader<A>, W: ValueWriter<O, A>, O: Output, A: Allocator + Copy>(
     meter: &mut Meter<A>,
     reader: &mut UserReader<'_, R, A>,

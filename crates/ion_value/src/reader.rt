@@ -31,8 +31,9 @@ pub struct Fed {
 
 /// What reads a stream one item at a time, symbols as the stream has them.
 ///
-/// `next` takes the next item and `item` lends it. At the end `next` answers false, and from then
-/// on. After a fault each call of `next` answers it again and changes nothing.
+/// `next` takes the next item and `item` lends it; `feed` hands items on to a writer. At the end `next`
+/// answers false, and from then on. After a fault each call of `next` answers it again and changes
+/// nothing.
 ///
 /// What the laws say of the items holds where the device's bytes are observable. All else, that is
 /// which items may stand where, the causes of faults and the memory that is held, holds always.
@@ -136,9 +137,10 @@ pub trait RawReader<A: Allocator + Copy> {
         requires { lends self.now }
         ensures { raw_item result ≡ current self.now };
 
-    /// Hands items to a writer, as many of those that lie whole in the window as both can take without
-    /// a device and without a fault: those whose symbols are simple texts, by the names that are given.
-    /// The items behind them are for `next`.
+    /// Hands items to a writer, as many of those that lie whole in the window as both can take
+    /// without a device and without a fault: those whose symbols are simple texts, by the names that
+    /// are given. The items behind them are for `next`. No clause says how many there are, nor
+    /// whether `item` may be called before `next` is.
     fn feed<N: Names, W: ValueWriter<O, A>, O: Output>(
         &mut self,
         meter: &mut Meter<A>,

@@ -20,7 +20,8 @@ use ion_meter::meter::Meter;
 use ion_meter::sink::Sink;
 use std::alloc::Allocator;
 
-/// What writes user values one item at a time, an id being a symbol of unknown text.
+/// What writes user values one item at a time, an id being a symbol of unknown text. `item` takes each
+/// item, and `take_plain` may take a plain one in fewer steps.
 ///
 /// `begin` is called once, before all items. After a fault each call of `item` answers it again and
 /// changes nothing. Where the sink had failed before, `begin` passes its fault on, and neither call
@@ -142,8 +143,8 @@ pub trait ValueWriter<O: Output, A: Allocator + Copy> {
             (own self.old) (own self.new) (most self.old) }
         ensures most { most self.new ≡ most self.old };
 
-    /// Takes such an item as `item` does, or declines it: then it answers false, and nothing is
-    /// changed. Nothing fails, and no device is used.
+    /// Takes a plain item as `item` takes items, or declines it: then it answers false, and nothing
+    /// is changed. Nothing fails, and no device is used. No clause says which items it takes.
     fn take_plain(
         &mut self,
         meter: &mut Meter<A>,

@@ -1,6 +1,4 @@
 //! Items whose symbols are simple texts: what most items are, and what is copied with the fewest steps.
-ghost use Rattle.std.specs.Prelude.{◌≡◌};
-ghost use Rattle.ion_value.specs.PlainItems.{placed_item};
 
 use crate::item::Head;
 

@@ -1,10 +1,10 @@
 //! What writes items.
-ghost use Rattle.std.specs.Prelude.{◌≡◌, true, false, ℕ, ◌+◌, ◌-◌, ◌^◌, ◌<◌, ◌≤◌, ◌↔◌, ◌≢◌, ◌∷◌, ◌++◌, List, [], Option, Some, None, Ok, Err, OnErr, OnOk};
+ghost use Rattle.std.specs.Prelude.{◌≡◌, true, false, ℕ, ◌+◌, ◌-◌, ◌^◌, ◌<◌, ◌≤◌, ◌↔◌, ◌≢◌, ◌∷◌, ◌++◌, List, [], Option, Some, None, Err, OnErr, OnOk};
 ghost use Rattle.ion_meter.specs.declared.fault.Reason.{Reason};
 ghost use Rattle.ion_meter.specs.declared.fault.Fault.{Fault};
 ghost use Rattle.ion_meter.specs.declared.fault.Fault.TheVariants.{Refused, Memory, WriteFault};
 ghost use Rattle.ion_meter.specs.declared.limits.Limits.{Limits};
-ghost use Rattle.ion_meter.specs.Windows.{so_far, Puts, PutsPart, HasPrefix};
+ghost use Rattle.ion_meter.specs.Windows.{so_far, Puts, PutsPart};
 ghost use Rattle.ion_value.specs.Value.{PlacedItem};
 ghost use Rattle.ion_value.specs.Items.{item_of};
 ghost use Rattle.ion_value.specs.PlainItems.{IsSimple, placed_item};

@@ -2,7 +2,7 @@
 use Rattle.std.proofs.Common.{subst, ◌≡◌, ℕ, ◌+◌, ◌-◌, ◌↔◌, List, [], ◌++◌, length, take, drop, sym, ap, ◌∙◌, append_assoc, append-nil, None, Result, Ok, Err, arith}
 use Rattle.ion_meter.specs.declared.fault.Fault.{Fault}
 use Rattle.std.proofs.lemmas.List.{take-append-drop}
-use Rattle.ion_meter.specs.Windows.{Outgoing, so_far, HasPrefix, Puts, PutsPart}
+use Rattle.ion_meter.specs.Windows.{Outgoing, so_far, HasPrefix, Puts}
 use Rattle.ion_meter.specs.Sinks.{HasPut}
 use Rattle.ion_meter.proofs.Written.{written_part}
 
@@ -57,14 +57,6 @@ Puts-longer written observable s u xs ys p = record {
   prefix = λ t.
       let f = p.prefix t in
       (f.0 ++ ys, sym (append_assoc (so_far written s) xs ys) ∙ (ap (λ (l : List ℕ). l ++ ys) f.1 ∙ append_assoc (written u.device) f.0 ys));
-}
-
--- all of the bytes are a prefix of them
-pub PutsPart-whole : {O : Type 0} (written : O → List ℕ) (observable : O → Type 0) (s u : Outgoing O) (bytes : List ℕ)
-    → (observable s.device → so_far written u ≡ so_far written s ++ bytes) → PutsPart written observable s u bytes
-PutsPart-whole written observable s u bytes whole = record {
-  grown = λ t. (bytes, whole t);
-  prefix = λ t. ([], sym (append-nil (so_far written u) ∙ whole t));
 }
 
 -- ---- calls that put bytes

@@ -381,10 +381,6 @@ pub orders_added : (tables tables2 : List Shared) (order order2 : List ℕ) (s :
 orders_added tables tables2 order order2 s rank place h b a c e =
     rw (a, c) (subst₂ Orders (sym (map-append key tables (s ∷ []))) (ap (insert order rank) (length-map tables key ∙ sym e)) (orders_push (keys tables) order (key s) rank h b))
 
--- its rank is within the order
-pub rank_within : (tables : List Shared) (order : List ℕ) (k : List ℕ) (rank : ℕ) → Belongs (in_order (keys tables) order) k rank → rank ≤ length order
-rank_within tables order k rank b = simp length-map at b.within
-
 -- its version is none above all
 pub versions_added : (tables tables2 : List Shared) (s : Shared) → All (λ s. s.version ≤ 2147483647) tables → may_stand tables s ≡ true → tables2 ≡ tables ++ s ∷ [] → All (λ s. s.version ≤ 2147483647) tables2
 versions_added tables tables2 s h m a =

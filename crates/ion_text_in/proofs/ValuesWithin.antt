@@ -39,11 +39,6 @@ use Rattle.ion_text_in.proofs.TokenLimits.{CountsAll, run_token-counts, word_tok
 use Rattle.ion_text_in.proofs.Tokens.{tok-stands}
 use Rattle.ion_text_in.proofs.WentWell.{if-then, if-either}
 
--- both of two things that hold where all went well
-both-ok : {A E : Type 0} (P Q : A → Type 0) (o : Result A E) → IfOk o P → IfOk o Q → IfOk o (λ x. P x × Q x)
-both-ok P Q (Ok x) h k = (h, k)
-both-ok P Q (Err reason) h k = tt
-
 -- what went well, went well
 any-ok : {A E : Type 0} (o : Result A E) → IfOk o (λ x. Unit {0})
 any-ok (Ok x) = tt

@@ -1,20 +1,16 @@
 -- What the writer of text puts grows by the text of each item.
-use Rattle.std.proofs.Common.{◌≡◌, ℕ, suc, Bool, List, [], ◌∷◌, ◌++◌, length, refl, sym, ap, ◌∙◌}
+use Rattle.std.proofs.Common.{◌≡◌, ℕ, suc, Bool, List, [], ◌∷◌, length, refl, sym, ap, ◌∙◌}
 use Rattle.std.specs.Prelude.{map, false, reverse}
 use Rattle.std.proofs.lemmas.List.{length-map, length-reverse}
 use Rattle.ion_meter.specs.declared.limits.Limits.{Limits}
 use Rattle.ion_value.specs.declared.ion_type.Kind.{Kind}
 use Rattle.ion_value.specs.Value as v
-use Rattle.ion_value.specs.Value.{PlacedItem, SymbolAt, UserSymbol, map_head}
+use Rattle.ion_value.specs.Value.{PlacedItem, SymbolAt, map_head}
 use Rattle.ion_value.specs.Standing as standing
 use Rattle.ion_value.specs.Standing.{Continues, HasPlace}
 use Rattle.ion_text_out.specs.Text.{Open, open_after, open_behind, with_member}
 use Rattle.ion_text_out.specs.Writing.{shown_in, HasRoom, Shows}
 use Rattle.ion_value.specs.Value.{user_symbol_at, user_items}
-
-behind-append : (cs : Open) (path : List (v.Item UserSymbol ℕ)) (item : v.Item UserSymbol ℕ) → open_behind cs (path ++ item ∷ []) ≡ open_after (open_behind cs path) item.head
-behind-append cs [] item = refl
-behind-append cs (i ∷ path) item = behind-append (open_after cs i.head) path item
 
 -- how many containers are open
 abbrev kinds_in : Open → List Kind

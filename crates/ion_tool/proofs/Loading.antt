@@ -1,5 +1,5 @@
 -- What is answered where a catalogue is loaded.
-use Rattle.std.proofs.Common.{arith, ◌≡◌, ◌⊎◌, ℕ, ◌<◌, ◌≤◌, List, length, Result, Ok, Err, inl, inr, refl, ap, ap₂, subst, ◌∙◌}
+use Rattle.std.proofs.Common.{arith, ◌≡◌, ℕ, ◌<◌, ◌≤◌, List, length, Result, Ok, Err, refl, ap, ap₂, subst, ◌∙◌}
 use Rattle.std.specs.Prelude.{IfOk}
 use Rattle.ion_meter.specs.Counts.{Counts}
 use Rattle.ion_meter.specs.declared.device.Input.{Ghosts as InputOf}
@@ -10,7 +10,7 @@ use Rattle.ion_meter.specs.declared.limits.Limits.{Limits}
 use Rattle.ion_value.specs.Outcome.{Rejected}
 use Rattle.ion_symbols.specs.Table.{Shared, catalog_cost}
 use Rattle.ion_transcode.specs.Catalogues.{HasCatalogVerdict, IsCatalog, kept_in}
-use Rattle.ion_tool.specs.Serving.{fresh_counts, status_of, IsLoaded, SaysTables}
+use Rattle.ion_tool.specs.Serving.{fresh_counts, IsLoaded, SaysTables}
 
 -- what loading says of the bytes
 pub says_tables : (limits : Limits) (bytes : List ℕ) (answer : Result (List Shared) Fault)
@@ -48,11 +48,3 @@ loaded_by {I} input limits own new before after result answer held peak refused 
 pub kept_cheap : (limits : Limits) (answer : Result (List Shared) Fault) → IfOk answer (λ tables. catalog_cost tables ≤ limits.symbols) → kept_in answer ≤ limits.symbols
 kept_cheap limits (Ok tables) cheap = cheap
 kept_cheap limits (Err fault) cheap = omega arith
-
--- the status of a fault
-pub fault_status : (fault : Fault) → (status_of (Err fault) ≡ 0) ⊎ ((status_of (Err fault) ≡ 1) ⊎ (status_of (Err fault) ≡ 3))
-fault_status (Refused r p) = inr (inl refl)
-fault_status InputLimit = inr (inl refl)
-fault_status Memory = inr (inr refl)
-fault_status ReadFault = inr (inr refl)
-fault_status WriteFault = inr (inr refl)

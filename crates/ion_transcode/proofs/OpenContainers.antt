@@ -205,10 +205,6 @@ then-if : {A B E : Type 0} (Q : B → Type 0) (r : Result A E) (s : Result B E) 
 then-if Q (Ok x) s h = h
 then-if Q (Err e) s h = tt
 
-part-if : {A : Type 0} (Q : A → Type 0) (p : ℕ) (r : Result A Reason) → IfOk r Q → IfOk (part p r) Q
-part-if Q p (Ok x) h = h
-part-if Q p (Err e) h = tt
-
 -- a container is found where fewer are open than may be
 abbrev MayStand : ℕ → ℕ → TypedValue → Type 0
 MayStand most n a_nop_pad = Unit {0}

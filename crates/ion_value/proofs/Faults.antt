@@ -20,9 +20,6 @@ Blamed L (Err e) = L e
 pub record Blames {A E : Type 0} (L : E → Type 0) (r : Result A E) : Type 0 where
   pub so : Blamed L r
 
-pub blames_ok : {A E : Type 0} (L : E → Type 0) (x : A) → Blames L (Ok x)
-blames_ok L x = record { so = tt }
-
 pub bind_blames : {A B E : Type 0} (L : E → Type 0) (r : Result A E) (f : A → Result B E) → Blames L r → ((x : A) → r ≡ Ok x → Blames L (f x)) → Blames L (r >>= f)
 bind_blames L (Ok x) f c h = h x refl
 bind_blames L (Err e) f c h = record { so = c.so }

@@ -167,9 +167,6 @@ in_utc o fits u t ok =
 
 -- ---- by fields
 
-both : (a b c d : ℕ) (n m : ℕ) → a ≤ c → b ≤ d → n ≡ a + b → m ≡ c + d → n ≤ m
-both a b c d n m h k x y = omega (arith, h, k, x, y)
-
 day-long : (t : Timestamp) → length (day_octets t) ≡ length (var_uint_octets t.year) + (length (var_uint_octets t.month) + length (var_uint_octets t.day))
 day-long t =
     length-append (var_uint_octets t.year) (var_uint_octets t.month ++ var_uint_octets t.day)

@@ -1,5 +1,5 @@
 //! Bodies of scalars (binary encoding, "Typed Value Formats").
-ghost use Rattle.std.specs.Prelude.{◌≡◌, ◌≢◌, ◌+◌, ◌-◌, ◌^◌, ◌<◌, ◌≤◌, ℕ, List, length, take, Ok, Err, true, false, OnOk, MatchResult, IsTrue, ◌↔◌, IsUtf8};
+ghost use Rattle.std.specs.Prelude.{◌≡◌, ◌*◌, ◌≢◌, ◌+◌, ◌-◌, ◌^◌, ◌<◌, ◌≤◌, ℕ, List, length, take, Ok, Err, true, false, OnOk, MatchResult, IsTrue, ◌↔◌, IsUtf8};
 ghost use Rattle.ion_meter.specs.Windows.{left, lent};
 ghost use Rattle.ion_value.specs.Number.{uint};
 ghost use Rattle.ion_value.specs.Name.{raw_id};
@@ -9,7 +9,8 @@ ghost use Rattle.ion_meter.specs.Sources.{skip, cursor, Stands};
 ghost use Rattle.ion_binary.specs.Bodies.{as_scalar, IsNumberCode, IsBodyTypeCode};
 ghost use Rattle.ion_value.specs.Answers.{Answers};
 ghost use Rattle.ion_binary.specs.Parts.{body_here};
-ghost use Rattle.ion_value.specs.Calls.{AnswersBy, CanRead, Reads, ReadsInto};
+ghost use Rattle.ion_value.specs.Calls.{AnswersBy, CanRead, Reads, ReadsInto, passed_over};
+ghost use Rattle.ion_value.specs.Shares.{GrowsWithin};
 
 use ion_meter::buf::Buf;
 use ion_meter::device::Input;
@@ -181,6 +182,8 @@ fn gather<I: Input, A: Allocator + Copy>(
     ensures plain { (r : Reason) (p : ℕ) → result ≢ Err (Fault.Refused r p) }
     ensures reads { ReadsInto I.Input source.old source.new meter.old meter.new
         (length text.old) (length text.new) limits.scalar result }
+    ensures goes { GrowsWithin meter.old meter.new (length text.old) (length text.new)
+        (16 * passed_over source.old source.new) }
 {
     text.clear(meter);
     while text.as_slice().len() < count {
@@ -250,6 +253,8 @@ pub(crate) fn next_body<I: Input, A: Allocator + Copy>(
     ensures range { OnOk result (InRange (as_scalar text.new body.new)) }
     ensures reads { ReadsInto I.Input source.old source.new meter.old meter.new
         (length text.old) (length text.new) limits.scalar result }
+    ensures goes { GrowsWithin meter.old meter.new (length text.old) (length text.new)
+        (16 * passed_over source.old source.new) }
 {
     if limits.scalar < count {
         return Err(Fault::Refused(Reason::ScalarLimit, place));

@@ -1,5 +1,5 @@
 //! The part of an item that is a descriptor, a length and, for a scalar, a body.
-ghost use Rattle.std.specs.Prelude.{◌≡◌, ◌+◌, ◌-◌, ◌^◌, ◌<◌, ◌&&◌, ℕ, [], length, None, Some, Ok, Err, true, false, OnOk, IfOk, IfErr};
+ghost use Rattle.std.specs.Prelude.{◌≡◌, ◌*◌, ◌+◌, ◌-◌, ◌^◌, ◌<◌, ◌&&◌, ℕ, [], length, None, Some, Ok, Err, true, false, OnOk, IfOk, IfErr};
 ghost use Rattle.ion_value.specs.Standing.{InRange};
 ghost use Rattle.ion_binary.specs.Descriptor.{falls_short, is_unwrappable};
 ghost use Rattle.ion_binary.specs.Reading.{a_nop_pad, a_marker, a_scalar, a_container, bare_at, fits, marker_at, nop_pad_at, scalar_at, container_at, sorted_at, typed_value_at, read_by_descriptor};
@@ -8,7 +8,8 @@ ghost use Rattle.ion_binary.specs.Finds.{as_around, as_typed_value, end_by, IsOf
 ghost use Rattle.ion_binary.specs.Shapes.{as_shape};
 ghost use Rattle.ion_meter.specs.Sources.{cursor, Stands};
 ghost use Rattle.ion_value.specs.Answers.{Answers};
-ghost use Rattle.ion_value.specs.Calls.{AnswersBy, CanRead, Reads, ReadsInto};
+ghost use Rattle.ion_value.specs.Calls.{AnswersBy, CanRead, Reads, ReadsInto, passed_over};
+ghost use Rattle.ion_value.specs.Shares.{GrowsWithin};
 
 use crate::body::{Body, next_body, pass_over};
 use crate::descriptor::Shape;
@@ -253,6 +254,8 @@ fn next_scalar<I: Input, A: Allocator + Copy>(
     ensures range { OnOk result (InRange (as_scalar text.new body.new)) }
     ensures reads { ReadsInto I.Input source.old source.new meter.old meter.new
         (length text.old) (length text.new) limits.scalar result }
+    ensures goes { GrowsWithin meter.old meter.new (length text.old) (length text.new)
+        (16 * passed_over source.old source.new) }
 {
     let count = match next_length(source, length_code, around.region, place) {
         Err(fault) => return Err(fault),
@@ -288,6 +291,8 @@ fn read_by_descriptor<I: Input, A: Allocator + Copy>(
     ensures at_top { result ≡ Ok TypedValue.Marker → around.region ≡ None }
     ensures reads { ReadsInto I.Input source.old source.new meter.old meter.new
         (length text.old) (length text.new) limits.scalar result }
+    ensures goes { GrowsWithin meter.old meter.new (length text.old) (length text.new)
+        (16 * passed_over source.old source.new) }
 {
     match shape {
         Shape::Null(kind) => bare(source, body, Body::Null(kind), around, place),
@@ -357,6 +362,8 @@ pub(crate) fn next_typed_value<I: Input, A: Allocator + Copy>(
     ensures at_top { result ≡ Ok TypedValue.Marker → around.region ≡ None }
     ensures reads { ReadsInto I.Input source.old source.new meter.old meter.new
         (length text.old) (length text.new) limits.scalar result }
+    ensures goes { GrowsWithin meter.old meter.new (length text.old) (length text.new)
+        (16 * passed_over source.old source.new) }
 {
     if around.wrapped && no_wrapper_holds(octet) {
         return Err(Fault::Refused(Reason::BadAnnotation, place));

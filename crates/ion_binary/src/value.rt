@@ -1,5 +1,5 @@
 //! A value behind its field, with its annotations.
-ghost use Rattle.std.specs.Prelude.{◌≡◌, ◌≢◌, ◌+◌, ◌*◌, ◌-◌, ◌<◌, ℕ, List, [], length, Option, Some, None, Ok, Err, OnOk, IfSome};
+ghost use Rattle.std.specs.Prelude.{◌≡◌, ◌≢◌, ◌+◌, ◌*◌, ◌-◌, ◌<◌, ◌≤◌, ℕ, List, [], length, Option, Some, None, Ok, Err, OnOk, IfSome};
 ghost use Rattle.ion_value.specs.Value.{SymbolAt};
 ghost use Rattle.ion_value.specs.Standing.{InRange};
 ghost use Rattle.ion_value.specs.declared.ion_type.Kind as kinds;
@@ -8,7 +8,8 @@ ghost use Rattle.ion_binary.specs.Positions.{Frame};
 ghost use Rattle.ion_binary.specs.Reading.{region_of, wrapper_length, inner_at, annotated_at, value_at};
 ghost use Rattle.ion_binary.specs.Bodies.{as_scalar};
 ghost use Rattle.ion_meter.specs.Sources.{cursor};
-ghost use Rattle.ion_value.specs.Calls.{CanRead, ReadsInto};
+ghost use Rattle.ion_value.specs.Calls.{CanRead, ReadsInto, passed_over};
+ghost use Rattle.ion_value.specs.Shares.{GrowsWithin};
 ghost use Rattle.ion_binary.specs.Calls.{ReadsValue};
 ghost use Rattle.ion_binary.specs.Wrappers.{as_annotations};
 ghost use Rattle.ion_binary.specs.Values.{GivesStep};
@@ -63,6 +64,8 @@ fn next_inner<I: Input, A: Allocator + Copy>(
     ensures further { OnOk result (source.old.place < source.new.place) }
     ensures reads { ReadsInto I.Input source.old source.new meter.old meter.new
         (length text.old) (length text.new) limits.scalar result }
+    ensures goes { GrowsWithin meter.old meter.new (length text.old) (length text.new)
+        (16 * passed_over source.old source.new) }
 {
     let place = source.place();
     let octet = match next_octet(source, Some(end), place) {
@@ -108,6 +111,9 @@ fn next_annotated<I: Input, A: Allocator + Copy>(
     ensures no_marker { (place : ℕ) → result ≢ Ok (TypedValue.Marker, place) }
     ensures reads { ReadsValue I.Input limits source.old source.new meter.old meter.new
         text.old text.new annotations.new result }
+    ensures goes { GrowsWithin meter.old meter.new (length text.old)
+        (16 * length annotations.new + length text.new)
+        (16 * passed_over source.old source.new) }
 {
     let wrapper = match next_wrapper(source, length_code, region, place) {
         Err(fault) => return Err(fault),
@@ -149,6 +155,11 @@ pub(crate) fn next_value<I: Input, A: Allocator + Copy>(
         → (region ≡ None) × (annotations.new ≡ []) }
     ensures reads { ReadsValue I.Input limits source.old source.new meter.old meter.new
         text.old text.new annotations.new result }
+    ensures goes { GrowsWithin meter.old meter.new (length text.old)
+        (16 * length annotations.new + length text.new)
+        (16 * passed_over source.old source.new) }
+    ensures spare { OnOk result (16 * length annotations.new + length text.new + 16
+        ≤ length text.old + 16 * passed_over source.old source.new) }
 {
     let place = source.place();
     let octet = match next_octet(source, region, place) {

@@ -6,7 +6,8 @@ ghost use Rattle.ion_binary.specs.Descriptor.{passes};
 ghost use Rattle.ion_binary.specs.Reading.{wrapper_at, ids_at, field_at};
 ghost use Rattle.ion_meter.specs.Sources.{cursor, Stands};
 ghost use Rattle.ion_value.specs.Answers.{AnswersAt};
-ghost use Rattle.ion_value.specs.Calls.{AnswersBy, CanRead, Reads, ReadsInto};
+ghost use Rattle.ion_value.specs.Calls.{AnswersBy, CanRead, Reads, ReadsInto, passed_over};
+ghost use Rattle.ion_value.specs.Shares.{GrowsWithin};
 ghost use Rattle.ion_binary.specs.Wrappers.{as_wrapped, as_annotations, as_field, innermost};
 
 use crate::body::id_of;
@@ -155,6 +156,8 @@ pub(crate) fn next_annotations<I: Input, A: Allocator + Copy>(
         (cursor I.Input source.new) (ids_at end limits end 0 (cursor I.Input source.old)) }
     ensures reads { ReadsInto I.Input source.old source.new meter.old meter.new
         0 (16 * length annotations.new) limits.scalar result }
+    ensures goes { GrowsWithin meter.old meter.new 0 (16 * length annotations.new)
+        (16 * passed_over source.old source.new) }
 {
     while source.place() < end {
         let place = source.place();

@@ -70,6 +70,7 @@ pub mod ReaderTakes
 pub mod ReaderLanes
 pub mod LobTurns
 mod RunCuts
+mod Prepaid
 mod Rows
 mod QuickNumbers
 mod QuotedRows

@@ -8,6 +8,10 @@ use Rattle.ion_value.specs.Value.{SymbolAt}
 use Rattle.ion_text_in.specs.declared.symbol.FieldName.{FieldName}
 use Rattle.ion_text_in.specs.declared.token.Symbol.{Symbol}
 use Rattle.ion_text_in.specs.declared.token.Symbol.TheVariants as symbol
+use Rattle.ion_text_in.specs.declared.token.Token.{Token}
+use Rattle.ion_text_in.specs.declared.token.Token.TheVariants as token
+use Rattle.ion_text_in.specs.declared.word.Word.{Word}
+use Rattle.ion_text_in.specs.declared.word.Word.TheVariants as word
 use Rattle.ion_text_in.specs.Positions.{at}
 use Rattle.ion_text_in.specs.Reading.{cost}
 use Rattle.ion_text_in.specs.Tokens.{as_symbol}
@@ -45,6 +49,27 @@ kept_text text (symbol.Id id) = []
 abbrev pub GrowsBy : Counts → Counts → List ℕ → Symbol → Type 0
 GrowsBy old new text symbol.Text = Grows old new (length text)
 GrowsBy old new text (symbol.Id id) = new ≡ old
+
+-- how many counted bytes may be taken when a token has been read: an annotation's text is kept, and a container is opened
+abbrev pub prepaid : List ℕ → Token → ℕ
+prepaid text (token.Plain body) = 0
+prepaid text (token.Symbol symbol quoted) = length (kept_text text symbol)
+prepaid text (token.String start) = 0
+prepaid text token.Operator = 0
+prepaid text token.NoNumber = 0
+prepaid text (token.Begin kind) = 16
+prepaid text (token.End kind) = 0
+prepaid text token.Comma = 0
+prepaid text token.Colon = 0
+prepaid text token.Colons = 0
+
+-- the same of a word
+abbrev pub prepaid_word : List ℕ → Word → ℕ
+prepaid_word text (word.Null type) = 0
+prepaid_word text (word.Bool truth) = 0
+prepaid_word text word.NoNumber = 0
+prepaid_word text (word.Id id) = 0
+prepaid_word text word.Name = length text
 
 -- there are annotations
 abbrev pub is_annotated : List SymbolAt → Bool

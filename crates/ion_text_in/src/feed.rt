@@ -530,6 +530,8 @@ fn close<'a, W: ValueWriter<O, A>, O: Output, A: Allocator + Copy>(
     ensures moved { Moved W.ValueWriter limits end
         (lane kinds.old member.entry.spot writer.old sink.old meter.old)
         (lane kinds.new result.spot writer.new sink.new meter.new) }
+    ensures goes { length kinds.new + length result.spot.rest.now
+        ≤ length kinds.old + length member.entry.spot.rest.now }
     ensures falls { result.more ≡ true
         → length result.spot.rest.now < length member.entry.spot.rest.now }
 {
@@ -581,6 +583,8 @@ fn value<'a, W: ValueWriter<O, A>, O: Output, A: Allocator + Copy>(
     ensures moved { Moved W.ValueWriter limits end
         (lane kinds.old member.entry.spot writer.old sink.old meter.old)
         (lane kinds.new result.spot writer.new sink.new meter.new) }
+    ensures goes { length kinds.new + length result.spot.rest.now
+        ≤ length kinds.old + length member.entry.spot.rest.now }
     ensures falls { result.more ≡ true
         → length result.spot.rest.now < length member.entry.spot.rest.now }
 {
@@ -636,6 +640,8 @@ fn begin<'a, W: ValueWriter<O, A>, O: Output, A: Allocator + Copy>(
     ensures moved { Moved W.ValueWriter limits end
         (lane kinds.old spot.entry writer.old sink.old meter.old)
         (lane kinds.new result.spot writer.new sink.new meter.new) }
+    ensures goes { length kinds.new + length result.spot.rest.now
+        ≤ length kinds.old + length spot.entry.rest.now }
     ensures falls { result.more ≡ true → length result.spot.rest.now < length spot.entry.rest.now }
 {
     if u64::from(limits.depth) <= kinds.as_slice().len() as u64 {
@@ -731,6 +737,8 @@ fn turn<'a, W: ValueWriter<O, A>, O: Output, A: Allocator + Copy>(
     ensures moved { Moved W.ValueWriter limits end
         (lane kinds.old spot.entry writer.old sink.old meter.old)
         (lane kinds.new result.spot writer.new sink.new meter.new) }
+    ensures goes { length kinds.new + length result.spot.rest.now
+        ≤ length kinds.old + length spot.entry.rest.now }
     ensures falls { result.more ≡ true → length result.spot.rest.now < length spot.entry.rest.now }
 {
     let member = to_member(spot, innermost(kinds));
@@ -757,6 +765,8 @@ pub(crate) fn feed_items<'a, W: ValueWriter<O, A>, O: Output, A: Allocator + Cop
     ensures moved { Moved W.ValueWriter limits end
         (lane kinds.old spot.entry writer.old sink.old meter.old)
         (lane kinds.new result writer.new sink.new meter.new) }
+    ensures goes { length kinds.new + length result.rest.now
+        ≤ length kinds.old + length spot.entry.rest.now }
 {
     let mut at = spot;
     'items: loop {

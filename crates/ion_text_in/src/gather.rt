@@ -1,9 +1,9 @@
 //! Tokens that the end of a window cuts: their bytes are gathered into a buffer.
-ghost use Rattle.std.specs.Prelude.{◌≡◌, ◌+◌, ◌≤◌, ◌<◌, ◌++◌, ℕ, [], Some, Ok, Err, length, take, OnOk, IfOk, IfErr};
+ghost use Rattle.std.specs.Prelude.{◌≡◌, ◌+◌, ◌≤◌, ◌<◌, ◌++◌, [], ◌*◌, ℕ, Some, Ok, Err, length, take, OnOk, OnErr, IfOk, IfErr};
 ghost use Rattle.ion_meter.specs.Sources.{Stands};
 ghost use Rattle.ion_meter.specs.Windows.{left, lent, Extends, IsGiven};
-ghost use Rattle.ion_value.specs.Calls.{AnswersBy, CanRead, Reads, ReadsInto};
-ghost use Rattle.ion_value.specs.Shares.{fault_of};
+ghost use Rattle.ion_value.specs.Calls.{AnswersBy, CanRead, Reads, ReadsInto, passed_over};
+ghost use Rattle.ion_value.specs.Shares.{fault_of, GrowsWithin};
 ghost use Rattle.ion_text_in.specs.Gathered.{CanGrow, Grown};
 ghost use Rattle.ion_text_in.specs.Places.{run_of};
 ghost use Rattle.ion_text_in.specs.Token.{bytes_of};
@@ -38,6 +38,8 @@ pub(crate) fn append<I: Input, A: Allocator + Copy>(
         → IsOver limits.scalar place (length text.old) count reason at }
     ensures reads { ReadsInto I.Input source.old source.new meter.old meter.new
         (length text.old) (length text.new) limits.scalar result }
+    ensures goes { GrowsWithin meter.old meter.new (length text.old) (length text.new)
+        (8 * passed_over source.old source.new) }
 {
     if limits.scalar - (text.as_slice().len() as u64) < count as u64 {
         return Err(Fault::Refused(Reason::ScalarLimit, place));
@@ -70,6 +72,9 @@ fn put_front<A: Allocator + Copy>(
     ensures memory { IfErr result (λ f. f ≡ Fault.Memory) }
     ensures grown { Grown meter.old meter.new (length text.old) (length text.new) limits.scalar
         (fault_of result) }
+    ensures goes { GrowsWithin meter.old meter.new (length text.old) (length text.new) count }
+    ensures still { OnErr result (GrowsWithin meter.old meter.new
+        (length text.old) (length text.new) 0) }
 {
     let len = text.as_slice().len();
     if count <= BLOCK && BLOCK <= bytes.len() && (len + BLOCK) as u64 <= limits.scalar {
@@ -98,6 +103,8 @@ pub(crate) fn copy<I: Input, A: Allocator + Copy>(
     ensures memory { IfErr result (λ f. f ≡ Fault.Memory) }
     ensures reads { ReadsInto I.Input source.old source.new meter.old meter.new
         (length text.old) (length text.new) limits.scalar result }
+    ensures goes { GrowsWithin meter.old meter.new (length text.old) (length text.new)
+        (8 * passed_over source.old source.new) }
 {
     text.clear(meter);
     if let Err(fault) = put_front(text, source.buffer(), count, limits, meter) {
@@ -181,6 +188,8 @@ pub(crate) fn gather<I: Input, A: Allocator + Copy>(
         (with_run run (Some limits.scalar) text.old) }
     ensures reads { ReadsInto I.Input source.old source.new meter.old meter.new
         (length text.old) (length text.new) limits.scalar result }
+    ensures goes { GrowsWithin meter.old meter.new (length text.old) (length text.new)
+        (8 * passed_over source.old source.new) }
 {
     'parts: loop {
         let count = match next_part(source, run) {
@@ -213,6 +222,9 @@ pub(crate) fn gather_token<I: Input, A: Allocator + Copy>(
         → OnOk result (source.old.place < source.new.place) }
     ensures reads { ReadsInto I.Input source.old source.new meter.old meter.new
         (length text.old) (length text.new) limits.scalar result }
+    ensures goes { GrowsWithin meter.old meter.new (length text.old) (length text.new)
+        (8 * passed_over source.old source.new) }
+    ensures fresh { OnOk result (length text.new ≤ 8 * passed_over source.old source.new) }
 {
     let place = source.place();
     text.clear(meter);

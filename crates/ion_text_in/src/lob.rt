@@ -1,12 +1,13 @@
 //! Blobs and clobs (Ion specification, "Blobs" and "Clobs").
-ghost use Rattle.std.specs.Prelude.{◌≡◌, ◌≢◌, ◌+◌, ◌<◌, ◌≤◌, ℕ, Option, All, None, Some, Ok, Err, true, false, length, take, OnOk, IfOk, IfSome, IfNone};
+ghost use Rattle.std.specs.Prelude.{◌≡◌, ◌≢◌, ◌+◌, ◌<◌, ◌≤◌, ◌*◌, ℕ, Option, All, None, Some, Ok, Err, true, false, length, take, OnOk, IfOk, IfSome, IfNone};
 ghost use Rattle.base64.specs.Decode.{decoded_estimate};
 ghost use Rattle.base64.specs.Engines.{standard};
 ghost use Rattle.base64.specs.GeneralPurpose.{decoded_of, encode_of};
 ghost use Rattle.ion_meter.specs.Sources.{cursor, Stands};
 ghost use Rattle.ion_meter.specs.Windows.{left, lent, IsGiven};
 ghost use Rattle.ion_value.specs.Answers.{Answers};
-ghost use Rattle.ion_value.specs.Calls.{AnswersBy, CanRead, Reads, ReadsInto};
+ghost use Rattle.ion_value.specs.Calls.{AnswersBy, CanRead, Reads, ReadsInto, passed_over};
+ghost use Rattle.ion_value.specs.Shares.{GrowsWithin};
 ghost use Rattle.ion_text_in.specs.Lob.{are_cut_quotes, closed_at, group_of, lob_in};
 ghost use Rattle.ion_text_in.specs.Lobs.{CanTake, Closes, Continues, with_groups_behind, blob_from, closed_behind, lob_of, opened};
 ghost use Rattle.ion_text_in.specs.Token.{a_lob, plain, token_of};
@@ -62,6 +63,8 @@ pub(crate) fn next_lob<I: Input, A: Allocator + Copy>(
         → OnOk result (source.old.place < source.new.place) }
     ensures reads { ReadsInto I.Input source.old source.new meter.old meter.new
         (length text.old) (length text.new) limits.scalar result }
+    ensures goes { GrowsWithin meter.old meter.new (length text.old) (length text.new)
+        (8 * passed_over source.old source.new) }
 {
     let place = source.place();
     source.consume(2);
@@ -119,6 +122,8 @@ fn next_short_clob<I: Input, A: Allocator + Copy>(
         (opened Opening.Short (Some limits.scalar) (cursor I.Input source.old)) }
     ensures reads { ReadsInto I.Input source.old source.new meter.old meter.new
         (length text.old) (length text.new) limits.scalar result }
+    ensures goes { GrowsWithin meter.old meter.new (length text.old) (length text.new)
+        (8 * passed_over source.old source.new) }
 {
     if let Err(fault) = next_short_text(source, text, Quote::ShortClob, place, limits, meter) {
         return Err(fault);
@@ -146,6 +151,8 @@ fn next_long_clob<I: Input, A: Allocator + Copy>(
         (opened Opening.Long (Some limits.scalar) (cursor I.Input source.old)) }
     ensures reads { ReadsInto I.Input source.old source.new meter.old meter.new
         (length text.old) (length text.new) limits.scalar result }
+    ensures goes { GrowsWithin meter.old meter.new (length text.old) (length text.new)
+        (8 * passed_over source.old source.new) }
 {
     if let Err(fault) = next_long_text(source, text, Quote::LongClob, place, limits, meter) {
         return Err(fault);
@@ -214,6 +221,8 @@ fn next_blob<I: Input, A: Allocator + Copy>(
         (opened Opening.None (Some limits.scalar) (cursor I.Input source.old)) }
     ensures reads { ReadsInto I.Input source.old source.new meter.old meter.new
         (length text.old) (length text.new) limits.scalar result }
+    ensures goes { GrowsWithin meter.old meter.new (length text.old) (length text.new)
+        (8 * passed_over source.old source.new) }
 {
     text.clear(meter);
     let mut padded = false;
@@ -247,6 +256,8 @@ fn take_blocks<I: Input, A: Allocator + Copy>(
     ensures plain { (r : Reason) (p : ℕ) → result ≢ Err (Fault.Refused r p) }
     ensures reads { ReadsInto I.Input source.old source.new meter.old meter.new
         (length text.old) (length text.new) limits.scalar result }
+    ensures goes { GrowsWithin meter.old meter.new (length text.old) (length text.new)
+        (8 * passed_over source.old source.new) }
 {
     let mut run = solid_run(source.buffer());
     'pieces: while run >= 4 {
@@ -286,6 +297,8 @@ fn take_block<I: Input, A: Allocator + Copy>(
     ensures plain { (r : Reason) (p : ℕ) → result ≢ Err (Fault.Refused r p) }
     ensures reads { ReadsInto I.Input source.old source.new meter.old meter.new
         (length text.old) (length text.new) limits.scalar result }
+    ensures goes { GrowsWithin meter.old meter.new (length text.old) (length text.new)
+        (8 * passed_over source.old source.new) }
 {
     let mut room = [0; BLOCK / 4 * 3];
     let Some(n) = decode(&source.buffer()[..count], &mut room) else {
@@ -320,6 +333,8 @@ fn take_group<I: Input, A: Allocator + Copy>(
         source.old.place < source.new.place)) }
     ensures reads { ReadsInto I.Input source.old source.new meter.old meter.new
         (length text.old) (length text.new) limits.scalar result }
+    ensures goes { GrowsWithin meter.old meter.new (length text.old) (length text.new)
+        (8 * passed_over source.old source.new) }
 {
     let mut group = [0; 4];
     let count = match next_characters(source, &mut group) {

@@ -1,10 +1,11 @@
 //! Numbers and timestamps (Ion specification, "Text Encoding").
-ghost use Rattle.std.specs.Prelude.{◌≡◌, Some, Ok, Err, length, IfOk, MatchResult, ◌≤◌, ◌<◌, OnOk};
+ghost use Rattle.std.specs.Prelude.{◌≡◌, ◌≤◌, ◌<◌, ◌*◌, Some, Ok, Err, length, IfOk, MatchResult, OnOk};
 ghost use Rattle.ion_value.specs.Decimal.{decimal_of_text};
 ghost use Rattle.ion_value.specs.Int.{int_of_text};
 ghost use Rattle.ion_meter.specs.Windows.{lent};
-ghost use Rattle.ion_value.specs.Calls.{AnswersBy, CanRead, ReadsInto};
+ghost use Rattle.ion_value.specs.Calls.{AnswersBy, CanRead, ReadsInto, passed_over};
 ghost use Rattle.ion_value.specs.Standing.{InRange};
+ghost use Rattle.ion_value.specs.Shares.{GrowsWithin};
 ghost use Rattle.ion_text_in.specs.Scanners.{Shows};
 ghost use Rattle.ion_text_in.specs.Token.{a_run, run_token, token_of};
 ghost use Rattle.ion_text_in.specs.Views.{IfWhole, as_number, number_token};
@@ -75,6 +76,8 @@ pub(crate) fn next_number<I: Input, A: Allocator + Copy>(
         → OnOk result (source.old.place < source.new.place) }
     ensures reads { ReadsInto I.Input source.old source.new meter.old meter.new
         (length text.old) (length text.new) limits.scalar result }
+    ensures goes { GrowsWithin meter.old meter.new (length text.old) (length text.new)
+        (8 * passed_over source.old source.new) }
 {
     match scan_number(limits.scalar, source.buffer()) {
         Scanned::Whole(number, count) => {
@@ -103,6 +106,8 @@ fn gather_number<I: Input, A: Allocator + Copy>(
         → OnOk result (source.old.place < source.new.place) }
     ensures reads { ReadsInto I.Input source.old source.new meter.old meter.new
         (length text.old) (length text.new) limits.scalar result }
+    ensures goes { GrowsWithin meter.old meter.new (length text.old) (length text.new)
+        (8 * passed_over source.old source.new) }
 {
     let place = source.place();
     if let Err(fault) = gather_token(source, text, Run::Number, limits, meter) {

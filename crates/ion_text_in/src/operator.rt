@@ -1,9 +1,10 @@
 //! Operators, infinities and punctuation (Ion specification, "Text Encoding").
-ghost use Rattle.std.specs.Prelude.{◌≡◌, ℕ, ◌≤◌, ◌<◌, Option, Some, Ok, Err, length, OnOk};
+ghost use Rattle.std.specs.Prelude.{◌≡◌, ◌≤◌, ◌<◌, ◌*◌, ℕ, Option, Some, Ok, Err, length, OnOk};
 ghost use Rattle.ion_meter.specs.Sources.{cursor, Stands};
 ghost use Rattle.ion_meter.specs.Windows.{lent, CanPass, IsPassed};
-ghost use Rattle.ion_value.specs.Calls.{AnswersBy, CanRead, Reads, ReadsInto};
+ghost use Rattle.ion_value.specs.Calls.{AnswersBy, CanRead, Reads, ReadsInto, passed_over};
 ghost use Rattle.ion_value.specs.declared.ion_type.Kind.{Kind};
+ghost use Rattle.ion_value.specs.Shares.{GrowsWithin};
 ghost use Rattle.ion_text_in.specs.Scanners.{Shows};
 ghost use Rattle.ion_text_in.specs.Token as tokens;
 ghost use Rattle.ion_text_in.specs.Token.{an_infinity, an_operator, token_of};
@@ -56,6 +57,8 @@ pub(crate) fn next_operator<I: Input, A: Allocator + Copy>(
         → OnOk result (source.old.place < source.new.place) }
     ensures reads { ReadsInto I.Input source.old source.new meter.old meter.new
         (length text.old) (length text.new) limits.scalar result }
+    ensures goes { GrowsWithin meter.old meter.new (length text.old) (length text.new)
+        (8 * passed_over source.old source.new) }
 {
     match scan_operator(limits.scalar, source.buffer()) {
         Scanned::Whole((), count) => copy(source, text, count, limits, meter),

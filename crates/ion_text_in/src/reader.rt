@@ -7,11 +7,13 @@ ghost use Rattle.ion_meter.specs.Limits.{AreChecked};
 ghost use Rattle.ion_meter.specs.Sources.{BytesAreLeft, Cursor, cursor, skip, Exceeds, Stands};
 ghost use Rattle.ion_meter.specs.Windows.{left, lent};
 ghost use Rattle.ion_value.specs.Reading.{Finished, More, Stopped};
+ghost use Rattle.ion_value.specs.Calls.{passed_over};
+ghost use Rattle.ion_value.specs.Shares.{GoesWithReading, GrowsWithin};
 ghost use Rattle.ion_text_in.specs.Blanks.{blanks};
 ghost use Rattle.ion_text_in.specs.Positions.{at, innermost, in_sexp};
 ghost use Rattle.ion_text_in.specs.Reading as reading;
 ghost use Rattle.ion_text_in.specs.Reading.{reading};
-ghost use Rattle.ion_text_in.specs.Tokens.{as_symbol, going, overrun_of, token_view, BodyInRange, TokenInRange};
+ghost use Rattle.ion_text_in.specs.Tokens.{as_symbol, going, token_view, BodyInRange};
 ghost use Rattle.ion_text_in.specs.Symbols.{is_annotated, kept_text};
 ghost use Rattle.ion_text_in.specs.Expecting.{wanted, MayExpect};
 ghost use Rattle.ion_text_in.specs.Steps.{annotations_in, closing, ending, given_by, held_by, left_to, lent_by, naming, naming_here, opened_in, opening, scalar_by, share_of, sound-within, taking, to_come_by, to_come_in, with_colons, without_colons, CanAdvance, CanStep, IsInside, IsReady, IsSized, IsSound, ReadyAfter, StepGives, Stepped};
@@ -21,7 +23,7 @@ mod lent;
 mod window;
 
 use crate::blank::pass_blanks;
-use crate::expected::{Expected, at_member, behind_comma, behind_member, is_colons, is_same};
+use crate::expected::{Expected, at_member, behind_member, is_colons, is_same};
 use crate::first::{First, next_first, pass_to_token, told_first};
 use crate::operator::{pass_colons, pass_mark};
 use crate::symbol::{FieldName, annotation_place, keep_text, lent_field};
@@ -309,6 +311,8 @@ impl<I: Input, A: Allocator + Copy> TextReader<I, A> {
         ensures ready { ReadyAfter result self.new }
         ensures stepped { Stepped I.Input StepResult.Item self.old self.new
             meter.old meter.new result }
+        ensures goes { GrowsWithin meter.old meter.new (held_by self.old) (held_by self.new)
+            (length (kept_text self.old.text symbol) + 16 * passed_over self.old.source self.new.source) }
     {
         let limit = self.limits.scalar;
         let cost = self.annotations_cost(symbol);
@@ -358,6 +362,8 @@ impl<I: Input, A: Allocator + Copy> TextReader<I, A> {
         ensures ready { ReadyAfter result self.new }
         ensures stepped { Stepped I.Input StepResult.Item self.old self.new
             meter.old meter.new result }
+        ensures goes { GrowsWithin meter.old meter.new (held_by self.old) (held_by self.new)
+            (length (kept_text self.old.text symbol) + 16 * passed_over self.old.source self.new.source) }
     {
         if told_first(self.source.buffer()) > 0 {
             return self.symbol_value(symbol, quoted, place, None);
@@ -448,6 +454,8 @@ impl<I: Input, A: Allocator + Copy> TextReader<I, A> {
         ensures ready { ReadyAfter result self.new }
         ensures stepped { Stepped I.Input StepResult.Item self.old self.new
             meter.old meter.new result }
+        ensures goes { GoesWithReading meter.old meter.new
+            (held_by self.old) (held_by self.new) (left_to self.old) (left_to self.new) }
     {
         let Some(innermost) = self.innermost() else {
             return Err(Fault::Refused(Reason::BadToken, place));
@@ -472,6 +480,7 @@ impl<I: Input, A: Allocator + Copy> TextReader<I, A> {
         ensures ready { ReadyAfter result self.new }
         ensures stepped { Stepped I.Input StepResult.Item self.old self.new
             meter.old meter.new result }
+        ensures goes { GrowsWithin meter.old meter.new (held_by self.old) (held_by self.new) 16 }
     {
         if u64::from(self.limits.depth) <= self.kinds.as_slice().len() as u64 {
             return Err(Fault::Refused(Reason::DepthLimit, place));
@@ -485,95 +494,6 @@ impl<I: Input, A: Allocator + Copy> TextReader<I, A> {
         self.place = place;
         self.expected = at_member(kind);
         Ok(StepResult::Item)
-    }
-
-    // Takes the token that was read behind a member.
-    #[tactic(auto, unfolding(crate::specs::Reading::take))]
-    #[inline(always)]
-    fn take_separator(
-        &mut self,
-        token: Token,
-        place: u64,
-        meter: &mut Meter<A>,
-    ) -> Result<StepResult, Fault>
-        requires can_step { CanStep self.old meter.old }
-        requires separator { self.old.expected ≡ Expected.Separator }
-        ensures gives { I.observable self.old.source.device → (d : Cursor)
-            → blanks d ≡ going (overrun_of token) (cursor I.Input self.old.source)
-            → StepGives I.Input
-            (taking self.old place (token_view self.old.text place token) d) self.new result }
-        ensures ready { ReadyAfter result self.new }
-        ensures stepped { Stepped I.Input StepResult.Item self.old self.new
-            meter.old meter.new result }
-    {
-        match token {
-            Token::Comma => {
-                self.expected = behind_comma(self.innermost());
-                Ok(StepResult::Passed)
-            }
-            Token::End(kind) => self.close(kind, place, meter),
-            _ => Err(Fault::Refused(Reason::BadToken, place)),
-        }
-    }
-
-    // Takes the token that was read where a field may begin.
-    #[tactic(auto, unfolding(crate::specs::Reading::take))]
-    #[inline(always)]
-    fn take_field(
-        &mut self,
-        token: Token,
-        place: u64,
-        meter: &mut Meter<A>,
-    ) -> Result<StepResult, Fault>
-        requires can_step { CanStep self.old meter.old }
-        requires field { self.old.expected ≡ Expected.Field }
-        ensures gives { I.observable self.old.source.device → (d : Cursor)
-            → blanks d ≡ going (overrun_of token) (cursor I.Input self.old.source)
-            → StepGives I.Input
-            (taking self.old place (token_view self.old.text place token) d) self.new result }
-        ensures ready { ReadyAfter result self.new }
-        ensures stepped { Stepped I.Input StepResult.Item self.old self.new
-            meter.old meter.new result }
-    {
-        match token {
-            Token::Symbol(symbol, _) => self.named(symbol, place),
-            Token::String(None) => self.named(Symbol::Text, place),
-            Token::String(Some(start)) => Err(Fault::Refused(Reason::Truncated, start)),
-            Token::End(kind) => self.close(kind, place, meter),
-            _ => Err(Fault::Refused(Reason::BadToken, place)),
-        }
-    }
-
-    // Takes the token that was read where a value may stand.
-    #[tactic(auto, unfolding(crate::specs::Reading::take))]
-    #[inline(always)]
-    fn take_value(
-        &mut self,
-        token: Token,
-        place: u64,
-        meter: &mut Meter<A>,
-    ) -> Result<StepResult, Fault>
-        requires can_step { CanStep self.old meter.old }
-        requires value { self.old.expected ≡ Expected.Value }
-        requires range { TokenInRange token }
-        ensures gives { I.observable self.old.source.device → (d : Cursor)
-            → blanks d ≡ going (overrun_of token) (cursor I.Input self.old.source)
-            → StepGives I.Input
-            (taking self.old place (token_view self.old.text place token) d) self.new result }
-        ensures ready { ReadyAfter result self.new }
-        ensures stepped { Stepped I.Input StepResult.Item self.old self.new
-            meter.old meter.new result }
-    {
-        match token {
-            Token::Plain(body) => Ok(self.scalar(body, place, None)),
-            Token::String(start) => Ok(self.scalar(Body::String, place, start)),
-            Token::Operator => Ok(self.scalar(Body::Symbol(Symbol::Text), place, None)),
-            Token::Symbol(symbol, quoted) => self.symbol(symbol, quoted, place, meter),
-            Token::Begin(kind) => self.open(kind, place, meter),
-            Token::End(kind) => self.close_bare(kind, place, meter),
-            Token::NoNumber => Err(Fault::Refused(Reason::Float, place)),
-            _ => Err(Fault::Refused(Reason::BadToken, place)),
-        }
     }
 
     // Closes the innermost open container where a value may stand: behind a field's name and behind
@@ -594,6 +514,8 @@ impl<I: Input, A: Allocator + Copy> TextReader<I, A> {
         ensures ready { ReadyAfter result self.new }
         ensures stepped { Stepped I.Input StepResult.Item self.old self.new
             meter.old meter.new result }
+        ensures goes { GoesWithReading meter.old meter.new
+            (held_by self.old) (held_by self.new) (left_to self.old) (left_to self.new) }
     {
         if self.field.is_some() {
             return Err(Fault::Refused(Reason::BadToken, place));
@@ -637,6 +559,8 @@ impl<I: Input, A: Allocator + Copy> TextReader<I, A> {
             → left_to self.new < left_to self.old }
         ensures stepped { Stepped I.Input StepResult.Item self.old self.new
             meter.old meter.new result }
+        ensures goes { GoesWithReading meter.old meter.new
+            (held_by self.old) (held_by self.new) (left_to self.old) (left_to self.new) }
     {
         match pass_to_token(&mut self.source) {
             Err(fault) => return Err(fault),
@@ -685,6 +609,8 @@ impl<I: Input, A: Allocator + Copy> TextReader<I, A> {
         ensures ready { OnOk result (IsReady self.new) }
         ensures falls { result ≡ Ok true → left_to self.new < left_to self.old }
         ensures stepped { Stepped I.Input true self.old self.new meter.old meter.new result }
+        ensures goes { GoesWithReading meter.old meter.new
+            (held_by self.old) (held_by self.new) (left_to self.old) (left_to self.new) }
     {
         match self.unfinished {
             Some(start) => return Err(Fault::Refused(Reason::Truncated, start)),

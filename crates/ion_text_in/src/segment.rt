@@ -1,12 +1,12 @@
 //! Segments of texts between quotes, gathered over the window (Ion specification, "Strings",
 //! "Symbols" and "Clobs").
-ghost use Rattle.std.specs.Prelude.{◌≡◌, ◌≢◌, ◌+◌, ◌<◌, ◌≤◌, ℕ, [], ◌∷◌, Ok, Err, length, encode_utf8, OnOk, IfOk};
+ghost use Rattle.std.specs.Prelude.{◌≡◌, ◌≢◌, ◌+◌, ◌<◌, ◌≤◌, [], ◌∷◌, ◌*◌, ℕ, Ok, Err, length, encode_utf8, OnOk, OnErr, IfOk};
 ghost use Rattle.ion_meter.specs.Windows.{left, lent};
 ghost use Rattle.ion_meter.specs.Sources.{skip, cursor, Stands};
 ghost use Rattle.ion_meter.specs.Sources.{Reads as Looks};
 ghost use Rattle.ion_value.specs.Answers.{Answers};
-ghost use Rattle.ion_value.specs.Calls.{Reads, ReadsInto};
-ghost use Rattle.ion_value.specs.Shares.{fault_of};
+ghost use Rattle.ion_value.specs.Calls.{Reads, ReadsInto, passed_over};
+ghost use Rattle.ion_value.specs.Shares.{fault_of, GrowsWithin};
 ghost use Rattle.ion_text_in.specs.Quoted.{piece_at, bad_text};
 ghost use Rattle.ion_text_in.specs.Quotes.{quote_of};
 ghost use Rattle.ion_text_in.specs.Pieces.{piece_of, bytes_of_piece, taken_of, TakesSome};
@@ -44,6 +44,8 @@ pub(crate) fn next_segment<I: Input, A: Allocator + Copy>(
     ensures further { OnOk result (source.old.place < source.new.place) }
     ensures reads { ReadsInto I.Input source.old source.new meter.old meter.new
         (length text.old) (length text.new) limits.scalar result }
+    ensures goes { GrowsWithin meter.old meter.new (length text.old) (length text.new)
+        (8 * passed_over source.old source.new) }
 {
     let start = text.as_slice().len();
     if let Err(fault) = gather_pieces(source, text, quote, place, limits, meter) {
@@ -72,6 +74,8 @@ fn gather_pieces<I: Input, A: Allocator + Copy>(
     ensures longer { OnOk result (length text.old ≤ length text.new) }
     ensures reads { ReadsInto I.Input source.old source.new meter.old meter.new
         (length text.old) (length text.new) limits.scalar result }
+    ensures goes { GrowsWithin meter.old meter.new (length text.old) (length text.new)
+        (8 * passed_over source.old source.new) }
 {
     'pieces: loop {
         if let Err(fault) = take_plain(source, text, quote, place, limits, meter) {
@@ -122,6 +126,8 @@ fn take_plain<I: Input, A: Allocator + Copy>(
     ensures longer { OnOk result (length text.old ≤ length text.new) }
     ensures reads { ReadsInto I.Input source.old source.new meter.old meter.new
         (length text.old) (length text.new) limits.scalar result }
+    ensures goes { GrowsWithin meter.old meter.new (length text.old) (length text.new)
+        (8 * passed_over source.old source.new) }
 {
     let bytes = source.buffer();
     let plain = plain_length(quote, bytes);
@@ -145,6 +151,10 @@ fn put<A: Allocator + Copy>(
     ensures puts { PutsOn text.old text.new bytes.now limits.scalar place result }
     ensures grown { Grown meter.old meter.new (length text.old) (length text.new) limits.scalar
         (fault_of result) }
+    ensures goes { GrowsWithin meter.old meter.new (length text.old) (length text.new)
+        (length bytes.now) }
+    ensures still { OnErr result (GrowsWithin meter.old meter.new
+        (length text.old) (length text.new) 0) }
 {
     if limits.scalar - (text.as_slice().len() as u64) < bytes.len() as u64 {
         return Err(Fault::Refused(Reason::ScalarLimit, place));
@@ -165,6 +175,7 @@ fn put_byte<A: Allocator + Copy>(
     ensures puts { PutsOn text.old text.new (byte ∷ []) limits.scalar place result }
     ensures grown { Grown meter.old meter.new (length text.old) (length text.new) limits.scalar
         (fault_of result) }
+    ensures goes { GrowsWithin meter.old meter.new (length text.old) (length text.new) 1 }
 {
     if limits.scalar <= text.as_slice().len() as u64 {
         return Err(Fault::Refused(Reason::ScalarLimit, place));
@@ -184,6 +195,7 @@ fn put_char<A: Allocator + Copy>(
     ensures puts { PutsOn text.old text.new (encode_utf8 character) limits.scalar place result }
     ensures grown { Grown meter.old meter.new (length text.old) (length text.new) limits.scalar
         (fault_of result) }
+    ensures goes { GrowsWithin meter.old meter.new (length text.old) (length text.new) 4 }
 {
     if character.is_ascii() {
         return put_byte(text, character as u8, place, limits, meter);
@@ -211,6 +223,7 @@ fn put_piece<A: Allocator + Copy>(
     ensures puts { PutsOn text.old text.new (bytes_of_piece piece) limits.scalar place result }
     ensures grown { Grown meter.old meter.new (length text.old) (length text.new) limits.scalar
         (fault_of result) }
+    ensures goes { GrowsWithin meter.old meter.new (length text.old) (length text.new) 4 }
 {
     match piece {
         Piece::Char(character, _) => put_char(text, character, place, limits, meter),

@@ -1,12 +1,13 @@
 //! Texts between quotes: strings, long strings, symbols in quotes, and the texts of clobs (Ion
 //! specification, "Strings", "Symbols" and "Clobs").
-ghost use Rattle.std.specs.Prelude.{◌≡◌, ◌≢◌, ◌+◌, ◌<◌, ◌≤◌, ℕ, [], ◌∷◌, true, false, Some, Ok, Err, length, OnOk, IfOk};
+ghost use Rattle.std.specs.Prelude.{◌≡◌, ◌≢◌, ◌+◌, ◌<◌, ◌≤◌, [], ◌∷◌, ◌*◌, ℕ, true, false, Some, Ok, Err, length, OnOk, IfOk};
 ghost use Rattle.ion_meter.specs.Windows.{left, lent, IsGiven};
 ghost use Rattle.ion_meter.specs.Sources.{skip, cursor, Stands};
 ghost use Rattle.ion_value.specs.Answers.{Answers};
-ghost use Rattle.ion_value.specs.Calls.{AnswersBy, CanRead, Reads, ReadsInto};
+ghost use Rattle.ion_value.specs.Calls.{AnswersBy, CanRead, Reads, ReadsInto, passed_over};
 ghost use Rattle.ion_value.specs.Name.{begins_with};
 ghost use Rattle.ion_value.specs.Value as value;
+ghost use Rattle.ion_value.specs.Shares.{GrowsWithin};
 ghost use Rattle.ion_text_in.specs.Overrun.{overrun};
 ghost use Rattle.ion_text_in.specs.Token as tokens;
 ghost use Rattle.ion_text_in.specs.Token.{token_of};
@@ -45,6 +46,9 @@ pub(crate) fn next_quoted_symbol<I: Input, A: Allocator + Copy>(
         → OnOk result (source.old.place < source.new.place) }
     ensures reads { ReadsInto I.Input source.old source.new meter.old meter.new
         (length text.old) (length text.new) limits.scalar result }
+    ensures goes { GrowsWithin meter.old meter.new (length text.old) (length text.new)
+        (8 * passed_over source.old source.new) }
+    ensures fresh { OnOk result (length text.new ≤ 8 * passed_over source.old source.new) }
 {
     let place = source.place();
     source.advance();
@@ -70,6 +74,8 @@ pub(crate) fn next_short_string<I: Input, A: Allocator + Copy>(
         → OnOk result (source.old.place < source.new.place) }
     ensures reads { ReadsInto I.Input source.old source.new meter.old meter.new
         (length text.old) (length text.new) limits.scalar result }
+    ensures goes { GrowsWithin meter.old meter.new (length text.old) (length text.new)
+        (8 * passed_over source.old source.new) }
 {
     let place = source.place();
     source.advance();
@@ -96,6 +102,8 @@ pub(crate) fn next_long_string<I: Input, A: Allocator + Copy>(
         → OnOk result (source.old.place < source.new.place) }
     ensures reads { ReadsInto I.Input source.old source.new meter.old meter.new
         (length text.old) (length text.new) limits.scalar result }
+    ensures goes { GrowsWithin meter.old meter.new (length text.old) (length text.new)
+        (8 * passed_over source.old source.new) }
 {
     let place = source.place();
     source.consume(3);
@@ -121,6 +129,9 @@ pub(crate) fn next_short_text<I: Input, A: Allocator + Copy>(
         (text_at (quote_of quote) (Some limits.scalar) (cursor I.Input source.old)) }
     ensures reads { ReadsInto I.Input source.old source.new meter.old meter.new
         (length text.old) (length text.new) limits.scalar result }
+    ensures goes { GrowsWithin meter.old meter.new (length text.old) (length text.new)
+        (8 * passed_over source.old source.new) }
+    ensures fresh { OnOk result (length text.new ≤ 8 * passed_over source.old source.new) }
 {
     text.clear(meter);
     let bytes = source.buffer();
@@ -157,6 +168,8 @@ pub(crate) fn next_long_text<I: Input, A: Allocator + Copy>(
         (text_at (quote_of quote) (Some limits.scalar) (cursor I.Input source.old)) }
     ensures reads { ReadsInto I.Input source.old source.new meter.old meter.new
         (length text.old) (length text.new) limits.scalar result }
+    ensures goes { GrowsWithin meter.old meter.new (length text.old) (length text.new)
+        (8 * passed_over source.old source.new) }
 {
     text.clear(meter);
     'segments: loop {

@@ -1,9 +1,11 @@
 //! Tokens, each read by the kind that its first bytes tell (Ion specification, "Text Encoding").
-ghost use Rattle.std.specs.Prelude.{◌≡◌, ◌≤◌, ℕ, List, Some, None, length};
+ghost use Rattle.std.specs.Prelude.{◌≡◌, ◌≤◌, ◌+◌, ◌*◌, ℕ, List, Some, None, length, IfOk};
 ghost use Rattle.ion_meter.specs.Sources.{cursor};
 ghost use Rattle.ion_meter.specs.Windows.{lent};
-ghost use Rattle.ion_value.specs.Calls.{CanRead};
+ghost use Rattle.ion_value.specs.Calls.{CanRead, passed_over};
 ghost use Rattle.ion_value.specs.Standing.{InRange};
+ghost use Rattle.ion_value.specs.Shares.{GrowsWithin};
+ghost use Rattle.ion_text_in.specs.Symbols.{prepaid, prepaid_word};
 ghost use Rattle.ion_text_in.specs.Firsts.{first_of, width};
 ghost use Rattle.ion_text_in.specs.Token as tokens;
 ghost use Rattle.ion_text_in.specs.Token.{token_of};
@@ -105,6 +107,10 @@ pub(crate) fn next_token<I: Input, A: Allocator + Copy>(
         (token_of (Some limits.scalar) (first_of first) (cursor I.Input source.old)) }
     ensures reads { ReadsToken I.Input limits source.old source.new meter.old meter.new
         text.old text.new result }
+    ensures goes { GrowsWithin meter.old meter.new (length text.old) (length text.new)
+        (16 * passed_over source.old source.new) }
+    ensures paid { IfOk result (λ token. length text.new + prepaid text.new token
+        ≤ length text.old + 16 * passed_over source.old source.new) }
 {
     match first {
         First::Word => word_token(source, text, limits, meter),
@@ -154,6 +160,10 @@ fn word_token<I: Input, A: Allocator + Copy>(
         (token_of (Some limits.scalar) tokens.a_word (cursor I.Input source.old)) }
     ensures reads { ReadsToken I.Input limits source.old source.new meter.old meter.new
         text.old text.new result }
+    ensures goes { GrowsWithin meter.old meter.new (length text.old) (length text.new)
+        (16 * passed_over source.old source.new) }
+    ensures paid { IfOk result (λ token. length text.new + prepaid text.new token
+        ≤ length text.old + 16 * passed_over source.old source.new) }
 {
     match next_word(source, text, limits, meter) {
         Err(fault) => Err(fault),
@@ -176,6 +186,10 @@ fn number_token<I: Input, A: Allocator + Copy>(
         (token_of (Some limits.scalar) tokens.a_run (cursor I.Input source.old)) }
     ensures reads { ReadsToken I.Input limits source.old source.new meter.old meter.new
         text.old text.new result }
+    ensures goes { GrowsWithin meter.old meter.new (length text.old) (length text.new)
+        (16 * passed_over source.old source.new) }
+    ensures paid { IfOk result (λ token. length text.new + prepaid text.new token
+        ≤ length text.old + 16 * passed_over source.old source.new) }
 {
     match next_number(source, text, limits, meter) {
         Err(fault) => Err(fault),
@@ -198,6 +212,10 @@ fn quoted_token<I: Input, A: Allocator + Copy>(
         (token_of (Some limits.scalar) tokens.a_quoted (cursor I.Input source.old)) }
     ensures reads { ReadsToken I.Input limits source.old source.new meter.old meter.new
         text.old text.new result }
+    ensures goes { GrowsWithin meter.old meter.new (length text.old) (length text.new)
+        (16 * passed_over source.old source.new) }
+    ensures paid { IfOk result (λ token. length text.new + prepaid text.new token
+        ≤ length text.old + 16 * passed_over source.old source.new) }
 {
     match next_quoted_symbol(source, text, limits, meter) {
         Err(fault) => Err(fault),
@@ -220,6 +238,10 @@ fn string_token<I: Input, A: Allocator + Copy>(
         (token_of (Some limits.scalar) tokens.a_short (cursor I.Input source.old)) }
     ensures reads { ReadsToken I.Input limits source.old source.new meter.old meter.new
         text.old text.new result }
+    ensures goes { GrowsWithin meter.old meter.new (length text.old) (length text.new)
+        (16 * passed_over source.old source.new) }
+    ensures paid { IfOk result (λ token. length text.new + prepaid text.new token
+        ≤ length text.old + 16 * passed_over source.old source.new) }
 {
     match next_short_string(source, text, limits, meter) {
         Err(fault) => Err(fault),
@@ -242,6 +264,10 @@ fn long_string_token<I: Input, A: Allocator + Copy>(
         (token_of (Some limits.scalar) tokens.a_long (cursor I.Input source.old)) }
     ensures reads { ReadsToken I.Input limits source.old source.new meter.old meter.new
         text.old text.new result }
+    ensures goes { GrowsWithin meter.old meter.new (length text.old) (length text.new)
+        (16 * passed_over source.old source.new) }
+    ensures paid { IfOk result (λ token. length text.new + prepaid text.new token
+        ≤ length text.old + 16 * passed_over source.old source.new) }
 {
     match next_long_string(source, text, limits, meter) {
         Err(fault) => Err(fault),
@@ -264,6 +290,10 @@ fn lob_token<I: Input, A: Allocator + Copy>(
         (token_of (Some limits.scalar) tokens.a_lob (cursor I.Input source.old)) }
     ensures reads { ReadsToken I.Input limits source.old source.new meter.old meter.new
         text.old text.new result }
+    ensures goes { GrowsWithin meter.old meter.new (length text.old) (length text.new)
+        (16 * passed_over source.old source.new) }
+    ensures paid { IfOk result (λ token. length text.new + prepaid text.new token
+        ≤ length text.old + 16 * passed_over source.old source.new) }
 {
     match next_lob(source, text, limits, meter) {
         Err(fault) => Err(fault),
@@ -286,6 +316,10 @@ fn operator_token<I: Input, A: Allocator + Copy>(
         (token_of (Some limits.scalar) tokens.an_operator (cursor I.Input source.old)) }
     ensures reads { ReadsToken I.Input limits source.old source.new meter.old meter.new
         text.old text.new result }
+    ensures goes { GrowsWithin meter.old meter.new (length text.old) (length text.new)
+        (16 * passed_over source.old source.new) }
+    ensures paid { IfOk result (λ token. length text.new + prepaid text.new token
+        ≤ length text.old + 16 * passed_over source.old source.new) }
 {
     match next_operator(source, text, limits, meter) {
         Err(fault) => Err(fault),
@@ -308,6 +342,10 @@ fn infinity_token<I: Input, A: Allocator + Copy>(
         (token_of (Some limits.scalar) tokens.an_infinity (cursor I.Input source.old)) }
     ensures reads { ReadsToken I.Input limits source.old source.new meter.old meter.new
         text.old text.new result }
+    ensures goes { GrowsWithin meter.old meter.new (length text.old) (length text.new)
+        (16 * passed_over source.old source.new) }
+    ensures paid { IfOk result (λ token. length text.new + prepaid text.new token
+        ≤ length text.old + 16 * passed_over source.old source.new) }
 {
     match next_infinity(source, limits) {
         Err(fault) => Err(fault),
@@ -335,6 +373,7 @@ fn word_of(word: Word) -> Token
         → token_view bytes place result ≡ word_token_of bytes word }
     ensures range { TokenInRange result }
     ensures alone { overrun_of result ≡ None }
+    ensures prepaid { (bytes : List ℕ) → prepaid bytes result ≡ prepaid_word bytes word }
 {
     match word {
         Word::Null(ion_type) => Token::Plain(Body::Null(ion_type)),

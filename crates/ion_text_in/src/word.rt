@@ -1,8 +1,8 @@
 //! Words: keywords, ids and symbols without quotes (Ion specification, "Text Encoding").
-ghost use Rattle.std.specs.Prelude.{◌≡◌, ◌&&◌, ◌==◌, ◌∷◌, ◌^◌, ◌≤◌, ◌<◌, codes, drop, length, Some, None, Ok, Err, true, false, IfSome, MatchOption, MatchResult, OnOk};
+ghost use Rattle.std.specs.Prelude.{◌≡◌, ◌&&◌, ◌==◌, ◌∷◌, ◌^◌, ◌≤◌, ◌<◌, ◌*◌, codes, drop, length, Some, None, Ok, Err, true, false, IfOk, IfSome, MatchOption, MatchResult, OnOk};
 ghost use Rattle.std.specs.Str.{bytes_eq};
 ghost use Rattle.ion_meter.specs.Windows.{lent};
-ghost use Rattle.ion_value.specs.Calls.{AnswersBy, CanRead, ReadsInto};
+ghost use Rattle.ion_value.specs.Calls.{AnswersBy, CanRead, ReadsInto, passed_over};
 ghost use Rattle.ion_value.specs.Digits.{first_is};
 ghost use Rattle.ion_text_in.specs.Runs.{CanAppend};
 ghost use Rattle.ion_value.specs.Name.{begins_with, is_identifier_start, type_named};
@@ -10,6 +10,8 @@ ghost use Rattle.ion_text_in.specs.Scanners.{Shows};
 ghost use Rattle.ion_text_in.specs.Token.{a_word, name, token_of, word_of, word_token};
 ghost use Rattle.ion_text_in.specs.Feeding.{IsSimpleWord};
 ghost use Rattle.ion_value.specs.Value.{Text};
+ghost use Rattle.ion_value.specs.Shares.{GrowsWithin};
+ghost use Rattle.ion_text_in.specs.Symbols.{prepaid_word};
 ghost use Rattle.ion_text_in.specs.Views.{AreShown, IsWithin, id_in, is_point, may_be_keyword, shown_text, spelled, with_name, text_or_container, word_token_of};
 
 use crate::gather::{append, copy, gather, gather_token};
@@ -118,6 +120,10 @@ pub(crate) fn next_word<I: Input, A: Allocator + Copy>(
         → OnOk result (source.old.place < source.new.place) }
     ensures reads { ReadsInto I.Input source.old source.new meter.old meter.new
         (length text.old) (length text.new) limits.scalar result }
+    ensures goes { GrowsWithin meter.old meter.new (length text.old) (length text.new)
+        (8 * passed_over source.old source.new) }
+    ensures fresh { IfOk result
+        (λ word. prepaid_word text.new word ≤ 8 * passed_over source.old source.new) }
 {
     match scan_word(limits.scalar, source.buffer()) {
         Scanned::Whole(word, count) => match word {
@@ -151,6 +157,10 @@ fn gather_word<I: Input, A: Allocator + Copy>(
         → OnOk result (source.old.place < source.new.place) }
     ensures reads { ReadsInto I.Input source.old source.new meter.old meter.new
         (length text.old) (length text.new) limits.scalar result }
+    ensures goes { GrowsWithin meter.old meter.new (length text.old) (length text.new)
+        (8 * passed_over source.old source.new) }
+    ensures fresh { IfOk result
+        (λ word. prepaid_word text.new word ≤ 8 * passed_over source.old source.new) }
 {
     let place = source.place();
     if let Err(fault) = gather_typed(source, text, limits, meter) {
@@ -176,6 +186,9 @@ fn gather_typed<I: Input, A: Allocator + Copy>(
         → OnOk result (source.old.place < source.new.place) }
     ensures reads { ReadsInto I.Input source.old source.new meter.old meter.new
         (length text.old) (length text.new) limits.scalar result }
+    ensures goes { GrowsWithin meter.old meter.new (length text.old) (length text.new)
+        (8 * passed_over source.old source.new) }
+    ensures fresh { OnOk result (length text.new ≤ 8 * passed_over source.old source.new) }
 {
     let place = source.place();
     if let Err(fault) = gather_token(source, text, Run::Word, limits, meter) {
@@ -200,6 +213,8 @@ fn gather_type<I: Input, A: Allocator + Copy>(
         (with_name (Some limits.scalar) text.old) }
     ensures reads { ReadsInto I.Input source.old source.new meter.old meter.new
         (length text.old) (length text.new) limits.scalar result }
+    ensures goes { GrowsWithin meter.old meter.new (length text.old) (length text.new)
+        (8 * passed_over source.old source.new) }
 {
     let next = match source.peek(0) {
         Err(fault) => return Err(fault),

@@ -32,5 +32,6 @@ pub mod Outcomes
 pub mod ValueRows
 pub mod Cursors
 pub mod Passing
+pub mod GrowsWithin
 mod Words
 pub mod Handing

@@ -36,3 +36,7 @@ pub record ReadsInto {I T : Type 0} (device : InputOf I) (old new : Incoming I) 
   pub moves : Moves device old new
   pub causes : ReadCauses (fault_of result) earlier later (device.failure_count old.device) (device.failure_count new.device) (Exceeds device old)
   pub charges : Charges earlier later before after most
+
+-- how many bytes were passed over, of those within the limit
+abbrev pub passed_over : {I : Type 0} → Incoming I → Incoming I → ℕ
+passed_over old new = (old.limit - old.place) - (new.limit - new.place)

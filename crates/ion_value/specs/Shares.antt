@@ -1,5 +1,5 @@
 -- What a part that holds counted memory does to the meter, and the causes of its faults.
-use Rattle.std.specs.Prelude.{◌≡◌, ℕ, ◌+◌, ◌-◌, ◌<◌, ◌≤◌, max, Option, Some, None, Result, Ok, Err}
+use Rattle.std.specs.Prelude.{◌≡◌, ℕ, ◌+◌, ◌*◌, ◌-◌, ◌<◌, ◌≤◌, max, Option, Some, None, Result, Ok, Err}
 use Rattle.ion_meter.specs.Counts.{Counts}
 use Rattle.ion_meter.specs.declared.fault.Fault.{Fault}
 use Rattle.ion_meter.specs.declared.fault.Fault.TheVariants.{Memory, ReadFault, WriteFault, InputLimit}
@@ -11,6 +11,15 @@ pub record Charges (old new : Counts) (before after most : ℕ) : Type 0 where
   pub share : after ≤ most
   pub peak : new.peak ≤ max old.peak ((old.held - before) + most)
   pub rises : old.peak ≤ new.peak
+
+-- a part that held some memory holds at most so much more, and on the way at most 32 beside that
+pub record GrowsWithin (old new : Counts) (before after more : ℕ) : Type 0 where
+  pub own : after ≤ before + more
+  pub peak : new.peak ≤ max old.peak (old.held + more + 32)
+
+-- memory goes with what is read: 16 more at most for each that is passed over of what was left
+abbrev pub GoesWithReading : Counts → Counts → (before after left_before left_after : ℕ) → Type 0
+GoesWithReading old new before after left_before left_after = GrowsWithin old new before after (16 * (left_before - left_after))
 
 -- the fault of an answer
 abbrev pub fault_of : {T : Type 0} → Result T Fault → Option Fault

@@ -1,5 +1,5 @@
 //! What reads items.
-ghost use Rattle.std.specs.Prelude.{◌≡◌, ℕ, ◌+◌, ◌-◌, ◌^◌, ◌<◌, ◌≤◌, ◌↔◌, ◌≢◌, List, length, Option, Some, None, Ok, Err, true, false, IfErr};
+ghost use Rattle.std.specs.Prelude.{◌≡◌, ℕ, ◌+◌, ◌*◌, ◌-◌, ◌^◌, ◌<◌, ◌≤◌, ◌↔◌, ◌≢◌, List, length, Option, Some, None, Ok, Err, true, false, IfErr};
 ghost use Rattle.ion_meter.specs.declared.fault.Reason.{Reason};
 ghost use Rattle.ion_meter.specs.declared.fault.Fault.{Fault};
 ghost use Rattle.ion_meter.specs.declared.fault.Fault.TheVariants.{Refused};
@@ -8,7 +8,7 @@ ghost use Rattle.ion_value.specs.Value.{PlacedItem};
 ghost use Rattle.ion_value.specs.Items.{named_item, raw_item};
 ghost use Rattle.ion_value.specs.Feeding.{CanTake, Feeds, StaysWell};
 ghost use Rattle.ion_value.specs.Reading.{Reading, Finished, Stopped, More};
-ghost use Rattle.ion_value.specs.Shares.{Charges, ReadCauses, fault_of};
+ghost use Rattle.ion_value.specs.Shares.{Charges, GoesWithReading, ReadCauses, fault_of};
 ghost use Rattle.ion_value.specs.Standing.{Fits, open_after, ReadsWithin};
 
 use crate::item::Item;
@@ -77,7 +77,7 @@ pub trait RawReader<A: Allocator + Copy> {
     /// What is left of the input is bytes, where its bytes are observable.
     ghost bytes_left: { Self → Type 0 };
 
-    /// It falls with each item.
+    /// It falls with each item, and memory goes with it.
     ghost left: { Self → ℕ };
 
     /// What holds of every reader between calls.
@@ -130,6 +130,8 @@ pub trait RawReader<A: Allocator + Copy> {
         // Memory, on every exit.
         ensures charges { Charges meter.old meter.new
             (own self.old) (own self.new) (most self.old) }
+        ensures goes { GoesWithReading meter.old meter.new
+            (own self.old) (own self.new) (left self.old) (left self.new) }
         ensures most { most self.new ≡ most self.old };
 
     /// The item that the last call of `next` took, its ids as the stream has them.
@@ -185,7 +187,8 @@ pub trait RawReader<A: Allocator + Copy> {
         ensures writer { StaysWell W.ValueWriter writer.old writer.new sink.old sink.new
             meter.old meter.new }
         ensures charges { Charges meter.old meter.new (own self.old + W.own writer.old)
-            (own self.new + W.own writer.new) (most self.old + W.most writer.old) };
+            (own self.new + W.own writer.new) (most self.old + W.most writer.old) }
+        ensures goes { own self.new ≤ own self.old + 16 * (left self.old - left self.new) };
 
     /// Whether the next call of `next` may read from a device that gave less than was asked for, and
     /// so may have to wait. What was put of the items so far is best written before that.

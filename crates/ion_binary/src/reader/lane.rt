@@ -1,5 +1,5 @@
 //! Items that lie whole in the window, handed to a writer.
-ghost use Rattle.std.specs.Prelude.{◌≡◌, ◌+◌, ◌-◌, ◌^◌, ◌<◌, ◌≤◌, length, false, true, Option, Some, None, IfSome, map};
+ghost use Rattle.std.specs.Prelude.{◌≡◌, ◌+◌, ◌*◌, ◌-◌, ◌^◌, ◌<◌, ◌≤◌, length, false, true, Option, Some, None, IfSome, map};
 ghost use Rattle.ion_value.specs.Items.{named_at, named_item, raw_head};
 ghost use Rattle.ion_value.specs.PlainItems.{HasSimpleName, IsSimpleHead};
 ghost use Rattle.ion_binary.specs.Lane.{CanHand, EndsHere, GoesOn, HandsItem, HandsNothing, KeepsOn, ShowsField};
@@ -7,6 +7,7 @@ ghost use Rattle.ion_binary.specs.Positions.{placed_scalar};
 ghost use Rattle.ion_binary.specs.Reader.{IsInnermost};
 ghost use Rattle.ion_binary.specs.Reading.{top_of};
 ghost use Rattle.ion_binary.specs.Shown.{shown_scalar};
+ghost use Rattle.ion_binary.specs.Steps.{held_by, left_to};
 ghost use Rattle.ion_binary.specs.Wrappers.{as_frames, innermost};
 ghost use Rattle.ion_value.specs.Value.{map_head, whole};
 
@@ -145,6 +146,8 @@ impl<I: Input, A: Allocator + Copy> BinReader<I, A> {
             → HandsNothing self.old self.new writer.old writer.new sink.old sink.new }
         ensures keeps { KeepsOn W.ValueWriter self.old self.new writer.old writer.new
             sink.old sink.new meter.old meter.new }
+        ensures goes { held_by self.new
+            ≤ held_by self.old + 16 * (left_to self.old - left_to self.new) }
     {
         let frame = self.frames.as_slice().last().copied();
         if ends_here(frame, self.source.place()) {
@@ -173,6 +176,8 @@ impl<I: Input, A: Allocator + Copy> BinReader<I, A> {
             → HandsNothing self.old self.new writer.old writer.new sink.old sink.new }
         ensures keeps { KeepsOn W.ValueWriter self.old self.new writer.old writer.new
             sink.old sink.new meter.old meter.new }
+        ensures goes { held_by self.new
+            ≤ held_by self.old + 16 * (left_to self.old - left_to self.new) }
     {
         let item = PlainItem {
             field: None,
@@ -208,6 +213,8 @@ impl<I: Input, A: Allocator + Copy> BinReader<I, A> {
             → HandsNothing self.old self.new writer.old writer.new sink.old sink.new }
         ensures keeps { KeepsOn W.ValueWriter self.old self.new writer.old writer.new
             sink.old sink.new meter.old meter.new }
+        ensures goes { held_by self.new
+            ≤ held_by self.old + 16 * (left_to self.old - left_to self.new) }
     {
         let here = self.source.place();
         let octets = self.source.buffer();

@@ -1,10 +1,13 @@
 //! Each frequent kind of token in a function of its own: what was read is taken at once, and no token is
 //! built that is copied and told apart again.
-ghost use Rattle.std.specs.Prelude.{◌≡◌, ◌<◌, ◌≤◌, length, Ok, OnOk};
+ghost use Rattle.std.specs.Prelude.{◌≡◌, ◌<◌, ◌≤◌, ◌+◌, ◌*◌, length, Ok, OnOk};
 ghost use Rattle.ion_meter.specs.Counts.{Counts};
 ghost use Rattle.ion_meter.specs.Sources.{Cursor, cursor};
 ghost use Rattle.ion_meter.specs.Windows.{lent};
 ghost use Rattle.ion_value.specs.Standing.{InRange};
+ghost use Rattle.ion_value.specs.Calls.{passed_over};
+ghost use Rattle.ion_value.specs.Shares.{GoesWithReading, GrowsWithin};
+ghost use Rattle.ion_text_in.specs.Symbols.{prepaid, prepaid_word};
 ghost use Rattle.ion_text_in.specs.Blanks.{blanks};
 ghost use Rattle.ion_text_in.specs.Firsts.{first_of, numbered, width};
 ghost use Rattle.ion_text_in.specs.Quick.{as_quick};
@@ -14,7 +17,7 @@ ghost use Rattle.ion_text_in.specs.Views.{as_number, number_token, word_token_of
 ghost use Rattle.ion_text_in.specs.Steps.{held_by, left_to, naming, part_by, taking, CanStep, IsInside, IsSized, ReadyAfter, StepGives, Stepped};
 
 use super::{StepResult, TextReader};
-use crate::expected::{Expected, may_come};
+use crate::expected::{Expected, behind_comma, may_come};
 use crate::first::{First, shows_colon};
 use crate::number::next_number;
 use crate::operator::pass_mark;
@@ -40,6 +43,8 @@ impl<I: Input, A: Allocator + Copy> TextReader<I, A> {
         ensures further { OnOk result (left_to self.new < left_to self.old) }
         ensures stepped { Stepped I.Input StepResult.Item self.old self.new
             meter.old meter.new result }
+        ensures goes { GoesWithReading meter.old meter.new
+            (held_by self.old) (held_by self.new) (left_to self.old) (left_to self.new) }
     {
         match told {
             1 => self.word(meter),
@@ -65,6 +70,8 @@ impl<I: Input, A: Allocator + Copy> TextReader<I, A> {
         ensures further { OnOk result (left_to self.new < left_to self.old) }
         ensures stepped { Stepped I.Input StepResult.Item self.old self.new
             meter.old meter.new result }
+        ensures goes { GoesWithReading meter.old meter.new
+            (held_by self.old) (held_by self.new) (left_to self.old) (left_to self.new) }
     {
         match first {
             First::Word => self.word(meter),
@@ -89,6 +96,8 @@ impl<I: Input, A: Allocator + Copy> TextReader<I, A> {
         ensures further { OnOk result (left_to self.new < left_to self.old) }
         ensures stepped { Stepped I.Input StepResult.Item self.old self.new
             meter.old meter.new result }
+        ensures goes { GoesWithReading meter.old meter.new
+            (held_by self.old) (held_by self.new) (left_to self.old) (left_to self.new) }
     {
         let place = self.source.place();
         if !may_come(self.expected, first) {
@@ -111,6 +120,8 @@ impl<I: Input, A: Allocator + Copy> TextReader<I, A> {
         ensures further { OnOk result (left_to self.new < left_to self.old) }
         ensures stepped { Stepped I.Input StepResult.Item self.old self.new
             meter.old meter.new result }
+        ensures goes { GoesWithReading meter.old meter.new
+            (held_by self.old) (held_by self.new) (left_to self.old) (left_to self.new) }
     {
         match self.expected {
             Expected::Separator => self.other(First::Word, meter),
@@ -131,6 +142,8 @@ impl<I: Input, A: Allocator + Copy> TextReader<I, A> {
         ensures further { OnOk result (left_to self.new < left_to self.old) }
         ensures stepped { Stepped I.Input StepResult.Item self.old self.new
             meter.old meter.new result }
+        ensures goes { GoesWithReading meter.old meter.new
+            (held_by self.old) (held_by self.new) (left_to self.old) (left_to self.new) }
     {
         let place = self.source.place();
         match next_word(&mut self.source, &mut self.text, self.limits, meter) {
@@ -151,6 +164,8 @@ impl<I: Input, A: Allocator + Copy> TextReader<I, A> {
         ensures further { OnOk result (left_to self.new < left_to self.old) }
         ensures stepped { Stepped I.Input StepResult.Item self.old self.new
             meter.old meter.new result }
+        ensures goes { GoesWithReading meter.old meter.new
+            (held_by self.old) (held_by self.new) (left_to self.old) (left_to self.new) }
     {
         let place = self.source.place();
         match next_word(&mut self.source, &mut self.name, self.limits, meter) {
@@ -177,6 +192,8 @@ impl<I: Input, A: Allocator + Copy> TextReader<I, A> {
         ensures ready { ReadyAfter result self.new }
         ensures stepped { Stepped I.Input StepResult.Item self.old self.new
             meter.old meter.new result }
+        ensures goes { GoesWithReading meter.old meter.new
+            (held_by self.old) (held_by self.new) (left_to self.old) (left_to self.new) }
     {
         match word {
             Word::Name => self.ends_name(Symbol::Text, place),
@@ -215,6 +232,8 @@ impl<I: Input, A: Allocator + Copy> TextReader<I, A> {
         ensures further { OnOk result (left_to self.new < left_to self.old) }
         ensures stepped { Stepped I.Input StepResult.Item self.old self.new
             meter.old meter.new result }
+        ensures goes { GoesWithReading meter.old meter.new
+            (held_by self.old) (held_by self.new) (left_to self.old) (left_to self.new) }
     {
         match self.expected {
             Expected::Value => {}
@@ -265,6 +284,8 @@ impl<I: Input, A: Allocator + Copy> TextReader<I, A> {
         ensures further { OnOk result (left_to self.new < left_to self.old) }
         ensures stepped { Stepped I.Input StepResult.Item self.old self.new
             meter.old meter.new result }
+        ensures goes { GoesWithReading meter.old meter.new
+            (held_by self.old) (held_by self.new) (left_to self.old) (left_to self.new) }
     {
         let place = self.source.place();
         if !may_come(self.expected, First::Number) {
@@ -287,6 +308,8 @@ impl<I: Input, A: Allocator + Copy> TextReader<I, A> {
         ensures further { OnOk result (left_to self.new < left_to self.old) }
         ensures stepped { Stepped I.Input StepResult.Item self.old self.new
             meter.old meter.new result }
+        ensures goes { GoesWithReading meter.old meter.new
+            (held_by self.old) (held_by self.new) (left_to self.old) (left_to self.new) }
     {
         let place = self.source.place();
         if !may_come(self.expected, First::String) {
@@ -309,6 +332,8 @@ impl<I: Input, A: Allocator + Copy> TextReader<I, A> {
         ensures further { OnOk result (left_to self.new < left_to self.old) }
         ensures stepped { Stepped I.Input StepResult.Item self.old self.new
             meter.old meter.new result }
+        ensures goes { GoesWithReading meter.old meter.new
+            (held_by self.old) (held_by self.new) (left_to self.old) (left_to self.new) }
     {
         let place = self.source.place();
         if !may_come(self.expected, First::QuotedSymbol) {
@@ -331,6 +356,8 @@ impl<I: Input, A: Allocator + Copy> TextReader<I, A> {
         ensures further { OnOk result (left_to self.new < left_to self.old) }
         ensures stepped { Stepped I.Input StepResult.Item self.old self.new
             meter.old meter.new result }
+        ensures goes { GoesWithReading meter.old meter.new
+            (held_by self.old) (held_by self.new) (left_to self.old) (left_to self.new) }
     {
         let place = self.source.place();
         pass_mark(&mut self.source);
@@ -348,6 +375,8 @@ impl<I: Input, A: Allocator + Copy> TextReader<I, A> {
         ensures further { OnOk result (left_to self.new < left_to self.old) }
         ensures stepped { Stepped I.Input StepResult.Item self.old self.new
             meter.old meter.new result }
+        ensures goes { GoesWithReading meter.old meter.new
+            (held_by self.old) (held_by self.new) (left_to self.old) (left_to self.new) }
     {
         let place = self.source.place();
         pass_mark(&mut self.source);
@@ -365,6 +394,8 @@ impl<I: Input, A: Allocator + Copy> TextReader<I, A> {
         ensures further { OnOk result (left_to self.new < left_to self.old) }
         ensures stepped { Stepped I.Input StepResult.Item self.old self.new
             meter.old meter.new result }
+        ensures goes { GoesWithReading meter.old meter.new
+            (held_by self.old) (held_by self.new) (left_to self.old) (left_to self.new) }
     {
         let place = self.source.place();
         pass_mark(&mut self.source);
@@ -389,6 +420,8 @@ impl<I: Input, A: Allocator + Copy> TextReader<I, A> {
         ensures ready { ReadyAfter result self.new }
         ensures stepped { Stepped I.Input StepResult.Item self.old self.new
             meter.old meter.new result }
+        ensures goes { GrowsWithin meter.old meter.new (held_by self.old) (held_by self.new)
+            (prepaid_word self.old.text word + 16 * passed_over self.old.source self.new.source) }
     {
         match word {
             Word::Name => self.symbol(Symbol::Text, false, place, meter),
@@ -411,11 +444,108 @@ impl<I: Input, A: Allocator + Copy> TextReader<I, A> {
         ensures ready { ReadyAfter result self.new }
         ensures stepped { Stepped I.Input StepResult.Item self.old self.new
             meter.old meter.new result }
+        ensures goes { GrowsWithin meter.old meter.new (held_by self.old) (held_by self.new)
+            (prepaid self.old.text token + 16 * passed_over self.old.source self.new.source) }
     {
         match self.expected {
             Expected::Separator => self.take_separator(token, place, meter),
             Expected::Field => self.take_field(token, place, meter),
             Expected::Value => self.take_value(token, place, meter),
+        }
+    }
+
+    // Takes the token that was read behind a member.
+    #[tactic(auto, unfolding(crate::specs::Reading::take))]
+    #[inline(always)]
+    fn take_separator(
+        &mut self,
+        token: Token,
+        place: u64,
+        meter: &mut Meter<A>,
+    ) -> Result<StepResult, Fault>
+        requires can_step { CanStep self.old meter.old }
+        requires separator { self.old.expected ≡ Expected.Separator }
+        ensures gives { I.observable self.old.source.device → (d : Cursor)
+            → blanks d ≡ going (overrun_of token) (cursor I.Input self.old.source)
+            → StepGives I.Input
+            (taking self.old place (token_view self.old.text place token) d) self.new result }
+        ensures ready { ReadyAfter result self.new }
+        ensures stepped { Stepped I.Input StepResult.Item self.old self.new
+            meter.old meter.new result }
+        ensures goes { GrowsWithin meter.old meter.new (held_by self.old) (held_by self.new)
+            (prepaid self.old.text token + 16 * passed_over self.old.source self.new.source) }
+    {
+        match token {
+            Token::Comma => {
+                self.expected = behind_comma(self.innermost());
+                Ok(StepResult::Passed)
+            }
+            Token::End(kind) => self.close(kind, place, meter),
+            _ => Err(Fault::Refused(Reason::BadToken, place)),
+        }
+    }
+
+    // Takes the token that was read where a field may begin.
+    #[tactic(auto, unfolding(crate::specs::Reading::take))]
+    #[inline(always)]
+    fn take_field(
+        &mut self,
+        token: Token,
+        place: u64,
+        meter: &mut Meter<A>,
+    ) -> Result<StepResult, Fault>
+        requires can_step { CanStep self.old meter.old }
+        requires field { self.old.expected ≡ Expected.Field }
+        ensures gives { I.observable self.old.source.device → (d : Cursor)
+            → blanks d ≡ going (overrun_of token) (cursor I.Input self.old.source)
+            → StepGives I.Input
+            (taking self.old place (token_view self.old.text place token) d) self.new result }
+        ensures ready { ReadyAfter result self.new }
+        ensures stepped { Stepped I.Input StepResult.Item self.old self.new
+            meter.old meter.new result }
+        ensures goes { GrowsWithin meter.old meter.new (held_by self.old) (held_by self.new)
+            (prepaid self.old.text token + 16 * passed_over self.old.source self.new.source) }
+    {
+        match token {
+            Token::Symbol(symbol, _) => self.named(symbol, place),
+            Token::String(None) => self.named(Symbol::Text, place),
+            Token::String(Some(start)) => Err(Fault::Refused(Reason::Truncated, start)),
+            Token::End(kind) => self.close(kind, place, meter),
+            _ => Err(Fault::Refused(Reason::BadToken, place)),
+        }
+    }
+
+    // Takes the token that was read where a value may stand.
+    #[tactic(auto, unfolding(crate::specs::Reading::take))]
+    #[inline(always)]
+    fn take_value(
+        &mut self,
+        token: Token,
+        place: u64,
+        meter: &mut Meter<A>,
+    ) -> Result<StepResult, Fault>
+        requires can_step { CanStep self.old meter.old }
+        requires value { self.old.expected ≡ Expected.Value }
+        requires range { TokenInRange token }
+        ensures gives { I.observable self.old.source.device → (d : Cursor)
+            → blanks d ≡ going (overrun_of token) (cursor I.Input self.old.source)
+            → StepGives I.Input
+            (taking self.old place (token_view self.old.text place token) d) self.new result }
+        ensures ready { ReadyAfter result self.new }
+        ensures stepped { Stepped I.Input StepResult.Item self.old self.new
+            meter.old meter.new result }
+        ensures goes { GrowsWithin meter.old meter.new (held_by self.old) (held_by self.new)
+            (prepaid self.old.text token + 16 * passed_over self.old.source self.new.source) }
+    {
+        match token {
+            Token::Plain(body) => Ok(self.scalar(body, place, None)),
+            Token::String(start) => Ok(self.scalar(Body::String, place, start)),
+            Token::Operator => Ok(self.scalar(Body::Symbol(Symbol::Text), place, None)),
+            Token::Symbol(symbol, quoted) => self.symbol(symbol, quoted, place, meter),
+            Token::Begin(kind) => self.open(kind, place, meter),
+            Token::End(kind) => self.close_bare(kind, place, meter),
+            Token::NoNumber => Err(Fault::Refused(Reason::Float, place)),
+            _ => Err(Fault::Refused(Reason::BadToken, place)),
         }
     }
 }

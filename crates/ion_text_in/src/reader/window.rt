@@ -1,7 +1,8 @@
 //! What lies whole in the window, handed to a writer.
-ghost use Rattle.std.specs.Prelude.{◌≡◌};
+ghost use Rattle.std.specs.Prelude.{◌≡◌, ◌+◌, ◌*◌, ◌-◌, ◌≤◌};
 ghost use Rattle.ion_meter.specs.Sources.{Stands};
 ghost use Rattle.ion_text_in.specs.Feeding.{reader_lane, window_end, CanFeed, Moved, PassedLent};
+ghost use Rattle.ion_text_in.specs.Steps.{held_by, left_to};
 
 use super::TextReader;
 use crate::feed::{Spot, feed_items};
@@ -33,6 +34,8 @@ impl<I: Input, A: Allocator + Copy> TextReader<I, A> {
           expected = self.new.expected;
           top = self.new.top;
         } }
+        ensures goes { held_by self.new
+            ≤ held_by self.old + 16 * (left_to self.old - left_to self.new) }
     {
         let bytes = self.source.buffer();
         let count = bytes.len();

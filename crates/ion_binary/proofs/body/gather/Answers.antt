@@ -1,8 +1,11 @@
-use Rattle.std.proofs.Common.{sym, subst, ap, ◌∙◌, ◌≡◌, ◌+◌, ◌-◌, ◌≤◌, ℕ, List, length, take, arith}
+use Rattle.std.proofs.Common.{sym, subst, ap, ◌∙◌, ◌≡◌, ◌+◌, ◌*◌, ◌-◌, ◌≤◌, ℕ, List, length, take, arith}
 use Rattle.std.proofs.lemmas.Grind.{common_steps, elements}
 use Rattle.std.proofs.lemmas.List.{length-append, length-take-le}
 use Rattle.ion_meter.specs.Windows.{left, lent}
 use Rattle.ion_meter.proofs.Lent.{lent-take}
+use Rattle.ion_value.specs.Calls.{passed_over}
+use Rattle.ion_value.specs.Shares.{GrowsWithin}
+use Rattle.ion_value.proofs.GrowsWithin.{grows-then, passed-then}
 use Rattle.ion_value.proofs.Passing.{Passed, Passed-then, Passed-lent, take_on}
 use Rattle.ion_binary.proofs.body.gather.Goals as goal
 
@@ -38,6 +41,21 @@ loop-source-preserved g c =
       peak = let paid = length-take-le here octets there in grind (arith, common_steps, cost.held, cost.peak, inv.held, inv.peak, paid, long);
       rises = grind (arith, common_steps, cost.peak, inv.rises);
       refused = cost.refused ∙ inv.refused;
+      grows =
+          let s0 = c.args.source.now in
+          let m = c.loop-source.meter in
+          let paid = length-take-le here octets there in
+          let sum = passed-then g.I.Input s0 s t inv.passed.moves next.moves in
+          let place = next.place in
+          let within = next.stands.within in
+          let limit = next.moves.limit in
+          let over : here ≤ passed_over s t = omega (arith, place, within, limit) in
+          let own = inv.grows.own in
+          let held = cost.held in
+          let peak = cost.peak in
+          let put : GrowsWithin m c.extend.new.meter (length text) (length c.extend.new.self) here = record { own = omega (arith, long); peak = omega (arith, held, peak, paid) } in
+          grows-then c.args.meter.now m c.extend.new.meter (length c.args.text.now) (length text) (length c.extend.new.self) (16 * passed_over s0 s) here (16 * passed_over s0 t) inv.held inv.grows put
+          (omega (arith, sum)) (omega (arith, sum, over, own));
     }
 
 pub returns-in-Ok-None-clause-cut : goal.returns-in-Ok-None-clause-cut

@@ -1,5 +1,6 @@
 use Rattle.std.proofs.Common.{◌≡◌, ◌-◌, ◌*◌, ◌≤◌, length}
-use Rattle.ion_value.specs.Shares.{Charges}
+use Rattle.ion_value.specs.Calls.{passed_over}
+use Rattle.ion_value.specs.Shares.{Charges, GrowsWithin}
 use Rattle.ion_binary.specs.Reading.{ids_at}
 use Rattle.ion_meter.specs.Sources.{cursor, Stands, Moves}
 use Rattle.ion_binary.specs.Wrappers.{as_annotations}
@@ -13,6 +14,7 @@ invariant-loop-limits g l = record {
   steady : g.I.Input.failure_count l.source.device ≡ g.I.Input.failure_count l.fn.source.device;
   counted : l.meter.refused ≡ l.fn.meter.refused;
   charges : Charges l.fn.meter l.meter 0 (16 * length l.annotations) l.limits.scalar;
+  grows : GrowsWithin l.fn.meter l.meter 0 (16 * length l.annotations) (16 * passed_over l.fn.source l.source);
   taken : length l.annotations ≤ l.source.place;
   same : g.I.Input.observable l.fn.source.device
       → ids_at l.end l.limits l.end 0 (cursor g.I.Input l.fn.source)

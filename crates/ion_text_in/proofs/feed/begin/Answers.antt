@@ -73,3 +73,12 @@ returns-clause-moved g c =
     }) (p.ensures.cost pushed).refused)
     e.charges.share (charges-begin w a.limits a.end a.kinds.now left a.meter.now p.new.meter t.new.meter (w.own a.writer.now) (w.own t.new.self) (w.most a.writer.now) long few r.can.held r.can.share.share
     (p.ensures.cost pushed) e.charges)
+
+pub returns-clause-goes : goal.returns-clause-goes
+returns-clause-goes g c =
+    let a = c.args in
+    let added = ap (λ (l : List Kind). length l) (c.push_within.ensures.ok c.if-not-push_within.false) in
+    let long = length-append a.kinds.now (a.kind ∷ []) in
+    let behind = c.requires.found.fewer in
+    let before = (c.requires.start.onward (reverse a.kinds.now) c.requires.can.expects).fewer in
+    omega (arith, added, long, behind, before)

@@ -61,3 +61,19 @@ returns-in-None-clause-falls g c = λ more.
     let fewer = (m.ensures.onward a.limits (reverse a.kinds.now) 0 (sym c.innermost.ensures)).fewer in
     let less = c.value.ensures.falls more in
     omega (arith, fewer, less)
+
+pub returns-in-Some-clause-goes : goal.returns-in-Some-clause-goes
+returns-in-Some-clause-goes g c =
+    let a = c.args in
+    let m = c.to_member-member in
+    let fewer = (m.ensures.onward a.limits (reverse a.kinds.now) 0 (sym c.innermost.ensures)).fewer in
+    let goes = c.close.ensures.goes in
+    omega (arith, fewer, goes)
+
+pub returns-in-None-clause-goes : goal.returns-in-None-clause-goes
+returns-in-None-clause-goes g c =
+    let a = c.args in
+    let m = c.to_member-member in
+    let fewer = (m.ensures.onward a.limits (reverse a.kinds.now) 0 (sym c.innermost.ensures)).fewer in
+    let goes = c.value.ensures.goes in
+    omega (arith, fewer, goes)

@@ -5,6 +5,8 @@ use Rattle.ion_meter.specs.Windows.{left, lent}
 use Rattle.ion_meter.specs.Sources.{cursor}
 use Rattle.ion_meter.proofs.Lent.{lent-take}
 use Rattle.ion_value.proofs.Passing.{Passed, Passed-then, Passed-lent, lent-there}
+use Rattle.ion_value.proofs.Cursors.{moves-then}
+use Rattle.ion_value.proofs.GrowsWithin.{grows-on, grows-over}
 use Rattle.ion_text_in.specs.Runs.{goes_on, GoesOver}
 use Rattle.ion_text_in.proofs.RunEnds.{goes-then}
 use Rattle.ion_text_in.proofs.Gathered.{answers-over, run-over-limit, bytes-then, grown-there}
@@ -81,4 +83,10 @@ parts-preserved g c =
       peak = grind (arith, common_steps, charges.peak, charges.held, inv.held, inv.peak, inv.grown, c.requires.can_append.holds);
       rises = omega (arith, charges.rises, inv.rises);
       refused = added.reads.causes.counted (λ e. absurd (cc e)) ∙ inv.refused;
+      grows =
+          let s0 = c.args.source.now in
+          let m0 = c.args.meter.now in
+          let looked = grows-on g.I.Input s0 s p m0 c.parts.meter (length text0) (length text) inv.passed.moves part.reads.moves inv.grows in
+          let far = moves-then g.I.Input s0 s p inv.passed.moves part.reads.moves in
+          grows-over g.I.Input s0 p t m0 c.parts.meter c.append.new.meter (length text0) (length text) (length after) inv.held far added.reads.moves looked added.goes;
     }

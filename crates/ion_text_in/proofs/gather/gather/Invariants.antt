@@ -1,5 +1,7 @@
-use Rattle.std.proofs.Common.{◌≡◌, ◌+◌, ◌-◌, ◌≤◌, ◌++◌, length, take, max}
+use Rattle.std.proofs.Common.{◌≡◌, ◌+◌, ◌*◌, ◌-◌, ◌≤◌, ◌++◌, length, take, max}
 use Rattle.ion_meter.specs.Windows.{left}
+use Rattle.ion_value.specs.Calls.{passed_over}
+use Rattle.ion_value.specs.Shares.{GrowsWithin}
 use Rattle.ion_value.proofs.Passing.{Passed}
 use Rattle.ion_text_in.specs.Runs.{goes_on, GoesOver}
 use Rattle.ion_text_in.proofs.gather.gather.Given as goal
@@ -16,6 +18,7 @@ invariant-parts g l = record {
   peak : l.meter.peak ≤ max l.fn.meter.peak (l.fn.meter.held - length l.fn.text + l.fn.limits.scalar);
   rises : l.fn.meter.peak ≤ l.meter.peak;
   refused : l.meter.refused ≡ l.fn.meter.refused;
+  grows : GrowsWithin l.fn.meter l.meter (length l.fn.text) (length l.text) (8 * passed_over l.fn.source l.source);
 }
 
 abbrev pub decreases-parts : goal.decreases-parts

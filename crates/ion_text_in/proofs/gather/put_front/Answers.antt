@@ -1,5 +1,5 @@
 use Rattle.std.proofs.Common.{◌≡◌, ◌+◌, ◌≤◌, ◌++◌, ℕ, List, length, take, ap, ◌∙◌, arith}
-use Rattle.std.proofs.lemmas.List.{length-append, length-take-le, take-take}
+use Rattle.std.proofs.lemmas.List.{length-append, length-take, length-take-le, take-take}
 use Rattle.std.proofs.Math.Seq.{take-append-add}
 use Rattle.ion_text_in.proofs.gather.put_front.Goals as goal
 
@@ -51,4 +51,19 @@ returns-then-len-limits-clause-grown g c =
       no_reads = λ e. cc e;
       no_writes = λ e. cc e;
       no_limit = λ e. cc e;
+    }
+
+pub returns-then-len-limits-clause-goes : goal.returns-then-len-limits-clause-goes
+returns-then-len-limits-clause-goes g c =
+    let block = length-take-le 32 c.args.bytes.now c.if-bytes-ge-BLOCK.true in
+    let held = c.in_default.ensures.cost.held in
+    let peak = c.in_default.ensures.cost.peak in
+    let cut = c.truncate.ensures.cost.peak in
+    let short = c.truncate.ensures.cost.held in
+    let len = ap (λ (l : List ℕ). length l) c.as_slice-len.ensures in
+    let kept = ap (λ (l : List ℕ). length l) c.truncate.ensures.bytes in
+    let most = length-take (length c.as_slice-len.result.now + c.args.count) c.extend.new.self in
+    record {
+      own = omega (arith, len, kept, most);
+      peak = omega (arith, held, peak, cut, short, block);
     }

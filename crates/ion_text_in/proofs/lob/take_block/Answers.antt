@@ -6,6 +6,7 @@ use Rattle.ion_meter.specs.Windows.{left}
 use Rattle.ion_meter.specs.Sources.{cursor}
 use Rattle.ion_text_in.specs.Limit.{passes}
 use Rattle.ion_text_in.specs.Lobs.{with_groups_behind, is_padded}
+use Rattle.ion_text_in.proofs.Blobs.{length-encode_of}
 use Rattle.ion_text_in.proofs.LobTurns.{block-of}
 use Rattle.ion_text_in.proofs.Turns.{turn, turn-then, extends-not}
 use Rattle.ion_text_in.proofs.lob.take_block.Goals as goal
@@ -36,3 +37,14 @@ consume-requires g c = grind (arith, common_steps)
 
 pub returns-clause-reads : goal.returns-clause-reads
 returns-clause-reads g c = grind (arith, common_steps)
+
+pub returns-clause-goes : goal.returns-clause-goes
+returns-clause-goes g c =
+    let n = c.in-Some.n in
+    let d = c.in-Some.ensures in
+    let fits : c.args.count ≤ length c.buffer.result.now = subst (λ (l : List ℕ). c.args.count ≤ length l) (sym c.buffer.ensures) c.requires.there in
+    let chars = length-take-le c.args.count c.buffer.result.now fits in
+    let long = length-take-le n c.decode.new.room d.within in
+    let spelled = ap (λ (l : List ℕ). length l) d.some ∙ length-encode_of (take n c.decode.new.room) in
+    let few : n ≤ c.args.count = omega (arith, chars, long, spelled) in
+    grind (arith, common_steps)

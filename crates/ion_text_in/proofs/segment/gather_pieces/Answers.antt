@@ -11,6 +11,7 @@ use Rattle.ion_text_in.specs.Pieces.{piece_of, bytes_of_piece, taken_of, TakesSo
 use Rattle.ion_text_in.specs.Gathered.{onward}
 use Rattle.ion_text_in.proofs.Quotes.{quote_of-is}
 use Rattle.ion_text_in.proofs.Gathering.{onward-close, onward-cut, onward-illegal, onward-char, onward-char_over, answers-over, is-char_else, IsChar}
+use Rattle.ion_value.proofs.GrowsWithin.{grows-over, grows-behind}
 use Rattle.ion_text_in.proofs.Holding.{held-then, into-held, reads-held, grown-held, held-can}
 use Rattle.ion_text_in.proofs.segment.gather_pieces.Goals as goal
 
@@ -113,6 +114,15 @@ pieces-preserved g c =
     let grown = grown-held device u c.take_plain.new.meter c.put_piece.new.meter (length c.take_plain.new.text) (length c.put_piece.new.text) most None c.in-Ok.ensures.reads.stands c.in_default-put_piece.ensures.grown in
     record {
       held = held-then device c.args.source.now u u c.args.meter.now c.take_plain.new.meter c.put_piece.new.meter (length c.args.text.now) (length c.take_plain.new.text) (length c.put_piece.new.text) most None holds three grown;
+      grows =
+          let first = c.args.source.now in
+          let earlier = c.args.meter.now in
+          let inv = c.pieces.invariant in
+          let some = takes-one c.in-Ok.piece char c.in-Ok.ensures.some in
+          let one = falls t.limit t.place t.place u.place (taken_of c.in-Ok.piece) t.limit u.limit refl c.in-Ok.ensures.reads.moves.limit (omega arith) c.in-Ok.ensures.place some c.in-Ok.ensures.reads.stands.within in
+          let goes = grows-over device first s t earlier c.pieces.meter c.take_plain.new.meter (length c.args.text.now) (length c.pieces.text) (length c.take_plain.new.text) inv.held.charges.held inv.held.moves c.in_default.ensures.reads.moves inv.grows c.in_default.ensures.goes in
+          grows-behind device first t u earlier c.take_plain.new.meter c.put_piece.new.meter (length c.args.text.now) (length c.take_plain.new.text) (length c.put_piece.new.text) 4 two.charges.held two.moves c.in-Ok.ensures.reads.moves
+          (omega (arith, one)) (omega arith) goes c.in_default-put_piece.ensures.goes;
       longer =
           let puts = c.in_default-put_piece.ensures.puts in
           let before = c.pieces.invariant.longer in

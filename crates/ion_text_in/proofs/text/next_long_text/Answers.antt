@@ -7,6 +7,7 @@ use Rattle.ion_text_in.specs.Gathered.{with_segment, passed}
 use Rattle.ion_text_in.proofs.Quotes.{quote_of-is}
 use Rattle.ion_text_in.proofs.Gathering.{overruns-refused}
 use Rattle.ion_text_in.proofs.SegmentTexts.{behind_text, long-err, long-ends, long-goes, next-cut, next-none, next-some}
+use Rattle.ion_value.proofs.GrowsWithin.{grows-on, grows-over}
 use Rattle.ion_text_in.proofs.Holding.{held-then, into-held, reads-held, held-can, read-can}
 use Rattle.ion_text_in.proofs.text.next_long_text.Goals as goal
 
@@ -75,6 +76,12 @@ segments-preserved g c =
     let quotes = reads-held device u v m all most (Ok c.in-Ok-true.field-0) next.grows.share next.grows.holds c.in-Ok-true.ensures.reads in
     record {
       held = held-then device first u v c.args.meter.now m m before all all most None can.grows.holds three quotes;
+      grows =
+          let earlier = c.args.meter.now in
+          let moves = c.in_default.ensures.reads.moves in
+          let goes = grows-over device first s t earlier c.segments.meter m before (length c.segments.text) all c.segments.invariant.held.charges.held c.segments.invariant.held.moves moves c.segments.invariant.grows c.in_default.ensures.goes in
+          let behind = grows-on device first t u earlier m before all two.moves c.in-Ok-None.ensures.reads.moves goes in
+          grows-on device first u v earlier m before all three.moves c.in-Ok-true.ensures.reads.moves behind;
       same = λ h.
           let hs = c.segments.invariant.held.moves.still_observable.1 h in
           let ht = c.in_default.ensures.reads.moves.still_observable.1 hs in

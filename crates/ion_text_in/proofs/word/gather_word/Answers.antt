@@ -1,9 +1,10 @@
-use Rattle.std.proofs.Common.{◌∙◌, ap, sym, Some, Ok, List, ℕ}
+use Rattle.std.proofs.Common.{◌∙◌, ap, sym, Some, Ok, List, ℕ, arith}
 use Rattle.ion_meter.specs.Sources.{cursor}
 use Rattle.ion_value.proofs.Cursors.{answers-refused}
 use Rattle.ion_text_in.specs.Token.{word_of, word_token}
 use Rattle.ion_text_in.specs.Views.{word_token_of}
 use Rattle.ion_text_in.proofs.ShownTokens.{word-by, gathered-token, gathered-bad, gathered-refused}
+use Rattle.ion_text_in.proofs.Prepaid.{prepaid_word-most}
 use Rattle.ion_text_in.proofs.word.gather_word.Goals as goal
 
 pub returns-in-Err-clause-gives : goal.returns-in-Err-clause-gives
@@ -31,3 +32,9 @@ returns-in-Err-word_by-clause-gives g c = λ h.
           (ap word_token (sym c.as_slice.ensures) ∙ c.in-Err-word_by.ensures),
       c.place-place.ensures,
     )
+
+pub returns-in-Ok-clause-fresh : goal.returns-in-Ok-clause-fresh
+returns-in-Ok-clause-fresh g c =
+    let most = prepaid_word-most c.gather_typed.new.text c.in-Ok.word in
+    let fresh = c.in_default.ensures.fresh in
+    omega (arith, most, fresh)

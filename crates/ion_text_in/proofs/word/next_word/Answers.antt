@@ -1,4 +1,4 @@
-use Rattle.std.proofs.Common.{◌∙◌, ap, sym, Some, Ok, List, ℕ, [], take, subst}
+use Rattle.std.proofs.Common.{◌∙◌, ap, sym, Some, Ok, List, ℕ, [], take, subst, arith}
 use Rattle.ion_meter.specs.Windows.{lent}
 use Rattle.ion_meter.specs.Sources.{cursor}
 use Rattle.ion_text_in.specs.declared.scanned.Scanned.TheVariants as scanned
@@ -9,6 +9,7 @@ use Rattle.ion_text_in.specs.Views.{word_token_of}
 use Rattle.ion_text_in.proofs.Shown.{shown-whole, shown-fault}
 use Rattle.ion_text_in.proofs.TypedWords.{no_text}
 use Rattle.ion_text_in.proofs.ShownFurther.{shown-further}
+use Rattle.ion_text_in.proofs.Prepaid.{prepaid_word-none}
 use Rattle.ion_text_in.proofs.word.next_word.Goals as goal
 
 pub returns-in-Ok-clause-gives : goal.returns-in-Ok-clause-gives
@@ -56,3 +57,8 @@ returns-in_default-clause-further g c = λ some.
     let reading = token_of (Some c.args.limits.scalar) a_word in
     let shows = subst (λ (l : List ℕ). Shows (word_token_of (take n l)) l (scanned.Whole w n) reading) c.buffer.ensures c.in-Whole.ensures.shows in
     shown-further (word_token_of (take n (lent s))) s c.consume.new.self w n (Some c.args.limits.scalar) a_word shows some c.consume.ensures
+
+pub returns-in_default-clause-fresh : goal.returns-in_default-clause-fresh
+returns-in_default-clause-fresh g c =
+    let none = prepaid_word-none c.args.text.now c.in-Whole.word c.in_default.not-Name in
+    omega (arith, none)

@@ -1,4 +1,4 @@
-use Rattle.std.proofs.Common.{◌≡◌, ℕ, ◌+◌, ◌<◌, ◌≤◌, ◌↔◌, length, refl, ap, sym, subst, ◌∙◌, arith}
+use Rattle.std.proofs.Common.{◌≡◌, ℕ, ◌+◌, ◌*◌, ◌-◌, ◌<◌, ◌≤◌, ◌↔◌, length, refl, ap, sym, subst, ◌∙◌, arith}
 use Rattle.ion_meter.specs.Sources.{BytesAreLeft, Exceeds}
 use Rattle.ion_meter.specs.Windows.{left}
 use Rattle.ion_meter.specs.declared.limits.Limits.{Limits}
@@ -35,6 +35,7 @@ items-init g c =
       feeds = nothing;
       takes = c.requires.writer;
       stays = record { sound = c.requires.writer.sound; failed = refl; limits = refl; most = refl; device = refl; fault = refl; refused = refl };
+      goes = omega arith;
       falls = omega arith;
       charges = charges-none c.args.meter.now 0 (held_by r) (w.own c.args.writer.now) (share_of r) (w.most c.args.writer.now) reader.share writer.share c.requires.held;
     }
@@ -96,6 +97,12 @@ items-preserved g c =
       takes = takes-more w see (input.observable r.source.device) old new c.items.self.limits.depth c.hand.new.self.limits.depth c.items.sink c.hand.new.sink c.items.meter c.hand.new.meter i.takes one k.writer
           (ap (λ (l : Limits). l.depth) k.limits);
       stays = stays-then w i.stays k.writer;
+      goes =
+          let before = i.goes in
+          let less = i.falls in
+          let one = c.hand.ensures.goes in
+          let fall = h.falls in
+          omega (arith, before, less, one, fall);
       falls = falls-more (opened_in c.hand.new.self) c.items.values c.values_behind-values.result (left_to c.items.self) (left_to c.hand.new.self) (left_to r) i.falls counts h.falls;
       charges = charges-then c.args.meter.now c.items.meter c.hand.new.meter (held_by r + w.own c.args.writer.now) (held_by c.items.self + w.own c.items.writer)
           (held_by c.hand.new.self + w.own c.hand.new.writer) (share_of r + w.most c.args.writer.now) c.requires.held i.charges
@@ -143,6 +150,11 @@ pub returns-clause-falls : goal.returns-clause-falls
 returns-clause-falls g c =
     let n = c.hand.ensures.nothing c.items-test.false in
     subst (λ s. c.items.values + left_to s ≤ left_to c.args.self.now) (sym n.reader) c.items.invariant.falls
+
+pub returns-clause-goes : goal.returns-clause-goes
+returns-clause-goes g c =
+    let n = c.hand.ensures.nothing c.items-test.false in
+    subst (λ s. held_by s ≤ held_by c.args.self.now + 16 * (left_to c.args.self.now - left_to s)) (sym n.reader) c.items.invariant.goes
 
 pub returns-clause-same : goal.returns-clause-same
 returns-clause-same g c =

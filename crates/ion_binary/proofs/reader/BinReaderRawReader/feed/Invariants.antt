@@ -1,4 +1,4 @@
-use Rattle.std.proofs.Common.{◌≡◌, ℕ, ◌+◌, ◌≤◌, length}
+use Rattle.std.proofs.Common.{◌≡◌, ℕ, ◌+◌, ◌*◌, ◌-◌, ◌≤◌, length}
 use Rattle.ion_meter.specs.Sources.{BytesAreLeft, Stands}
 use Rattle.ion_meter.specs.Windows.{left}
 use Rattle.ion_value.specs.Feeding.{CanTake, Feeds, StaysWell}
@@ -26,6 +26,7 @@ invariant-items g l =
       feeds : Feeds w (named_item (g.N.Names.text l.names)) (input.observable l.fn.self.source.device) (joint input l.fn.self l.fn.writer l.fn.sink 0) (joint input l.self l.writer l.sink l.values);
       takes : CanTake w l.self.limits.depth (opened_in l.self) l.writer l.sink;
       stays : StaysWell w l.fn.writer l.writer l.fn.sink l.sink l.fn.meter l.meter;
+      goes : held_by l.self ≤ held_by l.fn.self + 16 * (left_to l.fn.self - left_to l.self);
       falls : l.values + left_to l.self ≤ left_to l.fn.self;
       charges : Charges l.fn.meter l.meter (held_by l.fn.self + w.own l.fn.writer) (held_by l.self + w.own l.writer) (share_of l.fn.self + w.most l.fn.writer);
     }

@@ -1,6 +1,9 @@
-use Rattle.std.proofs.Common.{◌∙◌, Option, ℕ, refl, ap, arith}
+use Rattle.std.proofs.Common.{◌∙◌, Option, ℕ, refl, ap, sym, subst, arith}
 use Rattle.ion_meter.specs.declared.fault.Reason.TheVariants.{Truncated}
-use Rattle.ion_text_in.specs.Steps.{later, state_behind, unless_unfinished}
+use Rattle.ion_value.specs.Shares.{GoesWithReading}
+use Rattle.ion_value.proofs.GrowsWithin.{goes-then}
+use Rattle.ion_text_in.specs.declared.reader.TextReader.{TextReader}
+use Rattle.ion_text_in.specs.Steps.{held_by, left_to, later, state_behind, unless_unfinished}
 use Rattle.ion_meter.specs.Sources.{cursor}
 use Rattle.ion_text_in.proofs.ReaderSteps.{ended-gives, failed-refuses, item-gives, passed-gives, stopped-same}
 use Rattle.ion_text_in.proofs.ReaderCalls.{begins-inside, can-loop, ended-ready, item-ready, passed-ready, reached-passed, reached-then, stepped-behind, stepped-ended, stepped-failed, stepped-item, stepped-unfinished}
@@ -18,7 +21,17 @@ returns-in-Some-clause-stepped g c = stepped-unfinished g.I.Input c.args.self.no
 pub loop-fault-init : goal.loop-fault-init
 loop-fault-init g c =
     let begins = begins-inside g.I.Input c.args.self.now c.forget.new.self c.args.meter.now c.forget.new.meter c.forget.ensures.cleared c.requires.can_advance.sized c.requires.can_advance.ready c.requires.can_advance.held c.in-None.is c.forget.ensures.cost in
-    record { reached = begins.0; inside = begins.1.0; less = begins.1.1.0; same = λ h. begins.1.1.1 }
+    record {
+      reached = begins.0;
+      inside = begins.1.0;
+      grows =
+          let r = c.args.self.now in
+          let peak = c.forget.ensures.cost.peak in
+          subst (λ (x : TextReader g.row.I.Denot g.row.A.Denot). GoesWithReading c.args.meter.now c.forget.new.meter (held_by r) (held_by x) (left_to r) (left_to x)) (sym c.forget.ensures.cleared)
+          (record { own = omega arith; peak = omega (arith, peak) });
+      less = begins.1.1.0;
+      same = λ h. begins.1.1.1;
+    }
 
 pub step-requires : goal.step-requires
 step-requires g c =
@@ -84,6 +97,30 @@ loop-fault-preserved g c =
           reached-then g.I.Input c.args.self.now c.loop-fault.self c.step.new.self c.args.meter.now c.loop-fault.meter c.step.new.meter c.requires.can_advance.held inv.reached
           (reached-passed g.I.Input c.loop-fault.self c.step.new.self c.loop-fault.meter c.step.new.meter c.in-Ok-Passed.field-0 passed e.stepped);
       inside = passed-ready g.I.Input c.step.new.self c.in-Ok-Passed.field-0 passed e.ready;
+      grows =
+          goes-then g.I.Input c.args.self.now.source c.loop-fault.self.source c.step.new.self.source c.args.meter.now c.loop-fault.meter c.step.new.meter (held_by c.args.self.now)
+          (held_by c.loop-fault.self) (held_by c.step.new.self) inv.reached.held.charges.held inv.reached.held.moves e.stepped.reads.moves inv.grows e.goes;
       less = omega (arith, less, falls);
       same = λ h. inv.same h ∙ passed-gives g.I.Input _ c.step.new.self c.in-Ok-Passed.field-0 passed (e.gives (inv.reached.held.moves.still_observable.1 h));
     }
+
+pub returns-in-Err-clause-goes : goal.returns-in-Err-clause-goes
+returns-in-Err-clause-goes g c =
+    let inv = c.loop-fault.invariant in
+    let e = c.in-Err.ensures in
+    goes-then g.I.Input c.args.self.now.source c.loop-fault.self.source c.step.new.self.source c.args.meter.now c.loop-fault.meter c.step.new.meter (held_by c.args.self.now)
+    (held_by c.loop-fault.self) (held_by c.step.new.self) inv.reached.held.charges.held inv.reached.held.moves e.stepped.reads.moves inv.grows e.goes
+
+pub returns-in-Ok-Ended-clause-goes : goal.returns-in-Ok-Ended-clause-goes
+returns-in-Ok-Ended-clause-goes g c =
+    let inv = c.loop-fault.invariant in
+    let e = c.in-Ok-Ended.ensures in
+    goes-then g.I.Input c.args.self.now.source c.loop-fault.self.source c.step.new.self.source c.args.meter.now c.loop-fault.meter c.step.new.meter (held_by c.args.self.now)
+    (held_by c.loop-fault.self) (held_by c.step.new.self) inv.reached.held.charges.held inv.reached.held.moves e.stepped.reads.moves inv.grows e.goes
+
+pub returns-in-Ok-Item-clause-goes : goal.returns-in-Ok-Item-clause-goes
+returns-in-Ok-Item-clause-goes g c =
+    let inv = c.loop-fault.invariant in
+    let e = c.in-Ok-Item.ensures in
+    goes-then g.I.Input c.args.self.now.source c.loop-fault.self.source c.step.new.self.source c.args.meter.now c.loop-fault.meter c.step.new.meter (held_by c.args.self.now)
+    (held_by c.loop-fault.self) (held_by c.step.new.self) inv.reached.held.charges.held inv.reached.held.moves e.stepped.reads.moves inv.grows e.goes

@@ -67,12 +67,12 @@ pub closed-few : (n : ℕ) (hs : List HeaderPlace) → n + 6 * length hs < 2 ^ 3
 closed-few n hs small = let r = missing-few n 0 hs (omega (arith, small)) in omega (arith, r)
 
 -- a header goes in, and is counted no more
-record IsPut (limits : Limits) (ns octets : List ℕ) (hs : List HeaderPlace) : Type 0 where
-  placed : ArePlaced (length octets) hs
-  reached : AreReached ns (length octets) hs
-  fits : size_of octets hs ≤ limits.value
+pub record IsPut (limits : Limits) (ns octets : List ℕ) (hs : List HeaderPlace) : Type 0 where
+  pub placed : ArePlaced (length octets) hs
+  pub reached : AreReached ns (length octets) hs
+  pub fits : size_of octets hs ≤ limits.value
 
-is-put : (limits : Limits) (ns octets : List ℕ) (h : HeaderPlace) (hs : List HeaderPlace) → AreChecked limits
+pub is-put : (limits : Limits) (ns octets : List ℕ) (h : HeaderPlace) (hs : List HeaderPlace) → AreChecked limits
     → ArePlaced (length octets) (h ∷ hs) → AreReached ns (length octets) (h ∷ hs) → size_of octets (h ∷ hs) ≤ limits.value
     → IsPut limits (cut (length hs) ns) (headed_at h octets) hs
 is-put limits ns octets h hs checked p r fits =

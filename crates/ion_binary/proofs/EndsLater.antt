@@ -10,15 +10,14 @@ use Rattle.ion_meter.specs.declared.limits.Limits.{Limits}
 use Rattle.ion_value.specs.Value as value
 use Rattle.ion_value.specs.Value.{PlacedItem, user_item}
 use Rattle.ion_symbols.specs.Output.{texts_cost}
-use Rattle.ion_binary.specs.declared.headers.HeaderPlace.{HeaderPlace}
 use Rattle.ion_binary.specs.declared.open_value.OpenValue.{OpenValue}
 use Rattle.ion_binary.specs.declared.writer.BinWriter.{BinWriter}
 use Rattle.ion_binary.specs.Held.{Held, MayCome, closed_in, closed_run, headers_around, held_forgotten, held_of, size_of, value_held, value_put}
 use Rattle.ion_binary.specs.Opening.{IsOpen, Stepped, open_cost}
-use Rattle.ion_binary.specs.Writer.{CanTake, ComesAt, Follows, Holds, PutsOctets, Taken, added, adds_at, held_closed, held_in, item_refusal}
+use Rattle.ion_binary.specs.Writer.{CanTake, ComesAt, Follows, Holds, PutsOctets, Taken, added, adds_at, held_closed, held_in}
 use Rattle.ion_binary.specs.Writing.{Written, after, first_over, item_puts, item_symbols, refused_at, unless_refused}
 use Rattle.ion_binary.proofs.EndedRuns.{run-size}
-use Rattle.ion_binary.proofs.PlainAdded.{ended-added, ended-bare, ended-known, have-allowed, held-inside, put-inside}
+use Rattle.ion_binary.proofs.PlainAdded.{ended-added, ended-bare, ended-known, have-allowed, held-inside}
 use Rattle.ion_binary.proofs.WriterFollows.{codes-after, forgotten-is, held-behind, held-now, may-add, put-behind, refusal-is}
 use Rattle.ion_binary.proofs.WriterSteps.{kept, not-refused, puts-nothing}
 

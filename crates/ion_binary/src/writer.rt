@@ -6,7 +6,7 @@ ghost use Rattle.ion_meter.specs.Sinks.{IsPut};
 ghost use Rattle.ion_meter.specs.declared.fault.Fault.{Fault};
 ghost use Rattle.ion_meter.specs.declared.fault.Fault.TheVariants.{Memory, Refused, WriteFault};
 ghost use Rattle.ion_meter.specs.declared.fault.Reason.{Reason};
-ghost use Rattle.ion_value.specs.Items.{item_of};
+ghost use Rattle.ion_value.specs.Items.{item_of, raw_head};
 ghost use Rattle.ion_value.specs.Shares.{WriteCauses, fault_of};
 ghost use Rattle.ion_value.specs.Value.{end};
 ghost use Rattle.ion_binary.specs.Canonical.{is_over, marker_if};
@@ -120,9 +120,15 @@ impl<A: Allocator + Copy> BinWriter<A> {
         }
     }
 
-    // Adds an item to the open value.
-    fn add<N: Names>(&mut self, meter: &mut Meter<A>, item: &Item<'_, N>) -> Result<(), Fault>
+    // Adds an item of this head to the open value.
+    fn add<N: Names>(
+        &mut self,
+        meter: &mut Meter<A>,
+        item: &Item<'_, N>,
+        head: Head<'_>,
+    ) -> Result<(), Fault>
         requires can_take { CanTake self.old meter.old }
+        requires head { raw_head head ≡ (item_of N.text item.now).head }
         requires comes { MayCome self.old.limits self.old.open_value (item_of N.text item.now) }
         ensures held { OnOk result
             (held_in self.new ≡ added (held_in self.old) (item_of N.text item.now)) }
@@ -136,7 +142,6 @@ impl<A: Allocator + Copy> BinWriter<A> {
         ensures ended { self.new.ended ≡ self.old.ended }
         ensures taken { Taken self.old self.new meter.old meter.new (fault_of result) }
     {
-        let head = item.head();
         let front = match put_front(
             &mut self.symbols,
             &mut self.open_value.octets,
@@ -210,23 +215,20 @@ impl<A: Allocator + Copy> BinWriter<A> {
         Ok(())
     }
 
-    // Whether an item is an end that should wait: others do, or it has so much to be moved for its
-    // header that it should move once with theirs.
+    // Whether a head is an end that should wait: others do, or so much has to be moved for its header
+    // that it should move once with theirs.
     #[inline(always)]
-    fn may_wait<N: Names>(&self, item: &Item<'_, N>) -> bool
-        ensures { result ≡ true → (item_of N.text item.now).head ≡ end }
+    fn may_wait(&self, head: Head<'_>) -> bool
+        ensures { result ≡ true → raw_head head.entry ≡ end }
     {
+        if !matches!(head, Head::End) {
+            return false;
+        }
         let Some(innermost) = self.open_value.headers.innermost() else {
             return false;
         };
         let octets = self.open_value.octets.as_slice().len();
-        if self.ended == 0 && octets.saturating_sub(innermost.place as usize) < LONG {
-            return false;
-        }
-        match item.head() {
-            Head::End => true,
-            _ => false,
-        }
+        self.ended > 0 || octets.saturating_sub(innermost.place as usize) >= LONG
     }
 
     // Lets the end of a container wait that stands in another. False where it stands in none.
@@ -302,7 +304,8 @@ impl<A: Allocator + Copy> BinWriter<A> {
             (O.failure_count sink.old.device) (O.failure_count sink.new.device) }
         ensures taken { Taken self.old self.new meter.old meter.new (fault_of result) }
     {
-        if self.may_wait(item) {
+        let head = item.head();
+        if self.may_wait(head) {
             if self.end_later() {
                 return Ok(());
             }
@@ -310,18 +313,20 @@ impl<A: Allocator + Copy> BinWriter<A> {
         if let Err(fault) = self.put_ended(meter) {
             return Err(fault);
         }
-        self.take(meter, sink, item)
+        self.take(meter, sink, item, head)
     }
 
-    // Takes an item behind which no end waits, and puts the value where it is whole.
+    // Takes an item of this head before which no end waits, and puts the value where it is whole.
     fn take<O: Output, N: Names>(
         &mut self,
         meter: &mut Meter<A>,
         sink: &mut Sink<O, A>,
         item: &Item<'_, N>,
+        head: Head<'_>,
     ) -> Result<(), Fault>
         requires can_take { CanTake self.old meter.old }
         requires none { self.old.ended ≡ 0 }
+        requires head { raw_head head ≡ (item_of N.text item.now).head }
         requires comes { (s : Written) × ComesAt self.old s (item_of N.text item.now) }
         ensures follows { (s : Written) → ComesAt self.old s (item_of N.text item.now)
             → Follows self.old self.new s (item_of N.text item.now) result }
@@ -334,7 +339,7 @@ impl<A: Allocator + Copy> BinWriter<A> {
         ensures taken { Taken self.old self.new meter.old meter.new (fault_of result) }
     {
         self.forget(meter);
-        if let Err(fault) = self.add(meter, item) {
+        if let Err(fault) = self.add(meter, item, head) {
             return Err(fault);
         }
         self.put_out(meter, sink)

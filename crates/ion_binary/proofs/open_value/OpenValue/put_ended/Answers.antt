@@ -1,7 +1,7 @@
-use Rattle.std.proofs.Common.{◌≡◌, ℕ, ◌+◌, ◌-◌, ◌*◌, ◌≤◌, List, drop, length, map, replicate, take, ap, sym, ◌∙◌, arith, take_at}
+use Rattle.std.proofs.Common.{◌≡◌, ℕ, ◌-◌, ◌*◌, List, drop, length, replicate, take, ap, sym, ◌∙◌, arith, take_at}
 use Rattle.std.proofs.lemmas.List.{length-drop}
 use Rattle.ion_binary.specs.declared.headers.HeaderPlace.{HeaderPlace}
-use Rattle.ion_binary.specs.Counting.{cut, place_of_header}
+use Rattle.ion_binary.specs.Counting.{cut}
 use Rattle.ion_binary.specs.Held.{closed_run}
 use Rattle.ion_binary.specs.Opening.{IsOpen, open_cost, open_most}
 use Rattle.ion_binary.proofs.EndedRuns.{gap-length, run-length, run-open}

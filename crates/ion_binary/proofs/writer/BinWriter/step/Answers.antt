@@ -1,4 +1,4 @@
-use Rattle.std.proofs.Common.{◌≡◌, ℕ, List, drop, Ok, refl, sym, subst}
+use Rattle.std.proofs.Common.{◌≡◌, Ok, refl, sym, subst, ◌∙◌}
 use Rattle.ion_value.specs.Items.{item_of}
 use Rattle.ion_value.specs.Value as value
 use Rattle.ion_value.specs.Value.{PlacedItem}
@@ -13,7 +13,7 @@ pub returns-then-end_later-clause-follows : goal.returns-then-end_later-clause-f
 returns-then-end_later-clause-follows g c s comes =
     let w = c.args.self.now in
     let item : PlacedItem = item_of g.N.Names.text c.args.item.now in
-    let head : item.head ≡ value.end = c.if-may_wait.ensures refl in
+    let head : item.head ≡ value.end = sym c.head-head.ensures ∙ c.if-may_wait.ensures refl in
     let e = c.if-end_later.ensures in
     let O : BinWriter g.row.A.Denot → Type 0 = λ x. (held_closed x).octets ≡ closed_in (held_closed w).octets (held_closed w).headers in
     let H : BinWriter g.row.A.Denot → Type 0 = λ x. (held_closed x).headers ≡ headers_around (held_closed w).headers in
@@ -24,7 +24,7 @@ pub returns-then-end_later-clause-puts : goal.returns-then-end_later-clause-puts
 returns-then-end_later-clause-puts g c s comes =
     let w = c.args.self.now in
     let item : PlacedItem = item_of g.N.Names.text c.args.item.now in
-    let head : item.head ≡ value.end = c.if-may_wait.ensures refl in
+    let head : item.head ≡ value.end = sym c.head-head.ensures ∙ c.if-may_wait.ensures refl in
     let e = c.if-end_later.ensures in
     let O : BinWriter g.row.A.Denot → Type 0 = λ x. (held_closed x).octets ≡ closed_in (held_closed w).octets (held_closed w).headers in
     let H : BinWriter g.row.A.Denot → Type 0 = λ x. (held_closed x).headers ≡ headers_around (held_closed w).headers in

@@ -33,6 +33,7 @@ mod WithinLimits
 mod PlacedHeaders
 mod CountedHeaders
 mod OpenSteps
+mod EndedRuns
 mod WriterSteps
 mod WriterFollows
 mod ShortestHeaders
@@ -59,3 +60,4 @@ mod ShownParts
 mod Handing
 mod Feeding
 mod PlainAdded
+mod EndsLater

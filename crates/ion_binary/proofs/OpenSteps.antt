@@ -1,9 +1,9 @@
 -- The headers that are missing stay right as one goes in, and as containers begin and values come.
-use Rattle.std.proofs.Common.{◌≡◌, ◌≢◌, false, nat_eq, reverse, ℕ, suc, ◌+◌, ◌-◌, ◌*◌, ◌^◌, ◌<◌, ◌≤◌, inl, inr, Bool, if◌then◌else◌, List, [], ◌∷◌, ◌++◌, length, map, take, drop, get_or, Option, Some, None, refl, ap, sym, subst, ◌∙◌, arith, append_assoc, length-append, ne_eqb, suc-mul, lit<}
+use Rattle.std.proofs.Common.{◌≡◌, ℕ, suc, ◌+◌, ◌-◌, ◌*◌, ◌^◌, ◌<◌, ◌≤◌, inl, inr, Bool, if◌then◌else◌, List, [], ◌∷◌, ◌++◌, length, map, take, drop, get_or, Option, Some, None, refl, ap, sym, subst, ◌∙◌, arith, append_assoc, length-append, ne_eqb, suc-mul, lit<}
 use Rattle.std.specs.Prelude.{MatchOption}
 use Rattle.std.specs.List.{AllByRecursion}
 use Rattle.std.proofs.lemmas.Bool.{cases_lt}
-use Rattle.std.proofs.lemmas.List.{length-take-le, length-drop, length-reverse, get_or-reverse}
+use Rattle.std.proofs.lemmas.List.{length-take-le, length-drop}
 use Rattle.ion_meter.specs.Counts.{Counts, Grows, Shrinks}
 use Rattle.ion_meter.specs.Limits.{AreChecked}
 use Rattle.ion_meter.specs.declared.limits.Limits.{Limits}
@@ -16,7 +16,7 @@ use Rattle.ion_binary.specs.declared.headers.HeaderPlace.{HeaderPlace}
 use Rattle.ion_binary.specs.declared.open_value.OpenValue.{OpenValue}
 use Rattle.ion_binary.specs.Canonical.{header, headed, wrapped}
 use Rattle.ion_binary.specs.Counting.{ArePlaced, AreReached, IsCounted, beyond, counted_length, cut, place_of_header}
-use Rattle.ion_binary.specs.Held.{begun_at, closed_in, counted_ids, headed_at, header_at, headers_around, size_of, whole_at, wrapper_headers}
+use Rattle.ion_binary.specs.Held.{begun_at, counted_ids, headed_at, header_at, size_of, whole_at, wrapper_headers}
 use Rattle.ion_binary.specs.ItemOctets.{opening}
 use Rattle.ion_binary.specs.Opening.{CanStep, IsOpen, IsOpenTo, Stepped, wrapper_octets}
 use Rattle.ion_binary.specs.Places.{closed_length, header_size, missing}
@@ -67,12 +67,12 @@ pub closed-few : (n : ℕ) (hs : List HeaderPlace) → n + 6 * length hs < 2 ^ 3
 closed-few n hs small = let r = missing-few n 0 hs (omega (arith, small)) in omega (arith, r)
 
 -- a header goes in, and is counted no more
-record IsPut (limits : Limits) (ns octets : List ℕ) (hs : List HeaderPlace) : Type 0 where
-  placed : ArePlaced (length octets) hs
-  reached : AreReached ns (length octets) hs
-  fits : size_of octets hs ≤ limits.value
+pub record IsPut (limits : Limits) (ns octets : List ℕ) (hs : List HeaderPlace) : Type 0 where
+  pub placed : ArePlaced (length octets) hs
+  pub reached : AreReached ns (length octets) hs
+  pub fits : size_of octets hs ≤ limits.value
 
-is-put : (limits : Limits) (ns octets : List ℕ) (h : HeaderPlace) (hs : List HeaderPlace) → AreChecked limits
+pub is-put : (limits : Limits) (ns octets : List ℕ) (h : HeaderPlace) (hs : List HeaderPlace) → AreChecked limits
     → ArePlaced (length octets) (h ∷ hs) → AreReached ns (length octets) (h ∷ hs) → size_of octets (h ∷ hs) ≤ limits.value
     → IsPut limits (cut (length hs) ns) (headed_at h octets) hs
 is-put limits ns octets h hs checked p r fits =

@@ -1,65 +1,63 @@
 -- A plain item that is added to an open value is that of the streaming definition.
-use Rattle.std.proofs.Common.{◌≡◌, ℕ, zero, suc, ◌+◌, ◌-◌, ◌*◌, ◌/◌, ◌%◌, ◌<◌, ◌≤◌, ◌⊎◌, inl, is_some, option_map, subst, min, nat_lt, Bool, true, false, if◌then◌else◌, List, [], ◌∷◌, ◌++◌, length, map, take, drop, Option, Some, None, unwrap_or, Ok, refl, ap, sym, ◌∙◌, arith, append-nil, append_assoc, le-ltb, lt-ltb}
+use Rattle.std.proofs.Common.{◌≡◌, ℕ, ◌+◌, ◌-◌, ◌*◌, ◌/◌, ◌<◌, ◌≤◌, ◌⊎◌, inl, subst, min, nat_lt, Bool, true, false, if◌then◌else◌, List, [], ◌∷◌, ◌++◌, length, map, take, drop, Option, Some, None, unwrap_or, Ok, refl, ap, sym, ◌∙◌, arith, append-nil, append_assoc, le-ltb, lt-ltb}
 use Rattle.std.specs.Prelude.{IfSome}
 use Rattle.std.proofs.lemmas.List.{length-take}
 use Rattle.ion_meter.specs.Counts.{Counts}
 use Rattle.ion_meter.specs.declared.limits.Limits.{Limits}
 use Rattle.ion_meter.specs.declared.fault.Reason.{Reason}
-use Rattle.ion_value.specs.declared.ion_type.Kind.{Kind}
-use Rattle.ion_value.specs.declared.plain_item.TextAt.{TextAt}
-use Rattle.ion_value.specs.PlainItems.{listed, placed_text}
 use Rattle.ion_value.specs.Value as value
 use Rattle.ion_value.specs.Value.{Head, Item, Known, PlacedItem, SymbolAt, UserSymbol, map_head, user_item, user_symbol_at}
 use Rattle.ion_symbols.specs.Output.{known_id, texts_cost}
 use Rattle.ion_binary.specs.declared.headers.HeaderPlace.{HeaderPlace}
 use Rattle.ion_binary.specs.declared.open_value.OpenValue.{OpenValue}
 use Rattle.ion_binary.specs.declared.writer.BinWriter.{BinWriter}
-use Rattle.ion_value.specs.Number.{digits_within, marked, var_uint_octets}
-use Rattle.ion_binary.specs.Grammar.{type_code}
-use Rattle.ion_value.specs.Writable.{field_symbols}
+use Rattle.ion_value.specs.Number.{var_uint_octets}
 use Rattle.ion_binary.specs.Canonical.{annotation_octets, declaration, header, marker_if, field_octets, headed, id_in, id_octets, member_octets, wrapped, with_symbol, with_symbols, with_text}
-use Rattle.ion_binary.specs.Held.{Held, closed_in, counted_ids, headed_at, header_at, headers_around, headers_with, held_forgotten, held_of, ids_place, moved_headers, moved_octets, octets_with, size_of, value_held, value_put, whole_at, with_front, with_names}
+use Rattle.ion_binary.specs.Held.{Held, closed_in, counted_ids, headed_at, headers_around, headers_with, held_forgotten, held_of, ids_place, moved_headers, moved_octets, octets_with, size_of, value_held, value_put, whole_at, with_front, with_names}
 use Rattle.ion_binary.specs.ItemOctets.{head_octets}
 use Rattle.ion_binary.specs.Opening.{IsOpen, MayAdd, MayCome, Stepped, wrapper_octets}
 use Rattle.ion_binary.specs.Plain.{AddsPlain, EndsPlain, HaveIds, IsWhole}
 use Rattle.ion_binary.specs.Writer.{CanTake, ComesAt, Follows, Taken, added, adds_at, held_in, item_refusal}
-use Rattle.ion_binary.specs.WriterWithin.{binary-within}
 use Rattle.ion_binary.specs.Writing.{Written, first_over, item_puts, item_symbols, refused_at, unless_refused}
-use Rattle.ion_binary.proofs.HeldMoves.{begun-is, counted-are, headers-begun, whole-is}
+use Rattle.ion_binary.proofs.HeldMoves.{counted-are, whole-is}
 use Rattle.ion_binary.proofs.Numbered.{users-item}
 use Rattle.ion_binary.specs.Counting.{ArePlaced}
 use Rattle.ion_binary.proofs.DeclarationOctets.{declaration-none}
 use Rattle.ion_binary.proofs.OpenSteps.{closed-put, put-length, wrapper-around}
-use Rattle.ion_binary.proofs.WriterFollows.{adds-are, codes-after, follows-out, forgotten-is, held-behind, may-add, put-behind, refusal-is}
+use Rattle.ion_binary.proofs.WriterFollows.{adds-are, codes-after, follows-out, forgotten-is, held-behind, held-now, may-add, put-behind, refusal-is}
 use Rattle.ion_binary.proofs.WriterSteps.{kept, not-refused, same-held}
 
 -- nothing is put while a container is open
-put-inside : (h : Held) (hs : List HeaderPlace) (octets : List ℕ) → 0 < length hs → value_put h hs octets ≡ []
+pub put-inside : (h : Held) (hs : List HeaderPlace) (octets : List ℕ) → 0 < length hs → value_put h hs octets ≡ []
 put-inside h [] octets some = absurd (omega (arith, some))
 put-inside h (e ∷ es) octets some = refl
 
-held-inside : (h : Held) (hs : List HeaderPlace) → h.headers ≡ hs → 0 < length hs → h ≡ value_held h hs h.octets
+pub held-inside : (h : Held) (hs : List HeaderPlace) → h.headers ≡ hs → 0 < length hs → h ≡ value_held h hs h.octets
 held-inside h [] e some = absurd (omega (arith, some))
 held-inside h (x ∷ hs) e some = ap (λ (gs : List HeaderPlace). record h { headers = gs }) e
 
-module _ {A : Type 0} (old new : BinWriter A) (before after : Counts) (s : Written) (item : PlacedItem) (p : AddsPlain old new before after item true) (comes : ComesAt old s item) where
+module _ {A : Type 0} (old new : BinWriter A) (before after : Counts) (s : Written) (item : PlacedItem) (p : AddsPlain old new before after item true) (comes : ComesAt old s item)
+    (none : old.ended ≡ 0) where
   begun : held_in old ≡ held_forgotten old.limits.symbols (held_of s) (user_item item).head
   begun =
       sym (kept old.limits.symbols (held_in old) old.open_value.headers (p.keeps refl))
-      ∙ forgotten-is old.limits.symbols s (held_in old) (user_item item).head comes.0.held comes.1.value
+      ∙ forgotten-is old.limits.symbols s (held_in old) (user_item item).head (sym (held-now old none) ∙ comes.0.held) comes.1.value
 
   pub plain-follows : Follows old new s item (Ok tt)
   plain-follows =
       follows-out old new new s item (Ok tt) (held_in old) comes begun (p.held refl) (p.passes refl)
-      (held-inside (held_in new) new.open_value.headers refl (p.inside refl)) (p.is_open refl) tt
+      (held-inside (held_in new) new.open_value.headers refl (p.inside refl)) (p.is_open refl) tt (p.ended ∙ none)
 
   pub plain-adds : adds_at old.limits s item ≡ []
   plain-adds =
       sym (adds-are old new s item (held_in old) comes begun (p.held refl) (p.passes refl))
       ∙ put-inside (held_in new) new.open_value.headers new.open_value.octets (p.inside refl)
 
-pub plain-comes : {A : Type 0} (w : BinWriter A) (s : Written) (item : PlacedItem) → ComesAt w s item → MayCome w.limits w.open_value item
-plain-comes w s item comes = record { counted = comes.0.is_open; follows = may-add w.limits w.open_value s item (ap (λ (h : Held). h.headers) comes.0.held) comes.1 }
+pub plain-comes : {A : Type 0} (w : BinWriter A) (s : Written) (item : PlacedItem) → ComesAt w s item → w.ended ≡ 0 → MayCome w.limits w.open_value item
+plain-comes w s item comes none = record {
+  counted = comes.0.is_open;
+  follows = may-add w.limits w.open_value s item (ap (λ (h : Held). h.headers) (sym (held-now w none) ∙ comes.0.held)) comes.1;
+}
 
 -- ---- texts that have ids
 
@@ -79,7 +77,7 @@ have-same : (texts : List (List ℕ)) (ss : List SymbolAt) → HaveIds texts ss 
 have-same texts [] h = refl
 have-same texts (s ∷ ss) h = ap (λ (ts : List (List ℕ)). with_symbols ts (map user_symbol_at ss)) h.0 ∙ have-same texts ss h.1
 
-have-allowed : (limit : ℕ) (texts : List (List ℕ)) (ss : List SymbolAt) → texts_cost texts ≤ limit → HaveIds texts ss → first_over limit texts ss ≡ None
+pub have-allowed : (limit : ℕ) (texts : List (List ℕ)) (ss : List SymbolAt) → texts_cost texts ≤ limit → HaveIds texts ss → first_over limit texts ss ≡ None
 have-allowed limit texts [] within h = refl
 have-allowed limit texts (s ∷ ss) within h =
     ap (λ (ts : List (List ℕ)). if nat_lt limit (texts_cost ts) then Some s.place else first_over limit ts ss) h.0
@@ -158,6 +156,7 @@ plain-added {A} w v before after item result c known some more held opened decli
   keeps = λ e. some;
   inside = more;
   declines = λ e. (ap (λ (x : OpenValue A). record w { open_value = x }) (declines e).0, (declines e).1);
+  ended = refl;
   taken = plain-taken w v before after c s;
 }
 
@@ -228,28 +227,14 @@ short-headed code k xs u few e =
     ap (λ (t : Bool). ((16 * code + (if t then length b else 14)) ∷ (if t then [] else var_uint_octets (length b))) ++ b) short in
     sym here ∙ ap (headed code) e
 
--- an id of one octet
-zero-digits : (k : ℕ) → digits_within k 128 0 ≡ []
-unfolding digits_within
-zero-digits zero = refl
-zero-digits (suc k) = refl
-
-pub var-one : (n : ℕ) → n < 128 → var_uint_octets n ≡ (128 + n) ∷ []
-unfolding digits_within
-var-one zero h = refl
-var-one (suc n) h =
-    let q : suc n / 128 ≡ 0 = omega (arith, h) in
-    let r : suc n % 128 ≡ suc n = omega (arith, h) in
-    ap marked (ap (λ (ds : List ℕ). ds ++ (suc n % 128 ∷ [])) (ap (digits_within n 128) q ∙ zero-digits n)) ∙ ap (λ k. k ∷ []) (omega (arith, r))
-
 -- ---- the value at top level ends
 
 module _ {A : Type 0} (old new : BinWriter A) (before after : Counts) (s : Written) (item : PlacedItem) (pending put : List ℕ) (p : EndsPlain old new before after item pending put true)
-    (comes : ComesAt old s item) where
+    (comes : ComesAt old s item) (none : old.ended ≡ 0) where
   ends-begun : held_in old ≡ held_forgotten old.limits.symbols (held_of s) (user_item item).head
   ends-begun =
       sym (kept old.limits.symbols (held_in old) old.open_value.headers (inl (p.keeps refl)))
-      ∙ forgotten-is old.limits.symbols s (held_in old) (user_item item).head comes.0.held comes.1.value
+      ∙ forgotten-is old.limits.symbols s (held_in old) (user_item item).head (sym (held-now old none) ∙ comes.0.held) comes.1.value
 
   ends-passes : refused_at old.limits s item ≡ None
   ends-passes = sym (refusal-is old.limits s item (held_in old) ends-begun comes.0.codes comes.1) ∙ p.passes refl
@@ -257,8 +242,9 @@ module _ {A : Type 0} (old new : BinWriter A) (before after : Counts) (s : Writt
   pub ends-follows : Follows old new s item (Ok tt)
   ends-follows = record {
     holds = record {
-      held = p.held refl ∙ held-behind old.limits.symbols old.limits.depth s item (held_in old) ends-begun comes.0.codes comes.1;
+      held = held-now new (p.ended ∙ none) ∙ (p.held refl ∙ held-behind old.limits.symbols old.limits.depth s item (held_in old) ends-begun comes.0.codes comes.1);
       is_open = p.is_open refl;
+      ended = let e = p.ended in omega (arith, e, none);
       codes = codes-after old.limits.symbols s (user_item item) comes.0.codes;
     };
     passes = ends-passes;
@@ -337,5 +323,6 @@ plain-ended w v o before after item pending put x c now may head one first due a
   passes = λ t. whole-passes w o item x may head one first due all is now c.sound.share;
   keeps = λ t. let l : length w.open_value.headers ≡ 1 = ap (λ (hs : List HeaderPlace). length hs) one in omega (arith, l);
   declines = λ t. absurd (Prim.cc t);
+  ended = refl;
   taken = plain-taken w v before after c s;
 }

@@ -1,7 +1,7 @@
--- The header that is written is the shortest descriptor.
-use Rattle.std.proofs.Common.{◌≡◌, ℕ, ◌+◌, ◌*◌, ◌≤◌, Bool, true, false, List, [], ◌∷◌, length, refl, sym, ◌∙◌, arith, lt-ltb}
+-- The header that is written is the shortest descriptor, and a number below 128 one octet.
+use Rattle.std.proofs.Common.{◌≡◌, ℕ, zero, suc, ◌+◌, ◌*◌, ◌/◌, ◌%◌, ◌<◌, ◌≤◌, Bool, true, false, List, [], ◌∷◌, ◌++◌, length, refl, ap, sym, ◌∙◌, arith, lt-ltb}
 use Rattle.std.specs.Prelude.{nat_lt, if◌then◌else◌}
-use Rattle.ion_value.specs.Number.{var_uint_octets}
+use Rattle.ion_value.specs.Number.{digits_within, marked, var_uint_octets}
 use Rattle.ion_value.proofs.VarOctets.{var_uint_octets-fewest}
 use Rattle.ion_binary.specs.Grammar.{Descriptor}
 use Rattle.ion_binary.specs.Spelling.{HeadersAreShortest}
@@ -15,3 +15,18 @@ shortest-by false t n head e (Descriptor.long len spelled) = omega (arith, var_u
 
 pub headers_are_shortest : HeadersAreShortest
 headers_are_shortest t n head h = shortest-by (nat_lt n 14) t n head refl h
+
+-- ---- a number of one octet
+
+zero-digits : (k : ℕ) → digits_within k 128 0 ≡ []
+unfolding digits_within
+zero-digits zero = refl
+zero-digits (suc k) = refl
+
+pub var-one : (n : ℕ) → n < 128 → var_uint_octets n ≡ (128 + n) ∷ []
+unfolding digits_within
+var-one zero h = refl
+var-one (suc n) h =
+    let q : suc n / 128 ≡ 0 = omega (arith, h) in
+    let r : suc n % 128 ≡ suc n = omega (arith, h) in
+    ap marked (ap (λ (ds : List ℕ). ds ++ (suc n % 128 ∷ [])) (ap (digits_within n 128) q ∙ zero-digits n)) ∙ ap (λ k. k ∷ []) (omega (arith, r))

@@ -18,6 +18,10 @@ pub(crate) fn header(code: u8, n: u64) -> ArrayVec<u8, 10>
         return octets;
     }
     octets.push(16 * code + 14);
+    if n < 128 {
+        octets.push(128 + n as u8);
+        return octets;
+    }
     let length = var_uint_write(n);
     let _fits = octets.try_extend_from_slice(length.as_slice());
     octets

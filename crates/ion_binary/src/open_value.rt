@@ -15,6 +15,8 @@ ghost use Rattle.ion_binary.specs.ItemOctets.{head_name, user_head};
 ghost use Rattle.ion_meter.specs.Limits.{AreChecked};
 ghost use Rattle.ion_binary.specs.Opening.{CanStep, IsOpen, IsOpenTo, IsWithin, MayFollow, PutsScalar, Raises, Stepped, both_octets, open_cost, spelled_octets, wrapper_octets};
 
+mod ended;
+
 use crate::front::Front;
 use crate::header::header;
 use crate::headers::{HeaderPlace, Headers};
@@ -34,8 +36,11 @@ use std::alloc::Allocator;
 /// From so many octets on a header has two octets, three, four, five and six.
 const THRESHOLDS: [u64; 5] = [14, 128, 16_384, 2_097_152, 268_435_456];
 
+/// From so many octets on a container's header waits where it ends, and goes in with others.
+pub(crate) const LONG: usize = 4096;
+
 /// The type code of annotations.
-const WRAPPER: u8 = 14;
+pub(crate) const WRAPPER: u8 = 14;
 
 /// The value at top level that is open: its octets without the headers of its open containers, and
 /// these headers.
@@ -377,8 +382,8 @@ impl<A: Allocator + Copy> OpenValue<A> {
             .push_with(&mut self.octets, meter, header, front)
     }
 
-    /// Closes the innermost container, where it has no wrapper, stands in another, and there is room
-    /// for its header. Else it answers false, and nothing is changed.
+    /// Closes the innermost container, where it has no wrapper, stands in another, is not long, and
+    /// there is room for its header. Else it answers false, and nothing is changed.
     #[inline(always)]
     pub fn end_if_room(&mut self, meter: &mut Meter<A>, limits: Limits) -> bool
         requires can_step { CanStep limits self.old meter.old }
@@ -395,14 +400,12 @@ impl<A: Allocator + Copy> OpenValue<A> {
         let Some((innermost, around)) = self.headers.two() else {
             return false;
         };
-        if around.code == WRAPPER {
+        let place = innermost.place as usize;
+        let inside = self.octets.as_slice().len() - place;
+        if around.code == WRAPPER || inside >= LONG {
             return false;
         }
-        let place = innermost.place as usize;
-        let octets = header(
-            innermost.code,
-            (self.octets.as_slice().len() - place) as u64,
-        );
+        let octets = header(innermost.code, inside as u64);
         if !self.octets.insert_if_room(meter, place, octets.as_slice()) {
             return false;
         }

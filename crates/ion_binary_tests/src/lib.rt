@@ -16,6 +16,8 @@ mod drawn;
 #[cfg(test)]
 mod endings;
 #[cfg(test)]
+mod ends;
+#[cfg(test)]
 mod hex;
 #[cfg(test)]
 mod imports;

@@ -1,5 +1,5 @@
 //! Bytes whose every growth is counted.
-ghost use Rattle.std.specs.Prelude.{◌≡◌, true, false, ◌+◌, ◌-◌, ◌^◌, ◌<◌, ◌≤◌, ◌++◌, ◌∷◌, [], length, take, drop, slice_set, OnOk, OnErr, IfErr, MatchOption};
+ghost use Rattle.std.specs.Prelude.{◌≡◌, true, false, ◌+◌, ◌-◌, ◌^◌, ◌<◌, ◌≤◌, ◌++◌, ◌∷◌, [], length, take, drop, replicate, slice_set, OnOk, OnErr, IfErr, MatchOption};
 ghost use Rattle.std.specs.List.{insert};
 ghost use Rattle.ion_meter.specs.Counts.{Grows, Shrinks, IsRefused};
 
@@ -75,6 +75,24 @@ impl<A: Allocator + Copy> Buf<A> {
             return Err(Fault::Memory);
         }
         meter.add(bytes.len() as u64);
+        Ok(())
+    }
+
+    /// Adds so many zeros at the end.
+    pub fn extend_zeros(&mut self, meter: &mut Meter<A>, count: usize) -> Result<(), Fault>
+        requires room { meter.old.held + count < 2 ^ 63 }
+        requires countable { meter.old.refused < 2 ^ 64 - 1 }
+        ensures ok { OnOk result (self.new ≡ self.old ++ replicate count 0) }
+        ensures cost { OnOk result (Grows meter.old meter.new count) }
+        ensures memory { IfErr result (λ e. e ≡ Fault.Memory) }
+        ensures err { OnErr result (self.new ≡ self.old) }
+        ensures refused { OnErr result (IsRefused meter.old meter.new) }
+    {
+        if self.bytes.resize(self.bytes.len() + count, 0).is_err() {
+            meter.refuse();
+            return Err(Fault::Memory);
+        }
+        meter.add(count as u64);
         Ok(())
     }
 
@@ -177,6 +195,21 @@ impl<A: Allocator + Copy> Buf<A> {
         self.bytes[place..behind].copy_from_slice(bytes);
         meter.add(bytes.len() as u64);
         Ok(())
+    }
+
+    /// Moves the bytes from a place up to an end, counted from 0, by a gap that stands behind them, and
+    /// writes these bytes right before where they come to stand.
+    pub fn move_behind(&mut self, place: usize, end: usize, gap: usize, bytes: &[u8])
+        requires order { place ≤ end }
+        requires within { end + gap ≤ length self.old }
+        requires short { length bytes.now ≤ gap }
+        ensures { self.new ≡ take (place + gap - length bytes.now) self.old ++ (bytes.now
+            ++ (take (end - place) (drop place self.old) ++ drop (end + gap) self.old)) }
+    {
+        let _all = self.bytes.len();
+        let moved = place + gap;
+        self.bytes.copy_within(place..end, moved);
+        self.bytes[moved - bytes.len()..moved].copy_from_slice(bytes);
     }
 
     /// Writes a byte over the one at a place, counted from 0.

@@ -126,7 +126,7 @@ impl<A: Allocator + Copy> Growing<A> for Paired<A> {
     }
 }
 
-/// Bytes whose every growth is a slice that is put in.
+/// Bytes whose every growth is a slice that is put in, or a gap that is filled.
 #[derive(Drop)]
 struct Spliced<A: Allocator + Copy> {
     buf: Buf<A>,
@@ -148,7 +148,11 @@ impl<A: Allocator + Copy> Growing<A> for Spliced<A> {
             }
             Call::Insert(place, byte) => {
                 assert!(rt; place <= end);
-                self.buf.insert_slice(meter, place, &[byte])
+                if let Err(fault) = self.buf.extend_zeros(meter, 1) {
+                    return Err(fault);
+                }
+                self.buf.move_behind(place, end, 1, &[byte]);
+                Ok(())
             }
         }
     }

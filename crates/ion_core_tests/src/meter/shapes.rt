@@ -23,6 +23,9 @@ enum ByteCall<'a> {
     Extend(&'a [u8]),
     Insert(usize, u8),
     InsertSlice(usize, &'a [u8]),
+    ExtendZeros(usize),
+    /// Those from a place up to an end are moved by a gap, and these are put before them.
+    MoveBehind(usize, usize, usize, &'a [u8]),
     /// Whether these and more behind them are added, since there is room.
     ExtendIfRoom(&'a [u8], &'a [u8], bool),
     /// Whether these are put in, since there is room.
@@ -51,6 +54,14 @@ fn call_buf(rt: &impl Abort, meter: &mut Meter<Global>, buf: &mut Buf<Global>, c
         ByteCall::InsertSlice(place, bytes) => {
             assert!(rt; place <= length && bytes.len() < 1_000);
             same(rt, buf.insert_slice(meter, place, bytes), Ok(()));
+        }
+        ByteCall::ExtendZeros(count) => {
+            assert!(rt; count < 1_000);
+            same(rt, buf.extend_zeros(meter, count), Ok(()));
+        }
+        ByteCall::MoveBehind(place, end, gap, bytes) => {
+            assert!(rt; place <= end && end <= length && gap <= length - end && bytes.len() <= gap);
+            buf.move_behind(place, end, gap, bytes);
         }
         ByteCall::ExtendIfRoom(bytes, more, added) => {
             assert!(rt; bytes.len() < 1_000 && more.len() < 1_000);
@@ -107,6 +118,13 @@ const PUT_IN: &[(ByteCall, &[u8])] = &[
     (ByteCall::InsertSlice(1, b"xy"), b"axyb"),
 ];
 
+const MOVED: &[(ByteCall, &[u8])] = &[
+    (ByteCall::Extend(b"abcd"), b"abcd"),
+    (ByteCall::ExtendZeros(3), b"abcd\0\0\0"),
+    (ByteCall::MoveBehind(3, 4, 3, b"x"), b"abcd\0xd"),
+    (ByteCall::MoveBehind(1, 3, 2, b"yz"), b"ayzbcxd"),
+];
+
 const WHERE_ROOM_IS: &[(ByteCall, &[u8])] = &[
     (ByteCall::ExtendIfRoom(b"a", b"b", false), b""),
     (ByteCall::InsertIfRoom(0, b"a", false), b""),
@@ -123,6 +141,7 @@ fn bytes_are_put_in_and_taken_off(rt: HostRuntime) {
     follow_buf(&rt, rt.alloc(), CUT, 4);
     follow_buf(&rt, rt.alloc(), TAKEN_OFF, 2);
     follow_buf(&rt, rt.alloc(), PUT_IN, 4);
+    follow_buf(&rt, rt.alloc(), MOVED, 7);
     follow_buf(&rt, rt.alloc(), WHERE_ROOM_IS, 8);
 }
 

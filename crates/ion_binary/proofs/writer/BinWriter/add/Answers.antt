@@ -36,10 +36,10 @@ take-requires-clause-may_follow g c =
     let w = c.args.self.now in
     let item : PlacedItem = item_of g.N.Names.text c.args.item.now in
     let fits : c.in-Ok.front.fits ≡ true = fits-of c.in-Ok.front.fits c.if-not-front.false in
-    may-follow w.limits w.open_value (held_in w) item c.put_front.new.buffer c.in-Ok.front.ids (raw_head c.head-head.result) refl c.requires.comes.counted
+    may-follow w.limits w.open_value (held_in w) item c.put_front.new.buffer c.in-Ok.front.ids (raw_head c.args.head) refl c.requires.comes.counted
     (front-octets (held_in w) item c.put_front.new.symbols.texts c.put_front.new.buffer w.limits.value c.in-Ok.front c.in-Ok.ensures.texts c.in-Ok.ensures.front fits)
     (front-place (held_in w) item c.put_front.new.symbols.texts c.put_front.new.buffer w.limits.value c.in-Ok.front c.in-Ok.ensures.texts c.in-Ok.ensures.front fits)
-    c.head-head.ensures c.requires.comes.follows
+    c.requires.head c.requires.comes.follows
 
 pub returns-in-Ok-true-clause-passes : goal.returns-in-Ok-true-clause-passes
 returns-in-Ok-true-clause-passes g c =
@@ -51,15 +51,15 @@ returns-in-Ok-true-clause-passes g c =
     let fits : c.in-Ok.front.fits ≡ true = fits-of c.in-Ok.front.fits c.if-not-front.false in
     let front = front-octets (held_in w) item c.put_front.new.symbols.texts c.put_front.new.buffer w.limits.value c.in-Ok.front c.in-Ok.ensures.texts c.in-Ok.ensures.front fits in
     let place = front-place (held_in w) item c.put_front.new.symbols.texts c.put_front.new.buffer w.limits.value c.in-Ok.front c.in-Ok.ensures.texts c.in-Ok.ensures.front fits in
-    let head : raw_head c.head-head.result ≡ item.head = c.head-head.ensures in
-    let name : c.in-Ok.front.name ≡ head_name (id_in n.texts) (user_head c.head-head.result) =
+    let head : raw_head c.args.head ≡ item.head = c.requires.head in
+    let name : c.in-Ok.front.name ≡ head_name (id_in n.texts) (user_head c.args.head) =
     front-name (held_in w) item c.put_front.new.symbols.texts c.put_front.new.buffer w.limits.value c.in-Ok.front c.in-Ok.ensures.texts c.in-Ok.ensures.front
     ∙ sym (ap (λ (x : Head SymbolAt). head_name (id_in n.texts) (map_head user_symbol_at x)) head) in
     let ok : ◌≡◌ {A = Result Bool Fault} (Ok c.in-Ok-true.field-0) (Ok true) = ap (λ (b : Bool). let x : Result Bool Fault = Ok b in x) c.in-Ok-true.field-0-test in
     let octets : c.take.new.self.octets ≡ (added (held_in w) item).octets =
-    c.in-Ok-true.ensures.octets (id_in n.texts) name ok ∙ octets-moved (held_in w) item c.in-Ok.front.ids c.put_front.new.buffer (raw_head c.head-head.result) place front head in
+    c.in-Ok-true.ensures.octets (id_in n.texts) name ok ∙ octets-moved (held_in w) item c.in-Ok.front.ids c.put_front.new.buffer (raw_head c.args.head) place front head in
     let headers : c.take.new.self.headers ≡ (added (held_in w) item).headers =
-    c.in-Ok-true.ensures.headers ok ∙ headers-moved (held_in w) item c.in-Ok.front.ids c.put_front.new.buffer (raw_head c.head-head.result) place front head in
+    c.in-Ok-true.ensures.headers ok ∙ headers-moved (held_in w) item c.in-Ok.front.ids c.put_front.new.buffer (raw_head c.args.head) place front head in
     let s = (c.in-Ok-true.ensures.open ok).fits in
     let size : size_of c.take.new.self.octets c.take.new.self.headers ≡ size_of (added (held_in w) item).octets (added (held_in w) item).headers =
     ap (λ (os : List ℕ). size_of os c.take.new.self.headers) octets ∙ ap (size_of (added (held_in w) item).octets) headers in
@@ -75,16 +75,16 @@ returns-in-Ok-false-clause-refuses g c r p is =
     let fits : c.in-Ok.front.fits ≡ true = fits-of c.in-Ok.front.fits c.if-not-front.false in
     let front = front-octets (held_in w) item c.put_front.new.symbols.texts c.put_front.new.buffer w.limits.value c.in-Ok.front c.in-Ok.ensures.texts c.in-Ok.ensures.front fits in
     let place = front-place (held_in w) item c.put_front.new.symbols.texts c.put_front.new.buffer w.limits.value c.in-Ok.front c.in-Ok.ensures.texts c.in-Ok.ensures.front fits in
-    let head : raw_head c.head-head.result ≡ item.head = c.head-head.ensures in
-    let name : c.in-Ok.front.name ≡ head_name (id_in n.texts) (user_head c.head-head.result) =
+    let head : raw_head c.args.head ≡ item.head = c.requires.head in
+    let name : c.in-Ok.front.name ≡ head_name (id_in n.texts) (user_head c.args.head) =
     front-name (held_in w) item c.put_front.new.symbols.texts c.put_front.new.buffer w.limits.value c.in-Ok.front c.in-Ok.ensures.texts c.in-Ok.ensures.front
     ∙ sym (ap (λ (x : Head SymbolAt). head_name (id_in n.texts) (map_head user_symbol_at x)) head) in
     let ok : ◌≡◌ {A = Result Bool Fault} (Ok c.in-Ok-false.field-0) (Ok false) = ap (λ (b : Bool). let x : Result Bool Fault = Ok b in x) c.in-Ok-false.field-0-test in
-    let o : List ℕ = moved_octets c.in-Ok.front.ids c.put_front.new.buffer w.open_value.headers (id_in n.texts) (user_head c.head-head.result) in
-    let hs : List HeaderPlace = moved_headers c.in-Ok.front.ids c.put_front.new.buffer w.open_value.headers (user_head c.head-head.result) in
+    let o : List ℕ = moved_octets c.in-Ok.front.ids c.put_front.new.buffer w.open_value.headers (id_in n.texts) (user_head c.args.head) in
+    let hs : List HeaderPlace = moved_headers c.in-Ok.front.ids c.put_front.new.buffer w.open_value.headers (user_head c.args.head) in
     let size : size_of o hs ≡ size_of (added (held_in w) item).octets (added (held_in w) item).headers =
-    ap (λ (os : List ℕ). size_of os hs) (octets-moved (held_in w) item c.in-Ok.front.ids c.put_front.new.buffer (raw_head c.head-head.result) place front head)
-    ∙ ap (size_of (added (held_in w) item).octets) (headers-moved (held_in w) item c.in-Ok.front.ids c.put_front.new.buffer (raw_head c.head-head.result) place front head) in
+    ap (λ (os : List ℕ). size_of os hs) (octets-moved (held_in w) item c.in-Ok.front.ids c.put_front.new.buffer (raw_head c.args.head) place front head)
+    ∙ ap (size_of (added (held_in w) item).octets) (headers-moved (held_in w) item c.in-Ok.front.ids c.put_front.new.buffer (raw_head c.args.head) place front head) in
     let over : w.limits.value < size_of o hs = c.in-Ok-false.ensures.over (id_in n.texts) name ok in
     refused-long w.limits (held_in w) item none (omega (arith, over, size))
     ∙ (ap (λ (t : ℕ). let x : Option (Reason × ℕ) = Some (ValueLimit, t) in x) (sym c.top-in-Ok-false.ensures) ∙ same-why (Unit {0}) ValueLimit r c.top-in-Ok-false.result p is)

@@ -1,4 +1,4 @@
-use Rattle.std.proofs.Common.{[], false, refl, ap}
+use Rattle.std.proofs.Common.{[], false, refl, ap, arith}
 use Rattle.ion_symbols.specs.Output.{Output}
 use Rattle.ion_binary.proofs.WriterSteps.{same-held}
 use Rattle.ion_binary.proofs.writer.BinWriter.new.Goals as goal
@@ -9,6 +9,7 @@ returns-clause-fresh g c = record {
   holds = record {
     held = same-held c.new-2.result.octets [] c.new-2.result.headers [] c.new.result.texts [] 0 0 false false c.new-2.ensures.nothing.0 c.new-2.ensures.nothing.1 (ap (λ (o : Output). o.texts) c.new.ensures) refl refl;
     is_open = c.new-2.ensures.open c.args.limits;
+    ended = omega arith;
     codes = tt;
   };
 }

@@ -1,4 +1,4 @@
-use Rattle.std.proofs.Common.{rules, ◌≡◌, ℕ, List, None, Some, Err, Result, subst, ◌∙◌}
+use Rattle.std.proofs.Common.{rules, ◌≡◌, ℕ, List, None, Some, Err, Result, sym, subst, ◌∙◌}
 use Rattle.ion_meter.specs.declared.fault.Fault.{Fault}
 use Rattle.ion_meter.specs.declared.fault.Fault.TheVariants.{Refused}
 use Rattle.ion_meter.specs.declared.fault.Reason.{Reason}
@@ -7,14 +7,14 @@ use Rattle.ion_value.specs.Items.{item_of}
 use Rattle.ion_value.specs.Value.{PlacedItem, user_item}
 use Rattle.ion_binary.specs.Held.{held_forgotten, held_of}
 use Rattle.ion_binary.specs.Writer.{PutsOctets, held_in, item_refusal}
-use Rattle.ion_binary.proofs.WriterFollows.{adds-are, follows-err, follows-out, forgotten-is, may-add-behind}
+use Rattle.ion_binary.proofs.WriterFollows.{adds-are, follows-err, follows-out, forgotten-is, held-now, may-add-behind}
 use Rattle.ion_binary.proofs.WriterSteps.{puts-none}
 use Rattle.ion_binary.proofs.writer.BinWriter.take.Goals as goal
 
 pub add-requires-clause-comes : goal.add-requires-clause-comes
 add-requires-clause-comes g c = record {
   counted = search rules;
-  follows = may-add-behind c.args.self.now c.forget.new.self c.requires.comes.0 (item_of g.N.Names.text c.args.item.now) c.requires.comes.1 c.forget.ensures.open_value c.forget.ensures.taken.limits;
+  follows = may-add-behind c.args.self.now c.forget.new.self c.requires.comes.0 (item_of g.N.Names.text c.args.item.now) c.requires.comes.1 c.requires.none c.forget.ensures.open_value c.forget.ensures.taken.limits;
 }
 
 pub returns-in-Err-clause-follows : goal.returns-in-Err-clause-follows
@@ -22,7 +22,7 @@ returns-in-Err-clause-follows g c s comes =
     let w = c.args.self.now in
     let item : PlacedItem = item_of g.N.Names.text c.args.item.now in
     let b : held_in c.forget.new.self ≡ held_forgotten w.limits.symbols (held_of s) (user_item item).head =
-    c.forget.ensures.held ∙ forgotten-is w.limits.symbols s (held_in w) (user_item item).head comes.0.held comes.1.value in
+    c.forget.ensures.held ∙ forgotten-is w.limits.symbols s (held_in w) (user_item item).head (sym (held-now w c.requires.none) ∙ comes.0.held) comes.1.value in
     let L : Limits → Type 0 = λ l. (r : Reason) (p : ℕ) → ◌≡◌ {A = Result (Unit {0}) Fault} (Err c.in-Err.fault) (Err (Refused r p)) → item_refusal l (held_in c.forget.new.self) item ≡ Some (r, p) in
     follows-err w c.add.new.self s item c.in-Err.fault (held_in c.forget.new.self) comes b (subst L c.forget.ensures.taken.limits c.in-Err.ensures.refuses)
 
@@ -34,17 +34,18 @@ returns-clause-follows g c s comes =
     let w = c.args.self.now in
     let item : PlacedItem = item_of g.N.Names.text c.args.item.now in
     let b : held_in c.forget.new.self ≡ held_forgotten w.limits.symbols (held_of s) (user_item item).head =
-    c.forget.ensures.held ∙ forgotten-is w.limits.symbols s (held_in w) (user_item item).head comes.0.held comes.1.value in
+    c.forget.ensures.held ∙ forgotten-is w.limits.symbols s (held_in w) (user_item item).head (sym (held-now w c.requires.none) ∙ comes.0.held) comes.1.value in
     let L : Limits → Type 0 = λ l. item_refusal l (held_in c.forget.new.self) item ≡ None in
     let none : item_refusal w.limits (held_in c.forget.new.self) item ≡ None = subst L c.forget.ensures.taken.limits c.in_default.ensures.passes in
     follows-out w c.add.new.self c.put_out.new.self s item c.put_out.result (held_in c.forget.new.self) comes b c.in_default.ensures.held none c.put_out.ensures.held c.put_out.ensures.open c.put_out.ensures.cause
+    (c.put_out.ensures.ended ∙ (c.in_default.ensures.ended ∙ (c.forget.ensures.ended ∙ c.requires.none)))
 
 pub returns-clause-puts : goal.returns-clause-puts
 returns-clause-puts g c s comes =
     let w = c.args.self.now in
     let item : PlacedItem = item_of g.N.Names.text c.args.item.now in
     let b : held_in c.forget.new.self ≡ held_forgotten w.limits.symbols (held_of s) (user_item item).head =
-    c.forget.ensures.held ∙ forgotten-is w.limits.symbols s (held_in w) (user_item item).head comes.0.held comes.1.value in
+    c.forget.ensures.held ∙ forgotten-is w.limits.symbols s (held_in w) (user_item item).head (sym (held-now w c.requires.none) ∙ comes.0.held) comes.1.value in
     let L : Limits → Type 0 = λ l. item_refusal l (held_in c.forget.new.self) item ≡ None in
     let none : item_refusal w.limits (held_in c.forget.new.self) item ≡ None = subst L c.forget.ensures.taken.limits c.in_default.ensures.passes in
     let P : List ℕ → Type 0 = λ os. PutsOctets g.O.Output c.args.sink.now c.put_out.new.sink c.put_out.result os in

@@ -5,8 +5,8 @@ use Rattle.ion_binary.specs.Writing.{written_behind}
 use Rattle.ion_binary.proofs.WriterFollows.{may-come, stands-behind}
 use Rattle.ion_binary.proofs.writer.BinWriterValueWriter.item.Goals as goal
 
-pub take-requires-clause-comes : goal.take-requires-clause-comes
-take-requires-clause-comes g c =
+pub step-requires-clause-comes : goal.step-requires-clause-comes
+step-requires-clause-comes g c =
     let w = c.args.self.now in
     let at = c.requires.path c.in_default.is in
     (written_behind w.limits at.0, (at.1.holds, may-come w.limits at.0 (item_of g.N.Names.text c.args.item.now) at.2))
@@ -16,7 +16,7 @@ returns-in-Ok-clause-stands g c path stands next =
     let w = c.args.self.now in
     let item : PlacedItem = item_of g.N.Names.text c.args.item.now in
     let f = c.in-Ok.ensures.follows (written_behind w.limits path) (stands.holds, may-come w.limits path item next) in
-    (stands-behind w.limits c.take.new.self path item c.in-Ok.ensures.taken.limits (c.in-Ok.ensures.taken.failed ∙ stands.well) f.holds, f.passes)
+    (stands-behind w.limits c.step.new.self path item c.in-Ok.ensures.taken.limits (c.in-Ok.ensures.taken.failed ∙ stands.well) f.holds, f.passes)
 
 pub returns-in-Ok-clause-puts : goal.returns-in-Ok-clause-puts
 returns-in-Ok-clause-puts g c path stands next =

@@ -1,5 +1,5 @@
 use Rattle.std.proofs.Common.{◌≡◌, ◌+◌, ◌∷◌, [], rules, sym, ◌∙◌}
-use Rattle.ion_binary.proofs.PlainAdded.{var-one}
+use Rattle.ion_binary.proofs.ShortestHeaders.{var-one}
 use Rattle.ion_binary.proofs.writer.plain.put_id.Goals as goal
 
 pub returns-then-id-lt128-clause-octets : goal.returns-then-id-lt128-clause-octets

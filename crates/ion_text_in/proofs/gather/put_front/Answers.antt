@@ -9,7 +9,7 @@ kept-front old bytes n k le = take-append-add old (take k bytes) n ∙ ap (λ (l
 
 pub extend-requires-clause-room : goal.extend-requires-clause-room
 extend-requires-clause-room g c =
-    let block = length-take-le 32 c.args.bytes.now c.if-bytes-ge-BLOCK.true in
+    let block = length-take-le _ c.args.bytes.now c.if-bytes-ge-BLOCK.true in
     let len = ap (λ (l : List ℕ). length l) c.as_slice-len.ensures in
     let room = c.requires.can_grow.room in
     omega (arith, block, len, room, c.if-len-limits.true)
@@ -21,16 +21,16 @@ returns-then-len-limits-clause-puts g c =
     c.truncate.ensures.bytes
     ∙ ap (λ (n : ℕ). take (n + c.args.count) c.extend.new.self) len
     ∙ ap (λ (l : List ℕ). take (length text + c.args.count) l) c.in_default.ensures.ok
-    ∙ kept-front text c.args.bytes.now c.args.count 32 c.if-count-le-BLOCK.true
+    ∙ kept-front text c.args.bytes.now c.args.count _ c.if-count-le-BLOCK.true
 
 pub returns-then-len-limits-clause-grown : goal.returns-then-len-limits-clause-grown
 returns-then-len-limits-clause-grown g c =
     let text : List ℕ = c.args.text.now in
     let bytes : List ℕ = c.args.bytes.now in
     let len = ap (λ (l : List ℕ). length l) c.as_slice-len.ensures in
-    let block = length-take-le 32 bytes c.if-bytes-ge-BLOCK.true in
+    let block = length-take-le _ bytes c.if-bytes-ge-BLOCK.true in
     let few = length-take-le c.args.count bytes c.requires.there in
-    let longer = ap (λ (l : List ℕ). length l) c.in_default.ensures.ok ∙ length-append text (take 32 bytes) in
+    let longer = ap (λ (l : List ℕ). length l) c.in_default.ensures.ok ∙ length-append text _ in
     let kept = ap (λ (l : List ℕ). length l) (returns-then-len-limits-clause-puts g c) ∙ length-append text (take c.args.count bytes) in
     let held = c.in_default.ensures.cost.held in
     let given = c.truncate.ensures.cost.held in
@@ -55,7 +55,7 @@ returns-then-len-limits-clause-grown g c =
 
 pub returns-then-len-limits-clause-goes : goal.returns-then-len-limits-clause-goes
 returns-then-len-limits-clause-goes g c =
-    let block = length-take-le 32 c.args.bytes.now c.if-bytes-ge-BLOCK.true in
+    let block = length-take-le _ c.args.bytes.now c.if-bytes-ge-BLOCK.true in
     let held = c.in_default.ensures.cost.held in
     let peak = c.in_default.ensures.cost.peak in
     let cut = c.truncate.ensures.cost.peak in

@@ -232,6 +232,7 @@ impl<A: Allocator + Copy> BinWriter<A> {
     }
 
     // Lets the end of a container wait that stands in another. False where it stands in none.
+    #[inline(never)]
     fn end_later(&mut self) -> bool
         requires few { length self.old.open_value.headers ≤ 2 ^ 31 }
         ensures octets { result ≡ true → (held_closed self.new).octets
@@ -405,7 +406,8 @@ impl<O: Output, A: Allocator + Copy> ValueWriter<O, A> for BinWriter<A> {
                 return self.end_whole(meter, sink, &item);
             }
         }
-        if self.ended > 0 {
+        let waits = self.ended > 0;
+        if waits {
             return false;
         }
         self.add_plain(meter, item)

@@ -17,6 +17,7 @@ use std::alloc::Allocator;
 impl<A: Allocator + Copy> OpenValue<A> {
     /// Puts the innermost `k` headers in, as if the containers ended one by one: what stands behind
     /// them moves once.
+    #[inline(never)]
     pub fn put_ended(&mut self, meter: &mut Meter<A>, limits: Limits, k: usize) -> Result<(), Fault>
         requires can_step { CanStep limits self.old meter.old }
         requires open { IsOpen limits self.old }

@@ -11,13 +11,13 @@ pub add_plain-requires-clause-comes : goal.add_plain-requires-clause-comes
 add_plain-requires-clause-comes g c =
     let w = c.args.self.now in
     let at = c.requires.path in
-    let none : w.ended ≡ 0 = let t = c.if-self-gt0.false in omega (arith, t) in
+    let none : w.ended ≡ 0 = let t = c.if-waits.false in omega (arith, t) in
     plain-comes w (written_behind w.limits at.0) (placed_item c.args.item) (at.1.holds, may-come w.limits at.0 (placed_item c.args.item) at.2) none
 
 pub returns-clause-stands : goal.returns-clause-stands
 returns-clause-stands g c is path stands next =
     let w = c.args.self.now in
-    let none : w.ended ≡ 0 = let t = c.if-self-gt0.false in omega (arith, t) in
+    let none : w.ended ≡ 0 = let t = c.if-waits.false in omega (arith, t) in
     let item : PlacedItem = placed_item c.args.item in
     let P : Bool → Type 0 = λ b. AddsPlain w c.add_plain.new.self c.args.meter.now c.add_plain.new.meter item b in
     let p = subst P is c.add_plain.ensures in
@@ -27,7 +27,7 @@ returns-clause-stands g c is path stands next =
 pub returns-clause-puts : goal.returns-clause-puts
 returns-clause-puts g c is path stands next =
     let w = c.args.self.now in
-    let none : w.ended ≡ 0 = let t = c.if-self-gt0.false in omega (arith, t) in
+    let none : w.ended ≡ 0 = let t = c.if-waits.false in omega (arith, t) in
     let item : PlacedItem = placed_item c.args.item in
     let P : Bool → Type 0 = λ b. AddsPlain w c.add_plain.new.self c.args.meter.now c.add_plain.new.meter item b in
     let p = subst P is c.add_plain.ensures in

@@ -1,9 +1,10 @@
 #!/usr/bin/env python3
-"""Checks that the man page and the completions are those that the program's help makes, and what completion offers in each shell
-that is there. `checks/run` calls it; its last line is `N passed, M failed`.
+"""Checks that the man page and the completions are those that the program's help makes, and what completion offers in each
+shell that is there. `checks/run` calls it; its last line is `N passed, M failed`.
 
-`packaging/make_pages.py` writes the pages. In a row of OFFERED stand the words so far, the last one cut, and all that bash and fish
-offer for it; in one of COMPLETED the line so far, and what zsh makes of it where somebody presses the tabulator.
+`packaging/make_pages.py` writes the pages. In a row of OFFERED stand the words so far, the last one cut, and all that
+bash and fish offer for it; in one of COMPLETED the line so far, and what zsh makes of it where somebody presses the
+tabulator.
 """
 import os
 import pty
@@ -50,14 +51,16 @@ shown() {{ print -r -- "<<$BUFFER>>" }}; zle -N shown; bindkey '^X' shown; print
 
 
 def offered_by_bash(folder, at, words):
-    done = subprocess.run(["bash", "-c", IN_BASH, "bash", folder + "/ion.bash", "ion", *words], cwd=at, capture_output=True, text=True, timeout=60)
+    asked = ["bash", "-c", IN_BASH, "bash", folder + "/ion.bash", "ion", *words]
+    done = subprocess.run(asked, cwd=at, capture_output=True, text=True, timeout=60)
     return set(done.stdout.split("\n")) - {""}
 
 
 def offered_by_fish(folder, at, words):
     line = " ".join(["ion", *words])
     asked = f"source {folder}/ion.fish; complete -C '{line}'"
-    done = subprocess.run(["fish", "-N", "-c", asked], cwd=at, env=dict(os.environ, HOME=at), capture_output=True, text=True, timeout=60)
+    environment = dict(os.environ, HOME=at)
+    done = subprocess.run(["fish", "-N", "-c", asked], cwd=at, env=environment, capture_output=True, text=True, timeout=60)
     return {row.split("\t")[0] for row in done.stdout.split("\n")} - {""}
 
 

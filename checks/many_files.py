@@ -1,5 +1,5 @@
-"""Runs `examples/many_files/convert_tree.py` over a small tree, with a stand-in for dask's cluster: what is written, reported, left out and swept, and
-each status. `checks/run` calls it; its last line is `N passed, M failed`.
+"""Runs `examples/many_files/convert_tree.py` over a small tree, with a stand-in for dask's cluster: what is written,
+reported, left out and swept, and each status. `checks/run` calls it; its last line is `N passed, M failed`.
 
 `checks/system/many_files` runs it on a cluster, with 2,000 files and killed workers, and judges by the same functions.
 """
@@ -49,6 +49,11 @@ def plant(dest):
         open(os.path.join(dest, name), "w").close()
 
 
+def content_of(path):
+    with open(path, "rb") as file:
+        return file.read()
+
+
 def wrong_rows(program, to, source, dest, rows):
     """The files on which the report or the result is not what `ion convert` says of the file."""
     ending = {"text": ".ion", "binary": ".10n"}[to]
@@ -57,10 +62,12 @@ def wrong_rows(program, to, source, dest, rows):
         row, out = rows.get(name, {"status": "none"}), os.path.splitext(name)[0] + ending
         path = os.path.join(dest, out)
         if done.returncode == 0:
-            right = row["status"] == "ok" and row["out"] == out and open(path, "rb").read() == done.stdout and row["bytes"] == len(done.stdout)
+            right = row["status"] == "ok" and (row["out"], row["bytes"]) == (out, len(done.stdout))
+            right = right and content_of(path) == done.stdout
         else:
             why = re.fullmatch(r"refused (\w+) at (\d+)\n", done.stderr.decode())
-            right = row["status"] == "refused" and (row["reason"], row["place"]) == (why[1], int(why[2])) and not os.path.exists(path)
+            right = row["status"] == "refused" and (row["reason"], row["place"]) == (why[1], int(why[2]))
+            right = right and not os.path.exists(path)
         if not right:
             yield name
 
@@ -150,7 +157,8 @@ def judge_all(counts, program, folder):
     judge_run(counts, "to text", program, "text", source, dest, report)
     status, said = run(words)
     counts.judge(status == 1 and said == "150 done before, 0 to do\n", "nothing is left to do", (status, said))
-    changed = next(row["file"] for row in judge_run(counts, "again", program, "text", source, dest, report) if row["status"] == "ok")
+    rows = judge_run(counts, "again", program, "text", source, dest, report)
+    changed = next(row["file"] for row in rows if row["status"] == "ok")
     with open(os.path.join(source, changed), "wb") as file:
         file.write(b"1 2 4e0")
     counts.judge(run(words)[1].startswith("149 done before, 1 to do"), "a file that has changed")
@@ -170,8 +178,10 @@ def judge_statuses(counts, program, folder):
     counts.judge(run(["--to", "binary", "--ion", "nowhere", *rest])[0] == 3, "no such program")
     counts.judge(run(["--to", "binary", "--ion", program, *rest])[0] == 0, "all are converted")
     open(os.path.join(source, "a.10n"), "w").close()
-    counts.judge(run(["--to", "binary", "--ion", program, *rest]) == (2, "a.10n and a.ion would both become a.10n\n"), "two of one name")
-    for words in (["--to", "json", *rest], rest, ["--to", "text", folder + "/none", *rest[1:]], ["--to", "text", source, source, rest[2]]):
+    two = (2, "a.10n and a.ion would both become a.10n\n")
+    counts.judge(run(["--to", "binary", "--ion", program, *rest]) == two, "two of one name")
+    nowhere, itself = ["--to", "text", folder + "/none", *rest[1:]], ["--to", "text", source, source, rest[2]]
+    for words in (["--to", "json", *rest], rest, nowhere, itself):
         counts.judge(run(words)[0] == 2, f"wrong words {words}")
 
 

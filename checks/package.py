@@ -1,5 +1,5 @@
-"""Packs a stand-in for the library and the program with `packaging/make_dist.py`, and checks the tarball, the package's lists and the list of all
-that is linked. `checks/run` calls it; its last line is `N passed, M failed`.
+"""Packs a stand-in for the library and the program with `packaging/make_dist.py`, and checks the tarball, the package's
+lists and the list of all that is linked. `checks/run` calls it; its last line is `N passed, M failed`.
 
 What needs more than python3 (the package itself, the true library, a commit) is tried by `checks/system/package`.
 """
@@ -19,12 +19,14 @@ import linked
 import make_dist
 from counts import Counts
 
-COMMIT = types.SimpleNamespace(number="0" * 40, time=1, when=datetime.datetime.fromtimestamp(1, datetime.timezone.utc), version="0.2.0~19700101.000000000")
+WHEN = datetime.datetime.fromtimestamp(1, datetime.timezone.utc)
+COMMIT = types.SimpleNamespace(number="0" * 40, time=1, when=WHEN, version="0.2.0~19700101.000000000")
 # Below the prefix; each file of the licences has the name of its crate too.
 WANTED = {
     "bin/ion", "include/cozgelt.h", "lib/libcozgelt.a", "lib/libcozgelt.so", "lib/libcozgelt.so.0.2", "share/man/man1/ion.1.gz",
     "share/bash-completion/completions/ion", "share/zsh/site-functions/_ion", "share/fish/vendor_completions.d/ion.fish",
-    "share/doc/cozgelt/LICENSE", "share/doc/cozgelt/NOTICE", "share/doc/cozgelt/changelog.gz", "share/doc/cozgelt/REFUSALS.md", "share/doc/cozgelt/DIFFERENCES.md",
+    "share/doc/cozgelt/LICENSE", "share/doc/cozgelt/NOTICE", "share/doc/cozgelt/changelog.gz",
+    "share/doc/cozgelt/REFUSALS.md", "share/doc/cozgelt/DIFFERENCES.md",
     "share/doc/cozgelt/cozgelt.spdx.json",
 }
 
@@ -49,7 +51,8 @@ def judge_tarball(counts, given, folder):
         entries = {entry.name.removeprefix("cozgelt/"): entry for entry in tar}
         licences = {name for name in entries if name.startswith("share/doc/cozgelt/licences/")}
         counts.judge(set(entries) - licences == WANTED, "the files of the tarball", set(entries) - licences ^ WANTED)
-        counts.judge({re.split(r"[./]", name)[-2] for name in licences} == {folder for *_, folder in linked.crates()}, "the licences", licences)
+        of = {re.split(r"[./]", name)[-2] for name in licences}
+        counts.judge(of == {folder for *_, folder in linked.crates()}, "the licences", licences)
         counts.judge(entries["lib/libcozgelt.so"].linkname == "libcozgelt.so.0.2", "the link")
         modes = {name for name, entry in entries.items() if entry.mode & 0o111 and not entry.issym()}
         counts.judge(modes == {"bin/ion"}, "what can be run", modes)
@@ -63,7 +66,7 @@ def judge_linked(counts):
     with open("crates.txt", encoding="utf-8") as file:
         lines = [line.split(":") for line in file if ":" in line and not line.startswith("#")]
     own = {line[0].split()[0] for line in lines}
-    used = {word for line in lines if not line[0].startswith("ion_") or not line[0].endswith("_tests") for word in line[1].split()} - own
+    used = {word for line in lines if not line[0].endswith("_tests") for word in line[1].split()} - own
     folders = {folder for *_, folder in linked.crates()}
     counts.judge(used <= folders, "crates.txt in NOTICE", used - folders)
     listing = linked.spdx("0.2.0", "0" * 40, "1970-01-01T00:00:01Z", "kit", "2.34")
@@ -77,9 +80,11 @@ def judge_linked(counts):
 def judge_control(counts, given):
     listed = list(make_dist.files("deb", given, COMMIT, b"{}"))
     names = [name for name, _, _ in listed]
-    counts.judge("share/zsh/vendor-completions/_ion" in names and "share/doc/cozgelt/changelog.Debian.gz" in names, "Debian's names", names)
+    theirs = {"share/zsh/vendor-completions/_ion", "share/doc/cozgelt/changelog.Debian.gz"}
+    counts.judge(theirs <= set(names), "Debian's names", names)
     fields = dict(re.findall(r"^([\w-]+): (.*)$", make_dist.control(COMMIT, listed, "2.34"), re.M))
-    counts.judge((fields["Package"], fields["Version"], fields["Depends"]) == ("cozgelt", COMMIT.version, "libc6 (>= 2.34)"), "control", fields)
+    wanted = {"Package": "cozgelt", "Version": COMMIT.version, "Depends": "libc6 (>= 2.34)"}
+    counts.judge(wanted.items() <= fields.items(), "control", fields)
     counts.judge(make_dist.shlibs(COMMIT, listed) == f"libcozgelt 0.2 cozgelt (>= {COMMIT.version})\n", "shlibs")
     libc = make_dist.oldest_libc([given.program, given.library + "/lib/libcozgelt.so.0.2"])
     counts.judge(libc == "2.34", "the oldest C library, as README has it", libc)

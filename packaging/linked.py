@@ -26,8 +26,11 @@ def licence_texts(kit):
 
 
 def package(name, version, licence, text="NOASSERTION"):
-    return {"name": name, "SPDXID": "SPDXRef-" + re.sub(r"[^A-Za-z0-9.]", "-", name), "versionInfo": version, "downloadLocation": "NOASSERTION",
-            "filesAnalyzed": False, "licenseConcluded": licence, "licenseDeclared": licence, "copyrightText": text}
+    return {
+        "name": name, "SPDXID": "SPDXRef-" + re.sub(r"[^A-Za-z0-9.]", "-", name), "versionInfo": version,
+        "downloadLocation": "NOASSERTION", "filesAnalyzed": False,
+        "licenseConcluded": licence, "licenseDeclared": licence, "copyrightText": text,
+    }
 
 
 def spdx(version, commit, made, kit_line, libc):

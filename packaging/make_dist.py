@@ -1,12 +1,13 @@
 #!/usr/bin/env python3
-"""Makes what is handed on of the present commit, in dist/: a Debian package, a tarball of the same files, the list of all that is linked
-(SPDX), and SHA256SUMS.
+"""Makes what is handed on of the present commit, in dist/: a Debian package, a tarball of the same files, the list of all
+that is linked (SPDX), and SHA256SUMS.
 
     packaging/make_dist.py --library PREFIX [--program PROGRAM] [--kit KIT] [--out FOLDER]
 
-PREFIX is where `make -C bindings/c install PREFIX=..` has put the library for C, PROGRAM is crates/ion_tool/out/ion_tool where it is not
-named, and KIT, of which the licence texts are taken, /opt/rattle. The same program, library and commit give the same bytes, whenever and wherever
-it is run: times are the commit's, and owners root. docs/INSTALL.md says where each file goes.
+PREFIX is where `make -C bindings/c install PREFIX=..` has put the library for C, PROGRAM is
+crates/ion_tool/out/ion_tool where it is not named, and KIT, of which the licence texts are taken, /opt/rattle. The same
+program, library and commit give the same bytes, whenever and wherever it is run: times are the commit's, and owners
+root. docs/INSTALL.md says where each file goes.
 """
 import argparse
 import datetime
@@ -60,8 +61,8 @@ class Commit:
 
 def oldest_libc(paths):
     """The oldest C library that has all names that these files ask for."""
-    numbers = [tuple(map(int, found.split(b"."))) for path in paths for found in re.findall(rb"\0GLIBC_(\d+(?:\.\d+)+)(?=\0)", read(path))]
-    return ".".join(map(str, max(numbers)))
+    found = [number for path in paths for number in re.findall(rb"\0GLIBC_(\d+(?:\.\d+)+)(?=\0)", read(path))]
+    return ".".join(map(str, max(tuple(map(int, number.split(b"."))) for number in found)))
 
 
 def packed(data):
@@ -107,7 +108,8 @@ def files(form, given, commit, spdx):
         yield f"{DOC}/LICENSE", 0o644, read(f"{ROOT}/LICENSE")
         yield f"{DOC}/NOTICE", 0o644, read(f"{ROOT}/NOTICE")
     else:
-        yield f"{DOC}/copyright", 0o644, read(f"{ROOT}/NOTICE") + b"\nThe Apache License is in /usr/share/common-licenses/Apache-2.0.\n"
+        where = b"\nThe Apache License is in /usr/share/common-licenses/Apache-2.0.\n"
+        yield f"{DOC}/copyright", 0o644, read(f"{ROOT}/NOTICE") + where
         entry = f"{NAME} ({commit.version}) unstable; urgency=low\n\n  * Built from {commit.number}.\n\n"
         entry += f" -- {MAINTAINER}  {commit.when:%a, %d %b %Y %H:%M:%S +0000}\n"
         yield f"{DOC}/changelog.Debian.gz", 0o644, packed(entry.encode())
@@ -140,8 +142,9 @@ def write(path, mode, data):
 
 def control(commit, listed, libc):
     room = sum((len(data) + 1023) // 1024 for _, _, data in listed)
-    lines = [f"Package: {NAME}", f"Version: {commit.version}", "Architecture: amd64", f"Maintainer: {MAINTAINER}", f"Installed-Size: {room}",
-             f"Depends: libc6 (>= {libc})", "Section: utils", "Priority: optional", f"Description: {DESCRIPTION}"]
+    lines = [f"Package: {NAME}", f"Version: {commit.version}", "Architecture: amd64", f"Maintainer: {MAINTAINER}"]
+    lines += [f"Installed-Size: {room}", f"Depends: libc6 (>= {libc})", "Section: utils", "Priority: optional"]
+    lines += [f"Description: {DESCRIPTION}"]
     return "\n".join(lines) + "\n"
 
 
@@ -166,7 +169,8 @@ def make_package(path, listed, commit, libc):
             for name in [*folders, *names, "."]:
                 os.utime(os.path.join(folder, name), (commit.time, commit.time), follow_symlinks=False)
         environment = dict(os.environ, SOURCE_DATE_EPOCH=str(commit.time))
-        subprocess.run(["dpkg-deb", "--root-owner-group", "-Zxz", "--build", root, path], check=True, stdout=subprocess.DEVNULL, env=environment)
+        words = ["dpkg-deb", "--root-owner-group", "-Zxz", "--build", root, path]
+        subprocess.run(words, check=True, stdout=subprocess.DEVNULL, env=environment)
 
 
 def arguments():
@@ -185,15 +189,17 @@ def main():
     os.chdir(ROOT)
     subprocess.run([sys.executable, "packaging/make_pages.py", "--check", given.program], check=True)
     commit = Commit(given.program)
-    libc = oldest_libc([given.program] + [f"{given.library}/lib/{name}" for name in os.listdir(f"{given.library}/lib") if ".so." in name])
+    shared = [f"{given.library}/lib/{name}" for name in os.listdir(f"{given.library}/lib") if ".so." in name]
+    libc = oldest_libc([given.program, *shared])
     kit_line = read(f"{given.kit}/KIT-ID").decode().strip()
     listing = linked.spdx(commit.version, commit.number, f"{commit.when:%Y-%m-%dT%H:%M:%SZ}", kit_line, libc)
     spdx = (json.dumps(listing, indent=1) + "\n").encode()
     shutil.rmtree(given.out, ignore_errors=True)
     os.makedirs(given.out)
-    made = [f"{NAME}_{commit.version}_amd64.deb", f"{NAME}-{commit.version}-linux-amd64.tar.gz", f"{NAME}-{commit.version}.spdx.json"]
+    top = f"{NAME}-{commit.version}"
+    made = [f"{NAME}_{commit.version}_amd64.deb", f"{top}-linux-amd64.tar.gz", f"{top}.spdx.json"]
     make_package(f"{given.out}/{made[0]}", list(files("deb", given, commit, spdx)), commit, libc)
-    make_tarball(f"{given.out}/{made[1]}", f"{NAME}-{commit.version}", files("tar", given, commit, spdx), commit)
+    make_tarball(f"{given.out}/{made[1]}", top, files("tar", given, commit, spdx), commit)
     write(f"{given.out}/{made[2]}", 0o644, spdx)
     sums = "".join(f"{hashlib.sha256(read(f'{given.out}/{name}')).hexdigest()}  {name}\n" for name in made)
     write(f"{given.out}/SHA256SUMS", 0o644, sums.encode())

@@ -1,11 +1,12 @@
 #!/usr/bin/env python3
-"""Writes the man page and the completions of bash, zsh and fish from what the program says of itself, or checks that they are so.
+"""Writes the man page and the completions of bash, zsh and fish from what the program says of itself, or checks that they
+are so.
 
     packaging/make_pages.py PROGRAM           writes packaging/pages/{ion.1,ion.bash,_ion,ion.fish}
     packaging/make_pages.py --check PROGRAM   says which of them differ; the status is then 1
 
-Whoever changes the help runs it and commits what it wrote: `checks/manual.py`, which the gate runs, refuses pages that differ. What
-it finds in the help and does not understand is an error, and never left out.
+Whoever changes the help runs it and commits what it wrote: `checks/manual.py`, which the gate runs, refuses pages that
+differ. What it finds in the help and does not understand is an error, and never left out.
 """
 import os
 import re
@@ -20,24 +21,26 @@ WORDS = {FORMS: ("text", "binary")}
 
 # What the page says beside the help. Lines that begin with a blank are shown as they stand.
 NOTES = """\
-With FILE - or without FILE standard input is read. Behind --catalog a - is a file of that name in the present folder, since standard
-input is most often the stream itself. A catalogue that comes by a pipe is read from /dev/stdin, and the stream then has a name:
+With FILE - or without FILE standard input is read. Behind --catalog a - is a file of that name in the present folder,
+since standard input is most often the stream itself. A catalogue that comes by a pipe is read from /dev/stdin, and the
+stream then has a name:
 
   make-tables | ion show --catalog /dev/stdin data.10n
 
 A stream is binary where its first byte is E0, whatever the file is called. A script that may run twice says --to, since convert
 alone would turn everything back. Binary is not written again as binary: that is refused as SameForm at 0.
 
-Where the reader of a pipe ends before the output does, as head does, the next write fails, and ion ends with "write fault" and status
-3. Nothing is wrong with the stream then, and what head has printed is right:
+Where the reader of a pipe ends before the output does, as head does, the next write fails, and ion ends with "write
+fault" and status 3. Nothing is wrong with the stream then, and what head has printed is right:
 
   ion show data.10n 2>/dev/null | head -n 3
 
-Check the status before you trust the output: values are written as they are read, so that a refusal comes after what stands before it.
-In a pipe "set -o pipefail" keeps the status."""
+Check the status before you trust the output: values are written as they are read, so that a refusal comes after what
+stands before it. In a pipe "set -o pipefail" keeps the status."""
 
 DIAGNOSTICS = (
-    ("refused REASON at PLACE", "The stream is not valid, or passes a limit. PLACE is the number of bytes before the faulty part. Status 1."),
+    ("refused REASON at PLACE",
+     "The stream is not valid, or passes a limit. PLACE is the number of bytes before the faulty part. Status 1."),
     ("catalog refused REASON at PLACE", "The same of the file behind --catalog. Status 1."),
     ("cannot open FILE", "The file is not there, or may not be read. Status 3."),
     ("no memory, read fault, write fault", "The system failed; nothing is said of the stream. Status 3."),
@@ -179,7 +182,8 @@ def names_of(listed):
 
 def valued(said_by, value):
     """The options that take such a value, as a pattern of the shell."""
-    return "|".join(sorted({name for listed in said_by.options.values() for names, has, _ in listed if has == value for name in names}))
+    of = [names for listed in said_by.options.values() for names, has, _ in listed if has == value]
+    return "|".join(sorted({name for names in of for name in names}))
 
 
 def bash_words(words):

@@ -1,18 +1,19 @@
 #!/usr/bin/python3
 """Converts a tree of folders of Ion files on the workers of a dask cluster.
 
-Each file below SOURCE whose name ends in .ion or .10n becomes one at the same place below DEST, with the ending .ion for text and .10n for
-binary. It is written under another name and renamed once it is whole, so that a file of DEST is a whole one; what workers that were killed
-left is swept at the end. Of a file that is refused there is none. REPORT gets a line of JSON for each file:
+Each file below SOURCE whose name ends in .ion or .10n becomes one at the same place below DEST, with the ending .ion
+for text and .10n for binary. It is written under another name and renamed once it is whole, so that a file of DEST is a
+whole one; what workers that were killed left is swept at the end. Of a file that is refused there is none. REPORT gets
+a line of JSON for each file:
 
     {"file": .., "status": "ok", "out": .., "bytes": ..}                 converted
     {"file": .., "status": "refused", "reason": .., "place": ..}         ion refuses it, for this reason and at this place
     {"file": .., "status": "failed", "why": ..}                          it could not be read, or its result not be written
 
-besides the file's size and time and the words that ion was given. Run again with the same words it goes on: what is ok or refused in REPORT, and has
-the same size and time, is left out, and what failed is tried again. SOURCE, DEST and PROGRAM are paths that every worker sees. One such run at
-a time may write to a DEST. The status is 0 where all files are ok, 1 where some are refused, 2 for wrong words or two files of one name in
-DEST, 3 where some failed.
+besides the file's size and time and the words that ion was given. Run again with the same words it goes on: what is ok
+or refused in REPORT, and has the same size and time, is left out, and what failed is tried again. SOURCE, DEST and
+PROGRAM are paths that every worker sees. One such run at a time may write to a DEST. The status is 0 where all files
+are ok, 1 where some are refused, 2 for wrong words or two files of one name in DEST, 3 where some failed.
 """
 import argparse
 import json
@@ -52,7 +53,8 @@ def convert_one(program, words, source, dest, name, out):
         told.update(size=there.st_size, time=there.st_mtime_ns, words=words)
         os.makedirs(os.path.dirname(target), exist_ok=True)
         with open(part, "xb") as file:
-            run = subprocess.run([program, "convert", *words, "--", path], stdin=subprocess.DEVNULL, stdout=file, stderr=subprocess.PIPE)
+            command = [program, "convert", *words, "--", path]
+            run = subprocess.run(command, stdin=subprocess.DEVNULL, stdout=file, stderr=subprocess.PIPE)
             answer_of(run, told)
             if told["status"] == "ok":
                 told.update(out=out, bytes=os.fstat(file.fileno()).st_size)
@@ -208,7 +210,8 @@ def arguments():
     words.add_argument("--workers", metavar="N", type=int, default=os.cpu_count(), help="how many these are")
     words.add_argument("--ion", metavar="PROGRAM", default="ion")
     words.add_argument("--batch", metavar="N", type=int, default=8, help="files that are handed out together")
-    words.add_argument("--option", metavar="WORD", action="append", default=[], help="a word more for ion convert, as --option=--depth=100")
+    words.add_argument("--option", metavar="WORD", action="append", default=[],
+                       help="a word more for ion convert, as --option=--depth=100")
     for name in ("source", "dest", "report"):
         words.add_argument(name, metavar=name.upper())
     given = words.parse_args()

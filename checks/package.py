@@ -61,12 +61,21 @@ def judge_tarball(counts, given, folder):
             counts.judge(tar.extractfile("cozgelt/bin/ion").read() == program.read(), "the program as it was built")
 
 
-def judge_linked(counts):
-    """NOTICE's table has each crate of crates.txt, and the list has each of NOTICE's."""
+def linked_by(name):
+    """The crates of the kit that this one and those below it stand on, by crates.txt."""
     with open("crates.txt", encoding="utf-8") as file:
         lines = [line.split(":") for line in file if ":" in line and not line.startswith("#")]
-    own = {line[0].split()[0] for line in lines}
-    used = {word for line in lines if not line[0].endswith("_tests") for word in line[1].split()} - own
+    below = {line[0].split()[0]: line[1].split() for line in lines}
+    todo, found = [name], set()
+    while todo:
+        for used in below.get(todo.pop(), ()):
+            (todo.append if used in below else found.add)(used)
+    return found
+
+
+def judge_linked(counts):
+    """NOTICE's table has each crate that is linked, and the list has each of NOTICE's."""
+    used = linked_by("ion_tool") | linked_by("cozgelt_c")
     folders = {folder for *_, folder in linked.crates()}
     counts.judge(used <= folders, "crates.txt in NOTICE", used - folders)
     listing = linked.spdx("0.2.0", "0" * 40, "1970-01-01T00:00:01Z", "kit", "2.34")

@@ -151,13 +151,13 @@ def main():
     if not os.access(program, os.X_OK):
         sys.exit(f"there is no program {program}: (cd crates/ion_tool && rt run) builds it")
     pages = []
-    for name in ["README.md", "CONTRIBUTING.md", "SECURITY.md", "CHANGELOG.md"] + sorted(glob.glob("docs/*.md")):
+    for name in ["README.md", "CONTRIBUTING.md", "SECURITY.md", "CHANGELOG.md", *sorted(glob.glob("docs/*.md")), *sorted(glob.glob("examples/*/*.md"))]:
         with open(name, encoding="utf-8") as file:
             text = file.read()
         page = Page(name)
         pages.append(page)
         check_links(page, text)
-        if name not in ("README.md", "docs/DIFFERENCES.md"):
+        if name not in ("README.md", "docs/DIFFERENCES.md") and not name.startswith("examples/"):
             continue
         with tempfile.TemporaryDirectory() as folder:
             os.mkdir(folder + "/bin")

@@ -3,23 +3,34 @@ use Rattle.std.proofs.Common.{◌≡◌, List, [], Option, None, Some, inl, inr,
 use Rattle.std.specs.Prelude.{option_map}
 use Rattle.clap.specs.Words.{Row, Text}
 use Rattle.ion_meter.specs.declared.limits.Limits.{Limits}
+use Rattle.ion_transcode.specs.declared.to.Form.{Form}
+use Rattle.ion_transcode.specs.declared.to.Form.TheVariants as form
 use Rattle.ion_tool.specs.declared.words.Action.{Action}
 use Rattle.ion_tool.specs.declared.words.Action.TheVariants.{Show, Check, Convert}
-use Rattle.ion_tool.specs.Words.{action_name, catalog_in, file_in, limits_in, IsRun, Names}
+use Rattle.ion_tool.specs.Words.{action_name, catalog_in, file_in, form_in, form_name, form_word, limits_in, IsRun, Names}
 
-some_is : {T : Type 0} {x y : T} → Some x ≡ Some y → x ≡ y
+pub some_is : {T : Type 0} {x y : T} → Some x ≡ Some y → x ≡ y
 some_is e = cc e
 
-name_is : (a b : Action) → action_name a ≡ action_name b → a ≡ b
-name_is Show Show e = refl
-name_is Show Check e = absurd (cc e)
-name_is Check Show e = absurd (cc e)
-name_is Check Check e = refl
-name_is Show Convert e = absurd (cc e)
-name_is Check Convert e = absurd (cc e)
-name_is Convert Show e = absurd (cc e)
-name_is Convert Check e = absurd (cc e)
-name_is Convert Convert e = refl
+form_is : (f g : Option Form) → option_map form_name f ≡ option_map form_name g → f ≡ g
+form_is None None e = refl
+form_is None (Some g) e = absurd (cc e)
+form_is (Some f) None e = absurd (cc e)
+form_is (Some form.Text) (Some form.Text) e = refl
+form_is (Some form.Text) (Some form.Binary) e = absurd (cc e)
+form_is (Some form.Binary) (Some form.Text) e = absurd (cc e)
+form_is (Some form.Binary) (Some form.Binary) e = refl
+
+action_is : (a b : Action) → action_name a ≡ action_name b → form_word a ≡ form_word b → a ≡ b
+action_is Show Show e w = refl
+action_is Show Check e w = absurd (cc e)
+action_is Check Show e w = absurd (cc e)
+action_is Check Check e w = refl
+action_is Show (Convert g) e w = absurd (cc e)
+action_is Check (Convert g) e w = absurd (cc e)
+action_is (Convert f) Show e w = absurd (cc e)
+action_is (Convert f) Check e w = absurd (cc e)
+action_is (Convert f) (Convert g) e w = ap (λ (t : Option Form). Convert t) (form_is f g w)
 
 -- no words name nothing
 names_nothing : (b : Action) (m : Limits) (d h : Option Text) → Names [] b m d h → ⊥
@@ -41,7 +52,7 @@ one_run words a b l m c d f h (inr n) (inl none) = absurd (names_nothing a l c f
 one_run words a b l m c d f h (inr n) (inr o) =
     let both : (action_name a, n.rows) ≡ (action_name b, o.rows) = some_is (sym n.named ∙ o.named) in
     let same = ap (λ p. p.1) both in (
-      name_is a b (ap (λ p. p.0) both),
+      action_is a b (ap (λ p. p.0) both) (sym n.formed ∙ (ap form_in same ∙ o.formed)),
       same_limits l m n.rows o.rows same n.limited o.limited,
       same_name catalog_in c d n.rows o.rows same n.catalogued o.catalogued,
       same_name file_in f h n.rows o.rows same n.filed o.filed,

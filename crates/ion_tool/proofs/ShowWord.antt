@@ -2,10 +2,11 @@
 use Rattle.std.proofs.Common.{refl, [], ◌∷◌, codes, ◌≡◌, Some, None, List}
 use Rattle.clap.proofs.OnLiterals.{clap_on_literals}
 use Rattle.clap.specs.Words.{Text, fault_of}
-use Rattle.clap.specs.declared.error.kind.ErrorKind.TheVariants.{DisplayVersion, ValueValidation}
+use Rattle.clap.specs.declared.error.kind.ErrorKind.TheVariants.{DisplayVersion, UnknownArgument, ValueValidation}
 use Rattle.ion_meter.specs.declared.limits.Limits.{Limits}
 use Rattle.ion_meter.specs.Limits.{default_limits}
 use Rattle.ion_tool.specs.Words.{ion_app, limits_in, Names}
+use Rattle.ion_transcode.specs.declared.to.Form.TheVariants as form
 use Rattle.ion_tool.specs.declared.words.Action.TheVariants.{Show, Check, Convert}
 
 -- without options the limits are the usual ones
@@ -15,7 +16,7 @@ usual_limits = refl
 -- the one word `show` names what no words ask for
 pub show_is_named : Names (codes "show" ∷ []) Show default_limits None None
 unfolding clap_on_literals
-show_is_named = record { rows = _; faultless = refl; named = refl; limited = refl; catalogued = refl; filed = refl }
+show_is_named = record { rows = _; faultless = refl; named = refl; formed = refl; limited = refl; catalogued = refl; filed = refl }
 
 abbrev words : List Text
 words = codes "check" ∷ codes "--depth" ∷ codes "65535" ∷ codes "--scalar=0" ∷ codes "data.10n" ∷ []
@@ -26,22 +27,40 @@ limits = record default_limits { depth = 65535; scalar = 0 }
 -- options change their limits, and a word more is the file
 pub check_is_named : Names words Check limits None (Some (codes "data.10n"))
 unfolding clap_on_literals
-check_is_named = record { rows = _; faultless = refl; named = refl; limited = refl; catalogued = refl; filed = refl }
+check_is_named = record { rows = _; faultless = refl; named = refl; formed = refl; limited = refl; catalogued = refl; filed = refl }
 
 -- the word `convert` is the third action
-pub convert_is_named : Names (codes "convert" ∷ codes "data.ion" ∷ []) Convert default_limits None (Some (codes "data.ion"))
+pub convert_is_named : Names (codes "convert" ∷ codes "data.ion" ∷ []) (Convert None) default_limits None (Some (codes "data.ion"))
 unfolding clap_on_literals
-convert_is_named = record { rows = _; faultless = refl; named = refl; limited = refl; catalogued = refl; filed = refl }
+convert_is_named = record { rows = _; faultless = refl; named = refl; formed = refl; limited = refl; catalogued = refl; filed = refl }
+
+-- with `--to` it has the form that is named
+pub text_is_named : Names (codes "convert" ∷ codes "--to" ∷ codes "text" ∷ codes "data.10n" ∷ []) (Convert (Some form.Text)) default_limits None (Some (codes "data.10n"))
+unfolding clap_on_literals
+text_is_named = record { rows = _; faultless = refl; named = refl; formed = refl; limited = refl; catalogued = refl; filed = refl }
+
+pub binary_is_named : Names (codes "convert" ∷ codes "--to=binary" ∷ []) (Convert (Some form.Binary)) default_limits None None
+unfolding clap_on_literals
+binary_is_named = record { rows = _; faultless = refl; named = refl; formed = refl; limited = refl; catalogued = refl; filed = refl }
+
+-- no other subcommand has that option
+pub show_has_one_form : fault_of ion_app (codes "show" ∷ codes "--to" ∷ codes "text" ∷ []) ≡ UnknownArgument ∷ []
+unfolding clap_on_literals
+show_has_one_form = refl
+
+pub check_has_none : fault_of ion_app (codes "check" ∷ codes "--to=binary" ∷ []) ≡ UnknownArgument ∷ []
+unfolding clap_on_literals
+check_has_none = refl
 
 -- the catalogue has its option, and the word `-` names no file
 pub catalog_is_named : Names (codes "show" ∷ codes "--catalog" ∷ codes "tables.ion" ∷ codes "-" ∷ []) Show default_limits (Some (codes "tables.ion")) None
 unfolding clap_on_literals
-catalog_is_named = record { rows = _; faultless = refl; named = refl; limited = refl; catalogued = refl; filed = refl }
+catalog_is_named = record { rows = _; faultless = refl; named = refl; formed = refl; limited = refl; catalogued = refl; filed = refl }
 
 -- behind that option `-` is a name as any other
 pub dash_is_named : Names (codes "show" ∷ codes "--catalog" ∷ codes "-" ∷ []) Show default_limits (Some (codes "-")) None
 unfolding clap_on_literals
-dash_is_named = record { rows = _; faultless = refl; named = refl; limited = refl; catalogued = refl; filed = refl }
+dash_is_named = record { rows = _; faultless = refl; named = refl; formed = refl; limited = refl; catalogued = refl; filed = refl }
 
 -- the version is asked for before any subcommand
 pub version_is_asked : fault_of ion_app (codes "--version" ∷ []) ≡ DisplayVersion ∷ []

@@ -11,6 +11,8 @@ use Rattle.clap.specs.declared.error.kind.ErrorKind.{ErrorKind}
 use Rattle.clap.specs.declared.error.kind.ErrorKind.TheVariants.{DisplayHelp, DisplayVersion, OutOfMemory}
 use Rattle.ion_meter.specs.Limits.{AreChecked, default_limits}
 use Rattle.ion_meter.specs.declared.limits.Limits.{Limits}
+use Rattle.ion_transcode.specs.declared.to.Form.{Form}
+use Rattle.ion_transcode.specs.declared.to.Form.TheVariants as form
 use Rattle.ion_tool.specs.declared.words.Action.{Action}
 use Rattle.ion_tool.specs.declared.words.Action.TheVariants.{Show, Check, Convert}
 use Rattle.ion_tool.specs.declared.words.Request.{Request}
@@ -19,6 +21,10 @@ use Rattle.ion_tool.specs.declared.words.Request.TheVariants.{Run, Help, Usage}
 -- `--NAME N`, where N is at most this number
 abbrev pub limit_rule : Text → ℕ → Rule
 limit_rule name most = record (new_rule name) { long = Some name; parser = Some (Unsigned 0 most); value_names = 1 }
+
+-- `--to FORM`
+abbrev pub form_rule : Rule
+form_rule = record (new_rule (codes "to")) { long = Some (codes "to"); value_names = 1 }
 
 -- `--catalog FILE`
 abbrev pub catalog_rule : Rule
@@ -33,25 +39,36 @@ with_limits app =
     (limit_rule (codes "symbols") 1073741824))
     (limit_rule (codes "value") 1073741824)
 
--- a subcommand: `NAME [--catalog FILE] [--depth N] [--scalar N] [--symbols N] [--value N] [FILE]`
-abbrev pub action_app : Text → App
-action_app name = with_rule (with_limits (with_rule (new_app name) catalog_rule)) (new_rule (codes "FILE"))
+-- a subcommand behind what it has of its own: `[--catalog FILE] [--depth N] [--scalar N] [--symbols N] [--value N] [FILE]`
+abbrev pub action_app : App → App
+action_app app = with_rule (with_limits (with_rule app catalog_rule)) (new_rule (codes "FILE"))
 
 -- the program's name, before its subcommands, of which one has to be named; it has a version
 abbrev pub bare_app : App
 bare_app = let a = new_app (codes "ion") in record a { top = record a.top { no_binary_name = true; subcommand_required = true; has_version = true } }
 
--- `ion show`, `ion check`, `ion convert`
+-- `ion show`, `ion check`, `ion convert [--to FORM]`
 abbrev pub ion_app : App
 ion_app =
-    with_subcommand (with_subcommand (with_subcommand bare_app (action_app (codes "show")).top) (action_app (codes "check")).top)
-    (action_app (codes "convert")).top
+    with_subcommand (with_subcommand (with_subcommand bare_app (action_app (new_app (codes "show"))).top) (action_app (new_app (codes "check"))).top)
+    (action_app (with_rule (new_app (codes "convert")) form_rule)).top
 
 -- the subcommand for an action
 abbrev pub action_name : Action → Text
 action_name Show = codes "show"
 action_name Check = codes "check"
-action_name Convert = codes "convert"
+action_name (Convert to) = codes "convert"
+
+-- the word for a form
+abbrev pub form_name : Form → Text
+form_name form.Text = codes "text"
+form_name form.Binary = codes "binary"
+
+-- the word that `--to` has for an action, where that names a form
+abbrev pub form_word : Action → Option Text
+form_word Show = None
+form_word Check = None
+form_word (Convert to) = option_map form_name to
 
 -- the number of a text that the option takes: digits, of a number that is at most this one
 abbrev pub number_in : ℕ → Text → Option ℕ
@@ -71,6 +88,10 @@ limits_in rows =
     (limit_in (codes "scalar") 1073741824 default_limits.scalar rows))
     (limit_in (codes "depth") 65535 default_limits.depth rows)
 
+-- the word of `--to`, where a subcommand is given one
+abbrev pub form_in : List Row → Option Text
+form_in rows = first_of (codes "to") rows
+
 -- the name of the file with the catalogue, where a subcommand is given one
 abbrev pub catalog_in : List Row → Option Text
 catalog_in rows = first_of (codes "catalog") rows
@@ -84,11 +105,12 @@ file_for (Some word) = if bytes_eq word (codes "-") then None else Some word
 abbrev pub file_in : List Row → Option Text
 file_in rows = file_for (first_of (codes "FILE") rows)
 
--- `clap` finds no fault in the words, and they name the subcommand for the action, with these limits, this catalogue and this file
+-- `clap` finds no fault in the words, and they name the subcommand and the form for the action, with these limits, this catalogue and this file
 pub record Names (words : List Text) (action : Action) (limits : Limits) (catalog file : Option Text) : Type 0 where
   pub rows : List Row
   pub faultless : fault_of ion_app words ≡ []
   pub named : subcommand_of ion_app words ≡ Some (action_name action, rows)
+  pub formed : form_in rows ≡ form_word action
   pub limited : limits_in rows ≡ Some limits
   pub catalogued : catalog_in rows ≡ catalog
   pub filed : file_in rows ≡ file
@@ -106,7 +128,7 @@ AsksRun words = (action : Action) × (limits : Limits) × (catalog : Option Text
 abbrev pub IsHelp : List Text → Type 0
 IsHelp words = IsAmong DisplayHelp (fault_of ion_app words) ⊎ IsAmong DisplayVersion (fault_of ion_app words)
 
--- the words are wrong: `clap` may find a fault in them that asks for neither, or it finds none and the numbers are past a limit
+-- the words are wrong: `clap` may find a fault in them that asks for neither, or it finds none and `--to` names no form
 abbrev pub IsUsage : List Text → Type 0
 IsUsage words =
     (fault_of ion_app words ≡ []) ⊎ ((kind : ErrorKind) × IsAmong kind (fault_of ion_app words) × (kind ≢ DisplayHelp) × (kind ≢ DisplayVersion))

@@ -3,12 +3,13 @@ ghost use Rattle.std.specs.Prelude.{◌≡◌, ◌≢◌, ◌≤◌, false, IfOk
 ghost use Rattle.clap.specs.Words.{Row, app_of, found_of, kind_of, rows_of, rule_of, fault_of, FailsBy, new_rule, subcommand_of, subcommand_rows_of, with_subcommand};
 ghost use Rattle.clap.specs.declared.builder.command.Command.TheViews.{out-Command};
 ghost use Rattle.ion_meter.specs.Limits.{AreChecked};
-ghost use Rattle.ion_tool.specs.Words.{action_app, with_limits, action_name, bare_app, catalog_in, catalog_rule, file_for, file_in, ion_app, limit_in, limit_rule, limits_in, Asks, AnswersError, IsRequestFor};
+ghost use Rattle.ion_tool.specs.Words.{action_app, with_limits, action_name, bare_app, catalog_in, catalog_rule, file_for, file_in, form_in, form_rule, form_word, ion_app, limit_in, limit_rule, limits_in, Asks, AnswersError, IsRequestFor};
 
 use clap::builder::ValueParser;
 use clap::error::ErrorKind;
 use clap::{Arg, ArgMatches, Command, Error};
 use ion_meter::limits::Limits;
+use ion_transcode::to::Form;
 use std::alloc::{AllocError, Global};
 
 /// What is done with the stream.
@@ -18,8 +19,9 @@ pub enum Action {
     Show,
     /// It is read, and the number of its values is written.
     Check,
-    /// It is written in the other form: text as binary, and binary as text.
-    Convert,
+    /// It is written in this form, or where none is named in the other one: text as binary, and
+    /// binary as text.
+    Convert(Option<Form>),
 }
 
 /// One run of the program.
@@ -61,8 +63,11 @@ limit, is refused: standard error then says why, and at which byte offset.";
 const USAGE: &str = "ion <show|check|convert> [OPTIONS] [FILE]
        as in: ion show data.ion";
 
-/// What is said of wrong words of which `clap` says nothing.
-const WRONG: &str = "error: no such command or limit\n";
+/// What is said of wrong words of which `clap` says nothing: `--to` alone takes any word there.
+const WRONG: &str = "error: '--to <FORM>' takes text or binary
+
+For more information, try '--help'.
+";
 
 const AFTER: &str = "Without a command and arguments, ion shows standard input.
 
@@ -76,6 +81,7 @@ Examples:
   ion show data.ion
   ion check < data.10n
   ion convert data.ion > data.10n
+  ion convert --to text data.10n > data.ion
   ion show --catalog tables.ion data.10n";
 
 /// An option `--NAME N`, where N is at most this number. Help lists it unless it is hidden.
@@ -89,6 +95,17 @@ fn limit_arg<'a>(alloc: Global, name: &'a str, most: u64, help: &'a str, is_hidd
         .value_parser(ValueParser::unsigned(0, most))
         .help(help)
         .hide(is_hidden)
+}
+
+/// The option `--to FORM`. Which words name a form is seen later.
+fn form_arg<'a>(alloc: Global) -> Arg<'a>
+    ensures rule { rule_of result ≡ form_rule }
+    ensures own { result.global ≡ false }
+{
+    Arg::new(alloc, "to")
+        .long("to")
+        .value_name("FORM")
+        .help("Form to write, text or binary [default: the other one]")
 }
 
 /// The option `--catalog FILE`.
@@ -133,18 +150,19 @@ fn with_limits<'a>(
         .arg(limit_arg(alloc, "value", most, value, !writes_binary))
 }
 
-/// A subcommand with its options.
+/// A subcommand with its texts, and the options that each has behind its own.
 fn action_command<'a>(
     alloc: Global,
-    name: &'a str,
+    command: Command<'a>,
     about: &'a str,
     example: &'a str,
     writes_binary: bool,
 ) -> Result<Command<'a>, AllocError>
-    ensures app { IfOk result (λ c. app_of c ≡ action_app name.entry.now) }
+    requires { (out-Command command).has_globals ≡ false }
+    ensures app { IfOk result (λ c. app_of c ≡ action_app (app_of command.entry)) }
     ensures own { IfOk result (λ c. (out-Command c).has_globals ≡ false) }
 {
-    let command = Command::new(alloc, name)
+    let command = command
         .about(about)
         .after_help(example)
         .arg(catalog_arg(alloc))?;
@@ -168,15 +186,16 @@ fn top_command<'a>(alloc: Global) -> Command<'a>
 fn with_action<'a>(
     alloc: Global,
     command: Command<'a>,
-    name: &'a str,
+    action: Command<'a>,
     about: &'a str,
     example: &'a str,
     writes_binary: bool,
 ) -> Result<Command<'a>, AllocError>
+    requires { (out-Command action).has_globals ≡ false }
     ensures app { IfOk result (λ c.
-        app_of c ≡ with_subcommand (app_of command.entry) (action_app name.entry.now).top) }
+        app_of c ≡ with_subcommand (app_of command.entry) (action_app (app_of action.entry)).top) }
 {
-    let action = action_command(alloc, name, about, example, writes_binary)?;
+    let action = action_command(alloc, action, about, example, writes_binary)?;
     command.subcommand(action)
 }
 
@@ -184,16 +203,18 @@ fn with_action<'a>(
 fn command<'a>(alloc: Global) -> Result<Command<'a>, AllocError>
     ensures app { IfOk result (λ c. app_of c ≡ ion_app) }
 {
-    let show = "Writes the values as canonical Ion text, a line each";
-    let check = "Reads the whole stream and counts its values, as in: ok 6 values";
-    let convert = "Writes the values in the other form: text as binary, binary as text";
-    let command = top_command(alloc);
+    let about = "Writes the values as canonical Ion text, a line each";
     let example = "Example: ion show data.ion";
-    let command = with_action(alloc, command, "show", show, example, false)?;
+    let show = Command::new(alloc, "show");
+    let command = with_action(alloc, top_command(alloc), show, about, example, false)?;
+    let about = "Reads the whole stream and counts its values, as in: ok 6 values";
     let example = "Example: ion check < data.10n";
-    let command = with_action(alloc, command, "check", check, example, false)?;
-    let example = "Example: ion convert data.ion > data.10n";
-    with_action(alloc, command, "convert", convert, example, true)?.bin_name("ion")
+    let check = Command::new(alloc, "check");
+    let command = with_action(alloc, command, check, about, example, false)?;
+    let about = "Writes the values in the other form: text as binary, binary as text";
+    let example = "Example: ion convert --to binary data.ion > data.10n";
+    let convert = Command::new(alloc, "convert").arg(form_arg(alloc))?;
+    with_action(alloc, command, convert, about, example, true)?.bin_name("ion")
 }
 
 /// The matches of the words.
@@ -264,15 +285,19 @@ fn limits_of(options: &ArgMatches<'_>) -> Option<Limits>
     })
 }
 
-/// The action that a subcommand stands for.
-fn action_of(name: &str) -> Option<Action>
-    ensures some { IfSome result (λ a. name.now ≡ action_name a) }
-    ensures none { result ≡ None → (a : Action) → name.now ≢ action_name a }
+/// The action that a subcommand stands for, with the word that `--to` gives it.
+fn action_of(name: &str, form: Option<&str>) -> Option<Action>
+    ensures some { IfSome result (λ a. (name.now ≡ action_name a)
+        × (option_map (λ s. s.now) form.entry ≡ form_word a)) }
+    ensures none { result ≡ None → (a : Action) → name.now ≡ action_name a
+        → option_map (λ s. s.now) form.entry ≢ form_word a }
 {
-    match name {
-        "show" => Some(Action::Show),
-        "check" => Some(Action::Check),
-        "convert" => Some(Action::Convert),
+    match (name, form) {
+        ("show", None) => Some(Action::Show),
+        ("check", None) => Some(Action::Check),
+        ("convert", None) => Some(Action::Convert(None)),
+        ("convert", Some("text")) => Some(Action::Convert(Some(Form::Text))),
+        ("convert", Some("binary")) => Some(Action::Convert(Some(Form::Binary))),
         _ => None,
     }
 }
@@ -292,15 +317,17 @@ fn file_of<'a>(word: Option<&'a str>) -> Option<&'a str>
 fn asked_by<'a>(matches: &ArgMatches<'a>) -> Option<Asked<'a>>
     ensures some { IfSome result (λ a. (rows : List Row)
         × (subcommand_rows_of matches.now ≡ Some (action_name a.action, rows))
+        × (form_in rows ≡ form_word a.action)
         × (limits_in rows ≡ Some a.limits) × AreChecked a.limits
         × (catalog_in rows ≡ option_map (λ s. s.now) a.catalog)
         × (file_in rows ≡ option_map (λ s. s.now) a.file)) }
     ensures none { result ≡ None → (action : Action) (rows : List Row)
         → subcommand_rows_of matches.now ≡ Some (action_name action, rows)
+        → form_in rows ≡ form_word action
         → limits_in rows ≡ None }
 {
     let (name, options) = matches.subcommand()?;
-    let action = action_of(name)?;
+    let action = action_of(name, options.get_str("to"))?;
     let limits = limits_of(options)?;
     let catalog = options.get_str("catalog");
     let file = file_of(options.get_str("FILE"));
@@ -358,8 +385,8 @@ pub fn read_words(alloc: Global, words: &[String]) -> Result<Request, AllocError
     };
     match asked_by(&matches) {
         Some(asked) => request_for(alloc, asked),
-        // No words lead here: `clap` answers its own subcommand, `help`, by an error, and so numbers
-        // that are past a limit.
+        // `--to` names no form. No other words lead here: `clap` answers its own subcommand, `help`,
+        // by an error, and so numbers that are past a limit.
         None => Ok(Request::Usage(String::from_str(alloc, WRONG)?)),
     }
 }

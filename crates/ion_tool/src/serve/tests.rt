@@ -229,6 +229,84 @@ fn converts_to_the_other_form(rt: HostRuntime) -> Result<(), Fail> {
     Ok(())
 }
 
+/// Words that name a form, a stream, and what they answer.
+struct Formed {
+    words: &'static [&'static str],
+    input: &'static [u8],
+    status: u8,
+    out: &'static [u8],
+    err: &'static str,
+}
+
+/// A binary stream, and the same in text.
+const MARKED: &[u8] = b"\xE0\x01\x00\xEA\xD8\x84\xB6\x21\x01\x53\xC2\x80\x96";
+
+const LINE: &[u8] = b"{name:[1,-1.50]}\n";
+
+// Each form to each, which is not written again as binary; over a file, and with a catalogue.
+const FORMED: [Formed; 7] = [
+    Formed {
+        words: &["convert", "--to", "text"],
+        input: b"{name: [1, -1.50]}",
+        status: 0,
+        out: LINE,
+        err: "",
+    },
+    Formed {
+        words: &["convert", "--to", "binary"],
+        input: LINE,
+        status: 0,
+        out: MARKED,
+        err: "",
+    },
+    Formed {
+        words: &["convert", "--to=text", "-"],
+        input: MARKED,
+        status: 0,
+        out: LINE,
+        err: "",
+    },
+    Formed {
+        words: &["convert", "--to=binary"],
+        input: MARKED,
+        status: 1,
+        out: b"",
+        err: "refused SameForm at 0\n",
+    },
+    Formed {
+        words: &["convert", "--to", "binary", "file"],
+        input: LINE,
+        status: 1,
+        out: b"",
+        err: "refused SameForm at 0\n",
+    },
+    Formed {
+        words: &["convert", "--catalog", "c", "--to", "text"],
+        input: IMPORTS,
+        status: 0,
+        out: b"a\np\n",
+        err: "",
+    },
+    Formed {
+        words: &["convert", "--to", "binary"],
+        input: b"5 [6, x",
+        status: 1,
+        out: b"\xE0\x01\x00\xEA\x21\x05",
+        err: "refused Truncated at 7\n",
+    },
+];
+
+#[test]
+fn converts_to_the_form_that_is_named(rt: HostRuntime) -> Result<(), Fail> {
+    for row in &FORMED {
+        let answer = served_with(rt.alloc(), row.words, TABLES, row.input)?;
+        assert_eq!(rt; answer.status, row.status);
+        assert_eq!(rt; answer.out.as_slice(), row.out);
+        assert_eq!(rt; answer.err.as_slice(), row.err.as_bytes());
+    }
+    Ok(())
+}
+
 // Decimals behind a version marker, and how they are shown: with a point where the exponent is from
 // 0 down to -38.
 const DECIMALS: [(&[u8], &str); 9] = [
@@ -539,6 +617,7 @@ fn reads_words(rt: HostRuntime) -> Result<(), Fail> {
     let show = b"ion show data.ion".as_slice();
     let check = b"ion check < data.10n".as_slice();
     let convert = b"ion convert data.ion > data.10n".as_slice();
+    let to = b"ion convert --to binary data.ion > data.10n".as_slice();
     let helped: [(&'static [&'static str], &[u8]); 8] = [
         (&["--help"], show),
         (&["--help"], check),
@@ -547,7 +626,7 @@ fn reads_words(rt: HostRuntime) -> Result<(), Fail> {
         (&["show", "--help"], show),
         (&["help", "show"], show),
         (&["check", "--help"], check),
-        (&["convert", "--help"], convert),
+        (&["convert", "--help"], to),
     ];
     for (words, example) in helped {
         let answer = served(rt.alloc(), words, b"")?;
@@ -561,6 +640,11 @@ fn reads_words(rt: HostRuntime) -> Result<(), Fail> {
         &["show", "a", "b"],
         &["show", "--depth", "65536"],
         &["show", "--scalar", "x"],
+        &["show", "--to", "text"],
+        &["check", "--to", "binary"],
+        &["convert", "--to", "other"],
+        &["convert", "--to"],
+        &["convert", "--to", "text", "--to", "text"],
         &["write"],
         &["--depth", "3"],
         &["--"],

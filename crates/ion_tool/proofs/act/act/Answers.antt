@@ -13,6 +13,6 @@ returns-in-Show-clause-answered g c i o =
 pub returns-in-Convert-clause-answered : goal.returns-in-Convert-clause-answered
 returns-in-Convert-clause-answered g c i o =
     rw c.in-Convert.is (
-    written action.Convert (λ v text. refl) c.args.catalog.now c.args.limits (g.I.Input.rest c.args.input) (g.O.Output.written c.args.out) (g.O.Output.written c.run_stream-in-Convert.result.2) (g.O.Output.observable c.args.out) o
+    written (action.Convert c.in-Convert.to) (λ v text. refl) c.args.catalog.now c.args.limits (g.I.Input.rest c.args.input) (g.O.Output.written c.args.out) (g.O.Output.written c.run_stream-in-Convert.result.2) (g.O.Output.observable c.args.out) o
     c.run_stream-in-Convert.result.0 (c.run_stream-in-Convert.ensures.transcoded i)
     )

@@ -1,6 +1,6 @@
 use Rattle.std.proofs.Common.{rules, ap, ap₂, false, ◌≡◌, ◌∙◌, ◌||◌}
 use Rattle.std.proofs.lemmas.Result.{IfOk-weaker}
-use Rattle.clap.specs.Words.{app_of, new_app, with_rule}
+use Rattle.clap.specs.Words.{app_of, with_rule}
 use Rattle.clap.specs.declared.builder.command.Command.TheViews.{out-Command}
 use Rattle.ion_tool.specs.Words.{with_limits}
 use Rattle.ion_tool.proofs.words.action_command.Goals as goal
@@ -8,7 +8,7 @@ use Rattle.ion_tool.proofs.words.action_command.Goals as goal
 -- each argument is one rule more
 pub returns-clause-app : goal.returns-clause-app
 returns-clause-app c =
-    let bare : app_of c.after_help.result ≡ new_app c.args.name.now = search rules in
+    let bare : app_of c.after_help.result ≡ app_of c.args.command = search rules in
     let a1 = c.in_ok-command.ensures.shape c.catalog_arg.ensures.own ∙ ap₂ with_rule bare c.catalog_arg.ensures.rule in
     let a2 = c.in_ok-with_limits.ensures.app ∙ ap with_limits a1 in
     IfOk-weaker c.arg-2.result _ _ (λ x h. h.shape c.file_arg.ensures.own ∙ ap₂ with_rule a2 c.file_arg.ensures.rule) c.arg-2.ensures

@@ -1,7 +1,8 @@
-use Rattle.std.proofs.Common.{rules, ap, sym, ◌∙◌, codes}
+use Rattle.std.proofs.Common.{rules, ◌≡◌, Some, ap, sym, ◌∙◌, codes}
 use Rattle.clap.proofs.WalkLemmas.{first_value-rows}
-use Rattle.clap.specs.Words.{found_of, rows_of}
-use Rattle.ion_tool.specs.Words.{file_for}
+use Rattle.clap.specs.Words.{found_of, rows_of, subcommand_rows_of}
+use Rattle.ion_tool.specs.Words.{action_name, file_for, form_in}
+use Rattle.ion_tool.proofs.OneRun.{some_is}
 use Rattle.ion_tool.proofs.words.asked_by.Goals as goal
 
 pub returns-clause-some : goal.returns-clause-some
@@ -9,8 +10,18 @@ returns-clause-some c =
     let found = found_of c.in_ok-name.options.now in (
       rows_of found,
       search rules,
+      sym (first_value-rows found (codes "to")) ∙ (sym c.get_str.ensures ∙ c.in_ok-action.ensures.some.1),
       search rules,
       search rules,
       sym (c.get_str-catalog.ensures ∙ first_value-rows found (codes "catalog")),
-      sym (c.file_of-file.ensures ∙ ap file_for (c.get_str.ensures ∙ first_value-rows found (codes "FILE"))),
+      sym (c.file_of-file.ensures ∙ ap file_for (c.get_str-2.ensures ∙ first_value-rows found (codes "FILE"))),
     )
+
+-- no action has this name and this form
+pub returns-in_err-action-clause-none : goal.returns-in_err-action-clause-none
+returns-in_err-action-clause-none c none action rows named formed =
+    let found = found_of c.in_ok-name.options.now in
+    let mine : subcommand_rows_of c.args.matches.now ≡ Some (c.in_ok-name.name.now, rows_of found) = search rules in
+    let both : (c.in_ok-name.name.now, rows_of found) ≡ (action_name action, rows) = some_is (sym mine ∙ named) in
+    let given = first_value-rows found (codes "to") ∙ (ap form_in (ap (λ p. p.1) both) ∙ formed) in
+    absurd (c.action_of.ensures.none c.in_err-action.was action (ap (λ p. p.0) both) (c.get_str.ensures ∙ given))

@@ -1,0 +1,96 @@
+/* Amazon Ion 1.0 in the caller's memory, text or binary: as canonical text, as binary, or checked.
+ *
+ * What a call answers, and every byte that it writes, is proved (crates/cozgelt_c), of callers that keep what no proof sees of C:
+ *  - each pointer is not null, also where its length is 0, and points at as many bytes as its length says;
+ *  - limits and answer point at whole structs, which were set as COZGELT_LIMITS and COZGELT_ANSWER set them;
+ *  - room and answer overlap neither one another nor limits, catalog or stream (these may overlap one another), and nobody else
+ *    uses them during the call, nor changes limits, catalog or stream;
+ *  - malloc, realloc and free belong together, and malloc aligns as C asks of it;
+ *  - no call is made from a signal handler, nor in a forked child of a process that had threads.
+ *
+ * A call keeps nothing. It takes memory by malloc, for the whole output too, and gives all of it back before it returns. There is
+ * no state, so any number of threads may call at once.
+ *
+ * The statuses 2 and 4 come where malloc gave nothing; no proof sees malloc, so that this is only tested.
+ *
+ * What does not lie in memory is for the program: a stream of any length goes through `ion show`, `ion convert` or `ion check` by a
+ * pipe. stream.c, beside this file, does that; docs/LIBRARY.md has the whole. */
+#ifndef COZGELT_H
+#define COZGELT_H
+
+#include <stddef.h>
+#include <stdint.h>
+
+#ifdef __cplusplus
+extern "C" {
+#endif
+
+/* 10,000 times the version's first number, 100 times the second, and the third. Before 1.0 the second rises where something
+ * breaks. */
+#define COZGELT_VERSION 200
+
+typedef struct {
+    uint32_t size;    /* sizeof(CozgeltLimits) */
+    uint32_t depth;   /* containers open at once, at most 65,535 */
+    uint64_t scalar;  /* bytes of one scalar, at most 2^30 */
+    uint64_t symbols; /* bytes of one symbol table, and of all tables of the catalogue, at most 2^30 */
+    uint64_t value;   /* bytes of one value at top level, written as binary, at most 2^30 */
+    uint64_t input;   /* bytes of the stream, and of the catalogue, at most 2^48 */
+} CozgeltLimits;
+
+/* Those of the program: 64; 1,048,576; 1,048,576; 16,777,216; 2^48. */
+#define COZGELT_LIMITS {sizeof(CozgeltLimits), 64, 1048576, 1048576, 16777216, (uint64_t)1 << 48}
+
+typedef struct {
+    uint32_t size;   /* sizeof(CozgeltAnswer) */
+    uint32_t reason; /* COZGELT_REFUSED, COZGELT_CATALOG_REFUSED: why; cozgelt_reason has its name */
+    uint64_t place;  /* the same: the first byte of the faulty part, counted from 0 */
+    uint64_t values; /* COZGELT_ACCEPTED: how many values the stream has at top level */
+    uint64_t needed; /* COZGELT_ACCEPTED, COZGELT_REFUSED: how many bytes the output has */
+} CozgeltAnswer;
+
+#define COZGELT_ANSWER {sizeof(CozgeltAnswer), 0, 0, 0, 0}
+
+enum {
+    COZGELT_ACCEPTED = 0,         /* the output stands at the front of room, if needed <= room_len; else room is as it was */
+    COZGELT_REFUSED = 1,          /* the same of what stands before the faulty part */
+    COZGELT_NO_MEMORY = 2,        /* malloc gave nothing. Here, and with all statuses below, room is as it was */
+    COZGELT_INPUT_LIMIT = 3,      /* stream or catalogue are longer than limits->input */
+    COZGELT_NO_OUTPUT_MEMORY = 4, /* malloc gave nothing for the output */
+    COZGELT_INVALID = 5,          /* structs of another size, or limits above their maxima */
+    COZGELT_CATALOG_REFUSED = 6   /* the catalogue is refused: reason and place are of it */
+};
+
+/* For catalog and catalog_len, where there is none. */
+#define COZGELT_NO_CATALOG (const uint8_t *)"", 0
+
+/* The version that the library was built as, to compare with COZGELT_VERSION. */
+uint32_t cozgelt_version(void);
+
+/* The stream, text or binary, as canonical text: each value at top level is a line. catalog: a stream of shared symbol tables, for
+ * the imports of the other. Where room_len is 0, a call tells how long the output is. */
+uint32_t cozgelt_to_text(const CozgeltLimits *limits, const uint8_t *catalog, size_t catalog_len, const uint8_t *stream,
+                         size_t stream_len, uint8_t *room, size_t room_len, CozgeltAnswer *answer);
+
+/* The stream, a text, as canonical binary. One that is binary is refused (SameForm, 22, at 0). */
+uint32_t cozgelt_to_binary(const CozgeltLimits *limits, const uint8_t *catalog, size_t catalog_len, const uint8_t *stream,
+                           size_t stream_len, uint8_t *room, size_t room_len, CozgeltAnswer *answer);
+
+/* Whether the stream is accepted. The output is empty. */
+uint32_t cozgelt_check(const CozgeltLimits *limits, const uint8_t *catalog, size_t catalog_len, const uint8_t *stream,
+                       size_t stream_len, uint8_t *room, size_t room_len, CozgeltAnswer *answer);
+
+/* The name of a reason, as docs/REFUSALS.md has it; "" of any other number. */
+static inline const char *cozgelt_reason(uint32_t number) {
+    static const char *const names[] = {
+        "", "Truncated", "BadDescriptor", "BadVar", "Overrun", "BadVersion", "BadAnnotation", "BadNumber", "BadTimestamp",
+        "Range", "BadText", "Float", "BadToken", "BadLob", "DepthLimit", "ScalarLimit", "AnnotationLimit", "BadSymbol",
+        "UnknownSymbol", "BadTable", "SymbolLimit", "ValueLimit", "SameForm", "CatalogEntry"};
+    return number < sizeof names / sizeof *names ? names[number] : "";
+}
+
+#ifdef __cplusplus
+}
+#endif
+
+#endif

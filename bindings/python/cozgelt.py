@@ -1,0 +1,141 @@
+"""Amazon Ion 1.0, text or binary: as canonical text, as binary, or checked, by the proved library of Cozgelt.
+
+>>> to_text(b"{a: 1.50, b: [2, x]}")
+b'{a:1.50,b:[2,x]}\\n'
+>>> to_text(to_binary(b"{a: 1.50}"))
+b'{a:1.50}\\n'
+>>> check(b"1 2 3")
+3
+>>> check(b"[[1]]", depth=1)
+Traceback (most recent call last):
+    ...
+cozgelt.Refused: refused DepthLimit at 1
+>>> tables = b'$ion_shared_symbol_table::{name: "x", version: 1, symbols: ["p", "q"]}'
+>>> to_text(b'$ion_symbol_table::{imports: [{name: "x", version: 1, max_id: 2}]} $10 $11', catalog=tables)
+b'p\\nq\\n'
+
+Catalogue and limits go by keyword, with the defaults of the program. libcozgelt.so is looked for at the path in
+COZGELT_LIBRARY, then beside this file, then where the system looks. Any number of threads may call at once.
+"""
+import ctypes
+import ctypes.util
+import os
+from typing import Tuple
+
+__all__ = ["to_text", "to_binary", "check", "version", "Refused", "CatalogRefused", "InputLimit", "Invalid"]
+
+_REASONS = ("", "Truncated", "BadDescriptor", "BadVar", "Overrun", "BadVersion", "BadAnnotation", "BadNumber", "BadTimestamp",
+            "Range", "BadText", "Float", "BadToken", "BadLob", "DepthLimit", "ScalarLimit", "AnnotationLimit", "BadSymbol",
+            "UnknownSymbol", "BadTable", "SymbolLimit", "ValueLimit", "SameForm", "CatalogEntry")
+_VERSION = 200  # of cozgelt.h, which this module goes with
+
+
+class Refused(ValueError):
+    """The stream is refused. reason: a name of docs/REFUSALS.md; place: the first byte of the faulty part, counted from 0;
+    output: that of what stands before it."""
+
+    def __init__(self, reason: str, place: int, output: bytes = b"") -> None:
+        super().__init__(f"refused {reason} at {place}")
+        self.reason = reason
+        self.place = place
+        self.output = output
+
+
+class CatalogRefused(ValueError):
+    """The catalogue is refused; reason and place are of it."""
+
+    def __init__(self, reason: str, place: int) -> None:
+        super().__init__(f"catalog refused {reason} at {place}")
+        self.reason = reason
+        self.place = place
+
+
+class InputLimit(ValueError):
+    """The stream or the catalogue is longer than the limit on the input."""
+
+
+class Invalid(ValueError):
+    """A limit is above its maximum."""
+
+
+class _Limits(ctypes.Structure):
+    _fields_ = [("size", ctypes.c_uint32), ("depth", ctypes.c_uint32), ("scalar", ctypes.c_uint64), ("symbols", ctypes.c_uint64),
+                ("value", ctypes.c_uint64), ("input", ctypes.c_uint64)]
+
+
+class _Answer(ctypes.Structure):
+    _fields_ = [("size", ctypes.c_uint32), ("reason", ctypes.c_uint32), ("place", ctypes.c_uint64), ("values", ctypes.c_uint64),
+                ("needed", ctypes.c_uint64)]
+
+
+def _load() -> ctypes.CDLL:
+    beside = os.path.join(os.path.dirname(os.path.abspath(__file__)), "libcozgelt.so")
+    path = os.environ.get("COZGELT_LIBRARY") or (beside if os.path.exists(beside) else ctypes.util.find_library("cozgelt"))
+    if not path:
+        raise ImportError("there is no libcozgelt.so: COZGELT_LIBRARY may name it")
+    library = ctypes.CDLL(path)
+    library.cozgelt_version.argtypes = []
+    library.cozgelt_version.restype = ctypes.c_uint32
+    if library.cozgelt_version() != _VERSION:
+        raise ImportError(f"{path} is another version than this module")
+    for name in ("cozgelt_to_text", "cozgelt_to_binary", "cozgelt_check"):
+        call = getattr(library, name)
+        call.argtypes = [ctypes.POINTER(_Limits), ctypes.c_char_p, ctypes.c_size_t, ctypes.c_char_p, ctypes.c_size_t,
+                         ctypes.c_void_p, ctypes.c_size_t, ctypes.POINTER(_Answer)]
+        call.restype = ctypes.c_uint32
+    return library
+
+
+_library = _load()
+
+
+def _call(name: str, stream: bytes, catalog: bytes, limits: Tuple[int, int, int, int, int], guess: int) -> Tuple[bytes, int]:
+    """The output, and how many values there are. guess: how long the output may be at the first try."""
+    for number, most in zip(limits, (65535, 1 << 30, 1 << 30, 1 << 30, 1 << 48)):
+        if not 0 <= number <= most:
+            raise Invalid(f"{number} is no limit from 0 to {most}")
+    given = _Limits(ctypes.sizeof(_Limits), *limits)
+    answer = _Answer(ctypes.sizeof(_Answer))
+    while True:
+        room = ctypes.create_string_buffer(max(guess, 1))
+        status = getattr(_library, name)(given, catalog, len(catalog), stream, len(stream), room, guess, answer)
+        if status > 1 or answer.needed <= guess:
+            break
+        guess = answer.needed
+    if status in (2, 4):
+        raise MemoryError("no memory")
+    if status == 3:
+        raise InputLimit("longer than the limit on the input")
+    if status == 5:
+        raise Invalid("a limit is above its maximum")
+    if status == 6:
+        raise CatalogRefused(_REASONS[answer.reason], answer.place)
+    output = ctypes.string_at(room, answer.needed)
+    if status == 1:
+        raise Refused(_REASONS[answer.reason], answer.place, output)
+    return output, answer.values
+
+
+def to_text(stream: bytes, *, catalog: bytes = b"", depth: int = 64, scalar: int = 1 << 20, symbols: int = 1 << 20,
+            value: int = 1 << 24, input: int = 1 << 48) -> bytes:
+    """The stream, text or binary, as canonical text: each value at top level is a line. catalog: a stream of shared symbol
+    tables, for the imports of the other."""
+    return _call("cozgelt_to_text", stream, catalog, (depth, scalar, symbols, value, input), 2 * len(stream) + 64)[0]
+
+
+def to_binary(stream: bytes, *, catalog: bytes = b"", depth: int = 64, scalar: int = 1 << 20, symbols: int = 1 << 20,
+              value: int = 1 << 24, input: int = 1 << 48) -> bytes:
+    """The stream, a text, as canonical binary. One that is binary is refused as SameForm."""
+    return _call("cozgelt_to_binary", stream, catalog, (depth, scalar, symbols, value, input), len(stream) + 64)[0]
+
+
+def check(stream: bytes, *, catalog: bytes = b"", depth: int = 64, scalar: int = 1 << 20, symbols: int = 1 << 20,
+          value: int = 1 << 24, input: int = 1 << 48) -> int:
+    """How many values the stream has at top level."""
+    return _call("cozgelt_check", stream, catalog, (depth, scalar, symbols, value, input), 0)[1]
+
+
+def version() -> str:
+    """The version of the library, three numbers."""
+    number: int = _library.cozgelt_version()
+    return f"{number // 10000}.{number // 100 % 100}.{number % 100}"

@@ -1,0 +1,289 @@
+//! Amazon Ion 1.0 over slices, text or binary: as canonical text, as binary, or checked, by the proved library of
+//! Cozgelt. What is accepted, what is refused, why and where, and every byte of the output are what its definitions say.
+//!
+//! ```
+//! use cozgelt::{check, to_binary, to_text, Error, Limits, Reason};
+//!
+//! let limits = Limits::default();
+//! let binary = to_binary(b"{a: 1.50}", &[], &limits)?;
+//! assert_eq!(to_text(&binary, &[], &limits)?, b"{a:1.50}\n");
+//! assert_eq!(check(b"1 2 3", &[], &limits)?, 3);
+//! let Err(Error::Refused(refusal)) = check(b"[[1]]", &[], &Limits { depth: 1, ..limits }) else { panic!() };
+//! assert_eq!((refusal.reason, refusal.place), (Reason::DepthLimit, 1));
+//! # Ok::<(), Error>(())
+//! ```
+//!
+//! Each call takes a stream and a catalogue, which is a stream of shared symbol tables for the imports of the other, and
+//! empty where there are none. Calls have no state, and any number of threads may make them at once.
+#![warn(missing_docs)]
+
+use std::fmt;
+use std::mem::size_of;
+
+mod reason;
+
+pub use reason::Reason;
+
+/// How much a call may take.
+#[derive(Clone, Copy, Debug, PartialEq, Eq, Hash)]
+pub struct Limits {
+    /// Containers open at once: at most 65,535.
+    pub depth: u32,
+    /// Bytes of one scalar: at most 2^30.
+    pub scalar: u64,
+    /// Bytes of one symbol table, and of all tables of the catalogue: at most 2^30.
+    pub symbols: u64,
+    /// Bytes of one value at top level, written as binary: at most 2^30.
+    pub value: u64,
+    /// Bytes of the stream, and of the catalogue: at most 2^48.
+    pub input: u64,
+}
+
+impl Default for Limits {
+    /// Those of the program.
+    fn default() -> Limits {
+        Limits {
+            depth: 64,
+            scalar: 1 << 20,
+            symbols: 1 << 20,
+            value: 1 << 24,
+            input: 1 << 48,
+        }
+    }
+}
+
+/// A refusal of a stream.
+#[derive(Clone, Debug, PartialEq, Eq)]
+pub struct Refusal {
+    /// Why.
+    pub reason: Reason,
+    /// The first byte of the faulty part, counted from 0.
+    pub place: u64,
+    /// The output of what stands before it.
+    pub output: Vec<u8>,
+}
+
+/// Why there is no answer.
+#[derive(Clone, Debug, PartialEq, Eq)]
+#[non_exhaustive]
+pub enum Error {
+    /// The stream is refused.
+    Refused(Refusal),
+    /// The catalogue is refused: why, and where.
+    CatalogRefused(Reason, u64),
+    /// There is no memory.
+    NoMemory,
+    /// The stream or the catalogue is longer than the limit on the input.
+    InputLimit,
+    /// A limit is above its maximum.
+    Invalid,
+    /// The library that was linked is another version than this crate.
+    OtherVersion,
+}
+
+impl fmt::Display for Error {
+    fn fmt(&self, f: &mut fmt::Formatter<'_>) -> fmt::Result {
+        match self {
+            Error::Refused(refusal) => write!(f, "refused {} at {}", refusal.reason, refusal.place),
+            Error::CatalogRefused(reason, place) => {
+                write!(f, "catalog refused {reason} at {place}")
+            }
+            Error::NoMemory => f.write_str("no memory"),
+            Error::InputLimit => f.write_str("longer than the limit on the input"),
+            Error::Invalid => f.write_str("a limit is above its maximum"),
+            Error::OtherVersion => f.write_str("libcozgelt is another version than the crate"),
+        }
+    }
+}
+
+impl std::error::Error for Error {}
+
+// ---- what cozgelt.h declares
+
+const VERSION: u32 = 200;
+
+#[repr(C)]
+struct CLimits {
+    size: u32,
+    depth: u32,
+    scalar: u64,
+    symbols: u64,
+    value: u64,
+    input: u64,
+}
+
+#[repr(C)]
+struct CAnswer {
+    size: u32,
+    reason: u32,
+    place: u64,
+    values: u64,
+    needed: u64,
+}
+
+type Call = unsafe extern "C" fn(
+    *const CLimits,
+    *const u8,
+    usize,
+    *const u8,
+    usize,
+    *mut u8,
+    usize,
+    *mut CAnswer,
+) -> u32;
+
+extern "C" {
+    fn cozgelt_version() -> u32;
+    fn cozgelt_to_text(
+        limits: *const CLimits,
+        catalog: *const u8,
+        catalog_len: usize,
+        stream: *const u8,
+        stream_len: usize,
+        room: *mut u8,
+        room_len: usize,
+        answer: *mut CAnswer,
+    ) -> u32;
+    fn cozgelt_to_binary(
+        limits: *const CLimits,
+        catalog: *const u8,
+        catalog_len: usize,
+        stream: *const u8,
+        stream_len: usize,
+        room: *mut u8,
+        room_len: usize,
+        answer: *mut CAnswer,
+    ) -> u32;
+    fn cozgelt_check(
+        limits: *const CLimits,
+        catalog: *const u8,
+        catalog_len: usize,
+        stream: *const u8,
+        stream_len: usize,
+        room: *mut u8,
+        room_len: usize,
+        answer: *mut CAnswer,
+    ) -> u32;
+}
+
+// ---- the calls
+
+/// The status of one call with so much room, with the room and the answer.
+fn once(
+    call: Call,
+    stream: &[u8],
+    catalog: &[u8],
+    limits: &Limits,
+    size: usize,
+) -> Result<(u32, Vec<u8>, CAnswer), Error> {
+    let Limits {
+        depth,
+        scalar,
+        symbols,
+        value,
+        input,
+    } = *limits;
+    let limits = CLimits {
+        size: size_of::<CLimits>() as u32,
+        depth,
+        scalar,
+        symbols,
+        value,
+        input,
+    };
+    let mut answer = CAnswer {
+        size: size_of::<CAnswer>() as u32,
+        reason: 0,
+        place: 0,
+        values: 0,
+        needed: 0,
+    };
+    let mut room = Vec::new();
+    room.try_reserve_exact(size).map_err(|_| Error::NoMemory)?;
+    room.resize(size, 0);
+    // SAFETY: each pointer is that of a whole slice or struct, which is borrowed for the call; room and answer are
+    // borrowed mutably, so that they overlap nothing and nobody else uses them.
+    let status = unsafe {
+        call(
+            &limits,
+            catalog.as_ptr(),
+            catalog.len(),
+            stream.as_ptr(),
+            stream.len(),
+            room.as_mut_ptr(),
+            room.len(),
+            &mut answer,
+        )
+    };
+    Ok((status, room, answer))
+}
+
+/// The output, and how many values there are. guess: how long the output may be at the first try.
+fn convert(
+    call: Call,
+    stream: &[u8],
+    catalog: &[u8],
+    limits: &Limits,
+    guess: usize,
+) -> Result<(Vec<u8>, u64), Error> {
+    // SAFETY: it takes nothing, and answers a number.
+    if unsafe { cozgelt_version() } != VERSION {
+        return Err(Error::OtherVersion);
+    }
+    let (mut status, mut room, mut answer) = once(call, stream, catalog, limits, guess)?;
+    if status <= 1 && answer.needed > guess as u64 {
+        let needed = usize::try_from(answer.needed).map_err(|_| Error::NoMemory)?;
+        (status, room, answer) = once(call, stream, catalog, limits, needed)?;
+    }
+    let reason = Reason::of(answer.reason).ok_or(Error::OtherVersion);
+    room.truncate(answer.needed as usize);
+    match status {
+        0 => Ok((room, answer.values)),
+        1 => Err(Error::Refused(Refusal {
+            reason: reason?,
+            place: answer.place,
+            output: room,
+        })),
+        2 | 4 => Err(Error::NoMemory),
+        3 => Err(Error::InputLimit),
+        5 => Err(Error::Invalid),
+        6 => Err(Error::CatalogRefused(reason?, answer.place)),
+        _ => Err(Error::OtherVersion),
+    }
+}
+
+/// The stream, text or binary, as canonical text: each value at top level is a line.
+pub fn to_text(stream: &[u8], catalog: &[u8], limits: &Limits) -> Result<Vec<u8>, Error> {
+    Ok(convert(
+        cozgelt_to_text,
+        stream,
+        catalog,
+        limits,
+        stream.len().saturating_mul(2).saturating_add(64),
+    )?
+    .0)
+}
+
+/// The stream, a text, as canonical binary. One that is binary is refused as `SameForm`.
+pub fn to_binary(stream: &[u8], catalog: &[u8], limits: &Limits) -> Result<Vec<u8>, Error> {
+    Ok(convert(
+        cozgelt_to_binary,
+        stream,
+        catalog,
+        limits,
+        stream.len().saturating_add(64),
+    )?
+    .0)
+}
+
+/// How many values the stream has at top level.
+pub fn check(stream: &[u8], catalog: &[u8], limits: &Limits) -> Result<u64, Error> {
+    Ok(convert(cozgelt_check, stream, catalog, limits, 0)?.1)
+}
+
+/// The version of the library, as three numbers.
+pub fn version() -> (u32, u32, u32) {
+    // SAFETY: it takes nothing, and answers a number.
+    let number = unsafe { cozgelt_version() };
+    (number / 10_000, number / 100 % 100, number % 100)
+}

@@ -1,0 +1,105 @@
+//! One call of each kind, refusals, wrong calls, and four threads at once.
+use cozgelt::{check, to_binary, to_text, version, Error, Limits, Reason};
+
+const TABLES: &[u8] = b"$ion_shared_symbol_table::{name:\"x\",version:1,symbols:[\"p\",\"q\"]}";
+
+fn refused(answer: Result<Vec<u8>, Error>) -> (Reason, u64, Vec<u8>) {
+    match answer {
+        Err(Error::Refused(refusal)) => (refusal.reason, refusal.place, refusal.output),
+        other => panic!("{other:?}"),
+    }
+}
+
+#[test]
+fn there_and_back() {
+    let limits = Limits::default();
+    let binary = to_binary(b"a::{b: [1.50, \"x\"]}", &[], &limits).unwrap();
+    assert_eq!(binary[..4], [0xE0, 1, 0, 0xEA]);
+    assert_eq!(
+        to_text(&binary, &[], &limits).unwrap(),
+        b"a::{b:[1.50,\"x\"]}\n"
+    );
+    assert_eq!(check(&binary, &[], &limits), Ok(1));
+    assert_eq!(to_text(b"", &[], &limits), Ok(Vec::new()));
+    assert_eq!(version(), (0, 2, 0));
+}
+
+#[test]
+fn refusals_have_a_place_and_what_stands_before() {
+    let limits = Limits::default();
+    assert_eq!(
+        refused(to_text(b"1 [2, 3] 4e0", &[], &limits)),
+        (Reason::Float, 9, b"1\n[2,3]\n".to_vec())
+    );
+    assert_eq!(
+        refused(to_binary(b"\xE0\x01\x00\xEA", &[], &limits)),
+        (Reason::SameForm, 0, Vec::new())
+    );
+    let why = check(b"[[1]]", &[], &Limits { depth: 1, ..limits }).unwrap_err();
+    assert_eq!(why.to_string(), "refused DepthLimit at 1");
+}
+
+#[test]
+fn imports_are_found_in_the_catalogue() {
+    let stream = b"$ion_symbol_table::{imports:[{name:\"x\",version:1,max_id:2}]} $10 $11";
+    assert_eq!(
+        to_text(stream, TABLES, &Limits::default()).unwrap(),
+        b"p\nq\n"
+    );
+    assert_eq!(
+        check(stream, b"1", &Limits::default()),
+        Err(Error::CatalogRefused(Reason::CatalogEntry, 0))
+    );
+}
+
+#[test]
+fn an_output_longer_than_guessed() {
+    let symbol = [
+        b"$ion_symbol_table::{symbols:[\"".as_slice(),
+        &[b'a'; 1000],
+        b"\"]}",
+        &b" $10".repeat(1000),
+    ]
+    .concat();
+    assert_eq!(
+        to_text(&symbol, &[], &Limits::default()).unwrap().len(),
+        1_001_000
+    );
+}
+
+#[test]
+fn wrong_calls() {
+    let limits = Limits::default();
+    assert_eq!(
+        check(
+            b"1",
+            &[],
+            &Limits {
+                depth: 65_536,
+                ..limits
+            }
+        ),
+        Err(Error::Invalid)
+    );
+    assert_eq!(
+        check(b"1 2", &[], &Limits { input: 2, ..limits }),
+        Err(Error::InputLimit)
+    );
+}
+
+#[test]
+fn four_threads_at_once() {
+    let stream = b"{name: abc, list: [1, 2.50, 2026-11-26T]} ".repeat(500);
+    let binary = to_binary(&stream, &[], &Limits::default()).unwrap();
+    let text = to_text(&stream, &[], &Limits::default()).unwrap();
+    std::thread::scope(|scope| {
+        for _ in 0..4 {
+            scope.spawn(|| {
+                for _ in 0..50 {
+                    assert_eq!(to_binary(&stream, &[], &Limits::default()).unwrap(), binary);
+                    assert_eq!(to_text(&binary, &[], &Limits::default()).unwrap(), text);
+                }
+            });
+        }
+    });
+}

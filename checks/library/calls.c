@@ -1,0 +1,160 @@
+/* Right and wrong calls of each kind, then four threads at once. The last line is `N passed, M failed`. */
+#include "cozgelt.h"
+#include <pthread.h>
+#include <stdio.h>
+#include <string.h>
+
+static int passed, failed;
+
+static void judge(int right, const char *what) {
+    if (right)
+        passed++;
+    else
+        failed++, printf("FAILED %s\n", what);
+}
+
+#define STREAM(text) (const uint8_t *)(text), sizeof(text) - 1
+#define TEXT "1 [2, 3] {a: 1.50}"
+#define SHOWN "1\n[2,3]\n{a:1.50}\n"
+#define IMPORT "$ion_symbol_table::{imports:[{name:\"x\",version:1,max_id:2}]} $10 $11"
+#define TABLE "$ion_shared_symbol_table::{name:\"x\",version:1,symbols:[\"p\",\"q\"]}"
+
+static uint8_t room[100];
+static CozgeltLimits limits;
+static CozgeltAnswer answer;
+
+/* Limits, answer and room as they are before a call; the room is full of marks. */
+static void begin(void) {
+    CozgeltLimits l = COZGELT_LIMITS;
+    CozgeltAnswer a = COZGELT_ANSWER;
+    limits = l, answer = a;
+    memset(room, '#', sizeof room);
+}
+
+/* Whether all of the room but its first bytes is as it was. */
+static int kept_from(size_t n) {
+    for (; n < sizeof room; n++)
+        if (room[n] != '#') return 0;
+    return 1;
+}
+
+static int no_answer(void) {
+    return answer.size == sizeof answer && !answer.reason && !answer.place && !answer.values && !answer.needed;
+}
+
+static void right_calls(void) {
+    size_t n = sizeof SHOWN - 1;
+    begin();
+    judge(cozgelt_to_text(&limits, COZGELT_NO_CATALOG, STREAM(TEXT), room, sizeof room, &answer) == COZGELT_ACCEPTED &&
+              answer.values == 3 && answer.needed == n && !memcmp(room, SHOWN, n) && kept_from(n),
+          "to text");
+    begin();
+    judge(cozgelt_to_text(&limits, COZGELT_NO_CATALOG, STREAM(TEXT), room, n, &answer) == COZGELT_ACCEPTED &&
+              !memcmp(room, SHOWN, n) && kept_from(n),
+          "to text, in a room that just suffices");
+    begin();
+    judge(cozgelt_to_binary(&limits, COZGELT_NO_CATALOG, STREAM("5"), room, sizeof room, &answer) == COZGELT_ACCEPTED &&
+              answer.needed == 6 && !memcmp(room, "\xE0\x01\x00\xEA\x21\x05", 6) && kept_from(6),
+          "to binary");
+    begin();
+    judge(cozgelt_check(&limits, COZGELT_NO_CATALOG, STREAM(TEXT), room, sizeof room, &answer) == COZGELT_ACCEPTED &&
+              answer.values == 3 && answer.needed == 0 && kept_from(0),
+          "check");
+    begin();
+    judge(cozgelt_to_text(&limits, STREAM(TABLE), STREAM(IMPORT), room, sizeof room, &answer) == COZGELT_ACCEPTED &&
+              answer.needed == 4 && !memcmp(room, "p\nq\n", 4),
+          "to text with a catalogue");
+    begin();
+    judge(cozgelt_to_text(&limits, COZGELT_NO_CATALOG, STREAM("1 [2, 4e0"), room, sizeof room, &answer) == COZGELT_REFUSED &&
+              !strcmp(cozgelt_reason(answer.reason), "Float") && answer.place == 6 && answer.needed == 4 &&
+              !memcmp(room, "1\n[2", 4) && kept_from(4),
+          "a refusal has what stands before it");
+    begin();
+    judge(cozgelt_to_text(&limits, COZGELT_NO_CATALOG, STREAM(""), room, sizeof room, &answer) == COZGELT_ACCEPTED &&
+              !answer.needed && kept_from(0),
+          "nothing");
+    judge(cozgelt_version() == COZGELT_VERSION, "the version");
+    judge(!*cozgelt_reason(0) && !*cozgelt_reason(24) && !strcmp(cozgelt_reason(23), "CatalogEntry"), "names of reasons");
+}
+
+static void wrong_calls(void) {
+    size_t n = sizeof SHOWN - 1;
+    begin();
+    judge(cozgelt_to_text(&limits, COZGELT_NO_CATALOG, STREAM(TEXT), room, n - 1, &answer) == COZGELT_ACCEPTED &&
+              answer.needed == n && kept_from(0),
+          "a room that is a byte too small");
+    begin();
+    judge(cozgelt_to_text(&limits, COZGELT_NO_CATALOG, STREAM("1 [2, 4e0"), room, 3, &answer) == COZGELT_REFUSED &&
+              answer.needed == 4 && kept_from(0),
+          "a room that is too small, of a refusal");
+    uint32_t *numbers[] = {&limits.size, &limits.depth};
+    for (int i = 0; i < 2; i++) {
+        begin();
+        *numbers[i] = i ? 65536 : 39;
+        judge(cozgelt_check(&limits, COZGELT_NO_CATALOG, STREAM("1"), room, sizeof room, &answer) == COZGELT_INVALID &&
+                  no_answer() && kept_from(0),
+              i ? "depth past its maximum" : "limits of another size");
+    }
+    uint64_t *longs[] = {&limits.scalar, &limits.symbols, &limits.value, &limits.input};
+    for (int i = 0; i < 4; i++) {
+        begin();
+        *longs[i] = ((uint64_t)1 << (i == 3 ? 48 : 30)) + 1;
+        judge(cozgelt_check(&limits, COZGELT_NO_CATALOG, STREAM("1"), room, sizeof room, &answer) == COZGELT_INVALID &&
+                  no_answer(),
+              "a limit past its maximum");
+        *longs[i] -= 1;
+        judge(cozgelt_check(&limits, COZGELT_NO_CATALOG, STREAM("1"), room, sizeof room, &answer) == COZGELT_ACCEPTED,
+              "a limit at its maximum");
+    }
+    begin();
+    answer.size = 24;
+    judge(cozgelt_check(&limits, COZGELT_NO_CATALOG, STREAM("1"), room, sizeof room, &answer) == COZGELT_INVALID &&
+              answer.size == 24,
+          "an answer of another size");
+    begin();
+    limits.input = 2;
+    judge(cozgelt_to_text(&limits, COZGELT_NO_CATALOG, STREAM("1 2"), room, sizeof room, &answer) == COZGELT_INPUT_LIMIT &&
+              no_answer() && kept_from(0),
+          "a stream past the limit");
+    judge(cozgelt_to_text(&limits, STREAM(TABLE), STREAM("1"), room, sizeof room, &answer) == COZGELT_INPUT_LIMIT,
+          "a catalogue past the limit");
+    begin();
+    judge(cozgelt_to_text(&limits, STREAM("1"), STREAM("1"), room, sizeof room, &answer) == COZGELT_CATALOG_REFUSED &&
+              answer.reason == 23 && answer.place == 0 && kept_from(0),
+          "a catalogue that is none");
+    begin();
+    judge(cozgelt_to_binary(&limits, COZGELT_NO_CATALOG, (const uint8_t *)"\xE0\x01\x00\xEA", 4, room, sizeof room, &answer) ==
+                  COZGELT_REFUSED &&
+              !strcmp(cozgelt_reason(answer.reason), "SameForm"),
+          "binary asked for from binary");
+}
+
+/* A thousand calls of each kind, each with the answer of the first. */
+static void *many(void *of) {
+    uint8_t mine[100], first[100];
+    CozgeltLimits l = COZGELT_LIMITS;
+    CozgeltAnswer a = COZGELT_ANSWER;
+    *(int *)of = 1;
+    for (int i = 0; i < 1000; i++) {
+        memset(mine, 0, sizeof mine);
+        *(int *)of &=
+            cozgelt_to_binary(&l, STREAM(TABLE), STREAM(IMPORT), mine, sizeof mine, &a) == COZGELT_ACCEPTED && a.values == 2;
+        if (!i) memcpy(first, mine, sizeof mine);
+        *(int *)of &= !memcmp(first, mine, sizeof mine);
+        *(int *)of &= cozgelt_to_text(&l, COZGELT_NO_CATALOG, STREAM(TEXT), mine, sizeof mine, &a) == COZGELT_ACCEPTED &&
+                      !memcmp(mine, SHOWN, sizeof SHOWN - 1);
+        *(int *)of &= cozgelt_check(&l, COZGELT_NO_CATALOG, STREAM("1 4e0"), mine, 0, &a) == COZGELT_REFUSED && a.place == 2;
+    }
+    return 0;
+}
+
+int main(void) {
+    right_calls();
+    wrong_calls();
+    pthread_t thread[4];
+    int right[4] = {0};
+    for (int i = 0; i < 4; i++) judge(!pthread_create(&thread[i], 0, many, &right[i]), "a thread");
+    for (int i = 0; i < 4; i++) judge(!pthread_join(thread[i], 0) && right[i], "calls of a thread beside three others");
+    printf("%d passed, %d failed\n", passed, failed);
+    return failed != 0;
+}

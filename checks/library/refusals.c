@@ -1,0 +1,78 @@
+/* Each allocation of a call refused in turn, alone and with all behind it: the status is 2 or 4, room and answer stay, and all
+ * memory is given back. To be linked with --wrap=malloc,--wrap=realloc,--wrap=free. The last line is `N passed, M failed`. */
+#include "cozgelt.h"
+#include <stdio.h>
+#include <string.h>
+
+void *__real_malloc(size_t), *__real_realloc(void *, size_t);
+void __real_free(void *);
+void *__wrap_malloc(size_t), *__wrap_realloc(void *, size_t);
+void __wrap_free(void *);
+
+static long asked, refused_from, refused_to, held;
+
+static int refuses(void) {
+    asked++;
+    return asked >= refused_from && asked <= refused_to;
+}
+
+void *__wrap_malloc(size_t size) {
+    void *block = refuses() ? 0 : __real_malloc(size);
+    held += block != 0;
+    return block;
+}
+
+void *__wrap_realloc(void *block, size_t size) {
+    void *more = refuses() ? 0 : __real_realloc(block, size);
+    held += !block && more;
+    return more;
+}
+
+void __wrap_free(void *block) {
+    held -= block != 0;
+    __real_free(block);
+}
+
+typedef uint32_t Call(const CozgeltLimits *, const uint8_t *, size_t, const uint8_t *, size_t, uint8_t *, size_t,
+                      CozgeltAnswer *);
+
+static const char stream[] = "$ion_symbol_table::{imports:[{name:\"x\",version:1,max_id:2}],symbols:[\"r\"]} $10 "
+                             "a::{b:[1,2.50,\"text\",{{aGVs}}]} $12 4e0";
+static const char table[] = "$ion_shared_symbol_table::{name:\"x\",version:1,symbols:[\"p\",\"q\"]}";
+
+/* One call; whether its answer is one that it may have. `whole`: whether no allocation was refused. */
+static int answers(Call *call, int whole) {
+    CozgeltLimits limits = COZGELT_LIMITS;
+    CozgeltAnswer answer = COZGELT_ANSWER;
+    uint8_t room[200], before[sizeof room];
+    memset(room, '#', sizeof room), memcpy(before, room, sizeof room);
+    asked = 0, held = 0;
+    uint32_t status = call(&limits, (const uint8_t *)table, sizeof table - 1, (const uint8_t *)stream, sizeof stream - 1, room,
+                           sizeof room, &answer);
+    int met = asked >= refused_from; /* else the call asked for less */
+    if (held) return 0;
+    if (whole || !met) return status == COZGELT_REFUSED && !strcmp(cozgelt_reason(answer.reason), "Float");
+    return (status == COZGELT_NO_MEMORY || status == COZGELT_NO_OUTPUT_MEMORY) && !answer.reason && !answer.needed &&
+           !memcmp(room, before, sizeof room);
+}
+
+int main(void) {
+    Call *calls[] = {cozgelt_to_text, cozgelt_to_binary, cozgelt_check};
+    int passed = 0, failed = 0;
+    for (int i = 0; i < 3; i++) {
+        refused_from = refused_to = 0;
+        int right = answers(calls[i], 1);
+        right ? passed++ : failed++;
+        long all = asked;
+        for (long n = 1; n <= all; n++)
+            for (int alone = 0; alone < 2; alone++) {
+                refused_from = n, refused_to = alone ? n : all + 1000;
+                right = answers(calls[i], 0);
+                if (!right)
+                    printf("FAILED call %d, allocation %ld of %ld%s\n", i, n, all, alone ? " alone" : " and all behind it");
+                right ? passed++ : failed++;
+            }
+    }
+    printf("%d passed, %d failed\n", passed, failed);
+    return failed != 0;
+}

@@ -16,6 +16,10 @@ mangled: cut short at each place, and with one octet replaced by 00, 7F, 80 or F
 and as binary each time. The table has the whole input's verdict and outputs; a checksum over the answers of all
 mangled inputs; and a mark for each place, which is the checksum of its inputs' answers, cut to one character, so that a
 test can name the place where an answer first differs.
+
+A table is one text, which the tests take apart, since the prover takes a text of any length as one term, and each number,
+text and tuple as one more. A line that begins with `~` is a sentence, and each line behind it is an input, with `|` behind
+each field; `%` and two digits are an octet in hexadecimal.
 """
 import os
 import re
@@ -164,23 +168,22 @@ def mark(checksum):
     return chr(ord("#") + checksum % 57)
 
 
-def literal(octets):
-    """A literal of octets."""
-    special = {0x09: "\\t", 0x0A: "\\n", 0x0D: "\\r", 0x22: '\\"', 0x5C: "\\\\"}
-    return 'b"' + "".join(special.get(one) or (chr(one) if 0x20 <= one < 0x7F else f"\\x{one:02X}") for one in octets) + '"'
+def constant(name, words):
+    """A constant text in which nothing is escaped, as `rt fmt` lays it out."""
+    if '"#' in words or not words.isascii() or words.count("~") > words.count("\n~ "):
+        sys.exit(f"no raw literal: {words}")
+    line = f'pub const {name}: &str = r#"{words}"#;\n'
+    return line if "\n" in words or len(line) <= 101 else line.replace(" = ", " =\n    ", 1)
 
 
-def quoted(words):
-    return '"' + words.replace("\\", "\\\\").replace('"', '\\"') + '"'
-
-
-def grouped(checksum):
-    digits = f"{checksum:016X}"
-    return "0x" + "_".join(digits[at:at + 4] for at in range(0, 16, 4))
+def escaped(octets):
+    """Octets as a field has them: what is no sign of ASCII, and `%`, `|`, `#` and `~`, as `%` and two digits."""
+    return "".join(chr(one) if 0x20 <= one < 0x7F and chr(one) not in "%|#~" else f"%{one:02X}" for one in octets)
 
 
 def write_vector(vector, answers):
-    """A vector as the table has it."""
+    """A vector as the table has it: the input, its verdict, what is written of it as text and as binary, the checksum over the
+    answers to all mangled inputs, and the marks."""
     shown, checked, converted = (read(answer) for answer in answers[:3])
     if shown[:3] != checked[:3] or checked[3]:
         sys.exit(f"text and nothing differ: {vector.sentence}: {answers[:3]}")
@@ -189,12 +192,12 @@ def write_vector(vector, answers):
     if converted != wanted:
         sys.exit(f"text and binary differ: {vector.sentence}: {answers[:3]}")
     reason, number, _form, output = shown
-    verdict = f"Err(Refused(Reason::{reason}, {number}))" if reason else f"Ok({number})"
+    verdict = f"{reason} {number}" if reason else str(number)
     sums = list(checksums(answers[len(TARGETS):]))
     places = [folded(sums[at:at + len(KINDS)]) for at in range(0, len(sums), len(KINDS))]
     marks = "".join(map(mark, places))
-    fields = [literal(vector.octets), verdict, literal(output), literal(converted[3]), grouped(folded(places)), quoted(marks)]
-    return f"({', '.join(fields)})"
+    fields = [escaped(vector.octets), verdict, escaped(output), escaped(converted[3]), f"{folded(places):016X}", marks]
+    return "".join(field + "|" for field in fields)
 
 
 def notes_on(vectors):
@@ -209,24 +212,23 @@ def write_table(table, answers):
     """The file of a table."""
     at = 0
     rows = []
+    notes = []
     for sentence, vectors in table.rows:
-        written = []
+        rows.append(f"~ {sentence}")
         for nth, vector in enumerate(vectors):
             if (answers[at].split(" ")[0] == "ok") != (nth == 0):
                 sys.exit(f"the first input, and no other, is accepted: {sentence}: {vector.octets!r}: {answers[at]}")
             count = sum(1 for _ in vector.lines())
-            written.append(write_vector(vector, answers[at:at + count]))
+            rows.append(write_vector(vector, answers[at:at + count]))
             at += count
-        said = "".join(f"// {line}\n" for line in notes_on(vectors))
-        rows.append(f"{said}({quoted(sentence)}, &[{', '.join(written)}]),")
-    uses = "use super::Row;\nuse ion_meter::fault::Fault::Refused;\nuse ion_meter::fault::Reason;\n"
-    head = f"//! {table.title} Written by tests/vectors/make.py.\n\n{uses}\n"
-    kept = ""
+        notes += notes_on(vectors)
+    head = f"//! {table.title} Written by tests/vectors/make.py.\n\n"
     if table.mangles == "catalogue":
-        kept = f"/// The stream that is run with each catalogue.\npub const STREAM: &[u8] = {literal(table.other)};\n\n"
+        head += "/// The stream that is run with each catalogue.\n" + constant("STREAM", table.other.decode()) + "\n"
     elif table.name == "symbols_text":
-        kept = f"/// The catalogue of each run.\npub const CATALOGUE: &[u8] = {literal(table.other)};\n\n"
-    return head + kept + "pub const ROWS: &[Row] = &[\n" + "\n".join(rows) + "\n];\n"
+        head += "/// The catalogue of each run.\n" + constant("CATALOGUE", table.other.decode()) + "\n"
+    said = "".join(f"// {line}\n" for line in notes)
+    return head + said + constant("ROWS", "\n".join(["", *rows, ""]))
 
 
 def main(words):
@@ -290,7 +292,7 @@ def write_file(table, answers, is_check):
     path = os.path.join(TABLES, table.name + ".rt")
     written = write_table(table, answers)
     before = open(path).read() if os.path.exists(path) else ""
-    if re.sub(r",?\s+", "", before) == re.sub(r",?\s+", "", written):
+    if before == written:
         return 0
     if is_check:
         print(f"{path} would change")

@@ -1,9 +1,10 @@
 //! Which catalogues are loaded, in whatever pieces they come, and which are refused.
 
 use super::devices::Giving;
-use super::hex::behind_marker;
-use super::runs::{LIMITS, text};
-use ion_meter::fault::{Fault, Reason};
+use super::runs::{Case, LIMITS, text};
+use super::same::{same, same_at};
+use super::tables::{Kind, expect_rows};
+use ion_meter::fault::Fault;
 use ion_meter::limits::Limits;
 use ion_meter::meter::Meter;
 use ion_meter::stream::{FromRead, ToWrite};
@@ -20,6 +21,19 @@ use std::test::Fail;
 /// What a catalogue of one table x, version 1, with the texts p and q costs.
 const COST: u64 = 67;
 
+/// Asserts that a catalogue has that one table and no other.
+fn expect_table(rt: &impl Abort, catalog: &Catalog<Global>) {
+    same(rt, catalog.len(), 1);
+    match catalog.find("x", 1) {
+        None => panic!(rt; "the table is not there"),
+        Some(table) => {
+            same(rt, table.len(), 2);
+            same(rt, table.get(0), Some(b"p".as_slice()));
+            same(rt, table.get(1), Some(b"q".as_slice()));
+        }
+    }
+}
+
 /// Loads a catalogue: the fault, or none where it has that one table and no other. What it costs is
 /// held, after a fault nothing, and at no moment more than the bound.
 fn fault_of<R: Read + Drop>(
@@ -32,70 +46,47 @@ fn fault_of<R: Read + Drop>(
     let mut meter = Meter::new(alloc);
     let (outcome, _input) = load_catalog(&mut meter, limits, FromRead::new(reader));
     assert!(rt; meter.peak() <= bound(limits, Form::Text, To::Nothing) + limits.symbols);
-    match outcome {
+    let fault = match outcome {
         Ok(catalog) => {
-            assert_eq!(rt; meter.held(), COST);
-            assert_eq!(rt; catalog.len(), 1);
-            match catalog.find("x", 1) {
-                None => panic!(rt; "the table is not there"),
-                Some(table) => {
-                    assert_eq!(rt; table.len(), 2);
-                    assert_eq!(rt; table.get(0), Some(b"p".as_slice()));
-                    assert_eq!(rt; table.get(1), Some(b"q".as_slice()));
-                }
-            }
+            same(rt, meter.held(), COST);
+            expect_table(rt, &catalog);
             catalog.release(&mut meter);
-            assert_eq!(rt; meter.held(), 0);
             None
         }
-        Err(fault) => {
-            assert_eq!(rt; meter.held(), 0);
-            Some(fault)
-        }
-    }
+        Err(fault) => Some(fault),
+    };
+    same(rt, meter.held(), 0);
+    fault
 }
 
-/// Asserts the fault of a catalogue, or that it has the one table, in one piece or a byte a read.
-fn expect(rt: &impl Abort, alloc: Global, limits: Limits, octets: &[u8], want: Option<Fault>) {
-    let whole = fault_of(rt, alloc, limits, octets);
-    assert_eq!(rt; whole, want, "{octets:?}");
-    let pieces = fault_of(rt, alloc, limits, Giving::all(octets, 1));
-    assert_eq!(rt; pieces, want, "a byte a read: {octets:?}");
+/// Asserts why and where a catalogue is refused, in one piece or a byte a read, or that it is loaded and has
+/// one table.
+pub fn expect_load(rt: &impl Abort, alloc: Global, case: Case) {
+    let want = case.want.err();
+    let whole = fault_of(rt, alloc, case.limits, case.input);
+    same_at(rt, "at once", case.row, 0, whole, want);
+    let pieces = fault_of(rt, alloc, case.limits, Giving::all(case.input, 1));
+    same_at(rt, "a byte a read", case.row, 0, pieces, want);
 }
 
-/// A refusal.
-fn refused(reason: Reason, place: u64) -> Option<Fault> {
-    Some(Fault::Refused(reason, place))
-}
-
-/// The table with its name first, and with its name last.
+/// The table with its name first.
 pub const NAME_FIRST: &str =
     "$ion_shared_symbol_table::{name:\"x\",version:1,symbols:[\"p\",\"q\"]}";
 
-const NAME_LAST: &str = "$ion_shared_symbol_table::{symbols:[\"p\",\"q\"],version:1,name:\"x\"}";
-
 /// Texts of that table alone.
-pub const ONE_TABLE: &[&str] = &[
-    NAME_FIRST,
-    NAME_LAST,
-    "'$ion_shared_symbol_table'::b::{max_id:5,symbols:[a::\"p\",\"q\"],name:c::\"x\"}",
-    "$9::{version:-3,a:[{name:1}],symbols:[\"p\",\"q\"],name:'''x'''} // all",
-    "$ion_symbol_table::{symbols:[\"name\"]} $9::{$10:\"x\",version:[2],symbols:[\"p\",\"q\"]}",
-];
+pub const ONE_TABLE: &str = r#"
+$ion_shared_symbol_table::{name:"x",version:1,symbols:["p","q"]}|1|
+$ion_shared_symbol_table::{symbols:["p","q"],version:1,name:"x"}|1|
+'$ion_shared_symbol_table'::b::{max_id:5,symbols:[a::"p","q"],name:c::"x"}|1|
+$9::{version:-3,a:[{name:1}],symbols:["p","q"],name:'''x'''} // all|1|
+$ion_symbol_table::{symbols:["name"]} $9::{$10:"x",version:[2],symbols:["p","q"]}|1|
+"#;
 
 #[test]
-fn one_table(rt: HostRuntime) -> Result<(), Fail> {
-    let alloc = rt.alloc();
-    for text in ONE_TABLE {
-        expect(&rt, alloc, LIMITS, text.as_bytes(), None);
-    }
-    let octets = behind_marker(
-        &rt,
-        alloc,
-        "EE 8F 81 89 DC 84 81 78 85 21 01 87 B4 81 70 81 71",
-    )?;
-    expect(&rt, alloc, LIMITS, octets.as_slice(), None);
-    Ok(())
+fn one_table(rt: HostRuntime) {
+    expect_rows(&rt, rt.alloc(), Kind::Catalogues, ONE_TABLE);
+    let binary = "%E0%01%00%EA%EE%8F%81%89%DC%84%81x%85!%01%87%B4%81p%81q|1|";
+    expect_rows(&rt, rt.alloc(), Kind::Catalogues, binary);
 }
 
 #[test]
@@ -112,104 +103,57 @@ fn no_tables(rt: HostRuntime) -> Result<(), Fail> {
             Ok(catalog) => assert!(rt; catalog.is_empty()),
             Err(_) => panic!(rt; "no catalogue"),
         }
-        assert_eq!(rt; meter.held(), 0);
+        same(&rt, meter.held(), 0);
     }
     Ok(())
 }
 
-/// Texts, and why and where they are refused.
-const REFUSED: &[(&str, Reason, u64)] = &[
-    ("5", Reason::CatalogEntry, 0),
-    ("{name:\"x\"}", Reason::CatalogEntry, 0),
-    ("b::$9::{name:\"x\"}", Reason::CatalogEntry, 0),
-    ("$9::null.struct", Reason::CatalogEntry, 0),
-    (" $9::[]", Reason::CatalogEntry, 1),
-    ("$9::{}", Reason::CatalogEntry, 0),
-    // Found at the field, before what is behind it is read.
-    ("$9::{name:\"\",\"", Reason::CatalogEntry, 0),
-    ("$9::{name:\"$ion\",\"", Reason::CatalogEntry, 0),
-    ("$9::{name:x,\"", Reason::CatalogEntry, 0),
-    ("$9::{name:\"x\",name:\"x\",\"", Reason::CatalogEntry, 0),
-    (
-        "$9::{name:\"x\",version:2147483648,\"",
-        Reason::CatalogEntry,
-        0,
-    ),
-    ("$9::{version:null,version:1,\"", Reason::CatalogEntry, 0),
-    ("$9::{symbols:5,symbols:[\"", Reason::CatalogEntry, 0),
-    ("$9::{imports:[\"", Reason::CatalogEntry, 0),
-    (
-        "$ion_shared_symbol_table::{name:\"x\",version:1} $ion_shared_symbol_table::{name:\"x\"}",
-        Reason::CatalogEntry,
-        47,
-    ),
-    (
-        "$9::{name:\"x\",version:2147483647} []",
-        Reason::CatalogEntry,
-        34,
-    ),
-    // All else is refused as by a run.
-    ("$9::{name:\"x\"", Reason::Truncated, 13),
-    ("$9::{name:\"x\",$10:1}", Reason::BadSymbol, 14),
-    (
-        "$ion_symbol_table::{imports:[{name:\"x\"}]}",
-        Reason::BadTable,
-        29,
-    ),
-];
+/// Catalogues that are refused.
+const REFUSED: &str = r#"
+5|CatalogEntry 0|
+{name:"x"}|CatalogEntry 0|
+b::$9::{name:"x"}|CatalogEntry 0|
+$9::null.struct|CatalogEntry 0|
+ $9::[]|CatalogEntry 1|
+$9::{}|CatalogEntry 0|
+# Found at the field, before what is behind it is read.
+$9::{name:"","|CatalogEntry 0|
+$9::{name:"$ion","|CatalogEntry 0|
+$9::{name:x,"|CatalogEntry 0|
+$9::{name:"x",name:"x","|CatalogEntry 0|
+$9::{name:"x",version:2147483648,"|CatalogEntry 0|
+$9::{version:null,version:1,"|CatalogEntry 0|
+$9::{symbols:5,symbols:["|CatalogEntry 0|
+$9::{imports:["|CatalogEntry 0|
+$ion_shared_symbol_table::{name:"x",version:1} $ion_shared_symbol_table::{name:"x"}|CatalogEntry 47|
+$9::{name:"x",version:2147483647} []|CatalogEntry 34|
+# All else is refused as by a run.
+$9::{name:"x"|Truncated 13|
+$9::{name:"x",$10:1}|BadSymbol 14|
+$ion_symbol_table::{imports:[{name:"x"}]}|BadTable 29|
+%E0%01%00%EA!%05|CatalogEntry 4|
+"#;
 
 #[test]
-fn refused_catalogues(rt: HostRuntime) -> Result<(), Fail> {
-    let alloc = rt.alloc();
-    for (text, reason, place) in REFUSED {
-        expect(
-            &rt,
-            alloc,
-            LIMITS,
-            text.as_bytes(),
-            refused(*reason, *place),
-        );
-    }
-    let octets = behind_marker(&rt, alloc, "21 05")?;
-    let want = refused(Reason::CatalogEntry, 4);
-    expect(&rt, alloc, LIMITS, octets.as_slice(), want);
-    Ok(())
+fn refused_catalogues(rt: HostRuntime) {
+    expect_rows(&rt, rt.alloc(), Kind::Catalogues, REFUSED);
 }
 
-// The name's 32 are counted with it.
+/// Catalogues under limits. The name's 32 are counted with it.
+const LIMITED: &str = r#"
+$ion_shared_symbol_table::{name:"x",version:1,symbols:["p","q"]}|SymbolLimit 59|symbols=66|
+$ion_shared_symbol_table::{name:"x",version:1,symbols:["p","q"]}|SymbolLimit 55|symbols=49|
+$ion_shared_symbol_table::{name:"x",version:1,symbols:["p","q"]}|SymbolLimit 32|symbols=32|
+$ion_shared_symbol_table::{symbols:["p","q"],version:1,name:"x"}|SymbolLimit 60|symbols=66|
+$ion_shared_symbol_table::{symbols:["p","q"],version:1,name:"x"}|SymbolLimit 40|symbols=33|
+$ion_shared_symbol_table::{symbols:["p","q"],version:1,name:"x"}|SymbolLimit 36|symbols=16|
+$ion_shared_symbol_table::{name:"x",version:1,symbols:["p","q"]}|1|symbols=67|input=64|
+$ion_shared_symbol_table::{name:"x",version:1,symbols:["p","q"]}|InputLimit|input=63|
+"#;
+
 #[test]
-fn limits(rt: HostRuntime) -> Result<(), Fail> {
-    let alloc = rt.alloc();
-    for (text, symbols, place) in [
-        (NAME_FIRST, 66, 59),
-        (NAME_FIRST, 49, 55),
-        (NAME_FIRST, 32, 32),
-        (NAME_LAST, 66, 60),
-        (NAME_LAST, 33, 40),
-        (NAME_LAST, 16, 36),
-    ] {
-        let limits = Limits { symbols, ..LIMITS };
-        let want = refused(Reason::SymbolLimit, place);
-        expect(&rt, alloc, limits, text.as_bytes(), want);
-    }
-    let limits = Limits {
-        symbols: COST,
-        input: 64,
-        ..LIMITS
-    };
-    expect(&rt, alloc, limits, NAME_FIRST.as_bytes(), None);
-    let short = Limits {
-        input: 63,
-        ..LIMITS
-    };
-    expect(
-        &rt,
-        alloc,
-        short,
-        NAME_FIRST.as_bytes(),
-        Some(Fault::InputLimit),
-    );
-    Ok(())
+fn limits(rt: HostRuntime) {
+    expect_rows(&rt, rt.alloc(), Kind::Catalogues, LIMITED);
 }
 
 #[test]
@@ -218,9 +162,10 @@ fn faults(rt: HostRuntime) -> Result<(), Fail> {
         fails: true,
         ..Giving::all(NAME_FIRST.as_bytes(), 5)
     };
-    assert_eq!(rt;
+    same(
+        &rt,
         fault_of(&rt, rt.alloc(), LIMITS, reader),
-        Some(Fault::ReadFault)
+        Some(Fault::ReadFault),
     );
     Ok(())
 }
@@ -260,9 +205,9 @@ fn expect_import(
     let input = FromRead::new(stream.as_bytes());
     let output = ToWrite::new(Vec::new(alloc));
     let (outcome, _input, output) = run(&mut meter, catalog, LIMITS, To::Text, input, output);
-    assert_eq!(rt; outcome, text(1));
+    same(rt, outcome, text(1));
     let output = output.into_inner();
-    assert_eq!(rt; output.as_slice(), written.as_bytes());
+    same(rt, output.as_slice(), written.as_bytes());
     Ok(())
 }
 
@@ -288,14 +233,14 @@ fn an_import_takes_its_version_or_the_greatest(rt: HostRuntime) -> Result<(), Fa
     match outcome {
         Err(_) => panic!(rt; "no catalogue"),
         Ok(catalog) => {
-            assert_eq!(rt; catalog.len(), 300);
+            same(&rt, catalog.len(), 300);
             for name in NAMES {
                 for (version, want) in TAKEN {
                     expect_import(&rt, alloc, &catalog, name, version, want)?;
                 }
             }
             catalog.release(&mut meter);
-            assert_eq!(rt; meter.held(), 0);
+            same(&rt, meter.held(), 0);
         }
     }
     Ok(())

@@ -1,6 +1,7 @@
 //! Devices in memory, and runs over them.
 ghost use Rattle.std.specs.Prelude.{◌≤◌, length};
 
+use super::same::same;
 use ion_meter::fault::Fault;
 use ion_meter::limits::Limits;
 use ion_meter::meter::Meter;
@@ -177,7 +178,7 @@ pub fn answer_by<R: Read + Drop, W: Write + Drop>(
     let input = FromRead::new(reader);
     let output = ToWrite::new(writer);
     let (outcome, _input, output) = run(&mut meter, catalog, limits, to, input, output);
-    assert_eq!(rt; meter.held(), 0);
+    same(rt, meter.held(), 0);
     let form = outcome.map_or(Form::Text, |summary| summary.form);
     assert!(rt; meter.peak() <= bound(limits, form, to));
     (outcome, output.into_inner())

@@ -1,7 +1,7 @@
 //! Runs over devices that move one byte a call, and fail at one of their calls.
 ghost use Rattle.std.specs.Prelude.{◌≡◌};
 
-use super::growth_rows::{Verdict, answer_of};
+use super::rows::{Verdict, answer_of};
 use super::runs::{LIMITS, text};
 use super::same::same;
 use ion_meter::device::{Broken, Input, Output};
@@ -284,13 +284,13 @@ const ROWS: &[(&[u8], Verdict, &[u8], &[u8])] = &[
     ),
     (
         b"\xE0\x01\x00\xEA\x21\x05\x82a",
-        Err((Reason::Truncated, 6)),
+        Err(Fault::Refused(Reason::Truncated, 6)),
         b"5\n",
         b"5\n",
     ),
     (
         b"[1,{a:",
-        Err((Reason::Truncated, 6)),
+        Err(Fault::Refused(Reason::Truncated, 6)),
         b"[1,{",
         b"\xE0\x01\x00\xEA",
     ),
@@ -332,7 +332,7 @@ const FILLED: &[Filled] = &[
         b"\xE0\x01\x00\xEA\x0E\x1F\xF5",
         0,
         b"\x21\x05\x82a",
-        Err((Reason::Truncated, 4_094)),
+        Err(Fault::Refused(Reason::Truncated, 4_094)),
         b"5\n",
     ),
 ];

@@ -3,13 +3,13 @@ ghost use Rattle.std.specs.Prelude.{◌≤◌};
 ghost use Rattle.ion_symbols.specs.Table.{catalog_cost};
 
 use super::devices::answer;
-use super::growth_rows::{CATALOGS, IMPORTS, LIMITED, OCTETS, TEXTS, Verdict, answer_of, form_of};
-use super::hex::add;
+use super::growth_rows::{CATALOGS, IMPORTS, LIMITED, OCTETS, TEXTS};
 use super::refusing::Refusing;
+use super::rows::{Fields, Verdict, answer_of, form_of, is_row};
 use super::runs::LIMITS;
 use super::same::same;
 use super::to_binary::{NESTED, nested_strings};
-use ion_meter::fault::{Fault, Reason};
+use ion_meter::fault::Fault;
 use ion_meter::limits::Limits;
 use ion_meter::meter::Meter;
 use ion_meter::stream::{FromRead, ToWrite};
@@ -161,89 +161,75 @@ fn refuse_each_way(rt: &impl Abort, alloc: Global, heap: &LocalHeap, row: Row) -
     refused
 }
 
-/// The same of a text, of which these octets are written behind the version marker.
-fn refuse_text(rt: &impl Abort, alloc: Global, heap: &LocalHeap, row: Row, digits: &str) -> u64 {
-    let mut octets = Vec::new(alloc);
-    add(rt, &mut octets, "E0 01 00 EA");
-    add(rt, &mut octets, digits);
+/// The same of the stream of a row.
+fn refuse_stream(rt: &impl Abort, alloc: Global, heap: &LocalHeap, row: &str) -> u64 {
+    let mut fields = Fields::of(row);
+    let input = fields.bytes(rt, alloc);
+    let verdict = fields.verdict(rt);
+    let shown = fields.bytes(rt, alloc);
+    let verdict_to_binary = fields.verdict(rt);
+    let octets = fields.bytes(rt, alloc);
     let row = Row {
+        catalog: fields.text(rt),
+        input: input.as_slice(),
+        limits: fields.limits(rt),
+        verdict,
+        shown: shown.as_slice(),
+        verdict_to_binary,
         octets: octets.as_slice(),
-        ..row
     };
     refuse_each_way(rt, alloc, heap, row)
 }
 
+/// What stands in the rows of a table.
+#[derive(Clone, Copy)]
+enum Kind {
+    Streams,
+    Catalogues,
+}
+
+/// The same of each row of a table.
+fn refuse_rows(rt: &impl Abort, alloc: Global, kind: Kind, table: &str) -> Result<u64, Fail> {
+    let heap = LocalHeap::new(alloc, 1 << 20)?;
+    let mut refused: u64 = 0;
+    for row in table.split('\n') {
+        if is_row(row) {
+            let now = match kind {
+                Kind::Streams => refuse_stream(rt, alloc, &heap, row),
+                Kind::Catalogues => refuse_catalogue(rt, &heap, row),
+            };
+            refused = refused.saturating_add(now);
+        }
+    }
+    Ok(refused)
+}
+
 #[test]
 fn texts(rt: HostRuntime) -> Result<(), Fail> {
-    let heap = LocalHeap::new(rt.alloc(), 1 << 20)?;
-    let mut refused: u64 = 0;
-    for (input, verdict, shown, digits) in TEXTS {
-        let row = Row {
-            catalog: "",
-            input: input.as_bytes(),
-            limits: LIMITS,
-            verdict: *verdict,
-            shown: shown.as_bytes(),
-            verdict_to_binary: *verdict,
-            octets: b"",
-        };
-        refused = refused.saturating_add(refuse_text(&rt, rt.alloc(), &heap, row, digits));
-    }
+    let refused = refuse_rows(&rt, rt.alloc(), Kind::Streams, TEXTS)?;
     assert!(rt; refused > 300);
     Ok(())
 }
 
 #[test]
 fn limited_texts(rt: HostRuntime) -> Result<(), Fail> {
-    let heap = LocalHeap::new(rt.alloc(), 1 << 20)?;
-    let mut refused: u64 = 0;
-    for (with, input, verdict, shown, verdict_to_binary, digits) in LIMITED {
-        let row = Row {
-            catalog: "",
-            input: input.as_bytes(),
-            limits: with.limits(),
-            verdict: *verdict,
-            shown: shown.as_bytes(),
-            verdict_to_binary: *verdict_to_binary,
-            octets: b"",
-        };
-        refused = refused.saturating_add(refuse_text(&rt, rt.alloc(), &heap, row, digits));
-    }
-    for (catalog, with, input, verdict, shown, digits) in IMPORTS {
-        let row = Row {
-            catalog: *catalog,
-            input: input.as_bytes(),
-            limits: with.limits(),
-            verdict: *verdict,
-            shown: shown.as_bytes(),
-            verdict_to_binary: *verdict,
-            octets: b"",
-        };
-        refused = refused.saturating_add(refuse_text(&rt, rt.alloc(), &heap, row, digits));
-    }
-    assert!(rt; refused > 110);
+    let limited = refuse_rows(&rt, rt.alloc(), Kind::Streams, LIMITED)?;
+    let importing = refuse_rows(&rt, rt.alloc(), Kind::Streams, IMPORTS)?;
+    assert!(rt; limited.saturating_add(importing) > 110);
     Ok(())
 }
 
 #[test]
 fn octet_streams(rt: HostRuntime) -> Result<(), Fail> {
-    let heap = LocalHeap::new(rt.alloc(), 1 << 20)?;
-    let mut refused: u64 = 0;
-    for (digits, with, verdict, shown) in OCTETS {
-        let mut input = Vec::new(rt.alloc());
-        add(&rt, &mut input, digits);
-        let row = Row {
-            catalog: "",
-            input: input.as_slice(),
-            limits: with.limits(),
-            verdict: *verdict,
-            shown: shown.as_bytes(),
-            verdict_to_binary: Err((Reason::SameForm, 0)),
-            octets: b"",
-        };
-        refused = refused.saturating_add(refuse_each_way(&rt, rt.alloc(), &heap, row));
-    }
+    let refused = refuse_rows(&rt, rt.alloc(), Kind::Streams, OCTETS)?;
     assert!(rt; refused > 250);
+    Ok(())
+}
+
+#[test]
+fn catalogues(rt: HostRuntime) -> Result<(), Fail> {
+    let refused = refuse_rows(&rt, rt.alloc(), Kind::Catalogues, CATALOGS)?;
+    assert!(rt; refused > 15);
     Ok(())
 }
 
@@ -295,11 +281,7 @@ fn is_load_refused(
         Err(fault) => Err(fault),
     };
     same(rt, meter.held(), 0);
-    let want = match (is_met, verdict) {
-        (true, _) => Err(Fault::Memory),
-        (false, Ok(held)) => Ok(held),
-        (false, Err((reason, place))) => Err(Fault::Refused(reason, place)),
-    };
+    let want = if is_met { Err(Fault::Memory) } else { verdict };
     same(rt, (text, answer), (text, want));
     same(rt, meter.refused() > 0, is_met);
     assert!(rt; onward || meter.refused() <= 1);
@@ -323,13 +305,11 @@ fn refuse_each_of_load(rt: &impl Abort, heap: &LocalHeap, text: &str, verdict: V
     panic!(rt; "each run met a refusal")
 }
 
-#[test]
-fn catalogues(rt: HostRuntime) -> Result<(), Fail> {
-    let heap = LocalHeap::new(rt.alloc(), 1 << 20)?;
-    let mut refused: u64 = 0;
-    for (text, verdict) in CATALOGS {
-        refused = refused.saturating_add(refuse_each_of_load(&rt, &heap, text, *verdict));
-    }
-    assert!(rt; refused > 15);
-    Ok(())
+/// The same of the catalogue of a row.
+fn refuse_catalogue(rt: &impl Abort, heap: &LocalHeap, row: &str) -> u64 {
+    let mut fields = Fields::of(row);
+    let text = fields.text(rt);
+    let verdict = fields.verdict(rt);
+    fields.end(rt);
+    refuse_each_of_load(rt, heap, text, verdict)
 }

@@ -16,7 +16,7 @@ use std::process::Abort;
 use std::test::Fail;
 
 /// Limits on little memory.
-const LITTLE: Limits = Limits {
+pub const LITTLE: Limits = Limits {
     depth: 4,
     scalar: 64,
     symbols: 1_024,
@@ -44,37 +44,43 @@ fn check_in<A: Allocator + Copy>(
     (answer, meter.refused())
 }
 
-/// Sizes of heaps, what a run in them answers, and how often it is refused memory.
-const HEAPS: &[(usize, Result<u64, Fault>, u64)] = &[
-    (65_536, Ok(1), 0),
-    (2_048, Err(Fault::Memory), 1),
-];
+/// Asserts what a run over a stream answers in a heap of this size, and how often it is refused memory.
+fn expect_in(
+    rt: &impl Abort,
+    alloc: Global,
+    size: usize,
+    want: (Result<Summary, Fault>, u64),
+    reader: Giving,
+) -> Result<(), Fail> {
+    let heap = LocalHeap::new(alloc, size)?;
+    same(rt, check_in(rt, &heap, alloc, reader), want);
+    same(rt, heap.used(), 0);
+    Ok(())
+}
 
-// A declaration with 4,194,304 ints in a field that is ignored.
-#[test]
-fn a_run_fits_into_a_heap(rt: HostRuntime) -> Result<(), Fail> {
-    let mut fives = Vec::new(rt.alloc());
+/// Ints of a list in text.
+pub fn fives(alloc: Global) -> Result<Vec<u8>, Fail> {
+    let mut fives = Vec::new(alloc);
     for _ in 0..2_048 {
         fives.extend_from_slice(b"5,")?;
     }
-    let reader = Giving {
-        again: fives.as_slice(),
+    Ok(fives)
+}
+
+/// A declaration with 4,194,304 ints in a field that is ignored.
+pub fn ignored(fives: &[u8]) -> Giving<'_> {
+    Giving {
+        again: fives,
         times: 2_048,
         last: b"],symbols:[\"a\"]} $10",
         ..Giving::all(b"$ion_symbol_table::{name:[", 4_096)
-    };
-    for (size, want, refused) in HEAPS {
-        let heap = LocalHeap::new(rt.alloc(), *size)?;
-        let want = match *want {
-            Ok(values) => text(values),
-            Err(fault) => Err(fault),
-        };
-        same(
-            &rt,
-            check_in(&rt, &heap, rt.alloc(), reader),
-            (want, *refused),
-        );
-        same(&rt, heap.used(), 0);
     }
-    Ok(())
+}
+
+#[test]
+fn a_run_fits_into_a_heap(rt: HostRuntime) -> Result<(), Fail> {
+    let ints = fives(rt.alloc())?;
+    let reader = ignored(ints.as_slice());
+    expect_in(&rt, rt.alloc(), 65_536, (text(1), 0), reader)?;
+    expect_in(&rt, rt.alloc(), 2_048, (Err(Fault::Memory), 1), reader)
 }

@@ -18,17 +18,19 @@ mod growths;
 #[cfg(test)]
 mod heaps;
 #[cfg(test)]
-mod hex;
-#[cfg(test)]
 mod laws;
 #[cfg(test)]
 mod refusing;
 #[cfg(test)]
 mod round_trip;
 #[cfg(test)]
+mod rows;
+#[cfg(test)]
 mod runs;
 #[cfg(test)]
 mod same;
+#[cfg(test)]
+mod tables;
 #[cfg(test)]
 mod to_binary;
 #[cfg(test)]

@@ -7,3 +7,15 @@ use std::process::Abort;
 pub fn same<T: PartialEq + Debug + Copy>(rt: &impl Abort, given: T, wanted: T) {
     assert_eq!(rt; given, wanted);
 }
+
+/// The same, and names the sentence, the row and the place where it is not.
+pub fn same_at<T: PartialEq + Debug + Copy>(
+    rt: &impl Abort,
+    sentence: &str,
+    row: &str,
+    at: usize,
+    given: T,
+    wanted: T,
+) {
+    assert_eq!(rt; given, wanted, "{sentence} {row} at {at}");
+}

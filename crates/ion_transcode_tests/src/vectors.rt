@@ -23,7 +23,9 @@ mod text_tokens;
 
 use super::devices;
 use super::devices::Giving;
+use super::rows::{Fields, Verdict, is_row};
 use super::runs::{LIMITS, refused, text};
+use super::same::{same, same_at};
 use ion_meter::fault::{Fault, Reason};
 use ion_meter::limits::Limits;
 use ion_meter::meter::Meter;
@@ -33,23 +35,24 @@ use ion_transcode::run::run;
 use ion_transcode::to::{Form, Summary, To};
 use std::alloc::Global;
 use std::process::Abort;
-use std::test::Fail;
 
-/// An input; its verdict, which is how many values it has or a fault; what is written of it as text
-/// and as binary; the checksum over the answers to all mangled inputs; and a mark for each place: the
-/// checksum of the answers to the input cut short there and with each of `OTHERS` there, cut to a
-/// character.
-pub type Vector = (
-    &'static [u8],
-    Result<u64, Fault>,
-    &'static [u8],
-    &'static [u8],
-    u64,
-    &'static str,
-);
-
-/// A sentence, and its inputs.
-pub type Row = (&'static str, &'static [Vector]);
+/// An input of a sentence.
+#[derive(Clone, Copy)]
+struct Vector<'a> {
+    sentence: &'a str,
+    /// The row of the table.
+    row: &'a str,
+    input: &'a [u8],
+    verdict: Verdict,
+    /// What is written of it as text, and as binary.
+    shown: &'a [u8],
+    converted: &'a [u8],
+    /// The checksum over the answers to all mangled inputs.
+    whole: u64,
+    /// For each place the checksum of the answers to the input cut short there and with each of `OTHERS` there, cut
+    /// to a character.
+    marks: &'a [u8],
+}
 
 /// What may stand in the place of a byte.
 const OTHERS: [u8; 4] = [0x00, 0x7F, 0x80, 0xFF];
@@ -116,9 +119,9 @@ fn answer_with(
     let input = FromRead::new(stream);
     let output = ToWrite::new(Vec::new(alloc));
     let (outcome, _input, output) = run(&mut meter, &catalog, LIMITS, to, input, output);
-    assert_eq!(rt; meter.held(), 0);
+    same(rt, meter.held(), 0);
     catalog.release(&mut kept);
-    assert_eq!(rt; kept.held(), 0);
+    same(rt, kept.held(), 0);
     (outcome, output.into_inner())
 }
 
@@ -141,10 +144,13 @@ fn answer(rt: &impl Abort, alloc: Global, beside: Beside<'_>, input: Giving<'_>,
 }
 
 /// What is wanted of a whole input.
-fn wanted(beside: Beside<'_>, vector: &Vector, to: To) -> (Result<Summary, Fault>, &'static [u8]) {
-    let (input, verdict, shown, converted, ..) = *vector;
+fn wanted<'a>(
+    beside: Beside<'_>,
+    vector: Vector<'a>,
+    to: To,
+) -> (Result<Summary, Fault>, &'a [u8]) {
     let form = match beside {
-        Beside::Catalogue(_) if input.starts_with(b"\xE0") => Form::Binary,
+        Beside::Catalogue(_) if vector.input.starts_with(b"\xE0") => Form::Binary,
         _ => Form::Text,
     };
     let written = match (to, form) {
@@ -152,38 +158,38 @@ fn wanted(beside: Beside<'_>, vector: &Vector, to: To) -> (Result<Summary, Fault
         (To::Binary, Form::Binary) => {
             return (Err(Fault::Refused(Reason::SameForm, 0)), b"");
         }
-        (To::Text, _) | (To::Other, Form::Binary) => shown,
-        (To::Binary | To::Other, Form::Text) => converted,
+        (To::Text, _) | (To::Other, Form::Binary) => vector.shown,
+        (To::Binary | To::Other, Form::Text) => vector.converted,
     };
-    match verdict {
+    match vector.verdict {
         Ok(values) => (Ok(Summary { form, values }), written),
         Err(fault) => (Err(fault), written),
     }
 }
 
-/// Asserts what comes of a whole input, in one piece or two, or a byte a read.
-fn expect_whole(
+/// Asserts what comes of an input in these pieces.
+fn expect_pieces(
     rt: &impl Abort,
     alloc: Global,
     beside: Beside<'_>,
-    sentence: &str,
-    vector: &Vector,
-    to: To,
+    vector: Vector<'_>,
+    at: usize,
+    pieces: Giving<'_>,
 ) {
-    let input = vector.0;
-    let want = wanted(beside, vector, to);
-    let ways = [Giving::all(input, input.len()), Giving::all(input, 1)];
-    for way in ways {
-        let (outcome, output) = answer(rt, alloc, beside, way, to);
-        assert_eq!(rt; (outcome, output.as_slice()), want, "{sentence} {input:?}");
+    for to in [To::Text, To::Nothing, To::Binary, To::Other] {
+        let (outcome, output) = answer(rt, alloc, beside, pieces, to);
+        let want = wanted(beside, vector, to);
+        let given = (outcome, output.as_slice());
+        same_at(rt, vector.sentence, vector.row, at, given, want);
     }
-    for at in 0..input.len() {
-        let (outcome, output) = answer(rt, alloc, beside, Giving::cut(input, at), to);
-        assert_eq!(rt;
-            (outcome, output.as_slice()),
-            want,
-            "cut at {at}: {sentence} {input:?}"
-        );
+}
+
+/// Asserts what comes of a whole input, a byte a read, and in one piece or two.
+fn expect_whole(rt: &impl Abort, alloc: Global, beside: Beside<'_>, vector: Vector<'_>) {
+    let input = vector.input;
+    expect_pieces(rt, alloc, beside, vector, 0, Giving::all(input, 1));
+    for at in 0..=input.len() {
+        expect_pieces(rt, alloc, beside, vector, at, Giving::cut(input, at));
     }
 }
 
@@ -206,115 +212,171 @@ fn folded(sums: &[u64]) -> u64 {
     whole
 }
 
-/// Asserts what comes of some octets when they are cut short or have another one.
+/// The checksums of what comes of some octets when they are cut short at a place, and when they have
+/// each of `OTHERS` there.
+fn sums_at(
+    rt: &impl Abort,
+    alloc: Global,
+    beside: Beside<'_>,
+    octets: &mut [u8],
+    place: usize,
+) -> [u64; 5] {
+    assert!(rt; place < octets.len());
+    let octet = octets[place];
+    let mut sums = [0; 5];
+    sums[0] = sum_of(rt, alloc, beside, &octets[..place]);
+    for other in 0..4 {
+        octets[place] = OTHERS[other];
+        sums[other + 1] = sum_of(rt, alloc, beside, octets);
+    }
+    octets[place] = octet;
+    sums
+}
+
+/// Asserts what comes of an input, of which these are the octets, when it is cut short or has another one.
 fn expect_mangled(
     rt: &impl Abort,
     alloc: Global,
     beside: Beside<'_>,
-    sentence: &str,
-    vector: &Vector,
+    vector: Vector<'_>,
     octets: &mut [u8],
 ) {
-    let (_, _, _, _, whole, marks) = *vector;
     let mut places = SEED;
-    for place in 0..octets.len() {
-        let octet = octets[place];
-        let mut sums = [0; 5];
-        sums[0] = sum_of(rt, alloc, beside, &octets[..place]);
-        for other in 0..4 {
-            octets[place] = OTHERS[other];
-            sums[other + 1] = sum_of(rt, alloc, beside, octets);
-        }
-        octets[place] = octet;
+    for place in 0..vector.input.len() {
+        let sums = sums_at(rt, alloc, beside, octets, place);
         let sum = folded(&sums);
         let mark = b'#' + (sum % 57) as u8;
-        let is_marked = marks.as_bytes().get(place) == Some(&mark);
-        assert!(rt; is_marked, "{sentence} {octets:?} at {place}: {sums:?}");
+        let want = (vector.marks.get(place), sums);
+        same_at(
+            rt,
+            vector.sentence,
+            vector.row,
+            place,
+            (Some(&mark), sums),
+            want,
+        );
         places = put(places, &sum.to_le_bytes());
     }
-    assert_eq!(rt; places, whole, "{sentence} {octets:?}");
+    let length = vector.input.len();
+    same_at(
+        rt,
+        vector.sentence,
+        vector.row,
+        length,
+        places,
+        vector.whole,
+    );
 }
 
-/// Asserts what comes of the inputs of a table.
-fn expect_rows(
-    rt: &impl Abort,
-    alloc: Global,
-    beside: Beside<'_>,
-    rows: &[Row],
-) -> Result<(), Fail> {
-    for (sentence, vectors) in rows {
-        for vector in *vectors {
-            for to in [To::Text, To::Nothing, To::Binary, To::Other] {
-                expect_whole(rt, alloc, beside, sentence, vector, to);
-            }
-            let mut octets = Vec::from_slice(alloc, vector.0)?;
-            expect_mangled(rt, alloc, beside, sentence, vector, octets.as_mut_slice());
+/// Asserts what comes of the input of a row, whole and mangled.
+fn expect_row(rt: &impl Abort, alloc: Global, beside: Beside<'_>, sentence: &str, row: &str) {
+    let mut fields = Fields::of(row);
+    let input = fields.bytes(rt, alloc);
+    let verdict = fields.verdict(rt);
+    let shown = fields.bytes(rt, alloc);
+    let converted = fields.bytes(rt, alloc);
+    let whole = fields.checksum(rt);
+    let marks = fields.text(rt).as_bytes();
+    fields.end(rt);
+    let vector = Vector {
+        sentence,
+        row,
+        input: input.as_slice(),
+        verdict,
+        shown: shown.as_slice(),
+        converted: converted.as_slice(),
+        whole,
+        marks,
+    };
+    expect_whole(rt, alloc, beside, vector);
+    let mut octets = Fields::of(row).bytes(rt, alloc);
+    expect_mangled(rt, alloc, beside, vector, octets.as_mut_slice());
+}
+
+/// Asserts what comes of the inputs of a sentence.
+fn expect_sentence(rt: &impl Abort, alloc: Global, beside: Beside<'_>, sentence: &str, rows: &str) {
+    let mut is_met = false;
+    for row in rows.split('\n') {
+        if is_row(row) {
+            expect_row(rt, alloc, beside, sentence, row);
+            is_met = true;
         }
     }
-    Ok(())
+    assert!(rt; is_met);
+}
+
+/// Asserts what comes of the inputs of a table. A sentence has `~` before it, and its inputs are the rows behind it.
+fn expect_rows(rt: &impl Abort, alloc: Global, beside: Beside<'_>, table: &str) {
+    for part in table.split('~') {
+        match part.split_once('\n') {
+            Some((sentence, rows)) if !sentence.is_empty() => {
+                expect_sentence(rt, alloc, beside, sentence, rows);
+            }
+            _ => {}
+        }
+    }
 }
 
 #[test]
-fn binary_sentences(rt: HostRuntime) -> Result<(), Fail> {
+fn binary_sentences(rt: HostRuntime) {
     let beside = Beside::Catalogue(b"");
-    expect_rows(&rt, rt.alloc(), beside, binary_heads::ROWS)?;
-    expect_rows(&rt, rt.alloc(), beside, binary_scalars::ROWS)?;
-    expect_rows(&rt, rt.alloc(), beside, binary_containers::ROWS)?;
-    expect_rows(&rt, rt.alloc(), beside, binary_timestamps::ROWS)?;
-    expect_rows(&rt, rt.alloc(), beside, endings::ROWS)
+    expect_rows(&rt, rt.alloc(), beside, binary_heads::ROWS);
+    expect_rows(&rt, rt.alloc(), beside, binary_scalars::ROWS);
+    expect_rows(&rt, rt.alloc(), beside, binary_containers::ROWS);
+    expect_rows(&rt, rt.alloc(), beside, binary_timestamps::ROWS);
+    expect_rows(&rt, rt.alloc(), beside, endings::ROWS);
 }
 
-// A table a test: more of them in one function are too much for the prover.
 #[test]
-fn tokens_of_text(rt: HostRuntime) -> Result<(), Fail> {
+fn tokens_of_text(rt: HostRuntime) {
     let beside = Beside::Catalogue(b"");
-    expect_rows(&rt, rt.alloc(), beside, text_tokens::ROWS)
+    expect_rows(&rt, rt.alloc(), beside, text_tokens::ROWS);
 }
 
 #[test]
-fn numbers_of_text(rt: HostRuntime) -> Result<(), Fail> {
+fn numbers_of_text(rt: HostRuntime) {
     let beside = Beside::Catalogue(b"");
-    expect_rows(&rt, rt.alloc(), beside, text_numbers::ROWS)
+    expect_rows(&rt, rt.alloc(), beside, text_numbers::ROWS);
 }
 
 #[test]
-fn timestamps_of_text(rt: HostRuntime) -> Result<(), Fail> {
+fn timestamps_of_text(rt: HostRuntime) {
     let beside = Beside::Catalogue(b"");
-    expect_rows(&rt, rt.alloc(), beside, text_timestamps::ROWS)
+    expect_rows(&rt, rt.alloc(), beside, text_timestamps::ROWS);
 }
 
 #[test]
-fn strings_of_text(rt: HostRuntime) -> Result<(), Fail> {
+fn strings_of_text(rt: HostRuntime) {
     let beside = Beside::Catalogue(b"");
-    expect_rows(&rt, rt.alloc(), beside, text_strings::ROWS)
+    expect_rows(&rt, rt.alloc(), beside, text_strings::ROWS);
 }
 
 #[test]
-fn symbols_of_text(rt: HostRuntime) -> Result<(), Fail> {
+fn symbols_of_text(rt: HostRuntime) {
     let beside = Beside::Catalogue(b"");
-    expect_rows(&rt, rt.alloc(), beside, text_symbols::ROWS)
+    expect_rows(&rt, rt.alloc(), beside, text_symbols::ROWS);
 }
 
 #[test]
-fn containers_of_text(rt: HostRuntime) -> Result<(), Fail> {
+fn containers_of_text(rt: HostRuntime) {
     let beside = Beside::Catalogue(b"");
-    expect_rows(&rt, rt.alloc(), beside, text_containers::ROWS)
+    expect_rows(&rt, rt.alloc(), beside, text_containers::ROWS);
 }
 
 #[test]
-fn lobs_of_text(rt: HostRuntime) -> Result<(), Fail> {
+fn lobs_of_text(rt: HostRuntime) {
     let beside = Beside::Catalogue(b"");
-    expect_rows(&rt, rt.alloc(), beside, text_lobs::ROWS)
+    expect_rows(&rt, rt.alloc(), beside, text_lobs::ROWS);
 }
 
 #[test]
-fn symbol_sentences(rt: HostRuntime) -> Result<(), Fail> {
-    let beside = Beside::Catalogue(symbols_text::CATALOGUE);
-    expect_rows(&rt, rt.alloc(), beside, symbols_text::ROWS)?;
-    expect_rows(&rt, rt.alloc(), beside, symbols_imports::ROWS)?;
-    expect_rows(&rt, rt.alloc(), beside, symbols_binary::ROWS)?;
-    let beside = Beside::Stream(catalogues::STREAM);
-    expect_rows(&rt, rt.alloc(), beside, catalogues::ROWS)
+fn symbol_sentences(rt: HostRuntime) {
+    let beside = Beside::Catalogue(symbols_text::CATALOGUE.as_bytes());
+    expect_rows(&rt, rt.alloc(), beside, symbols_text::ROWS);
+    expect_rows(&rt, rt.alloc(), beside, symbols_imports::ROWS);
+    expect_rows(&rt, rt.alloc(), beside, symbols_binary::ROWS);
+    let beside = Beside::Stream(catalogues::STREAM.as_bytes());
+    expect_rows(&rt, rt.alloc(), beside, catalogues::ROWS);
 }
 
 /// Octets of a pad, and bytes of a comment.
@@ -353,7 +415,8 @@ fn long_inputs(rt: HostRuntime) {
         for (to, written) in [(To::Text, shown), (To::Nothing, b"")] {
             let output = Vec::new(rt.alloc());
             let (outcome, output) = devices::answer(&rt, rt.alloc(), limits, to, reader, output);
-            assert_eq!(rt; (outcome, output.as_slice()), (want, written), "{first:?}");
+            let given = (first, outcome, output.as_slice());
+            same(&rt, given, (first, want, written));
         }
     }
 }

@@ -1,477 +1,69 @@
 //! Of the binary encoding: containers and annotations. Written by tests/vectors/make.py.
 
-use super::Row;
-use ion_meter::fault::Fault::Refused;
-use ion_meter::fault::Reason;
-
-pub const ROWS: &[Row] = &[
-    (
-        "A list's body is values.",
-        &[
-            (
-                b"\xE0\x01\x00\xEA\xB3!\x05\x11",
-                Ok(1),
-                b"[5,true]\n",
-                b"",
-                0xF416_FFC2_7D54_9976,
-                ".%<%8BK<",
-            ),
-            (
-                b"\xE0\x01\x00\xEA\xB1!\x05",
-                Err(Refused(Reason::Overrun, 5)),
-                b"[",
-                b"",
-                0x4F1B_8B52_0CF7_252A,
-                ".%:%3')",
-            ),
-            (
-                b"\xE0\x01\x00\xEA\xB2\x11",
-                Err(Refused(Reason::Truncated, 6)),
-                b"[true",
-                b"",
-                0xE4CE_121B_BBFA_FF33,
-                ".%Y%X=",
-            ),
-        ],
-    ),
-    (
-        "An S-expression's body is values.",
-        &[
-            (
-                b"\xE0\x01\x00\xEA\xC3q\x04\xB0",
-                Ok(1),
-                b"(name [])\n",
-                b"",
-                0x081E_2E37_B9BE_89BD,
-                ".%8%F25O",
-            ),
-            (
-                b"\xE0\x01\x00\xEA\xC1q\x04",
-                Err(Refused(Reason::Overrun, 5)),
-                b"(",
-                b"",
-                0x02DF_02B6_7DE8_7B66,
-                ".%X%:D>",
-            ),
-            (
-                b"\xE0\x01\x00\xEA\xC3q\x04",
-                Err(Refused(Reason::Truncated, 7)),
-                b"(name",
-                b"",
-                0x6396_4D09_2D21_C3B1,
-                ".%H%:2'",
-            ),
-        ],
-    ),
-    (
-        "A struct's body is fields: a VarUInt, the id of the name, and a value.",
-        &[
-            (
-                b"\xE0\x01\x00\xEA\xD5\x84!\x05\x85\x10",
-                Ok(1),
-                b"{name:5,version:false}\n",
-                b"",
-                0x24CA_9825_11A3_FDE8,
-                ".%6%QG8+U)",
-            ),
-            (
-                b"\xE0\x01\x00\xEA\xD2\x84!",
-                Err(Refused(Reason::Overrun, 6)),
-                b"{",
-                b"",
-                0xFA0A_52F0_9A0B_ED6B,
-                ".%#%@=8",
-            ),
-            (
-                b"\xE0\x01\x00\xEA\xD3\x84\x10\x85",
-                Err(Refused(Reason::Overrun, 8)),
-                b"{name:false",
-                b"",
-                0x4E36_82D2_AFC0_ECD7,
-                ".%2%@>G1",
-            ),
-            (
-                b"\xE0\x01\x00\xEA\xD2\x8A\x10",
-                Err(Refused(Reason::BadSymbol, 5)),
-                b"{",
-                b"",
-                0xFC09_A069_B551_2852,
-                ".%N%@IQ",
-            ),
-        ],
-    ),
-    (
-        "Behind D1 a VarUInt has the length of a struct that has fields.",
-        &[
-            (
-                b"\xE0\x01\x00\xEA\xD1\x82\x84\x11",
-                Ok(1),
-                b"{name:true}\n",
-                b"",
-                0x689B_5C86_23E8_3E6D,
-                ".%I%Q:9O",
-            ),
-            (
-                b"\xE0\x01\x00\xEA\xD1\x80",
-                Err(Refused(Reason::BadDescriptor, 4)),
-                b"",
-                b"",
-                0x9E75_B27B_2F0E_8A7B,
-                ".%;%X,",
-            ),
-            (
-                b"\xE0\x01\x00\xEA\xD1",
-                Err(Refused(Reason::Truncated, 4)),
-                b"",
-                b"",
-                0x4618_86A3_C834_1A87,
-                ".%,%<",
-            ),
-        ],
-    ),
-    (
-        "Whether the ids behind D1 rise is not checked.",
-        &[
-            (
-                b"\xE0\x01\x00\xEA\xD1\x84\x85 \x84 ",
-                Ok(1),
-                b"{version:0,name:0}\n",
-                b"",
-                0x0AC5_EBC9_971C_456C,
-                ".%+%Q[>FW4",
-            ),
-            (
-                b"\xE0\x01\x00\xEA\xD1\x84\x85 \x8A ",
-                Err(Refused(Reason::BadSymbol, 8)),
-                b"{version:0",
-                b"",
-                0x5D6A_32A9_359E_78A3,
-                ".%V%Q3WAW'",
-            ),
-        ],
-    ),
-    (
-        "The id before a NOP pad in a struct means nothing.",
-        &[
-            (
-                b"\xE0\x01\x00\xEA\xD5\xFE\x01\xFF\x84\x11",
-                Ok(1),
-                b"{name:true}\n",
-                b"",
-                0x7994_AC3C_B159_BC0A,
-                ".%I%(C3;AY",
-            ),
-            (
-                b"\xE0\x01\x00\xEA\xD4\xFE\x11\x84\x11",
-                Err(Refused(Reason::BadSymbol, 5)),
-                b"{",
-                b"",
-                0x8D0B_6952_C051_F7B2,
-                ".%N%([U55",
-            ),
-        ],
-    ),
-    (
-        "A NOP pad in a struct has an id before it.",
-        &[
-            (
-                b"\xE0\x01\x00\xEA\xD2\x80\x00",
-                Ok(1),
-                b"{}\n",
-                b"",
-                0xDF65_54F7_227A_618F,
-                ".%&%X8K",
-            ),
-            (
-                b"\xE0\x01\x00\xEA\xD1\x81\x00",
-                Err(Refused(Reason::Overrun, 6)),
-                b"{",
-                b"",
-                0x33DC_5DFA_5711_08FE,
-                ".%#%K,6",
-            ),
-        ],
-    ),
-    (
-        "An annotation wrapper has a length of 3 to 13.",
-        &[
-            (
-                b"\xE0\x01\x00\xEA\xE3\x81\x84\x11",
-                Ok(1),
-                b"name::true\n",
-                b"",
-                0x766D_5330_BFD0_7F05,
-                ".%[%Q[WF",
-            ),
-            (
-                b"\xE0\x01\x00\xEA\xE1\x81",
-                Err(Refused(Reason::BadDescriptor, 4)),
-                b"",
-                b"",
-                0xFA1A_3EDC_2334_DBE2,
-                ".%;%@N",
-            ),
-            (
-                b"\xE0\x01\x00\xEA\xE2\x81\x84",
-                Err(Refused(Reason::BadDescriptor, 4)),
-                b"",
-                b"",
-                0xA6A5_E8DA_88B9_F714,
-                ".%;%QNN",
-            ),
-        ],
-    ),
-    (
-        "Or it has the length 14, and behind it a VarUInt of at least 3.",
-        &[
-            (
-                b"\xE0\x01\x00\xEA\xEE\x83\x81\x84\x11",
-                Ok(1),
-                b"name::true\n",
-                b"",
-                0x793B_CBA7_055A_EDD7,
-                ".%[%QO[3H",
-            ),
-            (
-                b"\xE0\x01\x00\xEA\xEE\x82\x81\x84",
-                Err(Refused(Reason::BadAnnotation, 4)),
-                b"",
-                b"",
-                0x0A4E_525D_716E_2510,
-                ".%H%Q@[G",
-            ),
-            (
-                b"\xE0\x01\x00\xEA\xEE\x80",
-                Err(Refused(Reason::Overrun, 4)),
-                b"",
-                b"",
-                0xE556_1269_AF12_06A6,
-                ".%=%XZ",
-            ),
-        ],
-    ),
-    (
-        "E0 in a container is no wrapper.",
-        &[
-            (
-                b"\xE0\x01\x00\xEA\xB4\xE3\x81\x84\x11",
-                Ok(1),
-                b"[name::true]\n",
-                b"",
-                0xED81_D789_CD88_A933,
-                ".%K%FWJN[",
-            ),
-            (
-                b"\xE0\x01\x00\xEA\xB1\xE0",
-                Err(Refused(Reason::BadDescriptor, 5)),
-                b"[",
-                b"",
-                0x9FED_1CE5_F28A_1D28,
-                ".%F%@J",
-            ),
-            (
-                b"\xE0\x01\x00\xEA\xB3\xE3\x81\x84\x11",
-                Err(Refused(Reason::Overrun, 5)),
-                b"[",
-                b"",
-                0x05CF_6CB2_147A_F011,
-                ".%:%FW+))",
-            ),
-        ],
-    ),
-    (
-        "Then comes how many octets the annotations have, and these, VarUInts with an id each.",
-        &[
-            (
-                b"\xE0\x01\x00\xEA\xE5\x82\x84\x85!\x05\xE5\x82\x00\x84!\x05",
-                Ok(2),
-                b"name::version::5\nname::5\n",
-                b"",
-                0xC5A7_AAA7_5219_9D78,
-                ".%C%Q[LF[S+AC'/V",
-            ),
-            (
-                b"\xE0\x01\x00\xEA\xE4\x81\x04!\x05",
-                Err(Refused(Reason::Overrun, 6)),
-                b"",
-                b"",
-                0x7508_77A2_2872_9FA6,
-                ".%[%1.=33",
-            ),
-            (
-                b"\xE0\x01\x00\xEA\xE5\x82\x84\x8A!\x05",
-                Err(Refused(Reason::BadSymbol, 7)),
-                b"",
-                b"",
-                0xB570_561C_4993_8CDC,
-                ".%?%Q[,M[1",
-            ),
-        ],
-    ),
-    (
-        "There is at least one annotation.",
-        &[
-            (
-                b"\xE0\x01\x00\xEA\xE4\x81\x80!\x05",
-                Ok(1),
-                b"$0::5\n",
-                b"",
-                0xB346_2DC8_0826_ADD3,
-                ".%D%Q[=>+",
-            ),
-            (
-                b"\xE0\x01\x00\xEA\xE3\x80!\x05",
-                Err(Refused(Reason::BadAnnotation, 4)),
-                b"",
-                b"",
-                0xE752_B12E_EF9D_6414,
-                ".%H%'.GG",
-            ),
-        ],
-    ),
-    (
-        "The octets of the annotations leave some for the value.",
-        &[
-            (
-                b"\xE0\x01\x00\xEA\xE5\x82\x84\x85!\x05",
-                Ok(1),
-                b"name::version::5\n",
-                b"",
-                0xE3DC_174A_BB86_BCA4,
-                ".%2%Q[:M[R",
-            ),
-            (
-                b"\xE0\x01\x00\xEA\xE5\x84\x84\x85\x86\x87",
-                Err(Refused(Reason::BadAnnotation, 4)),
-                b"",
-                b"",
-                0xFA9E_9C20_020D_D2CF,
-                ".%H%Q[GGGG",
-            ),
-            (
-                b"\xE0\x01\x00\xEA\xE3\x85\x84\x85",
-                Err(Refused(Reason::BadAnnotation, 4)),
-                b"",
-                b"",
-                0xF3F0_2359_E7CF_077E,
-                ".%H%@[GG",
-            ),
-        ],
-    ),
-    (
-        "One value fills the rest of the wrapper.",
-        &[
-            (
-                b"\xE0\x01\x00\xEA\xE4\x81\x84!\x05",
-                Ok(1),
-                b"name::5\n",
-                b"",
-                0xC5A2_6D12_C9C4_7FF1,
-                ".%D%Q[=>+",
-            ),
-            (
-                b"\xE0\x01\x00\xEA\xE4\x81\x84\x11\x11",
-                Err(Refused(Reason::BadAnnotation, 7)),
-                b"",
-                b"",
-                0xEB1B_5030_2F15_5090,
-                ".%P%Q[X>4",
-            ),
-            (
-                b"\xE0\x01\x00\xEA\xE4\x81\x84\"\x05",
-                Err(Refused(Reason::Overrun, 7)),
-                b"",
-                b"",
-                0x9B93_0E48_665A_57D5,
-                ".%;%Q[)>/",
-            ),
-        ],
-    ),
-    (
-        "The value is no wrapper.",
-        &[
-            (
-                b"\xE0\x01\x00\xEA\xE7\x81\x84\xB4\xE3\x81\x84\x11",
-                Ok(1),
-                b"name::[name::true]\n",
-                b"",
-                0xDEB3_35F5_0128_375F,
-                ".%I%QVW>F6QY",
-            ),
-            (
-                b"\xE0\x01\x00\xEA\xE6\x81\x84\xE3\x81\x84\x11",
-                Err(Refused(Reason::BadAnnotation, 7)),
-                b"",
-                b"",
-                0x006D_8826_80DA_F548,
-                ".%P%Q[X>444",
-            ),
-            (
-                b"\xE0\x01\x00\xEA\xE6\x81\x84\xE0\x01\x00\xEA",
-                Err(Refused(Reason::BadAnnotation, 7)),
-                b"",
-                b"",
-                0x006D_8826_80DA_F548,
-                ".%P%Q[X>444",
-            ),
-        ],
-    ),
-    (
-        "The value is no NOP pad.",
-        &[
-            (
-                b"\xE0\x01\x00\xEA\xE5\x81\x84\xB2\x01\xFF",
-                Ok(1),
-                b"name::[]\n",
-                b"",
-                0x3CA3_3283_A37F_C222,
-                ".%9%Q[C>,-",
-            ),
-            (
-                b"\xE0\x01\x00\xEA\xE4\x81\x84\x01\xFF",
-                Err(Refused(Reason::BadAnnotation, 7)),
-                b"",
-                b"",
-                0xEB1B_5030_2F15_5090,
-                ".%P%Q[X>4",
-            ),
-            (
-                b"\xE0\x01\x00\xEA\xE3\x81\x84\x00",
-                Err(Refused(Reason::BadAnnotation, 7)),
-                b"",
-                b"",
-                0x9CE3_7A82_08DA_6014,
-                ".%P%Q[XF",
-            ),
-        ],
-    ),
-    (
-        "The type 15 is illegal.",
-        &[
-            (
-                b"\xE0\x01\x00\xEA\xDF",
-                Ok(1),
-                b"null.struct\n",
-                b"",
-                0x80AB_0979_C9EA_F537,
-                ".%G%<",
-            ),
-            (
-                b"\xE0\x01\x00\xEA\xF0",
-                Err(Refused(Reason::BadDescriptor, 4)),
-                b"",
-                b"",
-                0x63FB_5E1F_A38F_47D2,
-                ".%;%<",
-            ),
-            (
-                b"\xE0\x01\x00\xEA\xF1\x00",
-                Err(Refused(Reason::BadDescriptor, 4)),
-                b"",
-                b"",
-                0x720D_99F2_822B_E6B5,
-                ".%;%<N",
-            ),
-        ],
-    ),
-];
+pub const ROWS: &str = r#"
+~ A list's body is values.
+%E0%01%00%EA%B3!%05%11|1|[5,true]%0A||F416FFC27D549976|.%<%8BK<|
+%E0%01%00%EA%B1!%05|Overrun 5|[||4F1B8B520CF7252A|.%:%3')|
+%E0%01%00%EA%B2%11|Truncated 6|[true||E4CE121BBBFAFF33|.%Y%X=|
+~ An S-expression's body is values.
+%E0%01%00%EA%C3q%04%B0|1|(name [])%0A||081E2E37B9BE89BD|.%8%F25O|
+%E0%01%00%EA%C1q%04|Overrun 5|(||02DF02B67DE87B66|.%X%:D>|
+%E0%01%00%EA%C3q%04|Truncated 7|(name||63964D092D21C3B1|.%H%:2'|
+~ A struct's body is fields: a VarUInt, the id of the name, and a value.
+%E0%01%00%EA%D5%84!%05%85%10|1|{name:5,version:false}%0A||24CA982511A3FDE8|.%6%QG8+U)|
+%E0%01%00%EA%D2%84!|Overrun 6|{||FA0A52F09A0BED6B|.%#%@=8|
+%E0%01%00%EA%D3%84%10%85|Overrun 8|{name:false||4E3682D2AFC0ECD7|.%2%@>G1|
+%E0%01%00%EA%D2%8A%10|BadSymbol 5|{||FC09A069B5512852|.%N%@IQ|
+~ Behind D1 a VarUInt has the length of a struct that has fields.
+%E0%01%00%EA%D1%82%84%11|1|{name:true}%0A||689B5C8623E83E6D|.%I%Q:9O|
+%E0%01%00%EA%D1%80|BadDescriptor 4|||9E75B27B2F0E8A7B|.%;%X,|
+%E0%01%00%EA%D1|Truncated 4|||461886A3C8341A87|.%,%<|
+~ Whether the ids behind D1 rise is not checked.
+%E0%01%00%EA%D1%84%85 %84 |1|{version:0,name:0}%0A||0AC5EBC9971C456C|.%+%Q[>FW4|
+%E0%01%00%EA%D1%84%85 %8A |BadSymbol 8|{version:0||5D6A32A9359E78A3|.%V%Q3WAW'|
+~ The id before a NOP pad in a struct means nothing.
+%E0%01%00%EA%D5%FE%01%FF%84%11|1|{name:true}%0A||7994AC3CB159BC0A|.%I%(C3;AY|
+%E0%01%00%EA%D4%FE%11%84%11|BadSymbol 5|{||8D0B6952C051F7B2|.%N%([U55|
+~ A NOP pad in a struct has an id before it.
+%E0%01%00%EA%D2%80%00|1|{}%0A||DF6554F7227A618F|.%&%X8K|
+%E0%01%00%EA%D1%81%00|Overrun 6|{||33DC5DFA571108FE|.%#%K,6|
+~ An annotation wrapper has a length of 3 to 13.
+%E0%01%00%EA%E3%81%84%11|1|name::true%0A||766D5330BFD07F05|.%[%Q[WF|
+%E0%01%00%EA%E1%81|BadDescriptor 4|||FA1A3EDC2334DBE2|.%;%@N|
+%E0%01%00%EA%E2%81%84|BadDescriptor 4|||A6A5E8DA88B9F714|.%;%QNN|
+~ Or it has the length 14, and behind it a VarUInt of at least 3.
+%E0%01%00%EA%EE%83%81%84%11|1|name::true%0A||793BCBA7055AEDD7|.%[%QO[3H|
+%E0%01%00%EA%EE%82%81%84|BadAnnotation 4|||0A4E525D716E2510|.%H%Q@[G|
+%E0%01%00%EA%EE%80|Overrun 4|||E5561269AF1206A6|.%=%XZ|
+~ E0 in a container is no wrapper.
+%E0%01%00%EA%B4%E3%81%84%11|1|[name::true]%0A||ED81D789CD88A933|.%K%FWJN[|
+%E0%01%00%EA%B1%E0|BadDescriptor 5|[||9FED1CE5F28A1D28|.%F%@J|
+%E0%01%00%EA%B3%E3%81%84%11|Overrun 5|[||05CF6CB2147AF011|.%:%FW+))|
+~ Then comes how many octets the annotations have, and these, VarUInts with an id each.
+%E0%01%00%EA%E5%82%84%85!%05%E5%82%00%84!%05|2|name::version::5%0Aname::5%0A||C5A7AAA752199D78|.%C%Q[LF[S+AC'/V|
+%E0%01%00%EA%E4%81%04!%05|Overrun 6|||750877A228729FA6|.%[%1.=33|
+%E0%01%00%EA%E5%82%84%8A!%05|BadSymbol 7|||B570561C49938CDC|.%?%Q[,M[1|
+~ There is at least one annotation.
+%E0%01%00%EA%E4%81%80!%05|1|$0::5%0A||B3462DC80826ADD3|.%D%Q[=>+|
+%E0%01%00%EA%E3%80!%05|BadAnnotation 4|||E752B12EEF9D6414|.%H%'.GG|
+~ The octets of the annotations leave some for the value.
+%E0%01%00%EA%E5%82%84%85!%05|1|name::version::5%0A||E3DC174ABB86BCA4|.%2%Q[:M[R|
+%E0%01%00%EA%E5%84%84%85%86%87|BadAnnotation 4|||FA9E9C20020DD2CF|.%H%Q[GGGG|
+%E0%01%00%EA%E3%85%84%85|BadAnnotation 4|||F3F02359E7CF077E|.%H%@[GG|
+~ One value fills the rest of the wrapper.
+%E0%01%00%EA%E4%81%84!%05|1|name::5%0A||C5A26D12C9C47FF1|.%D%Q[=>+|
+%E0%01%00%EA%E4%81%84%11%11|BadAnnotation 7|||EB1B50302F155090|.%P%Q[X>4|
+%E0%01%00%EA%E4%81%84"%05|Overrun 7|||9B930E48665A57D5|.%;%Q[)>/|
+~ The value is no wrapper.
+%E0%01%00%EA%E7%81%84%B4%E3%81%84%11|1|name::[name::true]%0A||DEB335F50128375F|.%I%QVW>F6QY|
+%E0%01%00%EA%E6%81%84%E3%81%84%11|BadAnnotation 7|||006D882680DAF548|.%P%Q[X>444|
+%E0%01%00%EA%E6%81%84%E0%01%00%EA|BadAnnotation 7|||006D882680DAF548|.%P%Q[X>444|
+~ The value is no NOP pad.
+%E0%01%00%EA%E5%81%84%B2%01%FF|1|name::[]%0A||3CA33283A37FC222|.%9%Q[C>,-|
+%E0%01%00%EA%E4%81%84%01%FF|BadAnnotation 7|||EB1B50302F155090|.%P%Q[X>4|
+%E0%01%00%EA%E3%81%84%00|BadAnnotation 7|||9CE37A8208DA6014|.%P%Q[XF|
+~ The type 15 is illegal.
+%E0%01%00%EA%DF|1|null.struct%0A||80AB0979C9EAF537|.%G%<|
+%E0%01%00%EA%F0|BadDescriptor 4|||63FB5E1FA38F47D2|.%;%<|
+%E0%01%00%EA%F1%00|BadDescriptor 4|||720D99F2822BE6B5|.%;%<N|
+"#;

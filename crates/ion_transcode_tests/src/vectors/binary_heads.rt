@@ -1,381 +1,57 @@
 //! Of the binary encoding: the stream, its numbers and descriptors. Written by tests/vectors/make.py.
 
-use super::Row;
-use ion_meter::fault::Fault::Refused;
-use ion_meter::fault::Reason;
-
-pub const ROWS: &[Row] = &[
-    (
-        "A binary stream begins with the version marker E0 01 00 EA.",
-        &[
-            (
-                b"\xE0\x01\x00\xEA",
-                Ok(0),
-                b"",
-                b"",
-                0xBB67_D292_2F34_DCC9,
-                ".%:%",
-            ),
-            (
-                b"\xE0\x01",
-                Err(Refused(Reason::Truncated, 0)),
-                b"",
-                b"",
-                0x4447_3DFC_AF36_45E4,
-                ".K",
-            ),
-            (
-                b"\xE0\x01\x01\xEA",
-                Err(Refused(Reason::BadVersion, 0)),
-                b"",
-                b"",
-                0xBB67_D292_2F34_DCC9,
-                ".%:%",
-            ),
-        ],
-    ),
-    (
-        "Behind it stand values, NOP pads and further markers at top level, and markers nowhere else.",
-        &[
-            (
-                b"\xE0\x01\x00\xEA!\x05\x01\xFF\xE0\x01\x00\xEA\x11",
-                Ok(2),
-                b"5\ntrue\n",
-                b"",
-                0x54B0_E127_1145_C096,
-                ".%1%V:7Q9K<KR",
-            ),
-            (
-                b"\xE0\x01\x00\xEA\xB4\xE0\x01\x00\xEA",
-                Err(Refused(Reason::BadDescriptor, 5)),
-                b"[",
-                b"",
-                0xDCAA_2260_9F81_DD08,
-                ".%F%<V&&&",
-            ),
-        ],
-    ),
-    (
-        "Each marker sets the symbol table back to the system's.",
-        &[
-            (
-                b"\xE0\x01\x00\xEA\xE7\x81\x83\xD4\x87\xB2\x81aq\n\xE0\x01\x00\xEAq\x04",
-                Ok(2),
-                b"a\nname\n",
-                b"",
-                0xF376_D127_CA5C_95A2,
-                ".%<%QV&>6)1%W+IM-M;'",
-            ),
-            (
-                b"\xE0\x01\x00\xEA\xE7\x81\x83\xD4\x87\xB2\x81a\xE0\x01\x00\xEAq\n",
-                Err(Refused(Reason::BadSymbol, 16)),
-                b"",
-                b"",
-                0x94CD_D562_4916_D469,
-                ".%D%QV2>5)1FN8Z8I8",
-            ),
-        ],
-    ),
-    (
-        "Octets that look like another version's marker are none.",
-        &[
-            (
-                b"\xE0\x01\x00\xEA\xE0\x01\x00\xEA",
-                Ok(0),
-                b"",
-                b"",
-                0x222E_5384_E11C_B22C,
-                ".%:%8).)",
-            ),
-            (
-                b"\xE0\x01\x00\xEA\x11\xE0\x02\x00\xEA",
-                Err(Refused(Reason::BadVersion, 5)),
-                b"true\n",
-                b"",
-                0x252E_2999_FAE7_5066,
-                ".%?%-=777",
-            ),
-        ],
-    ),
-    (
-        "A VarUInt has seven bits an octet, the greatest first.",
-        &[
-            (
-                b"\xE0\x01\x00\xEAc\xC0\x0F\xD0",
-                Ok(1),
-                b"2000T\n",
-                b"",
-                0xB7D7_DF4F_4C21_42F7,
-                ".%S%$2UR",
-            ),
-            (
-                b"\xE0\x01\x00\xEAc\xC0\xD0\x0F",
-                Err(Refused(Reason::BadVar, 4)),
-                b"",
-                b"",
-                0x452D_21F2_7154_DCAD,
-                ".%4%I))?",
-            ),
-        ],
-    ),
-    (
-        "The last octet of a VarUInt, and no other, has its high bit set.",
-        &[
-            (
-                b"\xE0\x01\x00\xEA\x8E\x83abc",
-                Ok(1),
-                b"\"abc\"\n",
-                b"",
-                0x8D66_8080_7249_E8C1,
-                ".%-%FW+[R",
-            ),
-            (
-                b"\xE0\x01\x00\xEA\x8E\x03abc",
-                Err(Refused(Reason::Truncated, 4)),
-                b"",
-                b"",
-                0x489A_0FEC_B91D_7536,
-                ".%,%<WCC7",
-            ),
-        ],
-    ),
-    (
-        "A VarInt's first octet has the sign in its second bit, and six bits of magnitude.",
-        &[
-            (
-                b"\xE0\x01\x00\xEAS@\xC1\x01R\xC1\x0F",
-                Ok(2),
-                b"1d-65\n1.5\n",
-                b"",
-                0x901B_46FA_862B_34F2,
-                ".%V%:GPS@8T",
-            ),
-            (
-                b"\xE0\x01\x00\xEAV\x08\x00\x00\x00\x80\x01",
-                Err(Refused(Reason::Range, 4)),
-                b"",
-                b"",
-                0xE3B5_8D91_F0FE_8FCE,
-                ".%O%@<YB2HB",
-            ),
-        ],
-    ),
-    (
-        "An exponent is at least -2147483647.",
-        &[
-            (
-                b"\xE0\x01\x00\xEAVG\x7F\x7F\x7F\xFF\x01",
-                Ok(1),
-                b"1d-2147483647\n",
-                b"",
-                0x2AB0_5F91_D13B_34CD,
-                ".%<%:(RA(,C",
-            ),
-            (
-                b"\xE0\x01\x00\xEAVH\x00\x00\x00\x80\x01",
-                Err(Refused(Reason::Range, 4)),
-                b"",
-                b"",
-                0x6802_9032_1CFD_652B,
-                ".%O%:<A7THB",
-            ),
-        ],
-    ),
-    (
-        "A UInt is a magnitude, the greatest octet first.",
-        &[
-            (
-                b"\xE0\x01\x00\xEA\"\x01\x02",
-                Ok(1),
-                b"258\n",
-                b"",
-                0xBBB0_5C94_65A2_B175,
-                ".%P%<38",
-            ),
-            (
-                b"\xE0\x01\x00\xEA\"\x01",
-                Err(Refused(Reason::Truncated, 4)),
-                b"",
-                b"",
-                0x4AED_8E16_8418_DE4E,
-                ".%,%@C",
-            ),
-        ],
-    ),
-    (
-        "An Int is a sign in the first octet's high bit and a magnitude, the greatest octet first.",
-        &[
-            (
-                b"\xE0\x01\x00\xEAS\xC1\x80\x0FS\xC1\x01\x02",
-                Ok(2),
-                b"-1.5\n25.8\n",
-                b"",
-                0x9834_48B0_314C_4D32,
-                ".%>%QR-OFL$=",
-            ),
-            (
-                b"\xE0\x01\x00\xEAS\xC1\x80",
-                Err(Refused(Reason::Truncated, 4)),
-                b"",
-                b"",
-                0x8E34_F649_EF97_7C43,
-                ".%,%TCC",
-            ),
-        ],
-    ),
-    (
-        "A VarUInt has at most nine octets.",
-        &[
-            (
-                b"\xE0\x01\x00\xEA\x8E\x00\x00\x00\x00\x00\x00\x00\x00\x81a",
-                Ok(1),
-                b"\"a\"\n",
-                b"",
-                0xA95E_FC3A_1E27_6207,
-                ".%B%74444444QJ@",
-            ),
-            (
-                b"\xE0\x01\x00\xEA\x8E\x00\x00\x00\x00\x00\x00\x00\x00\x00\x81a",
-                Err(Refused(Reason::BadVar, 4)),
-                b"",
-                b"",
-                0x0A18_4AA7_B6AF_5D4E,
-                ".%4%7(((((((((NN",
-            ),
-        ],
-    ),
-    (
-        "A VarInt has at most nine octets.",
-        &[
-            (
-                b"\xE0\x01\x00\xEAZ@\x00\x00\x00\x00\x00\x00\x00\x81\x05",
-                Ok(1),
-                b"0.5\n",
-                b"",
-                0x2D5F_2D7E_F185_5ABF,
-                ".%H%:M####W>@-O",
-            ),
-            (
-                b"\xE0\x01\x00\xEA[@\x00\x00\x00\x00\x00\x00\x00\x00\x81\x05",
-                Err(Refused(Reason::BadVar, 4)),
-                b"",
-                b"",
-                0xC8F3_6117_B00C_F200,
-                ".%4%:8///////Y))",
-            ),
-        ],
-    ),
-    (
-        "A VarUInt may have leading zeros.",
-        &[
-            (
-                b"\xE0\x01\x00\xEA\xD3\x00\x84\x11",
-                Ok(1),
-                b"{name:true}\n",
-                b"",
-                0x01B2_C1F8_C9EE_46F3,
-                ".%I%K:.O",
-            ),
-            (
-                b"\xE0\x01\x00\xEA\xD3\x00\xFF\x11",
-                Err(Refused(Reason::BadSymbol, 5)),
-                b"{",
-                b"",
-                0xFF7F_4D7C_565D_80FB,
-                ".%N%?@.0",
-            ),
-        ],
-    ),
-    (
-        "A descriptor has the type in its high four bits and the length in its low four.",
-        &[
-            (
-                b"\xE0\x01\x00\xEA\x83abc",
-                Ok(1),
-                b"\"abc\"\n",
-                b"",
-                0xC2B5_D179_80F1_1AE4,
-                ".%-%@+[R",
-            ),
-            (
-                b"\xE0\x01\x00\xEA\x84abc",
-                Err(Refused(Reason::Truncated, 4)),
-                b"",
-                b"",
-                0xBAEB_A320_74E4_66BB,
-                ".%,%@CCC",
-            ),
-        ],
-    ),
-    (
-        "A length below 14 is the body's.",
-        &[
-            (
-                b"\xE0\x01\x00\xEA\x8Dabcdefghijklm",
-                Ok(1),
-                b"\"abcdefghijklm\"\n",
-                b"",
-                0x0751_2376_DAC4_02D5,
-                ".%Z%@#3B*,#++S0$@$",
-            ),
-            (
-                b"\xE0\x01\x00\xEA\xB1\x82a",
-                Err(Refused(Reason::Overrun, 5)),
-                b"[",
-                b"",
-                0x737A_5719_37E5_F4F0,
-                ".%:%@')",
-            ),
-        ],
-    ),
-    (
-        "Behind the length 14 a VarUInt has the body's.",
-        &[
-            (
-                b"\xE0\x01\x00\xEA\x8E\x8Eabcdefghijklmn",
-                Ok(1),
-                b"\"abcdefghijklmn\"\n",
-                b"",
-                0xA28C_6F2B_4813_AF19,
-                ".%;%@</C;QJIK93QK2,N",
-            ),
-            (
-                b"\xE0\x01\x00\xEA\xB3\x8E\x82a",
-                Err(Refused(Reason::Overrun, 5)),
-                b"[",
-                b"",
-                0x6C8C_97C0_53B6_C7B2,
-                ".%:%@BC)",
-            ),
-        ],
-    ),
-    (
-        "The length 15 is the null of the type.",
-        &[
-            (
-                b"\xE0\x01\x00\xEA\x0F\x1F/?O_o\x7F\x8F\x9F\xAF\xBF\xCF\xDF",
-                Ok(14),
-                b"null\nnull.bool\nnull.int\nnull.int\nnull.float\nnull.decimal\nnull.timestamp\nnull.symbol\nnull.string\nnull.clob\nnull.blob\nnull.list\nnull.sexp\nnull.struct\n",
-                b"",
-                0x9D15_07BD_CE28_9E15,
-                ".%C%?Y&J*63>OC<UI8",
-            ),
-            (
-                b"\xE0\x01\x00\xEA\xEF",
-                Err(Refused(Reason::BadDescriptor, 4)),
-                b"",
-                b"",
-                0x63FB_5E1F_A38F_47D2,
-                ".%;%<",
-            ),
-            (
-                b"\xE0\x01\x00\xEA\xFF",
-                Err(Refused(Reason::BadDescriptor, 4)),
-                b"",
-                b"",
-                0x63FB_5E1F_A38F_47D2,
-                ".%;%<",
-            ),
-        ],
-    ),
-];
+pub const ROWS: &str = r#"
+~ A binary stream begins with the version marker E0 01 00 EA.
+%E0%01%00%EA|0|||BB67D2922F34DCC9|.%:%|
+%E0%01|Truncated 0|||44473DFCAF3645E4|.K|
+%E0%01%01%EA|BadVersion 0|||BB67D2922F34DCC9|.%:%|
+~ Behind it stand values, NOP pads and further markers at top level, and markers nowhere else.
+%E0%01%00%EA!%05%01%FF%E0%01%00%EA%11|2|5%0Atrue%0A||54B0E1271145C096|.%1%V:7Q9K<KR|
+%E0%01%00%EA%B4%E0%01%00%EA|BadDescriptor 5|[||DCAA22609F81DD08|.%F%<V&&&|
+~ Each marker sets the symbol table back to the system's.
+%E0%01%00%EA%E7%81%83%D4%87%B2%81aq%0A%E0%01%00%EAq%04|2|a%0Aname%0A||F376D127CA5C95A2|.%<%QV&>6)1%W+IM-M;'|
+%E0%01%00%EA%E7%81%83%D4%87%B2%81a%E0%01%00%EAq%0A|BadSymbol 16|||94CDD5624916D469|.%D%QV2>5)1FN8Z8I8|
+~ Octets that look like another version's marker are none.
+%E0%01%00%EA%E0%01%00%EA|0|||222E5384E11CB22C|.%:%8).)|
+%E0%01%00%EA%11%E0%02%00%EA|BadVersion 5|true%0A||252E2999FAE75066|.%?%-=777|
+~ A VarUInt has seven bits an octet, the greatest first.
+%E0%01%00%EAc%C0%0F%D0|1|2000T%0A||B7D7DF4F4C2142F7|.%S%$2UR|
+%E0%01%00%EAc%C0%D0%0F|BadVar 4|||452D21F27154DCAD|.%4%I))?|
+~ The last octet of a VarUInt, and no other, has its high bit set.
+%E0%01%00%EA%8E%83abc|1|"abc"%0A||8D6680807249E8C1|.%-%FW+[R|
+%E0%01%00%EA%8E%03abc|Truncated 4|||489A0FECB91D7536|.%,%<WCC7|
+~ A VarInt's first octet has the sign in its second bit, and six bits of magnitude.
+%E0%01%00%EAS@%C1%01R%C1%0F|2|1d-65%0A1.5%0A||901B46FA862B34F2|.%V%:GPS@8T|
+%E0%01%00%EAV%08%00%00%00%80%01|Range 4|||E3B58D91F0FE8FCE|.%O%@<YB2HB|
+~ An exponent is at least -2147483647.
+%E0%01%00%EAVG%7F%7F%7F%FF%01|1|1d-2147483647%0A||2AB05F91D13B34CD|.%<%:(RA(,C|
+%E0%01%00%EAVH%00%00%00%80%01|Range 4|||680290321CFD652B|.%O%:<A7THB|
+~ A UInt is a magnitude, the greatest octet first.
+%E0%01%00%EA"%01%02|1|258%0A||BBB05C9465A2B175|.%P%<38|
+%E0%01%00%EA"%01|Truncated 4|||4AED8E168418DE4E|.%,%@C|
+~ An Int is a sign in the first octet's high bit and a magnitude, the greatest octet first.
+%E0%01%00%EAS%C1%80%0FS%C1%01%02|2|-1.5%0A25.8%0A||983448B0314C4D32|.%>%QR-OFL$=|
+%E0%01%00%EAS%C1%80|Truncated 4|||8E34F649EF977C43|.%,%TCC|
+~ A VarUInt has at most nine octets.
+%E0%01%00%EA%8E%00%00%00%00%00%00%00%00%81a|1|"a"%0A||A95EFC3A1E276207|.%B%74444444QJ@|
+%E0%01%00%EA%8E%00%00%00%00%00%00%00%00%00%81a|BadVar 4|||0A184AA7B6AF5D4E|.%4%7(((((((((NN|
+~ A VarInt has at most nine octets.
+%E0%01%00%EAZ@%00%00%00%00%00%00%00%81%05|1|0.5%0A||2D5F2D7EF1855ABF|.%H%:M####W>@-O|
+%E0%01%00%EA[@%00%00%00%00%00%00%00%00%81%05|BadVar 4|||C8F36117B00CF200|.%4%:8///////Y))|
+~ A VarUInt may have leading zeros.
+%E0%01%00%EA%D3%00%84%11|1|{name:true}%0A||01B2C1F8C9EE46F3|.%I%K:.O|
+%E0%01%00%EA%D3%00%FF%11|BadSymbol 5|{||FF7F4D7C565D80FB|.%N%?@.0|
+~ A descriptor has the type in its high four bits and the length in its low four.
+%E0%01%00%EA%83abc|1|"abc"%0A||C2B5D17980F11AE4|.%-%@+[R|
+%E0%01%00%EA%84abc|Truncated 4|||BAEBA32074E466BB|.%,%@CCC|
+~ A length below 14 is the body's.
+%E0%01%00%EA%8Dabcdefghijklm|1|"abcdefghijklm"%0A||07512376DAC402D5|.%Z%@#3B*,#++S0$@$|
+%E0%01%00%EA%B1%82a|Overrun 5|[||737A571937E5F4F0|.%:%@')|
+~ Behind the length 14 a VarUInt has the body's.
+%E0%01%00%EA%8E%8Eabcdefghijklmn|1|"abcdefghijklmn"%0A||A28C6F2B4813AF19|.%;%@</C;QJIK93QK2,N|
+%E0%01%00%EA%B3%8E%82a|Overrun 5|[||6C8C97C053B6C7B2|.%:%@BC)|
+~ The length 15 is the null of the type.
+%E0%01%00%EA%0F%1F/?O_o%7F%8F%9F%AF%BF%CF%DF|14|null%0Anull.bool%0Anull.int%0Anull.int%0Anull.float%0Anull.decimal%0Anull.timestamp%0Anull.symbol%0Anull.string%0Anull.clob%0Anull.blob%0Anull.list%0Anull.sexp%0Anull.struct%0A||9D1507BDCE289E15|.%C%?Y&J*63>OC<UI8|
+%E0%01%00%EA%EF|BadDescriptor 4|||63FB5E1FA38F47D2|.%;%<|
+%E0%01%00%EA%FF|BadDescriptor 4|||63FB5E1FA38F47D2|.%;%<|
+"#;

@@ -1,463 +1,68 @@
 //! Of the binary encoding: scalars but timestamps, and NOP pads. Written by tests/vectors/make.py.
 
-use super::Row;
-use ion_meter::fault::Fault::Refused;
-use ion_meter::fault::Reason;
-
-pub const ROWS: &[Row] = &[
-    (
-        "The type 0 with another length than 15 is a pad of so many octets, of any value.",
-        &[
-            (
-                b"\xE0\x01\x00\xEA\x00\x02\xFF\xE0\x0E\x83\xE0\x01\x00\x11",
-                Ok(1),
-                b"true\n",
-                b"",
-                0xB256_F304_0DC6_2B74,
-                ".%/%X:&&*RSSSU",
-            ),
-            (
-                b"\xE0\x01\x00\xEA\x03\xFF\xFF",
-                Err(Refused(Reason::Truncated, 4)),
-                b"",
-                b"",
-                0x5676_B8C7_55D7_551D,
-                ".%,%(CC",
-            ),
-            (
-                b"\xE0\x01\x00\xEA\xB2\x03\xFF",
-                Err(Refused(Reason::Overrun, 5)),
-                b"[",
-                b"",
-                0x6737_12C3_76BF_492B,
-                ".%:%@-)",
-            ),
-        ],
-    ),
-    (
-        "A NOP pad may be the whole of a list.",
-        &[
-            (
-                b"\xE0\x01\x00\xEA\xB3\x02\x11\x11",
-                Ok(1),
-                b"[]\n",
-                b"",
-                0x0124_8718_6DF3_C40C,
-                ".%X%<:XX",
-            ),
-            (
-                b"\xE0\x01\x00\xEA\xB3\x03\x11\x11",
-                Err(Refused(Reason::Overrun, 5)),
-                b"[",
-                b"",
-                0xC6F2_5920_869E_3BEA,
-                ".%:%@:))",
-            ),
-        ],
-    ),
-    (
-        "The bools are 10, 11 and 1F.",
-        &[
-            (
-                b"\xE0\x01\x00\xEA\x10\x11\x1F",
-                Ok(3),
-                b"false\ntrue\nnull.bool\n",
-                b"",
-                0x27AB_9F00_4145_0997,
-                ".%+%SFX",
-            ),
-            (
-                b"\xE0\x01\x00\xEA\x12\x00\x00",
-                Err(Refused(Reason::BadDescriptor, 4)),
-                b"",
-                b"",
-                0xE8E1_BB6F_ED17_FB96,
-                ".%;%<NN",
-            ),
-            (
-                b"\xE0\x01\x00\xEA\x1E",
-                Err(Refused(Reason::BadDescriptor, 4)),
-                b"",
-                b"",
-                0x63FB_5E1F_A38F_47D2,
-                ".%;%<",
-            ),
-        ],
-    ),
-    (
-        "The types 2 and 3 are ints with and without a sign, whose body is a UInt.",
-        &[
-            (
-                b"\xE0\x01\x00\xEA!\x051\x05\"\x00\x05",
-                Ok(3),
-                b"5\n-5\n5\n",
-                b"",
-                0xDE4B_D7A8_B3B0_C2F7,
-                ".%A%<G'P-IO",
-            ),
-            (
-                b"\xE0\x01\x00\xEA\xB2\"\x05",
-                Err(Refused(Reason::Overrun, 5)),
-                b"[",
-                b"",
-                0x0DA5_CF2A_9152_D84D,
-                ".%:%@B)",
-            ),
-        ],
-    ),
-    (
-        "An int has a magnitude below 2 to the power of 128.",
-        &[
-            (
-                b"\xE0\x01\x00\xEA.\x90\xFF\xFF\xFF\xFF\xFF\xFF\xFF\xFF\xFF\xFF\xFF\xFF\xFF\xFF\xFF\xFF",
-                Ok(1),
-                b"340282366920938463463374607431768211455\n",
-                b"",
-                0x2EFC_0502_25C9_46C8,
-                ".%A%2YXSS=Q1PRWK2ATWOU",
-            ),
-            (
-                b"\xE0\x01\x00\xEA>\x91\x01\x00\x00\x00\x00\x00\x00\x00\x00\x00\x00\x00\x00\x00\x00\x00\x00",
-                Err(Refused(Reason::Range, 4)),
-                b"",
-                b"",
-                0x2EC3_D066_990C_5350,
-                ".%O%)#UBBBBBBBBBBBBBBBB",
-            ),
-        ],
-    ),
-    (
-        "An int without octets is 0.",
-        &[
-            (
-                b"\xE0\x01\x00\xEA ",
-                Ok(1),
-                b"0\n",
-                b"",
-                0x0BEC_0B97_8608_224A,
-                ".%&%<",
-            ),
-            (
-                b"\xE0\x01\x00\xEA0",
-                Err(Refused(Reason::BadNumber, 4)),
-                b"",
-                b"",
-                0xE0FC_3CF2_9542_53BF,
-                ".%,%<",
-            ),
-        ],
-    ),
-    (
-        "The int 0 has no sign.",
-        &[
-            (
-                b"\xE0\x01\x00\xEA1\x01",
-                Ok(1),
-                b"-1\n",
-                b"",
-                0xCE35_C846_F919_BE9D,
-                ".%A%@W",
-            ),
-            (
-                b"\xE0\x01\x00\xEA2\x00\x00",
-                Err(Refused(Reason::BadNumber, 4)),
-                b"",
-                b"",
-                0x9AC2_D59A_8FAC_F252,
-                ".%,%<ZW",
-            ),
-        ],
-    ),
-    (
-        "Of the floats the null alone is read.",
-        &[
-            (
-                b"\xE0\x01\x00\xEAO",
-                Ok(1),
-                b"null.float\n",
-                b"",
-                0x5D77_9B52_3A00_3F0C,
-                ".%&%<",
-            ),
-            (
-                b"\xE0\x01\x00\xEA@",
-                Err(Refused(Reason::Float, 4)),
-                b"",
-                b"",
-                0x12DE_2F2C_2E09_37E9,
-                ".%[%<",
-            ),
-            (
-                b"\xE0\x01\x00\xEAD?\x80\x00\x00",
-                Err(Refused(Reason::Float, 4)),
-                b"",
-                b"",
-                0xA4F9_C689_B07D_BC7B,
-                ".%[%3PPPP",
-            ),
-            (
-                b"\xE0\x01\x00\xEAN",
-                Err(Refused(Reason::Float, 4)),
-                b"",
-                b"",
-                0x12DE_2F2C_2E09_37E9,
-                ".%[%<",
-            ),
-        ],
-    ),
-    (
-        "A decimal is a VarInt, the exponent, and an Int, the coefficient, in the rest of the body.",
-        &[
-            (
-                b"\xE0\x01\x00\xEAR\xC1\x0FS\xC3\x80\x01",
-                Ok(2),
-                b"1.5\n-0.001\n",
-                b"",
-                0xA89F_BE70_BE9E_908C,
-                ".%=%Q9RYTZ[",
-            ),
-            (
-                b"\xE0\x01\x00\xEARA\x0F",
-                Err(Refused(Reason::BadVar, 4)),
-                b"",
-                b"",
-                0xE79F_6AB7_2F7B_9786,
-                ".%4%:>,",
-            ),
-        ],
-    ),
-    (
-        "A decimal's coefficient is below 2 to the power of 128.",
-        &[
-            (
-                b"\xE0\x01\x00\xEA^\x91\x80\x7F\xFF\xFF\xFF\xFF\xFF\xFF\xFF\xFF\xFF\xFF\xFF\xFF\xFF\xFF\xFF",
-                Ok(1),
-                b"170141183460469231731687303715884105727.\n",
-                b"",
-                0x167F_33B2_2CCE_94D9,
-                ".%Q%@49'8)3XEH7BEV5>H[L",
-            ),
-            (
-                b"\xE0\x01\x00\xEA^\x92\x80\x01\x00\x00\x00\x00\x00\x00\x00\x00\x00\x00\x00\x00\x00\x00\x00\x00",
-                Err(Refused(Reason::Range, 4)),
-                b"",
-                b"",
-                0x7716_D38D_6CF2_9862,
-                ".%O%RYH'BBBBBBBBBBBBBBBB",
-            ),
-        ],
-    ),
-    (
-        "A decimal's coefficient without octets is 0.",
-        &[
-            (
-                b"\xE0\x01\x00\xEAQ\xC2",
-                Ok(1),
-                b"0.00\n",
-                b"",
-                0xDE20_BFA4_6D51_A1C5,
-                ".%/%L:",
-            ),
-            (
-                b"\xE0\x01\x00\xEAQB",
-                Err(Refused(Reason::BadVar, 4)),
-                b"",
-                b"",
-                0xC4BF_00CA_03F0_82BD,
-                ".%4%::",
-            ),
-        ],
-    ),
-    (
-        "A decimal without a body is 0 with the exponent 0.",
-        &[
-            (
-                b"\xE0\x01\x00\xEAP",
-                Ok(1),
-                b"0.\n",
-                b"",
-                0xCC9C_42C4_8A0B_CC76,
-                ".%C%<",
-            ),
-            (
-                b"\xE0\x01\x00\xEA\xB1^",
-                Err(Refused(Reason::Overrun, 5)),
-                b"[",
-                b"",
-                0x83AF_C23C_21AA_D961,
-                ".%:%@J",
-            ),
-        ],
-    ),
-    (
-        "A decimal's zero may have a sign.",
-        &[
-            (
-                b"\xE0\x01\x00\xEAR\xC1\x80",
-                Ok(1),
-                b"-0.0\n",
-                b"",
-                0xD302_944F_EB36_37C3,
-                ".%H%T8O",
-            ),
-            (
-                b"\xE0\x01\x00\xEAR\x81",
-                Err(Refused(Reason::Truncated, 4)),
-                b"",
-                b"",
-                0x4AED_8E16_8418_DE4E,
-                ".%,%@C",
-            ),
-        ],
-    ),
-    (
-        "A symbol's body is a UInt, its id.",
-        &[
-            (
-                b"\xE0\x01\x00\xEAq\x04r\x00\t",
-                Ok(2),
-                b"name\n$ion_shared_symbol_table\n",
-                b"",
-                0x843D_A81D_667B_2A6C,
-                ".%F%@[:PR",
-            ),
-            (
-                b"\xE0\x01\x00\xEAq\n",
-                Err(Refused(Reason::BadSymbol, 4)),
-                b"",
-                b"",
-                0xCFC4_445D_E6AF_AA69,
-                ".%V%@H",
-            ),
-            (
-                b"\xE0\x01\x00\xEAr\x01\x04",
-                Err(Refused(Reason::BadSymbol, 4)),
-                b"",
-                b"",
-                0x2361_BC33_F43A_A58C,
-                ".%V%<-Q",
-            ),
-        ],
-    ),
-    (
-        "A symbol without a body is $0.",
-        &[
-            (
-                b"\xE0\x01\x00\xEAp",
-                Ok(1),
-                b"$0\n",
-                b"",
-                0xAFA7_C952_2A81_63B0,
-                ".%.%<",
-            ),
-            (
-                b"\xE0\x01\x00\xEA\xB1~",
-                Err(Refused(Reason::Overrun, 5)),
-                b"[",
-                b"",
-                0x83AF_C23C_21AA_D961,
-                ".%:%@J",
-            ),
-        ],
-    ),
-    (
-        "A string is UTF-8.",
-        &[
-            (
-                b"\xE0\x01\x00\xEA\x84\xC3\xA9\n\"",
-                Ok(1),
-                b"\"\xC3\xA9\\n\\\"\"\n",
-                b"",
-                0xEBC1_B562_9885_6B47,
-                ".%&%.O.7Y",
-            ),
-            (
-                b"\xE0\x01\x00\xEA\x81\xC3",
-                Err(Refused(Reason::BadText, 4)),
-                b"",
-                b"",
-                0x2E25_82DE_B346_BFE3,
-                ".%Y%L@",
-            ),
-            (
-                b"\xE0\x01\x00\xEA\x83\xED\xA0\x80",
-                Err(Refused(Reason::BadText, 4)),
-                b"",
-                b"",
-                0x61AA_E764_7066_B806,
-                ".%Y%FOUO",
-            ),
-            (
-                b"\xE0\x01\x00\xEA\x82\xC0\x80",
-                Err(Refused(Reason::BadText, 4)),
-                b"",
-                b"",
-                0x623B_3E02_F9FB_E512,
-                ".%Y%1OO",
-            ),
-        ],
-    ),
-    (
-        "A clob has any octets.",
-        &[
-            (
-                b"\xE0\x01\x00\xEA\x93a\"\xFF",
-                Ok(1),
-                b"{{\"a\\\"\\xff\"}}\n",
-                b"",
-                0x7402_F635_2CFE_943B,
-                ".%?%@V2K",
-            ),
-            (
-                b"\xE0\x01\x00\xEA\x94a\"\xFF",
-                Err(Refused(Reason::Truncated, 4)),
-                b"",
-                b"",
-                0xBAEB_A320_74E4_66BB,
-                ".%,%@CCC",
-            ),
-        ],
-    ),
-    (
-        "A blob has any octets.",
-        &[
-            (
-                b"\xE0\x01\x00\xEA\xA3\x00\x7F\xFF",
-                Ok(1),
-                b"{{AH//}}\n",
-                b"",
-                0xEB7F_37F2_852F_19E6,
-                ".%(%1DQ@",
-            ),
-            (
-                b"\xE0\x01\x00\xEA\xA4\x00\x7F\xFF",
-                Err(Refused(Reason::Truncated, 4)),
-                b"",
-                b"",
-                0x0D81_A1B9_EA64_37BE,
-                ".%,%1CCC",
-            ),
-        ],
-    ),
-    (
-        "A symbol value with the id 2 is no version marker.",
-        &[
-            (
-                b"\xE0\x01\x00\xEA\xE7\x81\x83\xD4\x87\xB2\x81aq\x02q\n",
-                Ok(2),
-                b"'$ion_1_0'\na\n",
-                b"",
-                0x62E6_6EA2_A121_F050,
-                ".%4%QVG>B)14<Y2(",
-            ),
-            (
-                b"\xE0\x01\x00\xEAr\x00\n",
-                Err(Refused(Reason::BadSymbol, 4)),
-                b"",
-                b"",
-                0x60CF_E767_9758_60C2,
-                ".%V%KQH",
-            ),
-        ],
-    ),
-];
+pub const ROWS: &str = r#"
+~ The type 0 with another length than 15 is a pad of so many octets, of any value.
+%E0%01%00%EA%00%02%FF%E0%0E%83%E0%01%00%11|1|true%0A||B256F3040DC62B74|.%/%X:&&*RSSSU|
+%E0%01%00%EA%03%FF%FF|Truncated 4|||5676B8C755D7551D|.%,%(CC|
+%E0%01%00%EA%B2%03%FF|Overrun 5|[||673712C376BF492B|.%:%@-)|
+~ A NOP pad may be the whole of a list.
+%E0%01%00%EA%B3%02%11%11|1|[]%0A||012487186DF3C40C|.%X%<:XX|
+%E0%01%00%EA%B3%03%11%11|Overrun 5|[||C6F25920869E3BEA|.%:%@:))|
+~ The bools are 10, 11 and 1F.
+%E0%01%00%EA%10%11%1F|3|false%0Atrue%0Anull.bool%0A||27AB9F0041450997|.%+%SFX|
+%E0%01%00%EA%12%00%00|BadDescriptor 4|||E8E1BB6FED17FB96|.%;%<NN|
+%E0%01%00%EA%1E|BadDescriptor 4|||63FB5E1FA38F47D2|.%;%<|
+~ The types 2 and 3 are ints with and without a sign, whose body is a UInt.
+%E0%01%00%EA!%051%05"%00%05|3|5%0A-5%0A5%0A||DE4BD7A8B3B0C2F7|.%A%<G'P-IO|
+%E0%01%00%EA%B2"%05|Overrun 5|[||0DA5CF2A9152D84D|.%:%@B)|
+~ An int has a magnitude below 2 to the power of 128.
+%E0%01%00%EA.%90%FF%FF%FF%FF%FF%FF%FF%FF%FF%FF%FF%FF%FF%FF%FF%FF|1|340282366920938463463374607431768211455%0A||2EFC050225C946C8|.%A%2YXSS=Q1PRWK2ATWOU|
+%E0%01%00%EA>%91%01%00%00%00%00%00%00%00%00%00%00%00%00%00%00%00%00|Range 4|||2EC3D066990C5350|.%O%)#UBBBBBBBBBBBBBBBB|
+~ An int without octets is 0.
+%E0%01%00%EA |1|0%0A||0BEC0B978608224A|.%&%<|
+%E0%01%00%EA0|BadNumber 4|||E0FC3CF2954253BF|.%,%<|
+~ The int 0 has no sign.
+%E0%01%00%EA1%01|1|-1%0A||CE35C846F919BE9D|.%A%@W|
+%E0%01%00%EA2%00%00|BadNumber 4|||9AC2D59A8FACF252|.%,%<ZW|
+~ Of the floats the null alone is read.
+%E0%01%00%EAO|1|null.float%0A||5D779B523A003F0C|.%&%<|
+%E0%01%00%EA@|Float 4|||12DE2F2C2E0937E9|.%[%<|
+%E0%01%00%EAD?%80%00%00|Float 4|||A4F9C689B07DBC7B|.%[%3PPPP|
+%E0%01%00%EAN|Float 4|||12DE2F2C2E0937E9|.%[%<|
+~ A decimal is a VarInt, the exponent, and an Int, the coefficient, in the rest of the body.
+%E0%01%00%EAR%C1%0FS%C3%80%01|2|1.5%0A-0.001%0A||A89FBE70BE9E908C|.%=%Q9RYTZ[|
+%E0%01%00%EARA%0F|BadVar 4|||E79F6AB72F7B9786|.%4%:>,|
+~ A decimal's coefficient is below 2 to the power of 128.
+%E0%01%00%EA^%91%80%7F%FF%FF%FF%FF%FF%FF%FF%FF%FF%FF%FF%FF%FF%FF%FF|1|170141183460469231731687303715884105727.%0A||167F33B22CCE94D9|.%Q%@49'8)3XEH7BEV5>H[L|
+%E0%01%00%EA^%92%80%01%00%00%00%00%00%00%00%00%00%00%00%00%00%00%00%00|Range 4|||7716D38D6CF29862|.%O%RYH'BBBBBBBBBBBBBBBB|
+~ A decimal's coefficient without octets is 0.
+%E0%01%00%EAQ%C2|1|0.00%0A||DE20BFA46D51A1C5|.%/%L:|
+%E0%01%00%EAQB|BadVar 4|||C4BF00CA03F082BD|.%4%::|
+~ A decimal without a body is 0 with the exponent 0.
+%E0%01%00%EAP|1|0.%0A||CC9C42C48A0BCC76|.%C%<|
+%E0%01%00%EA%B1^|Overrun 5|[||83AFC23C21AAD961|.%:%@J|
+~ A decimal's zero may have a sign.
+%E0%01%00%EAR%C1%80|1|-0.0%0A||D302944FEB3637C3|.%H%T8O|
+%E0%01%00%EAR%81|Truncated 4|||4AED8E168418DE4E|.%,%@C|
+~ A symbol's body is a UInt, its id.
+%E0%01%00%EAq%04r%00%09|2|name%0A$ion_shared_symbol_table%0A||843DA81D667B2A6C|.%F%@[:PR|
+%E0%01%00%EAq%0A|BadSymbol 4|||CFC4445DE6AFAA69|.%V%@H|
+%E0%01%00%EAr%01%04|BadSymbol 4|||2361BC33F43AA58C|.%V%<-Q|
+~ A symbol without a body is $0.
+%E0%01%00%EAp|1|$0%0A||AFA7C9522A8163B0|.%.%<|
+%E0%01%00%EA%B1%7E|Overrun 5|[||83AFC23C21AAD961|.%:%@J|
+~ A string is UTF-8.
+%E0%01%00%EA%84%C3%A9%0A"|1|"%C3%A9\n\""%0A||EBC1B56298856B47|.%&%.O.7Y|
+%E0%01%00%EA%81%C3|BadText 4|||2E2582DEB346BFE3|.%Y%L@|
+%E0%01%00%EA%83%ED%A0%80|BadText 4|||61AAE7647066B806|.%Y%FOUO|
+%E0%01%00%EA%82%C0%80|BadText 4|||623B3E02F9FBE512|.%Y%1OO|
+~ A clob has any octets.
+%E0%01%00%EA%93a"%FF|1|{{"a\"\xff"}}%0A||7402F6352CFE943B|.%?%@V2K|
+%E0%01%00%EA%94a"%FF|Truncated 4|||BAEBA32074E466BB|.%,%@CCC|
+~ A blob has any octets.
+%E0%01%00%EA%A3%00%7F%FF|1|{{AH//}}%0A||EB7F37F2852F19E6|.%(%1DQ@|
+%E0%01%00%EA%A4%00%7F%FF|Truncated 4|||0D81A1B9EA6437BE|.%,%1CCC|
+~ A symbol value with the id 2 is no version marker.
+%E0%01%00%EA%E7%81%83%D4%87%B2%81aq%02q%0A|2|'$ion_1_0'%0Aa%0A||62E66EA2A121F050|.%4%QVG>B)14<Y2(|
+%E0%01%00%EAr%00%0A|BadSymbol 4|||60CFE767975860C2|.%V%KQH|
+"#;

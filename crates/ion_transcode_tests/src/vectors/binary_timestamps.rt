@@ -1,479 +1,70 @@
 //! Of the binary encoding: timestamps. Written by tests/vectors/make.py.
 
-use super::Row;
-use ion_meter::fault::Fault::Refused;
-use ion_meter::fault::Reason;
-
-pub const ROWS: &[Row] = &[
-    (
-        "A timestamp's body begins with the offset, a VarInt of minutes.",
-        &[
-            (
-                b"\xE0\x01\x00\xEAg\xFC\x0F\xD0\x81\x81\x80\x80",
-                Ok(1),
-                b"1999-12-31T23:00-01:00\n",
-                b"",
-                0xCE7D_ED0C_4C33_3D93,
-                ".%V%(U5P##M-",
-            ),
-            (
-                b"\xE0\x01\x00\xEAh\x0B\xA0\x0F\xD0\x81\x81\x80\x80",
-                Err(Refused(Reason::BadTimestamp, 4)),
-                b"",
-                b"",
-                0xDC5E_1517_009B_F601,
-                ".%#%@=;#####?",
-            ),
-            (
-                b"\xE0\x01\x00\xEAhK\xA0\x0F\xD0\x81\x81\x80\x80",
-                Err(Refused(Reason::BadTimestamp, 4)),
-                b"",
-                b"",
-                0x36AE_BC0F_ED19_FE64,
-                ".%#%:=-#####?",
-            ),
-            (
-                b"\xE0\x01\x00\xEA`",
-                Err(Refused(Reason::BadTimestamp, 4)),
-                b"",
-                b"",
-                0x9F9C_11B9_0685_2215,
-                ".%#%<",
-            ),
-        ],
-    ),
-    (
-        "The offset minus zero is the unknown one.",
-        &[
-            (
-                b"\xE0\x01\x00\xEAg\xC0\x0F\xD0\x81\x81\x80\x80",
-                Ok(1),
-                b"2000-01-01T00:00-00:00\n",
-                b"",
-                0xDF33_3370_2625_840B,
-                ".%V%9U@I##[A",
-            ),
-            (
-                b"\xE0\x01\x00\xEAa\xC0",
-                Err(Refused(Reason::BadTimestamp, 4)),
-                b"",
-                b"",
-                0x267A_C705_07E1_1524,
-                ".%#%3?",
-            ),
-        ],
-    ),
-    (
-        "Then comes the year, a VarUInt of 1 to 9999.",
-        &[
-            (
-                b"\xE0\x01\x00\xEAc\xC0N\x8Fb\xC0\x81",
-                Ok(2),
-                b"9999T\n0001T\n",
-                b"",
-                0xEBE8_B72D_A648_19B5,
-                ".%Q%0HVU,K4",
-            ),
-            (
-                b"\xE0\x01\x00\xEAc\xC0N\x90",
-                Err(Refused(Reason::BadTimestamp, 4)),
-                b"",
-                b"",
-                0xB300_D1A4_F4D4_AB9D,
-                ".%#%0#T<",
-            ),
-            (
-                b"\xE0\x01\x00\xEAb\xC0\x80",
-                Err(Refused(Reason::BadTimestamp, 4)),
-                b"",
-                b"",
-                0xD7B5_1AF0_477D_600F,
-                ".%#%1#F",
-            ),
-        ],
-    ),
-    (
-        "Then the month.",
-        &[
-            (
-                b"\xE0\x01\x00\xEAd\xC0\x0F\xD0\x8C",
-                Ok(1),
-                b"2000-12T\n",
-                b"",
-                0x3552_BCE0_1E2E_9A4E,
-                ".%4%N0X,?",
-            ),
-            (
-                b"\xE0\x01\x00\xEAd\xC0\x0F\xD0\x8D",
-                Err(Refused(Reason::BadTimestamp, 4)),
-                b"",
-                b"",
-                0xCC70_F82B_6623_5DC2,
-                ".%#%N<##?",
-            ),
-            (
-                b"\xE0\x01\x00\xEAd\xC0\x0F\xD0\x80",
-                Err(Refused(Reason::BadTimestamp, 4)),
-                b"",
-                b"",
-                0xD792_CB00_8F3C_2EAF,
-                ".%#%=###?",
-            ),
-        ],
-    ),
-    (
-        "Then the day, which that month has.",
-        &[
-            (
-                b"\xE0\x01\x00\xEAe\xC0\x0F\xD0\x82\x9D",
-                Ok(1),
-                b"2000-02-29\n",
-                b"",
-                0x7B2D_627E_00BF_F939,
-                ".%'%NPBY#?",
-            ),
-            (
-                b"\xE0\x01\x00\xEAe\xC0\x0F\xD1\x82\x9D",
-                Err(Refused(Reason::BadTimestamp, 4)),
-                b"",
-                b"",
-                0xA744_3AF5_8D02_6C4B,
-                ".%#%8##Y#?",
-            ),
-            (
-                b"\xE0\x01\x00\xEAe\xC0\x0F\xD0\x81\x80",
-                Err(Refused(Reason::BadTimestamp, 4)),
-                b"",
-                b"",
-                0x8770_7A4A_262A_CED2,
-                ".%#%9####?",
-            ),
-        ],
-    ),
-    (
-        "Then the hour and minute together.",
-        &[
-            (
-                b"\xE0\x01\x00\xEAg\xC0\x0F\xD0\x81\x81\x97\xBB",
-                Ok(1),
-                b"2000-01-01T23:59-00:00\n",
-                b"",
-                0xFCBB_2CFB_44A8_7715,
-                ".%Z%9;/8##LY",
-            ),
-            (
-                b"\xE0\x01\x00\xEAf\xC0\x0F\xD0\x81\x81\x97",
-                Err(Refused(Reason::BadTimestamp, 4)),
-                b"",
-                b"",
-                0x3E2D_768B_5E27_5F99,
-                ".%#%9A##RR?",
-            ),
-            (
-                b"\xE0\x01\x00\xEAg\xC0\x0F\xD0\x81\x81\x98\x80",
-                Err(Refused(Reason::BadTimestamp, 4)),
-                b"",
-                b"",
-                0x733D_5932_7152_E73D,
-                ".%#%9#####[?",
-            ),
-            (
-                b"\xE0\x01\x00\xEAg\xC0\x0F\xD0\x81\x81\x97\xBC",
-                Err(Refused(Reason::BadTimestamp, 4)),
-                b"",
-                b"",
-                0xBE10_544E_092F_D70F,
-                ".%#%9######Y",
-            ),
-        ],
-    ),
-    (
-        "Then the second, of 0 to 59.",
-        &[
-            (
-                b"\xE0\x01\x00\xEAh\x80\x0F\xD0\x81\x81\x80\x80\xBB",
-                Ok(1),
-                b"2000-01-01T00:00:59Z\n",
-                b"",
-                0xAB93_61EC_FE5C_64F8,
-                ".%B%:7+K##BB)",
-            ),
-            (
-                b"\xE0\x01\x00\xEAh\x80\x0F\xD0\x81\x81\x80\x80\xBC",
-                Err(Refused(Reason::BadTimestamp, 4)),
-                b"",
-                b"",
-                0x2A4A_ABDC_D6B1_DF91,
-                ".%#%:#######)",
-            ),
-            (
-                b"\xE0\x01\x00\xEAh\x80\x0F\xD0\x81\x81\x80\x80;",
-                Err(Refused(Reason::BadVar, 4)),
-                b"",
-                b"",
-                0x06DC_F886_5304_6228,
-                ".%4%:))))))))",
-            ),
-        ],
-    ),
-    (
-        "Each field is a VarUInt, and ends in the body.",
-        &[
-            (
-                b"\xE0\x01\x00\xEAi\x80\x0F\xD0\x81\x81\x80\x80\x00\xBB",
-                Ok(1),
-                b"2000-01-01T00:00:59Z\n",
-                b"",
-                0x5554_719B_F97B_2596,
-                ".%B%:7+K##BBV)",
-            ),
-            (
-                b"\xE0\x01\x00\xEAi\x80\x0F\xD0\x81\x81\x80\x80\x00\x00",
-                Err(Refused(Reason::BadVar, 4)),
-                b"",
-                b"",
-                0x28C1_FA4C_9438_065D,
-                ".%4%:)))))))))",
-            ),
-        ],
-    ),
-    (
-        "Behind the second comes a fraction: a VarInt, the exponent, and an Int, the coefficient.",
-        &[
-            (
-                b"\xE0\x01\x00\xEAj\x80\x0F\xD0\x81\x81\x80\x80\x80\xC1\x05",
-                Ok(1),
-                b"2000-01-01T00:00:00.5Z\n",
-                b"",
-                0xCBA3_DB8F_D335_CDCD,
-                ".%1%:K)4??YYY3Z",
-            ),
-            (
-                b"\xE0\x01\x00\xEAi\x80\x0F\xD0\x81\x81\x80\x80\x80A",
-                Err(Refused(Reason::BadVar, 4)),
-                b"",
-                b"",
-                0x030B_7E0E_9EBC_2EDD,
-                ".%4%:)?)))))):",
-            ),
-        ],
-    ),
-    (
-        "A fraction's coefficient without octets is 0.",
-        &[
-            (
-                b"\xE0\x01\x00\xEAi\x80\x0F\xD0\x81\x81\x80\x80\x80\xC1",
-                Ok(1),
-                b"2000-01-01T00:00:00.0Z\n",
-                b"",
-                0x4339_C412_3D2B_8A13,
-                ".%7%:.8Z##999:",
-            ),
-            (
-                b"\xE0\x01\x00\xEAj\x80\x0F\xD0\x81\x81\x80\x80\x80AA",
-                Err(Refused(Reason::BadVar, 4)),
-                b"",
-                b"",
-                0x672D_53E8_51C3_A3F3,
-                ".%4%:)?))))))3H",
-            ),
-        ],
-    ),
-    (
-        "A fraction has at most 38 digits.",
-        &[
-            (
-                b"\xE0\x01\x00\xEAi\x80\x0F\xD0\x81\x81\x80\x80\x80\xE6",
-                Ok(1),
-                b"2000-01-01T00:00:00.00000000000000000000000000000000000000Z\n",
-                b"",
-                0x882C_1163_F0C7_380E,
-                ".%3%:G@M##EEE:",
-            ),
-            (
-                b"\xE0\x01\x00\xEAi\x80\x0F\xD0\x81\x81\x80\x80\x80\xE7",
-                Err(Refused(Reason::Range, 4)),
-                b"",
-                b"",
-                0xE29F_0AE8_BD92_CBD0,
-                ".%O%:7<777777:",
-            ),
-        ],
-    ),
-    (
-        "The fields are in UTC, and text shows them with the offset added.",
-        &[
-            (
-                b"\xE0\x01\x00\xEAg\xBC\x0F\xD0\x81\x81\x97\x9Eg\xFC\x0F\xD0\x81\x81\x80\x9E",
-                Ok(2),
-                b"2000-01-02T00:30+01:00\n1999-12-31T23:30-01:00\n",
-                b"",
-                0xE367_021C_E589_D2B7,
-                ".%=%<:&$##95*0E%[[)M",
-            ),
-            (
-                b"\xE0\x01\x00\xEAg\x81N\x8F\x8C\x9F\x97\xBB",
-                Err(Refused(Reason::BadTimestamp, 4)),
-                b"",
-                b"",
-                0x4A02_B1D5_D0EA_FD50,
-                ".%#%[8QM##?F",
-            ),
-        ],
-    ),
-    (
-        "The unknown offset counts as 0.",
-        &[
-            (
-                b"\xE0\x01\x00\xEAg\xC0N\x8F\x8C\x9F\x97\xBB",
-                Ok(1),
-                b"9999-12-31T23:59-00:00\n",
-                b"",
-                0x0B9D_0BAB_3691_8FD7,
-                ".%=%08SC##,D",
-            ),
-            (
-                b"\xE0\x01\x00\xEAg\xC1\x81\x81\x81\x80\x80",
-                Err(Refused(Reason::Truncated, 4)),
-                b"",
-                b"",
-                0xF68F_2CB0_E0E7_E53F,
-                ".%,%.CCCCCC",
-            ),
-        ],
-    ),
-    (
-        "A fraction is at least 0.",
-        &[
-            (
-                b"\xE0\x01\x00\xEAj\x80\x0F\xD0\x81\x81\x80\x80\x80\xC1\x00",
-                Ok(1),
-                b"2000-01-01T00:00:00.0Z\n",
-                b"",
-                0x86F3_9430_0D3A_F8FE,
-                ".%7%:#8/??444:Z",
-            ),
-            (
-                b"\xE0\x01\x00\xEAj\x80\x0F\xD0\x81\x81\x80\x80\x80\xC1\x81",
-                Err(Refused(Reason::BadTimestamp, 4)),
-                b"",
-                b"",
-                0x1411_4E39_E834_B586,
-                ".%#%:########RZ",
-            ),
-        ],
-    ),
-    (
-        "A fraction is below 1.",
-        &[
-            (
-                b"\xE0\x01\x00\xEAj\x80\x0F\xD0\x81\x81\x80\x80\x80\xC2c",
-                Ok(1),
-                b"2000-01-01T00:00:00.99Z\n",
-                b"",
-                0xD7EB_C048_188A_1D10,
-                ".%'%:P$S??===3@",
-            ),
-            (
-                b"\xE0\x01\x00\xEAj\x80\x0F\xD0\x81\x81\x80\x80\x80\xC2d",
-                Err(Refused(Reason::BadTimestamp, 4)),
-                b"",
-                b"",
-                0xD8FE_16EF_B67F_BFAF,
-                ".%#%:?#??????3@",
-            ),
-        ],
-    ),
-    (
-        "A fraction of zero with an exponent above -1 is none.",
-        &[
-            (
-                b"\xE0\x01\x00\xEAi\x80\x0F\xD0\x81\x81\x80\x80\x80\x81",
-                Ok(1),
-                b"2000-01-01T00:00:00Z\n",
-                b"",
-                0xB187_F726_1247_FAB8,
-                ".%*%:,J:##$$$:",
-            ),
-            (
-                b"\xE0\x01\x00\xEAj\x80\x0F\xD0\x81\x81\x80\x80\x80\x80\x01",
-                Err(Refused(Reason::BadTimestamp, 4)),
-                b"",
-                b"",
-                0x0E3E_BC70_9E60_CA69,
-                ".%#%:?#??????3J",
-            ),
-        ],
-    ),
-    (
-        "A fraction of zero with an exponent of -1 or less keeps its digits.",
-        &[
-            (
-                b"\xE0\x01\x00\xEAi\x80\x0F\xD0\x81\x81\x80\x80\x80\xC3",
-                Ok(1),
-                b"2000-01-01T00:00:00.000Z\n",
-                b"",
-                0xE90D_149B_BC7E_D41D,
-                ".%+%:/-:##&&&:",
-            ),
-            (
-                b"\xE0\x01\x00\xEAj\x80\x0F\xD0\x81\x81\x80\x80\x80\xC3\x81",
-                Err(Refused(Reason::BadTimestamp, 4)),
-                b"",
-                b"",
-                0x4567_5365_912E_B49A,
-                ".%#%:########RX",
-            ),
-        ],
-    ),
-    (
-        "A fraction of minus zero is zero.",
-        &[
-            (
-                b"\xE0\x01\x00\xEAj\x80\x0F\xD0\x81\x81\x80\x80\x80\xC1\x80",
-                Ok(1),
-                b"2000-01-01T00:00:00.0Z\n",
-                b"",
-                0x24AC_64B8_2024_F766,
-                ".%7%:.8Z##9998Z",
-            ),
-            (
-                b"\xE0\x01\x00\xEAj\x80\x0F\xD0\x81\x81\x80\x80\x80\xC1\x8A",
-                Err(Refused(Reason::BadTimestamp, 4)),
-                b"",
-                b"",
-                0x1411_4E39_E834_B586,
-                ".%#%:########RZ",
-            ),
-        ],
-    ),
-    (
-        "To the year, month or day, the offset is read and means nothing.",
-        &[
-            (
-                b"\xE0\x01\x00\xEAd\x0B\xA0\x0F\xD0e\xFC\x0F\xD0\x81\x81",
-                Ok(2),
-                b"2000T\n2000-01-01\n",
-                b"",
-                0x1614_C55F_5C8A_9442,
-                ".%Q%@=V6K[VLC8O",
-            ),
-            (
-                b"\xE0\x01\x00\xEAg\x0B\xA0\x0F\xD0\x81\x81\x80",
-                Err(Refused(Reason::BadTimestamp, 4)),
-                b"",
-                b"",
-                0xABF9_58D6_F282_E7B7,
-                ".%#%@######?",
-            ),
-            (
-                b"\xE0\x01\x00\xEAc@\x0F\xD0",
-                Err(Refused(Reason::BadTimestamp, 4)),
-                b"",
-                b"",
-                0xD089_40CD_D96D_E58E,
-                ".%#%:2/?",
-            ),
-        ],
-    ),
-];
+pub const ROWS: &str = r#"
+~ A timestamp's body begins with the offset, a VarInt of minutes.
+%E0%01%00%EAg%FC%0F%D0%81%81%80%80|1|1999-12-31T23:00-01:00%0A||CE7DED0C4C333D93|.%V%(U5P##M-|
+%E0%01%00%EAh%0B%A0%0F%D0%81%81%80%80|BadTimestamp 4|||DC5E1517009BF601|.%#%@=;#####?|
+%E0%01%00%EAhK%A0%0F%D0%81%81%80%80|BadTimestamp 4|||36AEBC0FED19FE64|.%#%:=-#####?|
+%E0%01%00%EA`|BadTimestamp 4|||9F9C11B906852215|.%#%<|
+~ The offset minus zero is the unknown one.
+%E0%01%00%EAg%C0%0F%D0%81%81%80%80|1|2000-01-01T00:00-00:00%0A||DF3333702625840B|.%V%9U@I##[A|
+%E0%01%00%EAa%C0|BadTimestamp 4|||267AC70507E11524|.%#%3?|
+~ Then comes the year, a VarUInt of 1 to 9999.
+%E0%01%00%EAc%C0N%8Fb%C0%81|2|9999T%0A0001T%0A||EBE8B72DA64819B5|.%Q%0HVU,K4|
+%E0%01%00%EAc%C0N%90|BadTimestamp 4|||B300D1A4F4D4AB9D|.%#%0#T<|
+%E0%01%00%EAb%C0%80|BadTimestamp 4|||D7B51AF0477D600F|.%#%1#F|
+~ Then the month.
+%E0%01%00%EAd%C0%0F%D0%8C|1|2000-12T%0A||3552BCE01E2E9A4E|.%4%N0X,?|
+%E0%01%00%EAd%C0%0F%D0%8D|BadTimestamp 4|||CC70F82B66235DC2|.%#%N<##?|
+%E0%01%00%EAd%C0%0F%D0%80|BadTimestamp 4|||D792CB008F3C2EAF|.%#%=###?|
+~ Then the day, which that month has.
+%E0%01%00%EAe%C0%0F%D0%82%9D|1|2000-02-29%0A||7B2D627E00BFF939|.%'%NPBY#?|
+%E0%01%00%EAe%C0%0F%D1%82%9D|BadTimestamp 4|||A7443AF58D026C4B|.%#%8##Y#?|
+%E0%01%00%EAe%C0%0F%D0%81%80|BadTimestamp 4|||87707A4A262ACED2|.%#%9####?|
+~ Then the hour and minute together.
+%E0%01%00%EAg%C0%0F%D0%81%81%97%BB|1|2000-01-01T23:59-00:00%0A||FCBB2CFB44A87715|.%Z%9;/8##LY|
+%E0%01%00%EAf%C0%0F%D0%81%81%97|BadTimestamp 4|||3E2D768B5E275F99|.%#%9A##RR?|
+%E0%01%00%EAg%C0%0F%D0%81%81%98%80|BadTimestamp 4|||733D59327152E73D|.%#%9#####[?|
+%E0%01%00%EAg%C0%0F%D0%81%81%97%BC|BadTimestamp 4|||BE10544E092FD70F|.%#%9######Y|
+~ Then the second, of 0 to 59.
+%E0%01%00%EAh%80%0F%D0%81%81%80%80%BB|1|2000-01-01T00:00:59Z%0A||AB9361ECFE5C64F8|.%B%:7+K##BB)|
+%E0%01%00%EAh%80%0F%D0%81%81%80%80%BC|BadTimestamp 4|||2A4AABDCD6B1DF91|.%#%:#######)|
+%E0%01%00%EAh%80%0F%D0%81%81%80%80;|BadVar 4|||06DCF88653046228|.%4%:))))))))|
+~ Each field is a VarUInt, and ends in the body.
+%E0%01%00%EAi%80%0F%D0%81%81%80%80%00%BB|1|2000-01-01T00:00:59Z%0A||5554719BF97B2596|.%B%:7+K##BBV)|
+%E0%01%00%EAi%80%0F%D0%81%81%80%80%00%00|BadVar 4|||28C1FA4C9438065D|.%4%:)))))))))|
+~ Behind the second comes a fraction: a VarInt, the exponent, and an Int, the coefficient.
+%E0%01%00%EAj%80%0F%D0%81%81%80%80%80%C1%05|1|2000-01-01T00:00:00.5Z%0A||CBA3DB8FD335CDCD|.%1%:K)4??YYY3Z|
+%E0%01%00%EAi%80%0F%D0%81%81%80%80%80A|BadVar 4|||030B7E0E9EBC2EDD|.%4%:)?)))))):|
+~ A fraction's coefficient without octets is 0.
+%E0%01%00%EAi%80%0F%D0%81%81%80%80%80%C1|1|2000-01-01T00:00:00.0Z%0A||4339C4123D2B8A13|.%7%:.8Z##999:|
+%E0%01%00%EAj%80%0F%D0%81%81%80%80%80AA|BadVar 4|||672D53E851C3A3F3|.%4%:)?))))))3H|
+~ A fraction has at most 38 digits.
+%E0%01%00%EAi%80%0F%D0%81%81%80%80%80%E6|1|2000-01-01T00:00:00.00000000000000000000000000000000000000Z%0A||882C1163F0C7380E|.%3%:G@M##EEE:|
+%E0%01%00%EAi%80%0F%D0%81%81%80%80%80%E7|Range 4|||E29F0AE8BD92CBD0|.%O%:7<777777:|
+~ The fields are in UTC, and text shows them with the offset added.
+%E0%01%00%EAg%BC%0F%D0%81%81%97%9Eg%FC%0F%D0%81%81%80%9E|2|2000-01-02T00:30+01:00%0A1999-12-31T23:30-01:00%0A||E367021CE589D2B7|.%=%<:&$##95*0E%[[)M|
+%E0%01%00%EAg%81N%8F%8C%9F%97%BB|BadTimestamp 4|||4A02B1D5D0EAFD50|.%#%[8QM##?F|
+~ The unknown offset counts as 0.
+%E0%01%00%EAg%C0N%8F%8C%9F%97%BB|1|9999-12-31T23:59-00:00%0A||0B9D0BAB36918FD7|.%=%08SC##,D|
+%E0%01%00%EAg%C1%81%81%81%80%80|Truncated 4|||F68F2CB0E0E7E53F|.%,%.CCCCCC|
+~ A fraction is at least 0.
+%E0%01%00%EAj%80%0F%D0%81%81%80%80%80%C1%00|1|2000-01-01T00:00:00.0Z%0A||86F394300D3AF8FE|.%7%:#8/??444:Z|
+%E0%01%00%EAj%80%0F%D0%81%81%80%80%80%C1%81|BadTimestamp 4|||14114E39E834B586|.%#%:########RZ|
+~ A fraction is below 1.
+%E0%01%00%EAj%80%0F%D0%81%81%80%80%80%C2c|1|2000-01-01T00:00:00.99Z%0A||D7EBC048188A1D10|.%'%:P$S??===3@|
+%E0%01%00%EAj%80%0F%D0%81%81%80%80%80%C2d|BadTimestamp 4|||D8FE16EFB67FBFAF|.%#%:?#??????3@|
+~ A fraction of zero with an exponent above -1 is none.
+%E0%01%00%EAi%80%0F%D0%81%81%80%80%80%81|1|2000-01-01T00:00:00Z%0A||B187F7261247FAB8|.%*%:,J:##$$$:|
+%E0%01%00%EAj%80%0F%D0%81%81%80%80%80%80%01|BadTimestamp 4|||0E3EBC709E60CA69|.%#%:?#??????3J|
+~ A fraction of zero with an exponent of -1 or less keeps its digits.
+%E0%01%00%EAi%80%0F%D0%81%81%80%80%80%C3|1|2000-01-01T00:00:00.000Z%0A||E90D149BBC7ED41D|.%+%:/-:##&&&:|
+%E0%01%00%EAj%80%0F%D0%81%81%80%80%80%C3%81|BadTimestamp 4|||45675365912EB49A|.%#%:########RX|
+~ A fraction of minus zero is zero.
+%E0%01%00%EAj%80%0F%D0%81%81%80%80%80%C1%80|1|2000-01-01T00:00:00.0Z%0A||24AC64B82024F766|.%7%:.8Z##9998Z|
+%E0%01%00%EAj%80%0F%D0%81%81%80%80%80%C1%8A|BadTimestamp 4|||14114E39E834B586|.%#%:########RZ|
+~ To the year, month or day, the offset is read and means nothing.
+%E0%01%00%EAd%0B%A0%0F%D0e%FC%0F%D0%81%81|2|2000T%0A2000-01-01%0A||1614C55F5C8A9442|.%Q%@=V6K[VLC8O|
+%E0%01%00%EAg%0B%A0%0F%D0%81%81%80|BadTimestamp 4|||ABF958D6F282E7B7|.%#%@######?|
+%E0%01%00%EAc@%0F%D0|BadTimestamp 4|||D08940CDD96DE58E|.%#%:2/?|
+"#;

@@ -1,360 +1,51 @@
 //! Of the text encoding: containers and annotations. Written by tests/vectors/make.py.
 
-use super::Row;
-use ion_meter::fault::Fault::Refused;
-use ion_meter::fault::Reason;
-
-pub const ROWS: &[Row] = &[
-    (
-        "A list stands in [ and ], with commas between its values, and may have one at its end.",
-        &[
-            (
-                b"[1,2] [1,] []",
-                Ok(3),
-                b"[1,2]\n[1]\n[]\n",
-                b"\xE0\x01\x00\xEA\xB4!\x01!\x02\xB2!\x01\xB0",
-                0x3410_9A28_5769_0E82,
-                ".XQ)0?RNB9U>N",
-            ),
-            (
-                b"[1 2]",
-                Err(Refused(Reason::BadToken, 3)),
-                b"[1",
-                b"\xE0\x01\x00\xEA",
-                0x715A_7BDA_2DD7_D5B9,
-                ".XQ)A",
-            ),
-            (
-                b"[,]",
-                Err(Refused(Reason::BadToken, 1)),
-                b"[",
-                b"\xE0\x01\x00\xEA",
-                0xD780_118B_0C09_607E,
-                ".X+",
-            ),
-            (
-                b"[1,,2]",
-                Err(Refused(Reason::BadToken, 3)),
-                b"[1",
-                b"\xE0\x01\x00\xEA",
-                0x93F7_29E1_441C_C24D,
-                ".XQ)AA",
-            ),
-            (
-                b"[1",
-                Err(Refused(Reason::Truncated, 2)),
-                b"[1",
-                b"\xE0\x01\x00\xEA",
-                0xF79E_8BC4_0110_2DC5,
-                ".X",
-            ),
-            (
-                b"]",
-                Err(Refused(Reason::BadToken, 0)),
-                b"",
-                b"\xE0\x01\x00\xEA",
-                0x45CF_7FAA_5341_6536,
-                ".",
-            ),
-            (
-                b"[1}",
-                Err(Refused(Reason::BadToken, 2)),
-                b"[1",
-                b"\xE0\x01\x00\xEA",
-                0x07A3_A3BE_A0FD_AD05,
-                ".XQ",
-            ),
-        ],
-    ),
-    (
-        "A struct stands in { and }, with commas between its fields, and may have one at its end.",
-        &[
-            (
-                b"{a:1,b:2,} {}",
-                Ok(2),
-                b"{a:1,b:2}\n{}\n",
-                b"\xE0\x01\x00\xEA\xEC\x81\x83\xD9\x86q\x03\x87\xB4\x81a\x81b\xD6\x8A!\x01\x8B!\x02\xD0",
-                0x6ACA_6AB8_6521_EBB6,
-                ".Y,;@@0V$BN?T",
-            ),
-            (
-                b"{a:1 b:2}",
-                Err(Refused(Reason::BadToken, 5)),
-                b"{a:1",
-                b"\xE0\x01\x00\xEA",
-                0x806D_65DB_9473_751C,
-                ".Y,;@@AAA",
-            ),
-            (
-                b"{,}",
-                Err(Refused(Reason::BadToken, 1)),
-                b"{",
-                b"\xE0\x01\x00\xEA",
-                0xA961_48B5_C8EB_2D73,
-                ".YF",
-            ),
-            (
-                b"{a:1",
-                Err(Refused(Reason::Truncated, 4)),
-                b"{a:1",
-                b"\xE0\x01\x00\xEA",
-                0x4997_E151_D72F_7DC7,
-                ".Y,;",
-            ),
-            (
-                b"{a}",
-                Err(Refused(Reason::BadToken, 2)),
-                b"{",
-                b"\xE0\x01\x00\xEA",
-                0x016B_D298_DF29_D6C6,
-                ".Y,",
-            ),
-            (
-                b"{a:}",
-                Err(Refused(Reason::BadToken, 3)),
-                b"{",
-                b"\xE0\x01\x00\xEA",
-                0x4997_E151_D72F_7DC7,
-                ".Y,;",
-            ),
-            (
-                b"{a:1)",
-                Err(Refused(Reason::BadToken, 4)),
-                b"{a:1",
-                b"\xE0\x01\x00\xEA",
-                0xA570_92FC_E48F_1FE9,
-                ".Y,;@",
-            ),
-        ],
-    ),
-    (
-        "An S-expression stands in ( and ), without commas.",
-        &[
-            (
-                b"(1 2) () (a())",
-                Ok(3),
-                b"(1 2)\n()\n(a ())\n",
-                b"\xE0\x01\x00\xEA\xC4!\x01!\x02\xC0\xEA\x81\x83\xD7\x86q\x03\x87\xB2\x81a\xC3q\n\xC0",
-                0xF770_3D4A_667F_5B58,
-                "...A$>ZY-+6+=#",
-            ),
-            (
-                b"(1,2)",
-                Err(Refused(Reason::BadToken, 2)),
-                b"(1",
-                b"\xE0\x01\x00\xEA",
-                0x88EF_F9C9_C95B_7C09,
-                "...((",
-            ),
-            (
-                b"(1",
-                Err(Refused(Reason::Truncated, 2)),
-                b"(1",
-                b"\xE0\x01\x00\xEA",
-                0x8D04_0D0C_A2FA_C734,
-                "..",
-            ),
-            (
-                b"(]",
-                Err(Refused(Reason::BadToken, 1)),
-                b"(",
-                b"\xE0\x01\x00\xEA",
-                0x8D04_0D0C_A2FA_C734,
-                "..",
-            ),
-        ],
-    ),
-    (
-        "A field's name is a symbol, a string or a long string.",
-        &[
-            (
-                b"{a:1,'b':2,$4:3,\"c\":4,'''d''' '''e''':5}",
-                Ok(1),
-                b"{a:1,b:2,name:3,c:4,de:5}\n",
-                b"\xE0\x01\x00\xEA\xEE\x92\x81\x83\xDE\x8E\x86q\x03\x87\xB9\x81a\x81b\x81c\x82de\xDE\x8F\x8A!\x01\x8B!\x02\x84!\x03\x8C!\x04\x8D!\x05",
-                0x9914_439B_F7ED_F0F2,
-                ".Y,;@@2%L.XGLE/RC;#P3K#7V&>>>[FFFZ555>HU",
-            ),
-            (
-                b"{1:2}",
-                Err(Refused(Reason::BadToken, 1)),
-                b"{",
-                b"\xE0\x01\x00\xEA",
-                0xAE11_B11F_9004_A183,
-                ".YFFF",
-            ),
-            (
-                b"{null:1}",
-                Err(Refused(Reason::BadToken, 1)),
-                b"{",
-                b"\xE0\x01\x00\xEA",
-                0x5DC2_9DFF_0645_7DDB,
-                ".Y,;%FFF",
-            ),
-            (
-                b"{[]:1}",
-                Err(Refused(Reason::BadToken, 1)),
-                b"{",
-                b"\xE0\x01\x00\xEA",
-                0xBEA0_7527_8F81_B7F5,
-                ".YFFFF",
-            ),
-            (
-                b"{$10:1}",
-                Err(Refused(Reason::BadSymbol, 1)),
-                b"{",
-                b"\xE0\x01\x00\xEA",
-                0xF4AE_B1DB_72A6_F7A3,
-                ".Y,;%'G",
-            ),
-        ],
-    ),
-    (
-        "Behind it stands a colon.",
-        &[
-            (
-                b"{a : 1,b/**/:2}",
-                Ok(1),
-                b"{a:1,b:2}\n",
-                b"\xE0\x01\x00\xEA\xEC\x81\x83\xD9\x86q\x03\x87\xB4\x81a\x81b\xD6\x8A!\x01\x8B!\x02",
-                0xAB54_9544_5140_DDFF,
-                ".Y,;%'9VL100*Z[",
-            ),
-            (
-                b"{a 1}",
-                Err(Refused(Reason::BadToken, 3)),
-                b"{",
-                b"\xE0\x01\x00\xEA",
-                0x3B46_FB86_CC9F_E239,
-                ".Y,;V",
-            ),
-            (
-                b"{a::1}",
-                Err(Refused(Reason::BadToken, 2)),
-                b"{",
-                b"\xE0\x01\x00\xEA",
-                0x5951_18CD_BCA7_A52B,
-                ".Y,;--",
-            ),
-            (
-                b"{a",
-                Err(Refused(Reason::Truncated, 2)),
-                b"{",
-                b"\xE0\x01\x00\xEA",
-                0x5161_2AB8_E765_45D5,
-                ".Y",
-            ),
-        ],
-    ),
-    (
-        "An annotation is a symbol and two colons.",
-        &[
-            (
-                b"a::'b'::$4::1 a::[]",
-                Ok(2),
-                b"a::b::name::1\na::[]\n",
-                b"\xE0\x01\x00\xEA\xEC\x81\x83\xD9\x86q\x03\x87\xB4\x81a\x81b\xE6\x83\x8A\x8B\x84!\x01\xE3\x81\x8A\xB0",
-                0xFC4F_DC52_C66E_8B81,
-                ".RW0,((&D4UE:#Y7-R8",
-            ),
-            (
-                b"\"a\"::1",
-                Err(Refused(Reason::BadToken, 3)),
-                b"\"a\"\n",
-                b"\xE0\x01\x00\xEA\x81a",
-                0x5558_D9F2_431F_4BFB,
-                ".<@J66",
-            ),
-            (
-                b"1::2",
-                Err(Refused(Reason::BadToken, 0)),
-                b"",
-                b"\xE0\x01\x00\xEA",
-                0x584A_00A8_94CB_3249,
-                ".B88",
-            ),
-            (
-                b"a::",
-                Err(Refused(Reason::Truncated, 3)),
-                b"",
-                b"\xE0\x01\x00\xEA",
-                0x8479_B37C_6534_A95B,
-                ".RW",
-            ),
-            (
-                b"$10::1",
-                Err(Refused(Reason::BadSymbol, 0)),
-                b"",
-                b"\xE0\x01\x00\xEA",
-                0xBF65_5689_59D1_BDBF,
-                ".$:VVW",
-            ),
-        ],
-    ),
-    (
-        "White space and comments may stand before the colons and behind them.",
-        &[
-            (
-                b"a /*x*/ :: //y\n b",
-                Ok(1),
-                b"a::b\n",
-                b"\xE0\x01\x00\xEA\xEC\x81\x83\xD9\x86q\x03\x87\xB4\x81a\x81b\xE4\x81\x8Aq\x0B",
-                0xCD11_B9E6_5BEA_DE8F,
-                ".RD;QZZ#E.,A6A6EO",
-            ),
-            (
-                b"a : : b",
-                Err(Refused(Reason::BadToken, 2)),
-                b"a\n",
-                b"\xE0\x01\x00\xEA\xEA\x81\x83\xD7\x86q\x03\x87\xB2\x81aq\n",
-                0x8F5B_7294_AFCA_AB20,
-                ".RD;;;;",
-            ),
-            (
-                b"a :/**/: b",
-                Err(Refused(Reason::BadToken, 2)),
-                b"a\n",
-                b"\xE0\x01\x00\xEA\xEA\x81\x83\xD7\x86q\x03\x87\xB2\x81aq\n",
-                0x3FAF_D2F8_FB95_67E3,
-                ".RD;;;;;;;",
-            ),
-        ],
-    ),
-    (
-        "Two colons together are one token.",
-        &[
-            (
-                b"{a:b::c}",
-                Ok(1),
-                b"{a:b::c}\n",
-                b"\xE0\x01\x00\xEA\xEE\x8E\x81\x83\xDB\x86q\x03\x87\xB6\x81a\x81b\x81c\xD6\x8A\xE4\x81\x8Bq\x0C",
-                0x4AB8_12D2_AA42_2FD4,
-                ".Y,;;+S0",
-            ),
-            (
-                b"{a::b}",
-                Err(Refused(Reason::BadToken, 2)),
-                b"{",
-                b"\xE0\x01\x00\xEA",
-                0x5951_18CD_BCA7_A52B,
-                ".Y,;--",
-            ),
-            (
-                b"{a:b:c}",
-                Err(Refused(Reason::BadToken, 4)),
-                b"{a:b",
-                b"\xE0\x01\x00\xEA",
-                0x7D01_FC53_8E34_5232,
-                ".Y,;;++",
-            ),
-            (
-                b"{a: :b}",
-                Err(Refused(Reason::BadToken, 4)),
-                b"{",
-                b"\xE0\x01\x00\xEA",
-                0xA205_1645_4040_8F8D,
-                ".Y,;%VV",
-            ),
-        ],
-    ),
-];
+pub const ROWS: &str = r#"
+~ A list stands in [ and ], with commas between its values, and may have one at its end.
+[1,2] [1,] []|3|[1,2]%0A[1]%0A[]%0A|%E0%01%00%EA%B4!%01!%02%B2!%01%B0|34109A2857690E82|.XQ)0?RNB9U>N|
+[1 2]|BadToken 3|[1|%E0%01%00%EA|715A7BDA2DD7D5B9|.XQ)A|
+[,]|BadToken 1|[|%E0%01%00%EA|D780118B0C09607E|.X+|
+[1,,2]|BadToken 3|[1|%E0%01%00%EA|93F729E1441CC24D|.XQ)AA|
+[1|Truncated 2|[1|%E0%01%00%EA|F79E8BC401102DC5|.X|
+]|BadToken 0||%E0%01%00%EA|45CF7FAA53416536|.|
+[1}|BadToken 2|[1|%E0%01%00%EA|07A3A3BEA0FDAD05|.XQ|
+~ A struct stands in { and }, with commas between its fields, and may have one at its end.
+{a:1,b:2,} {}|2|{a:1,b:2}%0A{}%0A|%E0%01%00%EA%EC%81%83%D9%86q%03%87%B4%81a%81b%D6%8A!%01%8B!%02%D0|6ACA6AB86521EBB6|.Y,;@@0V$BN?T|
+{a:1 b:2}|BadToken 5|{a:1|%E0%01%00%EA|806D65DB9473751C|.Y,;@@AAA|
+{,}|BadToken 1|{|%E0%01%00%EA|A96148B5C8EB2D73|.YF|
+{a:1|Truncated 4|{a:1|%E0%01%00%EA|4997E151D72F7DC7|.Y,;|
+{a}|BadToken 2|{|%E0%01%00%EA|016BD298DF29D6C6|.Y,|
+{a:}|BadToken 3|{|%E0%01%00%EA|4997E151D72F7DC7|.Y,;|
+{a:1)|BadToken 4|{a:1|%E0%01%00%EA|A57092FCE48F1FE9|.Y,;@|
+~ An S-expression stands in ( and ), without commas.
+(1 2) () (a())|3|(1 2)%0A()%0A(a ())%0A|%E0%01%00%EA%C4!%01!%02%C0%EA%81%83%D7%86q%03%87%B2%81a%C3q%0A%C0|F7703D4A667F5B58|...A$>ZY-+6+=#|
+(1,2)|BadToken 2|(1|%E0%01%00%EA|88EFF9C9C95B7C09|...((|
+(1|Truncated 2|(1|%E0%01%00%EA|8D040D0CA2FAC734|..|
+(]|BadToken 1|(|%E0%01%00%EA|8D040D0CA2FAC734|..|
+~ A field's name is a symbol, a string or a long string.
+{a:1,'b':2,$4:3,"c":4,'''d''' '''e''':5}|1|{a:1,b:2,name:3,c:4,de:5}%0A|%E0%01%00%EA%EE%92%81%83%DE%8E%86q%03%87%B9%81a%81b%81c%82de%DE%8F%8A!%01%8B!%02%84!%03%8C!%04%8D!%05|9914439BF7EDF0F2|.Y,;@@2%L.XGLE/RC;#P3K#7V&>>>[FFFZ555>HU|
+{1:2}|BadToken 1|{|%E0%01%00%EA|AE11B11F9004A183|.YFFF|
+{null:1}|BadToken 1|{|%E0%01%00%EA|5DC29DFF06457DDB|.Y,;%FFF|
+{[]:1}|BadToken 1|{|%E0%01%00%EA|BEA075278F81B7F5|.YFFFF|
+{$10:1}|BadSymbol 1|{|%E0%01%00%EA|F4AEB1DB72A6F7A3|.Y,;%'G|
+~ Behind it stands a colon.
+{a : 1,b/**/:2}|1|{a:1,b:2}%0A|%E0%01%00%EA%EC%81%83%D9%86q%03%87%B4%81a%81b%D6%8A!%01%8B!%02|AB5495445140DDFF|.Y,;%'9VL100*Z[|
+{a 1}|BadToken 3|{|%E0%01%00%EA|3B46FB86CC9FE239|.Y,;V|
+{a::1}|BadToken 2|{|%E0%01%00%EA|595118CDBCA7A52B|.Y,;--|
+{a|Truncated 2|{|%E0%01%00%EA|51612AB8E76545D5|.Y|
+~ An annotation is a symbol and two colons.
+a::'b'::$4::1 a::[]|2|a::b::name::1%0Aa::[]%0A|%E0%01%00%EA%EC%81%83%D9%86q%03%87%B4%81a%81b%E6%83%8A%8B%84!%01%E3%81%8A%B0|FC4FDC52C66E8B81|.RW0,((&D4UE:#Y7-R8|
+"a"::1|BadToken 3|"a"%0A|%E0%01%00%EA%81a|5558D9F2431F4BFB|.<@J66|
+1::2|BadToken 0||%E0%01%00%EA|584A00A894CB3249|.B88|
+a::|Truncated 3||%E0%01%00%EA|8479B37C6534A95B|.RW|
+$10::1|BadSymbol 0||%E0%01%00%EA|BF65568959D1BDBF|.$:VVW|
+~ White space and comments may stand before the colons and behind them.
+a /*x*/ :: //y%0A b|1|a::b%0A|%E0%01%00%EA%EC%81%83%D9%86q%03%87%B4%81a%81b%E4%81%8Aq%0B|CD11B9E65BEADE8F|.RD;QZZ#E.,A6A6EO|
+a : : b|BadToken 2|a%0A|%E0%01%00%EA%EA%81%83%D7%86q%03%87%B2%81aq%0A|8F5B7294AFCAAB20|.RD;;;;|
+a :/**/: b|BadToken 2|a%0A|%E0%01%00%EA%EA%81%83%D7%86q%03%87%B2%81aq%0A|3FAFD2F8FB9567E3|.RD;;;;;;;|
+~ Two colons together are one token.
+{a:b::c}|1|{a:b::c}%0A|%E0%01%00%EA%EE%8E%81%83%DB%86q%03%87%B6%81a%81b%81c%D6%8A%E4%81%8Bq%0C|4AB812D2AA422FD4|.Y,;;+S0|
+{a::b}|BadToken 2|{|%E0%01%00%EA|595118CDBCA7A52B|.Y,;--|
+{a:b:c}|BadToken 4|{a:b|%E0%01%00%EA|7D01FC538E345232|.Y,;;++|
+{a: :b}|BadToken 4|{|%E0%01%00%EA|A205164540408F8D|.Y,;%VV|
+"#;

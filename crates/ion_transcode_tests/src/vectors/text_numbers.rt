@@ -1,238 +1,35 @@
 //! Of the text encoding: decimals and floats. Written by tests/vectors/make.py.
 
-use super::Row;
-use ion_meter::fault::Fault::Refused;
-use ion_meter::fault::Reason;
-
-pub const ROWS: &[Row] = &[
-    (
-        "A decimal has a point, with or without digits behind it.",
-        &[
-            (
-                b"1. 1.50 -0. 0.05",
-                Ok(4),
-                b"1.\n1.50\n-0.\n0.05\n",
-                b"\xE0\x01\x00\xEAR\x80\x01S\xC2\x00\x96R\x80\x80R\xC2\x05",
-                0x47B1_914D_F76D_93E2,
-                ".B.V2#7D?OAYXNM$",
-            ),
-            (
-                b".5",
-                Err(Refused(Reason::BadToken, 0)),
-                b"",
-                b"\xE0\x01\x00\xEA",
-                0x82AA_392B_D94C_7662,
-                ".8",
-            ),
-            (
-                b"00.5",
-                Err(Refused(Reason::BadToken, 0)),
-                b"",
-                b"\xE0\x01\x00\xEA",
-                0x0D62_F8B1_A102_CCE8,
-                ".088",
-            ),
-            (
-                b"1.5.",
-                Err(Refused(Reason::BadToken, 0)),
-                b"",
-                b"\xE0\x01\x00\xEA",
-                0x4EC1_5FFC_FF1B_B6CD,
-                ".B.H",
-            ),
-            (
-                b"1.a",
-                Err(Refused(Reason::BadToken, 0)),
-                b"",
-                b"\xE0\x01\x00\xEA",
-                0x4FEE_319F_6771_9650,
-                ".B.",
-            ),
-        ],
-    ),
-    (
-        "A decimal has d or D and an exponent.",
-        &[
-            (
-                b"1d2 1.5D-1 1d+3 -0d0",
-                Ok(4),
-                b"1d2\n0.15\n1d3\n-0.\n",
-                b"\xE0\x01\x00\xEAR\x82\x01R\xC2\x0FR\x83\x01R\x80\x80",
-                0x8846_C8EA_44A3_BE9A,
-                ".B8%XO==..2AM##R6[:[",
-            ),
-            (
-                b"1d",
-                Err(Refused(Reason::BadToken, 0)),
-                b"",
-                b"\xE0\x01\x00\xEA",
-                0x6A42_A6DD_03D2_C4C1,
-                ".B",
-            ),
-            (
-                b"1d-",
-                Err(Refused(Reason::BadToken, 0)),
-                b"",
-                b"\xE0\x01\x00\xEA",
-                0x28E1_B219_0777_6E7D,
-                ".B8",
-            ),
-            (
-                b"1.5dd1",
-                Err(Refused(Reason::BadToken, 0)),
-                b"",
-                b"\xE0\x01\x00\xEA",
-                0x852A_853C_7586_D0F5,
-                ".B.H88",
-            ),
-            (
-                b"d1 1.d+",
-                Err(Refused(Reason::BadToken, 3)),
-                b"d1\n",
-                b"\xE0\x01\x00\xEA\xEB\x81\x83\xD8\x86q\x03\x87\xB3\x82d1q\n",
-                0xFD01_3BA4_C3EF_F403,
-                ".OJF=:T",
-            ),
-        ],
-    ),
-    (
-        "A decimal's exponent is less by the digits behind the point.",
-        &[
-            (
-                b"1.50d1 1.0d2147483648",
-                Ok(2),
-                b"15.0\n10d2147483647\n",
-                b"\xE0\x01\x00\xEAS\xC1\x00\x96V\x07\x7F\x7F\x7F\xFF\n",
-                0x1D7B_63C7_87C6_B7B8,
-                ".B.H08PA<N:QT8OW-CE;3",
-            ),
-            (
-                b"1.0d-2147483648",
-                Err(Refused(Reason::Range, 0)),
-                b"",
-                b"\xE0\x01\x00\xEA",
-                0xD418_D766_1F05_A35A,
-                ".B.988+.889[-IN",
-            ),
-            (
-                b"1d2147483648",
-                Err(Refused(Reason::Range, 0)),
-                b"",
-                b"\xE0\x01\x00\xEA",
-                0x2F16_621F_5BD0_B5FC,
-                ".B8%;DAWR,U9",
-            ),
-        ],
-    ),
-    (
-        "A number with e or E is a float, and refused.",
-        &[
-            (
-                b"null.float",
-                Ok(1),
-                b"null.float\n",
-                b"\xE0\x01\x00\xEAO",
-                0x65E8_F0B2_594E_1590,
-                ".ZT$<88888",
-            ),
-            (
-                b"1e0",
-                Err(Refused(Reason::Float, 0)),
-                b"",
-                b"\xE0\x01\x00\xEA",
-                0x28E1_B219_0777_6E7D,
-                ".B8",
-            ),
-            (
-                b"1.5E-3",
-                Err(Refused(Reason::Float, 0)),
-                b"",
-                b"\xE0\x01\x00\xEA",
-                0x852A_853C_7586_D0F5,
-                ".B.H88",
-            ),
-            (
-                b"1e",
-                Err(Refused(Reason::BadToken, 0)),
-                b"",
-                b"\xE0\x01\x00\xEA",
-                0x6A42_A6DD_03D2_C4C1,
-                ".B",
-            ),
-            (
-                b"-0E+0",
-                Err(Refused(Reason::Float, 0)),
-                b"",
-                b"\xE0\x01\x00\xEA",
-                0xFE05_4E14_8A60_13F4,
-                ".8088",
-            ),
-        ],
-    ),
-    (
-        "Underscores may stand on either side of a decimal's point.",
-        &[
-            (
-                b"1_0.5_0 1_0d1",
-                Ok(2),
-                b"10.50\n10d1\n",
-                b"\xE0\x01\x00\xEAS\xC2\x04\x1AR\x81\n",
-                0xA8B7_C3E8_3249_DF87,
-                ".B8(4(8%CQIQI",
-            ),
-            (
-                b"1_.5",
-                Err(Refused(Reason::BadToken, 0)),
-                b"",
-                b"\xE0\x01\x00\xEA",
-                0x584A_00A8_94CB_3249,
-                ".B88",
-            ),
-            (
-                b"1._5",
-                Err(Refused(Reason::BadToken, 0)),
-                b"",
-                b"\xE0\x01\x00\xEA",
-                0x1AD1_AE42_5288_7320,
-                ".B.8",
-            ),
-            (
-                b"1.5_",
-                Err(Refused(Reason::BadToken, 0)),
-                b"",
-                b"\xE0\x01\x00\xEA",
-                0x4EC1_5FFC_FF1B_B6CD,
-                ".B.H",
-            ),
-        ],
-    ),
-    (
-        "None stand in exponents.",
-        &[
-            (
-                b"1d10",
-                Ok(1),
-                b"1d10\n",
-                b"\xE0\x01\x00\xEAR\x8A\x01",
-                0x972D_063B_157C_215A,
-                ".B8&",
-            ),
-            (
-                b"1d1_0",
-                Err(Refused(Reason::BadToken, 0)),
-                b"",
-                b"\xE0\x01\x00\xEA",
-                0x6B09_B24E_2D6C_0246,
-                ".B8&8",
-            ),
-            (
-                b"1_d1",
-                Err(Refused(Reason::BadToken, 0)),
-                b"",
-                b"\xE0\x01\x00\xEA",
-                0x584A_00A8_94CB_3249,
-                ".B88",
-            ),
-        ],
-    ),
-];
+pub const ROWS: &str = r#"
+~ A decimal has a point, with or without digits behind it.
+1. 1.50 -0. 0.05|4|1.%0A1.50%0A-0.%0A0.05%0A|%E0%01%00%EAR%80%01S%C2%00%96R%80%80R%C2%05|47B1914DF76D93E2|.B.V2#7D?OAYXNM$|
+.5|BadToken 0||%E0%01%00%EA|82AA392BD94C7662|.8|
+00.5|BadToken 0||%E0%01%00%EA|0D62F8B1A102CCE8|.088|
+1.5.|BadToken 0||%E0%01%00%EA|4EC15FFCFF1BB6CD|.B.H|
+1.a|BadToken 0||%E0%01%00%EA|4FEE319F67719650|.B.|
+~ A decimal has d or D and an exponent.
+1d2 1.5D-1 1d+3 -0d0|4|1d2%0A0.15%0A1d3%0A-0.%0A|%E0%01%00%EAR%82%01R%C2%0FR%83%01R%80%80|8846C8EA44A3BE9A|.B8%XO==..2AM##R6[:[|
+1d|BadToken 0||%E0%01%00%EA|6A42A6DD03D2C4C1|.B|
+1d-|BadToken 0||%E0%01%00%EA|28E1B21907776E7D|.B8|
+1.5dd1|BadToken 0||%E0%01%00%EA|852A853C7586D0F5|.B.H88|
+d1 1.d+|BadToken 3|d1%0A|%E0%01%00%EA%EB%81%83%D8%86q%03%87%B3%82d1q%0A|FD013BA4C3EFF403|.OJF=:T|
+~ A decimal's exponent is less by the digits behind the point.
+1.50d1 1.0d2147483648|2|15.0%0A10d2147483647%0A|%E0%01%00%EAS%C1%00%96V%07%7F%7F%7F%FF%0A|1D7B63C787C6B7B8|.B.H08PA<N:QT8OW-CE;3|
+1.0d-2147483648|Range 0||%E0%01%00%EA|D418D7661F05A35A|.B.988+.889[-IN|
+1d2147483648|Range 0||%E0%01%00%EA|2F16621F5BD0B5FC|.B8%;DAWR,U9|
+~ A number with e or E is a float, and refused.
+null.float|1|null.float%0A|%E0%01%00%EAO|65E8F0B2594E1590|.ZT$<88888|
+1e0|Float 0||%E0%01%00%EA|28E1B21907776E7D|.B8|
+1.5E-3|Float 0||%E0%01%00%EA|852A853C7586D0F5|.B.H88|
+1e|BadToken 0||%E0%01%00%EA|6A42A6DD03D2C4C1|.B|
+-0E+0|Float 0||%E0%01%00%EA|FE054E148A6013F4|.8088|
+~ Underscores may stand on either side of a decimal's point.
+1_0.5_0 1_0d1|2|10.50%0A10d1%0A|%E0%01%00%EAS%C2%04%1AR%81%0A|A8B7C3E83249DF87|.B8(4(8%CQIQI|
+1_.5|BadToken 0||%E0%01%00%EA|584A00A894CB3249|.B88|
+1._5|BadToken 0||%E0%01%00%EA|1AD1AE4252887320|.B.8|
+1.5_|BadToken 0||%E0%01%00%EA|4EC15FFCFF1BB6CD|.B.H|
+~ None stand in exponents.
+1d10|1|1d10%0A|%E0%01%00%EAR%8A%01|972D063B157C215A|.B8&|
+1d1_0|BadToken 0||%E0%01%00%EA|6B09B24E2D6C0246|.B8&8|
+1_d1|BadToken 0||%E0%01%00%EA|584A00A894CB3249|.B88|
+"#;

@@ -1,488 +1,70 @@
 //! Of the text encoding: strings and quoted symbols. Written by tests/vectors/make.py.
 
-use super::Row;
-use ion_meter::fault::Fault::Refused;
-use ion_meter::fault::Reason;
-
-pub const ROWS: &[Row] = &[
-    (
-        "A string stands between double quotes.",
-        &[
-            (
-                b"\"a'b\" \"\"",
-                Ok(2),
-                b"\"a'b\"\n\"\"\n",
-                b"\xE0\x01\x00\xEA\x83a'b\x80",
-                0xA234_7E95_5221_C668,
-                ".VYU;LDQ",
-            ),
-            (
-                b"\"a",
-                Err(Refused(Reason::Truncated, 0)),
-                b"",
-                b"\xE0\x01\x00\xEA",
-                0x1E49_C915_2690_2ADD,
-                ".@",
-            ),
-            (
-                b"a\"",
-                Err(Refused(Reason::Truncated, 1)),
-                b"a\n",
-                b"\xE0\x01\x00\xEA\xEA\x81\x83\xD7\x86q\x03\x87\xB2\x81aq\n",
-                0x0AA1_2D3E_66EE_1909,
-                ".R",
-            ),
-        ],
-    ),
-    (
-        "Long strings stand between three single quotes, and neighbours are one.",
-        &[
-            (
-                b"'''a''' '''b''''''c'''",
-                Ok(1),
-                b"\"abc\"\n",
-                b"\xE0\x01\x00\xEA\x83abc",
-                0x909F_4A91_E28C_F426,
-                ".<Y2'X[F1J07I=B9&=[@@@",
-            ),
-            (
-                b"'''a''' '''b",
-                Err(Refused(Reason::Truncated, 0)),
-                b"",
-                b"\xE0\x01\x00\xEA",
-                0x4C09_506C_F286_9481,
-                ".NYMCKSF140@",
-            ),
-            (
-                b"'''a''",
-                Err(Refused(Reason::Truncated, 0)),
-                b"",
-                b"\xE0\x01\x00\xEA",
-                0x135A_2770_7211_2C5D,
-                ".&Y@@@",
-            ),
-        ],
-    ),
-    (
-        "White space and comments may stand between them.",
-        &[
-            (
-                b"'''a''' /*x*/ //y\n '''b''' 'c'",
-                Ok(2),
-                b"\"ab\"\nc\n",
-                b"\xE0\x01\x00\xEA\x82ab\xEA\x81\x83\xD7\x86q\x03\x87\xB2\x81cq\n",
-                0xD3D3_2994_6BB6_C8B1,
-                ".*YYAESF1M?33-EXO'D/UOT@@@;')K",
-            ),
-            (
-                b"'''a''' /*x",
-                Err(Refused(Reason::Truncated, 8)),
-                b"\"a\"\n",
-                b"\xE0\x01\x00\xEA\x81a",
-                0xDFD8_ED01_430B_C9CB,
-                ".*Y-@@@F1M3",
-            ),
-        ],
-    ),
-    (
-        "A quoted symbol stands between single quotes.",
-        &[
-            (
-                b"'a\"b' 'null'",
-                Ok(2),
-                b"'a\"b'\n'null'\n",
-                b"\xE0\x01\x00\xEA\xEC\x81\x83\xD9\x86q\x03\x87\xB4\x83a\"bq\n\xED\x81\x83\xDA\x86q\x03\x87\xB5\x84nullq\x0B",
-                0x5A50_E515_A587_E0D6,
-                ".26[/:7H0<O#",
-            ),
-            (
-                b"'a",
-                Err(Refused(Reason::Truncated, 0)),
-                b"",
-                b"\xE0\x01\x00\xEA",
-                0x1E49_C915_2690_2ADD,
-                ".@",
-            ),
-            (
-                b"'a\n'",
-                Err(Refused(Reason::BadText, 0)),
-                b"",
-                b"\xE0\x01\x00\xEA",
-                0xA555_70EE_B360_9678,
-                ".[,D",
-            ),
-        ],
-    ),
-    (
-        "Two single quotes without a third are the empty symbol.",
-        &[
-            (
-                b"'' ['',a]",
-                Ok(2),
-                b"''\n['',a]\n",
-                b"\xE0\x01\x00\xEA\xE9\x81\x83\xD6\x86q\x03\x87\xB1\x80q\n\xEA\x81\x83\xD7\x86q\x03\x87\xB2\x81a\xB4q\nq\x0B",
-                0x32AF_357C_F5F8_01E6,
-                ".=YZ+SJ@-",
-            ),
-            (
-                b"'''",
-                Err(Refused(Reason::Truncated, 0)),
-                b"",
-                b"\xE0\x01\x00\xEA",
-                0x9CC8_C50D_816A_E74C,
-                ".<Y",
-            ),
-            (
-                b"''''",
-                Err(Refused(Reason::Truncated, 0)),
-                b"",
-                b"\xE0\x01\x00\xEA",
-                0x2D27_999E_C571_70EE,
-                ".-Y@",
-            ),
-        ],
-    ),
-    (
-        "Escapes are a b t n f r v 0 ? \" ' \\ / behind a backslash.",
-        &[
-            (
-                b"\"\\a\\b\\t\\n\\f\\r\\v\\0\\?\\\"\\'\\\\\\/\"",
-                Ok(1),
-                b"\"\\a\\b\\t\\n\\f\\r\\v\\x00?\\\"'\\\\/\"\n",
-                b"\xE0\x01\x00\xEA\x8D\x07\x08\t\n\x0C\r\x0B\x00?\"'\\/",
-                0x4B0B_BC00_08D6_6705,
-                ".#[G[2[X[G[5['[([*[P[F[N[=[@",
-            ),
-            (
-                b"\"\\e\"",
-                Err(Refused(Reason::BadText, 0)),
-                b"",
-                b"\xE0\x01\x00\xEA",
-                0xE769_0585_8201_1FE1,
-                ".$[D",
-            ),
-            (
-                b"\"\\1\"",
-                Err(Refused(Reason::BadText, 0)),
-                b"",
-                b"\xE0\x01\x00\xEA",
-                0xE090_52F1_1A42_6DA8,
-                ".P[D",
-            ),
-            (
-                b"'\\N'",
-                Err(Refused(Reason::BadText, 0)),
-                b"",
-                b"\xE0\x01\x00\xEA",
-                0xB8DF_E264_F51A_B47F,
-                ".S[D",
-            ),
-        ],
-    ),
-    (
-        "\\x has two hexadecimal digits, of a character.",
-        &[
-            (
-                b"\"\\x41\\xe9\"",
-                Ok(1),
-                b"\"A\xC3\xA9\"\n",
-                b"\xE0\x01\x00\xEA\x83A\xC3\xA9",
-                0xAF00_CB34_BD4A_63A8,
-                ".0[[[B[[[@",
-            ),
-            (
-                b"\"\\x4\"",
-                Err(Refused(Reason::BadText, 0)),
-                b"",
-                b"\xE0\x01\x00\xEA",
-                0x245E_786A_B21D_7A0B,
-                ".F[[[",
-            ),
-            (
-                b"\"\\xg0\"",
-                Err(Refused(Reason::BadText, 0)),
-                b"",
-                b"\xE0\x01\x00\xEA",
-                0x5E1D_5B90_4E4E_3D2B,
-                ".H[[DD",
-            ),
-        ],
-    ),
-    (
-        "\\u has four, of a character.",
-        &[
-            (
-                b"\"\\u00E9\" '\\u0041'",
-                Ok(2),
-                b"\"\xC3\xA9\"\nA\n",
-                b"\xE0\x01\x00\xEA\x82\xC3\xA9\xEA\x81\x83\xD7\x86q\x03\x87\xB2\x81Aq\n",
-                0x4D18_BFD7_0338_ED3E,
-                ".E[[[[[@-6LYYYYYQ",
-            ),
-            (
-                b"\"\\u00E\"",
-                Err(Refused(Reason::BadText, 0)),
-                b"",
-                b"\xE0\x01\x00\xEA",
-                0xFF66_B853_0B8A_D767,
-                ".@[[[[[",
-            ),
-            (
-                b"\"\\u00Eg\"",
-                Err(Refused(Reason::BadText, 0)),
-                b"",
-                b"\xE0\x01\x00\xEA",
-                0x021B_FD42_0993_7A73,
-                ".=[[[[[D",
-            ),
-        ],
-    ),
-    (
-        "\\U has eight, of a character.",
-        &[
-            (
-                b"\"\\U0001F600\"",
-                Ok(1),
-                b"\"\xF0\x9F\x98\x80\"\n",
-                b"\xE0\x01\x00\xEA\x84\xF0\x9F\x98\x80",
-                0x18A9_F045_47CE_9863,
-                ".J[[[[[[[[[@",
-            ),
-            (
-                b"\"\\U00110000\"",
-                Err(Refused(Reason::BadText, 0)),
-                b"",
-                b"\xE0\x01\x00\xEA",
-                0xD1F4_F9F1_7B50_4AD8,
-                ".Z[[[[[[[[[D",
-            ),
-            (
-                b"\"\\U0000D800\"",
-                Err(Refused(Reason::BadText, 0)),
-                b"",
-                b"\xE0\x01\x00\xEA",
-                0xF3CA_1F14_3F96_12FF,
-                ".U[[[[[[[[[D",
-            ),
-            (
-                b"\"\\U1F600\"",
-                Err(Refused(Reason::BadText, 0)),
-                b"",
-                b"\xE0\x01\x00\xEA",
-                0x726C_2505_3C42_63C6,
-                ".X[[[[[[[",
-            ),
-        ],
-    ),
-    (
-        "A backslash before LF, CR or CR LF vanishes with it.",
-        &[
-            (
-                b"\"a\\\nb\\\rc\\\r\nd\"",
-                Ok(1),
-                b"\"abcd\"\n",
-                b"\xE0\x01\x00\xEA\x84abcd",
-                0xD2AB_471F_CA93_DFED,
-                ".'[[3[[*[[;J@",
-            ),
-            (
-                b"\"a\\ \nb\"",
-                Err(Refused(Reason::BadText, 0)),
-                b"",
-                b"\xE0\x01\x00\xEA",
-                0xE35F_FE28_02AD_7378,
-                ".[[[DDD",
-            ),
-        ],
-    ),
-    (
-        "Bytes below 20 are illegal, but for tab, VT and FF.",
-        &[
-            (
-                b"\"\t\x0B\x0C\" '\t'",
-                Ok(2),
-                b"\"\\t\\v\\f\"\n'\\t'\n",
-                b"\xE0\x01\x00\xEA\x83\t\x0B\x0C\xEA\x81\x83\xD7\x86q\x03\x87\xB2\x81\tq\n",
-                0x2515_9F02_82F7_C1F3,
-                ".+6Q@O=LH",
-            ),
-            (
-                b"\"\x01\"",
-                Err(Refused(Reason::BadText, 0)),
-                b"",
-                b"\xE0\x01\x00\xEA",
-                0x83D1_80CC_F10C_6F40,
-                ".HD",
-            ),
-            (
-                b"'\x00'",
-                Err(Refused(Reason::BadText, 0)),
-                b"",
-                b"\xE0\x01\x00\xEA",
-                0xF08E_972A_8944_03E3,
-                ".<D",
-            ),
-            (
-                b"'''\x1F'''",
-                Err(Refused(Reason::BadText, 0)),
-                b"",
-                b"\xE0\x01\x00\xEA",
-                0xAD58_B040_04BB_43B4,
-                ".6YHDDD",
-            ),
-        ],
-    ),
-    (
-        "Line ends are illegal, but for long strings.",
-        &[
-            (
-                b"'''a\nb'''",
-                Ok(1),
-                b"\"a\\nb\"\n",
-                b"\xE0\x01\x00\xEA\x83a\nb",
-                0x4F16_6963_7755_E2EB,
-                ".UY)E/@@@",
-            ),
-            (
-                b"\"a\nb\"",
-                Err(Refused(Reason::BadText, 0)),
-                b"",
-                b"\xE0\x01\x00\xEA",
-                0xDCCD_E26E_5B6D_69B7,
-                ".[EDD",
-            ),
-            (
-                b"\"a\rb\"",
-                Err(Refused(Reason::BadText, 0)),
-                b"",
-                b"\xE0\x01\x00\xEA",
-                0xDCCD_E26E_5B6D_69B7,
-                ".[EDD",
-            ),
-            (
-                b"'a\nb'",
-                Err(Refused(Reason::BadText, 0)),
-                b"",
-                b"\xE0\x01\x00\xEA",
-                0xB472_0EB5_0A70_4B7E,
-                ".[4DD",
-            ),
-        ],
-    ),
-    (
-        "CR and CR LF in long strings are LF.",
-        &[
-            (
-                b"'''a\rb\r\nc\n\rd'''",
-                Ok(1),
-                b"\"a\\nb\\nc\\n\\nd\"\n",
-                b"\xE0\x01\x00\xEA\x88a\nb\nc\n\nd",
-                0xA0A4_37E6_F6C9_2FDE,
-                ".-YL-:$5FE(T@@@",
-            ),
-            (
-                b"\"a\r\n\"",
-                Err(Refused(Reason::BadText, 0)),
-                b"",
-                b"\xE0\x01\x00\xEA",
-                0x3388_DD58_B7D8_B716,
-                ".[[DD",
-            ),
-        ],
-    ),
-    (
-        "A high surrogate joins with the low one behind it, both by \\u.",
-        &[
-            (
-                b"\"\\uD83D\\uDE00\"",
-                Ok(1),
-                b"\"\xF0\x9F\x98\x80\"\n",
-                b"\xE0\x01\x00\xEA\x84\xF0\x9F\x98\x80",
-                0x46F8_AE5C_18C6_8D5D,
-                ".[[[[[[[[[[[[@",
-            ),
-            (
-                b"\"\\uD83D\"",
-                Err(Refused(Reason::BadText, 0)),
-                b"",
-                b"\xE0\x01\x00\xEA",
-                0x1F1F_6D91_A87E_119C,
-                ".K[[[[[[",
-            ),
-            (
-                b"\"\\uDE00\"",
-                Err(Refused(Reason::BadText, 0)),
-                b"",
-                b"\xE0\x01\x00\xEA",
-                0x3158_95AE_57CF_7E4F,
-                ".C[[[[[D",
-            ),
-            (
-                b"\"\\uD83D \\uDE00\"",
-                Err(Refused(Reason::BadText, 0)),
-                b"",
-                b"\xE0\x01\x00\xEA",
-                0xF836_CF01_24B6_2138,
-                ".[[[[[[[DDDDDDD",
-            ),
-            (
-                b"\"\\uD83D\\U0000DE00\"",
-                Err(Refused(Reason::BadText, 0)),
-                b"",
-                b"\xE0\x01\x00\xEA",
-                0x2793_8476_630F_10D2,
-                ".[[[[[[[[DDDDDDDDD",
-            ),
-        ],
-    ),
-    (
-        "The bytes of each segment are UTF-8.",
-        &[
-            (
-                b"'''\xC3\xA9'''",
-                Ok(1),
-                b"\"\xC3\xA9\"\n",
-                b"\xE0\x01\x00\xEA\x82\xC3\xA9",
-                0x0A0D_7E4B_067B_4979,
-                ".6Y[B@@@",
-            ),
-            (
-                b"'''\xC3''' '''\xA9'''",
-                Err(Refused(Reason::BadText, 0)),
-                b"",
-                b"\xE0\x01\x00\xEA",
-                0x3D4C_DB39_650A_A9F8,
-                ".6Y[B[[DDDDDDDD",
-            ),
-            (
-                b"\"\xED\xA0\x80\"",
-                Err(Refused(Reason::BadText, 0)),
-                b"",
-                b"\xE0\x01\x00\xEA",
-                0x947F_4563_5408_C419,
-                ".['[@",
-            ),
-        ],
-    ),
-    (
-        "An escaped line end leaves the bytes around it together.",
-        &[
-            (
-                b"\"\xC3\\\n\xA9\"",
-                Ok(1),
-                b"\"\xC3\xA9\"\n",
-                b"\xE0\x01\x00\xEA\x82\xC3\xA9",
-                0xB0F6_479E_BC24_EEF5,
-                ".[[[B@",
-            ),
-            (
-                b"\"\xC3\n\xA9\"",
-                Err(Refused(Reason::BadText, 0)),
-                b"",
-                b"\xE0\x01\x00\xEA",
-                0x3388_DD58_B7D8_B716,
-                ".[[DD",
-            ),
-        ],
-    ),
-];
+pub const ROWS: &str = r#"
+~ A string stands between double quotes.
+"a'b" ""|2|"a'b"%0A""%0A|%E0%01%00%EA%83a'b%80|A2347E955221C668|.VYU;LDQ|
+"a|Truncated 0||%E0%01%00%EA|1E49C91526902ADD|.@|
+a"|Truncated 1|a%0A|%E0%01%00%EA%EA%81%83%D7%86q%03%87%B2%81aq%0A|0AA12D3E66EE1909|.R|
+~ Long strings stand between three single quotes, and neighbours are one.
+'''a''' '''b''''''c'''|1|"abc"%0A|%E0%01%00%EA%83abc|909F4A91E28CF426|.<Y2'X[F1J07I=B9&=[@@@|
+'''a''' '''b|Truncated 0||%E0%01%00%EA|4C09506CF2869481|.NYMCKSF140@|
+'''a''|Truncated 0||%E0%01%00%EA|135A277072112C5D|.&Y@@@|
+~ White space and comments may stand between them.
+'''a''' /*x*/ //y%0A '''b''' 'c'|2|"ab"%0Ac%0A|%E0%01%00%EA%82ab%EA%81%83%D7%86q%03%87%B2%81cq%0A|D3D329946BB6C8B1|.*YYAESF1M?33-EXO'D/UOT@@@;')K|
+'''a''' /*x|Truncated 8|"a"%0A|%E0%01%00%EA%81a|DFD8ED01430BC9CB|.*Y-@@@F1M3|
+~ A quoted symbol stands between single quotes.
+'a"b' 'null'|2|'a"b'%0A'null'%0A|%E0%01%00%EA%EC%81%83%D9%86q%03%87%B4%83a"bq%0A%ED%81%83%DA%86q%03%87%B5%84nullq%0B|5A50E515A587E0D6|.26[/:7H0<O#|
+'a|Truncated 0||%E0%01%00%EA|1E49C91526902ADD|.@|
+'a%0A'|BadText 0||%E0%01%00%EA|A55570EEB3609678|.[,D|
+~ Two single quotes without a third are the empty symbol.
+'' ['',a]|2|''%0A['',a]%0A|%E0%01%00%EA%E9%81%83%D6%86q%03%87%B1%80q%0A%EA%81%83%D7%86q%03%87%B2%81a%B4q%0Aq%0B|32AF357CF5F801E6|.=YZ+SJ@-|
+'''|Truncated 0||%E0%01%00%EA|9CC8C50D816AE74C|.<Y|
+''''|Truncated 0||%E0%01%00%EA|2D27999EC57170EE|.-Y@|
+~ Escapes are a b t n f r v 0 ? " ' \ / behind a backslash.
+"\a\b\t\n\f\r\v\0\?\"\'\\\/"|1|"\a\b\t\n\f\r\v\x00?\"'\\/"%0A|%E0%01%00%EA%8D%07%08%09%0A%0C%0D%0B%00?"'\/|4B0BBC0008D66705|.#[G[2[X[G[5['[([*[P[F[N[=[@|
+"\e"|BadText 0||%E0%01%00%EA|E769058582011FE1|.$[D|
+"\1"|BadText 0||%E0%01%00%EA|E09052F11A426DA8|.P[D|
+'\N'|BadText 0||%E0%01%00%EA|B8DFE264F51AB47F|.S[D|
+~ \x has two hexadecimal digits, of a character.
+"\x41\xe9"|1|"A%C3%A9"%0A|%E0%01%00%EA%83A%C3%A9|AF00CB34BD4A63A8|.0[[[B[[[@|
+"\x4"|BadText 0||%E0%01%00%EA|245E786AB21D7A0B|.F[[[|
+"\xg0"|BadText 0||%E0%01%00%EA|5E1D5B904E4E3D2B|.H[[DD|
+~ \u has four, of a character.
+"\u00E9" '\u0041'|2|"%C3%A9"%0AA%0A|%E0%01%00%EA%82%C3%A9%EA%81%83%D7%86q%03%87%B2%81Aq%0A|4D18BFD70338ED3E|.E[[[[[@-6LYYYYYQ|
+"\u00E"|BadText 0||%E0%01%00%EA|FF66B8530B8AD767|.@[[[[[|
+"\u00Eg"|BadText 0||%E0%01%00%EA|021BFD4209937A73|.=[[[[[D|
+~ \U has eight, of a character.
+"\U0001F600"|1|"%F0%9F%98%80"%0A|%E0%01%00%EA%84%F0%9F%98%80|18A9F04547CE9863|.J[[[[[[[[[@|
+"\U00110000"|BadText 0||%E0%01%00%EA|D1F4F9F17B504AD8|.Z[[[[[[[[[D|
+"\U0000D800"|BadText 0||%E0%01%00%EA|F3CA1F143F9612FF|.U[[[[[[[[[D|
+"\U1F600"|BadText 0||%E0%01%00%EA|726C25053C4263C6|.X[[[[[[[|
+~ A backslash before LF, CR or CR LF vanishes with it.
+"a\%0Ab\%0Dc\%0D%0Ad"|1|"abcd"%0A|%E0%01%00%EA%84abcd|D2AB471FCA93DFED|.'[[3[[*[[;J@|
+"a\ %0Ab"|BadText 0||%E0%01%00%EA|E35FFE2802AD7378|.[[[DDD|
+~ Bytes below 20 are illegal, but for tab, VT and FF.
+"%09%0B%0C" '%09'|2|"\t\v\f"%0A'\t'%0A|%E0%01%00%EA%83%09%0B%0C%EA%81%83%D7%86q%03%87%B2%81%09q%0A|25159F0282F7C1F3|.+6Q@O=LH|
+"%01"|BadText 0||%E0%01%00%EA|83D180CCF10C6F40|.HD|
+'%00'|BadText 0||%E0%01%00%EA|F08E972A894403E3|.<D|
+'''%1F'''|BadText 0||%E0%01%00%EA|AD58B04004BB43B4|.6YHDDD|
+~ Line ends are illegal, but for long strings.
+'''a%0Ab'''|1|"a\nb"%0A|%E0%01%00%EA%83a%0Ab|4F1669637755E2EB|.UY)E/@@@|
+"a%0Ab"|BadText 0||%E0%01%00%EA|DCCDE26E5B6D69B7|.[EDD|
+"a%0Db"|BadText 0||%E0%01%00%EA|DCCDE26E5B6D69B7|.[EDD|
+'a%0Ab'|BadText 0||%E0%01%00%EA|B4720EB50A704B7E|.[4DD|
+~ CR and CR LF in long strings are LF.
+'''a%0Db%0D%0Ac%0A%0Dd'''|1|"a\nb\nc\n\nd"%0A|%E0%01%00%EA%88a%0Ab%0Ac%0A%0Ad|A0A437E6F6C92FDE|.-YL-:$5FE(T@@@|
+"a%0D%0A"|BadText 0||%E0%01%00%EA|3388DD58B7D8B716|.[[DD|
+~ A high surrogate joins with the low one behind it, both by \u.
+"\uD83D\uDE00"|1|"%F0%9F%98%80"%0A|%E0%01%00%EA%84%F0%9F%98%80|46F8AE5C18C68D5D|.[[[[[[[[[[[[@|
+"\uD83D"|BadText 0||%E0%01%00%EA|1F1F6D91A87E119C|.K[[[[[[|
+"\uDE00"|BadText 0||%E0%01%00%EA|315895AE57CF7E4F|.C[[[[[D|
+"\uD83D \uDE00"|BadText 0||%E0%01%00%EA|F836CF0124B62138|.[[[[[[[DDDDDDD|
+"\uD83D\U0000DE00"|BadText 0||%E0%01%00%EA|27938476630F10D2|.[[[[[[[[DDDDDDDDD|
+~ The bytes of each segment are UTF-8.
+'''%C3%A9'''|1|"%C3%A9"%0A|%E0%01%00%EA%82%C3%A9|0A0D7E4B067B4979|.6Y[B@@@|
+'''%C3''' '''%A9'''|BadText 0||%E0%01%00%EA|3D4CDB39650AA9F8|.6Y[B[[DDDDDDDD|
+"%ED%A0%80"|BadText 0||%E0%01%00%EA|947F45635408C419|.['[@|
+~ An escaped line end leaves the bytes around it together.
+"%C3\%0A%A9"|1|"%C3%A9"%0A|%E0%01%00%EA%82%C3%A9|B0F6479EBC24EEF5|.[[[B@|
+"%C3%0A%A9"|BadText 0||%E0%01%00%EA|3388DD58B7D8B716|.[[DD|
+"#;

@@ -1,528 +1,75 @@
 //! Of the text encoding: symbols, keywords, operators and version markers. Written by tests/vectors/make.py.
 
-use super::Row;
-use ion_meter::fault::Fault::Refused;
-use ion_meter::fault::Reason;
-
-pub const ROWS: &[Row] = &[
-    (
-        "An identifier begins with a letter, _ or $, and goes on with these and digits.",
-        &[
-            (
-                b"a _b $c A1_$ $1a",
-                Ok(5),
-                b"a\n_b\n$c\nA1_$\n$1a\n",
-                b"\xE0\x01\x00\xEA\xEA\x81\x83\xD7\x86q\x03\x87\xB2\x81aq\n\xEB\x81\x83\xD8\x86q\x03\x87\xB3\x82_bq\x0B\xEB\x81\x83\xD8\x86q\x03\x87\xB3\x82$cq\x0C\xED\x81\x83\xDA\x86q\x03\x87\xB5\x84A1_$q\r\xEC\x81\x83\xD9\x86q\x03\x87\xB4\x83$1aq\x0E",
-                0xB7CF_F878_D646_3736,
-                ".RDDXG/S+3HOCO.T",
-            ),
-            (
-                b"a#",
-                Err(Refused(Reason::BadToken, 1)),
-                b"a\n",
-                b"\xE0\x01\x00\xEA\xEA\x81\x83\xD7\x86q\x03\x87\xB2\x81aq\n",
-                0x0AA1_2D3E_66EE_1909,
-                ".R",
-            ),
-            (
-                b"\xC3\xA9",
-                Err(Refused(Reason::BadToken, 0)),
-                b"",
-                b"\xE0\x01\x00\xEA",
-                0x82AA_392B_D94C_7662,
-                ".8",
-            ),
-            (
-                b"@a",
-                Err(Refused(Reason::BadToken, 0)),
-                b"",
-                b"\xE0\x01\x00\xEA",
-                0x82AA_392B_D94C_7662,
-                ".8",
-            ),
-        ],
-    ),
-    (
-        "It goes on as far as it can.",
-        &[
-            (
-                b"abc1 d[e]",
-                Ok(3),
-                b"abc1\nd\n[e]\n",
-                b"\xE0\x01\x00\xEA\xED\x81\x83\xDA\x86q\x03\x87\xB5\x84abc1q\n\xEA\x81\x83\xD7\x86q\x03\x87\xB2\x81dq\x0B\xEA\x81\x83\xD7\x86q\x03\x87\xB2\x81e\xB2q\x0C",
-                0x944D_BB40_3C5E_47EF,
-                ".RXM)YOR4",
-            ),
-            (
-                b"a-b",
-                Err(Refused(Reason::BadToken, 1)),
-                b"a\n",
-                b"\xE0\x01\x00\xEA\xEA\x81\x83\xD7\x86q\x03\x87\xB2\x81aq\n",
-                0x8479_B37C_6534_A95B,
-                ".RW",
-            ),
-            (
-                b"a.b",
-                Err(Refused(Reason::BadToken, 1)),
-                b"a\n",
-                b"\xE0\x01\x00\xEA\xEA\x81\x83\xD7\x86q\x03\x87\xB2\x81aq\n",
-                0x8479_B37C_6534_A95B,
-                ".RW",
-            ),
-        ],
-    ),
-    (
-        "$ with digits alone is a symbol id.",
-        &[
-            (
-                b"$4 $4a",
-                Ok(2),
-                b"name\n$4a\n",
-                b"\xE0\x01\x00\xEAq\x04\xEC\x81\x83\xD9\x86q\x03\x87\xB4\x83$4aq\n",
-                0x1603_E9E3_80A5_68C6,
-                ".$F8RB",
-            ),
-            (
-                b"$10",
-                Err(Refused(Reason::BadSymbol, 0)),
-                b"",
-                b"\xE0\x01\x00\xEA",
-                0xBD57_6FE2_E35F_ABCC,
-                ".$:",
-            ),
-            (
-                b"$99999999999999999999",
-                Err(Refused(Reason::BadSymbol, 0)),
-                b"",
-                b"\xE0\x01\x00\xEA",
-                0x3C6C_0AE0_4D8C_DD27,
-                ".$.VVVVVVVVVVVVVVVVVV",
-            ),
-        ],
-    ),
-    (
-        "An id may have leading zeros.",
-        &[
-            (
-                b"$04",
-                Ok(1),
-                b"name\n",
-                b"\xE0\x01\x00\xEAq\x04",
-                0x9968_48E5_E818_8972,
-                ".$R",
-            ),
-            (
-                b"$010",
-                Err(Refused(Reason::BadSymbol, 0)),
-                b"",
-                b"\xE0\x01\x00\xEA",
-                0x2BAD_4595_11B3_3A4E,
-                ".$RV",
-            ),
-        ],
-    ),
-    (
-        "null, true and false are values and no symbols.",
-        &[
-            (
-                b"null true false 'true'",
-                Ok(4),
-                b"null\ntrue\nfalse\n'true'\n",
-                b"\xE0\x01\x00\xEA\x0F\x11\x10\xED\x81\x83\xDA\x86q\x03\x87\xB5\x84trueq\n",
-                0xBD03_5E61_EBD6_C2BB,
-                ".ZT$<G'-)2YXC8#A<B*NW3",
-            ),
-            (
-                b"{true:1}",
-                Err(Refused(Reason::BadToken, 1)),
-                b"{",
-                b"\xE0\x01\x00\xEA",
-                0x5DC2_9DFF_0645_7DDB,
-                ".Y,;%FFF",
-            ),
-            (
-                b"null::1",
-                Err(Refused(Reason::BadToken, 4)),
-                b"null\n",
-                b"\xE0\x01\x00\xEA\x0F",
-                0x4675_BEA9_4742_7474,
-                ".ZT$<RR",
-            ),
-            (
-                b"false::a",
-                Err(Refused(Reason::BadToken, 5)),
-                b"false\n",
-                b"\xE0\x01\x00\xEA\x10",
-                0xDF6F_3331_5C96_964F,
-                ".4AL-*JJ",
-            ),
-        ],
-    ),
-    (
-        "nan is a float, and no symbol.",
-        &[
-            (
-                b"nanx 'nan'",
-                Ok(2),
-                b"nanx\n'nan'\n",
-                b"\xE0\x01\x00\xEA\xED\x81\x83\xDA\x86q\x03\x87\xB5\x84nanxq\n\xEC\x81\x83\xD9\x86q\x03\x87\xB4\x83nanq\x0B",
-                0x93B6_D99D_FDDA_86A5,
-                ".Z>5US>3P4",
-            ),
-            (
-                b"nan",
-                Err(Refused(Reason::Float, 0)),
-                b"",
-                b"\xE0\x01\x00\xEA",
-                0xDC19_22A7_3605_A126,
-                ".Z>",
-            ),
-            (
-                b"{nan:1}",
-                Err(Refused(Reason::BadToken, 1)),
-                b"{",
-                b"\xE0\x01\x00\xEA",
-                0xBCFE_C56E_C5CE_63C1,
-                ".Y,;FFF",
-            ),
-        ],
-    ),
-    (
-        "Behind null and a point stands the name of a type.",
-        &[
-            (
-                b"null null.null null.bool null.int null.float null.decimal null.timestamp null.symbol null.string null.clob null.blob null.list null.sexp null.struct",
-                Ok(14),
-                b"null\nnull\nnull.bool\nnull.int\nnull.float\nnull.decimal\nnull.timestamp\nnull.symbol\nnull.string\nnull.clob\nnull.blob\nnull.list\nnull.sexp\nnull.struct\n",
-                b"\xE0\x01\x00\xEA\x0F\x0F\x1F/O_o\x7F\x8F\x9F\xAF\xBF\xCF\xDF",
-                0x9D89_9D00_D01A_9121,
-                ".ZT$<G1L%Y;;;;;3KTK7KKKKU3D-RYWWW(UC,7SKKKKK@A'@C%ZZZZZZZ;-G8+=PPPPPPPPP&(0(P8NNNNNN1#.55@YYYYYY$VP=>?OOOO8)69[.>>>>*H%;,55555P<A%-W7777-J=+;8444444",
-            ),
-            (
-                b"null.ints",
-                Err(Refused(Reason::BadToken, 0)),
-                b"",
-                b"\xE0\x01\x00\xEA",
-                0x4E40_6054_701F_DBE6,
-                ".ZT$<888W",
-            ),
-            (
-                b"null.",
-                Err(Refused(Reason::BadToken, 0)),
-                b"",
-                b"\xE0\x01\x00\xEA",
-                0x1E56_C10A_2F0D_9940,
-                ".ZT$<",
-            ),
-            (
-                b"null. int",
-                Err(Refused(Reason::BadToken, 0)),
-                b"",
-                b"\xE0\x01\x00\xEA",
-                0x250F_CF18_A01E_8280,
-                ".ZT$<8888",
-            ),
-            (
-                b"null.Int",
-                Err(Refused(Reason::BadToken, 0)),
-                b"",
-                b"\xE0\x01\x00\xEA",
-                0xB831_76F2_A2F3_7D30,
-                ".ZT$<888",
-            ),
-        ],
-    ),
-    (
-        "The name goes on as far as an identifier.",
-        &[
-            (
-                b"null.int[] null.int//",
-                Ok(3),
-                b"null.int\n[]\nnull.int\n",
-                b"\xE0\x01\x00\xEA/\xB0/",
-                0xA05B_91A9_5843_898B,
-                ".ZT$<888W-.7TK<IAAAF?",
-            ),
-            (
-                b"null.int1",
-                Err(Refused(Reason::BadToken, 0)),
-                b"",
-                b"\xE0\x01\x00\xEA",
-                0x4E40_6054_701F_DBE6,
-                ".ZT$<888W",
-            ),
-            (
-                b"null.int_",
-                Err(Refused(Reason::BadToken, 0)),
-                b"",
-                b"\xE0\x01\x00\xEA",
-                0x4E40_6054_701F_DBE6,
-                ".ZT$<888W",
-            ),
-            (
-                b"null.int$",
-                Err(Refused(Reason::BadToken, 0)),
-                b"",
-                b"\xE0\x01\x00\xEA",
-                0x4E40_6054_701F_DBE6,
-                ".ZT$<888W",
-            ),
-        ],
-    ),
-    (
-        "+inf and -inf, where no identifier goes on, are floats.",
-        &[
-            (
-                b"(+infx -infx)",
-                Ok(1),
-                b"('+' infx '-' infx)\n",
-                b"\xE0\x01\x00\xEA\xEE\x92\x81\x83\xDE\x8E\x86q\x03\x87\xB9\x81+\x84infx\x81-\xC8q\nq\x0Bq\x0Cq\x0B",
-                0xAF31_2235_9B87_BCA3,
-                "..PH,TXZI'U'$",
-            ),
-            (
-                b"+inf",
-                Err(Refused(Reason::Float, 0)),
-                b"",
-                b"\xE0\x01\x00\xEA",
-                0x0A3D_78A0_2B50_8C3A,
-                ".888",
-            ),
-            (
-                b"(-inf)",
-                Err(Refused(Reason::Float, 1)),
-                b"(",
-                b"\xE0\x01\x00\xEA",
-                0x48F5_AF36_A9B1_3618,
-                "..S1JT",
-            ),
-            (
-                b"+infx",
-                Err(Refused(Reason::BadToken, 0)),
-                b"",
-                b"\xE0\x01\x00\xEA",
-                0x3873_FE0D_8431_14CF,
-                ".8885",
-            ),
-        ],
-    ),
-    (
-        "Operators are symbols without quotes in an S-expression alone.",
-        &[
-            (
-                b"(+ a)",
-                Ok(1),
-                b"('+' a)\n",
-                b"\xE0\x01\x00\xEA\xEC\x81\x83\xD9\x86q\x03\x87\xB4\x81+\x81a\xC4q\nq\x0B",
-                0xD383_10A4_D562_3D33,
-                "..P=N",
-            ),
-            (
-                b"[+]",
-                Err(Refused(Reason::BadToken, 1)),
-                b"[",
-                b"\xE0\x01\x00\xEA",
-                0xD780_118B_0C09_607E,
-                ".X+",
-            ),
-            (
-                b"+",
-                Err(Refused(Reason::BadToken, 0)),
-                b"",
-                b"\xE0\x01\x00\xEA",
-                0x45CF_7FAA_5341_6536,
-                ".",
-            ),
-            (
-                b"{+:1}",
-                Err(Refused(Reason::BadToken, 1)),
-                b"{",
-                b"\xE0\x01\x00\xEA",
-                0xAE11_B11F_9004_A183,
-                ".YFFF",
-            ),
-        ],
-    ),
-    (
-        "An operator is as many of nineteen characters as there are.",
-        &[
-            (
-                b"(!#%&*+-./;<=>?@^`|~)",
-                Ok(1),
-                b"('!#%&*+-./;<=>?@^`|~')\n",
-                b"\xE0\x01\x00\xEA\xEE\x9F\x81\x83\xDE\x9B\x86q\x03\x87\xBE\x95\x8E\x93!#%&*+-./;<=>?@^`|~\xC2q\n",
-                0x03A1_5539_453E_5C18,
-                "..FW-Y6$:NA0A$1-S2L-A",
-            ),
-            (
-                b"(:)",
-                Err(Refused(Reason::BadToken, 1)),
-                b"(",
-                b"\xE0\x01\x00\xEA",
-                0xD441_9715_0FB1_3600,
-                "..X",
-            ),
-            (
-                b"(\\)",
-                Err(Refused(Reason::BadToken, 1)),
-                b"(",
-                b"\xE0\x01\x00\xEA",
-                0xD441_9715_0FB1_3600,
-                "..X",
-            ),
-            (
-                b"(+,)",
-                Err(Refused(Reason::BadToken, 2)),
-                b"('+'",
-                b"\xE0\x01\x00\xEA",
-                0x22CE_57B6_D858_4CE6,
-                "..PN",
-            ),
-        ],
-    ),
-    (
-        "A comment ends an operator.",
-        &[
-            (
-                b"(+//x\n+/*y*/-)",
-                Ok(1),
-                b"('+' '+' '-')\n",
-                b"\xE0\x01\x00\xEA\xEC\x81\x83\xD9\x86q\x03\x87\xB4\x81+\x81-\xC6q\nq\nq\x0B",
-                0x8882_740B_30D0_79E3,
-                "..P8ZQ;T8LAA-@",
-            ),
-            (
-                b"(+/*)",
-                Err(Refused(Reason::Truncated, 2)),
-                b"('+'",
-                b"\xE0\x01\x00\xEA",
-                0x991B_2EEA_0489_8B73,
-                "..P83",
-            ),
-            (
-                b"(+//)",
-                Err(Refused(Reason::Truncated, 5)),
-                b"('+'",
-                b"\xE0\x01\x00\xEA",
-                0x9BE4_A3A6_7416_4D62,
-                "..P8$",
-            ),
-        ],
-    ),
-    (
-        "- begins a number only where a token begins.",
-        &[
-            (
-                b"(-1 - 1 a--1 +-1)",
-                Ok(1),
-                b"(-1 '-' 1 a '--' 1 '+-' 1)\n",
-                b"\xE0\x01\x00\xEA\xEE\x93\x81\x83\xDE\x8F\x86q\x03\x87\xBA\x81-\x81a\x82--\x82+-\xCE\x901\x01q\n!\x01q\x0Bq\x0C!\x01q\r!\x01",
-                0x02D2_F1FA_D4D1_1D8D,
-                "..SA2$3K//QVZ[@<G",
-            ),
-            (
-                b"(1-1)",
-                Err(Refused(Reason::BadToken, 1)),
-                b"(",
-                b"\xE0\x01\x00\xEA",
-                0xE821_8EA4_5224_FDE9,
-                "...XX",
-            ),
-            (
-                b"(- -1a)",
-                Err(Refused(Reason::BadToken, 3)),
-                b"('-'",
-                b"\xE0\x01\x00\xEA",
-                0x0B55_2329_DB5C_43FF,
-                "..S%CT3",
-            ),
-        ],
-    ),
-    (
-        "$ion_1_0 at top level without quotes and annotations is a version marker.",
-        &[
-            (
-                b"$ion_1_0 1 $ion_1_0 $4",
-                Ok(2),
-                b"1\nname\n",
-                b"\xE0\x01\x00\xEA!\x01q\x04",
-                0x61ED_93EA_EABF_2797,
-                ".$0*E@EG+(Z/MV7LM/5W1-",
-            ),
-            (
-                b"$ion_symbol_table::{symbols:[\"a\"]} $10 $ion_1_0 $10",
-                Err(Refused(Reason::BadSymbol, 48)),
-                b"a\n",
-                b"\xE0\x01\x00\xEA\xEA\x81\x83\xD7\x86q\x03\x87\xB2\x81aq\n",
-                0xAC63_B132_B7D3_B9F2,
-                ".$0*E@H1HKQ[R,@AIETS6<5.(T5<,Y-1MU48E./$'00/<'-'<(5",
-            ),
-        ],
-    ),
-    (
-        "With other digits it is a marker of another version.",
-        &[
-            (
-                b"$ion_1_ $ion_1 [$ion_1_1] a::$ion_1_1 $ion_1_1::a",
-                Ok(5),
-                b"$ion_1_\n$ion_1\n['$ion_1_1']\na::'$ion_1_1'\n'$ion_1_1'::a\n",
-                b"\xE0\x01\x00\xEA\xEE\x90\x81\x83\xDD\x86q\x03\x87\xB8\x87$ion_1_q\n\xEE\x8F\x81\x83\xDC\x86q\x03\x87\xB7\x86$ion_1q\x0B\xEE\x92\x81\x83\xDE\x8E\x86q\x03\x87\xB9\x88$ion_1_1\xB2q\x0C\xEA\x81\x83\xD7\x86q\x03\x87\xB2\x81a\xE4\x81\x8Dq\x0C\xE4\x81\x8Cq\r",
-                0x6C0B_D9C2_8C65_2481,
-                ".$0*E@EG+X[Q0@O9-JAESXH[4H[6X#.(?FWB9.,&PQ-<[:KKX",
-            ),
-            (
-                b"$ion_1_1",
-                Err(Refused(Reason::BadVersion, 0)),
-                b"",
-                b"\xE0\x01\x00\xEA",
-                0x7074_DD5F_F4EE_DFBA,
-                ".$0*E@EG",
-            ),
-            (
-                b"$ion_2_0",
-                Err(Refused(Reason::BadVersion, 0)),
-                b"",
-                b"\xE0\x01\x00\xEA",
-                0x82E5_4BF2_B490_FC9E,
-                ".$0*E@HM",
-            ),
-            (
-                b"1 $ion_10_00",
-                Err(Refused(Reason::BadVersion, 2)),
-                b"1\n",
-                b"\xE0\x01\x00\xEA!\x01",
-                0x454C_9D8E_FE26_265E,
-                ".B7<Q88=(%7K",
-            ),
-            (
-                b"$ion_01_0",
-                Err(Refused(Reason::BadVersion, 0)),
-                b"",
-                b"\xE0\x01\x00\xEA",
-                0x48D7_C976_A42D_E092,
-                ".$0*E@1%T",
-            ),
-        ],
-    ),
-    (
-        "In quotes or by its id it is no version marker.",
-        &[
-            (
-                b"$ion_symbol_table::{symbols:[\"a\"]} '$ion_1_0' $2 $10",
-                Ok(3),
-                b"'$ion_1_0'\n'$ion_1_0'\na\n",
-                b"\xE0\x01\x00\xEAq\x02q\x02\xEA\x81\x83\xD7\x86q\x03\x87\xB2\x81aq\n",
-                0x45FB_F4F0_EF69_15E4,
-                ".$0*E@H1HKQ[R,@AIETS6<5.(T5<,YT1MU48P@(.2C,U7XJZ>&R.",
-            ),
-            (
-                b"'$ion_1_0' $10",
-                Err(Refused(Reason::BadSymbol, 11)),
-                b"'$ion_1_0'\n",
-                b"\xE0\x01\x00\xEAq\x02",
-                0x16C3_F8DE_89D5_89A2,
-                ".0&T3TC[7@1%.,",
-            ),
-        ],
-    ),
-];
+pub const ROWS: &str = r#"
+~ An identifier begins with a letter, _ or $, and goes on with these and digits.
+a _b $c A1_$ $1a|5|a%0A_b%0A$c%0AA1_$%0A$1a%0A|%E0%01%00%EA%EA%81%83%D7%86q%03%87%B2%81aq%0A%EB%81%83%D8%86q%03%87%B3%82_bq%0B%EB%81%83%D8%86q%03%87%B3%82$cq%0C%ED%81%83%DA%86q%03%87%B5%84A1_$q%0D%EC%81%83%D9%86q%03%87%B4%83$1aq%0E|B7CFF878D6463736|.RDDXG/S+3HOCO.T|
+a%23|BadToken 1|a%0A|%E0%01%00%EA%EA%81%83%D7%86q%03%87%B2%81aq%0A|0AA12D3E66EE1909|.R|
+%C3%A9|BadToken 0||%E0%01%00%EA|82AA392BD94C7662|.8|
+@a|BadToken 0||%E0%01%00%EA|82AA392BD94C7662|.8|
+~ It goes on as far as it can.
+abc1 d[e]|3|abc1%0Ad%0A[e]%0A|%E0%01%00%EA%ED%81%83%DA%86q%03%87%B5%84abc1q%0A%EA%81%83%D7%86q%03%87%B2%81dq%0B%EA%81%83%D7%86q%03%87%B2%81e%B2q%0C|944DBB403C5E47EF|.RXM)YOR4|
+a-b|BadToken 1|a%0A|%E0%01%00%EA%EA%81%83%D7%86q%03%87%B2%81aq%0A|8479B37C6534A95B|.RW|
+a.b|BadToken 1|a%0A|%E0%01%00%EA%EA%81%83%D7%86q%03%87%B2%81aq%0A|8479B37C6534A95B|.RW|
+~ $ with digits alone is a symbol id.
+$4 $4a|2|name%0A$4a%0A|%E0%01%00%EAq%04%EC%81%83%D9%86q%03%87%B4%83$4aq%0A|1603E9E380A568C6|.$F8RB|
+$10|BadSymbol 0||%E0%01%00%EA|BD576FE2E35FABCC|.$:|
+$99999999999999999999|BadSymbol 0||%E0%01%00%EA|3C6C0AE04D8CDD27|.$.VVVVVVVVVVVVVVVVVV|
+~ An id may have leading zeros.
+$04|1|name%0A|%E0%01%00%EAq%04|996848E5E8188972|.$R|
+$010|BadSymbol 0||%E0%01%00%EA|2BAD459511B33A4E|.$RV|
+~ null, true and false are values and no symbols.
+null true false 'true'|4|null%0Atrue%0Afalse%0A'true'%0A|%E0%01%00%EA%0F%11%10%ED%81%83%DA%86q%03%87%B5%84trueq%0A|BD035E61EBD6C2BB|.ZT$<G'-)2YXC8#A<B*NW3|
+{true:1}|BadToken 1|{|%E0%01%00%EA|5DC29DFF06457DDB|.Y,;%FFF|
+null::1|BadToken 4|null%0A|%E0%01%00%EA%0F|4675BEA947427474|.ZT$<RR|
+false::a|BadToken 5|false%0A|%E0%01%00%EA%10|DF6F33315C96964F|.4AL-*JJ|
+~ nan is a float, and no symbol.
+nanx 'nan'|2|nanx%0A'nan'%0A|%E0%01%00%EA%ED%81%83%DA%86q%03%87%B5%84nanxq%0A%EC%81%83%D9%86q%03%87%B4%83nanq%0B|93B6D99DFDDA86A5|.Z>5US>3P4|
+nan|Float 0||%E0%01%00%EA|DC1922A73605A126|.Z>|
+{nan:1}|BadToken 1|{|%E0%01%00%EA|BCFEC56EC5CE63C1|.Y,;FFF|
+~ Behind null and a point stands the name of a type.
+null null.null null.bool null.int null.float null.decimal null.timestamp null.symbol null.string null.clob null.blob null.list null.sexp null.struct|14|null%0Anull%0Anull.bool%0Anull.int%0Anull.float%0Anull.decimal%0Anull.timestamp%0Anull.symbol%0Anull.string%0Anull.clob%0Anull.blob%0Anull.list%0Anull.sexp%0Anull.struct%0A|%E0%01%00%EA%0F%0F%1F/O_o%7F%8F%9F%AF%BF%CF%DF|9D899D00D01A9121|.ZT$<G1L%Y;;;;;3KTK7KKKKU3D-RYWWW(UC,7SKKKKK@A'@C%ZZZZZZZ;-G8+=PPPPPPPPP&(0(P8NNNNNN1#.55@YYYYYY$VP=>?OOOO8)69[.>>>>*H%;,55555P<A%-W7777-J=+;8444444|
+null.ints|BadToken 0||%E0%01%00%EA|4E406054701FDBE6|.ZT$<888W|
+null.|BadToken 0||%E0%01%00%EA|1E56C10A2F0D9940|.ZT$<|
+null. int|BadToken 0||%E0%01%00%EA|250FCF18A01E8280|.ZT$<8888|
+null.Int|BadToken 0||%E0%01%00%EA|B83176F2A2F37D30|.ZT$<888|
+~ The name goes on as far as an identifier.
+null.int[] null.int//|3|null.int%0A[]%0Anull.int%0A|%E0%01%00%EA/%B0/|A05B91A95843898B|.ZT$<888W-.7TK<IAAAF?|
+null.int1|BadToken 0||%E0%01%00%EA|4E406054701FDBE6|.ZT$<888W|
+null.int_|BadToken 0||%E0%01%00%EA|4E406054701FDBE6|.ZT$<888W|
+null.int$|BadToken 0||%E0%01%00%EA|4E406054701FDBE6|.ZT$<888W|
+~ +inf and -inf, where no identifier goes on, are floats.
+(+infx -infx)|1|('+' infx '-' infx)%0A|%E0%01%00%EA%EE%92%81%83%DE%8E%86q%03%87%B9%81+%84infx%81-%C8q%0Aq%0Bq%0Cq%0B|AF3122359B87BCA3|..PH,TXZI'U'$|
++inf|Float 0||%E0%01%00%EA|0A3D78A02B508C3A|.888|
+(-inf)|Float 1|(|%E0%01%00%EA|48F5AF36A9B13618|..S1JT|
++infx|BadToken 0||%E0%01%00%EA|3873FE0D843114CF|.8885|
+~ Operators are symbols without quotes in an S-expression alone.
+(+ a)|1|('+' a)%0A|%E0%01%00%EA%EC%81%83%D9%86q%03%87%B4%81+%81a%C4q%0Aq%0B|D38310A4D5623D33|..P=N|
+[+]|BadToken 1|[|%E0%01%00%EA|D780118B0C09607E|.X+|
++|BadToken 0||%E0%01%00%EA|45CF7FAA53416536|.|
+{+:1}|BadToken 1|{|%E0%01%00%EA|AE11B11F9004A183|.YFFF|
+~ An operator is as many of nineteen characters as there are.
+(!%23%25&*+-./;<=>?@^`%7C%7E)|1|('!%23%25&*+-./;<=>?@^`%7C%7E')%0A|%E0%01%00%EA%EE%9F%81%83%DE%9B%86q%03%87%BE%95%8E%93!%23%25&*+-./;<=>?@^`%7C%7E%C2q%0A|03A15539453E5C18|..FW-Y6$:NA0A$1-S2L-A|
+(:)|BadToken 1|(|%E0%01%00%EA|D44197150FB13600|..X|
+(\)|BadToken 1|(|%E0%01%00%EA|D44197150FB13600|..X|
+(+,)|BadToken 2|('+'|%E0%01%00%EA|22CE57B6D8584CE6|..PN|
+~ A comment ends an operator.
+(+//x%0A+/*y*/-)|1|('+' '+' '-')%0A|%E0%01%00%EA%EC%81%83%D9%86q%03%87%B4%81+%81-%C6q%0Aq%0Aq%0B|8882740B30D079E3|..P8ZQ;T8LAA-@|
+(+/*)|Truncated 2|('+'|%E0%01%00%EA|991B2EEA04898B73|..P83|
+(+//)|Truncated 5|('+'|%E0%01%00%EA|9BE4A3A674164D62|..P8$|
+~ - begins a number only where a token begins.
+(-1 - 1 a--1 +-1)|1|(-1 '-' 1 a '--' 1 '+-' 1)%0A|%E0%01%00%EA%EE%93%81%83%DE%8F%86q%03%87%BA%81-%81a%82--%82+-%CE%901%01q%0A!%01q%0Bq%0C!%01q%0D!%01|02D2F1FAD4D11D8D|..SA2$3K//QVZ[@<G|
+(1-1)|BadToken 1|(|%E0%01%00%EA|E8218EA45224FDE9|...XX|
+(- -1a)|BadToken 3|('-'|%E0%01%00%EA|0B552329DB5C43FF|..S%CT3|
+~ $ion_1_0 at top level without quotes and annotations is a version marker.
+$ion_1_0 1 $ion_1_0 $4|2|1%0Aname%0A|%E0%01%00%EA!%01q%04|61ED93EAEABF2797|.$0*E@EG+(Z/MV7LM/5W1-|
+$ion_symbol_table::{symbols:["a"]} $10 $ion_1_0 $10|BadSymbol 48|a%0A|%E0%01%00%EA%EA%81%83%D7%86q%03%87%B2%81aq%0A|AC63B132B7D3B9F2|.$0*E@H1HKQ[R,@AIETS6<5.(T5<,Y-1MU48E./$'00/<'-'<(5|
+~ With other digits it is a marker of another version.
+$ion_1_ $ion_1 [$ion_1_1] a::$ion_1_1 $ion_1_1::a|5|$ion_1_%0A$ion_1%0A['$ion_1_1']%0Aa::'$ion_1_1'%0A'$ion_1_1'::a%0A|%E0%01%00%EA%EE%90%81%83%DD%86q%03%87%B8%87$ion_1_q%0A%EE%8F%81%83%DC%86q%03%87%B7%86$ion_1q%0B%EE%92%81%83%DE%8E%86q%03%87%B9%88$ion_1_1%B2q%0C%EA%81%83%D7%86q%03%87%B2%81a%E4%81%8Dq%0C%E4%81%8Cq%0D|6C0BD9C28C652481|.$0*E@EG+X[Q0@O9-JAESXH[4H[6X#.(?FWB9.,&PQ-<[:KKX|
+$ion_1_1|BadVersion 0||%E0%01%00%EA|7074DD5FF4EEDFBA|.$0*E@EG|
+$ion_2_0|BadVersion 0||%E0%01%00%EA|82E54BF2B490FC9E|.$0*E@HM|
+1 $ion_10_00|BadVersion 2|1%0A|%E0%01%00%EA!%01|454C9D8EFE26265E|.B7<Q88=(%7K|
+$ion_01_0|BadVersion 0||%E0%01%00%EA|48D7C976A42DE092|.$0*E@1%T|
+~ In quotes or by its id it is no version marker.
+$ion_symbol_table::{symbols:["a"]} '$ion_1_0' $2 $10|3|'$ion_1_0'%0A'$ion_1_0'%0Aa%0A|%E0%01%00%EAq%02q%02%EA%81%83%D7%86q%03%87%B2%81aq%0A|45FBF4F0EF6915E4|.$0*E@H1HKQ[R,@AIETS6<5.(T5<,YT1MU48P@(.2C,U7XJZ>&R.|
+'$ion_1_0' $10|BadSymbol 11|'$ion_1_0'%0A|%E0%01%00%EAq%02|16C3F8DE89D589A2|.0&T3TC[7@1%.,|
+"#;

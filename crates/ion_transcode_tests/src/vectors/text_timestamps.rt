@@ -1,330 +1,48 @@
 //! Of the text encoding: timestamps. Written by tests/vectors/make.py.
 
-use super::Row;
-use ion_meter::fault::Fault::Refused;
-use ion_meter::fault::Reason;
-
-pub const ROWS: &[Row] = &[
-    (
-        "A timestamp may be to the year.",
-        &[
-            (
-                b"2000T 0001T",
-                Ok(2),
-                b"2000T\n0001T\n",
-                b"\xE0\x01\x00\xEAc\xC0\x0F\xD0b\xC0\x81",
-                0xF0DC_B450_1995_8591,
-                ".2OGHID&QQQ",
-            ),
-            (
-                b"2000 000T",
-                Err(Refused(Reason::BadToken, 5)),
-                b"2000\n",
-                b"\xE0\x01\x00\xEA\"\x07\xD0",
-                0xE726_DF8F_1BBB_1E6C,
-                ".2OGHE788",
-            ),
-            (
-                b"200T",
-                Err(Refused(Reason::BadToken, 0)),
-                b"",
-                b"\xE0\x01\x00\xEA",
-                0x2CCF_1DC2_488B_7133,
-                ".2OG",
-            ),
-            (
-                b"0000T",
-                Err(Refused(Reason::BadTimestamp, 0)),
-                b"",
-                b"\xE0\x01\x00\xEA",
-                0xFB35_9A63_FCD4_4B78,
-                ".0888",
-            ),
-            (
-                b"12345T",
-                Err(Refused(Reason::BadToken, 0)),
-                b"",
-                b"\xE0\x01\x00\xEA",
-                0x9D96_74D7_0225_392F,
-                ".BL;E*",
-            ),
-        ],
-    ),
-    (
-        "A timestamp may be to the month.",
-        &[
-            (
-                b"2000-01T 2000-12T",
-                Ok(2),
-                b"2000-01T\n2000-12T\n",
-                b"\xE0\x01\x00\xEAd\xC0\x0F\xD0\x81d\xC0\x0F\xD0\x8C",
-                0xFF59_D75C_125C_5B94,
-                ".2OGH888AH><<>777",
-            ),
-            (
-                b"2000-01",
-                Err(Refused(Reason::BadToken, 0)),
-                b"",
-                b"\xE0\x01\x00\xEA",
-                0x72B6_4165_724B_826E,
-                ".2OGH88",
-            ),
-            (
-                b"2000-13T",
-                Err(Refused(Reason::BadTimestamp, 0)),
-                b"",
-                b"\xE0\x01\x00\xEA",
-                0xAE60_D24C_4603_08DA,
-                ".2OGH888",
-            ),
-            (
-                b"2000-1T",
-                Err(Refused(Reason::BadToken, 0)),
-                b"",
-                b"\xE0\x01\x00\xEA",
-                0x72B6_4165_724B_826E,
-                ".2OGH88",
-            ),
-        ],
-    ),
-    (
-        "A timestamp may be to the day, with or without T.",
-        &[
-            (
-                b"2000-02-29T 2000-01-31",
-                Ok(2),
-                b"2000-02-29\n2000-01-31\n",
-                b"\xE0\x01\x00\xEAe\xC0\x0F\xD0\x82\x9De\xC0\x0F\xD0\x81\x9F",
-                0xF5D2_E339_B94E_A8A5,
-                ".2OGH8888811C@NC>.....",
-            ),
-            (
-                b"2000-02-30",
-                Err(Refused(Reason::BadTimestamp, 0)),
-                b"",
-                b"\xE0\x01\x00\xEA",
-                0x35D0_3F2A_0762_A1B2,
-                ".2OGH88888",
-            ),
-            (
-                b"2000-01-1T",
-                Err(Refused(Reason::BadToken, 0)),
-                b"",
-                b"\xE0\x01\x00\xEA",
-                0x35D0_3F2A_0762_A1B2,
-                ".2OGH88888",
-            ),
-            (
-                b"2001-02-29T",
-                Err(Refused(Reason::BadTimestamp, 0)),
-                b"",
-                b"\xE0\x01\x00\xEA",
-                0x8955_07E0_0AF1_71AB,
-                ".2OG'88888F",
-            ),
-        ],
-    ),
-    (
-        "A timestamp may be to the minute, and then has an offset.",
-        &[
-            (
-                b"2000-01-02T03:04Z 2000-01-02T03:04+05:06",
-                Ok(2),
-                b"2000-01-02T03:04Z\n2000-01-02T03:04+05:06\n",
-                b"\xE0\x01\x00\xEAg\x80\x0F\xD0\x81\x82\x83\x84h\x02\xB2\x0F\xD0\x81\x81\x95\xBA",
-                0x47A3_BEEF_EFC2_22FF,
-                ".2OGH88888SS88888%R)'-$<<<<<99<<<<<<<<<<",
-            ),
-            (
-                b"2000-01-02T03:04",
-                Err(Refused(Reason::BadToken, 0)),
-                b"",
-                b"\xE0\x01\x00\xEA",
-                0x4A21_4611_FB76_52E2,
-                ".2OGH88888SS8888",
-            ),
-            (
-                b"2000-01-02T03Z",
-                Err(Refused(Reason::BadToken, 0)),
-                b"",
-                b"\xE0\x01\x00\xEA",
-                0x5C74_DA67_F257_34CA,
-                ".2OGH88888SS88",
-            ),
-            (
-                b"2000-01-02T24:00Z",
-                Err(Refused(Reason::BadTimestamp, 0)),
-                b"",
-                b"\xE0\x01\x00\xEA",
-                0xD9C9_3791_D738_C74E,
-                ".2OGH88888SS88888",
-            ),
-        ],
-    ),
-    (
-        "A timestamp may have seconds, and digits of a fraction behind a point.",
-        &[
-            (
-                b"2000-01-02T03:04:05-06:07 2000-01-02T03:04:05.678Z",
-                Ok(2),
-                b"2000-01-02T03:04:05-06:07\n2000-01-02T03:04:05.678Z\n",
-                b"\xE0\x01\x00\xEAiB\xEF\x0F\xD0\x81\x82\x89\x8B\x85k\x80\x0F\xD0\x81\x82\x83\x84\x85\xC3\x02\xA6",
-                0x56E4_C47F_4FF3_D644,
-                ".2OGH88888SS8888888888888X'$6R(RRRRR##RRRRRRRRRRRR",
-            ),
-            (
-                b"2000-01-02T03:04:60Z",
-                Err(Refused(Reason::BadTimestamp, 0)),
-                b"",
-                b"\xE0\x01\x00\xEA",
-                0x7884_5815_B5AE_AC12,
-                ".2OGH88888SS88888888",
-            ),
-            (
-                b"2000-01-02T03:04:05.Z",
-                Err(Refused(Reason::BadToken, 0)),
-                b"",
-                b"\xE0\x01\x00\xEA",
-                0xEB0A_9CA6_C3B1_D3FE,
-                ".2OGH88888SS888888888",
-            ),
-            (
-                b"2000-01-02T03:04.5Z",
-                Err(Refused(Reason::BadToken, 0)),
-                b"",
-                b"\xE0\x01\x00\xEA",
-                0x1B02_A6EA_61C1_59A6,
-                ".2OGH88888SS8888888",
-            ),
-        ],
-    ),
-    (
-        "A fraction in text has at most 38 digits.",
-        &[
-            (
-                b"2000-01-02T03:04:05.00000000000000000000000000000000000001Z",
-                Ok(1),
-                b"2000-01-02T03:04:05.00000000000000000000000000000000000001Z\n",
-                b"\xE0\x01\x00\xEAj\x80\x0F\xD0\x81\x82\x83\x84\x85\xE6\x01",
-                0x76DE_984F_72B2_C406,
-                ".2OGH88888SS88888888888888888888888888888888888888888888888",
-            ),
-            (
-                b"2000-01-02T03:04:05.000000000000000000000000000000000000001Z",
-                Err(Refused(Reason::Range, 0)),
-                b"",
-                b"\xE0\x01\x00\xEA",
-                0x8951_1C6E_9AE6_EDF2,
-                ".2OGH88888SS888888888888888888888888888888888888888888888888",
-            ),
-        ],
-    ),
-    (
-        "The offset -00:00 is the unknown one, which dates have too.",
-        &[
-            (
-                b"2000-01-02T03:04-00:00 2000-01-02",
-                Ok(2),
-                b"2000-01-02T03:04-00:00\n2000-01-02\n",
-                b"\xE0\x01\x00\xEAg\xC0\x0F\xD0\x81\x82\x83\x84e\xC0\x0F\xD0\x81\x82",
-                0xBC00_3902_0870_B638,
-                ".2OGH88888SS8888888888BJQV-8+++++",
-            ),
-            (
-                b"2000-01-02-00:00",
-                Err(Refused(Reason::BadToken, 0)),
-                b"",
-                b"\xE0\x01\x00\xEA",
-                0x520A_4520_A96C_7C82,
-                ".2OGH88888S88888",
-            ),
-        ],
-    ),
-    (
-        "An offset is at most 23 hours and 59 minutes.",
-        &[
-            (
-                b"2000-01-02T03:04+23:59",
-                Ok(1),
-                b"2000-01-02T03:04+23:59\n",
-                b"\xE0\x01\x00\xEAh\x0B\x9F\x0F\xD0\x81\x81\x83\x85",
-                0xD278_ED57_E9C9_9DAA,
-                ".2OGH88888SS8888888888",
-            ),
-            (
-                b"2000-01-02T03:04+24:00",
-                Err(Refused(Reason::BadTimestamp, 0)),
-                b"",
-                b"\xE0\x01\x00\xEA",
-                0xD278_ED57_E9C9_9DAA,
-                ".2OGH88888SS8888888888",
-            ),
-            (
-                b"2000-01-02T03:04-01:60",
-                Err(Refused(Reason::BadTimestamp, 0)),
-                b"",
-                b"\xE0\x01\x00\xEA",
-                0xD278_ED57_E9C9_9DAA,
-                ".2OGH88888SS8888888888",
-            ),
-        ],
-    ),
-    (
-        "A timestamp in UTC is of the years 1 to 9999 too.",
-        &[
-            (
-                b"0001-01-01T00:00-00:01",
-                Ok(1),
-                b"0001-01-01T00:00-00:01\n",
-                b"\xE0\x01\x00\xEAf\xC1\x81\x81\x81\x80\x81",
-                0x8E1D_6EA7_E7B9_2B48,
-                ".088888888BB8888888888",
-            ),
-            (
-                b"0001-01-01T00:00+00:01",
-                Err(Refused(Reason::BadTimestamp, 0)),
-                b"",
-                b"\xE0\x01\x00\xEA",
-                0x8E1D_6EA7_E7B9_2B48,
-                ".088888888BB8888888888",
-            ),
-            (
-                b"9999-12-31T23:59-00:01",
-                Err(Refused(Reason::BadTimestamp, 0)),
-                b"",
-                b"\xE0\x01\x00\xEA",
-                0xD2ED_34F3_89DC_E10E,
-                ".WIVZ88888..8888888888",
-            ),
-        ],
-    ),
-    (
-        "Underscores stand in no timestamp.",
-        &[
-            (
-                b"2000-01-02T",
-                Ok(1),
-                b"2000-01-02\n",
-                b"\xE0\x01\x00\xEAe\xC0\x0F\xD0\x81\x82",
-                0x2D25_612C_6D99_8866,
-                ".2OGH88888S",
-            ),
-            (
-                b"2_000T",
-                Err(Refused(Reason::BadToken, 0)),
-                b"",
-                b"\xE0\x01\x00\xEA",
-                0x768F_348D_6E87_7886,
-                ".28OGH",
-            ),
-            (
-                b"2000-01-0_2T",
-                Err(Refused(Reason::BadToken, 0)),
-                b"",
-                b"\xE0\x01\x00\xEA",
-                0xB5F1_8589_C83F_C9CA,
-                ".2OGH8888888",
-            ),
-        ],
-    ),
-];
+pub const ROWS: &str = r#"
+~ A timestamp may be to the year.
+2000T 0001T|2|2000T%0A0001T%0A|%E0%01%00%EAc%C0%0F%D0b%C0%81|F0DCB45019958591|.2OGHID&QQQ|
+2000 000T|BadToken 5|2000%0A|%E0%01%00%EA"%07%D0|E726DF8F1BBB1E6C|.2OGHE788|
+200T|BadToken 0||%E0%01%00%EA|2CCF1DC2488B7133|.2OG|
+0000T|BadTimestamp 0||%E0%01%00%EA|FB359A63FCD44B78|.0888|
+12345T|BadToken 0||%E0%01%00%EA|9D9674D70225392F|.BL;E*|
+~ A timestamp may be to the month.
+2000-01T 2000-12T|2|2000-01T%0A2000-12T%0A|%E0%01%00%EAd%C0%0F%D0%81d%C0%0F%D0%8C|FF59D75C125C5B94|.2OGH888AH><<>777|
+2000-01|BadToken 0||%E0%01%00%EA|72B64165724B826E|.2OGH88|
+2000-13T|BadTimestamp 0||%E0%01%00%EA|AE60D24C460308DA|.2OGH888|
+2000-1T|BadToken 0||%E0%01%00%EA|72B64165724B826E|.2OGH88|
+~ A timestamp may be to the day, with or without T.
+2000-02-29T 2000-01-31|2|2000-02-29%0A2000-01-31%0A|%E0%01%00%EAe%C0%0F%D0%82%9De%C0%0F%D0%81%9F|F5D2E339B94EA8A5|.2OGH8888811C@NC>.....|
+2000-02-30|BadTimestamp 0||%E0%01%00%EA|35D03F2A0762A1B2|.2OGH88888|
+2000-01-1T|BadToken 0||%E0%01%00%EA|35D03F2A0762A1B2|.2OGH88888|
+2001-02-29T|BadTimestamp 0||%E0%01%00%EA|895507E00AF171AB|.2OG'88888F|
+~ A timestamp may be to the minute, and then has an offset.
+2000-01-02T03:04Z 2000-01-02T03:04+05:06|2|2000-01-02T03:04Z%0A2000-01-02T03:04+05:06%0A|%E0%01%00%EAg%80%0F%D0%81%82%83%84h%02%B2%0F%D0%81%81%95%BA|47A3BEEFEFC222FF|.2OGH88888SS88888%R)'-$<<<<<99<<<<<<<<<<|
+2000-01-02T03:04|BadToken 0||%E0%01%00%EA|4A214611FB7652E2|.2OGH88888SS8888|
+2000-01-02T03Z|BadToken 0||%E0%01%00%EA|5C74DA67F25734CA|.2OGH88888SS88|
+2000-01-02T24:00Z|BadTimestamp 0||%E0%01%00%EA|D9C93791D738C74E|.2OGH88888SS88888|
+~ A timestamp may have seconds, and digits of a fraction behind a point.
+2000-01-02T03:04:05-06:07 2000-01-02T03:04:05.678Z|2|2000-01-02T03:04:05-06:07%0A2000-01-02T03:04:05.678Z%0A|%E0%01%00%EAiB%EF%0F%D0%81%82%89%8B%85k%80%0F%D0%81%82%83%84%85%C3%02%A6|56E4C47F4FF3D644|.2OGH88888SS8888888888888X'$6R(RRRRR##RRRRRRRRRRRR|
+2000-01-02T03:04:60Z|BadTimestamp 0||%E0%01%00%EA|78845815B5AEAC12|.2OGH88888SS88888888|
+2000-01-02T03:04:05.Z|BadToken 0||%E0%01%00%EA|EB0A9CA6C3B1D3FE|.2OGH88888SS888888888|
+2000-01-02T03:04.5Z|BadToken 0||%E0%01%00%EA|1B02A6EA61C159A6|.2OGH88888SS8888888|
+~ A fraction in text has at most 38 digits.
+2000-01-02T03:04:05.00000000000000000000000000000000000001Z|1|2000-01-02T03:04:05.00000000000000000000000000000000000001Z%0A|%E0%01%00%EAj%80%0F%D0%81%82%83%84%85%E6%01|76DE984F72B2C406|.2OGH88888SS88888888888888888888888888888888888888888888888|
+2000-01-02T03:04:05.000000000000000000000000000000000000001Z|Range 0||%E0%01%00%EA|89511C6E9AE6EDF2|.2OGH88888SS888888888888888888888888888888888888888888888888|
+~ The offset -00:00 is the unknown one, which dates have too.
+2000-01-02T03:04-00:00 2000-01-02|2|2000-01-02T03:04-00:00%0A2000-01-02%0A|%E0%01%00%EAg%C0%0F%D0%81%82%83%84e%C0%0F%D0%81%82|BC0039020870B638|.2OGH88888SS8888888888BJQV-8+++++|
+2000-01-02-00:00|BadToken 0||%E0%01%00%EA|520A4520A96C7C82|.2OGH88888S88888|
+~ An offset is at most 23 hours and 59 minutes.
+2000-01-02T03:04+23:59|1|2000-01-02T03:04+23:59%0A|%E0%01%00%EAh%0B%9F%0F%D0%81%81%83%85|D278ED57E9C99DAA|.2OGH88888SS8888888888|
+2000-01-02T03:04+24:00|BadTimestamp 0||%E0%01%00%EA|D278ED57E9C99DAA|.2OGH88888SS8888888888|
+2000-01-02T03:04-01:60|BadTimestamp 0||%E0%01%00%EA|D278ED57E9C99DAA|.2OGH88888SS8888888888|
+~ A timestamp in UTC is of the years 1 to 9999 too.
+0001-01-01T00:00-00:01|1|0001-01-01T00:00-00:01%0A|%E0%01%00%EAf%C1%81%81%81%80%81|8E1D6EA7E7B92B48|.088888888BB8888888888|
+0001-01-01T00:00+00:01|BadTimestamp 0||%E0%01%00%EA|8E1D6EA7E7B92B48|.088888888BB8888888888|
+9999-12-31T23:59-00:01|BadTimestamp 0||%E0%01%00%EA|D2ED34F389DCE10E|.WIVZ88888..8888888888|
+~ Underscores stand in no timestamp.
+2000-01-02T|1|2000-01-02%0A|%E0%01%00%EAe%C0%0F%D0%81%82|2D25612C6D998866|.2OGH88888S|
+2_000T|BadToken 0||%E0%01%00%EA|768F348D6E877886|.28OGH|
+2000-01-0_2T|BadToken 0||%E0%01%00%EA|B5F18589C83FC9CA|.2OGH8888888|
+"#;

@@ -1,396 +1,57 @@
 //! Of the text encoding: bytes, comments and ints. Written by tests/vectors/make.py.
 
-use super::Row;
-use ion_meter::fault::Fault::Refused;
-use ion_meter::fault::Reason;
-
-pub const ROWS: &[Row] = &[
-    (
-        "Text is UTF-8.",
-        &[
-            (
-                b"\"\xC3\xA9\"",
-                Ok(1),
-                b"\"\xC3\xA9\"\n",
-                b"\xE0\x01\x00\xEA\x82\xC3\xA9",
-                0x85B1_EA75_9C71_F235,
-                ".[B@",
-            ),
-            (
-                b"\"\xC3\"",
-                Err(Refused(Reason::BadText, 0)),
-                b"",
-                b"\xE0\x01\x00\xEA",
-                0x42D3_E3C8_C5F5_C243,
-                ".H@",
-            ),
-            (
-                b"'\xC3('",
-                Err(Refused(Reason::BadText, 0)),
-                b"",
-                b"\xE0\x01\x00\xEA",
-                0x7F0A_83A9_A839_F351,
-                ".C5@",
-            ),
-        ],
-    ),
-    (
-        "White space is the space, tab, LF, VT, FF and CR.",
-        &[
-            (
-                b" \t1\n\x0B\x0C2\r3",
-                Ok(3),
-                b"1\n2\n3\n",
-                b"\xE0\x01\x00\xEA!\x01!\x02!\x03",
-                0x4B4F_01D1_40D8_747F,
-                ".7?V(<LMV",
-            ),
-            (
-                b"1\x00",
-                Err(Refused(Reason::BadToken, 0)),
-                b"",
-                b"\xE0\x01\x00\xEA",
-                0x6A42_A6DD_03D2_C4C1,
-                ".B",
-            ),
-            (
-                b"\xC2\xA01",
-                Err(Refused(Reason::BadToken, 0)),
-                b"",
-                b"\xE0\x01\x00\xEA",
-                0x3914_E86C_B08C_C0CE,
-                ".88",
-            ),
-            (
-                b"\xEF\xBB\xBF1",
-                Err(Refused(Reason::BadToken, 0)),
-                b"",
-                b"\xE0\x01\x00\xEA",
-                0x0A3D_78A0_2B50_8C3A,
-                ".888",
-            ),
-        ],
-    ),
-    (
-        "A comment goes from // to LF, CR or the end of the input.",
-        &[
-            (
-                b"//a\n1 //b\r2 //c",
-                Ok(2),
-                b"1\n2\n",
-                b"\xE0\x01\x00\xEA!\x01!\x02",
-                0x6F96_34AF_EC6A_EB69,
-                ".8@).BL@3PS:0&-",
-            ),
-            (
-                b"/ /1",
-                Err(Refused(Reason::BadToken, 0)),
-                b"",
-                b"\xE0\x01\x00\xEA",
-                0x0A3D_78A0_2B50_8C3A,
-                ".888",
-            ),
-            (
-                b"1 / 2",
-                Err(Refused(Reason::BadToken, 2)),
-                b"1\n",
-                b"\xE0\x01\x00\xEA!\x01",
-                0xF977_98FD_13D6_4E46,
-                ".B7ZZ",
-            ),
-        ],
-    ),
-    (
-        "A comment goes from /* to the next */.",
-        &[
-            (
-                b"/* a /* b */1/***/",
-                Ok(1),
-                b"1\n",
-                b"\xE0\x01\x00\xEA!\x01",
-                0xD248_FF14_05EB_474B,
-                ".8::::::::%%MWGPOO",
-            ),
-            (
-                b"/* a */ */",
-                Err(Refused(Reason::BadToken, 8)),
-                b"",
-                b"\xE0\x01\x00\xEA",
-                0x709C_9596_20F2_B883,
-                ".8999%%M+5",
-            ),
-            (
-                b"1 /* a",
-                Err(Refused(Reason::Truncated, 2)),
-                b"1\n",
-                b"\xE0\x01\x00\xEA!\x01",
-                0x566C_054B_2C52_BA9F,
-                ".B7Z[[",
-            ),
-        ],
-    ),
-    (
-        "Bytes in comments are not checked.",
-        &[
-            (
-                b"//\xFF\x00\n1/*\xC3*/",
-                Ok(1),
-                b"1\n",
-                b"\xE0\x01\x00\xEA!\x01",
-                0x9C57_952B_65B8_7420,
-                ".844/U,3LYY",
-            ),
-            (
-                b"//\xFF\n\xFF",
-                Err(Refused(Reason::BadToken, 4)),
-                b"",
-                b"\xE0\x01\x00\xEA",
-                0x1A73_33AA_E601_2E40,
-                ".8./.",
-            ),
-        ],
-    ),
-    (
-        "A token that begins with a digit, or - and a digit, goes to the next stop character.",
-        &[
-            (
-                b"[1,2](3 -4){a:5}6\"b\"7'c'",
-                Ok(7),
-                b"[1,2]\n(3 -4)\n{a:5}\n6\n\"b\"\n7\nc\n",
-                b"\xE0\x01\x00\xEA\xB4!\x01!\x02\xC4!\x031\x04\xEA\x81\x83\xD7\x86q\x03\x87\xB2\x81a\xD3\x8A!\x05!\x06\x81b!\x07\xEA\x81\x83\xD7\x86q\x03\x87\xB2\x81cq\x0B",
-                0x49C4_3315_0296_BAFE,
-                ".XQ)0?C9S.CJA8.P$OS>BTOY",
-            ),
-            (
-                b"1a",
-                Err(Refused(Reason::BadToken, 0)),
-                b"",
-                b"\xE0\x01\x00\xEA",
-                0x6A42_A6DD_03D2_C4C1,
-                ".B",
-            ),
-            (
-                b"-1$",
-                Err(Refused(Reason::BadToken, 0)),
-                b"",
-                b"\xE0\x01\x00\xEA",
-                0xD0C1_9C1A_29A8_D5F5,
-                ".8Q",
-            ),
-            (
-                b"[1;2]",
-                Err(Refused(Reason::BadToken, 1)),
-                b"[",
-                b"\xE0\x01\x00\xEA",
-                0xD61F_C379_A0B3_3FC5,
-                ".XQ++",
-            ),
-        ],
-    ),
-    (
-        "A comment ends it too.",
-        &[
-            (
-                b"1/**/2//x",
-                Ok(2),
-                b"1\n2\n",
-                b"\xE0\x01\x00\xEA!\x01!\x02",
-                0x2405_69BB_3612_0C98,
-                ".B8BB<EQ-",
-            ),
-            (
-                b"1/2",
-                Err(Refused(Reason::BadToken, 0)),
-                b"",
-                b"\xE0\x01\x00\xEA",
-                0x28E1_B219_0777_6E7D,
-                ".B8",
-            ),
-            (
-                b"1*/",
-                Err(Refused(Reason::BadToken, 0)),
-                b"",
-                b"\xE0\x01\x00\xEA",
-                0x28E1_B219_0777_6E7D,
-                ".B8",
-            ),
-        ],
-    ),
-    (
-        "An int is 0, or digits of which the first is another; -0 is 0.",
-        &[
-            (
-                b"0 -0 12 -12",
-                Ok(4),
-                b"0\n0\n12\n-12\n",
-                b"\xE0\x01\x00\xEA  !\x0C1\x0C",
-                0x7999_C463_05C5_CB3A,
-                ".0G?E+J?6VI",
-            ),
-            (
-                b"012",
-                Err(Refused(Reason::BadToken, 0)),
-                b"",
-                b"\xE0\x01\x00\xEA",
-                0x031B_67C1_C0BC_4918,
-                ".08",
-            ),
-            (
-                b"- 1",
-                Err(Refused(Reason::BadToken, 0)),
-                b"",
-                b"\xE0\x01\x00\xEA",
-                0x3914_E86C_B08C_C0CE,
-                ".88",
-            ),
-            (
-                b"-01",
-                Err(Refused(Reason::BadToken, 0)),
-                b"",
-                b"\xE0\x01\x00\xEA",
-                0x3739_CB8F_FEA8_0354,
-                ".80",
-            ),
-        ],
-    ),
-    (
-        "An int may be hexadecimal.",
-        &[
-            (
-                b"0x1F -0X1f",
-                Ok(2),
-                b"31\n-31\n",
-                b"\xE0\x01\x00\xEA!\x1F1\x1F",
-                0x99AE_AF9A_BFE7_58CC,
-                ".08B;KU*UR",
-            ),
-            (
-                b"0x",
-                Err(Refused(Reason::BadToken, 0)),
-                b"",
-                b"\xE0\x01\x00\xEA",
-                0x221A_C3BF_3F1F_5E08,
-                ".0",
-            ),
-            (
-                b"0x1G",
-                Err(Refused(Reason::BadToken, 0)),
-                b"",
-                b"\xE0\x01\x00\xEA",
-                0x233E_056F_0F01_F3EB,
-                ".08B",
-            ),
-            (
-                b"00x1",
-                Err(Refused(Reason::BadToken, 0)),
-                b"",
-                b"\xE0\x01\x00\xEA",
-                0x0D62_F8B1_A102_CCE8,
-                ".088",
-            ),
-        ],
-    ),
-    (
-        "An int may be binary.",
-        &[
-            (
-                b"0b101 -0B11",
-                Ok(2),
-                b"5\n-3\n",
-                b"\xE0\x01\x00\xEA!\x051\x03",
-                0xC8F2_B713_01A5_19B5,
-                ".08B2DLQ7Q%",
-            ),
-            (
-                b"0b",
-                Err(Refused(Reason::BadToken, 0)),
-                b"",
-                b"\xE0\x01\x00\xEA",
-                0x221A_C3BF_3F1F_5E08,
-                ".0",
-            ),
-            (
-                b"0b12",
-                Err(Refused(Reason::BadToken, 0)),
-                b"",
-                b"\xE0\x01\x00\xEA",
-                0x233E_056F_0F01_F3EB,
-                ".08B",
-            ),
-        ],
-    ),
-    (
-        "An int in text has a magnitude below 2 to the power of 128.",
-        &[
-            (
-                b"340282366920938463463374607431768211455",
-                Ok(1),
-                b"340282366920938463463374607431768211455\n",
-                b"\xE0\x01\x00\xEA.\x90\xFF\xFF\xFF\xFF\xFF\xFF\xFF\xFF\xFF\xFF\xFF\xFF\xFF\xFF\xFF\xFF",
-                0xAC3B_08B2_3AD4_1552,
-                ".[8R;H++PL<E;78W(.3Z>82T.?=$MG5URN).06'",
-            ),
-            (
-                b"340282366920938463463374607431768211456",
-                Err(Refused(Reason::Range, 0)),
-                b"",
-                b"\xE0\x01\x00\xEA",
-                0xAC3B_08B2_3AD4_1552,
-                ".[8R;H++PL<E;78W(.3Z>82T.?=$MG5URN).06'",
-            ),
-            (
-                b"-0x100000000000000000000000000000000",
-                Err(Refused(Reason::Range, 0)),
-                b"",
-                b"\xE0\x01\x00\xEA",
-                0x9DC8_B54C_D579_EAAA,
-                ".808Q7%N:NI+1[GD%A6*OG=;A$URL0<?(VVL",
-            ),
-        ],
-    ),
-    (
-        "Single underscores may stand between two digits of an int.",
-        &[
-            (
-                b"1_0 0x1_F 0b1_1",
-                Ok(3),
-                b"10\n31\n3\n",
-                b"\xE0\x01\x00\xEA!\n!\x1F!\x03",
-                0xABF1_6BE8_BDFD_7F60,
-                ".B8(&7*Z*BA&[M[",
-            ),
-            (
-                b"1_",
-                Err(Refused(Reason::BadToken, 0)),
-                b"",
-                b"\xE0\x01\x00\xEA",
-                0x6A42_A6DD_03D2_C4C1,
-                ".B",
-            ),
-            (
-                b"1__0",
-                Err(Refused(Reason::BadToken, 0)),
-                b"",
-                b"\xE0\x01\x00\xEA",
-                0x584A_00A8_94CB_3249,
-                ".B88",
-            ),
-            (
-                b"0x_1",
-                Err(Refused(Reason::BadToken, 0)),
-                b"",
-                b"\xE0\x01\x00\xEA",
-                0x0D62_F8B1_A102_CCE8,
-                ".088",
-            ),
-            (
-                b"0_x1",
-                Err(Refused(Reason::BadToken, 0)),
-                b"",
-                b"\xE0\x01\x00\xEA",
-                0x0D62_F8B1_A102_CCE8,
-                ".088",
-            ),
-        ],
-    ),
-];
+pub const ROWS: &str = r#"
+~ Text is UTF-8.
+"%C3%A9"|1|"%C3%A9"%0A|%E0%01%00%EA%82%C3%A9|85B1EA759C71F235|.[B@|
+"%C3"|BadText 0||%E0%01%00%EA|42D3E3C8C5F5C243|.H@|
+'%C3('|BadText 0||%E0%01%00%EA|7F0A83A9A839F351|.C5@|
+~ White space is the space, tab, LF, VT, FF and CR.
+ %091%0A%0B%0C2%0D3|3|1%0A2%0A3%0A|%E0%01%00%EA!%01!%02!%03|4B4F01D140D8747F|.7?V(<LMV|
+1%00|BadToken 0||%E0%01%00%EA|6A42A6DD03D2C4C1|.B|
+%C2%A01|BadToken 0||%E0%01%00%EA|3914E86CB08CC0CE|.88|
+%EF%BB%BF1|BadToken 0||%E0%01%00%EA|0A3D78A02B508C3A|.888|
+~ A comment goes from // to LF, CR or the end of the input.
+//a%0A1 //b%0D2 //c|2|1%0A2%0A|%E0%01%00%EA!%01!%02|6F9634AFEC6AEB69|.8@).BL@3PS:0&-|
+/ /1|BadToken 0||%E0%01%00%EA|0A3D78A02B508C3A|.888|
+1 / 2|BadToken 2|1%0A|%E0%01%00%EA!%01|F97798FD13D64E46|.B7ZZ|
+~ A comment goes from /* to the next */.
+/* a /* b */1/***/|1|1%0A|%E0%01%00%EA!%01|D248FF1405EB474B|.8::::::::%%MWGPOO|
+/* a */ */|BadToken 8||%E0%01%00%EA|709C959620F2B883|.8999%%M+5|
+1 /* a|Truncated 2|1%0A|%E0%01%00%EA!%01|566C054B2C52BA9F|.B7Z[[|
+~ Bytes in comments are not checked.
+//%FF%00%0A1/*%C3*/|1|1%0A|%E0%01%00%EA!%01|9C57952B65B87420|.844/U,3LYY|
+//%FF%0A%FF|BadToken 4||%E0%01%00%EA|1A7333AAE6012E40|.8./.|
+~ A token that begins with a digit, or - and a digit, goes to the next stop character.
+[1,2](3 -4){a:5}6"b"7'c'|7|[1,2]%0A(3 -4)%0A{a:5}%0A6%0A"b"%0A7%0Ac%0A|%E0%01%00%EA%B4!%01!%02%C4!%031%04%EA%81%83%D7%86q%03%87%B2%81a%D3%8A!%05!%06%81b!%07%EA%81%83%D7%86q%03%87%B2%81cq%0B|49C433150296BAFE|.XQ)0?C9S.CJA8.P$OS>BTOY|
+1a|BadToken 0||%E0%01%00%EA|6A42A6DD03D2C4C1|.B|
+-1$|BadToken 0||%E0%01%00%EA|D0C19C1A29A8D5F5|.8Q|
+[1;2]|BadToken 1|[|%E0%01%00%EA|D61FC379A0B33FC5|.XQ++|
+~ A comment ends it too.
+1/**/2//x|2|1%0A2%0A|%E0%01%00%EA!%01!%02|240569BB36120C98|.B8BB<EQ-|
+1/2|BadToken 0||%E0%01%00%EA|28E1B21907776E7D|.B8|
+1*/|BadToken 0||%E0%01%00%EA|28E1B21907776E7D|.B8|
+~ An int is 0, or digits of which the first is another; -0 is 0.
+0 -0 12 -12|4|0%0A0%0A12%0A-12%0A|%E0%01%00%EA  !%0C1%0C|7999C46305C5CB3A|.0G?E+J?6VI|
+012|BadToken 0||%E0%01%00%EA|031B67C1C0BC4918|.08|
+- 1|BadToken 0||%E0%01%00%EA|3914E86CB08CC0CE|.88|
+-01|BadToken 0||%E0%01%00%EA|3739CB8FFEA80354|.80|
+~ An int may be hexadecimal.
+0x1F -0X1f|2|31%0A-31%0A|%E0%01%00%EA!%1F1%1F|99AEAF9ABFE758CC|.08B;KU*UR|
+0x|BadToken 0||%E0%01%00%EA|221AC3BF3F1F5E08|.0|
+0x1G|BadToken 0||%E0%01%00%EA|233E056F0F01F3EB|.08B|
+00x1|BadToken 0||%E0%01%00%EA|0D62F8B1A102CCE8|.088|
+~ An int may be binary.
+0b101 -0B11|2|5%0A-3%0A|%E0%01%00%EA!%051%03|C8F2B71301A519B5|.08B2DLQ7Q%|
+0b|BadToken 0||%E0%01%00%EA|221AC3BF3F1F5E08|.0|
+0b12|BadToken 0||%E0%01%00%EA|233E056F0F01F3EB|.08B|
+~ An int in text has a magnitude below 2 to the power of 128.
+340282366920938463463374607431768211455|1|340282366920938463463374607431768211455%0A|%E0%01%00%EA.%90%FF%FF%FF%FF%FF%FF%FF%FF%FF%FF%FF%FF%FF%FF%FF%FF|AC3B08B23AD41552|.[8R;H++PL<E;78W(.3Z>82T.?=$MG5URN).06'|
+340282366920938463463374607431768211456|Range 0||%E0%01%00%EA|AC3B08B23AD41552|.[8R;H++PL<E;78W(.3Z>82T.?=$MG5URN).06'|
+-0x100000000000000000000000000000000|Range 0||%E0%01%00%EA|9DC8B54CD579EAAA|.808Q7%N:NI+1[GD%A6*OG=;A$URL0<?(VVL|
+~ Single underscores may stand between two digits of an int.
+1_0 0x1_F 0b1_1|3|10%0A31%0A3%0A|%E0%01%00%EA!%0A!%1F!%03|ABF16BE8BDFD7F60|.B8(&7*Z*BA&[M[|
+1_|BadToken 0||%E0%01%00%EA|6A42A6DD03D2C4C1|.B|
+1__0|BadToken 0||%E0%01%00%EA|584A00A894CB3249|.B88|
+0x_1|BadToken 0||%E0%01%00%EA|0D62F8B1A102CCE8|.088|
+0_x1|BadToken 0||%E0%01%00%EA|0D62F8B1A102CCE8|.088|
+"#;

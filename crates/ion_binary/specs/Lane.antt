@@ -1,5 +1,5 @@
 -- What a call that hands one item to a writer asks for, gives, keeps and moves.
-use Rattle.std.specs.Prelude.{◌≡◌, ℕ, ◌+◌, ◌-◌, ◌^◌, ◌<◌, ◌≤◌, List, length, map, Option, Some, None, option_map, is_some, Ok, ⊤}
+use Rattle.std.specs.Prelude.{◌≡◌, ℕ, ◌+◌, ◌-◌, ◌^◌, ◌<◌, ◌≤◌, List, [], ◌∷◌, length, map, Option, Some, None, option_map, is_some, true, Ok, ⊤}
 use Rattle.ion_meter.specs.Counts.{Counts}
 use Rattle.ion_meter.specs.Windows.{Incoming, Outgoing, left}
 use Rattle.ion_meter.specs.Sources.{BytesAreLeft, Stands, skip}
@@ -16,7 +16,11 @@ use Rattle.ion_value.specs.Value.{PlacedItem, SymbolAt}
 use Rattle.ion_binary.specs.declared.wrapper.Frame as frame
 use Rattle.ion_binary.specs.Positions.{Frame}
 use Rattle.ion_binary.specs.Reading.{field_at, region_of}
-use Rattle.ion_binary.specs.Shown.{Reaches, window}
+use Rattle.ion_value.specs.Name.{is_simple}
+use Rattle.ion_binary.specs.Shown.{Reaches, ShowsItem, window}
+use Rattle.ion_binary.specs.declared.shown.Shown.{Shown}
+use Rattle.ion_binary.specs.Descriptor.{Region}
+use Rattle.ion_meter.specs.declared.limits.Limits.{Limits}
 use Rattle.ion_binary.specs.declared.reader.BinReader.{BinReader}
 use Rattle.ion_binary.specs.Steps.{IsSized, held_by, left_to, opened_in, share_of, to_come_by}
 
@@ -67,6 +71,13 @@ pub record ShowsField (texts : ℕ → Option (List ℕ)) (octets : List ℕ) (h
   pub simple : HasSimpleName (option_map placed_text field)
   pub there : is_some field ≡ in_struct (map (λ f. f.kind) frames)
   pub gives : (more : List ℕ) → Reaches (region_of frames) (here + behind) → field_at frames (window here octets more) ≡ Ok (raw, skip behind (window here octets more))
+
+-- octets show what stands behind a field: a value in a wrapper with one annotation, whose id has a simple text
+pub record ShowsNoted (texts : ℕ → Option (List ℕ)) (limits : Limits) (octets : List ℕ) (here : ℕ) (region : Region) (depth at head behind : ℕ) (annotation : TextAt) (found : Shown) : Type 0 where
+  pub raw : SymbolAt
+  pub named : named_at texts raw ≡ placed_text annotation
+  pub simple : is_simple annotation.text.now ≡ true
+  pub item : ShowsItem limits octets here region depth at head behind (raw ∷ []) found
 
 -- the innermost container does not end here
 abbrev pub GoesOn : Option frame.Frame → ℕ → Type 0

@@ -2,7 +2,9 @@
 ghost use Rattle.std.specs.Prelude.{◌≡◌, ◌+◌, ◌-◌, ◌^◌, ◌<◌, ◌≤◌, length, false, true, Option, Some, None, IfSome, map};
 ghost use Rattle.ion_value.specs.Items.{named_at, named_item, raw_head};
 ghost use Rattle.ion_value.specs.PlainItems.{HasSimpleName, IsSimpleHead};
-ghost use Rattle.ion_binary.specs.Lane.{CanHand, EndsHere, GoesOn, HandsItem, HandsNothing, KeepsOn, ShowsField, ShowsNoted};
+ghost use Rattle.ion_binary.specs.Lane.{CanHand, EndsHere, GoesOn, HandsItem, HandsNothing, HandsOn, KeepsOn, ShowsField, ShowsNoted};
+ghost use Rattle.ion_value.specs.Feeding.{CanTake};
+ghost use Rattle.ion_binary.specs.Steps.{IsSound, held_by, left_to, opened_in};
 ghost use Rattle.ion_binary.specs.Positions.{placed_scalar};
 ghost use Rattle.ion_binary.specs.Reader.{IsInnermost};
 ghost use Rattle.ion_binary.specs.Reading.{top_of};
@@ -10,7 +12,7 @@ ghost use Rattle.ion_binary.specs.Shown.{far_end, shown_scalar};
 ghost use Rattle.ion_binary.specs.Wrappers.{as_frames, innermost};
 ghost use Rattle.ion_value.specs.Value.{map_head, whole};
 
-use super::{BinReader, region};
+use super::{BinReader, region, values_behind};
 use crate::body::id_of;
 use crate::shown::{Shown, ShownScalar, shown_note, shown_value, shown_var};
 use crate::wrapper::Frame;
@@ -101,14 +103,6 @@ fn top_at(frame: Option<Frame>, top: u64, here: u64) -> u64
         None => here,
         Some(_) => top,
     }
-}
-
-// Whether a descriptor stands at a place of these octets that begins an annotation wrapper.
-#[inline(always)]
-fn begins_note(octets: &[u8], at: usize) -> bool
-    requires { at ≤ length octets.now }
-{
-    at < octets.len() && octets[at] / 16 == 14
 }
 
 // The place where what is shown ends, a container with its members.
@@ -226,7 +220,35 @@ fn bare_item<'n, 'h>(
 }
 
 impl<I: Input, A: Allocator + Copy> BinReader<I, A> {
-    // Hands the next item on, where that is possible; else it answers false, and nothing is changed.
+    // Hands items on, behind so many values at top level, as long as `hand` can: how many values ended.
+    #[inline(always)]
+    pub(super) fn hand_all<N: Names, W: ValueWriter<O, A>, O: Output>(
+        &mut self,
+        values: u64,
+        meter: &mut Meter<A>,
+        names: &N,
+        writer: &mut W,
+        sink: &mut Sink<O, A>,
+    ) -> u64
+        requires room { meter.old.held ≤ 2 ^ 61 + (held_by self.old + W.own writer.old) }
+        requires held { held_by self.old + W.own writer.old ≤ meter.old.held }
+        requires countable { meter.old.refused < 2 ^ 64 - 1 }
+        requires sound { IsSound self.old }
+        requires fresh { self.old.failed ≡ None }
+        requires writer { CanTake W.ValueWriter self.old.limits.depth (opened_in self.old)
+            writer.old sink.old }
+        requires few { values + left_to self.old < 2 ^ 64 - 1 }
+        ensures { HandsOn I.Input W.ValueWriter (named_item (N.text names.now)) self.old self.new
+            writer.old writer.new sink.old sink.new meter.old meter.new values result }
+    {
+        let mut count = values;
+        'items: while self.hand(meter, names, writer, sink) {
+            count = values_behind(count, self.frames.as_slice());
+        }
+        count
+    }
+
+    // Hands the next item on, where it has no annotation and that is possible; else it answers false, and nothing is changed.
     #[inline(always)]
     pub(super) fn hand<N: Names, W: ValueWriter<O, A>, O: Output>(
         &mut self,
@@ -249,6 +271,32 @@ impl<I: Input, A: Allocator + Copy> BinReader<I, A> {
             return self.hand_end(frame, meter, names, writer, sink);
         }
         self.hand_member(frame, meter, names, writer, sink)
+    }
+
+    // The same of an item that has an annotation. It is a call of its own, so that the loop over all
+    // others has none.
+    #[inline(never)]
+    pub(super) fn hand_next_noted<N: Names, W: ValueWriter<O, A>, O: Output>(
+        &mut self,
+        meter: &mut Meter<A>,
+        names: &N,
+        writer: &mut W,
+        sink: &mut Sink<O, A>,
+    ) -> bool
+        requires { CanHand W.ValueWriter self.old writer.old sink.old meter.old }
+        ensures hands { result ≡ true → HandsItem I.Input W.ValueWriter
+            (named_item (N.text names.now)) self.old self.new writer.old writer.new
+            sink.old sink.new }
+        ensures nothing { result ≡ false
+            → HandsNothing self.old self.new writer.old writer.new sink.old sink.new }
+        ensures keeps { KeepsOn W.ValueWriter self.old self.new writer.old writer.new
+            sink.old sink.new meter.old meter.new }
+    {
+        let frame = self.frames.as_slice().last().copied();
+        if ends_here(frame, self.source.place()) {
+            return false;
+        }
+        self.hand_noted(frame, meter, names, writer, sink)
     }
 
     // The end of the innermost container, which stands here.
@@ -312,9 +360,6 @@ impl<I: Input, A: Allocator + Copy> BinReader<I, A> {
         let Some((field, at)) = shown_field(octets, here, frame, names) else {
             return false;
         };
-        if begins_note(octets, at) {
-            return self.hand_noted(frame, meter, names, writer, sink);
-        }
         let region = region(frame);
         let depth = self.frames.as_slice().len() as u32;
         let Some((found, behind)) = shown_value(octets, here, at, region, depth, self.limits) else {
@@ -351,9 +396,8 @@ impl<I: Input, A: Allocator + Copy> BinReader<I, A> {
         }
     }
 
-    // The same of one with an annotation. It is no part of `hand_member`, where most items have none and
-    // what is put for one takes no step then.
-    #[inline(never)]
+    // The same of one with an annotation.
+    #[inline(always)]
     fn hand_noted<N: Names, W: ValueWriter<O, A>, O: Output>(
         &mut self,
         frame: Option<Frame>,

@@ -20,11 +20,11 @@ use Rattle.ion_value.proofs.Readings.{reading_by-gives}
 use Rattle.ion_binary.specs.declared.wrapper.Frame as frame
 use Rattle.ion_binary.specs.declared.shown.Shown.{Shown}
 use Rattle.ion_binary.specs.Positions.{Frame, State, placed_scalar, symbol_id}
-use Rattle.ion_binary.specs.Descriptor.{var_uint_at}
+use Rattle.ion_binary.specs.Descriptor.{Region, var_uint_at}
 use Rattle.ion_binary.specs.Reading.{field_at, field_in, member_at, placed_item, region_of, step, step_for, step_of, top_of, value_at}
 use Rattle.ion_binary.specs.Reader.{IsInnermost, at_top, inside}
-use Rattle.ion_binary.specs.Shown.{Reaches, ShowsValue, ShowsVar, shown_value, window}
-use Rattle.ion_binary.proofs.ShownParts.{reaches-less}
+use Rattle.ion_binary.specs.Shown.{Reaches, ShowsItem, ShowsNote, ShowsValue, ShowsVar, far_end, shown_value, window}
+use Rattle.ion_binary.proofs.ShownParts.{reaches-less, shows_noted}
 use Rattle.ion_value.specs.declared.plain_item.TextAt.{TextAt}
 use Rattle.ion_meter.specs.Windows.{IsPassed}
 use Rattle.ion_value.specs.declared.writer.ValueWriter.{Ghosts as WriterOf}
@@ -43,7 +43,7 @@ use Rattle.ion_binary.specs.Reading.{size}
 use Rattle.ion_binary.proofs.ReaderParts.{as_frames-length, innermost-struct, last-innermost, kinds-frames, kinds_of-length}
 use Rattle.ion_binary.proofs.Termination.{step-shrinks}
 use Rattle.std.specs.Prelude.{reverse}
-use Rattle.ion_binary.specs.Lane.{EndsHere, GoesOn, ShowsField}
+use Rattle.ion_binary.specs.Lane.{EndsHere, GoesOn, ShowsField, ShowsNoted}
 use Rattle.ion_binary.specs.Wrappers.{as_frame, as_frames, innermost}
 use Rattle.ion_binary.proofs.ReaderParts.{innermost-field, innermost-region, inside-member, inside-top, member_at-field, top-member}
 
@@ -68,11 +68,11 @@ step-member limits frames None top here octets more inner goes_on some = step-to
 step-member limits frames (Some f) top here octets more inner goes_on some = inside-member limits frames f top (window here octets more) inner goes_on
 
 -- a member that is shown is the next step
-pub member_shown : (limits : Limits) (frames : List Frame) (f : Option frame.Frame) (top here at behind : ℕ) (texts : ℕ → Option (List ℕ)) (octets more : List ℕ) (field : Option TextAt) (found : Shown)
-    → IsInnermost frames f → GoesOn f here → (name : ShowsField texts octets here (innermost f) field at) → ShowsValue limits octets here (region_of (innermost f)) (length frames) at behind found
+pub member_shown : (limits : Limits) (frames : List Frame) (f : Option frame.Frame) (top here at head behind : ℕ) (raws : List SymbolAt) (texts : ℕ → Option (List ℕ)) (octets more : List ℕ) (field : Option TextAt) (found : Shown)
+    → IsInnermost frames f → GoesOn f here → (name : ShowsField texts octets here (innermost f) field at) → ShowsItem limits octets here (region_of (innermost f)) (length frames) at head behind raws found
     → step limits (record { frames = frames; top = top; cursor = window here octets more })
-    ≡ step_for frames (top_of frames top here) name.raw [] (here + at) (shown_value found) (skip behind (window here octets more))
-member_shown limits frames f top here at behind texts octets more field found inner goes_on name v =
+    ≡ step_for frames (top_of frames top here) name.raw raws (here + head) (shown_value found) (skip behind (window here octets more))
+member_shown limits frames f top here at head behind raws texts octets more field found inner goes_on name v =
     let some : 0 < length octets = omega (arith, v.further, v.within) in
     let c = window here octets more in
     let reaches : Reaches (region_of (innermost f)) (here + at) = reaches-less (region_of (innermost f)) (here + at) (here + (at + 1)) (omega arith) v.reaches in
@@ -101,6 +101,17 @@ shows_named texts octets here f id behind t struct v has simple at = record {
       (ap (var_uint_at (Some f.end)) (sym (skip-none here octets more)) ∙ v.gives here more (Some f.end) reaches);
 }
 
+-- a value in a wrapper whose one id has a simple text
+pub shows_simple : (texts : ℕ → Option (List ℕ)) (limits : Limits) (octets : List ℕ) (here : ℕ) (region : Region) (depth at from inner behind end id : ℕ) (t : TextAt) (found : Shown)
+    → ShowsNote limits octets here region at from inner end id → ShowsValue limits octets here (Some end) depth inner behind found → end ≡ far_end here behind found
+    → texts (raw_id id) ≡ Some t.text.now → is_simple t.text.now ≡ true → t.place ≡ here + from → ShowsNoted texts limits octets here region depth at inner behind t found
+shows_simple texts limits octets here region depth at from inner behind end id t found n v full has simple place = record {
+  raw = symbol_id id (here + from);
+  named = rw (has, place) refl;
+  simple = simple;
+  item = shows_noted limits octets here region depth at from inner behind end id found n v full;
+}
+
 -- ---- a member, and where the reader stands behind it
 
 top-innermost : (frames : List Frame) (f : Option frame.Frame) (top place : ℕ) → IsInnermost frames f → top_of frames top place ≡ top_of (innermost f) top place
@@ -108,19 +119,19 @@ top-innermost _ _ top place at_top = refl
 top-innermost _ _ top place (inside f outer) = refl
 
 -- the step that a member gives that is shown, its octets being passed over
-pub step_shown : {I : Type 0} (device : InputOf I) (limits : Limits) (frames : List Frame) (f : Option frame.Frame) (top behind at : ℕ) (s t : Incoming I) (texts : ℕ → Option (List ℕ)) (field : Option TextAt)
+pub step_shown : {I : Type 0} (device : InputOf I) (limits : Limits) (frames : List Frame) (f : Option frame.Frame) (top behind at head : ℕ) (raws : List SymbolAt) (s t : Incoming I) (texts : ℕ → Option (List ℕ)) (field : Option TextAt)
     (found : Shown) → IsInnermost frames f → GoesOn f s.place → (name : ShowsField texts (lent s) s.place (innermost f) field at)
-    → ShowsValue limits (lent s) s.place (region_of (innermost f)) (length frames) at behind found → IsPassed s t behind
+    → ShowsItem limits (lent s) s.place (region_of (innermost f)) (length frames) at head behind raws found → IsPassed s t behind
     → step limits (record { frames = frames; top = top; cursor = cursor device s })
-    ≡ step_for frames (top_of (innermost f) top s.place) name.raw [] (s.place + at) (shown_value found) (cursor device t)
-step_shown device limits frames f top behind at s t texts field found inner goes_on name v passed =
+    ≡ step_for frames (top_of (innermost f) top s.place) name.raw raws (s.place + head) (shown_value found) (cursor device t)
+step_shown device limits frames f top behind at head raws s t texts field found inner goes_on name v passed =
     let more = drop (length (lent s)) (left device.rest s) in
     let shown = left-window device s in
     let further : skip behind (window s.place (lent s) more) ≡ cursor device t = ap (skip behind) (sym shown) ∙ sym (IsPassed-cursor device s t behind v.within passed) in
     ap (λ c. step limits (record { frames = frames; top = top; cursor = c })) shown
-    ∙ (member_shown limits frames f top s.place at behind texts (lent s) more field found inner goes_on name v
-    ∙ (ap (λ n. step_for frames n name.raw [] (s.place + at) (shown_value found) (skip behind (window s.place (lent s) more))) (top-innermost frames f top s.place inner)
-    ∙ ap (λ c. step_for frames (top_of (innermost f) top s.place) name.raw [] (s.place + at) (shown_value found) c) further))
+    ∙ (member_shown limits frames f top s.place at head behind raws texts (lent s) more field found inner goes_on name v
+    ∙ (ap (λ n. step_for frames n name.raw raws (s.place + head) (shown_value found) (skip behind (window s.place (lent s) more))) (top-innermost frames f top s.place inner)
+    ∙ ap (λ c. step_for frames (top_of (innermost f) top s.place) name.raw raws (s.place + head) (shown_value found) c) further))
 
 reverse-push : {X : Type 0} (xs : List X) (x : X) → reverse (xs ++ x ∷ []) ≡ x ∷ reverse xs
 reverse-push xs x = grind (arith, common_steps)
@@ -163,10 +174,10 @@ field_fits frames f field inner there = field-there field ∙ (there ∙ (sym (i
 -- ---- an item as the writer takes it
 
 -- the item that is shown, with the texts of its ids, is the plain one
-pub plain_seen : (texts : ℕ → Option (List ℕ)) (top place : ℕ) (raw : Option SymbolAt) (head : Head SymbolAt) (item : PlainItem)
-    → option_map (named_at texts) raw ≡ option_map placed_text item.field → item.annotation ≡ None → raw_head item.head ≡ map_head (named_at texts) head → item.place ≡ place → item.top ≡ top
-    → named_item texts (placed_item top raw [] place head) ≡ PlainItems.placed_item item
-plain_seen texts top place raw head item named none head_is at first = rw (named, none, head_is, at, first) refl
+pub plain_seen : (texts : ℕ → Option (List ℕ)) (top place : ℕ) (raw : Option SymbolAt) (raws : List SymbolAt) (head : Head SymbolAt) (item : PlainItem)
+    → option_map (named_at texts) raw ≡ option_map placed_text item.field → map (named_at texts) raws ≡ PlainItems.listed (option_map placed_text item.annotation) → raw_head item.head ≡ map_head (named_at texts) head → item.place ≡ place → item.top ≡ top
+    → named_item texts (placed_item top raw raws place head) ≡ PlainItems.placed_item item
+plain_seen texts top place raw raws head item named notes head_is at first = rw (named, notes, head_is, at, first) refl
 
 -- one item goes on, as the writer's contract has it
 pub hands_by : {W O A : Type 0} (w : WriterOf W O A) (see : PlacedItem → PlacedItem) (reads : Type 0) (coming then : Reading) (kinds kinds_then : List Kind) (pen pen_then : W) (from to : List ℕ) (values : ℕ)

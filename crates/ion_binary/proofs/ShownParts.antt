@@ -1,7 +1,7 @@
 -- What a window shows is what reading gives, whatever follows it.
 use Rattle.std.proofs.Common.{◌≡◌, ℕ, suc, ◌+◌, ◌*◌, ◌-◌, ◌%◌, ◌<◌, ◌≤◌, Bool, true, false, ◌&&◌, leb, ltb, List, [], ◌∷◌, ◌++◌, length, take, drop, get_or, Option, Some, None, Result, Ok, Err, refl, ap, sym, subst, ◌∙◌, arith, add-one}
-use Rattle.std.specs.Prelude.{IfSome}
-use Rattle.std.proofs.lemmas.Bool.{le-leb, le-ltb, lt-leb, lt-ltb}
+use Rattle.std.specs.Prelude.{IfSome, ◌||◌, nat_eq, nat_le, nat_lt, zero}
+use Rattle.std.proofs.lemmas.Bool.{agree_below_at, le-leb, le-ltb, lt-leb, lt-ltb, ne_eqb}
 use Rattle.std.proofs.lemmas.Grind.{common_steps}
 use Rattle.std.proofs.Math.ListN.{get_or-append}
 use Rattle.std.proofs.Math.Seq.{drop-cons}
@@ -16,18 +16,19 @@ use Rattle.ion_value.specs.Scalar.{scalar_of_body}
 use Rattle.ion_value.specs.Value as value
 use Rattle.ion_value.specs.Value.{Symbol, SymbolAt, Scalar}
 use Rattle.ion_value.specs.Reading.{Step}
-use Rattle.ion_binary.specs.Positions.{Frame, State}
-use Rattle.ion_binary.specs.Descriptor.{Region, Shape, null, bool, body, container, first_octet, is_at_end, octet_at, length_at, passes, shape_of, var_uint_at}
+use Rattle.ion_binary.specs.Positions.{Frame, State, symbol_id}
+use Rattle.ion_binary.specs.Descriptor.{Region, Shape, null, bool, nop_pad, wrapper, body, container, sorted, marker, float, illegal, first_octet, is_at_end, is_unwrappable, octet_at, length_at, passes, shape_of, var_uint_at}
 use Rattle.ion_binary.specs.Finds.{end_by, IsOfDescriptor}
 use Rattle.ion_binary.specs.Parts.{body_here, var_from}
-use Rattle.ion_binary.specs.Reading.{Around, TypedValue, a_scalar, a_container, bare_at, container_at, fits, read_by_descriptor, region_of, scalar_at, step_for, typed_value_at, value_at, wrapper_length}
-use Rattle.ion_binary.specs.Shown.{IsShown, Reaches, ShowsBegin, ShowsBody, ShowsLength, ShowsValue, ShowsVar, shown_scalar, shown_value, window}
+use Rattle.ion_binary.specs.Reading.{Around, TypedValue, a_scalar, a_container, bare_at, container_at, fits, ids_at, inner_at, read_by_descriptor, region_of, scalar_at, step_for, typed_value_at, value_at, wrapper_at, wrapper_length}
+use Rattle.ion_binary.specs.Shown.{Fills, IsShown, Reaches, ShowsBegin, ShowsBody, ShowsItem, ShowsLength, ShowsNote, ShowsValue, ShowsVar, far_end, shown_scalar, shown_value, window}
 use Rattle.ion_binary.specs.declared.shown.Shown.{Shown}
 use Rattle.ion_binary.specs.declared.shown.Shown.TheVariants as shown
 use Rattle.ion_binary.specs.declared.shown.ShownScalar.TheVariants as scalars
 use Rattle.ion_value.specs.declared.ion_type.IonType.{IonType}
 use Rattle.ion_binary.proofs.TypedValueCode.{container_at-begun, scalar_at-body, shape_of-is_of_descriptor}
-use Rattle.ion_binary.proofs.ValueParts.{value_at-plain}
+use Rattle.ion_binary.proofs.ValueParts.{annotated_at-wrapper, inner_at-octet, value_at-plain, value_at-wrapper}
+use Rattle.ion_binary.proofs.WrapperCode.{wrapper_at-tested}
 use Rattle.ion_binary.proofs.VarLoop.{var_from-ends, var_from-goes_on, var_uint_at-prefix}
 
 -- ---- octets
@@ -92,47 +93,104 @@ length_shown octets length_code at behind number is v = record {
   gives = λ here more r reaches. rw is (v.gives here more r reaches);
 }
 
+-- ---- one annotation
+
+passes-not : (r : Region) (place n : ℕ) → Reaches r (place + n) → passes r place n ≡ false
+passes-not None place n reaches = refl
+passes-not (Some end) place n reaches = le-ltb end (place + n) reaches
+
+no_more : (limits : Limits) (most end : ℕ) (d : Cursor) → end ≡ d.place → ids_at most limits end (0 + 1) d ≡ Ok ([], d)
+unfolding ids_at
+no_more limits zero end d last = refl
+no_more limits (suc most) end d last = let over : nat_le end d.place ≡ true = le-leb end d.place (omega arith) in rw over refl
+
+-- the ids of a wrapper that has one
+one_id : (limits : Limits) (most end id : ℕ) (c d : Cursor) → 0 < most → c.place < end → end ≡ d.place → var_uint_at (Some end) c ≡ Ok (id, d) → 16 ≤ limits.scalar
+    → ids_at most limits end 0 c ≡ Ok (symbol_id id c.place ∷ [], d)
+unfolding ids_at
+one_id limits zero end id c d some before last e few = absurd (omega arith)
+one_id limits (suc most) end id c d some before last e few =
+    let open_end : nat_le end c.place ≡ false = lt-leb end c.place before in
+    let within : nat_lt limits.scalar (16 * (0 + 1)) ≡ false = le-ltb limits.scalar (16 * (0 + 1)) (omega arith) in
+    rw (open_end, e, within, no_more limits most end d last) refl
+
 -- ---- values
 
--- a value behind its descriptor, by what that says
-value_shown : (limits : Limits) (octets more : List ℕ) (here : ℕ) (r : Region) (depth at : ℕ) (b : ℕ) (found : TypedValue) (c : Cursor) (frames : List Frame) (top : ℕ) (field : Option SymbolAt)
-    → region_of frames ≡ r → length frames ≡ depth → at < length octets → Reaches r (here + (at + 1)) → get_or octets at 0 ≡ b → wrapper_length (shape_of b) ≡ None
-    → read_by_descriptor limits (record { wrapped = false; region = r; depth = depth }) (shape_of b) (skip (at + 1) (window here octets more)) ≡ Ok (found, c)
-    → value_at limits frames top field (skip at (window here octets more)) ≡ Ok (step_for frames top field [] (here + at) found c)
-unfolding typed_value_at
-value_shown limits octets more here r depth at b found c frames top field e l h reaches is plain read =
-    let here_is = octet_shown octets more at here r h reaches ∙ ap (λ n. Ok (n, skip (at + 1) (window here octets more))) is in
-    value_at-plain limits frames top field (skip at (window here octets more)) (skip (at + 1) (window here octets more)) r depth b e l here_is plain ∙ rw read refl
+-- what begins a value, which a wrapper may hold
+abbrev begins_value : Shape → Bool
+begins_value (null type) = true
+begins_value (bool truth) = true
+begins_value (nop_pad length_code) = false
+begins_value (wrapper length_code) = false
+begins_value (body type_code length_code) = true
+begins_value (container kind length_code) = true
+begins_value sorted = false
+begins_value marker = false
+begins_value float = false
+begins_value illegal = false
 
-fits_shown : (r : Region) (depth place n : ℕ) → Reaches r (place + n) → fits (record { wrapped = false; region = r; depth = depth }) place n ≡ Ok tt
-fits_shown None depth place n reaches = refl
-fits_shown (Some end) depth place n reaches = let no : ltb end (place + n) ≡ false = le-ltb end (place + n) reaches in rw no refl
+wrappable : (b : ℕ) (s : Shape) → b < 256 → shape_of b ≡ s → begins_value s ≡ true → is_unwrappable b ≡ false
+unfolding shape_of
+wrappable b s small e begins =
+    let all : (begins_value (shape_of b) && is_unwrappable b) ≡ false = agree_below_at (λ x. begins_value (shape_of x) && is_unwrappable x) (λ x. false) 256 b refl small in
+    let this : (begins_value s && is_unwrappable b) ≡ false = ap (λ x. begins_value x && is_unwrappable b) (sym e) ∙ all in
+    ap (λ x. x && is_unwrappable b) (sym begins) ∙ this
+
+-- a part behind its descriptor, by what that says
+typed_shown : (limits : Limits) (w : Bool) (r : Region) (depth b : ℕ) (c : Cursor) {x : Result (TypedValue × Cursor) Reason} → is_unwrappable b ≡ false
+    → read_by_descriptor limits (record { wrapped = w; region = r; depth = depth }) (shape_of b) c ≡ x
+    → typed_value_at limits (record { wrapped = w; region = r; depth = depth }) b c ≡ x
+unfolding typed_value_at
+typed_shown limits false r depth b c e h = h
+typed_shown limits true r depth b c e h = rw e h
+
+fits_shown : (w : Bool) (r : Region) (depth place n : ℕ) → Reaches r (place + n) → Fills w r (place + n) → fits (record { wrapped = w; region = r; depth = depth }) place n ≡ Ok tt
+fits_shown false None depth place n reaches full = refl
+fits_shown false (Some end) depth place n reaches full = let no : ltb end (place + n) ≡ false = le-ltb end (place + n) reaches in rw no refl
+fits_shown true None depth place n reaches full = absurd full
+fits_shown true (Some end) depth place n reaches full =
+    let no : ltb end (place + n) ≡ false = le-ltb end (place + n) reaches in
+    let whole : ltb (place + n) end ≡ false = le-ltb (place + n) end (omega (arith, full)) in
+    rw (no, whole) refl
+
+bare_shown : (w : Bool) (r : Region) (depth : ℕ) (v : Scalar Symbol) (c : Cursor) → Fills w r c.place → bare_at (record { wrapped = w; region = r; depth = depth }) v c ≡ Ok (a_scalar v, c)
+unfolding bare_at
+bare_shown false r depth v c full = refl
+bare_shown true None depth v c full = absurd full
+bare_shown true (Some end) depth v c full = let whole : ltb (c.place + 0) end ≡ false = le-ltb (c.place + 0) end (omega (arith, full)) in rw whole refl
 
 -- what is read behind a descriptor is a value that is shown
 shows_by : (limits : Limits) (octets : List ℕ) (here : ℕ) (r : Region) (depth at behind : ℕ) (found : Shown) (b : ℕ)
-    → at < length octets → get_or octets at 0 ≡ b → wrapper_length (shape_of b) ≡ None → at + 1 ≤ behind → behind ≤ length octets → IsShown limits depth found → Reaches r (here + (at + 1))
-    → ((more : List ℕ) → read_by_descriptor limits (record { wrapped = false; region = r; depth = depth }) (shape_of b) (skip (at + 1) (window here octets more)) ≡ Ok (shown_value found, skip behind (window here octets more)))
+    → at < length octets → get_or octets at 0 ≡ b → wrapper_length (shape_of b) ≡ None → is_unwrappable b ≡ false → at + 1 ≤ behind → behind ≤ length octets → IsShown limits depth found
+    → Reaches r (here + (at + 1))
+    → ((w : Bool) (more : List ℕ) → Fills w r (far_end here behind found)
+    → read_by_descriptor limits (record { wrapped = w; region = r; depth = depth }) (shape_of b) (skip (at + 1) (window here octets more)) ≡ Ok (shown_value found, skip behind (window here octets more)))
     → ShowsValue limits octets here r depth at behind found
-shows_by limits octets here r depth at behind found b h is plain further within may reaches read = record {
+shows_by limits octets here r depth at behind found b h is plain free further within may reaches read = record {
   further = further;
   within = within;
   may_be = may;
   reaches = reaches;
-  gives = λ more frames top field e l. value_shown limits octets more here r depth at b (shown_value found) (skip behind (window here octets more)) frames top field e l h reaches is plain (read more);
+  octet = b;
+  first = λ more. octet_shown octets more at here r h reaches ∙ ap (λ n. Ok (n, skip (at + 1) (window here octets more))) is;
+  plain = plain;
+  gives = λ w more full. typed_shown limits w r depth b (skip (at + 1) (window here octets more)) free (read w more full);
 }
 
 -- a null or a bool
 pub shows_null : (limits : Limits) (octets : List ℕ) (here : ℕ) (r : Region) (depth at : ℕ) (type : IonType) (b : ℕ)
-    → at < length octets → get_or octets at 0 ≡ b → shape_of b ≡ null type → Reaches r (here + (at + 1)) → ShowsValue limits octets here r depth at (at + 1) (shown.Scalar (scalars.Null type))
-unfolding read_by_descriptor bare_at
-shows_null limits octets here r depth at type b h is shape reaches =
-    shows_by limits octets here r depth at (at + 1) (shown.Scalar (scalars.Null type)) b h is (ap wrapper_length shape) (omega arith) (omega arith) tt reaches (λ more. rw shape refl)
+    → at < length octets → b < 256 → get_or octets at 0 ≡ b → shape_of b ≡ null type → Reaches r (here + (at + 1)) → ShowsValue limits octets here r depth at (at + 1) (shown.Scalar (scalars.Null type))
+unfolding read_by_descriptor
+shows_null limits octets here r depth at type b h small is shape reaches =
+    shows_by limits octets here r depth at (at + 1) (shown.Scalar (scalars.Null type)) b h is (ap wrapper_length shape) (wrappable b (null type) small shape refl) (omega arith) (omega arith) tt reaches
+    (λ w more full. rw shape (bare_shown w r depth (value.null type) (skip (at + 1) (window here octets more)) full))
 
 pub shows_bool : (limits : Limits) (octets : List ℕ) (here : ℕ) (r : Region) (depth at : ℕ) (truth : Bool) (b : ℕ)
-    → at < length octets → get_or octets at 0 ≡ b → shape_of b ≡ bool truth → Reaches r (here + (at + 1)) → ShowsValue limits octets here r depth at (at + 1) (shown.Scalar (scalars.Bool truth))
-unfolding read_by_descriptor bare_at
-shows_bool limits octets here r depth at truth b h is shape reaches =
-    shows_by limits octets here r depth at (at + 1) (shown.Scalar (scalars.Bool truth)) b h is (ap wrapper_length shape) (omega arith) (omega arith) tt reaches (λ more. rw shape refl)
+    → at < length octets → b < 256 → get_or octets at 0 ≡ b → shape_of b ≡ bool truth → Reaches r (here + (at + 1)) → ShowsValue limits octets here r depth at (at + 1) (shown.Scalar (scalars.Bool truth))
+unfolding read_by_descriptor
+shows_bool limits octets here r depth at truth b h small is shape reaches =
+    shows_by limits octets here r depth at (at + 1) (shown.Scalar (scalars.Bool truth)) b h is (ap wrapper_length shape) (wrappable b (bool truth) small shape refl) (omega arith) (omega arith) tt reaches
+    (λ w more full. rw shape (bare_shown w r depth (value.bool truth) (skip (at + 1) (window here octets more)) full))
 
 -- the octets of a body, which are in the window
 body_octets : (octets more : List ℕ) (from n : ℕ) → from + n ≤ length octets → take n (drop from (octets ++ more)) ≡ take n (drop from octets)
@@ -156,39 +214,110 @@ skip-skip octets more here m n behind e =
 
 -- a scalar with a body
 pub shows_body : (limits : Limits) (octets : List ℕ) (here : ℕ) (r : Region) (depth at behind type_code length_code : ℕ) (found : Shown) (b : ℕ)
-    → at < length octets → get_or octets at 0 ≡ b → shape_of b ≡ body type_code length_code → ShowsBody limits octets here r type_code length_code at behind found
+    → at < length octets → b < 256 → get_or octets at 0 ≡ b → shape_of b ≡ body type_code length_code → ShowsBody limits octets here r type_code length_code at behind found
     → ShowsValue limits octets here r depth at behind found
 unfolding read_by_descriptor
-shows_body limits octets here r depth at behind type_code length_code found b h is shape s =
+shows_body limits octets here r depth at behind type_code length_code found b h small is shape s =
     let longer : at + 1 ≤ s.from = s.length_is.further in
     let near : Reaches r (here + (at + 1)) = reaches-less r (here + (at + 1)) (here + behind) (omega (arith, s.ends)) s.reaches in
     let header : Reaches r (here + s.from) = reaches-less r (here + s.from) (here + behind) (omega (arith, s.ends)) s.reaches in
     let whole : Reaches r (here + s.from + s.number) = reaches-less r (here + s.from + s.number) (here + behind) (omega (arith, s.ends)) s.reaches in
     let range : IsShown limits depth found = subst (λ f. IsShown limits depth f) (sym s.is) s.range in
-    shows_by limits octets here r depth at behind found b h is (ap wrapper_length shape) (omega (arith, s.ends)) s.within range near
-    (λ more. rw (shape, s.is)
-    (scalar_at-body limits (record { wrapped = false; region = r; depth = depth }) type_code length_code (skip (at + 1) (window here octets more)) s.number (skip s.from (window here octets more)) tt
-    (s.length_is.gives here more r header) (fits_shown r depth (here + s.from) s.number whole)
+    let far : here + behind ≡ here + s.from + s.number = omega (arith, s.ends) in
+    shows_by limits octets here r depth at behind found b h is (ap wrapper_length shape) (wrappable b (body type_code length_code) small shape refl) (omega (arith, s.ends)) s.within range near
+    (λ w more full. rw (shape, s.is)
+    (scalar_at-body limits (record { wrapped = w; region = r; depth = depth }) type_code length_code (skip (at + 1) (window here octets more)) s.number (skip s.from (window here octets more)) tt
+    (s.length_is.gives here more r header) (fits_shown w r depth (here + s.from) s.number whole (subst (λ n. Fills w r n) (ap (far_end here behind) s.is ∙ far) full))
     ∙ rw (body_shown limits octets more here s.from s.number type_code (shown_scalar s.scalar) (omega (arith, s.ends, s.within)) s.few s.meaning)
     (ap (λ c. Ok (a_scalar (shown_scalar s.scalar), c)) (skip-skip octets more here s.from s.number behind s.ends))))
 
 -- a container's beginning
-ends_shown : (limits : Limits) (r : Region) (depth place n : ℕ) → Reaches r (place + n) → depth < limits.depth → end_by limits (record { wrapped = false; region = r; depth = depth }) place n ≡ Ok (place + n)
-ends_shown limits r depth place n reaches deep = let no : leb limits.depth depth ≡ false = lt-leb limits.depth depth deep in rw (fits_shown r depth place n reaches, no) refl
+ends_shown : (limits : Limits) (w : Bool) (r : Region) (depth place n : ℕ) → Reaches r (place + n) → Fills w r (place + n) → depth < limits.depth
+    → end_by limits (record { wrapped = w; region = r; depth = depth }) place n ≡ Ok (place + n)
+ends_shown limits w r depth place n reaches full deep = let no : leb limits.depth depth ≡ false = lt-leb limits.depth depth deep in rw (fits_shown w r depth place n reaches full, no) refl
 
 pub shows_begin : (limits : Limits) (octets : List ℕ) (here : ℕ) (r : Region) (depth at behind length_code : ℕ) (kind : Kind) (found : Shown) (b : ℕ)
-    → at < length octets → get_or octets at 0 ≡ b → shape_of b ≡ container kind length_code → ShowsBegin limits octets here r depth kind length_code at behind found
+    → at < length octets → b < 256 → get_or octets at 0 ≡ b → shape_of b ≡ container kind length_code → ShowsBegin limits octets here r depth kind length_code at behind found
     → ShowsValue limits octets here r depth at behind found
 unfolding read_by_descriptor
-shows_begin limits octets here r depth at behind length_code kind found b h is shape s =
+shows_begin limits octets here r depth at behind length_code kind found b h small is shape s =
     let longer : at + 1 ≤ behind = s.length_is.further in
     let near : Reaches r (here + (at + 1)) = reaches-less r (here + (at + 1)) (here + behind + s.number) (omega arith) s.reaches in
     let header : Reaches r (here + behind) = reaches-less r (here + behind) (here + behind + s.number) (omega arith) s.reaches in
     let may : IsShown limits depth found = subst (λ f. IsShown limits depth f) (sym s.is) s.deep in
-    shows_by limits octets here r depth at behind found b h is (ap wrapper_length shape) longer s.length_is.within may near
-    (λ more. rw (shape, s.is)
-    (container_at-begun limits (record { wrapped = false; region = r; depth = depth }) kind length_code (skip (at + 1) (window here octets more)) s.number (skip behind (window here octets more))
-    (here + behind + s.number) (s.length_is.gives here more r header) (ends_shown limits r depth (here + behind) s.number s.reaches s.deep)))
+    shows_by limits octets here r depth at behind found b h is (ap wrapper_length shape) (wrappable b (container kind length_code) small shape refl) longer s.length_is.within may near
+    (λ w more full. rw (shape, s.is)
+    (container_at-begun limits (record { wrapped = w; region = r; depth = depth }) kind length_code (skip (at + 1) (window here octets more)) s.number (skip behind (window here octets more))
+    (here + behind + s.number) (s.length_is.gives here more r header)
+    (ends_shown limits w r depth (here + behind) s.number s.reaches (subst (λ n. Fills w r n) (ap (far_end here behind) s.is) full) s.deep)))
+
+-- ---- annotations
+
+-- the lengths of a wrapper, and its one id
+pub shows_note : (limits : Limits) (octets : List ℕ) (here : ℕ) (r : Region) (at behind from inner length_code count ids id b end : ℕ)
+    → at < length octets → get_or octets at 0 ≡ b → wrapper_length (shape_of b) ≡ Some length_code → ShowsLength octets length_code (at + 1) behind count → ShowsVar octets behind from ids
+    → ShowsVar octets from inner id → end ≡ here + behind + count → 16 ≤ limits.scalar → 3 ≤ count → from + ids ≡ inner → 0 < ids → here + inner < end → Reaches r end
+    → ShowsNote limits octets here r at from inner end id
+unfolding ids_at
+shows_note limits octets here r at behind from inner length_code count ids id b end h is wraps l v i e few long fills some room reaches =
+    let near : Reaches r (here + (at + 1)) = reaches-less r (here + (at + 1)) end (omega (arith, l.further, v.further)) reaches in
+    let header : Reaches r (here + behind) = reaches-less r (here + behind) end (omega (arith, v.further)) reaches in
+    record {
+      further = omega (arith, l.further, v.further);
+      starts = i.further;
+      within = i.within;
+      reaches = near;
+      octet = b;
+      length_code = length_code;
+      first = λ more. octet_shown octets more at here r h near ∙ ap (λ n. Ok (n, skip (at + 1) (window here octets more))) is;
+      is = wraps;
+      lengths = λ more.
+          let c = window here octets more in
+          let inside : Reaches (Some (here + behind + count)) (here + from) = omega arith in
+          let over : false ≡ passes r (here + behind) count = sym (passes-not r (here + behind) count (subst (λ n. Reaches r n) e reaches)) in
+          let short : nat_lt count 3 ≡ false = le-ltb count 3 long in
+          let none : nat_eq ids 0 ≡ false = ne_eqb ids 0 (λ e. omega (arith, e)) in
+          let last : nat_le (here + behind + count) (here + from + ids) ≡ false = lt-leb (here + behind + count) (here + from + ids) (omega arith) in
+          let bad : false ≡ (nat_lt count 3 || nat_eq ids 0 || nat_le (here + behind + count) (here + from + ids)) = rw (short, none, last) refl in
+          let where_ids : here + from + ids ≡ here + inner = omega arith in
+          wrapper_at-tested r length_code count ids (here + behind) (here + from) (skip (at + 1) c) (skip behind c) (skip from c) false false
+          (l.gives here more r header) refl (v.gives here more (Some (here + behind + count)) inside) refl over bad
+          ∙ ap (λ n. Ok (record { ids = n; end = here + behind + count }, skip from c)) where_ids
+          ∙ ap (λ n. Ok (record { ids = here + inner; end = n }, skip from c)) (sym e);
+      ids = λ more. one_id limits (here + inner) (here + inner) id (skip from (window here octets more)) (skip inner (window here octets more)) (omega arith) (omega arith) refl
+          (i.gives here more (Some (here + inner)) (omega arith)) few;
+    }
+
+-- a value with no annotation
+pub shows_plain : (limits : Limits) (octets : List ℕ) (here : ℕ) (r : Region) (depth at behind : ℕ) (found : Shown) → ShowsValue limits octets here r depth at behind found
+    → ShowsItem limits octets here r depth at at behind [] found
+shows_plain limits octets here r depth at behind found v = record {
+  further = v.further;
+  starts = omega (arith, v.further);
+  within = v.within;
+  may_be = v.may_be;
+  reaches = v.reaches;
+  gives = λ more frames top field e l.
+      value_at-plain limits frames top field (skip at (window here octets more)) (skip (at + 1) (window here octets more)) r depth v.octet e l (v.first more) v.plain ∙ rw (v.gives false more tt) refl;
+}
+
+-- a value that fills a wrapper
+pub shows_noted : (limits : Limits) (octets : List ℕ) (here : ℕ) (r : Region) (depth at from inner behind end id : ℕ) (found : Shown) → ShowsNote limits octets here r at from inner end id
+    → ShowsValue limits octets here (Some end) depth inner behind found → end ≡ far_end here behind found
+    → ShowsItem limits octets here r depth at inner behind (symbol_id id (here + from) ∷ []) found
+shows_noted limits octets here r depth at from inner behind end id found n v full = record {
+  further = omega (arith, n.further, v.further);
+  starts = omega (arith, v.further);
+  within = v.within;
+  may_be = v.may_be;
+  reaches = n.reaches;
+  gives = λ more frames top field e l.
+      let c = window here octets more in
+      value_at-wrapper limits frames top field (skip at c) (skip (at + 1) c) r n.octet n.length_code e (n.first more) n.is
+      ∙ (annotated_at-wrapper limits frames top field (here + at) n.length_code (skip (at + 1) c) (skip from c) r (record { ids = here + inner; end = end }) e (n.lengths more)
+      ∙ (ap (λ p. p >>= λ annotations. inner_at limits frames top field annotations.0 end annotations.1) (n.ids more)
+      ∙ (inner_at-octet limits frames top field (symbol_id id (here + from) ∷ []) end (skip inner c) (skip (inner + 1) c) depth v.octet l (v.first more) ∙ rw (v.gives true more full) refl)));
+}
 
 -- ---- what calls answer
 

@@ -1,11 +1,11 @@
 -- What a call that hands one item to a writer asks for, gives, keeps and moves.
-use Rattle.std.specs.Prelude.{◌≡◌, ℕ, ◌+◌, ◌-◌, ◌^◌, ◌<◌, ◌≤◌, List, length, map, Option, Some, None, option_map, is_some, Ok, ⊤}
+use Rattle.std.specs.Prelude.{◌≡◌, ℕ, ◌+◌, ◌*◌, ◌-◌, ◌^◌, ◌<◌, ◌≤◌, List, [], ◌∷◌, length, map, Option, Some, None, option_map, is_some, true, Ok, ⊤}
 use Rattle.ion_meter.specs.Counts.{Counts}
 use Rattle.ion_meter.specs.Windows.{Incoming, Outgoing, left}
 use Rattle.ion_meter.specs.Sources.{BytesAreLeft, Stands, skip}
 use Rattle.ion_meter.specs.declared.device.Input.{Ghosts as InputOf}
 use Rattle.ion_value.specs.declared.writer.ValueWriter.{Ghosts as WriterOf}
-use Rattle.ion_value.specs.Feeding.{CanTake, Hands, Joint, StaysWell}
+use Rattle.ion_value.specs.Feeding.{CanTake, Feeds, Hands, Joint, StaysWell}
 use Rattle.ion_value.specs.Outcome.{one_if_closed}
 use Rattle.ion_value.specs.Shares.{Charges}
 use Rattle.ion_value.specs.declared.plain_item.TextAt.{TextAt}
@@ -16,7 +16,11 @@ use Rattle.ion_value.specs.Value.{PlacedItem, SymbolAt}
 use Rattle.ion_binary.specs.declared.wrapper.Frame as frame
 use Rattle.ion_binary.specs.Positions.{Frame}
 use Rattle.ion_binary.specs.Reading.{field_at, region_of}
-use Rattle.ion_binary.specs.Shown.{Reaches, window}
+use Rattle.ion_value.specs.Name.{is_simple}
+use Rattle.ion_binary.specs.Shown.{Reaches, ShowsItem, window}
+use Rattle.ion_binary.specs.declared.shown.Shown.{Shown}
+use Rattle.ion_binary.specs.Descriptor.{Region}
+use Rattle.ion_meter.specs.declared.limits.Limits.{Limits}
 use Rattle.ion_binary.specs.declared.reader.BinReader.{BinReader}
 use Rattle.ion_binary.specs.Steps.{IsSized, held_by, left_to, opened_in, share_of, to_come_by}
 
@@ -59,6 +63,26 @@ pub record KeepsOn {I A W O : Type 0} (w : WriterOf W O A) (old new : BinReader 
   pub writer : StaysWell w pen then from to before after
   pub charges : Charges before after (held_by old + w.own pen) (held_by new + w.own then) (share_of old + w.most pen)
 
+-- items were handed on, one after the other, behind so many values: where the two stand then, what stays, and memory
+pub record HandsOn {I A W O : Type 0} (device : InputOf I) (w : WriterOf W O A) (see : PlacedItem → PlacedItem) (old new : BinReader I A) (pen then : W) (from to : Outgoing O) (before after : Counts) (had values : ℕ) : Type 0 where
+  pub sized : IsSized new
+  pub stands : Stands new.source
+  pub limits : new.limits ≡ old.limits
+  pub failed : new.failed ≡ old.failed
+  pub done : new.done ≡ old.done
+  pub same_device : new.source.device ≡ old.source.device
+  pub limit : new.source.limit ≡ old.source.limit
+  pub further : old.source.place ≤ new.source.place
+  pub total : new.source.place + length (left device.rest new.source) ≡ old.source.place + length (left device.rest old.source)
+  pub bytes_left : BytesAreLeft device new.source → BytesAreLeft device old.source
+  pub feeds : Feeds w see (device.observable old.source.device) (joint device old pen from had) (joint device new then to values)
+  pub takes : CanTake w new.limits.depth (opened_in new) then to
+  pub stays : StaysWell w pen then from to before after
+  pub goes : held_by new ≤ held_by old + 16 * (left_to old - left_to new)
+  pub grows : had ≤ values
+  pub falls : values + left_to new ≤ had + left_to old
+  pub charges : Charges before after (held_by old + w.own pen) (held_by new + w.own then) (share_of old + w.most pen)
+
 -- octets show what stands before a member: its field's name, which its id has, and how many octets the id has; or nothing outside structs
 pub record ShowsField (texts : ℕ → Option (List ℕ)) (octets : List ℕ) (here : ℕ) (frames : List Frame) (field : Option TextAt) (behind : ℕ) : Type 0 where
   pub raw : Option SymbolAt
@@ -67,6 +91,13 @@ pub record ShowsField (texts : ℕ → Option (List ℕ)) (octets : List ℕ) (h
   pub simple : HasSimpleName (option_map placed_text field)
   pub there : is_some field ≡ in_struct (map (λ f. f.kind) frames)
   pub gives : (more : List ℕ) → Reaches (region_of frames) (here + behind) → field_at frames (window here octets more) ≡ Ok (raw, skip behind (window here octets more))
+
+-- octets show what stands behind a field: a value in a wrapper with one annotation, whose id has a simple text
+pub record ShowsNoted (texts : ℕ → Option (List ℕ)) (limits : Limits) (octets : List ℕ) (here : ℕ) (region : Region) (depth at head behind : ℕ) (annotation : TextAt) (found : Shown) : Type 0 where
+  pub raw : SymbolAt
+  pub named : named_at texts raw ≡ placed_text annotation
+  pub simple : is_simple annotation.text.now ≡ true
+  pub item : ShowsItem limits octets here region depth at head behind (raw ∷ []) found
 
 -- the innermost container does not end here
 abbrev pub GoesOn : Option frame.Frame → ℕ → Type 0

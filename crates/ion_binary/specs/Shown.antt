@@ -1,5 +1,5 @@
 -- What a window shows of an item that lies whole in it.
-use Rattle.std.specs.Prelude.{◌≡◌, ℕ, ◌+◌, ◌<◌, ◌≤◌, List, [], ◌++◌, length, take, drop, Option, Some, None, Result, Ok, Err, ⊤}
+use Rattle.std.specs.Prelude.{◌≡◌, ℕ, ◌+◌, ◌<◌, ◌≤◌, Bool, true, false, List, [], ◌∷◌, ◌++◌, length, take, drop, Option, Some, None, Result, Ok, Err, ⊤}
 use Rattle.ion_meter.specs.Sources.{Cursor, skip}
 use Rattle.ion_meter.specs.declared.limits.Limits.{Limits}
 use Rattle.ion_value.specs.declared.ion_type.Kind.{Kind}
@@ -11,9 +11,9 @@ use Rattle.ion_binary.specs.declared.shown.ShownScalar.{ShownScalar}
 use Rattle.ion_binary.specs.declared.shown.ShownScalar.TheVariants as scalars
 use Rattle.ion_binary.specs.declared.shown.Shown.{Shown}
 use Rattle.ion_binary.specs.declared.shown.Shown.TheVariants as shown
-use Rattle.ion_binary.specs.Positions.{Frame}
-use Rattle.ion_binary.specs.Descriptor.{Region, length_at, var_uint_at}
-use Rattle.ion_binary.specs.Reading.{TypedValue, a_scalar, a_container, region_of, step_for, value_at}
+use Rattle.ion_binary.specs.Positions.{Frame, symbol_id}
+use Rattle.ion_binary.specs.Descriptor.{Region, length_at, octet_at, shape_of, var_uint_at}
+use Rattle.ion_binary.specs.Reading.{TypedValue, a_scalar, a_container, ids_at, region_of, step_for, typed_value_at, value_at, wrapper_at, wrapper_length}
 
 -- the cursor at a place of the stream, where these octets are in the window, and more may come
 abbrev pub window : ℕ → List ℕ → List ℕ → Cursor
@@ -80,12 +80,52 @@ pub record ShowsBegin (limits : Limits) (octets : List ℕ) (here : ℕ) (region
   pub deep : depth < limits.depth
   pub reaches : Reaches region (here + behind + number)
 
--- and of a value behind its field
+-- the place where what is shown ends, a container with its members
+abbrev pub far_end : ℕ → ℕ → Shown → ℕ
+far_end here behind (shown.Scalar scalar) = here + behind
+far_end here behind (shown.Begin kind end) = end
+
+-- what is in a wrapper fills it
+abbrev pub Fills : Bool → Region → ℕ → Type 0
+Fills false region place = ⊤
+Fills true None place = ⊥
+Fills true (Some end) place = end ≡ place
+
+-- a descriptor at a place, and the part behind it, in a wrapper or not
 pub record ShowsValue (limits : Limits) (octets : List ℕ) (here : ℕ) (region : Region) (depth at behind : ℕ) (found : Shown) : Type 0 where
   pub further : at + 1 ≤ behind
   pub within : behind ≤ length octets
   pub may_be : IsShown limits depth found
   pub reaches : Reaches region (here + (at + 1))
+  pub octet : ℕ
+  pub first : (more : List ℕ) → octet_at region (skip at (window here octets more)) ≡ Ok (octet, skip (at + 1) (window here octets more))
+  pub plain : wrapper_length (shape_of octet) ≡ None
+  pub gives : (wrapped : Bool) (more : List ℕ) → Fills wrapped region (far_end here behind found)
+      → typed_value_at limits (record { wrapped = wrapped; region = region; depth = depth }) octet (skip (at + 1) (window here octets more))
+      ≡ Ok (shown_value found, skip behind (window here octets more))
+
+-- the lengths of a wrapper at a place, and its one annotation: the place of that, where the value begins, and where the wrapper ends
+pub record ShowsNote (limits : Limits) (octets : List ℕ) (here : ℕ) (region : Region) (at from inner end id : ℕ) : Type 0 where
+  pub further : at + 1 ≤ inner
+  pub starts : from ≤ inner
+  pub within : inner ≤ length octets
+  pub reaches : Reaches region (here + (at + 1))
+  pub octet : ℕ
+  pub length_code : ℕ
+  pub first : (more : List ℕ) → octet_at region (skip at (window here octets more)) ≡ Ok (octet, skip (at + 1) (window here octets more))
+  pub is : wrapper_length (shape_of octet) ≡ Some length_code
+  pub lengths : (more : List ℕ) → wrapper_at region length_code (skip (at + 1) (window here octets more))
+      ≡ Ok (record { ids = here + inner; end = end }, skip from (window here octets more))
+  pub ids : (more : List ℕ) → ids_at (here + inner) limits (here + inner) 0 (skip from (window here octets more))
+      ≡ Ok (symbol_id id (here + from) ∷ [], skip inner (window here octets more))
+
+-- what stands behind a field: a value with these annotations, whose head is at a place
+pub record ShowsItem (limits : Limits) (octets : List ℕ) (here : ℕ) (region : Region) (depth at head behind : ℕ) (annotations : List SymbolAt) (found : Shown) : Type 0 where
+  pub further : at + 1 ≤ behind
+  pub starts : head ≤ behind
+  pub within : behind ≤ length octets
+  pub may_be : IsShown limits depth found
+  pub reaches : Reaches region (here + (at + 1))
   pub gives : (more : List ℕ) (frames : List Frame) (top : ℕ) (field : Option SymbolAt) → region_of frames ≡ region → length frames ≡ depth
       → value_at limits frames top field (skip at (window here octets more))
-      ≡ Ok (step_for frames top field [] (here + at) (shown_value found) (skip behind (window here octets more)))
+      ≡ Ok (step_for frames top field annotations (here + head) (shown_value found) (skip behind (window here octets more)))

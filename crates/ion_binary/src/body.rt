@@ -1,5 +1,5 @@
 //! Bodies of scalars (binary encoding, "Typed Value Formats").
-ghost use Rattle.std.specs.Prelude.{◌≡◌, ◌*◌, ◌≢◌, ◌+◌, ◌-◌, ◌^◌, ◌<◌, ◌≤◌, ℕ, List, length, take, Ok, Err, true, false, OnOk, MatchResult, IsTrue, ◌↔◌, IsUtf8};
+ghost use Rattle.std.specs.Prelude.{◌≡◌, ◌*◌, ◌≢◌, ◌+◌, ◌-◌, ◌^◌, ◌<◌, ◌≤◌, ℕ, List, length, take, Ok, Err, true, false, OnOk, MatchResult, IsTrue, ◌↔◌, IsAscii, IsUtf8};
 ghost use Rattle.ion_meter.specs.Windows.{left, lent};
 ghost use Rattle.ion_value.specs.Number.{uint};
 ghost use Rattle.ion_value.specs.Name.{raw_id};
@@ -96,7 +96,26 @@ fn number(type_code: u8, octets: &[u8], body: &mut Body) -> Result<(), Reason>
 pub(crate) fn is_text(octets: &[u8]) -> bool
     ensures { IsTrue result ↔ IsUtf8 octets.now }
 {
-    simdutf8::basic::from_utf8(octets).is_ok()
+    is_short_ascii(octets) || simdutf8::basic::from_utf8(octets).is_ok()
+}
+
+// The most octets of a text that are looked at one after the other; `simdutf8` is faster on more.
+const SHORT: usize = 32;
+
+// Whether octets are few, and each of them is ASCII.
+#[inline(always)]
+fn is_short_ascii(octets: &[u8]) -> bool
+    ensures { result ≡ true → IsAscii octets.now }
+{
+    if octets.len() > SHORT {
+        return false;
+    }
+    'octets: for octet in octets {
+        if *octet >= 128 {
+            return false;
+        }
+    }
+    true
 }
 
 // A string or a lob of these octets.

@@ -2,19 +2,21 @@
 //! or rare, it shows nothing, and the item is read by `value`.
 ghost use Rattle.std.specs.Prelude.{◌≡◌, ◌+◌, ◌-◌, ◌*◌, ◌^◌, ◌<◌, ◌≤◌, length, Ok, true, IfSome};
 ghost use Rattle.ion_value.specs.Int.{int_of_bytes};
+ghost use Rattle.ion_value.specs.Number.{uint};
 ghost use Rattle.ion_value.specs.Scalar.{scalar_of_body, with_value};
 ghost use Rattle.ion_value.specs.Decimal.{decimal_of_bytes};
 ghost use Rattle.ion_value.specs.Timestamp.{timestamp_of_bytes};
 ghost use Rattle.ion_value.specs.Value.{decimal, int, timestamp};
 ghost use Rattle.ion_value.specs.Standing.{InRange};
 ghost use Rattle.ion_binary.specs.Bodies.{IsBodyTypeCode};
-ghost use Rattle.ion_binary.specs.Shown.{Reaches, ShowsBegin, ShowsBody, ShowsLength, ShowsValue, ShowsVar, shown_scalar};
+ghost use Rattle.ion_binary.specs.Shown.{Reaches, ShowsBegin, ShowsBody, ShowsLength, ShowsNote, ShowsValue, ShowsVar, shown_scalar};
 
 use crate::body::{is_text, uint_id};
 use crate::descriptor::Shape;
+use crate::value::wrapper_length_code;
 use ion_meter::limits::Limits;
 use ion_value::decimal::{Decimal, decimal_from_bytes};
-use ion_value::int::{Int, int_from_bytes};
+use ion_value::int::Int;
 use ion_value::ion_type::{IonType, Kind};
 use ion_value::timestamp::{Timestamp, timestamp_from_bytes};
 
@@ -44,6 +46,19 @@ pub(crate) enum Shown<'a> {
     Scalar(ShownScalar<'a>),
     /// A container's beginning, and the place of its end.
     Begin(Kind, u64),
+}
+
+/// An annotation wrapper that is shown, with one annotation.
+#[derive(Clone, Copy)]
+pub(crate) struct ShownNote {
+    /// The number that its id spells.
+    pub(crate) id: u64,
+    /// Where its id stands among the octets.
+    pub(crate) from: usize,
+    /// Where its value stands among them.
+    pub(crate) inner: usize,
+    /// The place of its end in the stream.
+    pub(crate) end: u64,
 }
 
 /// The number that a VarUInt of one octet or two spells from a place of these octets on, and the place
@@ -123,10 +138,27 @@ fn shown_int(negative: bool, octets: &[u8]) -> Option<ShownScalar<'_>>
     if octets.len() > 8 {
         return None;
     }
-    match int_from_bytes(negative, octets) {
-        Ok(int) => Some(ShownScalar::Int(int)),
-        Err(_) => None,
+    let value = few_value(octets);
+    if negative && value == 0 {
+        return None;
     }
+    Some(ShownScalar::Int(Int {
+        negative,
+        magnitude: value as u128,
+    }))
+}
+
+// The number that these octets spell, which are so few that 64 bits hold it.
+#[inline(always)]
+fn few_value(octets: &[u8]) -> u64
+    requires { length octets.now ≤ 8 }
+    ensures { result ≡ uint octets.now }
+{
+    let mut value: u64 = 0;
+    for octet in octets {
+        value = value * 256 + *octet as u64;
+    }
+    value
 }
 
 // A decimal of these octets.
@@ -267,4 +299,49 @@ fn shown_begin<'a>(
         return None;
     }
     Some((Shown::Begin(kind, end), behind))
+}
+
+/// The annotation wrapper whose descriptor stands at a place of these octets, of which the first stands
+/// at `here` in the stream, where it has one annotation.
+#[inline(always)]
+pub(crate) fn shown_note(
+    octets: &[u8],
+    here: u64,
+    at: usize,
+    region: Option<u64>,
+    limits: Limits,
+) -> Option<ShownNote>
+    requires small { here + length octets.now < 2 ^ 63 }
+    requires within { at < length octets.now }
+    ensures { IfSome result (λ n. ShowsNote limits octets.entry.now here region
+        at n.from n.inner n.end n.id) }
+{
+    let Some(length_code) = wrapper_length_code(octets[at]) else {
+        return None;
+    };
+    let Some((count, behind)) = shown_length(octets, at + 1, length_code) else {
+        return None;
+    };
+    let Some((ids, from)) = shown_var(octets, behind) else {
+        return None;
+    };
+    let Some((id, inner)) = shown_var(octets, from) else {
+        return None;
+    };
+    let end = here + behind as u64 + count;
+    if limits.scalar < 16
+        || count < 3
+        || ids == 0
+        || from as u64 + ids != inner as u64
+        || end <= here + inner as u64
+        || !reaches(region, end)
+    {
+        return None;
+    }
+    Some(ShownNote {
+        id,
+        from,
+        inner,
+        end,
+    })
 }

@@ -29,9 +29,9 @@ use ion_meter::stack::Stack;
 use ion_value::item::Annotation;
 use std::alloc::Allocator;
 
-// The length of the wrapper that a descriptor octet begins, in its low four bits.
+/// The length of the wrapper that a descriptor octet begins, in its low four bits.
 #[inline]
-fn wrapper_length_code(octet: u8) -> Option<u8>
+pub(crate) fn wrapper_length_code(octet: u8) -> Option<u8>
     ensures is { result ≡ wrapper_length (shape_of octet) }
     ensures length_code { IfSome result (λ length_code. length_code < 15) }
 {

@@ -1,10 +1,11 @@
 -- Slots that are kept as texts and parts.
-use Rattle.std.proofs.Common.{◌≡◌, ℕ, zero, suc, ◌+◌, ◌-◌, ◌*◌, ◌<◌, ◌≤◌, Bool, true, false, if◌then◌else◌, List, [], ◌∷◌, ◌++◌, length, take, drop, slice_index_or, Option, Some, None, refl, ap, sym, subst, ◌∙◌, arith, length-take, length-drop, length-append}
-use Rattle.std.proofs.lemmas.List.{drop-append-le, take-append-le}
+use Rattle.std.proofs.Common.{◌≡◌, ℕ, zero, suc, ◌+◌, ◌-◌, ◌*◌, ◌<◌, ◌≤◌, Bool, true, false, if◌then◌else◌, List, [], ◌∷◌, ◌++◌, length, map, take, drop, slice_get, slice_index_or, Option, Some, None, refl, ap, sym, subst, ◌∙◌, arith, length-take, length-drop, length-append}
+use Rattle.std.proofs.lemmas.List.{drop-append-le, map-append, take-append-le}
 use Rattle.std.proofs.lemmas.Bool.{false≢true}
 use Rattle.std.proofs.Math.Seq.{drop-append_seam, take-length}
+use Rattle.ion_value.specs.Name.{is_simple}
 use Rattle.ion_symbols.specs.Table.{slots_cost, text_length}
-use Rattle.ion_symbols.specs.Kept.{kept_slot, kept_slots, Tiles}
+use Rattle.ion_symbols.specs.Kept.{kept_slot, kept_slots, has_simple, AreMarked, Tiles}
 use Rattle.ion_symbols.specs.declared.slots.Part.{Part}
 
 pub tiles_within : (from : ℕ) (ps : List Part) (len : ℕ) → Tiles from ps len → from ≤ len
@@ -64,9 +65,9 @@ last_part texts t =
     ap (take ((length texts + length t) - length texts)) (drop-append_seam texts t) ∙ (ap (λ k. take k t) n ∙ take-length t)
 
 -- a slot with a text more
-pub kept_push : (texts t : List ℕ) (ps : List Part) → Tiles 0 ps (length texts) → kept_slots (texts ++ t) (ps ++ record { from = length texts; to = length texts + length t; known = true } ∷ []) ≡ kept_slots texts ps ++ Some t ∷ []
-kept_push texts t ps h =
-    kept_append (texts ++ t) ps (record { from = length texts; to = length texts + length t; known = true } ∷ [])
+pub kept_push : (texts t : List ℕ) (ps : List Part) (m : Bool) → Tiles 0 ps (length texts) → kept_slots (texts ++ t) (ps ++ record { from = length texts; to = length texts + length t; known = true; simple = m } ∷ []) ≡ kept_slots texts ps ++ Some t ∷ []
+kept_push texts t ps m h =
+    kept_append (texts ++ t) ps (record { from = length texts; to = length texts + length t; known = true; simple = m } ∷ [])
     ∙ (let a = kept_more texts t 0 ps (length texts) h (omega arith) in let b = last_part texts t in cc)
 
 pub cost_append : (xs ys : List (Option (List ℕ))) → slots_cost (xs ++ ys) ≡ slots_cost xs + slots_cost ys
@@ -82,15 +83,55 @@ kept_count texts [] = refl
 kept_count texts (p ∷ ps) = ap suc (kept_count texts ps)
 
 -- what a push of a text leaves: the parts tile the longer texts, and there is one slot more
-pub pushed_tiles : (texts t texts2 : List ℕ) (ps ps2 : List Part) (from : ℕ) → Tiles 0 ps (length texts) → from ≡ length texts → ps2 ≡ ps ++ record { from = from; to = from + length t; known = true } ∷ [] → texts2 ≡ texts ++ t → Tiles 0 ps2 (length texts2)
-pushed_tiles texts t texts2 ps ps2 from h f p q =
+pub pushed_tiles : (texts t texts2 : List ℕ) (ps ps2 : List Part) (from : ℕ) (m : Bool) → Tiles 0 ps (length texts) → from ≡ length texts → ps2 ≡ ps ++ record { from = from; to = from + length t; known = true; simple = m } ∷ [] → texts2 ≡ texts ++ t → Tiles 0 ps2 (length texts2)
+pushed_tiles texts t texts2 ps ps2 from m h f p q =
     let n : from + length t ≡ length texts2 = sym (ap length q ∙ (length-append texts t ∙ ap (λ k. k + length t) (sym f))) in
     subst (λ k. Tiles 0 ps2 k) n
     (subst (λ xs. Tiles 0 xs (from + length t)) (sym p)
-    (tiles_push 0 ps (length texts) (record { from = from; to = from + length t; known = true }) h f (omega (arith, f)) (λ u. absurd (no u))))
+    (tiles_push 0 ps (length texts) (record { from = from; to = from + length t; known = true; simple = m }) h f (omega (arith, f)) (λ u. absurd (no u))))
   where
     no : true ≡ false → ⊥
     no e = false≢true (sym e)
 
-pub pushed_kept : (texts t texts2 : List ℕ) (ps ps2 : List Part) (from : ℕ) → Tiles 0 ps (length texts) → from ≡ length texts → ps2 ≡ ps ++ record { from = from; to = from + length t; known = true } ∷ [] → texts2 ≡ texts ++ t → kept_slots texts2 ps2 ≡ kept_slots texts ps ++ Some t ∷ []
-pushed_kept texts t texts2 ps ps2 from h f p q = let k = kept_push texts t ps h in rw (p, q, f) k
+pub pushed_kept : (texts t texts2 : List ℕ) (ps ps2 : List Part) (from : ℕ) (m : Bool) → Tiles 0 ps (length texts) → from ≡ length texts → ps2 ≡ ps ++ record { from = from; to = from + length t; known = true; simple = m } ∷ [] → texts2 ≡ texts ++ t → kept_slots texts2 ps2 ≡ kept_slots texts ps ++ Some t ∷ []
+pushed_kept texts t texts2 ps ps2 from m h f p q = let k = kept_push texts t ps m h in rw (p, q, f) k
+
+-- a slot without one more
+pub kept_push_none : (texts : List ℕ) (ps ps2 : List Part) (from : ℕ) → ps2 ≡ ps ++ record { from = from; to = from; known = false; simple = false } ∷ [] → kept_slots texts ps2 ≡ kept_slots texts ps ++ None ∷ []
+kept_push_none texts ps ps2 from e = ap (kept_slots texts) e ∙ kept_append texts ps (record { from = from; to = from; known = false; simple = false } ∷ [])
+
+-- ---- which slots have a simple text
+
+-- slots more, of which it is known too
+pub marked_append : (texts1 texts2 texts : List ℕ) (ps qs ns : List Part) → AreMarked texts1 ps → AreMarked texts2 qs
+    → map (λ (p : Part). p.simple) ns ≡ map (λ (p : Part). p.simple) ps ++ map (λ (p : Part). p.simple) qs
+    → kept_slots texts ns ≡ kept_slots texts1 ps ++ kept_slots texts2 qs → AreMarked texts ns
+marked_append texts1 texts2 texts ps qs ns h k e f =
+    e
+    ∙ (ap (λ (l : List Bool). l ++ map (λ (p : Part). p.simple) qs) h
+    ∙ (ap (λ (l : List Bool). map has_simple (kept_slots texts1 ps) ++ l) k
+    ∙ (sym (map-append has_simple (kept_slots texts1 ps) (kept_slots texts2 qs)) ∙ ap (map has_simple) (sym f))))
+
+-- a slot more
+pub marked_push : (texts1 texts : List ℕ) (ps ns : List Part) (p : Part) (slot : Option (List ℕ)) → AreMarked texts1 ps → ns ≡ ps ++ p ∷ []
+    → kept_slots texts ns ≡ kept_slots texts1 ps ++ slot ∷ [] → p.simple ≡ has_simple slot → AreMarked texts ns
+marked_push texts1 texts ps ns p slot h e f m =
+    ap (map (λ (q : Part). q.simple)) e
+    ∙ (map-append (λ (q : Part). q.simple) ps (p ∷ [])
+    ∙ (ap (λ (l : List Bool). l ++ p.simple ∷ []) h
+    ∙ (ap (λ (b : Bool). map has_simple (kept_slots texts1 ps) ++ b ∷ []) m
+    ∙ (sym (map-append has_simple (kept_slots texts1 ps) (slot ∷ [])) ∙ ap (map has_simple) (sym f)))))
+
+simple_known : (slot : Option (List ℕ)) (k : Bool) (text : List ℕ) → slot ≡ (if k then Some text else None) → true ≡ has_simple slot → (slot ≡ Some text) × (is_simple text ≡ true)
+simple_known slot true text e m = (e, sym (m ∙ ap has_simple e))
+simple_known slot false text e m = absurd (false≢true (sym (m ∙ ap has_simple e)))
+
+-- the slot of a part that says so
+pub marked_at : (texts : List ℕ) (ps : List Part) (i : ℕ) (d : Part) → AreMarked texts ps → i < length ps → (slice_index_or ps i d).simple ≡ true
+    → (slice_get (kept_slots texts ps) i ≡ Some (Some (take ((slice_index_or ps i d).to - (slice_index_or ps i d).from) (drop (slice_index_or ps i d).from texts))))
+    × (is_simple (take ((slice_index_or ps i d).to - (slice_index_or ps i d).from) (drop (slice_index_or ps i d).from texts)) ≡ true)
+marked_at texts [] i d h k m = absurd (omega (arith, k))
+marked_at texts (p ∷ ps) zero d h k m =
+    let e = simple_known (kept_slot texts p) p.known (take (p.to - p.from) (drop p.from texts)) refl (sym m ∙ ap (λ (l : List Bool). slice_index_or l 0 false) h) in
+    (ap Some e.0, e.1)
+marked_at texts (p ∷ ps) (suc i) d h k m = marked_at texts ps i d (ap (λ (l : List Bool). drop 1 l) h) (omega (arith, k)) m

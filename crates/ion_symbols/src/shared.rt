@@ -1,8 +1,9 @@
 //! Shared tables.
-ghost use Rattle.std.specs.Prelude.{◌≡◌, ℕ, ◌+◌, ◌-◌, ◌*◌, ◌^◌, ◌<◌, ◌≤◌, ◌++◌, ◌∷◌, [], Some, None, length, max, option_map, slice_get, OnOk, OnErr, IfOk, IfErr, MatchOption};
+ghost use Rattle.std.specs.Prelude.{◌≡◌, ℕ, ◌+◌, ◌-◌, ◌*◌, ◌^◌, ◌<◌, ◌≤◌, ◌++◌, ◌∷◌, [], Some, None, length, max, option_map, slice_get, true, OnOk, OnErr, IfOk, IfErr, IfSome, MatchOption};
 ghost use Rattle.ion_meter.specs.declared.fault.Fault.TheVariants.{Memory};
 ghost use Rattle.ion_meter.specs.Counts.{Grows, Shrinks};
 ghost use Rattle.ion_value.specs.Items.{is_none_left};
+ghost use Rattle.ion_value.specs.Name.{is_simple};
 ghost use Rattle.ion_symbols.specs.Table.{shared_cost, text_length};
 ghost use Rattle.ion_symbols.specs.Kept.{IsUndone, Renames, text_in};
 ghost use Rattle.ion_symbols.specs.CatalogItems.{blank};
@@ -197,6 +198,18 @@ impl<A: Allocator + Copy> SharedTable<A> {
     {
         if place < self.slots.len() {
             self.slots.get(place)
+        } else {
+            None
+        }
+    }
+
+    /// The text of the slot at a place, counted from 0, if it has one that is simple.
+    pub(crate) fn simple(&self, place: usize) -> Option<&[u8]>
+        ensures text { IfSome result (λ t. slice_get self.now.slots place ≡ Some (Some t.now)) }
+        ensures simple { IfSome result (λ t. is_simple t.now ≡ true) }
+    {
+        if place < self.slots.len() {
+            self.slots.simple(place)
         } else {
             None
         }

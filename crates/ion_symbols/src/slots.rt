@@ -1,7 +1,8 @@
 //! Slots of symbol tables.
-ghost use Rattle.std.specs.Prelude.{◌≡◌, ℕ, ◌+◌, ◌-◌, ◌*◌, ◌^◌, ◌<◌, ◌≤◌, ◌++◌, ◌∷◌, [], Some, None, length, take, drop, map, slice_get, OnOk, OnErr, IfErr, MatchOption};
+ghost use Rattle.std.specs.Prelude.{◌≡◌, ℕ, ◌+◌, ◌-◌, ◌*◌, ◌^◌, ◌<◌, ◌≤◌, ◌++◌, ◌∷◌, [], Some, None, length, take, drop, map, slice_get, true, OnOk, OnErr, IfErr, IfSome, MatchOption};
 ghost use Rattle.ion_meter.specs.declared.fault.Fault.TheVariants.{Memory};
 ghost use Rattle.ion_meter.specs.Counts.{Grows, Shrinks};
+ghost use Rattle.ion_value.specs.Name.{is_simple};
 ghost use Rattle.ion_symbols.specs.Table.{slots_cost};
 ghost use Rattle.ion_symbols.specs.Kept.{CanGrow, IsUndone, Tiles, moved};
 
@@ -9,6 +10,7 @@ use ion_meter::buf::Buf;
 use ion_meter::fault::Fault;
 use ion_meter::meter::Meter;
 use ion_meter::stack::Stack;
+use ion_value::name::is_simple;
 use std::alloc::Allocator;
 use std::marker::Model;
 
@@ -24,6 +26,8 @@ pub(crate) struct Part {
     pub(crate) to: usize,
     /// Whether it has a text.
     pub(crate) known: bool,
+    /// Whether it has one that is simple.
+    pub(crate) simple: bool,
 }
 
 /// Slots in order, at a cost of 16 each and the length of its text. A clause sees the list of them, a
@@ -37,13 +41,13 @@ pub(crate) struct Slots<A: Allocator + Copy> {
 impl<A: Allocator + Copy> Model for Slots<A> {
     ghost use Rattle.std.specs.Prelude.{length};
     ghost use Rattle.ion_symbols.specs.Table as tables;
-    ghost use Rattle.ion_symbols.specs.Kept.{kept_slots, Tiles};
+    ghost use Rattle.ion_symbols.specs.Kept.{kept_slots, AreMarked, Tiles};
 
     ghost Value = { tables.Slots };
 
     ghost view = { λ s. kept_slots s.texts s.parts };
 
-    ghost invariant = { λ s. Tiles 0 s.parts (length s.texts) };
+    ghost invariant = { λ s. Tiles 0 s.parts (length s.texts) × AreMarked s.texts s.parts };
 }
 
 impl<A: Allocator + Copy> Slots<A> {
@@ -87,6 +91,21 @@ impl<A: Allocator + Copy> Slots<A> {
         }
     }
 
+    /// The text of the slot at a place, if it has one that is simple.
+    #[inline(always)]
+    pub(crate) fn simple(&self, i: usize) -> Option<&[u8]>
+        requires { i < length self.now }
+        ensures text { IfSome result (λ t. slice_get self.now i ≡ Some (Some t.now)) }
+        ensures simple { IfSome result (λ t. is_simple t.now ≡ true) }
+    {
+        let part = self.parts.as_slice()[i];
+        if part.simple {
+            Some(between(self.texts.as_slice(), part.from, part.to))
+        } else {
+            None
+        }
+    }
+
     /// Adds a slot with a text.
     pub(crate) fn push_text(&mut self, meter: &mut Meter<A>, text: &[u8]) -> Result<(), Fault>
         requires can_grow { CanGrow (16 + length text.now) meter.old }
@@ -105,6 +124,7 @@ impl<A: Allocator + Copy> Slots<A> {
                 from,
                 to,
                 known: true,
+                simple: is_simple(text),
             },
         ) {
             return Err(failed.1);
@@ -132,6 +152,7 @@ impl<A: Allocator + Copy> Slots<A> {
                 from: end,
                 to: end,
                 known: false,
+                simple: false,
             },
         ) {
             return Err(failed.1);
@@ -201,6 +222,7 @@ fn push_moved<A: Allocator + Copy>(
             from: base + part.from,
             to: base + part.to,
             known: part.known,
+            simple: part.simple,
         };
         if let Err(failed) = parts.push(meter, moved) {
             parts.truncate(meter, had);

@@ -1,9 +1,10 @@
 //! The local symbol table of a stream at a place.
-ghost use Rattle.std.specs.Prelude.{◌≡◌, ℕ, ◌+◌, ◌-◌, ◌*◌, ◌^◌, ◌<◌, ◌≤◌, [], Some, None, length, slice_get, MatchOption, IfErr, OnOk, OnErr, true};
+ghost use Rattle.std.specs.Prelude.{◌≡◌, ℕ, ◌+◌, ◌-◌, ◌*◌, ◌^◌, ◌<◌, ◌≤◌, [], Some, None, length, slice_get, MatchOption, IfErr, IfSome, OnOk, OnErr, true};
 ghost use Rattle.ion_meter.specs.declared.fault.Fault.TheVariants.{Memory};
 ghost use Rattle.ion_meter.specs.Counts.{Grows, Shrinks};
+ghost use Rattle.ion_value.specs.Name.{is_simple};
 ghost use Rattle.ion_symbols.specs.Table as tables;
-ghost use Rattle.ion_symbols.specs.Table.{count_of, import_slot, local_slot, most_slots, slot_in, slot_of, slots_cost, system, system_slots, table_cost};
+ghost use Rattle.ion_symbols.specs.Table.{count_of, import_slot, known, local_slot, most_slots, slot_in, slot_of, slots_cost, system, system_slots, table_cost};
 ghost use Rattle.ion_symbols.specs.Present.{IsKept, Starts, imports_in, kept_table, as_slot, slots_at, with_locals};
 ghost use Rattle.ion_symbols.specs.Kept.{CanGrow, IsUndone};
 
@@ -92,6 +93,20 @@ fn system_slot(id: u32) -> Slot<'static>
     }
 }
 
+// The text of an id of the system table, if it has one that is simple.
+#[inline(never)]
+fn system_simple(id: u32) -> Option<&'static [u8]>
+    requires { id < 10 }
+    ensures text { IfSome result
+        (λ t. local_slot (slice_get system_slots id) ≡ known t.now) }
+    ensures simple { IfSome result (λ t. is_simple t.now ≡ true) }
+{
+    match system_slot(id) {
+        Slot::Known(text) if is_simple(text) => Some(text),
+        _ => None,
+    }
+}
+
 // The local slot at a place.
 #[inline(always)]
 fn local<A: Allocator + Copy>(slots: &Slots<A>, place: u64) -> Slot<'_>
@@ -104,6 +119,18 @@ fn local<A: Allocator + Copy>(slots: &Slots<A>, place: u64) -> Slot<'_>
         Some(text) => Slot::Known(text),
         None => Slot::Unknown,
     }
+}
+
+// The text of the local slot at a place, if it has one that is simple.
+#[inline(always)]
+fn local_simple<A: Allocator + Copy>(slots: &Slots<A>, place: u64) -> Option<&[u8]>
+    ensures text { IfSome result (λ t. local_slot (slice_get slots.now place) ≡ known t.now) }
+    ensures simple { IfSome result (λ t. is_simple t.now ≡ true) }
+{
+    if place >= slots.len() as u64 {
+        return None;
+    }
+    slots.simple(place as usize)
 }
 
 // The slot at a place of a shared table that was found.
@@ -123,6 +150,28 @@ fn shared<A: Allocator + Copy>(catalog: &Catalog<A>, table: Option<usize>, place
         Some(text) => Slot::Known(text),
         None => Slot::Gap,
     }
+}
+
+// The text of the slot at a place of a shared table that was found, if it has one that is simple.
+fn shared_simple<A: Allocator + Copy>(
+    catalog: &Catalog<A>,
+    table: Option<usize>,
+    place: u64,
+) -> Option<&[u8]>
+    ensures text { IfSome result
+        (λ t. import_slot (slice_get (slots_at catalog.now table) place) ≡ known t.now) }
+    ensures simple { IfSome result (λ t. is_simple t.now ≡ true) }
+{
+    let Some(table) = table else {
+        return None;
+    };
+    let Some(table) = catalog.get(table) else {
+        return None;
+    };
+    if place >= table.len() as u64 {
+        return None;
+    }
+    table.simple(place as usize)
 }
 
 // The import that a slot stands in: the last that begins at it or before.
@@ -157,6 +206,22 @@ fn imported<'a, A: Allocator + Copy>(
 {
     let found = imports[import_at(imports, place)];
     shared(catalog, found.table, place - found.start)
+}
+
+// The text of the slot at a place of the imports, if it has one that is simple.
+#[inline(never)]
+fn imported_simple<'a, A: Allocator + Copy>(
+    catalog: &'a Catalog<A>,
+    imports: &[FoundImport],
+    place: u64,
+) -> Option<&'a [u8]>
+    requires { (end : ℕ) × (Starts 0 imports.now end × (place < end)) }
+    ensures text { IfSome result (λ t. (locals : tables.Slots)
+        → slot_in (imports_in catalog.now imports.now) locals place ≡ known t.now) }
+    ensures simple { IfSome result (λ t. is_simple t.now ≡ true) }
+{
+    let found = imports[import_at(imports, place)];
+    shared_simple(catalog, found.table, place - found.start)
 }
 
 impl<'c, A: Allocator + Copy> Symbols<'c, A> {
@@ -291,7 +356,14 @@ impl<'c, A: Allocator + Copy> Names for Symbols<'c, A> {
 
     #[inline(always)]
     fn simple_text(&self, id: u32) -> Option<&[u8]> {
-        let text = self.text_of(id)?;
-        if is_simple(text) { Some(text) } else { None }
+        if id < 10 {
+            return system_simple(id);
+        }
+        let place = (id - 10) as u64;
+        if place < self.import_slots {
+            imported_simple(self.catalog, self.imports.as_slice(), place)
+        } else {
+            local_simple(&self.slots, place - self.import_slots)
+        }
     }
 }

@@ -7,7 +7,7 @@ ghost use Rattle.ion_text_out.specs.Text.{end_text, opener};
 ghost use Rattle.ion_text_out.specs.Lane.{plain_front, plain_name, plain_note, plain_scalar};
 
 use crate::between::{before, behind, behind_end, closing, opener};
-use crate::quote::stands_for_itself;
+use crate::quote::stands_in_string;
 use ion_meter::device::Output;
 use ion_meter::sink::Sink;
 use ion_value::int::Int;
@@ -151,7 +151,7 @@ pub fn put_string<O: Output, A: Allocator + Copy>(
           (between_quotes 34 256 text.now);
     } }
 {
-    if !has_room(sink, item, text.len().saturating_add(2)) || !stands_for_itself(b'"', 256, text) {
+    if !has_room(sink, item, text.len().saturating_add(2)) || !stands_in_string(text) {
         return false;
     }
     put_mark(sink, before(kinds, empty));

@@ -78,13 +78,48 @@ fn shown_run(quote: u8, top: u16, bytes: &[u8]) -> usize
     at + few_shown(quote, top, &bytes[at..])
 }
 
-/// Whether bytes stand for themselves between these quotes: they have no escape.
+/// Whether the bytes of a string stand for themselves: it has no escape.
 #[inline]
-pub fn stands_for_itself(quote: u8, top: u16, bytes: &[u8]) -> bool
-    ensures { result ≡ true → between_quotes quote top bytes.now
-        ≡ quote ∷ (bytes.now ++ quote ∷ []) }
+pub fn stands_in_string(bytes: &[u8]) -> bool
+    ensures { result ≡ true → between_quotes 34 256 bytes.now ≡ 34 ∷ (bytes.now ++ 34 ∷ []) }
 {
-    shown_run(quote, top, bytes) == bytes.len()
+    if bytes.len() < BLOCK {
+        return few_in_string(bytes);
+    }
+    shown_run(b'"', 256, bytes) == bytes.len()
+}
+
+// Whether each of a few bytes stands for itself in a string.
+#[inline(always)]
+fn few_in_string(bytes: &[u8]) -> bool
+    ensures { result ≡ all_are (is_shown 34 256) bytes.now }
+{
+    'bytes: for byte in bytes {
+        if !is_string_byte(*byte) {
+            return false;
+        }
+    }
+    true
+}
+
+// Which bytes stand for themselves in a string.
+static STRING_BYTES: [u8; 256] = [
+    0, 0, 0, 0, 0, 0, 0, 0, 0, 0, 0, 0, 0, 0, 0, 0, 0, 0, 0, 0, 0, 0, 0, 0, 0, 0, 0, 0, 0, 0, 0, 0,
+    1, 1, 0, 1, 1, 1, 1, 1, 1, 1, 1, 1, 1, 1, 1, 1, 1, 1, 1, 1, 1, 1, 1, 1, 1, 1, 1, 1, 1, 1, 1, 1,
+    1, 1, 1, 1, 1, 1, 1, 1, 1, 1, 1, 1, 1, 1, 1, 1, 1, 1, 1, 1, 1, 1, 1, 1, 1, 1, 1, 1, 0, 1, 1, 1,
+    1, 1, 1, 1, 1, 1, 1, 1, 1, 1, 1, 1, 1, 1, 1, 1, 1, 1, 1, 1, 1, 1, 1, 1, 1, 1, 1, 1, 1, 1, 1, 0,
+    1, 1, 1, 1, 1, 1, 1, 1, 1, 1, 1, 1, 1, 1, 1, 1, 1, 1, 1, 1, 1, 1, 1, 1, 1, 1, 1, 1, 1, 1, 1, 1,
+    1, 1, 1, 1, 1, 1, 1, 1, 1, 1, 1, 1, 1, 1, 1, 1, 1, 1, 1, 1, 1, 1, 1, 1, 1, 1, 1, 1, 1, 1, 1, 1,
+    1, 1, 1, 1, 1, 1, 1, 1, 1, 1, 1, 1, 1, 1, 1, 1, 1, 1, 1, 1, 1, 1, 1, 1, 1, 1, 1, 1, 1, 1, 1, 1,
+    1, 1, 1, 1, 1, 1, 1, 1, 1, 1, 1, 1, 1, 1, 1, 1, 1, 1, 1, 1, 1, 1, 1, 1, 1, 1, 1, 1, 1, 1, 1, 1,
+];
+
+// Whether this byte stands for itself in a string.
+#[inline(always)]
+fn is_string_byte(byte: u8) -> bool
+    ensures { result ≡ is_shown 34 256 byte }
+{
+    STRING_BYTES[byte as usize] > 0
 }
 
 // Whether all these bytes stand for themselves. No byte ends the loop, so that it can look at many

@@ -165,6 +165,23 @@ impl<A: Allocator + Copy> TextWriter<A> {
         true
     }
 
+    // The same, as a call that gets a copy of the item: for scalars that few items are.
+    #[inline(never)]
+    fn take_copied<O: Output>(
+        &mut self,
+        sink: &mut Sink<O, A>,
+        item: PlainItem<'_, '_>,
+        text: &[u8],
+    ) -> bool
+        ensures declines { result ≡ false → (self.new ≡ self.old) × (sink.new ≡ sink.old) }
+        ensures puts { result ≡ true → sink.new ≡ record sink.old {
+          pending = sink.old.pending ++ plain_scalar (opened_in self.old) item.entry text.now;
+        } }
+        ensures behind { result ≡ true → self.new ≡ record self.old { empty = false } }
+    {
+        self.take_scalar(sink, &item, text)
+    }
+
     // An int.
     #[inline(always)]
     fn take_int<O: Output>(
@@ -187,43 +204,43 @@ impl<A: Allocator + Copy> TextWriter<A> {
     }
 
     // A decimal.
-    #[inline(always)]
+    #[inline(never)]
     fn take_decimal<O: Output>(
         &mut self,
         sink: &mut Sink<O, A>,
-        item: &PlainItem<'_, '_>,
+        item: PlainItem<'_, '_>,
         decimal: Decimal,
     ) -> bool
         requires { IsDecimal decimal }
         ensures declines { result ≡ false → (self.new ≡ self.old) × (sink.new ≡ sink.old) }
         ensures puts { result ≡ true → sink.new ≡ record sink.old {
-          pending = sink.old.pending ++ plain_scalar (opened_in self.old) item.now
+          pending = sink.old.pending ++ plain_scalar (opened_in self.old) item.entry
               (decimal_text decimal);
         } }
         ensures behind { result ≡ true → self.new ≡ record self.old { empty = false } }
     {
         let text = decimal_to_text(decimal);
-        self.take_scalar(sink, item, text.as_str().as_bytes())
+        self.take_scalar(sink, &item, text.as_str().as_bytes())
     }
 
     // A timestamp.
-    #[inline(always)]
+    #[inline(never)]
     fn take_timestamp<O: Output>(
         &mut self,
         sink: &mut Sink<O, A>,
-        item: &PlainItem<'_, '_>,
+        item: PlainItem<'_, '_>,
         moment: Timestamp,
     ) -> bool
         requires { IsTimestamp moment }
         ensures declines { result ≡ false → (self.new ≡ self.old) × (sink.new ≡ sink.old) }
         ensures puts { result ≡ true → sink.new ≡ record sink.old {
-          pending = sink.old.pending ++ plain_scalar (opened_in self.old) item.now
+          pending = sink.old.pending ++ plain_scalar (opened_in self.old) item.entry
               (timestamp_text moment);
         } }
         ensures behind { result ≡ true → self.new ≡ record self.old { empty = false } }
     {
         let text = timestamp_to_text(moment);
-        self.take_scalar(sink, item, text.as_str().as_bytes())
+        self.take_scalar(sink, &item, text.as_str().as_bytes())
     }
 
     // A symbol whose text is simple.
@@ -381,11 +398,11 @@ impl<O: Output, A: Allocator + Copy> ValueWriter<O, A> for TextWriter<A> {
         item: PlainItem<'_, '_>,
     ) -> bool {
         match item.head {
-            Head::Null(of) => self.take_scalar(sink, &item, null(of)),
-            Head::Bool(truth) => self.take_scalar(sink, &item, bool_text(truth)),
+            Head::Null(of) => self.take_copied(sink, item, null(of)),
+            Head::Bool(truth) => self.take_copied(sink, item, bool_text(truth)),
             Head::Int(int) => self.take_int(sink, &item, int),
-            Head::Decimal(decimal) => self.take_decimal(sink, &item, decimal),
-            Head::Timestamp(moment) => self.take_timestamp(sink, &item, moment),
+            Head::Decimal(decimal) => self.take_decimal(sink, item, decimal),
+            Head::Timestamp(moment) => self.take_timestamp(sink, item, moment),
             Head::Symbol(at) => self.take_symbol(sink, &item, at.sym),
             Head::String(text) => self.take_string(sink, &item, text),
             Head::Begin(kind) => self.take_begin(meter, sink, &item, kind),

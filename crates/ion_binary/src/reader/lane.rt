@@ -2,20 +2,22 @@
 ghost use Rattle.std.specs.Prelude.{◌≡◌, ◌+◌, ◌*◌, ◌-◌, ◌^◌, ◌<◌, ◌≤◌, length, false, true, Option, Some, None, IfSome, map};
 ghost use Rattle.ion_value.specs.Items.{named_at, named_item, raw_head};
 ghost use Rattle.ion_value.specs.PlainItems.{HasSimpleName, IsSimpleHead};
-ghost use Rattle.ion_binary.specs.Lane.{CanHand, EndsHere, GoesOn, HandsItem, HandsNothing, KeepsOn, ShowsField};
+ghost use Rattle.ion_binary.specs.Lane.{CanHand, EndsHere, GoesOn, HandsItem, HandsNothing, HandsOn, KeepsOn, ShowsField, ShowsNoted};
+ghost use Rattle.ion_value.specs.Feeding.{CanTake};
+ghost use Rattle.ion_binary.specs.Steps.{IsSound, held_by, left_to, opened_in};
 ghost use Rattle.ion_binary.specs.Positions.{placed_scalar};
 ghost use Rattle.ion_binary.specs.Reader.{IsInnermost};
 ghost use Rattle.ion_binary.specs.Reading.{top_of};
-ghost use Rattle.ion_binary.specs.Shown.{shown_scalar};
-ghost use Rattle.ion_binary.specs.Steps.{held_by, left_to};
+ghost use Rattle.ion_binary.specs.Shown.{far_end, shown_scalar};
 ghost use Rattle.ion_binary.specs.Wrappers.{as_frames, innermost};
 ghost use Rattle.ion_value.specs.Value.{map_head, whole};
 
-use super::{BinReader, region};
+use super::{BinReader, region, values_behind};
 use crate::body::id_of;
-use crate::shown::{Shown, ShownScalar, shown_value, shown_var};
+use crate::shown::{Shown, ShownScalar, shown_note, shown_value, shown_var};
 use crate::wrapper::Frame;
 use ion_meter::device::{Input, Output};
+use ion_meter::limits::Limits;
 use ion_meter::meter::Meter;
 use ion_meter::sink::Sink;
 use ion_value::ion_type::Kind;
@@ -103,6 +105,95 @@ fn top_at(frame: Option<Frame>, top: u64, here: u64) -> u64
     }
 }
 
+// The place where what is shown ends, a container with its members.
+#[inline(always)]
+fn far_end(here: u64, behind: usize, found: Shown<'_>) -> u64
+    requires { here + behind < 2 ^ 64 }
+    ensures { result ≡ far_end here behind found.entry }
+{
+    match found {
+        Shown::Scalar(_) => here + behind as u64,
+        Shown::Begin(_, end) => end,
+    }
+}
+
+// A value that is shown with one annotation, where its head begins among the octets, and where it ends.
+#[derive(Clone, Copy)]
+pub(crate) struct Noted<'n, 'h> {
+    annotation: TextAt<'n>,
+    found: Shown<'h>,
+    at: usize,
+    behind: usize,
+}
+
+// The value in the annotation wrapper that begins at a place. It answers none where the window does not
+// show one that has one annotation, of a simple text.
+#[inline(always)]
+fn shown_noted<'n, 'h, N: Names>(
+    octets: &'h [u8],
+    here: u64,
+    at: usize,
+    region: Option<u64>,
+    depth: u32,
+    limits: Limits,
+    names: &'n N,
+) -> Option<Noted<'n, 'h>>
+    requires small { here + length octets.now < 2 ^ 63 }
+    requires within { at ≤ length octets.now }
+    ensures { IfSome result (λ n. ShowsNoted (N.text names.entry.now) limits octets.entry.now here
+        region depth at n.at n.behind n.annotation n.found) }
+{
+    if at == octets.len() {
+        return None;
+    }
+    let Some(note) = shown_note(octets, here, at, region, limits) else {
+        return None;
+    };
+    let Some(text) = names.simple_text(id_of(note.id)) else {
+        return None;
+    };
+    let inside = Some(note.end);
+    let Some((found, behind)) = shown_value(octets, here, note.inner, inside, depth, limits) else {
+        return None;
+    };
+    if note.end != far_end(here, behind, found) {
+        return None;
+    }
+    let place = here + note.from as u64;
+    Some(Noted {
+        annotation: TextAt { text, place },
+        found,
+        at: note.inner,
+        behind,
+    })
+}
+
+// An item with one annotation.
+#[inline(always)]
+fn noted_item<'n, 'h>(
+    field: Option<TextAt<'n>>,
+    annotation: TextAt<'n>,
+    head: Head<'h>,
+    place: u64,
+    top: u64,
+) -> PlainItem<'n, 'h>
+    ensures { result ≡ record {
+      field = field.entry;
+      annotation = Some annotation.entry;
+      head = head.entry;
+      place = place;
+      top = top;
+    } }
+{
+    PlainItem {
+        field,
+        annotation: Some(annotation),
+        head,
+        place,
+        top,
+    }
+}
+
 // An item with no annotation.
 #[inline(always)]
 fn bare_item<'n, 'h>(
@@ -129,7 +220,35 @@ fn bare_item<'n, 'h>(
 }
 
 impl<I: Input, A: Allocator + Copy> BinReader<I, A> {
-    // Hands the next item on, where that is possible; else it answers false, and nothing is changed.
+    // Hands items on, behind so many values at top level, as long as `hand` can: how many values ended.
+    #[inline(always)]
+    pub(super) fn hand_all<N: Names, W: ValueWriter<O, A>, O: Output>(
+        &mut self,
+        values: u64,
+        meter: &mut Meter<A>,
+        names: &N,
+        writer: &mut W,
+        sink: &mut Sink<O, A>,
+    ) -> u64
+        requires room { meter.old.held ≤ 2 ^ 61 + (held_by self.old + W.own writer.old) }
+        requires held { held_by self.old + W.own writer.old ≤ meter.old.held }
+        requires countable { meter.old.refused < 2 ^ 64 - 1 }
+        requires sound { IsSound self.old }
+        requires fresh { self.old.failed ≡ None }
+        requires writer { CanTake W.ValueWriter self.old.limits.depth (opened_in self.old)
+            writer.old sink.old }
+        requires few { values + left_to self.old < 2 ^ 64 - 1 }
+        ensures { HandsOn I.Input W.ValueWriter (named_item (N.text names.now)) self.old self.new
+            writer.old writer.new sink.old sink.new meter.old meter.new values result }
+    {
+        let mut count = values;
+        'items: while self.hand(meter, names, writer, sink) {
+            count = values_behind(count, self.frames.as_slice());
+        }
+        count
+    }
+
+    // Hands the next item on, where it has no annotation and that is possible; else it answers false, and nothing is changed.
     #[inline(always)]
     pub(super) fn hand<N: Names, W: ValueWriter<O, A>, O: Output>(
         &mut self,
@@ -154,6 +273,34 @@ impl<I: Input, A: Allocator + Copy> BinReader<I, A> {
             return self.hand_end(frame, meter, names, writer, sink);
         }
         self.hand_member(frame, meter, names, writer, sink)
+    }
+
+    // The same of an item that has an annotation. It is a call of its own, so that the loop over all
+    // others has none.
+    #[inline(never)]
+    pub(super) fn hand_next_noted<N: Names, W: ValueWriter<O, A>, O: Output>(
+        &mut self,
+        meter: &mut Meter<A>,
+        names: &N,
+        writer: &mut W,
+        sink: &mut Sink<O, A>,
+    ) -> bool
+        requires { CanHand W.ValueWriter self.old writer.old sink.old meter.old }
+        ensures hands { result ≡ true → HandsItem I.Input W.ValueWriter
+            (named_item (N.text names.now)) self.old self.new writer.old writer.new
+            sink.old sink.new }
+        ensures nothing { result ≡ false
+            → HandsNothing self.old self.new writer.old writer.new sink.old sink.new }
+        ensures keeps { KeepsOn W.ValueWriter self.old self.new writer.old writer.new
+            sink.old sink.new meter.old meter.new }
+        ensures goes { held_by self.new
+            ≤ held_by self.old + 16 * (left_to self.old - left_to self.new) }
+    {
+        let frame = self.frames.as_slice().last().copied();
+        if ends_here(frame, self.source.place()) {
+            return false;
+        }
+        self.hand_noted(frame, meter, names, writer, sink)
     }
 
     // The end of the innermost container, which stands here.
@@ -243,6 +390,74 @@ impl<I: Input, A: Allocator + Copy> BinReader<I, A> {
             }
             Shown::Begin(kind, end) => {
                 let item = bare_item(field, Head::Begin(kind), place, top);
+                if !self.frames.push_within(meter, Frame { kind, end }) {
+                    return false;
+                }
+                if !writer.take_plain(meter, sink, item) {
+                    self.frames.pop(meter);
+                    return false;
+                }
+                self.top = top;
+                self.source.consume(behind);
+                true
+            }
+        }
+    }
+
+    // The same of one with an annotation.
+    #[inline(always)]
+    fn hand_noted<N: Names, W: ValueWriter<O, A>, O: Output>(
+        &mut self,
+        frame: Option<Frame>,
+        meter: &mut Meter<A>,
+        names: &N,
+        writer: &mut W,
+        sink: &mut Sink<O, A>,
+    ) -> bool
+        requires can_hand { CanHand W.ValueWriter self.old writer.old sink.old meter.old }
+        requires innermost { IsInnermost (as_frames self.old.frames) frame }
+        requires goes_on { GoesOn frame self.old.source.place }
+        ensures hands { result ≡ true → HandsItem I.Input W.ValueWriter
+            (named_item (N.text names.now)) self.old self.new writer.old writer.new
+            sink.old sink.new }
+        ensures nothing { result ≡ false
+            → HandsNothing self.old self.new writer.old writer.new sink.old sink.new }
+        ensures keeps { KeepsOn W.ValueWriter self.old self.new writer.old writer.new
+            sink.old sink.new meter.old meter.new }
+        ensures goes { held_by self.new
+            ≤ held_by self.old + 16 * (left_to self.old - left_to self.new) }
+    {
+        let here = self.source.place();
+        let octets = self.source.buffer();
+        let Some((field, at)) = shown_field(octets, here, frame, names) else {
+            return false;
+        };
+        let region = region(frame);
+        let depth = self.frames.as_slice().len() as u32;
+        let limits = self.limits;
+        let Some(noted) = shown_noted(octets, here, at, region, depth, limits, names) else {
+            return false;
+        };
+        let annotation = noted.annotation;
+        let found = noted.found;
+        let behind = noted.behind;
+        let place = here + noted.at as u64;
+        let top = top_at(frame, self.top, here);
+        match found {
+            Shown::Scalar(scalar) => {
+                let Some(head) = shown_head(scalar, place, names) else {
+                    return false;
+                };
+                let item = noted_item(field, annotation, head, place, top);
+                if !writer.take_plain(meter, sink, item) {
+                    return false;
+                }
+                self.top = top;
+                self.source.consume(behind);
+                true
+            }
+            Shown::Begin(kind, end) => {
+                let item = noted_item(field, annotation, Head::Begin(kind), place, top);
                 if !self.frames.push_within(meter, Frame { kind, end }) {
                     return false;
                 }

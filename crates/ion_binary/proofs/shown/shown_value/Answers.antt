@@ -21,25 +21,25 @@ returns-in-Null c =
     let octets = c.args.octets.now in
     let b = get_or octets c.args.at 0 in
     let shape = sym c.of.ensures ∙ ap as_shape c.in-Null.is in
-    record { shows = if_some c.shown_bare.result (λ r h. rw (h.0, h.1) (shows_null c.args.limits octets c.args.here c.args.region c.args.depth c.args.at c.in-Null.of b (omega arith) refl shape h.2)) c.shown_bare.ensures }
+    record { shows = if_some c.shown_bare.result (λ r h. rw (h.0, h.1) (shows_null c.args.limits octets c.args.here c.args.region c.args.depth c.args.at c.in-Null.of b (omega arith) (omega (arith, c.type_inv.octets c.args.at)) refl shape h.2)) c.shown_bare.ensures }
 
 pub returns-in-Bool : goal.returns-in-Bool
 returns-in-Bool c =
     let octets = c.args.octets.now in
     let b = get_or octets c.args.at 0 in
     let shape = sym c.of.ensures ∙ ap as_shape c.in-Bool.is in
-    record { shows = if_some c.shown_bare-in-Bool.result (λ r h. rw (h.0, h.1) (shows_bool c.args.limits octets c.args.here c.args.region c.args.depth c.args.at c.in-Bool.truth b (omega arith) refl shape h.2)) c.shown_bare-in-Bool.ensures }
+    record { shows = if_some c.shown_bare-in-Bool.result (λ r h. rw (h.0, h.1) (shows_bool c.args.limits octets c.args.here c.args.region c.args.depth c.args.at c.in-Bool.truth b (omega arith) (omega (arith, c.type_inv.octets c.args.at)) refl shape h.2)) c.shown_bare-in-Bool.ensures }
 
 pub returns-in-Body : goal.returns-in-Body
 returns-in-Body c =
     let octets = c.args.octets.now in
     let b = get_or octets c.args.at 0 in
     let shape = sym c.of.ensures ∙ ap as_shape c.in-Body.is in
-    record { shows = if_some c.shown_with_body.result (λ r h. shows_body c.args.limits octets c.args.here c.args.region c.args.depth c.args.at r.1 c.in-Body.type_code c.in-Body.length_code r.0 b (omega arith) refl shape h) c.shown_with_body.ensures }
+    record { shows = if_some c.shown_with_body.result (λ r h. shows_body c.args.limits octets c.args.here c.args.region c.args.depth c.args.at r.1 c.in-Body.type_code c.in-Body.length_code r.0 b (omega arith) (omega (arith, c.type_inv.octets c.args.at)) refl shape h) c.shown_with_body.ensures }
 
 pub returns-in-Container : goal.returns-in-Container
 returns-in-Container c =
     let octets = c.args.octets.now in
     let b = get_or octets c.args.at 0 in
     let shape = sym c.of.ensures ∙ ap as_shape c.in-Container.is in
-    record { shows = if_some c.shown_begin.result (λ r h. shows_begin c.args.limits octets c.args.here c.args.region c.args.depth c.args.at r.1 c.in-Container.length_code c.in-Container.kind r.0 b (omega arith) refl shape h) c.shown_begin.ensures }
+    record { shows = if_some c.shown_begin.result (λ r h. shows_begin c.args.limits octets c.args.here c.args.region c.args.depth c.args.at r.1 c.in-Container.length_code c.in-Container.kind r.0 b (omega arith) (omega (arith, c.type_inv.octets c.args.at)) refl shape h) c.shown_begin.ensures }

@@ -12,13 +12,15 @@ use Rattle.ion_value.specs.Value as value
 use Rattle.ion_binary.specs.declared.wrapper.Frame.{Frame}
 use Rattle.ion_binary.specs.declared.shown.Shown.TheVariants as shown
 use Rattle.ion_binary.specs.Positions.{placed_scalar}
-use Rattle.ion_binary.specs.Reading.{placed_item, top_of}
+use Rattle.ion_binary.specs.Reading.{placed_item, region_of, top_of}
 use Rattle.ion_binary.specs.Reader.{kinds_of, to_come}
 use Rattle.ion_binary.specs.Shown.{shown_scalar}
 use Rattle.ion_binary.specs.Steps.{opened_in}
 use Rattle.ion_binary.specs.Wrappers.{as_frames, innermost}
 use Rattle.ion_binary.proofs.Handing.{as_frames-push, begin_fits, falls_begin, falls_scalar, hands_by, kinds_of-push, path_here, plain_seen, scalar_fits, step_shown, to_come-gives, whole-opens, whole-value}
 use Rattle.ion_binary.proofs.ReaderParts.{as_frames-length}
+use Rattle.ion_binary.proofs.ShownParts.{shows_plain}
+use Rattle.ion_meter.specs.Windows.{lent}
 use Rattle.ion_binary.proofs.reader.BinReader.hand_member.Goals as goal
 
 pub take_plain-requires-clause-path : goal.take_plain-requires-clause-path
@@ -30,7 +32,7 @@ take_plain-requires-clause-path g c =
     let texts = g.N.Names.text c.args.names.now in
     let inner = c.requires.innermost in
     let name = rw (c.buffer-octets.ensures, c.place-here.ensures) at c.in-Some.ensures in
-    let v = rw (c.buffer-octets.ensures, c.place-here.ensures, c.region-region.ensures, c.as_slice.ensures, sym (as_frames-length r.frames), c.in-Scalar.is) at c.in-Some-shown_value.ensures.shows in
+    let v = shows_plain r.limits (lent r.source) r.source.place (region_of (innermost f)) (length (as_frames r.frames)) c.in-Some.at c.in-Some-shown_value.behind (shown.Scalar c.in-Scalar.scalar) (rw (c.buffer-octets.ensures, c.place-here.ensures, c.region-region.ensures, c.as_slice.ensures, sym (as_frames-length r.frames), c.in-Scalar.is) at c.in-Some-shown_value.ensures.shows) in
     let head = rw c.place-here.ensures at c.in-Some-shown_head.ensures.head in
     let plain : PlainItem = record { field = c.in-Some.field; annotation = None; head = c.in-Some-shown_head.head; place = c.place-here.result + c.in-Some.at; top = c.top_at-top.result } in
     let fits = scalar_fits r.limits.depth r.frames f texts (r.source.place + c.in-Some.at) (shown_scalar c.in-Scalar.scalar) plain inner name.there head v.may_be in
@@ -47,7 +49,7 @@ take_plain-requires-in-Begin-clause-path g c =
     let texts = g.N.Names.text c.args.names.now in
     let inner = c.requires.innermost in
     let name = rw (c.buffer-octets.ensures, c.place-here.ensures) at c.in-Some.ensures in
-    let v = rw (c.buffer-octets.ensures, c.place-here.ensures, c.region-region.ensures, c.as_slice.ensures, sym (as_frames-length r.frames), c.in-Begin.is) at c.in-Some-shown_value.ensures.shows in
+    let v = shows_plain r.limits (lent r.source) r.source.place (region_of (innermost f)) (length (as_frames r.frames)) c.in-Some.at c.in-Some-shown_value.behind (shown.Begin c.in-Begin.kind c.in-Begin.end) (rw (c.buffer-octets.ensures, c.place-here.ensures, c.region-region.ensures, c.as_slice.ensures, sym (as_frames-length r.frames), c.in-Begin.is) at c.in-Some-shown_value.ensures.shows) in
     let plain : PlainItem = record { field = c.in-Some.field; annotation = None; head = code.Begin c.in-Begin.kind; place = c.place-here.result + c.in-Some.at; top = c.top_at-top.result } in
     let few : length r.frames < r.limits.depth = subst (λ n. n < r.limits.depth) (as_frames-length r.frames) v.may_be in
     let fits = begin_fits r.limits.depth r.frames f c.in-Begin.kind plain inner name.there refl few in
@@ -66,7 +68,7 @@ returns-else-not-take_plain-clause-hands g c e =
     let texts = g.N.Names.text c.args.names.now in
     let inner = c.requires.innermost in
     let name = rw (c.buffer-octets.ensures, c.place-here.ensures) at c.in-Some.ensures in
-    let v = rw (c.buffer-octets.ensures, c.place-here.ensures, c.region-region.ensures, c.as_slice.ensures, sym (as_frames-length r.frames), c.in-Scalar.is) at c.in-Some-shown_value.ensures.shows in
+    let v = shows_plain r.limits (lent r.source) r.source.place (region_of (innermost f)) (length (as_frames r.frames)) c.in-Some.at c.in-Some-shown_value.behind (shown.Scalar c.in-Scalar.scalar) (rw (c.buffer-octets.ensures, c.place-here.ensures, c.region-region.ensures, c.as_slice.ensures, sym (as_frames-length r.frames), c.in-Scalar.is) at c.in-Some-shown_value.ensures.shows) in
     let head = rw c.place-here.ensures at c.in-Some-shown_head.ensures.head in
     let plain : PlainItem = record { field = c.in-Some.field; annotation = None; head = c.in-Some-shown_head.head; place = c.place-here.result + c.in-Some.at; top = c.top_at-top.result } in
     let fits = scalar_fits r.limits.depth r.frames f texts (r.source.place + c.in-Some.at) (shown_scalar c.in-Scalar.scalar) plain inner name.there head v.may_be in
@@ -78,11 +80,11 @@ returns-else-not-take_plain-clause-hands g c e =
     let item = placed_item top name.raw [] (r.source.place + c.in-Some.at) (value.whole (placed_scalar (r.source.place + c.in-Some.at) (shown_scalar c.in-Scalar.scalar))) in
     let top_is : c.top_at-top.result ≡ top = c.top_at-top.ensures ∙ ap (top_of (innermost f) r.top) c.place-here.ensures in
     let is : named_item texts item ≡ seen =
-    plain_seen texts top (r.source.place + c.in-Some.at) name.raw (value.whole (placed_scalar (r.source.place + c.in-Some.at) (shown_scalar c.in-Scalar.scalar))) plain name.named refl head
+    plain_seen texts top (r.source.place + c.in-Some.at) name.raw [] (value.whole (placed_scalar (r.source.place + c.in-Some.at) (shown_scalar c.in-Scalar.scalar))) plain name.named refl head
     (ap (λ n. n + c.in-Some.at) c.place-here.ensures) top_is in
     let gives : to_come device r.limits r.frames r.top r.source ≡ More item (to_come device r.limits r.frames top t) =
     to_come-gives device r.limits r.frames r.frames r.top top r.source t item
-    (step_shown device r.limits (as_frames r.frames) f r.top c.in-Some-shown_value.behind c.in-Some.at r.source t texts c.in-Some.field (shown.Scalar c.in-Scalar.scalar) inner c.requires.goes_on name v c.consume.ensures) in
+    (step_shown device r.limits (as_frames r.frames) f r.top c.in-Some-shown_value.behind c.in-Some.at c.in-Some.at [] r.source t texts c.in-Some.field (shown.Scalar c.in-Scalar.scalar) inner c.requires.goes_on name v c.consume.ensures) in
     let deep : Fits (w.limits c.args.writer.now).depth (opened_in r) seen = subst (λ n. Fits n (opened_in r) seen) (sym write.depth_of) fits in
     rw top_is (record {
       hands = λ values. hands_by w (named_item texts) (device.observable r.source.device) (to_come device r.limits r.frames r.top r.source) (to_come device r.limits r.frames top t)
@@ -106,7 +108,7 @@ returns-else-not-take_plain-2-clause-hands g c e =
     let texts = g.N.Names.text c.args.names.now in
     let inner = c.requires.innermost in
     let name = rw (c.buffer-octets.ensures, c.place-here.ensures) at c.in-Some.ensures in
-    let v = rw (c.buffer-octets.ensures, c.place-here.ensures, c.region-region.ensures, c.as_slice.ensures, sym (as_frames-length r.frames), c.in-Begin.is) at c.in-Some-shown_value.ensures.shows in
+    let v = shows_plain r.limits (lent r.source) r.source.place (region_of (innermost f)) (length (as_frames r.frames)) c.in-Some.at c.in-Some-shown_value.behind (shown.Begin c.in-Begin.kind c.in-Begin.end) (rw (c.buffer-octets.ensures, c.place-here.ensures, c.region-region.ensures, c.as_slice.ensures, sym (as_frames-length r.frames), c.in-Begin.is) at c.in-Some-shown_value.ensures.shows) in
     let plain : PlainItem = record { field = c.in-Some.field; annotation = None; head = code.Begin c.in-Begin.kind; place = c.place-here.result + c.in-Some.at; top = c.top_at-top.result } in
     let few : length r.frames < r.limits.depth = subst (λ n. n < r.limits.depth) (as_frames-length r.frames) v.may_be in
     let fits = begin_fits r.limits.depth r.frames f c.in-Begin.kind plain inner name.there refl few in
@@ -118,10 +120,10 @@ returns-else-not-take_plain-2-clause-hands g c e =
     let item = placed_item top name.raw [] (r.source.place + c.in-Some.at) (value.begin c.in-Begin.kind) in
     let top_is : c.top_at-top.result ≡ top = c.top_at-top.ensures ∙ ap (top_of (innermost f) r.top) c.place-here.ensures in
     let is : named_item texts item ≡ seen =
-    plain_seen texts top (r.source.place + c.in-Some.at) name.raw (value.begin c.in-Begin.kind) plain name.named refl refl (ap (λ n. n + c.in-Some.at) c.place-here.ensures) top_is in
+    plain_seen texts top (r.source.place + c.in-Some.at) name.raw [] (value.begin c.in-Begin.kind) plain name.named refl refl (ap (λ n. n + c.in-Some.at) c.place-here.ensures) top_is in
     let frame : Frame = record { kind = c.in-Begin.kind; end = c.in-Begin.end } in
     let pushed : c.push_within.new.self ≡ r.frames ++ frame ∷ [] = c.push_within.ensures.ok c.if-not-push_within.false in
-    let step = step_shown device r.limits (as_frames r.frames) f r.top c.in-Some-shown_value.behind c.in-Some.at r.source t texts c.in-Some.field (shown.Begin c.in-Begin.kind c.in-Begin.end) inner c.requires.goes_on name v c.consume-in-Begin.ensures in
+    let step = step_shown device r.limits (as_frames r.frames) f r.top c.in-Some-shown_value.behind c.in-Some.at c.in-Some.at [] r.source t texts c.in-Some.field (shown.Begin c.in-Begin.kind c.in-Begin.end) inner c.requires.goes_on name v c.consume-in-Begin.ensures in
     let opened : as_frames (r.frames ++ frame ∷ []) ≡ _ = as_frames-push r.frames frame in
     let gives : to_come device r.limits r.frames r.top r.source ≡ More item (to_come device r.limits (r.frames ++ frame ∷ []) top t) =
     to_come-gives device r.limits r.frames (r.frames ++ frame ∷ []) r.top top r.source t item (rw opened step) in

@@ -2,19 +2,19 @@ use Rattle.std.proofs.Common.{◌≡◌, ◌+◌, ◌-◌, ◌*◌, ◌++◌, le
 use Rattle.ion_meter.specs.Counts.{Shrinks}
 use Rattle.ion_symbols.specs.Table.{slots_cost}
 use Rattle.ion_symbols.specs.Kept.{kept_slots, moved}
-use Rattle.ion_symbols.proofs.Moving.{appended_tiles, appended_kept, full_cost, grown, given_back}
+use Rattle.ion_symbols.proofs.Moving.{appended_tiles, appended_kept, appended_marked, full_cost, grown, given_back}
 use Rattle.ion_symbols.proofs.slots.Slots.append.Goals as goal
 
 pub extend-requires-clause-room : goal.extend-requires-clause-room
 extend-requires-clause-room g c =
     let k : slots_cost c.args.more.now ≡ 16 * length c.more.inside.parts + length c.more.inside.texts =
-    full_cost c.more.inside.texts c.more.inside.parts c.args.more.now c.more.invariant c.more.view_is in
+    full_cost c.more.inside.texts c.more.inside.parts c.args.more.now c.more.invariant.0 c.more.view_is in
     omega (arith, k, ap length c.as_slice.ensures, c.requires.can_grow.room)
 
 pub push_moved-requires-clause-can_grow : goal.push_moved-requires-clause-can_grow
 push_moved-requires-clause-can_grow g c =
     let k : slots_cost c.args.more.now ≡ 16 * length c.more.inside.parts + length c.more.inside.texts =
-    full_cost c.more.inside.texts c.more.inside.parts c.args.more.now c.more.invariant c.more.view_is in
+    full_cost c.more.inside.texts c.more.inside.parts c.args.more.now c.more.invariant.0 c.more.view_is in
     record {
       room = omega (arith, k, ap length c.as_slice.ensures, ap length c.as_slice-2.ensures, c.requires.can_grow.room, c.in_ok-extend.ensures.cost.held);
       countable = omega (arith, c.requires.can_grow.countable, c.in_ok-extend.ensures.cost.refused);
@@ -23,7 +23,7 @@ push_moved-requires-clause-can_grow g c =
 pub returns-in-Err-clause-undone : goal.returns-in-Err-clause-undone
 returns-in-Err-clause-undone g c =
     let k : slots_cost c.args.more.now ≡ 16 * length c.more.inside.parts + length c.more.inside.texts =
-    full_cost c.more.inside.texts c.more.inside.parts c.args.more.now c.more.invariant c.more.view_is in
+    full_cost c.more.inside.texts c.more.inside.parts c.args.more.now c.more.invariant.0 c.more.view_is in
     let t : length c.as_slice.result.now ≡ length c.more.inside.texts = ap length c.as_slice.ensures in
     let n : length c.as_slice-2.result.now ≡ length c.more.inside.parts = ap length c.as_slice-2.ensures in
     let b : length c.as_slice-base.result.now ≡ length c.self.inside.texts = ap length c.as_slice-base.ensures in
@@ -36,18 +36,24 @@ returns-in-Err-clause-undone g c =
     (subst (Shrinks c.push_moved.new.meter c.truncate.new.meter) d c.truncate.ensures.cost)
 
 pub invariant_of-self-in_default : goal.invariant_of-self-in_default
-invariant_of-self-in_default g c =
-    appended_tiles c.self.inside.texts c.more.inside.texts c.extend.new.self c.self.inside.parts c.more.inside.parts c.push_moved.new.parts
-    (length c.as_slice-base.result.now)
-    c.self.invariant c.more.invariant (ap length c.as_slice-base.ensures)
-    (c.in_ok-extend.ensures.ok ∙ ap (λ xs. c.self.inside.texts ++ xs) c.as_slice.ensures)
-    (c.in_default.ensures.ok ∙ ap (λ qs. c.self.inside.parts ++ map (moved (length c.as_slice-base.result.now)) qs) c.as_slice-2.ensures)
+invariant_of-self-in_default g c = (
+  appended_tiles c.self.inside.texts c.more.inside.texts c.extend.new.self c.self.inside.parts c.more.inside.parts c.push_moved.new.parts
+      (length c.as_slice-base.result.now)
+      c.self.invariant.0 c.more.invariant.0 (ap length c.as_slice-base.ensures)
+      (c.in_ok-extend.ensures.ok ∙ ap (λ xs. c.self.inside.texts ++ xs) c.as_slice.ensures)
+      (c.in_default.ensures.ok ∙ ap (λ qs. c.self.inside.parts ++ map (moved (length c.as_slice-base.result.now)) qs) c.as_slice-2.ensures),
+  appended_marked c.self.inside.texts c.more.inside.texts c.extend.new.self c.self.inside.parts c.more.inside.parts c.push_moved.new.parts
+      (length c.as_slice-base.result.now)
+      c.self.invariant.0 c.self.invariant.1 c.more.invariant.1 (ap length c.as_slice-base.ensures)
+      (c.in_ok-extend.ensures.ok ∙ ap (λ xs. c.self.inside.texts ++ xs) c.as_slice.ensures)
+      (c.in_default.ensures.ok ∙ ap (λ qs. c.self.inside.parts ++ map (moved (length c.as_slice-base.result.now)) qs) c.as_slice-2.ensures),
+)
 
 pub returns-clause-ok : goal.returns-clause-ok
 returns-clause-ok g c =
     appended_kept c.self.inside.texts c.more.inside.texts c.extend.new.self c.self.inside.parts c.more.inside.parts c.push_moved.new.parts
     (length c.as_slice-base.result.now)
-    c.self.invariant (ap length c.as_slice-base.ensures)
+    c.self.invariant.0 (ap length c.as_slice-base.ensures)
     (c.in_ok-extend.ensures.ok ∙ ap (λ xs. c.self.inside.texts ++ xs) c.as_slice.ensures)
     (c.in_default.ensures.ok ∙ ap (λ qs. c.self.inside.parts ++ map (moved (length c.as_slice-base.result.now)) qs) c.as_slice-2.ensures)
     ∙ (ap (λ ss. ss ++ kept_slots c.more.inside.texts c.more.inside.parts) c.self.view_is ∙ ap (λ ss. c.args.self.now ++ ss) c.more.view_is)
@@ -55,7 +61,7 @@ returns-clause-ok g c =
 pub returns-clause-cost : goal.returns-clause-cost
 returns-clause-cost g c =
     let k : slots_cost c.args.more.now ≡ 16 * length c.more.inside.parts + length c.more.inside.texts =
-    full_cost c.more.inside.texts c.more.inside.parts c.args.more.now c.more.invariant c.more.view_is in
+    full_cost c.more.inside.texts c.more.inside.parts c.args.more.now c.more.invariant.0 c.more.view_is in
     let t : length c.as_slice.result.now ≡ length c.more.inside.texts = ap length c.as_slice.ensures in
     let n : length c.as_slice-2.result.now ≡ length c.more.inside.parts = ap length c.as_slice-2.ensures in
     grown c.args.meter.now c.extend.new.meter c.push_moved.new.meter (length c.as_slice.result.now) (length c.as_slice-2.result.now)

@@ -9,10 +9,10 @@ there : (texts : List ℕ) (ps : List Part) (now : List (Option (List ℕ))) (i 
 there texts ps now i e k = let n : length (kept_slots texts ps) ≡ length now = ap length e in let m : length (kept_slots texts ps) ≡ length ps = kept_count texts ps in omega (arith, k, n, m)
 
 none_there : Part
-none_there = record { from = 0; to = 0; known = false }
+none_there = record { from = 0; to = 0; known = false; simple = false }
 
 pub between-requires : goal.between-requires
 unfolding none_there
 between-requires g c =
-    let t = tile_at none_there 0 c.self.inside.parts (length c.self.inside.texts) c.args.i c.self.invariant (there c.self.inside.texts c.self.inside.parts c.args.self.now c.args.i c.self.view_is c.requires) in
+    let t = tile_at none_there 0 c.self.inside.parts (length c.self.inside.texts) c.args.i c.self.invariant.0 (there c.self.inside.texts c.self.inside.parts c.args.self.now c.args.i c.self.view_is c.requires) in
     rw (c.as_slice-then-part.ensures, c.as_slice.ensures) t

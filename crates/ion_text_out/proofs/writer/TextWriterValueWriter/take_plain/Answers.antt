@@ -20,14 +20,14 @@ pub returns-in-Null-clause-puts : goal.returns-in-Null-clause-puts
 returns-in-Null-clause-puts g c e path stands continues =
     let w = c.args.self.now in
     let item = c.args.item in
-    adds_here w.limits w.kinds w.empty path item _ _ _ stands.1 (ap (λ s. s.pending) (c.take_scalar.ensures.puts e))
+    adds_here w.limits w.kinds w.empty path item _ _ _ stands.1 (ap (λ s. s.pending) (c.take_copied.ensures.puts e))
     (scalar_put (shown w.kinds w.empty) item (value.null c.in-Null.of) _ c.requires.simple (ap raw_head c.in-Null.is) c.null.ensures)
 
 pub returns-in-Bool-clause-puts : goal.returns-in-Bool-clause-puts
 returns-in-Bool-clause-puts g c e path stands continues =
     let w = c.args.self.now in
     let item = c.args.item in
-    adds_here w.limits w.kinds w.empty path item _ _ _ stands.1 (ap (λ s. s.pending) (c.take_scalar-in-Bool.ensures.puts e))
+    adds_here w.limits w.kinds w.empty path item _ _ _ stands.1 (ap (λ s. s.pending) (c.take_copied-in-Bool.ensures.puts e))
     (scalar_put (shown w.kinds w.empty) item (value.bool c.in-Bool.truth) _ c.requires.simple (ap raw_head c.in-Bool.is) c.bool_text.ensures)
 
 pub returns-in-Int-clause-puts : goal.returns-in-Int-clause-puts

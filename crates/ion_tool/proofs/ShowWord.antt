@@ -1,12 +1,14 @@
 -- What some words ask for, worked out.
-use Rattle.std.proofs.Common.{refl, [], ◌∷◌, codes, ◌≡◌, Some, None, List}
+use Rattle.std.proofs.Common.{refl, [], ◌∷◌, codes, ◌≡◌, ◌∙◌, sym, ap, inl, inr, Some, None, List, Option}
 use Rattle.clap.proofs.OnLiterals.{clap_on_literals}
-use Rattle.clap.specs.Words.{Text, fault_of}
+use Rattle.clap.specs.Words.{Row, Text, fault_of, subcommand_of}
 use Rattle.clap.specs.declared.error.kind.ErrorKind.TheVariants.{DisplayVersion, UnknownArgument, ValueValidation}
 use Rattle.ion_meter.specs.declared.limits.Limits.{Limits}
 use Rattle.ion_meter.specs.Limits.{default_limits}
-use Rattle.ion_tool.specs.Words.{ion_app, limits_in, Names}
+use Rattle.ion_tool.specs.Words.{action_name, form_in, form_word, ion_app, limits_in, AsksRun, IsRun, Names}
+use Rattle.ion_tool.proofs.OneRun.{some_is}
 use Rattle.ion_transcode.specs.declared.to.Form.TheVariants as form
+use Rattle.ion_tool.specs.declared.words.Action.{Action}
 use Rattle.ion_tool.specs.declared.words.Action.TheVariants.{Show, Check, Convert}
 
 -- without options the limits are the usual ones
@@ -51,6 +53,28 @@ show_has_one_form = refl
 pub check_has_none : fault_of ion_app (codes "check" ∷ codes "--to=binary" ∷ []) ≡ UnknownArgument ∷ []
 unfolding clap_on_literals
 check_has_none = refl
+
+-- behind it a word that is no form's asks for no run
+abbrev others : List Text
+others = codes "convert" ∷ codes "--to" ∷ codes "bin" ∷ []
+
+other_word : (action : Action) → Some (codes "bin") ≡ form_word action → ⊥
+other_word Show e = cc e
+other_word Check e = cc e
+other_word (Convert None) e = cc e
+other_word (Convert (Some form.Text)) e = cc e
+other_word (Convert (Some form.Binary)) e = cc e
+
+word_of_others : (name : Text) (rows : List Row) → subcommand_of ion_app others ≡ Some (name, rows) → form_in rows ≡ Some (codes "bin")
+unfolding clap_on_literals
+word_of_others name rows e = ap (λ (p : Text × List Row). form_in p.1) (some_is (sym e))
+
+no_run_of_others : (action : Action) (limits : Limits) (catalog file : Option Text) → IsRun others action limits catalog file → ⊥
+no_run_of_others action limits catalog file (inl none) = cc none.0
+no_run_of_others action limits catalog file (inr n) = other_word action (sym (word_of_others (action_name action) n.rows n.named) ∙ n.formed)
+
+pub no_such_form : AsksRun others → ⊥
+no_such_form asks = no_run_of_others asks.0 asks.1 asks.2 asks.3 asks.4
 
 -- the catalogue has its option, and the word `-` names no file
 pub catalog_is_named : Names (codes "show" ∷ codes "--catalog" ∷ codes "tables.ion" ∷ codes "-" ∷ []) Show default_limits (Some (codes "tables.ion")) None

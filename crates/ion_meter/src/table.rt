@@ -184,10 +184,15 @@ impl<T, A: Allocator + Copy> Table<T, A> {
         ensures err { OnErr result ((self.new ≡ self.old) × (others.new ≡ others.old)) }
         ensures refused { OnErr result (IsRefused meter.old meter.new) }
     {
-        if self.items.reserve(1).is_err() || others.items.insert(place, other).is_err() {
+        if self.items.reserve(1).is_err() || others.items.push(other).is_err() {
             meter.refuse();
             return Err((entry, Fault::Memory));
         }
+        // One move, by places that a compiler knows; of `Vec::insert` it may make a loop.
+        let behind = &mut others.items[place..];
+        let moved = behind.len() - 1;
+        behind.copy_within(0..moved, 1);
+        behind[0] = other;
         self.items.push_reserved(entry);
         meter.add(self.cost + others.cost);
         Ok(())

@@ -1,4 +1,4 @@
-use Rattle.std.proofs.Common.{◌≡◌, ℕ, ◌+◌, ◌*◌, ◌-◌, ◌<◌, ◌≤◌, ◌↔◌, length, refl, ap, sym, subst, ◌∙◌, arith}
+use Rattle.std.proofs.Common.{◌≡◌, ◌+◌, ◌*◌, ◌-◌, ◌<◌, ◌≤◌, ◌↔◌, refl, ap, sym, subst, ◌∙◌, arith}
 use Rattle.ion_meter.specs.Sources.{BytesAreLeft, Exceeds}
 use Rattle.ion_meter.specs.Windows.{left}
 use Rattle.ion_meter.specs.declared.limits.Limits.{Limits}

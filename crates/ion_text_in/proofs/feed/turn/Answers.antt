@@ -1,5 +1,5 @@
-use Rattle.std.proofs.Common.{◌≡◌, ◌-◌, length, reverse, sym, arith}
-use Rattle.ion_text_in.specs.Feeding.{lane, Moved}
+use Rattle.std.proofs.Common.{◌-◌, length, reverse, sym, arith}
+use Rattle.ion_text_in.specs.Feeding.{lane}
 use Rattle.ion_text_in.proofs.FeedItems.{moved-member}
 use Rattle.ion_text_in.proofs.FeedLanes.{can-moved, moved-then}
 use Rattle.ion_text_in.proofs.feed.turn.Goals as goal

@@ -1,5 +1,5 @@
 -- Headers that go in together stand where they would one by one, and what is missing then stays right.
-use Rattle.std.proofs.Common.{◌≡◌, ℕ, zero, suc, ◌+◌, ◌-◌, ◌<◌, ◌≤◌, min, nat_eq, Bool, true, false, if◌then◌else◌, List, [], ◌∷◌, ◌++◌, length, map, take, drop, replicate, reverse, get_or, Some, None, refl, ap, sym, subst, ◌∙◌, arith, length-append}
+use Rattle.std.proofs.Common.{◌≡◌, ℕ, zero, suc, ◌+◌, ◌-◌, ◌<◌, ◌≤◌, min, nat_eq, Bool, true, false, if◌then◌else◌, List, [], ◌∷◌, ◌++◌, length, map, take, drop, replicate, reverse, get_or, Some, refl, ap, sym, subst, ◌∙◌, arith, length-append}
 use Rattle.std.specs.Prelude.{slice_get}
 use Rattle.std.specs.List.{AllByRecursion}
 use Rattle.std.proofs.lemmas.List.{drop-append-le, drop-drop, drop-take, drop_at, length-drop, length-replicate, length-take-le, take-append-drop, take-append-le, take-take, length-reverse, reverse-append}
@@ -20,16 +20,6 @@ pub got-drop : (hs : List HeaderPlace) (i : ℕ) (h : HeaderPlace) → slice_get
 got-drop [] i h e = absurd (Prim.cc e)
 got-drop (x ∷ hs) zero h e = let same : x ≡ h = Prim.cc e in ap (λ (y : HeaderPlace). y ∷ hs) same
 got-drop (x ∷ hs) (suc i) h e = let more : suc (i + 1) ≡ suc i + 1 = omega arith in got-drop hs i h e ∙ ap (λ k. h ∷ drop k (x ∷ hs)) more
-
-pub got-none : (hs : List HeaderPlace) (i : ℕ) → slice_get hs i ≡ None → length hs ≤ i
-got-none [] i e = omega arith
-got-none (x ∷ hs) zero e = absurd (Prim.cc e)
-got-none (x ∷ hs) (suc i) e = let r = got-none hs i e in omega (arith, r)
-
-pub placed-drop : (n i : ℕ) (hs : List HeaderPlace) → ArePlaced n hs → ArePlaced n (drop i hs)
-placed-drop n zero hs p = p
-placed-drop n (suc i) [] p = tt
-placed-drop n (suc i) (h ∷ hs) p = placed-drop n i hs (placed-more h.place n hs p.0 p.1)
 
 placed-take : (n k : ℕ) (hs : List HeaderPlace) → ArePlaced n hs → ArePlaced n (take k hs)
 placed-take n zero hs p = tt
@@ -52,7 +42,7 @@ drop-reverse hs k m e =
 -- ---- one header after the other
 
 -- one more goes in behind the others
-pub run-last : (k : ℕ) (octets : List ℕ) (hs : List HeaderPlace) → closed_run (k + 1) octets hs ≡ innermost_in (closed_run k octets hs) (drop k hs)
+run-last : (k : ℕ) (octets : List ℕ) (hs : List HeaderPlace) → closed_run (k + 1) octets hs ≡ innermost_in (closed_run k octets hs) (drop k hs)
 run-last zero octets hs = refl
 run-last (suc k) octets hs =
     let more : suc k + 1 ≡ suc (k + 1) = omega arith in
@@ -91,7 +81,7 @@ cut-cut : (ns : List ℕ) (less total : ℕ) → less ≤ total → cut less (cu
 cut-cut [] less total le = refl
 cut-cut (n ∷ ns) less total le = ap (λ m. m ∷ cut less (cut total ns)) (omega (arith, le)) ∙ ap (λ (ms : List ℕ). min n less ∷ ms) (cut-cut ns less total le)
 
-pub run-put : (limits : Limits) (k : ℕ) (ns octets : List ℕ) (hs : List HeaderPlace) → AreChecked limits → k ≤ length hs
+run-put : (limits : Limits) (k : ℕ) (ns octets : List ℕ) (hs : List HeaderPlace) → AreChecked limits → k ≤ length hs
     → ArePlaced (length octets) hs → AreReached ns (length octets) hs → size_of octets hs ≤ limits.value
     → IsPut limits (cut (length (drop k hs)) ns) (closed_run k octets hs) (drop k hs)
 run-put limits zero ns octets hs checked le p r fits =
@@ -211,7 +201,7 @@ run-next k i octets hs h got lt =
     at a b e = omega (arith, e)
 
 -- there is room for it where there is room for all
-pub run-room : (k i n : ℕ) (octets : List ℕ) (hs : List HeaderPlace) (h : HeaderPlace) → slice_get hs i ≡ Some h → i < k → k ≤ length hs → ArePlaced (length octets) (drop i hs)
+run-room : (k i n : ℕ) (octets : List ℕ) (hs : List HeaderPlace) (h : HeaderPlace) → slice_get hs i ≡ Some h → i < k → k ≤ length hs → ArePlaced (length octets) (drop i hs)
     → length (closed_run (k - i) octets (drop i hs)) ≡ n → length octets + length (header h.code (length octets - h.place)) ≤ n
 run-room k i n octets hs h got lt le p e =
     let P : List HeaderPlace → Type 0 = λ gs. ArePlaced (length octets) gs in

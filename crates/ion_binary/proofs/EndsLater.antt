@@ -1,24 +1,19 @@
 -- An end that waits is that of the streaming definition.
-use Rattle.std.proofs.Common.{◌≡◌, ℕ, ◌-◌, ◌<◌, ◌≤◌, inl, List, [], length, drop, Option, None, Some, Result, Ok, Err, OnOk, refl, ap, sym, subst, ◌∙◌, arith, length-drop}
-use Rattle.ion_meter.specs.Counts.{Counts}
+use Rattle.std.proofs.Common.{◌≡◌, ℕ, ◌-◌, ◌<◌, ◌≤◌, inl, List, [], length, drop, Option, None, Ok, refl, ap, sym, subst, ◌∙◌, arith, length-drop}
 use Rattle.ion_meter.specs.Windows.{Outgoing}
 use Rattle.ion_meter.specs.declared.device.Output.{Ghosts as OutputOf}
-use Rattle.ion_meter.specs.declared.fault.Fault.{Fault}
-use Rattle.ion_meter.specs.declared.fault.Fault.TheVariants.{Memory, Refused}
 use Rattle.ion_meter.specs.declared.fault.Reason.{Reason}
-use Rattle.ion_meter.specs.declared.limits.Limits.{Limits}
 use Rattle.ion_value.specs.Value as value
 use Rattle.ion_value.specs.Value.{PlacedItem, user_item}
 use Rattle.ion_symbols.specs.Output.{texts_cost}
 use Rattle.ion_binary.specs.declared.open_value.OpenValue.{OpenValue}
 use Rattle.ion_binary.specs.declared.writer.BinWriter.{BinWriter}
-use Rattle.ion_binary.specs.Held.{Held, MayCome, closed_in, closed_run, headers_around, held_forgotten, held_of, size_of, value_held, value_put}
-use Rattle.ion_binary.specs.Opening.{IsOpen, Stepped, open_cost}
-use Rattle.ion_binary.specs.Writer.{CanTake, ComesAt, Follows, Holds, PutsOctets, Taken, added, adds_at, held_closed, held_in}
-use Rattle.ion_binary.specs.Writing.{Written, after, first_over, item_puts, item_symbols, refused_at, unless_refused}
+use Rattle.ion_binary.specs.Held.{Held, closed_in, closed_run, headers_around, held_forgotten, held_of, size_of, value_held, value_put}
+use Rattle.ion_binary.specs.Writer.{ComesAt, Follows, PutsOctets, added, adds_at, held_closed}
+use Rattle.ion_binary.specs.Writing.{Written, first_over, item_puts, item_symbols, refused_at, unless_refused}
 use Rattle.ion_binary.proofs.EndedRuns.{run-size}
 use Rattle.ion_binary.proofs.PlainAdded.{ended-added, ended-bare, ended-known, have-allowed, held-inside}
-use Rattle.ion_binary.proofs.WriterFollows.{codes-after, forgotten-is, held-behind, held-now, may-add, put-behind, refusal-is}
+use Rattle.ion_binary.proofs.WriterFollows.{codes-after, forgotten-is, held-behind, may-add, put-behind, refusal-is}
 use Rattle.ion_binary.proofs.WriterSteps.{kept, not-refused, puts-nothing}
 
 module _ {A : Type 0} (old : BinWriter A) (n : ℕ) (s : Written) (item : PlacedItem) (comes : ComesAt old s item) (share : texts_cost old.symbols.texts ≤ old.limits.symbols)
@@ -89,65 +84,3 @@ module _ {A : Type 0} (old : BinWriter A) (n : ℕ) (s : Written) (item : Placed
   later-puts device sink =
       let P : List ℕ → Type 0 = λ os. PutsOctets {T = Unit {0}} device sink sink (Ok tt) os in
       subst P later-adds (puts-nothing device sink tt (held_closed new) (held_closed new).headers (held_closed new).octets more)
-
--- ---- the headers that wait go in
-
--- its open value has moved, and so many ends wait
-pub ended-taken : {A : Type 0} (w : BinWriter A) (v : OpenValue A) (n : ℕ) (before after : Counts) (fault : Option Fault) → CanTake w before
-    → Stepped w.limits w.open_value v before after fault → Taken w (record w { open_value = v; ended = n }) before after fault
-ended-taken w v n before after fault c s = record {
-  sound = record { checked = c.sound.checked; within = s.within; limit = c.sound.limit; share = c.sound.share; few = c.sound.few };
-  limits = refl;
-  failed = refl;
-  memory = s.memory;
-  charges =
-      let texts = c.sound.share in
-      let held = s.charges.held in
-      let share = s.charges.share in
-      let peak = s.charges.peak in
-      let rises = s.charges.rises in
-      let own = c.held in
-      record { held = omega (arith, held); share = omega (arith, share, texts); peak = omega (arith, peak, texts, own); rises = rises };
-}
-
--- a call may follow
-pub ended-can-take : {A : Type 0} (w : BinWriter A) (v : OpenValue A) (n : ℕ) (before after : Counts) → CanTake w before → Stepped w.limits w.open_value v before after None
-    → open_cost v ≤ open_cost w.open_value → CanTake (record w { open_value = v; ended = n }) after
-ended-can-take w v n before after c s less =
-    let t = ended-taken w v n before after None c s in
-    let held = s.charges.held in
-    let room = c.room in
-    let own = c.held in
-    let refused = s.memory.counted (λ e. absurd (Prim.cc e)) in
-    let countable = c.countable in
-    record { sound = t.sound; room = omega (arith, held, room, less, own); held = omega (arith, held, own); countable = omega (arith, refused, countable) }
-
--- the item comes where they are in
-pub comes-closed : {A : Type 0} (old mid : BinWriter A) (s : Written) (item : PlacedItem) → ComesAt old s item → held_in mid ≡ held_closed old → IsOpen mid.limits mid.open_value
-    → mid.ended ≡ 0 → mid.limits ≡ old.limits → ComesAt mid s item
-comes-closed old mid s item comes held opened none same =
-    let P : Limits → Type 0 = λ l. MayCome l.depth s (user_item item) in
-    (record { held = held-now mid none ∙ (held ∙ comes.0.held); is_open = opened; ended = omega (arith, none); codes = comes.0.codes }, subst P (sym same) comes.1)
-
--- it leads where it leads from before
-pub follows-closed : {A : Type 0} (old mid new : BinWriter A) (s : Written) (item : PlacedItem) (result : Result (Unit {0}) Fault) → mid.limits ≡ old.limits
-    → Follows mid new s item result → Follows old new s item result
-follows-closed old mid new s item result same f =
-    let P : Limits → Type 0 = λ l. OnOk result (Holds new (after l.symbols s (user_item item))) in
-    let Q : Limits → Type 0 = λ l. OnOk result (refused_at l s item ≡ None) in
-    let R : Limits → Type 0 = λ l. (r : Reason) (p : ℕ) → result ≡ Err (Refused r p) → refused_at l s item ≡ Some (r, p) in
-    record { holds = subst P same f.holds; passes = subst Q same f.passes; refuses = subst R same f.refuses }
-
-pub puts-closed : {A O T : Type 0} (old mid : BinWriter A) (s : Written) (item : PlacedItem) (device : OutputOf O) (sink out : Outgoing O) (result : Result T Fault) → mid.limits ≡ old.limits
-    → PutsOctets device sink out result (adds_at mid.limits s item) → PutsOctets device sink out result (adds_at old.limits s item)
-puts-closed old mid s item device sink out result same p =
-    let P : Limits → Type 0 = λ l. PutsOctets device sink out result (adds_at l s item) in
-    subst P same p
-
--- no memory is no refusal
-pub memory-follows : {A : Type 0} (old new : BinWriter A) (s : Written) (item : PlacedItem) (fault : Fault) → fault ≡ Memory → Follows old new s item (Err fault)
-memory-follows old new s item fault is = record {
-  holds = tt;
-  passes = tt;
-  refuses = λ r p e. let x : ◌≡◌ {A = Result (Unit {0}) Fault} (Err Memory) (Err (Refused r p)) = ap (λ (f : Fault). let y : Result (Unit {0}) Fault = Err f in y) (sym is) ∙ e in absurd (Prim.cc x);
-}

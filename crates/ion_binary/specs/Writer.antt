@@ -89,9 +89,10 @@ pub record PutsOctets {O T : Type 0} (device : OutputOf O) (old new : Outgoing O
 abbrev pub limits_of : {A : Type 0} → BinWriter A → Limits
 limits_of w = w.limits
 
--- nothing was put
+-- nothing was put, and nothing is held
 pub record IsNew {A : Type 0} (w : BinWriter A) : Type 0 where
   pub well : w.failed ≡ None
+  pub held : held_in w ≡ held_of at_begin
   pub holds : Holds w at_begin
 
 -- an item may come where the streaming definition is

@@ -7,10 +7,6 @@ use Rattle.ion_meter.specs.Sources.{Moves}
 use Rattle.ion_value.specs.Calls.{passed_over}
 use Rattle.ion_value.specs.Shares.{GrowsWithin}
 
--- a call that took no memory
-pub grows-none : (m : Counts) (n more : ℕ) → GrowsWithin m m n n more
-grows-none m n more = record { own = omega arith; peak = omega arith }
-
 -- what is within less is within more
 pub grows-more : (a b : Counts) (k l less more : ℕ) → less ≤ more → GrowsWithin a b k l less → GrowsWithin a b k l more
 grows-more a b k l less more le x =
@@ -56,8 +52,8 @@ grows-behind device s t u a b c k l n y held first then some few one two =
     grows-then a b c k l n (8 * passed_over s t) y (8 * passed_over s u) held one two (omega (arith, sum)) (omega (arith, sum, own, some, few))
 
 -- two calls that take 16 for each byte
-pub goes-then : {I : Type 0} (device : InputOf I) (s t u : Incoming I) (a b c : Counts) (k l n : ℕ) → b.held + k ≡ a.held + l → Moves device s t → Moves device t u
+pub grows-read : {I : Type 0} (device : InputOf I) (s t u : Incoming I) (a b c : Counts) (k l n : ℕ) → b.held + k ≡ a.held + l → Moves device s t → Moves device t u
     → GrowsWithin a b k l (16 * passed_over s t) → GrowsWithin b c l n (16 * passed_over t u) → GrowsWithin a c k n (16 * passed_over s u)
-goes-then device s t u a b c k l n held first then one two =
+grows-read device s t u a b c k l n held first then one two =
     let sum = passed-then device s t u first then in let own = one.own in
     grows-then a b c k l n (16 * passed_over s t) (16 * passed_over t u) (16 * passed_over s u) held one two (omega (arith, sum)) (omega (arith, sum, own))

@@ -1,7 +1,7 @@
 use Rattle.std.proofs.Common.{◌∙◌, Option, ℕ, refl, ap, sym, subst, arith}
 use Rattle.ion_meter.specs.declared.fault.Reason.TheVariants.{Truncated}
 use Rattle.ion_value.specs.Shares.{GoesWithReading}
-use Rattle.ion_value.proofs.GrowsWithin.{goes-then}
+use Rattle.ion_value.proofs.GrowsWithin.{grows-read}
 use Rattle.ion_text_in.specs.declared.reader.TextReader.{TextReader}
 use Rattle.ion_text_in.specs.Steps.{held_by, left_to, later, state_behind, unless_unfinished}
 use Rattle.ion_meter.specs.Sources.{cursor}
@@ -98,7 +98,7 @@ loop-fault-preserved g c =
           (reached-passed g.I.Input c.loop-fault.self c.step.new.self c.loop-fault.meter c.step.new.meter c.in-Ok-Passed.field-0 passed e.stepped);
       inside = passed-ready g.I.Input c.step.new.self c.in-Ok-Passed.field-0 passed e.ready;
       grows =
-          goes-then g.I.Input c.args.self.now.source c.loop-fault.self.source c.step.new.self.source c.args.meter.now c.loop-fault.meter c.step.new.meter (held_by c.args.self.now)
+          grows-read g.I.Input c.args.self.now.source c.loop-fault.self.source c.step.new.self.source c.args.meter.now c.loop-fault.meter c.step.new.meter (held_by c.args.self.now)
           (held_by c.loop-fault.self) (held_by c.step.new.self) inv.reached.held.charges.held inv.reached.held.moves e.stepped.reads.moves inv.grows e.goes;
       less = omega (arith, less, falls);
       same = λ h. inv.same h ∙ passed-gives g.I.Input _ c.step.new.self c.in-Ok-Passed.field-0 passed (e.gives (inv.reached.held.moves.still_observable.1 h));
@@ -108,19 +108,19 @@ pub returns-in-Err-clause-goes : goal.returns-in-Err-clause-goes
 returns-in-Err-clause-goes g c =
     let inv = c.loop-fault.invariant in
     let e = c.in-Err.ensures in
-    goes-then g.I.Input c.args.self.now.source c.loop-fault.self.source c.step.new.self.source c.args.meter.now c.loop-fault.meter c.step.new.meter (held_by c.args.self.now)
+    grows-read g.I.Input c.args.self.now.source c.loop-fault.self.source c.step.new.self.source c.args.meter.now c.loop-fault.meter c.step.new.meter (held_by c.args.self.now)
     (held_by c.loop-fault.self) (held_by c.step.new.self) inv.reached.held.charges.held inv.reached.held.moves e.stepped.reads.moves inv.grows e.goes
 
 pub returns-in-Ok-Ended-clause-goes : goal.returns-in-Ok-Ended-clause-goes
 returns-in-Ok-Ended-clause-goes g c =
     let inv = c.loop-fault.invariant in
     let e = c.in-Ok-Ended.ensures in
-    goes-then g.I.Input c.args.self.now.source c.loop-fault.self.source c.step.new.self.source c.args.meter.now c.loop-fault.meter c.step.new.meter (held_by c.args.self.now)
+    grows-read g.I.Input c.args.self.now.source c.loop-fault.self.source c.step.new.self.source c.args.meter.now c.loop-fault.meter c.step.new.meter (held_by c.args.self.now)
     (held_by c.loop-fault.self) (held_by c.step.new.self) inv.reached.held.charges.held inv.reached.held.moves e.stepped.reads.moves inv.grows e.goes
 
 pub returns-in-Ok-Item-clause-goes : goal.returns-in-Ok-Item-clause-goes
 returns-in-Ok-Item-clause-goes g c =
     let inv = c.loop-fault.invariant in
     let e = c.in-Ok-Item.ensures in
-    goes-then g.I.Input c.args.self.now.source c.loop-fault.self.source c.step.new.self.source c.args.meter.now c.loop-fault.meter c.step.new.meter (held_by c.args.self.now)
+    grows-read g.I.Input c.args.self.now.source c.loop-fault.self.source c.step.new.self.source c.args.meter.now c.loop-fault.meter c.step.new.meter (held_by c.args.self.now)
     (held_by c.loop-fault.self) (held_by c.step.new.self) inv.reached.held.charges.held inv.reached.held.moves e.stepped.reads.moves inv.grows e.goes

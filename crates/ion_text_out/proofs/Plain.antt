@@ -1,8 +1,7 @@
 -- What is put of a plain item is its text.
-use Rattle.std.proofs.Common.{◌≡◌, ℕ, ◌+◌, ◌≤◌, Bool, true, false, ◌&&◌, List, [], ◌∷◌, ◌++◌, length, Option, Some, None, refl, sym, ap, ◌∙◌, append-nil, append_assoc, arith}
-use Rattle.std.specs.Prelude.{map, option_map, not, codes}
+use Rattle.std.proofs.Common.{◌≡◌, ℕ, ◌≤◌, Bool, true, false, ◌&&◌, List, [], ◌∷◌, ◌++◌, length, Option, Some, None, refl, sym, ap, ◌∙◌, append-nil, arith}
+use Rattle.std.specs.Prelude.{map, option_map, codes}
 use Rattle.std.specs.List.{flat_map}
-use Rattle.ion_value.specs.Digits.{first_is}
 use Rattle.ion_value.specs.Name.{is_plain, is_simple}
 use Rattle.ion_value.specs.Value as v
 use Rattle.ion_value.specs.Value.{PlacedItem, SymbolAt, Symbol, map_head, map_scalar, user_symbol, user_symbol_at, user_item}
@@ -12,7 +11,7 @@ use Rattle.ion_value.specs.declared.ion_type.Kind.{Kind}
 use Rattle.ion_value.specs.declared.ion_type.Kind.TheVariants as kind
 use Rattle.ion_value.specs.declared.plain_item.TextAt.{TextAt}
 use Rattle.ion_value.specs.declared.plain_item.PlainItem.{PlainItem}
-use Rattle.ion_text_out.specs.Text.{Open, annotation_text, before_item, behind_value, end_text, field_text, item_text, opener, scalar_text, separator, symbol_text}
+use Rattle.ion_text_out.specs.Text.{Open, annotation_text, before_item, behind_value, field_text, item_text, opener, scalar_text, symbol_text}
 use Rattle.ion_meter.specs.declared.limits.Limits.{Limits}
 use Rattle.ion_text_out.specs.Writing.{behind_end, closing, shown, text_adds, Shows}
 use Rattle.ion_text_out.specs.Lane.{plain_begin, plain_front, plain_name, plain_note, plain_scalar}

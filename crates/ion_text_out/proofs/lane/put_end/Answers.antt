@@ -1,6 +1,6 @@
 use Rattle.std.proofs.Common.{length, ap, arith}
 use Rattle.std.proofs.lemmas.List.{length-append}
-use Rattle.ion_text_out.specs.Writing.{behind_end, closing, shown}
+use Rattle.ion_text_out.specs.Writing.{shown}
 use Rattle.ion_text_out.proofs.Plain.{behind_end-short, closing-short}
 use Rattle.ion_text_out.proofs.lane.put_end.Goals as goal
 

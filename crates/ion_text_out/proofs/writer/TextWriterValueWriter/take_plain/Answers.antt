@@ -1,4 +1,4 @@
-use Rattle.std.proofs.Common.{refl, ap, subst, ◌∙◌, ◌<◌, length, ◌≡◌}
+use Rattle.std.proofs.Common.{refl, ap, subst, length}
 use Rattle.ion_value.specs.Items.{raw_head, symbol_at}
 use Rattle.ion_value.specs.PlainItems.{placed_item}
 use Rattle.ion_value.specs.Value as value

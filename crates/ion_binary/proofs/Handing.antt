@@ -1,5 +1,5 @@
 -- An item that a window shows whole is the next one of the reading.
-use Rattle.std.proofs.Common.{◌≡◌, ℕ, ◌+◌, ◌-◌, ◌*◌, ◌<◌, ◌≤◌, Bool, true, false, List, [], ◌∷◌, ◌++◌, length, take, drop, map, Option, Some, None, Ok, refl, ap, sym, subst, ◌∙◌, arith}
+use Rattle.std.proofs.Common.{◌≡◌, ℕ, ◌+◌, ◌-◌, ◌*◌, ◌<◌, ◌≤◌, true, false, List, [], ◌∷◌, ◌++◌, length, take, drop, map, Option, Some, None, Ok, refl, ap, sym, subst, ◌∙◌, arith}
 use Rattle.std.specs.Prelude.{option_map, is_some, slice_get}
 use Rattle.std.proofs.lemmas.Option.{slice_get-get_or}
 use Rattle.std.proofs.lemmas.Grind.{common_steps}
@@ -19,9 +19,9 @@ use Rattle.ion_value.specs.Value.{SymbolAt, PlacedItem}
 use Rattle.ion_value.proofs.Readings.{reading_by-gives}
 use Rattle.ion_binary.specs.declared.wrapper.Frame as frame
 use Rattle.ion_binary.specs.declared.shown.Shown.{Shown}
-use Rattle.ion_binary.specs.Positions.{Frame, State, placed_scalar, symbol_id}
+use Rattle.ion_binary.specs.Positions.{Frame, placed_scalar, symbol_id}
 use Rattle.ion_binary.specs.Descriptor.{Region, var_uint_at}
-use Rattle.ion_binary.specs.Reading.{field_at, field_in, member_at, placed_item, region_of, step, step_for, step_of, top_of, value_at}
+use Rattle.ion_binary.specs.Reading.{field_at, member_at, placed_item, region_of, step, step_for, step_of, top_of}
 use Rattle.ion_binary.specs.Reader.{IsInnermost, at_top, inside}
 use Rattle.ion_binary.specs.Shown.{Reaches, ShowsItem, ShowsNote, ShowsValue, ShowsVar, far_end, shown_value, window}
 use Rattle.ion_binary.proofs.ShownParts.{reaches-less, shows_noted}
@@ -45,7 +45,7 @@ use Rattle.ion_binary.proofs.Termination.{step-shrinks}
 use Rattle.std.specs.Prelude.{reverse}
 use Rattle.ion_binary.specs.Lane.{EndsHere, GoesOn, ShowsField, ShowsNoted}
 use Rattle.ion_binary.specs.Wrappers.{as_frame, as_frames, innermost}
-use Rattle.ion_binary.proofs.ReaderParts.{innermost-field, innermost-region, inside-member, inside-top, member_at-field, top-member}
+use Rattle.ion_binary.proofs.ReaderParts.{innermost-field, innermost-region, inside-member, member_at-field, top-member}
 
 -- what is left of a source is what its window lends, and more
 pub left-window : {I : Type 0} (device : InputOf I) (s : Incoming I) → cursor device s ≡ window s.place (lent s) (drop (length (lent s)) (left device.rest s))

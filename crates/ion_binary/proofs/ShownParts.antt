@@ -1,26 +1,24 @@
 -- What a window shows is what reading gives, whatever follows it.
-use Rattle.std.proofs.Common.{◌≡◌, ℕ, suc, ◌+◌, ◌*◌, ◌-◌, ◌%◌, ◌<◌, ◌≤◌, Bool, true, false, ◌&&◌, leb, ltb, List, [], ◌∷◌, ◌++◌, length, take, drop, get_or, Option, Some, None, Result, Ok, Err, refl, ap, sym, subst, ◌∙◌, arith, add-one}
+use Rattle.std.proofs.Common.{◌≡◌, ℕ, suc, ◌+◌, ◌*◌, ◌-◌, ◌%◌, ◌<◌, ◌≤◌, Bool, true, false, ◌&&◌, leb, ltb, List, [], ◌∷◌, ◌++◌, length, take, drop, get_or, Option, Some, None, Result, Ok, refl, ap, sym, subst, ◌∙◌, arith, add-one}
 use Rattle.std.specs.Prelude.{IfSome, ◌||◌, nat_eq, nat_le, nat_lt, zero}
-use Rattle.std.proofs.lemmas.Bool.{agree_below_at, le-leb, le-ltb, lt-leb, lt-ltb, ne_eqb}
+use Rattle.std.proofs.lemmas.Bool.{agree_below_at, le-leb, le-ltb, lt-leb, ne_eqb}
 use Rattle.std.proofs.lemmas.Grind.{common_steps}
 use Rattle.std.proofs.Math.ListN.{get_or-append}
 use Rattle.std.proofs.Math.Seq.{drop-cons}
 use Rattle.std.proofs.lemmas.List.{take-append-le, drop-append-le, drop-drop}
 use Rattle.ion_meter.specs.Sources.{Cursor, skip}
 use Rattle.ion_meter.specs.declared.fault.Reason.{Reason}
-use Rattle.ion_meter.specs.declared.fault.Reason.TheVariants.{ScalarLimit, Truncated, Overrun}
 use Rattle.ion_meter.specs.declared.limits.Limits.{Limits}
 use Rattle.ion_value.specs.declared.ion_type.Kind.{Kind}
-use Rattle.ion_value.specs.Parts.{◌>>=◌, ◌>>◌, Placed, part, refuse}
+use Rattle.ion_value.specs.Parts.{◌>>=◌}
 use Rattle.ion_value.specs.Scalar.{scalar_of_body}
 use Rattle.ion_value.specs.Value as value
 use Rattle.ion_value.specs.Value.{Symbol, SymbolAt, Scalar}
-use Rattle.ion_value.specs.Reading.{Step}
-use Rattle.ion_binary.specs.Positions.{Frame, State, symbol_id}
+use Rattle.ion_binary.specs.Positions.{symbol_id}
 use Rattle.ion_binary.specs.Descriptor.{Region, Shape, null, bool, nop_pad, wrapper, body, container, sorted, marker, float, illegal, first_octet, is_at_end, is_unwrappable, octet_at, length_at, passes, shape_of, var_uint_at}
 use Rattle.ion_binary.specs.Finds.{end_by, IsOfDescriptor}
-use Rattle.ion_binary.specs.Parts.{body_here, var_from}
-use Rattle.ion_binary.specs.Reading.{Around, TypedValue, a_scalar, a_container, bare_at, container_at, fits, ids_at, inner_at, read_by_descriptor, region_of, scalar_at, step_for, typed_value_at, value_at, wrapper_at, wrapper_length}
+use Rattle.ion_binary.specs.Parts.{body_here}
+use Rattle.ion_binary.specs.Reading.{TypedValue, a_scalar, bare_at, fits, ids_at, inner_at, read_by_descriptor, typed_value_at, wrapper_length}
 use Rattle.ion_binary.specs.Shown.{Fills, IsShown, Reaches, ShowsBegin, ShowsBody, ShowsItem, ShowsLength, ShowsNote, ShowsValue, ShowsVar, far_end, shown_scalar, shown_value, window}
 use Rattle.ion_binary.specs.declared.shown.Shown.{Shown}
 use Rattle.ion_binary.specs.declared.shown.Shown.TheVariants as shown

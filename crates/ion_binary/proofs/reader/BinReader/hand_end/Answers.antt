@@ -1,10 +1,10 @@
-use Rattle.std.proofs.Common.{◌≡◌, ℕ, ◌<◌, [], None, List, length, refl, ap, sym, subst, ◌∙◌, arith}
+use Rattle.std.proofs.Common.{◌≡◌, ◌<◌, [], None, List, length, refl, ap, sym, subst, ◌∙◌, arith}
 use Rattle.ion_meter.specs.Sources.{cursor}
 use Rattle.ion_value.specs.Reading.{Gives, More}
 use Rattle.ion_value.specs.Items.{named_item}
 use Rattle.ion_value.specs.Value as value
 use Rattle.ion_binary.specs.Positions.{Frame}
-use Rattle.ion_binary.specs.Reading.{placed_item, step}
+use Rattle.ion_binary.specs.Reading.{placed_item}
 use Rattle.ion_binary.specs.Reader.{IsInnermost, to_come}
 use Rattle.ion_binary.specs.Steps.{opened_in}
 use Rattle.ion_binary.specs.Wrappers.{as_frames}

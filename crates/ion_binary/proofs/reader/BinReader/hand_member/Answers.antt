@@ -1,4 +1,4 @@
-use Rattle.std.proofs.Common.{◌≡◌, ℕ, ◌+◌, ◌<◌, [], ◌∷◌, ◌++◌, List, None, length, refl, ap, sym, subst, ◌∙◌, arith}
+use Rattle.std.proofs.Common.{◌≡◌, ◌+◌, ◌<◌, [], ◌∷◌, ◌++◌, None, length, refl, ap, sym, subst, ◌∙◌, arith}
 use Rattle.std.proofs.lemmas.List.{length_push}
 use Rattle.ion_meter.proofs.Lent.{IsPassed-total, lent-CanPass}
 use Rattle.ion_value.proofs.Passing.{IsPassed-moves}
@@ -6,7 +6,7 @@ use Rattle.ion_value.specs.declared.item.Head.TheVariants as code
 use Rattle.ion_value.specs.declared.plain_item.PlainItem.{PlainItem}
 use Rattle.ion_value.specs.Items.{named_item}
 use Rattle.ion_value.specs.PlainItems as PlainItems
-use Rattle.ion_value.specs.Reading.{Gives, More}
+use Rattle.ion_value.specs.Reading.{More}
 use Rattle.ion_value.specs.Standing.{Fits}
 use Rattle.ion_value.specs.Value as value
 use Rattle.ion_binary.specs.declared.wrapper.Frame.{Frame}

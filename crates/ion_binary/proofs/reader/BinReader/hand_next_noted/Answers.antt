@@ -1,4 +1,4 @@
-use Rattle.std.proofs.Common.{◌≡◌, ◌∙◌, sym, ap, ◌-◌, List, length, slice_get}
+use Rattle.std.proofs.Common.{◌∙◌, sym, ap, ◌-◌, List, length, slice_get}
 use Rattle.ion_binary.specs.declared.wrapper.Frame.{Frame}
 use Rattle.ion_binary.proofs.Handing.{innermost-of}
 use Rattle.ion_binary.proofs.reader.BinReader.hand_next_noted.Goals as goal

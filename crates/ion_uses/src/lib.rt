@@ -62,16 +62,17 @@ pub fn count_with(
 {
     let mut meter = Meter::new(alloc);
     let (loaded, _) = load_catalog(&mut meter, limits, FromRead::new(catalog));
-    let tables = match loaded {
-        Ok(tables) => tables,
-        Err(fault) => return Err(fault),
-    };
-    let input = FromRead::new(stream);
-    let output = ToWrite::new(Vec::new(alloc));
-    let (answer, _, _) = run(&mut meter, &tables, limits, To::Nothing, input, output);
-    tables.release(&mut meter);
-    match answer {
-        Ok(summary) => Ok(summary.values),
+    match loaded {
+        Ok(tables) => {
+            let input = FromRead::new(stream);
+            let output = ToWrite::new(Vec::new(alloc));
+            let (answer, _, _) = run(&mut meter, &tables, limits, To::Nothing, input, output);
+            tables.release(&mut meter);
+            match answer {
+                Ok(summary) => Ok(summary.values),
+                Err(fault) => Err(fault),
+            }
+        }
         Err(fault) => Err(fault),
     }
 }

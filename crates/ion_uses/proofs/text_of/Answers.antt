@@ -4,7 +4,7 @@ use Rattle.ion_transcode.specs.Verdict.{HasVerdict}
 use Rattle.ion_transcode.specs.declared.to.To.TheVariants as to
 use Rattle.ion_uses.proofs.text_of.Goals as goal
 
--- the text is what the run wrote
+-- the text is what the run wrote; the type of `has` refuses a run to another target before anything is searched for
 pub returns-in-Ok-clause-text : goal.returns-in-Ok-clause-text
 returns-in-Ok-clause-text c =
     let said = (c.run-answer.ensures.accepted (search rules) c.in-Ok.field-0 c.in-Ok.is).1 in

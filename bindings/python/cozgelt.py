@@ -91,6 +91,9 @@ _library = _load()
 
 def _call(name: str, stream: bytes, catalog: bytes, limits: Tuple[int, int, int, int, int], guess: int) -> Tuple[bytes, int]:
     """The output, and how many values there are. guess: how long the output may be at the first try."""
+    for what, given_bytes in (("the stream", stream), ("the catalog", catalog)):
+        if not isinstance(given_bytes, bytes):
+            raise TypeError(f"{what} is {type(given_bytes).__name__}, not bytes")
     for number, most in zip(limits, (65535, 1 << 30, 1 << 30, 1 << 30, 1 << 48)):
         if not 0 <= number <= most:
             raise Invalid(f"{number} is no limit from 0 to {most}")

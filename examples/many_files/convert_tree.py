@@ -105,7 +105,7 @@ def files_below(source):
         folders.sort()
         for name in sorted(names):
             path = os.path.join(folder, name)
-            if os.path.splitext(name)[1] in ENDINGS.values() and os.path.isfile(path):
+            if os.path.splitext(name)[1] in ENDINGS.values() and not os.path.isdir(path):
                 yield os.path.relpath(path, source)
 
 
@@ -115,7 +115,10 @@ def fail(why):
 
 def is_done(told, words, source, dest):
     """Whether the report has the answer for a file that is as it was, and its result is there."""
-    there = os.stat(os.path.join(source, told["file"]))
+    try:
+        there = os.stat(os.path.join(source, told["file"]))
+    except OSError:
+        return False
     same = (told.get("size"), told.get("time"), told.get("words")) == (there.st_size, there.st_mtime_ns, words)
     return same and (told["status"] == "refused" or told["status"] == "ok" and os.path.exists(os.path.join(dest, told["out"])))
 

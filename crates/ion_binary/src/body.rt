@@ -1,5 +1,5 @@
 //! Bodies of scalars (binary encoding, "Typed Value Formats").
-ghost use Rattle.std.specs.Prelude.{◌≡◌, ◌≢◌, ◌+◌, ◌-◌, ◌^◌, ◌<◌, ◌≤◌, ℕ, List, length, take, Ok, Err, true, false, OnOk, MatchResult, IsTrue, ◌↔◌, IsAscii, IsUtf8};
+ghost use Rattle.std.specs.Prelude.{◌≡◌, ◌≢◌, ◌+◌, ◌-◌, ◌^◌, ◌<◌, ◌≤◌, ℕ, List, length, take, Ok, Err, true, false, OnOk, MatchResult, IsTrue, ◌↔◌, IsAscii, IsUtf8, slice_index};
 ghost use Rattle.ion_meter.specs.Windows.{left, lent};
 ghost use Rattle.ion_value.specs.Number.{uint};
 ghost use Rattle.ion_value.specs.Name.{raw_id};
@@ -22,6 +22,7 @@ use ion_value::int::{Int, int_from_bytes};
 use ion_value::ion_type::IonType;
 use ion_value::timestamp::{Timestamp, timestamp_from_bytes};
 use std::alloc::Allocator;
+use std::simd::prelude::*;
 
 /// A scalar that was read. The bytes of a string, clob or blob stand in a buffer beside it.
 #[derive(Clone, Copy)]
@@ -98,16 +99,24 @@ pub(crate) fn is_text(octets: &[u8]) -> bool
     is_short_ascii(octets) || simdutf8::basic::from_utf8(octets).is_ok()
 }
 
-// The most octets of a text that are looked at one after the other; `simdutf8` is faster on more.
+// The most octets of a text that are looked at here; `simdutf8` is faster on more.
 const SHORT: usize = 32;
 
-// Whether octets are few, and each of them is ASCII.
+// Whether octets are few, and each of them is ASCII. The blocks at both ends are looked at, which may
+// have octets in common.
 #[inline(always)]
 fn is_short_ascii(octets: &[u8]) -> bool
     ensures { result ≡ true → IsAscii octets.now }
 {
-    if octets.len() > SHORT {
+    let len = octets.len();
+    if len > SHORT {
         return false;
+    }
+    if len >= 16 {
+        return begins_ascii16(octets) && begins_ascii16(&octets[len - 16..]);
+    }
+    if len >= 8 {
+        return begins_ascii8(octets) && begins_ascii8(&octets[len - 8..]);
     }
     'octets: for octet in octets {
         if *octet >= 128 {
@@ -115,6 +124,30 @@ fn is_short_ascii(octets: &[u8]) -> bool
         }
     }
     true
+}
+
+// Whether the first sixteen octets are ASCII.
+#[inline(always)]
+fn begins_ascii16(octets: &[u8]) -> bool
+    requires { 16 ≤ length octets.now }
+    ensures { result ≡ true → (i : ℕ) → i < 16 → slice_index octets.now i < 128 }
+{
+    u8x16::from_slice(octets)
+        .simd_ge(u8x16::splat(128))
+        .to_bitmask()
+        == 0
+}
+
+// Whether the first eight are.
+#[inline(always)]
+fn begins_ascii8(octets: &[u8]) -> bool
+    requires { 8 ≤ length octets.now }
+    ensures { result ≡ true → (i : ℕ) → i < 8 → slice_index octets.now i < 128 }
+{
+    u8x8::from_slice(octets)
+        .simd_ge(u8x8::splat(128))
+        .to_bitmask()
+        == 0
 }
 
 // A string or a lob of these octets.

@@ -1,15 +1,13 @@
 -- What the bytes of a window show of the next token, as reading has it.
-use Rattle.std.proofs.Common.{◌≡◌, ℕ, zero, suc, ◌+◌, ◌-◌, ◌<◌, ◌≤◌, Bool, true, false, not, nat_le, ◌==◌, List, [], ◌∷◌, ◌++◌, length, take, drop, get_or, Option, Some, None, IfSome, Result, Ok, refl, sym, ap, subst, ◌∙◌, arith, append_assoc}
+use Rattle.std.proofs.Common.{◌≡◌, ℕ, zero, suc, ◌+◌, ◌-◌, ◌<◌, ◌≤◌, Bool, true, false, not, nat_le, ◌==◌, List, [], ◌∷◌, ◌++◌, length, take, drop, get_or, Option, Some, None, IfSome, Ok, refl, sym, ap, subst, ◌∙◌, arith, append_assoc}
 use Rattle.std.proofs.lemmas.List.{take-append-drop, drop-drop, length-drop, length-take-le}
 use Rattle.ion_meter.specs.Sources.{Cursor, skip}
 use Rattle.ion_meter.specs.declared.limits.Limits.{Limits}
-use Rattle.ion_meter.specs.declared.fault.Reason.{Reason}
 use Rattle.ion_meter.specs.declared.fault.Reason.TheVariants.{BadToken, DepthLimit}
 use Rattle.ion_value.specs.declared.ion_type.Kind.{Kind}
 use Rattle.ion_value.specs.Digits.{all_are, first_is}
-use Rattle.ion_value.specs.Parts.{part, refuse, ◌>>=◌, ◌>>◌}
-use Rattle.ion_value.specs.Reading.{Reading, Step, Gives, GoesOn, More, next_reading}
-use Rattle.ion_value.specs.Standing.{open_after, HasPlace}
+use Rattle.ion_value.specs.Parts.{part, refuse, ◌>>◌}
+use Rattle.ion_value.specs.Reading.{Gives, More}
 use Rattle.ion_value.specs.Value as value
 use Rattle.ion_value.specs.Value.{SymbolAt, Scalar, Head, PlacedItem}
 use Rattle.ion_text_in.specs.Blanks.{blanks, is_white}
@@ -26,20 +24,19 @@ use Rattle.ion_text_in.specs.Expecting.{wanted, MayExpect}
 use Rattle.ion_text_in.specs.Quick.{as_quick}
 use Rattle.ion_text_in.specs.Scanners.{Shows}
 use Rattle.ion_text_in.specs.Views.{as_number, number_token}
-use Rattle.ion_value.specs.Items.{raw_head}
 use Rattle.ion_value.specs.PlainItems.{HasSimpleSymbol}
 use Rattle.ion_value.specs.Standing.{InRange}
-use Rattle.ion_text_in.specs.Feeding.{state, bare_item, behind_head, Begins, IsBare, IsBehind, IsHead, IsNext, IsStart, Onward, PassesBlanks}
+use Rattle.ion_text_in.specs.Feeding.{state, bare_item, Begins, IsBare, IsBehind, IsHead, IsNext, IsStart, Onward, PassesBlanks}
 use Rattle.ion_text_in.specs.Meaning.{at}
-use Rattle.ion_text_in.specs.Positions.{State, Wants, a_value, a_field, a_separator, innermost, in_sexp}
-use Rattle.ion_text_in.specs.Reading.{step, step_of, take as taken, may_come, at_member, begin_step, end_step, behind_member, is_same, item_step, item_of, member_of, top_of, scalar_step}
+use Rattle.ion_text_in.specs.Positions.{Wants, a_value, a_field, a_separator, innermost, in_sexp}
+use Rattle.ion_text_in.specs.Reading.{take as taken, may_come, at_member, behind_member, is_same, item_step, item_of, member_of, top_of}
 use Rattle.ion_text_in.specs.Scanning.{moved_to}
 use Rattle.ion_text_in.specs.Steps.{comes, later}
 use Rattle.ion_text_in.specs.Token as tokens
 use Rattle.ion_text_in.specs.Token.{First, Token, first_at, token_of}
 use Rattle.ion_text_in.proofs.BlankTurns.{no-slash}
 use Rattle.ion_text_in.proofs.BlankRuns.{white-over}
-use Rattle.ion_text_in.proofs.ReaderLanes.{may-begin, may-comma, may-end}
+use Rattle.ion_text_in.proofs.ReaderLanes.{may-comma, may-end}
 use Rattle.ion_text_in.proofs.ReaderSteps.{blanks-going, later-moved, part-token, step-part}
 
 -- ---- what stands behind some bytes

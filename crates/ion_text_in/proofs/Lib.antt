@@ -80,6 +80,7 @@ mod SureRuns
 mod Suspects
 pub mod FeedReading
 pub mod FeedNames
+pub mod FeedComments
 pub mod FeedHeads
 pub mod FeedLanes
 pub mod FeedItems

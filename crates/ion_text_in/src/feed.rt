@@ -13,7 +13,8 @@ ghost use Rattle.ion_value.specs.Outcome.{one_if_closed};
 ghost use Rattle.ion_value.specs.Value.{whole};
 ghost use Rattle.ion_text_in.specs.Positions.{innermost};
 
-use crate::blank::white_run;
+mod comments;
+
 use crate::expected::{Expected, at_member, behind_comma, behind_member, is_same};
 use crate::first::{First, brace, shows_colon, told_first};
 use crate::number::{Number, scan_number};
@@ -21,6 +22,7 @@ use crate::quick::{Quick, scaled, scan_quick, signed_int};
 use crate::quoted::{Quote, scan_text};
 use crate::scanned::Scanned;
 use crate::word::{Word, scan_word, simple_word};
+use comments::behind_blanks;
 use ion_meter::device::Output;
 use ion_meter::limits::Limits;
 use ion_meter::meter::Meter;
@@ -110,18 +112,6 @@ fn front(count: usize, bytes: &[u8]) -> &[u8]
     &bytes[..count]
 }
 
-// Behind white space; nothing where a comment may begin, or where the bytes show no end.
-#[inline(always)]
-fn behind_white(bytes: &[u8]) -> &[u8]
-    ensures { 0 < length result.now → PassesBlanks bytes.now result.now }
-{
-    let white = white_run(bytes);
-    if white == bytes.len() || bytes[white] == b'/' {
-        return &[];
-    }
-    behind(white, bytes)
-}
-
 // What the next token is behind blanks.
 #[inline(always)]
 fn next_told(bytes: &[u8]) -> Next<'_>
@@ -131,7 +121,7 @@ fn next_told(bytes: &[u8]) -> Next<'_>
     if told > 0 {
         return Next { told, rest: bytes };
     }
-    let rest = behind_white(bytes);
+    let rest = behind_blanks(bytes);
     Next {
         told: told_first(rest),
         rest,
@@ -274,7 +264,7 @@ fn to_colon(bytes: &[u8]) -> Option<&[u8]>
     if shows_colon(bytes) {
         return Some(bytes);
     }
-    let rest = behind_white(bytes);
+    let rest = behind_blanks(bytes);
     if !shows_colon(rest) {
         return None;
     }

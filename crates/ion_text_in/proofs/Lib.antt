@@ -82,6 +82,7 @@ pub mod FeedReading
 pub mod FeedNames
 pub mod FeedComments
 pub mod FeedHeads
+pub mod FeedNoted
 pub mod FeedLanes
 pub mod FeedItems
 pub mod FeedReader

@@ -1,5 +1,5 @@
 -- A lane over the bytes of a window: where it stands, what it reads of them, and what it moves.
-use Rattle.std.specs.Prelude.{◌≡◌, ℕ, ◌+◌, ◌*◌, ◌-◌, ◌^◌, ◌<◌, ◌≤◌, Bool, true, false, List, [], ◌++◌, take, drop, length, reverse, is_some, Option, Some, None, Ok, option_map}
+use Rattle.std.specs.Prelude.{◌≡◌, ℕ, ◌+◌, ◌*◌, ◌-◌, ◌^◌, ◌<◌, ◌≤◌, Bool, true, false, List, [], ◌∷◌, ◌++◌, take, drop, length, reverse, is_some, Option, Some, None, Ok, option_map}
 use Rattle.ion_meter.specs.Counts.{Counts}
 use Rattle.ion_meter.specs.declared.limits.Limits.{Limits}
 use Rattle.ion_meter.specs.Limits.{AreChecked}
@@ -11,7 +11,7 @@ use Rattle.ion_value.specs.declared.writer.ValueWriter.{Ghosts as WriterOf}
 use Rattle.ion_value.specs.Feeding.{CanTake, Feeds, Joint, StaysWell}
 use Rattle.ion_value.specs.Items.{named_item, raw_head}
 use Rattle.ion_value.specs.Parts.{Placed}
-use Rattle.ion_value.specs.PlainItems.{placed_text, HasSimpleName, IsSimpleHead}
+use Rattle.ion_value.specs.PlainItems.{listed, placed_text, AreSimple, HasSimpleName, IsSimpleHead}
 use Rattle.ion_value.specs.Reading.{More}
 use Rattle.ion_value.specs.Shares.{Charges}
 use Rattle.ion_value.specs.Standing.{open_after, in_struct, has_field, is_marker, HasPlace, HeadInRange, WritesWithin}
@@ -98,9 +98,13 @@ behind_head kinds (value.begin kind) = member_of kind
 behind_head kinds value.end = a_value None []
 behind_head kinds value.marker = a_value None []
 
--- an item without annotations by its parts
-abbrev pub bare_item : List Kind → ℕ → Option SymbolAt → ℕ → Head SymbolAt → PlacedItem
-bare_item kinds top field place head = item_of (top_of kinds top [] place) field [] place head
+-- an item by its parts
+abbrev pub item_in : List Kind → ℕ → Option SymbolAt → List SymbolAt → ℕ → Head SymbolAt → PlacedItem
+item_in kinds top field annotations place head = item_of (top_of kinds top annotations place) field annotations place head
+
+-- the annotations of an item that has one at most
+abbrev pub notes : Option TextAt → List SymbolAt
+notes note = listed (option_map placed_text note)
 
 -- ---- parts of an item
 
@@ -114,16 +118,28 @@ pub record Begins (next : Next) : Type 0 where
 pub record IsNamed (limits : Limits) (place : ℕ) (next : Next) (start : Start) : Type 0 where
   pub text : TextAt
   pub is : start.field ≡ Some text
+  pub bare : start.note ≡ None
   pub simple : is_simple text.text.now ≡ true
   pub some : 0 < next.told
   pub onward : (kinds : List Kind) (top : ℕ) → Onward limits kinds top place a_field next.rest.now (a_value (Some (placed_text text)) []) start.next.rest.now
   pub begins : Begins start.next
 
--- a value begins here, behind the name of a field where one must come
+-- behind an annotation that begins at a place, and two colons, a value begins
+pub record IsNoted (limits : Limits) (place : ℕ) (start noted : Start) : Type 0 where
+  pub text : TextAt
+  pub is : noted.note ≡ Some text
+  pub same : noted.field ≡ start.field
+  pub simple : is_simple text.text.now ≡ true
+  pub onward : (kinds : List Kind) (top : ℕ) (field : Option SymbolAt)
+      → Onward limits kinds top place (a_value field []) start.next.rest.now (a_value field (placed_text text ∷ [])) noted.next.rest.now
+  pub begins : Begins noted.next
+
+-- a value begins here, behind the name of a field where one must come, and behind an annotation if it has one
 pub record IsStart (limits : Limits) (spot : Spot) (place : ℕ) (start : Start) : Type 0 where
   pub simple : HasSimpleName (option_map placed_text start.field)
+  pub noted : AreSimple (notes start.note)
   pub onward : (kinds : List Kind) → MayExpect spot.expected kinds None []
-      → Onward limits kinds spot.top place (wanted spot.expected None []) spot.rest.now (a_value (option_map placed_text start.field) []) start.next.rest.now
+      → Onward limits kinds spot.top place (wanted spot.expected None []) spot.rest.now (a_value (option_map placed_text start.field) (notes start.note)) start.next.rest.now
   pub named : (kinds : List Kind) → MayExpect spot.expected kinds None [] → is_some start.field ≡ in_struct kinds
   pub begins : Begins start.next
 
@@ -135,9 +151,9 @@ pub record IsHead (limits : Limits) (place : ℕ) (bytes : List ℕ) (head : Hea
   pub range : HeadInRange head
   pub member : (kinds : List Kind) → has_field kinds head ≡ in_struct kinds
   pub value : is_marker head ≡ false
-  pub gives : (kinds : List Kind) (top q : ℕ) (field : Option SymbolAt) (more : List ℕ) → HasPlace limits.depth kinds head → place + length bytes ≡ q + length rest
-      → later limits (state kinds top (a_value field []) place (bytes ++ more))
-      ≡ More (bare_item kinds top field place head) (later limits (state (open_after kinds head) (top_of kinds top [] place) (behind_head kinds head) q (rest ++ more)))
+  pub gives : (kinds : List Kind) (top q : ℕ) (field : Option SymbolAt) (annotations : List SymbolAt) (more : List ℕ) → HasPlace limits.depth kinds head → place + length bytes ≡ q + length rest
+      → later limits (state kinds top (a_value field annotations) place (bytes ++ more))
+      ≡ More (item_in kinds top field annotations place head) (later limits (state (open_after kinds head) (top_of kinds top annotations place) (behind_head kinds head) q (rest ++ more)))
 
 -- the same of what the code found
 abbrev pub IsFound : Limits → ℕ → List ℕ → Found → Type 0

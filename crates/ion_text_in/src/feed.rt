@@ -2,7 +2,7 @@
 ghost use Rattle.std.specs.Prelude.{◌≡◌, ◌≢◌, ◌+◌, ◌-◌, ◌^◌, ◌<◌, ◌≤◌, ℕ, Bool, List, [], ◌∷◌, ◌++◌, take, drop, length, reverse, true, false, None, Some, Ok, option_map, IfSome};
 ghost use Rattle.ion_value.specs.declared.ion_type.Kind as kind_of;
 ghost use Rattle.ion_text_in.specs.Expecting.{wanted, MayExpect};
-ghost use Rattle.ion_text_in.specs.Feeding.{lane, Begins, CanFeed, IsBare, IsFound, IsNamed, IsNext, IsSimpleWord, IsStart, Moved, Onward, PassesBlanks, ToColon};
+ghost use Rattle.ion_text_in.specs.Feeding.{lane, notes, Begins, CanFeed, IsBare, IsFound, IsNamed, IsNext, IsSimpleWord, IsStart, Moved, Onward, PassesBlanks, ToColon};
 ghost use Rattle.ion_text_in.specs.Firsts.{numbered};
 ghost use Rattle.ion_text_in.specs.Quick.{as_quick};
 ghost use Rattle.ion_text_in.specs.Reading.{top_of};
@@ -14,6 +14,7 @@ ghost use Rattle.ion_value.specs.Value.{whole};
 ghost use Rattle.ion_text_in.specs.Positions.{innermost};
 
 mod comments;
+mod noted;
 
 use crate::expected::{Expected, at_member, behind_comma, behind_member, is_same};
 use crate::first::{First, brace, shows_colon, told_first};
@@ -32,6 +33,7 @@ use ion_value::ion_type::Kind;
 use ion_value::item::{Head, Sym, SymAt};
 use ion_value::plain_item::{PlainItem, TextAt};
 use ion_value::writer::ValueWriter;
+use noted::noted;
 use std::alloc::Allocator;
 
 /// Where a lane stands between two items.
@@ -68,6 +70,8 @@ struct Member<'a> {
 pub(crate) struct Start<'a> {
     /// The name.
     field: Option<TextAt<'a>>,
+    /// The annotation, if there is one.
+    note: Option<TextAt<'a>>,
     /// What the value begins with.
     next: Next<'a>,
 }
@@ -190,7 +194,8 @@ fn behind_separator<'a>(spot: Spot<'a>, rest: &'a [u8], inner: Option<Kind>) -> 
 fn to_start<'a>(member: Member<'a>, limits: Limits, place: u64) -> Option<Start<'a>>
     requires next { IsNext member.spot.rest.now member.next }
     requires small { place + length member.spot.rest.now < 2 ^ 63 }
-    ensures { IfSome result (IsStart limits member.entry.spot place) }
+    ensures start { IfSome result (IsStart limits member.entry.spot place) }
+    ensures bare { IfSome result (λ s. s.note ≡ None) }
 {
     match member.spot.expected {
         Expected::Value => value_start(member.next),
@@ -218,13 +223,18 @@ fn place_behind(place: u64, member: Member<'_>) -> u64
 #[inline(always)]
 fn value_start<'a>(next: Next<'a>) -> Option<Start<'a>>
     ensures field { IfSome result (λ s. s.field ≡ None) }
+    ensures note { IfSome result (λ s. s.note ≡ None) }
     ensures next { IfSome result (λ s. s.next ≡ next.entry) }
     ensures some { IfSome result (λ s. 0 < length next.entry.rest.now) }
 {
     if next.rest.is_empty() {
         return None;
     }
-    Some(Start { field: None, next })
+    Some(Start {
+        field: None,
+        note: None,
+        next,
+    })
 }
 
 // The same behind the name that must come, and that begins at a place.
@@ -252,6 +262,7 @@ fn field_start<'a>(next: Next<'a>, limits: Limits, place: u64) -> Option<Start<'
     };
     Some(Start {
         field: Some(name),
+        note: None,
         next: value,
     })
 }
@@ -582,6 +593,7 @@ fn value<'a, W: ValueWriter<O, A>, O: Output, A: Allocator + Copy>(
     let Some(start) = to_start(member, limits, end - spot.rest.len() as u64) else {
         return stop(spot);
     };
+    let start = noted(start, limits, end, spot);
     let place = end - start.next.rest.len() as u64;
     let Some(found) = scan_head(limits, place, start.next) else {
         return stop(spot);
@@ -598,13 +610,14 @@ fn value<'a, W: ValueWriter<O, A>, O: Output, A: Allocator + Copy>(
 
 // Where the top-level value begins that an item is in whose head begins at a place.
 #[inline(always)]
-fn top_at(top: u64, inner: Option<Kind>, place: u64) -> u64
+fn top_at(top: u64, inner: Option<Kind>, note: Option<TextAt<'_>>, place: u64) -> u64
     ensures { (opened : List kind_of.Kind) → innermost opened ≡ inner
-        → result ≡ top_of opened top [] place }
+        → result ≡ top_of opened top (notes note.entry) place }
 {
-    match inner {
-        None => place,
-        Some(_) => top,
+    match (inner, note) {
+        (None, None) => place,
+        (None, Some(note)) => note.place,
+        (Some(_), _) => top,
     }
 }
 
@@ -638,13 +651,13 @@ fn begin<'a, W: ValueWriter<O, A>, O: Output, A: Allocator + Copy>(
         return stop(spot);
     }
     let place = end - start.next.rest.len() as u64;
-    let top = top_at(spot.top, innermost(kinds), place);
+    let top = top_at(spot.top, innermost(kinds), start.note, place);
     if !kinds.push_within(meter, kind) {
         return stop(spot);
     }
     let item = PlainItem {
         field: start.field,
-        annotation: None,
+        annotation: start.note,
         head: found.head,
         place,
         top,
@@ -689,10 +702,10 @@ fn scalar<'a, W: ValueWriter<O, A>, O: Output, A: Allocator + Copy>(
 {
     let inner = innermost(kinds);
     let place = end - start.next.rest.len() as u64;
-    let top = top_at(spot.top, inner, place);
+    let top = top_at(spot.top, inner, start.note, place);
     let item = PlainItem {
         field: start.field,
-        annotation: None,
+        annotation: start.note,
         head: found.head,
         place,
         top,

@@ -44,7 +44,7 @@ fn behind_comments(bytes: &[u8]) -> &[u8]
     }
 }
 
-// Behind the comment that begins here; nothing where none does, or where the bytes show no end of it.
+// Behind the comment that begins here; nothing where none does, or the bytes show no end of it.
 #[inline(always)]
 fn behind_comment(bytes: &[u8]) -> &[u8]
     ensures leads { 0 < length result.now

@@ -1,6 +1,5 @@
-use Rattle.std.proofs.Common.{◌≡◌, ◌∙◌, List, ℕ, Option, None, [], sym, ap, subst}
+use Rattle.std.proofs.Common.{◌∙◌, Option, sym, ap}
 use Rattle.ion_value.specs.declared.ion_type.Kind.{Kind}
-use Rattle.ion_text_in.specs.Expecting.{wanted}
 use Rattle.ion_text_in.specs.Reading.{at_member}
 use Rattle.ion_text_in.proofs.FeedReading.{onward-separator}
 use Rattle.ion_text_in.proofs.feed.behind_separator.Goals as goal

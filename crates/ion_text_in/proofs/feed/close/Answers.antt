@@ -1,4 +1,4 @@
-use Rattle.std.proofs.Common.{◌≡◌, ◌∙◌, ◌-◌, Option, List, ℕ, length, reverse, refl, sym, ap}
+use Rattle.std.proofs.Common.{◌∙◌, ◌-◌, Option, length, reverse, refl, sym, ap}
 use Rattle.ion_value.specs.declared.ion_type.Kind.{Kind}
 use Rattle.ion_text_in.specs.Reading.{behind_member}
 use Rattle.ion_text_in.proofs.FeedItems.{closed-cost, moved-closed, moved-declined, moved-stopped}

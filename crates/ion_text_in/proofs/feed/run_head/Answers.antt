@@ -1,5 +1,5 @@
 use Rattle.std.proofs.Common.{sym, subst, arith}
-use Rattle.ion_value.specs.Value.{Head, SymbolAt, whole}
+use Rattle.ion_value.specs.Value.{Head, SymbolAt}
 use Rattle.ion_text_in.specs.Feeding.{IsHead}
 use Rattle.ion_text_in.specs.Token.{a_run}
 use Rattle.ion_text_in.specs.Views.{as_number, number_token}

@@ -1,4 +1,4 @@
-use Rattle.std.proofs.Common.{◌≡◌, ◌∙◌, ◌-◌, Option, List, ℕ, length, reverse, refl, sym, ap}
+use Rattle.std.proofs.Common.{◌∙◌, ◌-◌, Option, length, reverse, sym, ap}
 use Rattle.ion_value.specs.declared.ion_type.Kind.{Kind}
 use Rattle.ion_value.specs.Items.{raw_head}
 use Rattle.ion_value.proofs.Handing.{may-take}

@@ -1,6 +1,8 @@
 //! The texts that ids stand for.
-ghost use Rattle.std.specs.Prelude.{◌≡◌, ℕ, List, Option, Some, None, true, MatchOption, IfSome};
+ghost use Rattle.std.specs.Prelude.{◌≡◌, ℕ, List, Option, Some, None, true, false, MatchOption, IfSome};
 ghost use Rattle.ion_value.specs.Name.{is_simple};
+
+use crate::name::is_simple;
 
 /// A symbol table as items see it: which ids have a text.
 pub trait Names {
@@ -15,8 +17,13 @@ pub trait Names {
     /// The text of an id, where it has one that is simple: an identifier that means nothing else and
     /// does not begin with a dollar sign. It may answer none of such an id too.
     fn simple_text(&self, id: u32) -> Option<&[u8]>
-        ensures { IfSome result (λ t. (text self.now id ≡ Some t.now)
-            × (is_simple t.now ≡ true)) };
+        ensures gives { IfSome result (λ t. (text self.now id ≡ Some t.now)
+            × (is_simple t.now ≡ true)) }
+        ensures none { result ≡ None → IfSome (text self.now id) (λ t. is_simple t ≡ false) }
+    {
+        let text = self.text_of(id)?;
+        if is_simple(text) { Some(text) } else { None }
+    }
 }
 
 /// No id has a text, so that ids stay ids.
@@ -27,10 +34,6 @@ impl Names for NoNames {
     ghost text = { λ _ _. None };
 
     fn text_of(&self, _id: u32) -> Option<&[u8]> {
-        None
-    }
-
-    fn simple_text(&self, _id: u32) -> Option<&[u8]> {
         None
     }
 }

@@ -15,7 +15,7 @@ pub trait Names {
             (λ t. text self.now id ≡ Some t.now) };
 
     /// The text of an id, where it has one that is simple: an identifier that means nothing else and
-    /// does not begin with a dollar sign. It may answer none of such an id too.
+    /// does not begin with a dollar sign.
     fn simple_text(&self, id: u32) -> Option<&[u8]>
         ensures gives { IfSome result (λ t. (text self.now id ≡ Some t.now)
             × (is_simple t.now ≡ true)) }

@@ -62,9 +62,9 @@ static IDENTIFIER_BYTES: [u8; 256] = [
     0, 0, 0, 0, 0, 0, 0, 0, 0, 0, 0, 0, 0, 0, 0, 0, 0, 0, 0, 0, 0, 0, 0, 0, 0, 0, 0, 0, 0, 0, 0, 0,
 ];
 
-// Whether this byte can stand in an identifier.
+/// Whether this byte can stand in an identifier.
 #[inline(always)]
-fn is_identifier_byte(byte: u8) -> bool
+pub fn is_identifier_byte(byte: u8) -> bool
     ensures { result ≡ is_identifier_byte byte }
 {
     IDENTIFIER_BYTES[byte as usize] > 0
@@ -106,9 +106,9 @@ fn is_id(word: &[u8]) -> bool
     }
 }
 
-// Whether a word is that of a version: `$ion_`, digits, `_` and digits.
+/// Whether a word is that of a version: `$ion_`, digits, `_` and digits.
 #[inline]
-fn is_version(word: &[u8]) -> bool
+pub fn is_version(word: &[u8]) -> bool
     ensures { result ≡ is_version word.now }
 {
     match word {

@@ -69,7 +69,8 @@ const CATALOG_REFUSED: u32 = 6;
 
 /// The limits that a caller gives, if they are valid and the answer is.
 fn checked(limits: &CozgeltLimits, answer: &CozgeltAnswer) -> Option<Limits>
-    ensures some { IfSome result (λ l. (l ≡ limits_of limits.now) × AreValid limits.now answer.now) }
+    ensures some { IfSome result (λ l. (l ≡ limits_of limits.now)
+        × AreValid limits.now answer.now) }
     ensures none { result ≡ None → AreValid limits.now answer.now → ⊥ }
 {
     let given = Limits {

@@ -58,7 +58,8 @@ pub fn count_with(
 ) -> Result<u64, Fault>
     requires { AreChecked limits }
     ensures count { IfOk result (λ n. (tables : List Shared) × IsCatalog limits catalog.now tables
-        × (nothing : List ℕ) × HasVerdict tables limits to.Nothing stream.now (Accepted n) nothing) }
+        × (nothing : List ℕ)
+        × HasVerdict tables limits to.Nothing stream.now (Accepted n) nothing) }
 {
     let mut meter = Meter::new(alloc);
     let (loaded, _) = load_catalog(&mut meter, limits, FromRead::new(catalog));

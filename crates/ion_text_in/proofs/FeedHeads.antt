@@ -1,14 +1,14 @@
 -- Strings, symbols and keywords in a lane.
-use Rattle.std.proofs.Common.{◌≡◌, ℕ, ◌+◌, ◌-◌, ◌<◌, ◌≤◌, Bool, true, false, not, ◌&&◌, ◌==◌, List, [], ◌∷◌, ◌++◌, length, take, drop, Option, Some, None, Result, Ok, refl, sym, ap, subst, ◌∙◌, arith}
+use Rattle.std.proofs.Common.{◌≡◌, ℕ, ◌+◌, ◌-◌, ◌<◌, ◌≤◌, Bool, true, false, not, ◌==◌, List, [], ◌∷◌, ◌++◌, length, take, drop, Option, Some, None, Result, Ok, refl, sym, ap, subst, ◌∙◌, arith}
 use Rattle.std.proofs.lemmas.Bool.{and_parts}
-use Rattle.std.proofs.lemmas.List.{length-drop, drop-drop}
+use Rattle.std.proofs.lemmas.List.{length-drop}
 use Rattle.ion_meter.specs.Sources.{Cursor, skip}
 use Rattle.ion_meter.specs.declared.limits.Limits.{Limits}
 use Rattle.ion_meter.specs.declared.fault.Reason.{Reason}
 use Rattle.ion_value.specs.declared.ion_type.Kind.{Kind}
 use Rattle.ion_value.specs.Digits.{first_is}
-use Rattle.ion_value.specs.Name.{is_plain, is_simple, is_version}
-use Rattle.ion_value.specs.Parts.{Placed, part, ◌>>=◌}
+use Rattle.ion_value.specs.Name.{is_plain, is_version}
+use Rattle.ion_value.specs.Parts.{part, ◌>>=◌}
 use Rattle.ion_value.specs.PlainItems.{HasSimpleSymbol}
 use Rattle.ion_value.specs.Reading.{More}
 use Rattle.ion_value.specs.Standing.{InRange}
@@ -16,14 +16,12 @@ use Rattle.ion_value.specs.Value as value
 use Rattle.ion_value.specs.Value.{Scalar, SymbolAt}
 use Rattle.ion_text_in.specs.declared.feed.Next.{Next}
 use Rattle.ion_text_in.specs.declared.scanned.Scanned.TheVariants.{Whole}
-use Rattle.ion_text_in.specs.Blanks.{blanks}
-use Rattle.ion_text_in.specs.Feeding.{state, bare_item, IsBare, IsBehind, IsHead, IsNext, IsSimpleWord}
-use Rattle.ion_text_in.specs.Firsts.{numbered}
+use Rattle.ion_text_in.specs.Feeding.{item_in, IsBare, IsBehind, IsHead, IsNext, IsSimpleWord}
 use Rattle.ion_text_in.specs.Meaning.{at}
 use Rattle.ion_text_in.specs.Positions as positions
 use Rattle.ion_text_in.specs.Positions.{a_value, in_sexp, innermost}
 use Rattle.ion_text_in.specs.Quoted.{short_quote, text_at}
-use Rattle.ion_text_in.specs.Reading.{take as taken, may_come, behind_colons, behind_member, colons_at, colons_behind, symbol_step, tells_version, top_of, value_or_version}
+use Rattle.ion_text_in.specs.Reading.{take as taken, behind_colons, behind_member, colons_at, colons_behind, symbol_step, tells_version, top_of, value_or_version}
 use Rattle.ion_text_in.specs.Scanners.{Shows}
 use Rattle.ion_text_in.specs.Steps.{comes, later}
 use Rattle.ion_text_in.specs.Token as tokens
@@ -46,18 +44,18 @@ head-plain limits place n first body bytes rest simple range behind counts withi
       range = range;
       member = λ kinds. refl;
       value = refl;
-      gives = λ kinds top q field more fits e.
+      gives = λ kinds top q field annotations more fits e.
           let q_is : place + n ≡ q = omega (arith, e, long, within) in
-          plain-gives limits place q first body bytes (drop n bytes) bare some begins kinds top field more (shown place more ∙ ap (λ (k : ℕ). Ok (tokens.plain body, at k (drop n bytes ++ more))) q_is);
+          plain-gives limits place q first body bytes (drop n bytes) bare some begins kinds top field annotations more (shown place more ∙ ap (λ (k : ℕ). Ok (tokens.plain body, at k (drop n bytes ++ more))) q_is);
     })
 
 -- ---- strings
 
-text-taken : (limits : Limits) (kinds : List Kind) (top place : ℕ) (field : Option SymbolAt) (bytes : List ℕ) (c : Cursor)
-    → comes limits (taken limits kinds top (a_value field []) place (tokens.text bytes) c)
-    ≡ More (bare_item kinds top field place (value.whole (value.string bytes))) (later limits (record { kinds = kinds; top = top_of kinds top [] place; wants = behind_member (innermost kinds); cursor = c }))
+text-taken : (limits : Limits) (kinds : List Kind) (top place : ℕ) (field : Option SymbolAt) (annotations : List SymbolAt) (bytes : List ℕ) (c : Cursor)
+    → comes limits (taken limits kinds top (a_value field annotations) place (tokens.text bytes) c)
+    ≡ More (item_in kinds top field annotations place (value.whole (value.string bytes))) (later limits (record { kinds = kinds; top = top_of kinds top annotations place; wants = behind_member (innermost kinds); cursor = c }))
 unfolding taken
-text-taken limits kinds top place field bytes c = refl
+text-taken limits kinds top place field annotations bytes c = refl
 
 short-token : (limit : Option ℕ) (c d : Cursor) (bytes : List ℕ) → text_at (short_quote false) limit (skip 1 c) ≡ Ok (bytes, d) → token_of limit tokens.a_short c ≡ Ok (tokens.text bytes, d)
 unfolding token_of
@@ -79,15 +77,15 @@ head-string limits place plain count bytes text rest inside behind shows bare so
       range = tt;
       member = λ kinds. refl;
       value = refl;
-      gives = λ kinds top q field more fits e.
+      gives = λ kinds top q field annotations more fits e.
           let q_is : (place + 1) + count ≡ q = omega (arith, e, one, text_long, long, rest_long, within, some) in
-          later-token limits kinds top place q (a_value field []) bytes rest more tokens.a_short (tokens.text (take plain text)) bare some begins (may-value field tokens.a_short)
+          later-token limits kinds top place q (a_value field annotations) bytes rest more tokens.a_short (tokens.text (take plain text)) bare some begins (may-value field annotations tokens.a_short)
           (short-token (Some limits.scalar) (at place (bytes ++ more)) (at q (rest ++ more)) (take plain text)
           (ap (λ (c : Cursor). text_at (short_quote false) (Some limits.scalar) c)
           (mark-behind bytes more place (place + 1) some (omega (arith, one, some)) ∙ ap (λ (l : List ℕ). at (place + 1) (l ++ more)) (sym inside))
           ∙ (shows.1 (place + 1) more
           ∙ (ap (λ (k : ℕ). Ok (take plain text, at k (drop count text ++ more))) q_is ∙ ap (λ (l : List ℕ). Ok (take plain text, at q (l ++ more))) (sym behind)))))
-          ∙ text-taken limits kinds top place field (take plain text) (at q (rest ++ more));
+          ∙ text-taken limits kinds top place field annotations (take plain text) (at q (rest ++ more));
     }
 
 -- ---- symbols
@@ -100,20 +98,21 @@ no-version : (word : List ℕ) → first_is (λ b. b == 36) word ≡ false → i
 no-version [] e = refl
 no-version (b ∷ word) e = dollar-version b word e
 
-no-marker : (k : Option Kind) (word : List ℕ) → is_version word ≡ false → tells_version k [] false (value.Text word) ≡ false
+no-marker : (k : Option Kind) (annotations : List SymbolAt) (word : List ℕ) → is_version word ≡ false → tells_version k annotations false (value.Text word) ≡ false
 unfolding tells_version
-no-marker None word e = e
-no-marker (Some k) word e = refl
+no-marker None [] word e = e
+no-marker None (a ∷ annotations) word e = refl
+no-marker (Some k) annotations word e = refl
 
-name-taken : (limits : Limits) (kinds : List Kind) (top place : ℕ) (field : Option SymbolAt) (word : List ℕ) (c : Cursor) → behind_colons (in_sexp (innermost kinds)) c ≡ None
-    → tells_version (innermost kinds) [] false (value.Text word) ≡ false
-    → comes limits (taken limits kinds top (a_value field []) place (tokens.name false (value.Text word)) c)
-    ≡ More (bare_item kinds top field place (value.whole (value.symbol (positions.at (value.Text word) place))))
-    (later limits (record { kinds = kinds; top = top_of kinds top [] place; wants = behind_member (innermost kinds); cursor = c }))
+name-taken : (limits : Limits) (kinds : List Kind) (top place : ℕ) (field : Option SymbolAt) (annotations : List SymbolAt) (word : List ℕ) (c : Cursor) → behind_colons (in_sexp (innermost kinds)) c ≡ None
+    → tells_version (innermost kinds) annotations false (value.Text word) ≡ false
+    → comes limits (taken limits kinds top (a_value field annotations) place (tokens.name false (value.Text word)) c)
+    ≡ More (item_in kinds top field annotations place (value.whole (value.symbol (positions.at (value.Text word) place))))
+    (later limits (record { kinds = kinds; top = top_of kinds top annotations place; wants = behind_member (innermost kinds); cursor = c }))
 unfolding taken
-name-taken limits kinds top place field word c none told =
-    ap (λ (o : Option Cursor). comes limits (part place (symbol_step limits kinds top field [] false (positions.at (value.Text word) place) c o))) none
-    ∙ ap (λ (b : Bool). comes limits (part place (value_or_version kinds top field [] (positions.at (value.Text word) place) c b))) told
+name-taken limits kinds top place field annotations word c none told =
+    ap (λ (o : Option Cursor). comes limits (part place (symbol_step limits kinds top field annotations false (positions.at (value.Text word) place) c o))) none
+    ∙ ap (λ (b : Bool). comes limits (part place (value_or_version kinds top field annotations (positions.at (value.Text word) place) c b))) told
 
 pub head-symbol : (limits : Limits) (place n : ℕ) (bytes rest : List ℕ) (next : Next) → rest ≡ drop n bytes → IsSimpleWord limits.scalar bytes n → IsNext rest next → 0 < next.told
     → IsBare bytes → ((in_sexp : Bool) (more : List ℕ) → first_at in_sexp (bytes ++ more) ≡ tokens.a_word)
@@ -134,15 +133,15 @@ head-symbol limits place n bytes rest next behind word is told bare begins =
       range = tt;
       member = λ kinds. refl;
       value = refl;
-      gives = λ kinds top q field more fits e.
+      gives = λ kinds top q field annotations more fits e.
           let q_is : place + n ≡ q = omega (arith, e, long, rest_long, within) in
           let next_place : ℕ = q + (length rest - length next.rest.now) in
           let sexp : Bool = in_sexp (innermost kinds) in
           let none : behind_colons sexp (at q (rest ++ more)) ≡ None =
           ap (colons_behind sexp) (passes.blank q next_place more (omega (arith, fewer)))
           ∙ (ap (λ (f : First). colons_at f (at next_place (next.rest.now ++ more))) (is.tells told sexp more) ∙ no-colons next.told (at next_place (next.rest.now ++ more))) in
-          later-token limits kinds top place q (a_value field []) bytes rest more tokens.a_word (tokens.name false (value.Text (take n bytes))) bare (omega (arith, counts, within)) begins (may-value field tokens.a_word)
+          later-token limits kinds top place q (a_value field annotations) bytes rest more tokens.a_word (tokens.name false (value.Text (take n bytes))) bare (omega (arith, counts, within)) begins (may-value field annotations tokens.a_word)
           (word.shown place more ∙ (ap (λ (k : ℕ). Ok (tokens.name false (value.Text (take n bytes)), at k (drop n bytes ++ more))) q_is
           ∙ ap (λ (l : List ℕ). Ok (tokens.name false (value.Text (take n bytes)), at q (l ++ more))) (sym behind)))
-          ∙ name-taken limits kinds top place field (take n bytes) (at q (rest ++ more)) none (no-marker (innermost kinds) (take n bytes) version);
+          ∙ name-taken limits kinds top place field annotations (take n bytes) (at q (rest ++ more)) none (no-marker (innermost kinds) annotations (take n bytes) version);
     }

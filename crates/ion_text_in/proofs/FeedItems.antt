@@ -1,5 +1,5 @@
 -- A lane moves over an item that is taken: a container's end, its beginning, a scalar.
-use Rattle.std.proofs.Common.{◌≡◌, ℕ, ◌+◌, ◌*◌, ◌-◌, ◌^◌, ◌<◌, ◌≤◌, Bool, true, false, List, [], ◌∷◌, ◌++◌, length, reverse, drop, is_some, Option, Some, None, MatchOption, refl, sym, ap, subst, ◌∙◌, arith}
+use Rattle.std.proofs.Common.{◌≡◌, ℕ, ◌+◌, ◌*◌, ◌-◌, ◌<◌, ◌≤◌, true, false, List, [], ◌∷◌, ◌++◌, length, reverse, drop, is_some, Option, Some, None, MatchOption, refl, sym, ap, subst, ◌∙◌, arith}
 use Rattle.std.specs.Prelude.{option_map}
 use Rattle.std.proofs.lemmas.List.{length-drop, length-reverse, reverse-append, reverse-reverse}
 use Rattle.ion_meter.specs.Counts.{Counts, Grows, Shrinks}
@@ -8,9 +8,8 @@ use Rattle.ion_meter.specs.declared.limits.Limits.{Limits}
 use Rattle.ion_value.specs.declared.ion_type.Kind.{Kind}
 use Rattle.ion_value.specs.declared.writer.ValueWriter.{Ghosts as WriterOf}
 use Rattle.ion_value.specs.Outcome.{one_if_closed}
-use Rattle.ion_value.specs.Reading.{Reading, More}
 use Rattle.ion_value.specs.Shares.{Charges}
-use Rattle.ion_value.specs.Standing.{open_after, has_field, in_struct, is_marker, Fits, HasAnnotations, HasPlace, HeadInRange}
+use Rattle.ion_value.specs.Standing.{open_after, has_field, in_struct, is_marker, HasAnnotations, HasPlace, HeadInRange}
 use Rattle.ion_value.specs.declared.ion_type.Kind.TheVariants as a_kind
 use Rattle.ion_value.specs.declared.item.Head as code
 use Rattle.ion_value.specs.declared.item.Head.TheVariants as heads
@@ -27,9 +26,9 @@ use Rattle.ion_text_in.specs.declared.feed.Next.{Next}
 use Rattle.ion_text_in.specs.declared.feed.Spot.{Spot}
 use Rattle.ion_text_in.specs.declared.feed.Start.{Start}
 use Rattle.ion_text_in.specs.Expecting.{wanted, MayExpect}
-use Rattle.ion_text_in.specs.Feeding.{bare_item, behind_head, joint, lane, lane_held, lane_share, state, CanFeed, IsBehind, IsHead, IsNext, IsStart, Lane, Moved, Onward}
+use Rattle.ion_text_in.specs.Feeding.{behind_head, lane, notes, state, CanFeed, IsBehind, IsHead, IsNext, IsStart, Moved, Onward}
 use Rattle.ion_text_in.specs.Firsts.{numbered}
-use Rattle.ion_text_in.specs.Positions.{Wants, a_value, innermost}
+use Rattle.ion_text_in.specs.Positions.{innermost}
 use Rattle.ion_text_in.specs.Reading.{behind_member, is_same, item_of, top_of}
 use Rattle.ion_text_in.specs.Steps.{later}
 use Rattle.ion_text_in.specs.Token as tokens
@@ -143,32 +142,32 @@ module _ {W O A : Type 0} (w : WriterOf W O A) (limits : Limits) (end : ℕ) whe
   some-map None = refl
   some-map (Some t) = refl
 
-  none-noted : (head : Head SymbolAt) → HasAnnotations {S = SymbolAt} head []
-  none-noted (value.whole body) = tt
-  none-noted (value.begin k) = tt
-  none-noted value.end = refl
-  none-noted value.marker = refl
+  may-note : (head : Head SymbolAt) (annotations : List SymbolAt) → is_marker head ≡ false → ((l : List Kind) → has_field l head ≡ in_struct l) → HasAnnotations {S = SymbolAt} head annotations
+  may-note (value.whole body) annotations value member = tt
+  may-note (value.begin k) annotations value member = tt
+  may-note value.end annotations value member = absurd (cc (member (a_kind.Struct ∷ [])))
+  may-note value.marker annotations value member = absurd (cc value)
 
   pub head-stands : (kinds : List Kind) (spot : Spot) (start : Start) (head : Head SymbolAt) (top place at_place : ℕ) (rest : List ℕ) → MayExpect spot.expected (reverse kinds) None []
       → IsStart limits spot place start → IsHead limits at_place start.next.rest.now head rest → HasPlace limits.depth (reverse kinds) head
-      → Stands limits.depth (reverse kinds) (item_of top (option_map placed_text start.field) [] at_place head)
+      → Stands limits.depth (reverse kinds) (item_of top (option_map placed_text start.field) (notes start.note) at_place head)
   head-stands kinds spot start head top place at_place rest may start_is head_is fits = record {
     fits = record {
       place = fits;
       field = some-map start.field ∙ (start_is.named (reverse kinds) may ∙ sym (head_is.member (reverse kinds)));
-      annotations = none-noted head;
+      annotations = may-note head (notes start.note) head_is.value head_is.member;
     };
     value = head_is.value;
-    simple = record { field = start_is.simple; annotations = tt; head = head_is.simple };
+    simple = record { field = start_is.simple; annotations = start_is.noted; head = head_is.simple };
   }
 
   pub moved-head : (kinds left : List Kind) (spot new : Spot) (start : Start) (head : Head SymbolAt) (writer after : W) (sink behind : Outgoing O) (m y : Counts)
       → CanFeed w limits end (lane kinds spot writer sink m) → IsStart limits spot (end - length spot.rest.now) start
       → IsHead limits (end - length start.next.rest.now) start.next.rest.now head new.rest.now → HasPlace limits.depth (reverse kinds) head
-      → reverse left ≡ open_after (reverse kinds) head → new.top ≡ top_of (reverse kinds) spot.top [] (end - length start.next.rest.now)
+      → reverse left ≡ open_after (reverse kinds) head → new.top ≡ top_of (reverse kinds) spot.top (notes start.note) (end - length start.next.rest.now)
       → wanted new.expected None [] ≡ behind_head (reverse kinds) head → MayExpect new.expected (reverse left) None []
       → new.values ≡ spot.values + one_if_closed (reverse left) → length left ≤ limits.depth
-      → Took w (item_of new.top (option_map placed_text start.field) [] (end - length start.next.rest.now) head) writer after sink behind m y
+      → Took w (item_of new.top (option_map placed_text start.field) (notes start.note) (end - length start.next.rest.now) head) writer after sink behind m y
       → w.own after ≤ w.most writer
       → Charges m y (16 * length kinds + w.own writer) (16 * length left + w.own after) (16 * limits.depth + w.most writer)
       → Moved w limits end (lane kinds spot writer sink m) (lane left new after behind y)
@@ -180,11 +179,11 @@ module _ {W O A : Type 0} (w : WriterOf W O A) (limits : Limits) (end : ℕ) whe
       let fewer = to_start.fewer in
       let less = head_is.fewer in
       let within = can.within in
-      moved-item w limits end (lane kinds spot writer sink m) (lane left new after behind y) (item_of new.top field [] place head) can
+      moved-item w limits end (lane kinds spot writer sink m) (lane left new after behind y) (item_of new.top field (notes start.note) place head) can
       (head-stands kinds spot start head new.top (end - length spot.rest.now) place new.rest.now can.expects start_is head_is fits) took opened counts (behind-then spot.rest.now bytes new.rest.now to_start.part head_is.part) (omega (arith, fewer, less)) few may own charges
       (λ more.
       to_start.same place more (omega (arith, fewer, within))
-      ∙ (head_is.gives (reverse kinds) spot.top (end - length new.rest.now) field more fits (omega (arith, fewer, less, within))
+      ∙ (head_is.gives (reverse kinds) spot.top (end - length new.rest.now) field (notes start.note) more fits (omega (arith, fewer, less, within))
       ∙ rw (opened, top, wants) refl))
 
   -- ---- memory

@@ -1,22 +1,19 @@
 -- How a lane moves: over bytes that are no item, over an item that is taken, and one move after the other.
-use Rattle.std.proofs.Common.{◌≡◌, ℕ, ◌+◌, ◌*◌, ◌-◌, ◌^◌, ◌<◌, ◌≤◌, Bool, false, List, [], ◌∷◌, ◌++◌, length, reverse, Option, None, refl, sym, ap, subst, ◌∙◌, arith}
-use Rattle.ion_meter.specs.Counts.{Counts}
-use Rattle.ion_meter.specs.Windows.{Outgoing}
+use Rattle.std.proofs.Common.{◌≡◌, ℕ, ◌+◌, ◌*◌, ◌-◌, ◌^◌, ◌<◌, ◌≤◌, List, [], ◌∷◌, length, reverse, None, refl, sym, ap, subst, arith}
 use Rattle.ion_meter.specs.declared.limits.Limits.{Limits}
 use Rattle.ion_value.specs.declared.ion_type.Kind.{Kind}
 use Rattle.ion_value.specs.declared.writer.ValueWriter.{Ghosts as WriterOf}
-use Rattle.ion_value.specs.Feeding.{CanTake, Feeds, nothing, more as hands_on, Joint, StaysWell}
+use Rattle.ion_value.specs.Feeding.{Feeds, nothing, more as hands_on, StaysWell}
 use Rattle.ion_value.specs.Items.{named_item}
 use Rattle.ion_value.specs.Outcome.{one_if_closed}
 use Rattle.ion_value.specs.Reading.{Reading, More}
 use Rattle.ion_value.specs.Shares.{Charges}
-use Rattle.ion_value.specs.Standing.{open_after, WritesWithin}
+use Rattle.ion_value.specs.Standing.{open_after}
 use Rattle.ion_value.specs.Value.{PlacedItem}
 use Rattle.ion_value.proofs.Handing.{Stands, Took, can-took, feeds-then, hands-took, stays-then}
 use Rattle.ion_text_in.specs.declared.expected.Expected.{Expected}
 use Rattle.ion_text_in.specs.Expecting.{wanted, MayExpect}
-use Rattle.ion_text_in.specs.Feeding.{joint, lane_held, lane_share, state, CanFeed, IsBehind, Lane, Moved, Onward}
-use Rattle.ion_text_in.specs.Steps.{later}
+use Rattle.ion_text_in.specs.Feeding.{joint, lane_held, lane_share, CanFeed, IsBehind, Lane, Moved, Onward}
 use Rattle.ion_text_in.proofs.FeedReading.{behind-then, none-behind}
 use Rattle.ion_text_in.proofs.Holding.{charges-then}
 

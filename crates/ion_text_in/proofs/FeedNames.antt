@@ -1,24 +1,19 @@
 -- Words that are simple texts, and the names of fields in a lane.
-use Rattle.std.proofs.Common.{◌≡◌, ℕ, suc, ◌+◌, ◌-◌, ◌<◌, ◌≤◌, Bool, true, false, not, ◌&&◌, ◌||◌, ◌==◌, List, [], ◌∷◌, ◌++◌, length, take, drop, get_or, codes, Option, Some, None, IfSome, Result, Ok, refl, sym, ap, subst, ◌∙◌, arith, append-nil}
-use Rattle.std.specs.Prelude.{is_none}
+use Rattle.std.proofs.Common.{◌≡◌, ℕ, suc, ◌+◌, ◌-◌, ◌<◌, ◌≤◌, Bool, true, false, ◌&&◌, ◌==◌, List, [], ◌∷◌, ◌++◌, length, take, drop, get_or, codes, Option, Some, None, IfSome, Ok, refl, sym, ap, subst, ◌∙◌, arith}
 use Rattle.std.specs.Str.{bytes_eq}
-use Rattle.std.proofs.lemmas.Bool.{and_parts}
-use Rattle.std.proofs.lemmas.List.{length-drop, length-take-le}
-use Rattle.ion_meter.specs.Sources.{Cursor, skip}
+use Rattle.std.proofs.lemmas.List.{length-drop}
+use Rattle.ion_meter.specs.Sources.{Cursor}
 use Rattle.ion_meter.specs.declared.limits.Limits.{Limits}
-use Rattle.ion_meter.specs.declared.fault.Reason.{Reason}
 use Rattle.ion_value.specs.declared.ion_type.Kind.{Kind}
 use Rattle.ion_value.specs.declared.ion_type.IonType.TheVariants as type
 use Rattle.ion_value.specs.declared.plain_item.TextAt.{TextAt}
 use Rattle.ion_value.specs.Digits.{all_are, first_is}
-use Rattle.ion_value.specs.Name.{Keyword, a_null, a_bool, a_nan, begins_with, is_id, is_identifier_byte, is_identifier_start, is_simple, is_version, keyword}
+use Rattle.ion_value.specs.Name.{Keyword, a_null, a_bool, a_nan, is_id, is_identifier_byte, is_identifier_start, is_simple, is_version, keyword}
 use Rattle.ion_value.specs.Parts.{Placed, ◌>>=◌}
 use Rattle.ion_value.specs.PlainItems.{placed_text}
 use Rattle.ion_value.specs.Value as value
 use Rattle.ion_value.specs.Value.{SymbolAt, Symbol}
-use Rattle.ion_text_in.specs.declared.scanned.Scanned.TheVariants as scanned
-use Rattle.ion_text_in.specs.Blanks.{blanks}
-use Rattle.ion_text_in.specs.Feeding.{state, Begins, IsBare, IsNamed, IsNext, IsSimpleWord, IsStart, Onward, PassesBlanks, ToColon}
+use Rattle.ion_text_in.specs.Feeding.{Begins, IsBare, IsNamed, IsNext, IsSimpleWord, IsStart, Onward, PassesBlanks, ToColon}
 use Rattle.ion_text_in.specs.declared.expected.Expected.{Expected}
 use Rattle.ion_text_in.specs.declared.expected.Expected.TheVariants as codes_of
 use Rattle.ion_text_in.specs.declared.feed.Next.{Next}
@@ -169,16 +164,17 @@ onward-name limits kinds top place n bytes colon rest bare begins word to_colon 
     }
 
 -- the name, the colon and the blanks behind it
-pub named-start : (limits : Limits) (place n : ℕ) (next : Next) (start : Start) (text : TextAt) (colon : List ℕ) → start.field ≡ Some text → text.place ≡ place → text.text.now ≡ take n next.rest.now
+pub named-start : (limits : Limits) (place n : ℕ) (next : Next) (start : Start) (text : TextAt) (colon : List ℕ) → start.field ≡ Some text → start.note ≡ None → text.place ≡ place → text.text.now ≡ take n next.rest.now
     → Begins next → 0 < next.told → numbered next.told ≡ tokens.a_word → IsSimpleWord limits.scalar next.rest.now n → ToColon (drop n next.rest.now) colon → IsNext (drop 1 colon) start.next → 0 < length start.next.rest.now
     → IsNamed limits place next start
-named-start limits place n next start text colon is here bytes begins told first word to_colon behind some =
+named-start limits place n next start text colon is bare here bytes begins told first word to_colon behind some =
     let passes = behind.passes some in
     let name : positions.at (value.Text (take n next.rest.now)) place ≡ placed_text text =
     ap (λ (l : List ℕ). positions.at (value.Text l) place) (sym bytes) ∙ ap (λ (p : ℕ). positions.at (value.Text text.text.now) p) (sym here) in
     record {
       text = text;
       is = is;
+      bare = bare;
       simple = ap (λ (l : List ℕ). is_simple l) bytes ∙ word.simple;
       some = told;
       onward = λ kinds top.
@@ -195,8 +191,9 @@ start-field limits spot place named next (Some s) field is here h =
     let fewer = passes.fewer in
     record {
       simple = rw h.is h.simple;
+      noted = rw h.bare tt;
       onward = λ kinds may.
-          rw (h.is, field) (onward-then limits kinds spot.top place named a_field a_field (a_value (Some (placed_text h.text)) []) spot.rest.now next.rest.now s.next.rest.now (omega (arith, here, fewer))
+          rw (h.is, h.bare, field) (onward-then limits kinds spot.top place named a_field a_field (a_value (Some (placed_text h.text)) []) spot.rest.now next.rest.now s.next.rest.now (omega (arith, here, fewer))
           (onward-blanks limits kinds spot.top place a_field spot.rest.now next.rest.now passes) (h.onward kinds spot.top));
       named = λ kinds may. rw h.is (sym (subst (λ (e : Expected). MayExpect e kinds None []) field may).0);
       begins = h.begins;
@@ -209,3 +206,8 @@ next-begins bytes next is told = (let some = is.some told in record { some = som
 pub not-empty : (bytes : List ℕ) → (length bytes == 0) ≡ false → 0 < length bytes
 not-empty [] e = absurd (cc e)
 not-empty (b ∷ bytes) e = omega arith
+
+-- no annotation was read there
+pub named-bare : (limits : Limits) (place : ℕ) (next : Next) (start : Option Start) → IfSome start (IsNamed limits place next) → IfSome start (λ s. s.note ≡ None)
+named-bare limits place next None h = tt
+named-bare limits place next (Some s) h = h.bare

@@ -1,28 +1,22 @@
 -- What a lane over a reader's window makes of the reader.
-use Rattle.std.proofs.Common.{◌≡◌, ℕ, ◌+◌, ◌*◌, ◌-◌, ◌^◌, ◌<◌, ◌≤◌, ◌↔◌, List, [], ◌∷◌, ◌++◌, length, reverse, take, drop, Option, None, Some, refl, sym, ap, subst, ◌∙◌, arith, append_assoc}
-use Rattle.std.proofs.lemmas.List.{drop-append-le, drop-take, length-drop, length-reverse, length-take}
-use Rattle.ion_meter.specs.Counts.{Counts, Shrinks}
+use Rattle.std.proofs.Common.{◌≡◌, ℕ, ◌+◌, ◌-◌, ◌≤◌, List, [], ◌++◌, length, take, drop, Option, None, refl, sym, ap, subst, ◌∙◌, arith}
+use Rattle.std.proofs.lemmas.List.{drop-append-le, drop-take, length-drop}
+use Rattle.ion_meter.specs.Counts.{Counts}
 use Rattle.ion_meter.specs.declared.device.Input.{Ghosts as InputOf}
 use Rattle.ion_meter.specs.declared.fault.Fault.{Fault}
 use Rattle.ion_meter.specs.declared.limits.Limits.{Limits}
-use Rattle.ion_meter.specs.Sources.{cursor, Exceeds, Stands}
+use Rattle.ion_meter.specs.Sources.{cursor, Stands}
 use Rattle.ion_meter.specs.Windows.{Incoming, Outgoing, left, lent, lent_by, IsPassed}
-use Rattle.ion_meter.proofs.Lent.{lent-CanPass, IsPassed-left, IsPassed-total}
-use Rattle.ion_value.specs.declared.ion_type.Kind.{Kind}
+use Rattle.ion_meter.proofs.Lent.{lent-CanPass, IsPassed-left}
 use Rattle.ion_value.specs.declared.writer.ValueWriter.{Ghosts as WriterOf}
-use Rattle.ion_value.specs.Feeding.{CanTake, Feeds, Joint}
+use Rattle.ion_value.specs.Feeding.{Feeds, Joint}
 use Rattle.ion_value.specs.Items.{named_item}
 use Rattle.ion_value.specs.Reading.{Reading}
-use Rattle.ion_value.specs.Shares.{Charges}
-use Rattle.ion_value.specs.Standing.{WritesWithin}
 use Rattle.ion_value.proofs.Handing.{feeds-under}
-use Rattle.ion_text_in.specs.declared.expected.Expected.{Expected}
 use Rattle.ion_text_in.specs.declared.reader.TextReader.{TextReader}
 use Rattle.ion_text_in.specs.Expecting.{wanted}
-use Rattle.ion_text_in.specs.Feeding.{joint, lane_held, lane_share, reader_lane, state, window_end, CanFeed, IsBehind, Lane, Moved, PassedLent}
-use Rattle.ion_text_in.specs.Meaning.{at}
-use Rattle.ion_text_in.specs.Steps.{held_by, later, left_to, opened_in, share_of, state_behind, to_come_by, unless_unfinished, IsReady, IsSized, IsSound}
-use Rattle.ion_text_in.proofs.ReaderCalls.{forgot}
+use Rattle.ion_text_in.specs.Feeding.{joint, reader_lane, state, window_end, IsBehind, Lane, Moved, PassedLent}
+use Rattle.ion_text_in.specs.Steps.{later, opened_in, state_behind, to_come_by, unless_unfinished}
 use Rattle.ion_text_in.proofs.Shown.{behind_lent, lent-left}
 
 -- ---- what a window lends behind bytes that were passed over

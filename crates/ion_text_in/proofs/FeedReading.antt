@@ -1,15 +1,13 @@
 -- What the bytes of a window show of the next token, as reading has it.
-use Rattle.std.proofs.Common.{◌≡◌, ℕ, zero, suc, ◌+◌, ◌-◌, ◌<◌, ◌≤◌, Bool, true, false, not, nat_le, ◌==◌, List, [], ◌∷◌, ◌++◌, length, take, drop, get_or, Option, Some, None, IfSome, Result, Ok, refl, sym, ap, subst, ◌∙◌, arith, append_assoc}
+use Rattle.std.proofs.Common.{◌≡◌, ℕ, zero, suc, ◌+◌, ◌-◌, ◌<◌, ◌≤◌, Bool, true, false, not, nat_le, ◌==◌, List, [], ◌∷◌, ◌++◌, length, take, drop, get_or, Option, Some, None, IfSome, Ok, refl, sym, ap, subst, ◌∙◌, arith, append_assoc}
 use Rattle.std.proofs.lemmas.List.{take-append-drop, drop-drop, length-drop, length-take-le}
 use Rattle.ion_meter.specs.Sources.{Cursor, skip}
 use Rattle.ion_meter.specs.declared.limits.Limits.{Limits}
-use Rattle.ion_meter.specs.declared.fault.Reason.{Reason}
 use Rattle.ion_meter.specs.declared.fault.Reason.TheVariants.{BadToken, DepthLimit}
 use Rattle.ion_value.specs.declared.ion_type.Kind.{Kind}
 use Rattle.ion_value.specs.Digits.{all_are, first_is}
-use Rattle.ion_value.specs.Parts.{part, refuse, ◌>>=◌, ◌>>◌}
-use Rattle.ion_value.specs.Reading.{Reading, Step, Gives, GoesOn, More, next_reading}
-use Rattle.ion_value.specs.Standing.{open_after, HasPlace}
+use Rattle.ion_value.specs.Parts.{part, refuse, ◌>>◌}
+use Rattle.ion_value.specs.Reading.{Gives, More}
 use Rattle.ion_value.specs.Value as value
 use Rattle.ion_value.specs.Value.{SymbolAt, Scalar, Head, PlacedItem}
 use Rattle.ion_text_in.specs.Blanks.{blanks, is_white}
@@ -26,20 +24,19 @@ use Rattle.ion_text_in.specs.Expecting.{wanted, MayExpect}
 use Rattle.ion_text_in.specs.Quick.{as_quick}
 use Rattle.ion_text_in.specs.Scanners.{Shows}
 use Rattle.ion_text_in.specs.Views.{as_number, number_token}
-use Rattle.ion_value.specs.Items.{raw_head}
 use Rattle.ion_value.specs.PlainItems.{HasSimpleSymbol}
 use Rattle.ion_value.specs.Standing.{InRange}
-use Rattle.ion_text_in.specs.Feeding.{state, bare_item, behind_head, Begins, IsBare, IsBehind, IsHead, IsNext, IsStart, Onward, PassesBlanks}
+use Rattle.ion_text_in.specs.Feeding.{state, item_in, Begins, IsBare, IsBehind, IsHead, IsNext, IsStart, Onward, PassesBlanks}
 use Rattle.ion_text_in.specs.Meaning.{at}
-use Rattle.ion_text_in.specs.Positions.{State, Wants, a_value, a_field, a_separator, innermost, in_sexp}
-use Rattle.ion_text_in.specs.Reading.{step, step_of, take as taken, may_come, at_member, begin_step, end_step, behind_member, is_same, item_step, item_of, member_of, top_of, scalar_step}
+use Rattle.ion_text_in.specs.Positions.{Wants, a_value, a_field, a_separator, innermost, in_sexp}
+use Rattle.ion_text_in.specs.Reading.{take as taken, may_come, at_member, behind_member, is_same, item_step, item_of, member_of, top_of}
 use Rattle.ion_text_in.specs.Scanning.{moved_to}
 use Rattle.ion_text_in.specs.Steps.{comes, later}
 use Rattle.ion_text_in.specs.Token as tokens
 use Rattle.ion_text_in.specs.Token.{First, Token, first_at, token_of}
 use Rattle.ion_text_in.proofs.BlankTurns.{no-slash}
 use Rattle.ion_text_in.proofs.BlankRuns.{white-over}
-use Rattle.ion_text_in.proofs.ReaderLanes.{may-begin, may-comma, may-end}
+use Rattle.ion_text_in.proofs.ReaderLanes.{may-comma, may-end}
 use Rattle.ion_text_in.proofs.ReaderSteps.{blanks-going, later-moved, part-token, step-part}
 
 -- ---- what stands behind some bytes
@@ -176,43 +173,43 @@ onward-then limits kinds top p q a b c x y z e f g = record {
 
 -- ---- heads
 
-begin-taken : (limits : Limits) (kinds : List Kind) (top place : ℕ) (field : Option SymbolAt) (k : Kind) (c : Cursor) → nat_le limits.depth (length kinds) ≡ false
-    → comes limits (taken limits kinds top (a_value field []) place (tokens.begin k) c)
-    ≡ More (bare_item kinds top field place (value.begin k)) (later limits (record { kinds = k ∷ kinds; top = top_of kinds top [] place; wants = member_of k; cursor = c }))
+begin-taken : (limits : Limits) (kinds : List Kind) (top place : ℕ) (field : Option SymbolAt) (annotations : List SymbolAt) (k : Kind) (c : Cursor) → nat_le limits.depth (length kinds) ≡ false
+    → comes limits (taken limits kinds top (a_value field annotations) place (tokens.begin k) c)
+    ≡ More (item_in kinds top field annotations place (value.begin k)) (later limits (record { kinds = k ∷ kinds; top = top_of kinds top annotations place; wants = member_of k; cursor = c }))
 unfolding taken
-begin-taken limits kinds top place field k c few =
-    ap (λ (b : Bool). comes limits (part place (refuse b DepthLimit >> Ok (item_step kinds top field [] place (value.begin k) (k ∷ kinds) (member_of k) c)))) few
+begin-taken limits kinds top place field annotations k c few =
+    ap (λ (b : Bool). comes limits (part place (refuse b DepthLimit >> Ok (item_step kinds top field annotations place (value.begin k) (k ∷ kinds) (member_of k) c)))) few
 
-plain-taken : (limits : Limits) (kinds : List Kind) (top place : ℕ) (field : Option SymbolAt) (body : Scalar SymbolAt) (c : Cursor)
-    → comes limits (taken limits kinds top (a_value field []) place (tokens.plain body) c)
-    ≡ More (bare_item kinds top field place (value.whole body)) (later limits (record { kinds = kinds; top = top_of kinds top [] place; wants = behind_member (innermost kinds); cursor = c }))
+plain-taken : (limits : Limits) (kinds : List Kind) (top place : ℕ) (field : Option SymbolAt) (annotations : List SymbolAt) (body : Scalar SymbolAt) (c : Cursor)
+    → comes limits (taken limits kinds top (a_value field annotations) place (tokens.plain body) c)
+    ≡ More (item_in kinds top field annotations place (value.whole body)) (later limits (record { kinds = kinds; top = top_of kinds top annotations place; wants = behind_member (innermost kinds); cursor = c }))
 unfolding taken
-plain-taken limits kinds top place field body c = refl
+plain-taken limits kinds top place field annotations body c = refl
 
-pub may-value : (field : Option SymbolAt) (first : First) → may_come (a_value field []) first ≡ true
+pub may-value : (field : Option SymbolAt) (annotations : List SymbolAt) (first : First) → may_come (a_value field annotations) first ≡ true
 unfolding may_come
-may-value field first = refl
+may-value field annotations first = refl
 
 not_as_many : (n m : ℕ) → m < n → nat_le n m ≡ false
 not_as_many n m h = grind (arith, h)
 
 pub begin-gives : (limits : Limits) (place q : ℕ) (k : Kind) (bytes : List ℕ) → IsBare bytes → 0 < length bytes → ((in_sexp : Bool) (more : List ℕ) → first_at in_sexp (bytes ++ more) ≡ tokens.a_begin k)
-    → (kinds : List Kind) (top : ℕ) (field : Option SymbolAt) (more : List ℕ) → length kinds < limits.depth → place + length bytes ≡ q + length (drop 1 bytes)
-    → later limits (state kinds top (a_value field []) place (bytes ++ more))
-    ≡ More (bare_item kinds top field place (value.begin k)) (later limits (state (k ∷ kinds) (top_of kinds top [] place) (member_of k) q (drop 1 bytes ++ more)))
-begin-gives limits place q k bytes bare some begins kinds top field more few e =
-    later-token limits kinds top place q (a_value field []) bytes (drop 1 bytes) more (tokens.a_begin k) (tokens.begin k) bare some begins (may-value field (tokens.a_begin k))
+    → (kinds : List Kind) (top : ℕ) (field : Option SymbolAt) (annotations : List SymbolAt) (more : List ℕ) → length kinds < limits.depth → place + length bytes ≡ q + length (drop 1 bytes)
+    → later limits (state kinds top (a_value field annotations) place (bytes ++ more))
+    ≡ More (item_in kinds top field annotations place (value.begin k)) (later limits (state (k ∷ kinds) (top_of kinds top annotations place) (member_of k) q (drop 1 bytes ++ more)))
+begin-gives limits place q k bytes bare some begins kinds top field annotations more few e =
+    later-token limits kinds top place q (a_value field annotations) bytes (drop 1 bytes) more (tokens.a_begin k) (tokens.begin k) bare some begins (may-value field annotations (tokens.a_begin k))
     (begin-token (Some limits.scalar) k (at place (bytes ++ more)) ∙ ap (λ (c : Cursor). Ok (tokens.begin k, c)) (mark-behind bytes more place q some e))
-    ∙ begin-taken limits kinds top place field k (at q (drop 1 bytes ++ more)) (not_as_many limits.depth (length kinds) few)
+    ∙ begin-taken limits kinds top place field annotations k (at q (drop 1 bytes ++ more)) (not_as_many limits.depth (length kinds) few)
 
 pub plain-gives : (limits : Limits) (place q : ℕ) (first : First) (body : Scalar SymbolAt) (bytes rest : List ℕ) → IsBare bytes → 0 < length bytes → ((in_sexp : Bool) (more : List ℕ) → first_at in_sexp (bytes ++ more) ≡ first)
-    → (kinds : List Kind) (top : ℕ) (field : Option SymbolAt) (more : List ℕ)
+    → (kinds : List Kind) (top : ℕ) (field : Option SymbolAt) (annotations : List SymbolAt) (more : List ℕ)
     → token_of (Some limits.scalar) first (at place (bytes ++ more)) ≡ Ok (tokens.plain body, at q (rest ++ more))
-    → later limits (state kinds top (a_value field []) place (bytes ++ more))
-    ≡ More (bare_item kinds top field place (value.whole body)) (later limits (state kinds (top_of kinds top [] place) (behind_member (innermost kinds)) q (rest ++ more)))
-plain-gives limits place q first body bytes rest bare some begins kinds top field more is =
-    later-token limits kinds top place q (a_value field []) bytes rest more first (tokens.plain body) bare some begins (may-value field first) is
-    ∙ plain-taken limits kinds top place field body (at q (rest ++ more))
+    → later limits (state kinds top (a_value field annotations) place (bytes ++ more))
+    ≡ More (item_in kinds top field annotations place (value.whole body)) (later limits (state kinds (top_of kinds top annotations place) (behind_member (innermost kinds)) q (rest ++ more)))
+plain-gives limits place q first body bytes rest bare some begins kinds top field annotations more is =
+    later-token limits kinds top place q (a_value field annotations) bytes rest more first (tokens.plain body) bare some begins (may-value field annotations first) is
+    ∙ plain-taken limits kinds top place field annotations body (at q (rest ++ more))
 
 -- ---- a container's end
 
@@ -255,7 +252,7 @@ head-begin limits place k bytes rest behind bare some begins =
       range = tt;
       member = λ kinds. refl;
       value = refl;
-      gives = λ kinds top q field more few e. begin-gives limits place q k bytes bare some begins kinds top field more few e;
+      gives = λ kinds top q field annotations more few e. begin-gives limits place q k bytes bare some begins kinds top field annotations more few e;
     })
 
 pub number-simple : (x : Number) → HasSimpleSymbol (as_number x)
@@ -277,9 +274,9 @@ head-number limits place x bytes rest head is behind counts shows range bare som
       range = range;
       member = λ kinds. refl;
       value = refl;
-      gives = λ kinds top q field more fits e.
+      gives = λ kinds top q field annotations more fits e.
           let q_is : place + x.count ≡ q = omega (arith, e, long, n) in
-          plain-gives limits place q tokens.a_run (as_number (as_quick x)) bytes (drop x.count bytes) bare some begins kinds top field more
+          plain-gives limits place q tokens.a_run (as_number (as_quick x)) bytes (drop x.count bytes) bare some begins kinds top field annotations more
           (shows.1 place more ∙ ap (λ (k : ℕ). Ok (number_token (as_quick x), at k (drop x.count bytes ++ more))) q_is);
     }))
 
@@ -295,15 +292,16 @@ onward-separator limits opened top place expected after bytes rest behind separa
     (onward-blanks limits opened top place a_separator bytes rest passes) (onward-comma limits opened top (place + (length bytes - length rest)) rest passes.bare some comma))
 
 pub start-value : (limits : Limits) (spot : Spot) (place : ℕ) (next : Next) (start : Option Start) → spot.expected ≡ codes.Value → IsNext spot.rest.now next
-    → IfSome start (λ s. s.field ≡ None) → IfSome start (λ s. s.next ≡ next) → IfSome start (λ s. 0 < length next.rest.now) → IfSome start (IsStart limits spot place)
-start-value limits spot place next None value is none same some = tt
-start-value limits spot place next (Some s) value is none same some =
+    → IfSome start (λ s. s.field ≡ None) → IfSome start (λ s. s.note ≡ None) → IfSome start (λ s. s.next ≡ next) → IfSome start (λ s. 0 < length next.rest.now) → IfSome start (IsStart limits spot place)
+start-value limits spot place next None value is none bare same some = tt
+start-value limits spot place next (Some s) value is none bare same some =
     let passes = is.passes some in
     let at_next : Begins next = record { some = some; tells = is.tells; bare = passes.bare } in
     let begins : Begins s.next = subst (λ (n : Next). Begins n) (sym same) at_next in
     record {
       simple = rw none tt;
-      onward = λ kinds may. rw (none, same, value) (onward-blanks limits kinds spot.top place (a_value None []) spot.rest.now next.rest.now passes);
+      noted = rw bare tt;
+      onward = λ kinds may. rw (none, bare, same, value) (onward-blanks limits kinds spot.top place (a_value None []) spot.rest.now next.rest.now passes);
       named = λ kinds may. rw none (subst (λ (e : Expected). MayExpect e kinds None []) value may);
       begins = begins;
     }

@@ -80,7 +80,9 @@ mod SureRuns
 mod Suspects
 pub mod FeedReading
 pub mod FeedNames
+pub mod FeedComments
 pub mod FeedHeads
+pub mod FeedNoted
 pub mod FeedLanes
 pub mod FeedItems
 pub mod FeedReader

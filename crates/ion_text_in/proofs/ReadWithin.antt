@@ -1,6 +1,6 @@
 -- Where a stream is read to its end, the limits allow what stands in it: else the reading stops at the first that they do not allow.
-use Rattle.std.proofs.Common.{◌≡◌, ◌⊎◌, inl, inr, ℕ, suc, ◌+◌, ◌<◌, ◌≤◌, arith, Bool, true, false, nat_le, nat_lt, sum_by, List, [], ◌∷◌, ◌++◌, length, Option, None, Some, Ok, Err, Result, if◌then◌else◌, refl, sym, ap, subst, ◌∙◌}
-use Rattle.std.proofs.lemmas.Bool.{cases_lt, le-ltb, lt-ltb, lt-leb, le-leb}
+use Rattle.std.proofs.Common.{◌≡◌, ◌⊎◌, inl, inr, ℕ, suc, ◌<◌, arith, Bool, true, false, nat_le, nat_lt, sum_by, List, [], ◌∷◌, ◌++◌, length, Option, None, Some, Ok, Err, Result, if◌then◌else◌, refl, sym, ap, subst, ◌∙◌}
+use Rattle.std.proofs.lemmas.Bool.{cases_lt, lt-ltb, lt-leb, le-leb}
 use Rattle.ion_meter.specs.declared.fault.Reason.{Reason}
 use Rattle.ion_meter.specs.declared.fault.Reason.TheVariants.{AnnotationLimit, DepthLimit, ScalarLimit}
 use Rattle.ion_meter.specs.declared.limits.Limits.{Limits}
@@ -9,7 +9,7 @@ use Rattle.ion_value.specs.declared.ion_type.Kind.{Kind}
 use Rattle.ion_value.specs.Name.{version_word}
 use Rattle.ion_value.specs.Parts.{part, refuse, ◌>>=◌, ◌>>◌}
 use Rattle.ion_value.specs.Path.{closed, path_items}
-use Rattle.ion_value.specs.Reading.{Reading, Finished, Stopped, behind, Step, Gives, GoesOn, Stops, next_reading, reading_by}
+use Rattle.ion_value.specs.Reading.{Finished, Stopped, behind, Step, Gives, GoesOn, Stops, next_reading, reading_by}
 use Rattle.ion_value.specs.ReadingLaws.{ending_of}
 use Rattle.ion_value.specs.Value as value
 use Rattle.ion_value.specs.Value.{Symbol, SymbolAt, Value, Members, Top, PlacedItem, top_items}
@@ -17,13 +17,13 @@ use Rattle.ion_value.proofs.ReadingLaws.{ending_of-behind}
 use Rattle.ion_value.proofs.Readings.{behind-append, reading_by-step}
 use Rattle.ion_text_in.specs.Grammar.{Tok, Annotations, Field, Txt, Inside, Tops, start_of}
 use Rattle.ion_text_in.specs.Meaning.{counts}
-use Rattle.ion_text_in.specs.Positions.{Wants, a_value, a_field, a_separator, State, innermost, in_sexp, at}
+use Rattle.ion_text_in.specs.Positions.{Wants, a_value, a_field, State, innermost, in_sexp, at}
 use Rattle.ion_text_in.specs.Reading as reading
 use Rattle.ion_text_in.specs.Reading.{at_member, cost, may_come, member_of, item_of, part_at, size, start, step, step_of, take, top_of}
 use Rattle.ion_text_in.specs.ReadWithin.{WhatIsReadIsWithin}
 use Rattle.ion_text_in.specs.Token.{First, Token, plain, name, text, operator, begin, colons, first_at, token_of}
-use Rattle.ion_text_in.specs.Within.{TokenWithin, NamesWithin, AnnotationsWithin, FieldWithin, TxtWithin, InsideWithin, TopsWithin}
-use Rattle.ion_text_in.proofs.Complete.{Reads, read_from, reading-read_from, reads-then, reads-gives, reads-goes_on, annotations-read, field-read, members-read, value-read, mark-within, not-refused, tops-read}
+use Rattle.ion_text_in.specs.Within.{TokenWithin, AnnotationsWithin, FieldWithin, TxtWithin, InsideWithin, TopsWithin}
+use Rattle.ion_text_in.proofs.Complete.{Reads, read_from, reading-read_from, reads-gives, annotations-read, field-read, members-read, mark-within, not-refused, tops-read}
 use Rattle.ion_text_in.proofs.Falling.{each_step_falls}
 use Rattle.ion_text_in.proofs.TokenLimits.{got, token-exact}
 use Rattle.ion_text_in.proofs.Tokens.{state, Suits, tok-stands, token-told, step-token, value-suits, naming-suits, colons-stand}

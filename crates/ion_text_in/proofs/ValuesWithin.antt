@@ -1,10 +1,10 @@
 -- Where limits allow what stands in a text, its values are within them.
-use Rattle.std.proofs.Common.{◌≡◌, ℕ, suc, ◌+◌, ◌-◌, ◌≤◌, arith, Bool, true, false, if◌then◌else◌, List, [], ◌∷◌, ◌++◌, length, drop, Option, None, Some, Result, Ok, Err, refl, sym, subst}
+use Rattle.std.proofs.Common.{◌≡◌, ℕ, suc, ◌+◌, ◌≤◌, arith, Bool, true, false, if◌then◌else◌, List, [], ◌∷◌, ◌++◌, length, Option, None, Some, Result, Ok, Err, refl, sym, subst}
 use Rattle.std.specs.List.{AllByRecursion}
 use Rattle.std.specs.Result.{IfOk}
 use Rattle.std.proofs.lemmas.Result.{IfOk-at_ok}
 use Rattle.ion_meter.specs.declared.fault.Reason.{Reason}
-use Rattle.ion_meter.specs.declared.fault.Reason.TheVariants.{BadToken, ScalarLimit}
+use Rattle.ion_meter.specs.declared.fault.Reason.TheVariants.{BadToken}
 use Rattle.ion_meter.specs.declared.limits.Limits.{Limits}
 use Rattle.ion_meter.specs.Sources.{Cursor, skip}
 use Rattle.ion_value.specs.declared.decimal.Decimal.{Decimal}
@@ -23,16 +23,14 @@ use Rattle.ion_value.specs.Value.{Symbol, SymbolAt, Scalar, Value, Members, scal
 use Rattle.ion_value.specs.Writable.{field_symbols, scalar_symbols, value_symbols, members_symbols}
 use Rattle.ion_text_in.specs.Blanks.{is_white}
 use Rattle.ion_text_in.specs.Grammar.{Tok, Annotations, Field, Txt, Inside, Tops}
-use Rattle.ion_text_in.specs.Limit.{passes}
 use Rattle.ion_text_in.specs.Lob.{blob_at, clob_at, clob_closed_at, groups_for, lob_at}
 use Rattle.ion_text_in.specs.Meaning.{counts}
 use Rattle.ion_text_in.specs.Places.{behind_run}
 use Rattle.ion_text_in.specs.Positions.{at, first_place}
 use Rattle.ion_text_in.specs.Quoted.{long_quote, short_quote, symbol_quote, text_at}
 use Rattle.ion_text_in.specs.ReadWithin.{SymbolIsWithin, ScalarIsWithin, AnnotationsAreWithin, ValueIsWithin, MembersAreWithin, TopIsWithin, WhatIsReadIsWithin, ValuesReadAreWithin}
-use Rattle.ion_text_in.specs.Token as tokens
 use Rattle.ion_text_in.specs.Token.{First, a_run, a_word, a_quoted, a_short, a_long, a_lob, an_operator, an_infinity, a_begin, an_end, a_comma, a_colon, two_colons, no_token, Token, plain, name, text, operator, no_number, begin, end, comma, colon, colons, first_at, by_keyword, bytes_of, in_operator, in_run, run_token, token_of, word_of, word_token}
-use Rattle.ion_text_in.specs.Within.{TokenWithin, NamesWithin, AnnotationsWithin, FieldWithin, TxtWithin, InsideWithin, TopsWithin}
+use Rattle.ion_text_in.specs.Within.{TokenWithin, NamesWithin, FieldWithin, TxtWithin, InsideWithin, TopsWithin}
 use Rattle.ion_text_in.proofs.RawStreams.{all-append}
 use Rattle.ion_text_in.proofs.RawTokens.{tokens-are_raw}
 use Rattle.ion_text_in.proofs.TokenLimits.{CountsAll, run_token-counts, word_token-counts}

@@ -3,14 +3,16 @@ use Rattle.std.specs.Prelude.{◌≡◌, ℕ, ◌+◌, ◌*◌, ◌-◌, ◌^◌
 use Rattle.ion_meter.specs.Counts.{Counts}
 use Rattle.ion_meter.specs.declared.limits.Limits.{Limits}
 use Rattle.ion_meter.specs.Limits.{AreChecked}
+use Rattle.ion_meter.specs.Sources.{Cursor}
 use Rattle.ion_meter.specs.Windows.{Incoming, lent, Outgoing, IsPassed}
 use Rattle.ion_value.specs.declared.ion_type.Kind.{Kind}
 use Rattle.ion_value.specs.declared.plain_item.TextAt.{TextAt}
 use Rattle.ion_value.specs.declared.writer.ValueWriter.{Ghosts as WriterOf}
 use Rattle.ion_value.specs.Feeding.{CanTake, Feeds, Joint, StaysWell}
 use Rattle.ion_value.specs.Items.{named_item, raw_head}
-use Rattle.ion_value.specs.PlainItems.{placed_text, HasSimpleName, IsSimpleHead}
-use Rattle.ion_value.specs.Reading.{Reading, More}
+use Rattle.ion_value.specs.Parts.{Placed}
+use Rattle.ion_value.specs.PlainItems.{listed, placed_text, AreSimple, HasSimpleName, IsSimpleHead}
+use Rattle.ion_value.specs.Reading.{More}
 use Rattle.ion_value.specs.Shares.{Charges}
 use Rattle.ion_value.specs.Standing.{open_after, in_struct, has_field, is_marker, HasPlace, HeadInRange, WritesWithin}
 use Rattle.ion_value.specs.Value as value
@@ -49,6 +51,12 @@ pub record PassesBlanks (bytes rest : List ℕ) : Type 0 where
   pub fewer : length rest ≤ length bytes
   pub blank : (p q : ℕ) (more : List ℕ) → p + length bytes ≡ q + length rest → blanks (at p (bytes ++ more)) ≡ Ok (at q (rest ++ more))
   pub bare : IsBare rest
+
+-- what one reading makes of some bytes, the other makes of a rest of them, whatever follows
+pub record LeadsTo (one other : ℕ → List ℕ → Placed Cursor) (bytes rest : List ℕ) : Type 0 where
+  pub part : IsBehind bytes rest
+  pub fewer : length rest ≤ length bytes
+  pub same : (p q : ℕ) (more : List ℕ) → p + length bytes ≡ q + length rest → one p (bytes ++ more) ≡ other q (rest ++ more)
 
 -- what a slice shows of the next token behind blanks, by the number of what its first byte tells alone: 0 is known of nothing
 pub record IsNext (bytes : List ℕ) (next : Next) : Type 0 where
@@ -90,9 +98,13 @@ behind_head kinds (value.begin kind) = member_of kind
 behind_head kinds value.end = a_value None []
 behind_head kinds value.marker = a_value None []
 
--- an item without annotations by its parts
-abbrev pub bare_item : List Kind → ℕ → Option SymbolAt → ℕ → Head SymbolAt → PlacedItem
-bare_item kinds top field place head = item_of (top_of kinds top [] place) field [] place head
+-- an item by its parts
+abbrev pub item_in : List Kind → ℕ → Option SymbolAt → List SymbolAt → ℕ → Head SymbolAt → PlacedItem
+item_in kinds top field annotations place head = item_of (top_of kinds top annotations place) field annotations place head
+
+-- the annotations of an item that has one at most
+abbrev pub notes : Option TextAt → List SymbolAt
+notes note = listed (option_map placed_text note)
 
 -- ---- parts of an item
 
@@ -106,16 +118,28 @@ pub record Begins (next : Next) : Type 0 where
 pub record IsNamed (limits : Limits) (place : ℕ) (next : Next) (start : Start) : Type 0 where
   pub text : TextAt
   pub is : start.field ≡ Some text
+  pub bare : start.note ≡ None
   pub simple : is_simple text.text.now ≡ true
   pub some : 0 < next.told
   pub onward : (kinds : List Kind) (top : ℕ) → Onward limits kinds top place a_field next.rest.now (a_value (Some (placed_text text)) []) start.next.rest.now
   pub begins : Begins start.next
 
--- a value begins here, behind the name of a field where one must come
+-- behind an annotation that begins at a place, and two colons, a value begins
+pub record IsNoted (limits : Limits) (place : ℕ) (start noted : Start) : Type 0 where
+  pub text : TextAt
+  pub is : noted.note ≡ Some text
+  pub same : noted.field ≡ start.field
+  pub simple : is_simple text.text.now ≡ true
+  pub onward : (kinds : List Kind) (top : ℕ) (field : Option SymbolAt)
+      → Onward limits kinds top place (a_value field []) start.next.rest.now (a_value field (placed_text text ∷ [])) noted.next.rest.now
+  pub begins : Begins noted.next
+
+-- a value begins here, behind the name of a field where one must come, and behind an annotation if it has one
 pub record IsStart (limits : Limits) (spot : Spot) (place : ℕ) (start : Start) : Type 0 where
   pub simple : HasSimpleName (option_map placed_text start.field)
+  pub noted : AreSimple (notes start.note)
   pub onward : (kinds : List Kind) → MayExpect spot.expected kinds None []
-      → Onward limits kinds spot.top place (wanted spot.expected None []) spot.rest.now (a_value (option_map placed_text start.field) []) start.next.rest.now
+      → Onward limits kinds spot.top place (wanted spot.expected None []) spot.rest.now (a_value (option_map placed_text start.field) (notes start.note)) start.next.rest.now
   pub named : (kinds : List Kind) → MayExpect spot.expected kinds None [] → is_some start.field ≡ in_struct kinds
   pub begins : Begins start.next
 
@@ -127,9 +151,9 @@ pub record IsHead (limits : Limits) (place : ℕ) (bytes : List ℕ) (head : Hea
   pub range : HeadInRange head
   pub member : (kinds : List Kind) → has_field kinds head ≡ in_struct kinds
   pub value : is_marker head ≡ false
-  pub gives : (kinds : List Kind) (top q : ℕ) (field : Option SymbolAt) (more : List ℕ) → HasPlace limits.depth kinds head → place + length bytes ≡ q + length rest
-      → later limits (state kinds top (a_value field []) place (bytes ++ more))
-      ≡ More (bare_item kinds top field place head) (later limits (state (open_after kinds head) (top_of kinds top [] place) (behind_head kinds head) q (rest ++ more)))
+  pub gives : (kinds : List Kind) (top q : ℕ) (field : Option SymbolAt) (annotations : List SymbolAt) (more : List ℕ) → HasPlace limits.depth kinds head → place + length bytes ≡ q + length rest
+      → later limits (state kinds top (a_value field annotations) place (bytes ++ more))
+      ≡ More (item_in kinds top field annotations place head) (later limits (state (open_after kinds head) (top_of kinds top annotations place) (behind_head kinds head) q (rest ++ more)))
 
 -- the same of what the code found
 abbrev pub IsFound : Limits → ℕ → List ℕ → Found → Type 0

@@ -2,34 +2,38 @@
 ghost use Rattle.std.specs.Prelude.{◌≡◌, ◌≢◌, ◌+◌, ◌-◌, ◌^◌, ◌<◌, ◌≤◌, ℕ, Bool, List, [], ◌∷◌, ◌++◌, take, drop, length, reverse, true, false, None, Some, Ok, option_map, IfSome};
 ghost use Rattle.ion_value.specs.declared.ion_type.Kind as kind_of;
 ghost use Rattle.ion_text_in.specs.Expecting.{wanted, MayExpect};
-ghost use Rattle.ion_text_in.specs.Feeding.{lane, Begins, CanFeed, IsBare, IsFound, IsNamed, IsNext, IsSimpleWord, IsStart, Moved, Onward, PassesBlanks, ToColon};
+ghost use Rattle.ion_text_in.specs.Feeding.{lane, notes, Begins, CanFeed, IsBare, IsFound, IsNamed, IsNext, IsStart, Moved, Onward, PassesBlanks, ToColon};
 ghost use Rattle.ion_text_in.specs.Firsts.{numbered};
-ghost use Rattle.ion_text_in.specs.Quick.{as_quick};
 ghost use Rattle.ion_text_in.specs.Reading.{top_of};
-ghost use Rattle.ion_text_in.specs.Token.{a_begin, a_comma, a_run, a_short, a_word, an_end, first_at};
-ghost use Rattle.ion_text_in.specs.Views.{as_number};
-ghost use Rattle.ion_value.specs.Items.{raw_head};
+ghost use Rattle.ion_text_in.specs.Token.{a_comma, a_run, a_short, a_word, an_end, first_at};
 ghost use Rattle.ion_value.specs.Outcome.{one_if_closed};
-ghost use Rattle.ion_value.specs.Value.{whole};
 ghost use Rattle.ion_text_in.specs.Positions.{innermost};
 
-use crate::blank::white_run;
+mod comments;
+mod copies;
+mod heads;
+mod noted;
+
 use crate::expected::{Expected, at_member, behind_comma, behind_member, is_same};
-use crate::first::{First, brace, shows_colon, told_first};
-use crate::number::{Number, scan_number};
-use crate::quick::{Quick, scaled, scan_quick, signed_int};
-use crate::quoted::{Quote, scan_text};
+use crate::first::{First, shows_colon, told_first};
+use crate::quick::scan_quick;
 use crate::scanned::Scanned;
-use crate::word::{Word, scan_word, simple_word};
+use crate::word::{Word, simple_word};
+use comments::behind_blanks;
+use copies::{limits_for_call, spot_for_call, start_for_call};
+use heads::{
+    begin_head, decimal_head, int_head, scan_head, scan_keyword, string_head, symbol_head, token,
+};
 use ion_meter::device::Output;
 use ion_meter::limits::Limits;
 use ion_meter::meter::Meter;
 use ion_meter::sink::Sink;
 use ion_meter::stack::Stack;
 use ion_value::ion_type::Kind;
-use ion_value::item::{Head, Sym, SymAt};
+use ion_value::item::Head;
 use ion_value::plain_item::{PlainItem, TextAt};
 use ion_value::writer::ValueWriter;
+use noted::noted;
 use std::alloc::Allocator;
 
 /// Where a lane stands between two items.
@@ -54,18 +58,13 @@ pub(crate) struct Next<'a> {
     rest: &'a [u8],
 }
 
-// Where a member may begin, or a container end: behind a comma where one must come.
-#[derive(Clone, Copy)]
-struct Member<'a> {
-    spot: Spot<'a>,
-    next: Next<'a>,
-}
-
 /// Where a value begins, behind the name of its field.
 #[derive(Clone, Copy)]
 pub(crate) struct Start<'a> {
     /// The name.
     field: Option<TextAt<'a>>,
+    /// The annotation, if there is one.
+    note: Option<TextAt<'a>>,
     /// What the value begins with.
     next: Next<'a>,
 }
@@ -110,18 +109,6 @@ fn front(count: usize, bytes: &[u8]) -> &[u8]
     &bytes[..count]
 }
 
-// Behind white space; nothing where a comment may begin, or where the bytes show no end.
-#[inline(always)]
-fn behind_white(bytes: &[u8]) -> &[u8]
-    ensures { 0 < length result.now → PassesBlanks bytes.now result.now }
-{
-    let white = white_run(bytes);
-    if white == bytes.len() || bytes[white] == b'/' {
-        return &[];
-    }
-    behind(white, bytes)
-}
-
 // What the next token is behind blanks.
 #[inline(always)]
 fn next_told(bytes: &[u8]) -> Next<'_>
@@ -131,110 +118,100 @@ fn next_told(bytes: &[u8]) -> Next<'_>
     if told > 0 {
         return Next { told, rest: bytes };
     }
-    let rest = behind_white(bytes);
+    let rest = behind_blanks(bytes);
     Next {
         told: told_first(rest),
         rest,
     }
 }
 
-// Passes over the comma that must come, and over the blanks before and behind it.
+// Passes over the comma that must come; what the next token is behind it, and behind blanks.
 #[inline(always)]
-fn to_member(spot: Spot<'_>, inner: Option<Kind>) -> Member<'_>
+fn to_member<'a>(at: &mut Spot<'a>, inner: Option<Kind>) -> Next<'a>
     ensures onward { (limits : Limits) (opened : List kind_of.Kind) (place : ℕ)
         → innermost opened ≡ inner
-        → Onward limits opened spot.entry.top place
-        (wanted spot.entry.expected None []) spot.entry.rest.now
-        (wanted result.spot.expected None []) result.spot.rest.now }
+        → Onward limits opened at.old.top place
+        (wanted at.old.expected None []) at.old.rest.now
+        (wanted at.new.expected None []) at.new.rest.now }
     ensures expects { (opened : List kind_of.Kind) → innermost opened ≡ inner
-        → MayExpect spot.entry.expected opened None []
-        → MayExpect result.spot.expected opened None [] }
-    ensures same { (result.spot.top ≡ spot.entry.top) × (result.spot.values ≡ spot.entry.values) }
-    ensures next { IsNext result.spot.rest.now result.next }
+        → MayExpect at.old.expected opened None []
+        → MayExpect at.new.expected opened None [] }
+    ensures same { (at.new.top ≡ at.old.top) × (at.new.values ≡ at.old.values) }
+    ensures next { IsNext at.new.rest.now result }
 {
-    let next = next_told(spot.rest);
+    let next = next_told(at.rest);
     if next.told != COMMA {
-        return Member { spot, next };
+        return next;
     }
-    match spot.expected {
-        Expected::Separator => behind_separator(spot, next.rest, inner),
-        _ => Member {
-            spot,
-            next: Next { told: 0, rest: &[] },
-        },
+    match at.expected {
+        Expected::Separator => behind_separator(at, next.rest, inner),
+        _ => Next { told: 0, rest: &[] },
     }
 }
 
 // Passes over the comma that stands here, and looks behind it.
 #[inline(always)]
-fn behind_separator<'a>(spot: Spot<'a>, rest: &'a [u8], inner: Option<Kind>) -> Member<'a>
-    requires separator { spot.expected ≡ Expected.Separator }
-    requires passes { PassesBlanks spot.rest.now rest.now }
+fn behind_separator<'a>(at: &mut Spot<'a>, rest: &'a [u8], inner: Option<Kind>) -> Next<'a>
+    requires separator { at.old.expected ≡ Expected.Separator }
+    requires passes { PassesBlanks at.old.rest.now rest.now }
     requires some { 0 < length rest.now }
     requires comma { (in_sexp : Bool) (more : List ℕ)
         → first_at in_sexp (rest.now ++ more) ≡ a_comma }
     ensures onward { (limits : Limits) (opened : List kind_of.Kind) (place : ℕ)
         → innermost opened ≡ inner
-        → Onward limits opened spot.entry.top place
-        (wanted spot.entry.expected None []) spot.entry.rest.now
-        (wanted result.spot.expected None []) result.spot.rest.now }
+        → Onward limits opened at.old.top place
+        (wanted at.old.expected None []) at.old.rest.now
+        (wanted at.new.expected None []) at.new.rest.now }
     ensures expects { (opened : List kind_of.Kind) → innermost opened ≡ inner
-        → MayExpect result.spot.expected opened None [] }
-    ensures same { (result.spot.top ≡ spot.entry.top) × (result.spot.values ≡ spot.entry.values) }
-    ensures next { IsNext result.spot.rest.now result.next }
+        → MayExpect at.new.expected opened None [] }
+    ensures same { (at.new.top ≡ at.old.top) × (at.new.values ≡ at.old.values) }
+    ensures next { IsNext at.new.rest.now result }
 {
-    let behind = Spot {
-        rest: behind(1, rest),
-        expected: behind_comma(inner),
-        top: spot.top,
-        values: spot.values,
-    };
-    Member {
-        spot: behind,
-        next: next_told(behind.rest),
-    }
+    at.rest = behind(1, rest);
+    at.expected = behind_comma(inner);
+    next_told(at.rest)
 }
 
 // What the value begins with that may begin here, behind the name of its field where one must come.
 #[inline(always)]
-fn to_start<'a>(member: Member<'a>, limits: Limits, place: u64) -> Option<Start<'a>>
-    requires next { IsNext member.spot.rest.now member.next }
-    requires small { place + length member.spot.rest.now < 2 ^ 63 }
-    ensures { IfSome result (IsStart limits member.entry.spot place) }
+fn to_start<'a>(spot: Spot<'a>, next: Next<'a>, limits: Limits, place: u64) -> Option<Start<'a>>
+    requires next { IsNext spot.rest.now next }
+    requires small { place + length spot.rest.now < 2 ^ 63 }
+    ensures start { IfSome result (IsStart limits spot.entry place) }
+    ensures bare { IfSome result (λ s. s.note ≡ None) }
 {
-    match member.spot.expected {
-        Expected::Value => value_start(member.next),
-        Expected::Field => { field_start(member.next, limits, place_behind(place, member)) }
+    match spot.expected {
+        Expected::Value => value_start(next),
+        Expected::Field => field_start(next, limits, place_behind(place, spot, next)),
         Expected::Separator => None,
     }
 }
 
 // The place of the next token behind blanks.
 #[inline(always)]
-fn place_behind(place: u64, member: Member<'_>) -> u64
-    requires small { place + length member.spot.rest.now < 2 ^ 63 }
-    ensures { result ≡ place
-        + (length member.entry.spot.rest.now - length member.entry.next.rest.now) }
+fn place_behind(place: u64, spot: Spot<'_>, next: Next<'_>) -> u64
+    requires small { place + length spot.rest.now < 2 ^ 63 }
+    ensures { result ≡ place + (length spot.entry.rest.now - length next.entry.rest.now) }
 {
-    place
-        + member
-            .spot
-            .rest
-            .len()
-            .saturating_sub(member.next.rest.len()) as u64
+    place + spot.rest.len().saturating_sub(next.rest.len()) as u64
 }
 
 // The same where no name must come.
 #[inline(always)]
 fn value_start<'a>(next: Next<'a>) -> Option<Start<'a>>
     ensures field { IfSome result (λ s. s.field ≡ None) }
+    ensures note { IfSome result (λ s. s.note ≡ None) }
     ensures next { IfSome result (λ s. s.next ≡ next.entry) }
     ensures some { IfSome result (λ s. 0 < length next.entry.rest.now) }
 {
     if next.rest.is_empty() {
         return None;
     }
-    Some(Start { field: None, next })
+    Some(Start {
+        field: None,
+        note: None,
+        next,
+    })
 }
 
 // The same behind the name that must come, and that begins at a place.
@@ -262,6 +239,7 @@ fn field_start<'a>(next: Next<'a>, limits: Limits, place: u64) -> Option<Start<'
     };
     Some(Start {
         field: Some(name),
+        note: None,
         next: value,
     })
 }
@@ -274,207 +252,11 @@ fn to_colon(bytes: &[u8]) -> Option<&[u8]>
     if shows_colon(bytes) {
         return Some(bytes);
     }
-    let rest = behind_white(bytes);
+    let rest = behind_blanks(bytes);
     if !shows_colon(rest) {
         return None;
     }
     Some(rest)
-}
-
-// The head of the item that begins so, where it lies whole in the bytes and is a frequent one.
-#[inline(always)]
-fn scan_head<'a>(limits: Limits, place: u64, next: Next<'a>) -> Option<Found<'a>>
-    requires begins { Begins next }
-    ensures { IfSome result (IsFound limits place next.entry.rest.now) }
-{
-    match next.told {
-        1 => word_head(limits, place, next.rest),
-        2 => number_head(limits, place, next.rest),
-        3 => string_head(limits, place, next.rest),
-        5 => begin_head(limits, place, Kind::List, next.rest),
-        6 => begin_head(limits, place, Kind::Sexp, next.rest),
-        0 => mark_head(limits, place, next.rest),
-        _ => None,
-    }
-}
-
-// The same of what no byte tells alone.
-#[tactic(auto, unfolding(crate::specs::Token::first_at))]
-#[inline(always)]
-fn mark_head<'a>(limits: Limits, place: u64, bytes: &'a [u8]) -> Option<Found<'a>>
-    requires bare { IsBare bytes.now }
-    ensures { IfSome result (IsFound limits place bytes.now) }
-{
-    match bytes {
-        [b'{', others @ ..] => match brace(others) {
-            Some(First::Begin(kind)) => begin_head(limits, place, kind, bytes),
-            _ => None,
-        },
-        [b'-', b'0'..=b'9', ..] => number_head(limits, place, bytes),
-        _ => None,
-    }
-}
-
-// A container's beginning.
-#[inline(always)]
-fn begin_head<'a>(limits: Limits, place: u64, kind: Kind, bytes: &'a [u8]) -> Option<Found<'a>>
-    requires bare { IsBare bytes.now }
-    requires first { (in_sexp : Bool) (more : List ℕ)
-        → first_at in_sexp (bytes.now ++ more) ≡ a_begin kind }
-    requires some { 0 < length bytes.now }
-    ensures { IfSome result (IsFound limits place bytes.now) }
-{
-    Some(Found {
-        head: Head::Begin(kind),
-        rest: behind(1, bytes),
-    })
-}
-
-// A number that was read in one pass, as a head.
-#[inline(always)]
-fn quick_head<'a>(quick: Quick) -> Head<'a>
-    ensures { raw_head result ≡ whole (as_number (as_quick quick)) }
-{
-    match quick.exponent {
-        Some(exponent) => Head::Decimal(scaled(quick.negative, quick.number, exponent)),
-        None => Head::Int(signed_int(quick.negative, quick.number)),
-    }
-}
-
-// A number or a timestamp, as a head.
-#[inline(always)]
-fn head_of<'a>(number: Number) -> Head<'a>
-    ensures { raw_head result ≡ whole (as_number number) }
-{
-    match number {
-        Number::Int(int) => Head::Int(int),
-        Number::Decimal(decimal) => Head::Decimal(decimal),
-        Number::Timestamp(timestamp) => Head::Timestamp(timestamp),
-    }
-}
-
-// Any number or timestamp.
-#[inline(never)]
-fn run_head<'a>(limits: Limits, place: u64, bytes: &'a [u8]) -> Option<Found<'a>>
-    requires bare { IsBare bytes.now }
-    requires first { (in_sexp : Bool) (more : List ℕ)
-        → first_at in_sexp (bytes.now ++ more) ≡ a_run }
-    requires some { 0 < length bytes.now }
-    ensures { IfSome result (IsFound limits place bytes.now) }
-{
-    match scan_number(limits.scalar, bytes) {
-        Scanned::Whole(number, count) => Some(Found {
-            head: head_of(number),
-            rest: behind(count, bytes),
-        }),
-        _ => None,
-    }
-}
-
-// A number: an int or a decimal is mostly read in one pass.
-#[inline(always)]
-fn number_head<'a>(limits: Limits, place: u64, bytes: &'a [u8]) -> Option<Found<'a>>
-    requires bare { IsBare bytes.now }
-    requires first { (in_sexp : Bool) (more : List ℕ)
-        → first_at in_sexp (bytes.now ++ more) ≡ a_run }
-    requires some { 0 < length bytes.now }
-    ensures { IfSome result (IsFound limits place bytes.now) }
-{
-    let Some(quick) = scan_quick(limits.scalar, bytes) else {
-        return run_head(limits, place, bytes);
-    };
-    Some(Found {
-        head: quick_head(quick),
-        rest: behind(quick.count, bytes),
-    })
-}
-
-// A string of plain bytes alone.
-#[inline(always)]
-fn string_head<'a>(limits: Limits, place: u64, bytes: &'a [u8]) -> Option<Found<'a>>
-    requires bare { IsBare bytes.now }
-    requires first { (in_sexp : Bool) (more : List ℕ)
-        → first_at in_sexp (bytes.now ++ more) ≡ a_short }
-    requires some { 0 < length bytes.now }
-    ensures { IfSome result (IsFound limits place bytes.now) }
-{
-    let text = behind(1, bytes);
-    match scan_text(Quote::Short, limits.scalar, text) {
-        Scanned::Whole(plain, count) => Some(Found {
-            head: Head::String(front(plain, text)),
-            rest: behind(count, text),
-        }),
-        _ => None,
-    }
-}
-
-// A word: a null, a bool, or a symbol behind which no two colons come.
-#[inline(always)]
-fn word_head<'a>(limits: Limits, place: u64, bytes: &'a [u8]) -> Option<Found<'a>>
-    requires bare { IsBare bytes.now }
-    requires first { (in_sexp : Bool) (more : List ℕ)
-        → first_at in_sexp (bytes.now ++ more) ≡ a_word }
-    requires some { 0 < length bytes.now }
-    ensures { IfSome result (IsFound limits place bytes.now) }
-{
-    match simple_word(limits.scalar, bytes) {
-        Some(count) => symbol_head(limits, place, count, bytes),
-        None => keyword_head(limits, place, bytes),
-    }
-}
-
-// A symbol that has so many bytes, where a token is told behind it that is no two colons.
-#[inline(always)]
-fn symbol_head<'a>(limits: Limits, place: u64, count: usize, bytes: &'a [u8]) -> Option<Found<'a>>
-    requires bare { IsBare bytes.now }
-    requires first { (in_sexp : Bool) (more : List ℕ)
-        → first_at in_sexp (bytes.now ++ more) ≡ a_word }
-    requires word { IsSimpleWord limits.scalar bytes.now count }
-    ensures { IfSome result (IsFound limits place bytes.now) }
-{
-    let rest = behind(count, bytes);
-    let next = next_told(rest);
-    if next.told == 0 {
-        return None;
-    }
-    let name = SymAt {
-        sym: Sym::Text(front(count, bytes)),
-        place,
-    };
-    Some(Found {
-        head: Head::Symbol(name),
-        rest,
-    })
-}
-
-// A null or a bool.
-#[inline(never)]
-fn keyword_head<'a>(limits: Limits, place: u64, bytes: &'a [u8]) -> Option<Found<'a>>
-    requires bare { IsBare bytes.now }
-    requires first { (in_sexp : Bool) (more : List ℕ)
-        → first_at in_sexp (bytes.now ++ more) ≡ a_word }
-    requires some { 0 < length bytes.now }
-    ensures { IfSome result (IsFound limits place bytes.now) }
-{
-    match scan_word(limits.scalar, bytes) {
-        Scanned::Whole(Word::Null(ion_type), count) => Some(Found {
-            head: Head::Null(ion_type),
-            rest: behind(count, bytes),
-        }),
-        Scanned::Whole(Word::Bool(truth), count) => Some(Found {
-            head: Head::Bool(truth),
-            rest: behind(count, bytes),
-        }),
-        _ => None,
-    }
-}
-
-// The lane ends here.
-#[inline(always)]
-fn stop(spot: Spot<'_>) -> Turned<'_>
-    ensures { (result.spot ≡ spot.entry) × (result.more ≡ false) }
-{
-    Turned { spot, more: false }
 }
 
 // The kind of container that a token ends, by its number.
@@ -511,10 +293,11 @@ fn innermost<A: Allocator + Copy>(kinds: &Stack<Kind, A>) -> Option<Kind>
     kinds.as_slice().last().copied()
 }
 
-// Hands on the end of the innermost container.
+// Hands on the end of the innermost container, and says whether it did.
 #[inline(always)]
 fn close<'a, W: ValueWriter<O, A>, O: Output, A: Allocator + Copy>(
-    member: Member<'a>,
+    at: &mut Spot<'a>,
+    next: Next<'a>,
     kind: Kind,
     limits: Limits,
     end: u64,
@@ -522,106 +305,59 @@ fn close<'a, W: ValueWriter<O, A>, O: Output, A: Allocator + Copy>(
     meter: &mut Meter<A>,
     writer: &mut W,
     sink: &mut Sink<O, A>,
-) -> Turned<'a>
+) -> bool
     requires can { CanFeed W.ValueWriter limits end
-        (lane kinds.old member.spot writer.old sink.old meter.old) }
-    requires next { IsNext member.spot.rest.now member.next }
-    requires told { (0 < member.next.told) × (numbered member.next.told ≡ an_end kind) }
+        (lane kinds.old at.old writer.old sink.old meter.old) }
+    requires next { IsNext at.old.rest.now next }
+    requires told { (0 < next.told) × (numbered next.told ≡ an_end kind) }
     ensures moved { Moved W.ValueWriter limits end
-        (lane kinds.old member.entry.spot writer.old sink.old meter.old)
-        (lane kinds.new result.spot writer.new sink.new meter.new) }
-    ensures goes { length kinds.new + length result.spot.rest.now
-        ≤ length kinds.old + length member.entry.spot.rest.now }
-    ensures falls { result.more ≡ true
-        → length result.spot.rest.now < length member.entry.spot.rest.now }
+        (lane kinds.old at.old writer.old sink.old meter.old)
+        (lane kinds.new at.new writer.new sink.new meter.new) }
+    ensures goes { length kinds.new + length at.new.rest.now
+        ≤ length kinds.old + length at.old.rest.now }
+    ensures falls { result ≡ true → length at.new.rest.now < length at.old.rest.now }
 {
-    let spot = member.spot;
-    let rest = member.next.rest;
     let Some(inner) = innermost(kinds) else {
-        return stop(spot);
+        return false;
     };
     if !is_same(inner, kind) {
-        return stop(spot);
+        return false;
     }
     let item = PlainItem {
         field: None,
         annotation: None,
         head: Head::End,
-        place: end - rest.len() as u64,
-        top: spot.top,
+        place: end - next.rest.len() as u64,
+        top: at.top,
     };
     if !writer.take_plain(meter, sink, item) {
-        return stop(spot);
+        return false;
     }
     let _closed = kinds.pop(meter);
     let outer = innermost(kinds);
-    Turned {
-        spot: Spot {
-            rest: behind(1, rest),
-            expected: behind_member(outer),
-            top: spot.top,
-            values: values_behind(spot.values, outer),
-        },
-        more: true,
-    }
-}
-
-// Hands on the value that begins here, or the container's beginning, behind its field's name.
-#[inline(always)]
-fn value<'a, W: ValueWriter<O, A>, O: Output, A: Allocator + Copy>(
-    member: Member<'a>,
-    limits: Limits,
-    end: u64,
-    kinds: &mut Stack<Kind, A>,
-    meter: &mut Meter<A>,
-    writer: &mut W,
-    sink: &mut Sink<O, A>,
-) -> Turned<'a>
-    requires can { CanFeed W.ValueWriter limits end
-        (lane kinds.old member.spot writer.old sink.old meter.old) }
-    requires next { IsNext member.spot.rest.now member.next }
-    ensures moved { Moved W.ValueWriter limits end
-        (lane kinds.old member.entry.spot writer.old sink.old meter.old)
-        (lane kinds.new result.spot writer.new sink.new meter.new) }
-    ensures goes { length kinds.new + length result.spot.rest.now
-        ≤ length kinds.old + length member.entry.spot.rest.now }
-    ensures falls { result.more ≡ true
-        → length result.spot.rest.now < length member.entry.spot.rest.now }
-{
-    let spot = member.spot;
-    let Some(start) = to_start(member, limits, end - spot.rest.len() as u64) else {
-        return stop(spot);
-    };
-    let place = end - start.next.rest.len() as u64;
-    let Some(found) = scan_head(limits, place, start.next) else {
-        return stop(spot);
-    };
-    match found.head {
-        Head::Begin(kind) => {
-            begin(
-                spot, start, found, kind, limits, end, kinds, meter, writer, sink,
-            )
-        }
-        _ => scalar(spot, start, found, limits, end, kinds, meter, writer, sink),
-    }
+    at.rest = behind(1, next.rest);
+    at.expected = behind_member(outer);
+    at.values = values_behind(at.values, outer);
+    true
 }
 
 // Where the top-level value begins that an item is in whose head begins at a place.
 #[inline(always)]
-fn top_at(top: u64, inner: Option<Kind>, place: u64) -> u64
+fn top_at(top: u64, inner: Option<Kind>, note: Option<TextAt<'_>>, place: u64) -> u64
     ensures { (opened : List kind_of.Kind) → innermost opened ≡ inner
-        → result ≡ top_of opened top [] place }
+        → result ≡ top_of opened top (notes note.entry) place }
 {
-    match inner {
-        None => place,
-        Some(_) => top,
+    match (inner, note) {
+        (None, None) => place,
+        (None, Some(note)) => note.place,
+        (Some(_), _) => top,
     }
 }
 
-// Hands on a container's beginning.
+// Hands on a container's beginning, and says whether it did.
 #[inline(always)]
 fn begin<'a, W: ValueWriter<O, A>, O: Output, A: Allocator + Copy>(
-    spot: Spot<'a>,
+    at: &mut Spot<'a>,
     start: Start<'a>,
     found: Found<'a>,
     kind: Kind,
@@ -631,53 +367,48 @@ fn begin<'a, W: ValueWriter<O, A>, O: Output, A: Allocator + Copy>(
     meter: &mut Meter<A>,
     writer: &mut W,
     sink: &mut Sink<O, A>,
-) -> Turned<'a>
+) -> bool
     requires can { CanFeed W.ValueWriter limits end
-        (lane kinds.old spot writer.old sink.old meter.old) }
-    requires start { IsStart limits spot (end - length spot.rest.now) start }
+        (lane kinds.old at.old writer.old sink.old meter.old) }
+    requires start { IsStart limits at.old (end - length at.old.rest.now) start }
     requires found { IsFound limits (end - length start.next.rest.now) start.next.rest.now found }
     requires begins { found.head ≡ Head.Begin kind }
     ensures moved { Moved W.ValueWriter limits end
-        (lane kinds.old spot.entry writer.old sink.old meter.old)
-        (lane kinds.new result.spot writer.new sink.new meter.new) }
-    ensures goes { length kinds.new + length result.spot.rest.now
-        ≤ length kinds.old + length spot.entry.rest.now }
-    ensures falls { result.more ≡ true → length result.spot.rest.now < length spot.entry.rest.now }
+        (lane kinds.old at.old writer.old sink.old meter.old)
+        (lane kinds.new at.new writer.new sink.new meter.new) }
+    ensures goes { length kinds.new + length at.new.rest.now
+        ≤ length kinds.old + length at.old.rest.now }
+    ensures falls { result ≡ true → length at.new.rest.now < length at.old.rest.now }
 {
     if u64::from(limits.depth) <= kinds.as_slice().len() as u64 {
-        return stop(spot);
+        return false;
     }
     let place = end - start.next.rest.len() as u64;
-    let top = top_at(spot.top, innermost(kinds), place);
+    let top = top_at(at.top, innermost(kinds), start.note, place);
     if !kinds.push_within(meter, kind) {
-        return stop(spot);
+        return false;
     }
     let item = PlainItem {
         field: start.field,
-        annotation: None,
+        annotation: start.note,
         head: found.head,
         place,
         top,
     };
     if !writer.take_plain(meter, sink, item) {
         let _opened = kinds.pop(meter);
-        return stop(spot);
+        return false;
     }
-    Turned {
-        spot: Spot {
-            rest: found.rest,
-            expected: at_member(kind),
-            top,
-            values: spot.values,
-        },
-        more: true,
-    }
+    at.rest = found.rest;
+    at.expected = at_member(kind);
+    at.top = top;
+    true
 }
 
-// Hands on a scalar.
+// Hands on a scalar, and says whether it did.
 #[inline(always)]
 fn scalar<'a, W: ValueWriter<O, A>, O: Output, A: Allocator + Copy>(
-    spot: Spot<'a>,
+    at: &mut Spot<'a>,
     start: Start<'a>,
     found: Found<'a>,
     limits: Limits,
@@ -686,45 +417,42 @@ fn scalar<'a, W: ValueWriter<O, A>, O: Output, A: Allocator + Copy>(
     meter: &mut Meter<A>,
     writer: &mut W,
     sink: &mut Sink<O, A>,
-) -> Turned<'a>
+) -> bool
     requires can { CanFeed W.ValueWriter limits end
-        (lane kinds.now spot writer.old sink.old meter.old) }
-    requires start { IsStart limits spot (end - length spot.rest.now) start }
+        (lane kinds.now at.old writer.old sink.old meter.old) }
+    requires start { IsStart limits at.old (end - length at.old.rest.now) start }
     requires found { IsFound limits (end - length start.next.rest.now) start.next.rest.now found }
     requires whole { (kind : kind_of.Kind) → found.head ≢ Head.Begin kind }
     ensures moved { Moved W.ValueWriter limits end
-        (lane kinds.now spot.entry writer.old sink.old meter.old)
-        (lane kinds.now result.spot writer.new sink.new meter.new) }
-    ensures falls { result.more ≡ true → length result.spot.rest.now < length spot.entry.rest.now }
+        (lane kinds.now at.old writer.old sink.old meter.old)
+        (lane kinds.now at.new writer.new sink.new meter.new) }
+    ensures falls { result ≡ true → length at.new.rest.now < length at.old.rest.now }
 {
     let inner = innermost(kinds);
     let place = end - start.next.rest.len() as u64;
-    let top = top_at(spot.top, inner, place);
+    let top = top_at(at.top, inner, start.note, place);
     let item = PlainItem {
         field: start.field,
-        annotation: None,
+        annotation: start.note,
         head: found.head,
         place,
         top,
     };
     if !writer.take_plain(meter, sink, item) {
-        return stop(spot);
+        return false;
     }
-    Turned {
-        spot: Spot {
-            rest: found.rest,
-            expected: behind_member(inner),
-            top,
-            values: values_behind(spot.values, inner),
-        },
-        more: true,
-    }
+    at.rest = found.rest;
+    at.expected = behind_member(inner);
+    at.top = top;
+    at.values = values_behind(at.values, inner);
+    true
 }
 
-// Hands on one item, behind the comma that must come before it.
-#[inline(always)]
-fn turn<'a, W: ValueWriter<O, A>, O: Output, A: Allocator + Copy>(
+// Hands on the value that begins here, whatever it is, behind its field's name and its annotation.
+#[inline(never)]
+fn any_value<'a, W: ValueWriter<O, A>, O: Output, A: Allocator + Copy>(
     spot: Spot<'a>,
+    start: Start<'a>,
     limits: Limits,
     end: u64,
     kinds: &mut Stack<Kind, A>,
@@ -734,6 +462,7 @@ fn turn<'a, W: ValueWriter<O, A>, O: Output, A: Allocator + Copy>(
 ) -> Turned<'a>
     requires can { CanFeed W.ValueWriter limits end
         (lane kinds.old spot writer.old sink.old meter.old) }
+    requires start { IsStart limits spot (end - length spot.rest.now) start }
     ensures moved { Moved W.ValueWriter limits end
         (lane kinds.old spot.entry writer.old sink.old meter.old)
         (lane kinds.new result.spot writer.new sink.new meter.new) }
@@ -741,10 +470,282 @@ fn turn<'a, W: ValueWriter<O, A>, O: Output, A: Allocator + Copy>(
         ≤ length kinds.old + length spot.entry.rest.now }
     ensures falls { result.more ≡ true → length result.spot.rest.now < length spot.entry.rest.now }
 {
-    let member = to_member(spot, innermost(kinds));
-    match ended_kind(member.next.told) {
-        Some(kind) => close(member, kind, limits, end, kinds, meter, writer, sink),
-        None => value(member, limits, end, kinds, meter, writer, sink),
+    let mut at = spot;
+    let Some(found) = scan_head(limits, end - start.next.rest.len() as u64, start.next) else {
+        return Turned { spot, more: false };
+    };
+    match found.head {
+        Head::Begin(kind) => {
+            let more = begin(
+                &mut at, start, found, kind, limits, end, kinds, meter, writer, sink,
+            );
+            Turned { spot: at, more }
+        }
+        _ => {
+            let more = scalar(
+                &mut at, start, found, limits, end, kinds, meter, writer, sink,
+            );
+            Turned { spot: at, more }
+        }
+    }
+}
+
+// The same for what is rare: it is a call, over a copy of where the lane stands.
+#[inline(always)]
+fn rare<'a, W: ValueWriter<O, A>, O: Output, A: Allocator + Copy>(
+    at: &mut Spot<'a>,
+    start: Start<'a>,
+    limits: Limits,
+    end: u64,
+    kinds: &mut Stack<Kind, A>,
+    meter: &mut Meter<A>,
+    writer: &mut W,
+    sink: &mut Sink<O, A>,
+) -> bool
+    requires can { CanFeed W.ValueWriter limits end
+        (lane kinds.old at.old writer.old sink.old meter.old) }
+    requires start { IsStart limits at.old (end - length at.old.rest.now) start }
+    ensures moved { Moved W.ValueWriter limits end
+        (lane kinds.old at.old writer.old sink.old meter.old)
+        (lane kinds.new at.new writer.new sink.new meter.new) }
+    ensures goes { length kinds.new + length at.new.rest.now
+        ≤ length kinds.old + length at.old.rest.now }
+    ensures falls { result ≡ true → length at.new.rest.now < length at.old.rest.now }
+{
+    let turned = any_value(
+        spot_for_call(*at),
+        start_for_call(start),
+        limits_for_call(limits),
+        end,
+        kinds,
+        meter,
+        writer,
+        sink,
+    );
+    *at = spot_for_call(turned.spot);
+    turned.more
+}
+
+// Hands on a number: an int or a decimal is mostly read in one pass.
+#[inline(always)]
+fn number<'a, W: ValueWriter<O, A>, O: Output, A: Allocator + Copy>(
+    at: &mut Spot<'a>,
+    start: Start<'a>,
+    limits: Limits,
+    end: u64,
+    kinds: &mut Stack<Kind, A>,
+    meter: &mut Meter<A>,
+    writer: &mut W,
+    sink: &mut Sink<O, A>,
+) -> bool
+    requires can { CanFeed W.ValueWriter limits end
+        (lane kinds.old at.old writer.old sink.old meter.old) }
+    requires start { IsStart limits at.old (end - length at.old.rest.now) start }
+    requires first { (in_sexp : Bool) (more : List ℕ)
+        → first_at in_sexp (start.next.rest.now ++ more) ≡ a_run }
+    ensures moved { Moved W.ValueWriter limits end
+        (lane kinds.old at.old writer.old sink.old meter.old)
+        (lane kinds.new at.new writer.new sink.new meter.new) }
+    ensures goes { length kinds.new + length at.new.rest.now
+        ≤ length kinds.old + length at.old.rest.now }
+    ensures falls { result ≡ true → length at.new.rest.now < length at.old.rest.now }
+{
+    let Some(quick) = scan_quick(limits.scalar, start.next.rest) else {
+        return rare(at, start, limits, end, kinds, meter, writer, sink);
+    };
+    let rest = behind(quick.count, start.next.rest);
+    match quick.exponent {
+        None => {
+            let found = Found {
+                head: int_head(quick),
+                rest,
+            };
+            scalar(at, start, found, limits, end, kinds, meter, writer, sink)
+        }
+        Some(exponent) => {
+            let found = Found {
+                head: decimal_head(quick, exponent),
+                rest,
+            };
+            scalar(at, start, found, limits, end, kinds, meter, writer, sink)
+        }
+    }
+}
+
+// Hands on a string of plain bytes alone.
+#[inline(always)]
+fn string<'a, W: ValueWriter<O, A>, O: Output, A: Allocator + Copy>(
+    at: &mut Spot<'a>,
+    start: Start<'a>,
+    limits: Limits,
+    end: u64,
+    kinds: &Stack<Kind, A>,
+    meter: &mut Meter<A>,
+    writer: &mut W,
+    sink: &mut Sink<O, A>,
+) -> bool
+    requires can { CanFeed W.ValueWriter limits end
+        (lane kinds.now at.old writer.old sink.old meter.old) }
+    requires start { IsStart limits at.old (end - length at.old.rest.now) start }
+    requires first { (in_sexp : Bool) (more : List ℕ)
+        → first_at in_sexp (start.next.rest.now ++ more) ≡ a_short }
+    ensures moved { Moved W.ValueWriter limits end
+        (lane kinds.now at.old writer.old sink.old meter.old)
+        (lane kinds.now at.new writer.new sink.new meter.new) }
+    ensures falls { result ≡ true → length at.new.rest.now < length at.old.rest.now }
+{
+    let place = end - start.next.rest.len() as u64;
+    match string_head(limits, place, start.next.rest) {
+        Some(found) => scalar(at, start, found, limits, end, kinds, meter, writer, sink),
+        None => false,
+    }
+}
+
+// Hands on a word: mostly a symbol behind which a token is told that is no two colons.
+#[inline(always)]
+fn word<'a, W: ValueWriter<O, A>, O: Output, A: Allocator + Copy>(
+    at: &mut Spot<'a>,
+    start: Start<'a>,
+    limits: Limits,
+    end: u64,
+    kinds: &mut Stack<Kind, A>,
+    meter: &mut Meter<A>,
+    writer: &mut W,
+    sink: &mut Sink<O, A>,
+) -> bool
+    requires can { CanFeed W.ValueWriter limits end
+        (lane kinds.old at.old writer.old sink.old meter.old) }
+    requires start { IsStart limits at.old (end - length at.old.rest.now) start }
+    requires bare { start.note ≡ None }
+    requires first { (in_sexp : Bool) (more : List ℕ)
+        → first_at in_sexp (start.next.rest.now ++ more) ≡ a_word }
+    ensures moved { Moved W.ValueWriter limits end
+        (lane kinds.old at.old writer.old sink.old meter.old)
+        (lane kinds.new at.new writer.new sink.new meter.new) }
+    ensures goes { length kinds.new + length at.new.rest.now
+        ≤ length kinds.old + length at.old.rest.now }
+    ensures falls { result ≡ true → length at.new.rest.now < length at.old.rest.now }
+{
+    let bytes = start.next.rest;
+    let place = end - bytes.len() as u64;
+    let Some(count) = simple_word(limits.scalar, bytes) else {
+        return keyword(at, start, limits, end, kinds, meter, writer, sink);
+    };
+    if let Some(found) = symbol_head(limits, place, count, bytes) {
+        return scalar(at, start, found, limits, end, kinds, meter, writer, sink);
+    }
+    match noted(start, limits, place, count) {
+        Some(start) => rare(at, start, limits, end, kinds, meter, writer, sink),
+        None => false,
+    }
+}
+
+// Hands on a null or a bool.
+#[inline(always)]
+fn keyword<'a, W: ValueWriter<O, A>, O: Output, A: Allocator + Copy>(
+    at: &mut Spot<'a>,
+    start: Start<'a>,
+    limits: Limits,
+    end: u64,
+    kinds: &Stack<Kind, A>,
+    meter: &mut Meter<A>,
+    writer: &mut W,
+    sink: &mut Sink<O, A>,
+) -> bool
+    requires can { CanFeed W.ValueWriter limits end
+        (lane kinds.now at.old writer.old sink.old meter.old) }
+    requires start { IsStart limits at.old (end - length at.old.rest.now) start }
+    requires first { (in_sexp : Bool) (more : List ℕ)
+        → first_at in_sexp (start.next.rest.now ++ more) ≡ a_word }
+    ensures moved { Moved W.ValueWriter limits end
+        (lane kinds.now at.old writer.old sink.old meter.old)
+        (lane kinds.now at.new writer.new sink.new meter.new) }
+    ensures falls { result ≡ true → length at.new.rest.now < length at.old.rest.now }
+{
+    let bytes = start.next.rest;
+    match scan_keyword(limits.scalar, bytes) {
+        Scanned::Whole(Word::Null(ion_type), count) => {
+            let found = Found {
+                head: Head::Null(ion_type),
+                rest: behind(count, bytes),
+            };
+            scalar(at, start, found, limits, end, kinds, meter, writer, sink)
+        }
+        Scanned::Whole(Word::Bool(truth), count) => {
+            let found = Found {
+                head: Head::Bool(truth),
+                rest: behind(count, bytes),
+            };
+            scalar(at, start, found, limits, end, kinds, meter, writer, sink)
+        }
+        _ => false,
+    }
+}
+
+// Hands on the value that begins here, or the container's beginning, behind its field's name.
+#[inline(always)]
+fn value<'a, W: ValueWriter<O, A>, O: Output, A: Allocator + Copy>(
+    at: &mut Spot<'a>,
+    next: Next<'a>,
+    limits: Limits,
+    end: u64,
+    kinds: &mut Stack<Kind, A>,
+    meter: &mut Meter<A>,
+    writer: &mut W,
+    sink: &mut Sink<O, A>,
+) -> bool
+    requires can { CanFeed W.ValueWriter limits end
+        (lane kinds.old at.old writer.old sink.old meter.old) }
+    requires next { IsNext at.old.rest.now next }
+    ensures moved { Moved W.ValueWriter limits end
+        (lane kinds.old at.old writer.old sink.old meter.old)
+        (lane kinds.new at.new writer.new sink.new meter.new) }
+    ensures goes { length kinds.new + length at.new.rest.now
+        ≤ length kinds.old + length at.old.rest.now }
+    ensures falls { result ≡ true → length at.new.rest.now < length at.old.rest.now }
+{
+    let Some(start) = to_start(*at, next, limits, end - at.rest.len() as u64) else {
+        return false;
+    };
+    match token(start.next) {
+        Some(First::Number) => number(at, start, limits, end, kinds, meter, writer, sink),
+        Some(First::Word) => word(at, start, limits, end, kinds, meter, writer, sink),
+        Some(First::String) => string(at, start, limits, end, kinds, meter, writer, sink),
+        Some(First::Begin(kind)) => {
+            let place = end - start.next.rest.len() as u64;
+            let found = begin_head(limits, place, kind, start.next.rest);
+            begin(
+                at, start, found, kind, limits, end, kinds, meter, writer, sink,
+            )
+        }
+        _ => false,
+    }
+}
+
+// Hands on one item, behind the comma that must come before it, and says whether it did.
+#[inline(always)]
+fn turn<'a, W: ValueWriter<O, A>, O: Output, A: Allocator + Copy>(
+    at: &mut Spot<'a>,
+    limits: Limits,
+    end: u64,
+    kinds: &mut Stack<Kind, A>,
+    meter: &mut Meter<A>,
+    writer: &mut W,
+    sink: &mut Sink<O, A>,
+) -> bool
+    requires can { CanFeed W.ValueWriter limits end
+        (lane kinds.old at.old writer.old sink.old meter.old) }
+    ensures moved { Moved W.ValueWriter limits end
+        (lane kinds.old at.old writer.old sink.old meter.old)
+        (lane kinds.new at.new writer.new sink.new meter.new) }
+    ensures goes { length kinds.new + length at.new.rest.now
+        ≤ length kinds.old + length at.old.rest.now }
+    ensures falls { result ≡ true → length at.new.rest.now < length at.old.rest.now }
+{
+    let next = to_member(at, innermost(kinds));
+    match ended_kind(next.told) {
+        Some(kind) => close(at, next, kind, limits, end, kinds, meter, writer, sink),
+        None => value(at, next, limits, end, kinds, meter, writer, sink),
     }
 }
 
@@ -770,9 +771,7 @@ pub(crate) fn feed_items<'a, W: ValueWriter<O, A>, O: Output, A: Allocator + Cop
 {
     let mut at = spot;
     'items: loop {
-        let turned = turn(at, limits, end, kinds, meter, writer, sink);
-        at = turned.spot;
-        if !turned.more {
+        if !turn(&mut at, limits, end, kinds, meter, writer, sink) {
             return at;
         }
     }

@@ -1,4 +1,4 @@
-use Rattle.std.proofs.Common.{◌≡◌, ◌∙◌, ◌<◌, ◌++◌, ◌∷◌, ◌+◌, [], None, List, length, reverse, sym, ap, subst, arith}
+use Rattle.std.proofs.Common.{◌≡◌, ◌∙◌, ◌<◌, ◌++◌, ◌∷◌, ◌+◌, [], None, List, length, reverse, refl, sym, ap, subst, arith}
 use Rattle.std.proofs.lemmas.List.{length-append, length-reverse, reverse-append}
 use Rattle.ion_value.specs.declared.ion_type.Kind.{Kind}
 use Rattle.ion_value.specs.Items.{raw_head}
@@ -6,19 +6,19 @@ use Rattle.ion_value.specs.Standing.{open_after, HasPlace}
 use Rattle.ion_value.specs.Value as value
 use Rattle.ion_value.specs.Value.{Head, SymbolAt}
 use Rattle.ion_text_in.specs.Expecting.{MayExpect}
-use Rattle.ion_text_in.specs.Feeding.{behind_head}
-use Rattle.ion_text_in.proofs.FeedItems.{charges-begin, closed-cost, moved-head, moved-stopped, moved-undone, pushed-off, pushed-inner, took-earlier}
+use Rattle.ion_text_in.specs.Feeding.{behind_head, lane}
+use Rattle.ion_text_in.proofs.FeedItems.{charges-begin, closed-cost, moved-head, moved-undone, pushed-off, pushed-inner, took-earlier}
+use Rattle.ion_text_in.proofs.FeedLanes.{moved-none}
 use Rattle.ion_text_in.proofs.feed.begin.Goals as goal
 
 pub returns-then-from-as_slice-clause-moved : goal.returns-then-from-as_slice-clause-moved
 returns-then-from-as_slice-clause-moved g c =
-    moved-stopped g.W.ValueWriter c.args.limits c.args.end c.args.kinds.now c.args.spot c.stop.result.spot c.args.writer.now c.args.sink.now c.args.meter.now c.stop.ensures.0 c.requires.can
+    moved-none g.W.ValueWriter c.args.limits c.args.end (lane c.args.kinds.now c.args.at.now c.args.writer.now c.args.sink.now c.args.meter.now) c.requires.can
 
 pub returns-then-not-push_within-clause-moved : goal.returns-then-not-push_within-clause-moved
 returns-then-not-push_within-clause-moved g c =
     let d = c.push_within.ensures.declines c.if-not-push_within.true in
-    let s = c.stop-then-not-push_within in
-    rw (d.0, d.1) (moved-stopped g.W.ValueWriter c.args.limits c.args.end c.args.kinds.now c.args.spot s.result.spot c.args.writer.now c.args.sink.now c.args.meter.now s.ensures.0 c.requires.can)
+    rw (d.0, d.1) (moved-none g.W.ValueWriter c.args.limits c.args.end (lane c.args.kinds.now c.args.at.now c.args.writer.now c.args.sink.now c.args.meter.now) c.requires.can)
 
 pub returns-then-not-take_plain-clause-moved : goal.returns-then-not-take_plain-clause-moved
 returns-then-not-take_plain-clause-moved g c =
@@ -26,11 +26,10 @@ returns-then-not-take_plain-clause-moved g c =
     let p = c.push_within in
     let yes = c.if-not-push_within.false in
     let d = c.take_plain.ensures.declines c.if-not-take_plain.true in
-    let s = c.stop-then-not-take_plain in
     let few : length a.kinds.now < a.limits.depth = omega (arith, c.if-from-as_slice.false, c.from.ensures, ap (λ (l : List Kind). length l) c.as_slice.ensures) in
     let inner = pushed-inner a.kinds.now p.new.self a.kind (p.ensures.ok yes) in
-    moved-undone g.W.ValueWriter a.limits a.end a.kinds.now c.pop-opened.new.self a.spot s.result.spot a.writer.now c.take_plain.new.self a.sink.now c.take_plain.new.sink
-    a.meter.now p.new.meter c.take_plain.new.meter c.pop-opened.new.meter s.ensures.0 d.0 d.1 (pushed-off a.kinds.now p.new.self c.pop-opened.new.self a.kind c.pop-opened.result (p.ensures.ok yes) c.pop-opened.ensures.items)
+    moved-undone g.W.ValueWriter a.limits a.end a.kinds.now c.pop-opened.new.self a.at.now a.at.now a.writer.now c.take_plain.new.self a.sink.now c.take_plain.new.sink
+    a.meter.now p.new.meter c.take_plain.new.meter c.pop-opened.new.meter refl d.0 d.1 (pushed-off a.kinds.now p.new.self c.pop-opened.new.self a.kind c.pop-opened.result (p.ensures.ok yes) c.pop-opened.ensures.items)
     few (p.ensures.cost yes) d.2 (closed-cost p.new.self c.pop-opened.new.self a.kind c.pop-opened.result c.take_plain.new.meter c.pop-opened.new.meter inner c.pop-opened.ensures.items c.pop-opened.ensures.cost)
     c.requires.can
 
@@ -52,13 +51,13 @@ returns-clause-moved g c =
     let opened : reverse left ≡ a.kind ∷ kinds = ap (λ (l : List Kind). reverse l) added ∙ reverse-append a.kinds.now (a.kind ∷ []) in
     let added_long = ap (λ (l : List Kind). length l) added in
     let long : length left ≡ 1 + length a.kinds.now = omega (arith, added_long, length-append a.kinds.now (a.kind ∷ [])) in
-    moved-head w a.limits a.end a.kinds.now left a.spot
-    (record { rest = a.found.rest; expected = c.at_member.result; top = c.top_at-top.result; values = a.spot.values }) a.start (raw_head a.found.head)
+    moved-head w a.limits a.end a.kinds.now left a.at.now
+    (record { rest = a.found.rest; expected = c.at_member-at.result; top = c.top_at-top.result; values = a.at.now.values }) a.start (raw_head a.found.head)
     a.writer.now t.new.self a.sink.now t.new.sink a.meter.now t.new.meter r.can r.start r.found
     (subst (λ (h : Head SymbolAt). HasPlace a.limits.depth kinds h) (sym begins) (omega (arith, few, length-reverse a.kinds.now)))
     (opened ∙ ap (λ (h : Head SymbolAt). open_after kinds h) (sym begins)) (c.top_at-top.ensures kinds (sym c.innermost.ensures))
-    (c.at_member.ensures.is ∙ ap (λ (h : Head SymbolAt). behind_head kinds h) (sym begins))
-    (subst (λ (l : List Kind). MayExpect c.at_member.result l None []) (sym opened) (c.at_member.ensures.may kinds))
+    (c.at_member-at.ensures.is ∙ ap (λ (h : Head SymbolAt). behind_head kinds h) (sym begins))
+    (subst (λ (l : List Kind). MayExpect c.at_member-at.result l None []) (sym opened) (c.at_member-at.ensures.may kinds))
     (rw opened (omega arith)) (omega (arith, long, few))
     (took-earlier w _ a.writer.now t.new.self a.sink.now t.new.sink a.meter.now p.new.meter t.new.meter (record {
       sound = e.sound;

@@ -1,25 +1,26 @@
-use Rattle.std.proofs.Common.{◌≡◌, ◌∙◌, ◌-◌, Option, List, ℕ, length, reverse, refl, sym, ap}
+use Rattle.std.proofs.Common.{◌∙◌, ◌-◌, Option, length, reverse, refl, sym, ap}
 use Rattle.ion_value.specs.declared.ion_type.Kind.{Kind}
 use Rattle.ion_text_in.specs.Reading.{behind_member}
-use Rattle.ion_text_in.proofs.FeedItems.{closed-cost, moved-closed, moved-declined, moved-stopped}
+use Rattle.ion_text_in.specs.Feeding.{lane}
+use Rattle.ion_text_in.proofs.FeedItems.{closed-cost, moved-closed, moved-declined}
+use Rattle.ion_text_in.proofs.FeedLanes.{moved-none}
 use Rattle.ion_text_in.proofs.ReaderSteps.{closed-opened}
 use Rattle.ion_text_in.proofs.feed.close.Goals as goal
 
 pub returns-in_default-clause-moved : goal.returns-in_default-clause-moved
 returns-in_default-clause-moved g c =
-    moved-stopped g.W.ValueWriter c.args.limits c.args.end c.args.kinds.now c.args.member.spot c.stop.result.spot c.args.writer.now c.args.sink.now c.args.meter.now c.stop.ensures.0 c.requires.can
+    moved-none g.W.ValueWriter c.args.limits c.args.end (lane c.args.kinds.now c.args.at.now c.args.writer.now c.args.sink.now c.args.meter.now) c.requires.can
 
 pub returns-then-not-is_same-clause-moved : goal.returns-then-not-is_same-clause-moved
 returns-then-not-is_same-clause-moved g c =
-    moved-stopped g.W.ValueWriter c.args.limits c.args.end c.args.kinds.now c.args.member.spot c.stop-then-not-is_same.result.spot c.args.writer.now c.args.sink.now c.args.meter.now
-    c.stop-then-not-is_same.ensures.0 c.requires.can
+    moved-none g.W.ValueWriter c.args.limits c.args.end (lane c.args.kinds.now c.args.at.now c.args.writer.now c.args.sink.now c.args.meter.now) c.requires.can
 
 pub returns-then-not-take_plain-clause-moved : goal.returns-then-not-take_plain-clause-moved
 returns-then-not-take_plain-clause-moved g c =
-    let d = c.take_plain.ensures.declines c.if-not-take_plain.true in
-    let s = c.stop-then-not-take_plain in
-    moved-declined g.W.ValueWriter c.args.limits c.args.end c.args.kinds.now c.args.member.spot s.result.spot c.args.writer.now c.take_plain.new.self c.args.sink.now c.take_plain.new.sink
-    c.args.meter.now c.take_plain.new.meter s.ensures.0 d.0 d.1 d.2 c.requires.can
+    let a = c.args in
+    let t = c.take_plain in
+    let d = t.ensures.declines c.if-not-take_plain.true in
+    moved-declined g.W.ValueWriter a.limits a.end a.kinds.now a.at.now a.at.now a.writer.now t.new.self a.sink.now t.new.sink a.meter.now t.new.meter refl d.0 d.1 d.2 c.requires.can
 
 pub returns-clause-moved : goal.returns-clause-moved
 returns-clause-moved g c =
@@ -30,12 +31,12 @@ returns-clause-moved g c =
     let yes = c.if-not-take_plain.false in
     let left = c.pop-closed.new.self in
     let opened = closed-opened a.kinds.now left c.in-Some.inner c.pop-closed.result (sym c.innermost.ensures ∙ c.in-Some.is) c.pop-closed.ensures.items in
-    moved-closed w a.limits a.end a.kinds.now left c.in-Some.inner a.kind a.member.spot
-    (record { rest = c.behind.result; expected = c.behind_member.result; top = a.member.spot.top; values = c.values_behind.result }) a.member.next (a.end - length a.member.next.rest.now)
+    moved-closed w a.limits a.end a.kinds.now left c.in-Some.inner a.kind a.at.now
+    (record { rest = c.behind-at.result; expected = c.behind_member-at.result; top = a.at.now.top; values = c.values_behind-at.result }) a.next (a.end - length a.next.rest.now)
     a.writer.now t.new.self a.sink.now t.new.sink a.meter.now t.new.meter c.pop-closed.new.meter c.requires.can c.requires.next c.requires.told.0 c.requires.told.1 opened
-    (sym c.is_same.ensures ∙ c.if-not-is_same.false) refl c.behind.ensures refl
-    (c.behind_member.ensures.is ∙ ap (λ (k : Option Kind). behind_member k) c.innermost-outer.ensures) (c.behind_member.ensures.may (reverse left) (sym c.innermost-outer.ensures))
-    (c.values_behind.ensures (reverse left) (sym c.innermost-outer.ensures))
+    (sym c.is_same.ensures ∙ c.if-not-is_same.false) refl c.behind-at.ensures refl
+    (c.behind_member-at.ensures.is ∙ ap (λ (k : Option Kind). behind_member k) c.innermost-outer.ensures) (c.behind_member-at.ensures.may (reverse left) (sym c.innermost-outer.ensures))
+    (c.values_behind-at.ensures (reverse left) (sym c.innermost-outer.ensures))
     (record {
       sound = e.sound;
       stands = e.stands yes;

@@ -9,22 +9,22 @@ items-init g c = record {
   goes = omega arith;
 }
 
-pub turn-turned-requires : goal.turn-turned-requires
-turn-turned-requires g c =
+pub turn-requires : goal.turn-requires
+turn-requires g c =
     let a = c.args in
     let l = c.items in
     record {
       can = can-moved g.W.ValueWriter a.limits a.end (lane a.kinds.now a.spot a.writer.now a.sink.now a.meter.now) (lane l.kinds l.at l.writer l.sink l.meter) c.requires.can l.invariant.moved;
     }
 
-pub returns-then-not-turned : goal.returns-then-not-turned
-returns-then-not-turned g c =
+pub returns-then-not-turn : goal.returns-then-not-turn
+returns-then-not-turn g c =
     let a = c.args in
     let l = c.items in
-    let t = c.turn-turned in
+    let t = c.turn in
     record {
       moved = moved-then g.W.ValueWriter a.limits a.end (lane a.kinds.now a.spot a.writer.now a.sink.now a.meter.now) (lane l.kinds l.at l.writer l.sink l.meter)
-          (lane t.new.kinds t.result.spot t.new.writer t.new.sink t.new.meter) c.requires.can l.invariant.moved t.ensures.moved;
+          (lane t.new.kinds t.new.at t.new.writer t.new.sink t.new.meter) c.requires.can l.invariant.moved t.ensures.moved;
       goes = let before = l.invariant.goes in let one = t.ensures.goes in omega (arith, before, one);
     }
 
@@ -32,9 +32,9 @@ pub items-preserved : goal.items-preserved
 items-preserved g c =
     let a = c.args in
     let l = c.items in
-    let t = c.turn-turned in
+    let t = c.turn in
     record {
       moved = moved-then g.W.ValueWriter a.limits a.end (lane a.kinds.now a.spot a.writer.now a.sink.now a.meter.now) (lane l.kinds l.at l.writer l.sink l.meter)
-          (lane t.new.kinds t.result.spot t.new.writer t.new.sink t.new.meter) c.requires.can l.invariant.moved t.ensures.moved;
+          (lane t.new.kinds t.new.at t.new.writer t.new.sink t.new.meter) c.requires.can l.invariant.moved t.ensures.moved;
       goes = let before = l.invariant.goes in let one = t.ensures.goes in omega (arith, before, one);
     }

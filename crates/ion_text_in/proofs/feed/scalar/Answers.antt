@@ -1,4 +1,4 @@
-use Rattle.std.proofs.Common.{◌≡◌, ◌∙◌, ◌-◌, Option, List, ℕ, length, reverse, refl, sym, ap}
+use Rattle.std.proofs.Common.{◌∙◌, ◌-◌, Option, length, reverse, refl, sym, ap}
 use Rattle.ion_value.specs.declared.ion_type.Kind.{Kind}
 use Rattle.ion_value.specs.Items.{raw_head}
 use Rattle.ion_value.proofs.Handing.{may-take}
@@ -13,14 +13,15 @@ take_plain-requires-clause-path g c =
     let r = c.requires in
     let head = raw_head a.found.head in
     may-take w a.limits.depth (reverse a.kinds.now) a.writer.now a.sink.now _ r.can.takes
-    (head-stands w a.limits a.end a.kinds.now a.spot a.start head c.top_at-top.result (a.end - length a.spot.rest.now) (a.end - length a.start.next.rest.now) a.found.rest.now r.can.expects r.start r.found
+    (head-stands w a.limits a.end a.kinds.now a.at.now a.start head c.top_at-top.result (a.end - length a.at.now.rest.now) (a.end - length a.start.next.rest.now) a.found.rest.now r.can.expects r.start r.found
     (whole-place a.limits.depth (reverse a.kinds.now) a.found.head r.whole r.found.range r.found.value r.found.member))
 
 pub returns-then-not-take_plain-clause-moved : goal.returns-then-not-take_plain-clause-moved
 returns-then-not-take_plain-clause-moved g c =
-    let d = c.take_plain.ensures.declines c.if-not-take_plain.true in
-    moved-declined g.W.ValueWriter c.args.limits c.args.end c.args.kinds.now c.args.spot c.stop.result.spot c.args.writer.now c.take_plain.new.self c.args.sink.now c.take_plain.new.sink
-    c.args.meter.now c.take_plain.new.meter c.stop.ensures.0 d.0 d.1 d.2 c.requires.can
+    let a = c.args in
+    let t = c.take_plain in
+    let d = t.ensures.declines c.if-not-take_plain.true in
+    moved-declined g.W.ValueWriter a.limits a.end a.kinds.now a.at.now a.at.now a.writer.now t.new.self a.sink.now t.new.sink a.meter.now t.new.meter refl d.0 d.1 d.2 c.requires.can
 
 pub returns-clause-moved : goal.returns-clause-moved
 returns-clause-moved g c =
@@ -33,13 +34,13 @@ returns-clause-moved g c =
     let opened = reverse a.kinds.now in
     let inner = sym c.innermost-inner.ensures in
     let stays = whole-open opened a.found.head r.whole r.found.value r.found.member in
-    moved-head w a.limits a.end a.kinds.now a.kinds.now a.spot
-    (record { rest = a.found.rest; expected = c.behind_member.result; top = c.top_at-top.result; values = c.values_behind.result }) a.start (raw_head a.found.head)
+    moved-head w a.limits a.end a.kinds.now a.kinds.now a.at.now
+    (record { rest = a.found.rest; expected = c.behind_member-at.result; top = c.top_at-top.result; values = c.values_behind-at.result }) a.start (raw_head a.found.head)
     a.writer.now t.new.self a.sink.now t.new.sink a.meter.now t.new.meter r.can r.start r.found
     (whole-place a.limits.depth opened a.found.head r.whole r.found.range r.found.value r.found.member)
     (sym stays) (c.top_at-top.ensures opened inner)
-    (c.behind_member.ensures.is ∙ (ap (λ (k : Option Kind). behind_member k) c.innermost-inner.ensures ∙ sym (whole-behind opened a.found.head r.whole r.found.value r.found.member)))
-    (c.behind_member.ensures.may opened inner) (c.values_behind.ensures opened inner) r.can.few
+    (c.behind_member-at.ensures.is ∙ (ap (λ (k : Option Kind). behind_member k) c.innermost-inner.ensures ∙ sym (whole-behind opened a.found.head r.whole r.found.value r.found.member)))
+    (c.behind_member-at.ensures.may opened inner) (c.values_behind-at.ensures opened inner) r.can.few
     (record {
       sound = e.sound;
       stands = e.stands yes;

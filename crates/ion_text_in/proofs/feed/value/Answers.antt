@@ -1,11 +1,15 @@
-use Rattle.ion_text_in.proofs.FeedItems.{moved-stopped}
+use Rattle.ion_text_in.specs.Feeding.{lane}
+use Rattle.ion_text_in.proofs.FeedLanes.{moved-none}
 use Rattle.ion_text_in.proofs.feed.value.Goals as goal
 
 pub returns-in_default-clause-moved : goal.returns-in_default-clause-moved
 returns-in_default-clause-moved g c =
-    moved-stopped g.W.ValueWriter c.args.limits c.args.end c.args.kinds.now c.args.member.spot c.stop.result.spot c.args.writer.now c.args.sink.now c.args.meter.now c.stop.ensures.0 c.requires.can
+    moved-none g.W.ValueWriter c.args.limits c.args.end (lane c.args.kinds.now c.args.at.now c.args.writer.now c.args.sink.now c.args.meter.now) c.requires.can
 
-pub returns-in_default-scan_head-clause-moved : goal.returns-in_default-scan_head-clause-moved
-returns-in_default-scan_head-clause-moved g c =
-    let s = c.stop-in_default-scan_head in
-    moved-stopped g.W.ValueWriter c.args.limits c.args.end c.args.kinds.now c.args.member.spot s.result.spot c.args.writer.now c.args.sink.now c.args.meter.now s.ensures.0 c.requires.can
+pub returns-in_default-token-clause-moved : goal.returns-in_default-token-clause-moved
+returns-in_default-token-clause-moved g c =
+    moved-none g.W.ValueWriter c.args.limits c.args.end (lane c.args.kinds.now c.args.at.now c.args.writer.now c.args.sink.now c.args.meter.now) c.requires.can
+
+pub returns-in_default-token-2-clause-moved : goal.returns-in_default-token-2-clause-moved
+returns-in_default-token-2-clause-moved g c =
+    moved-none g.W.ValueWriter c.args.limits c.args.end (lane c.args.kinds.now c.args.at.now c.args.writer.now c.args.sink.now c.args.meter.now) c.requires.can

@@ -1,4 +1,4 @@
-use Rattle.std.proofs.Common.{◌≡◌, ◌∙◌, ◌+◌, List, ℕ, length, ap, arith}
+use Rattle.std.proofs.Common.{◌+◌, List, ℕ, length, ap, arith}
 use Rattle.ion_text_in.specs.Feeding.{lane}
 use Rattle.ion_text_in.proofs.FeedReader.{moved-window}
 use Rattle.ion_text_in.proofs.reader.TextReader.feed_window.Goals as goal

@@ -3,10 +3,10 @@ use Rattle.ion_value.specs.Value.{symbol, whole, Text}
 use Rattle.ion_text_in.specs.Feeding.{IsHead}
 use Rattle.ion_text_in.specs.Positions.{at}
 use Rattle.ion_text_in.proofs.FeedHeads.{head-symbol}
-use Rattle.ion_text_in.proofs.feed.symbol_head.Goals as goal
+use Rattle.ion_text_in.proofs.feed.heads.symbol_head.Goals as goal
 
-pub returns : goal.returns
-returns c =
+pub returns-clause-found : goal.returns-clause-found
+returns-clause-found c =
     let a = c.args in
     let rest = c.behind-rest.result.now in
     let next = c.next_told-next.result in

@@ -1,5 +1,5 @@
 use Rattle.std.proofs.Common.{sym, subst, arith}
-use Rattle.ion_value.specs.Value.{Head, SymbolAt, whole}
+use Rattle.ion_value.specs.Value.{Head, SymbolAt}
 use Rattle.ion_text_in.specs.Feeding.{IsHead}
 use Rattle.ion_text_in.specs.Token.{a_run}
 use Rattle.ion_text_in.specs.Views.{as_number, number_token}
@@ -7,7 +7,7 @@ use Rattle.ion_text_in.proofs.FeedHeads.{head-plain}
 use Rattle.ion_text_in.proofs.FeedReading.{number-simple}
 use Rattle.ion_text_in.proofs.ShownFurther.{shown-some}
 use Rattle.std.proofs.Common.{Some}
-use Rattle.ion_text_in.proofs.feed.run_head.Goals as goal
+use Rattle.ion_text_in.proofs.feed.heads.run_head.Goals as goal
 
 pub returns-in-Whole : goal.returns-in-Whole
 returns-in-Whole c =

@@ -1,6 +1,6 @@
 use Rattle.ion_value.specs.Items.{raw_head}
 use Rattle.ion_text_in.proofs.FeedReading.{head-number}
-use Rattle.ion_text_in.proofs.feed.number_head.Goals as goal
+use Rattle.ion_text_in.proofs.feed.heads.number_head.Goals as goal
 
 pub returns : goal.returns
 returns c =

@@ -1,5 +1,0 @@
-use Rattle.ion_text_in.proofs.FeedReading.{head-begin}
-use Rattle.ion_text_in.proofs.feed.begin_head.Goals as goal
-
-pub returns : goal.returns
-returns c = head-begin c.args.limits c.args.place c.args.kind c.args.bytes.now c.behind.result.now c.behind.ensures c.requires.bare c.requires.some c.requires.first

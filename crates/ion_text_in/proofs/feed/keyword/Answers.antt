@@ -1,0 +1,39 @@
+use Rattle.std.proofs.Common.{◌∙◌, ◌+◌, ◌-◌, ◌++◌, Some, Ok, length, take, drop, ap, arith}
+use Rattle.ion_value.specs.Value.{null, bool}
+use Rattle.ion_text_in.specs.declared.word.Word.{Word}
+use Rattle.ion_text_in.specs.Feeding.{lane}
+use Rattle.ion_text_in.specs.Meaning.{at}
+use Rattle.ion_text_in.specs.Token.{a_word}
+use Rattle.ion_text_in.specs.Views.{word_token_of}
+use Rattle.ion_text_in.proofs.FeedHeads.{head-plain}
+use Rattle.ion_text_in.proofs.FeedLanes.{moved-none}
+use Rattle.ion_text_in.proofs.ShownFurther.{shown-some}
+use Rattle.ion_text_in.proofs.feed.keyword.Goals as goal
+
+pub scalar-requires-clause-found : goal.scalar-requires-clause-found
+scalar-requires-clause-found g c =
+    let a = c.args in
+    let w = c.in-Whole-Null-default in
+    let bytes = a.start.next.rest.now in
+    let begins = c.requires.start.begins in
+    let counts = shown-some (word_token_of (take w.count bytes)) bytes w.field-0 w.count (Some a.limits.scalar) a_word w.ensures begins.some in
+    head-plain a.limits (a.end - length bytes) w.count a_word (null w.ion_type) bytes c.behind.result.now tt tt c.behind.ensures (omega (arith, counts)) w.ensures.0
+    (λ place more. w.ensures.1 place more ∙ ap (λ (x : Word). Ok (word_token_of (take w.count bytes) x, at (place + w.count) (drop w.count bytes ++ more))) w.field-0-is) begins.bare begins.some c.requires.first
+
+pub scalar-requires-in-Whole-Bool-default-clause-found : goal.scalar-requires-in-Whole-Bool-default-clause-found
+scalar-requires-in-Whole-Bool-default-clause-found g c =
+    let a = c.args in
+    let w = c.in-Whole-Bool-default in
+    let bytes = a.start.next.rest.now in
+    let begins = c.requires.start.begins in
+    let counts = shown-some (word_token_of (take w.count bytes)) bytes w.field-0 w.count (Some a.limits.scalar) a_word w.ensures begins.some in
+    head-plain a.limits (a.end - length bytes) w.count a_word (bool w.truth) bytes c.behind-in-Whole-Bool-default.result.now tt tt c.behind-in-Whole-Bool-default.ensures (omega (arith, counts)) w.ensures.0
+    (λ place more. w.ensures.1 place more ∙ ap (λ (x : Word). Ok (word_token_of (take w.count bytes) x, at (place + w.count) (drop w.count bytes ++ more))) w.field-0-is) begins.bare begins.some c.requires.first
+
+pub returns-in_default-clause-moved : goal.returns-in_default-clause-moved
+returns-in_default-clause-moved g c =
+    moved-none g.W.ValueWriter c.args.limits c.args.end (lane c.args.kinds.now c.args.at.now c.args.writer.now c.args.sink.now c.args.meter.now) c.requires.can
+
+pub returns-in_default-2-clause-moved : goal.returns-in_default-2-clause-moved
+returns-in_default-2-clause-moved g c =
+    moved-none g.W.ValueWriter c.args.limits c.args.end (lane c.args.kinds.now c.args.at.now c.args.writer.now c.args.sink.now c.args.meter.now) c.requires.can

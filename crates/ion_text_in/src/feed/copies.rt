@@ -1,0 +1,62 @@
+//! Copies for calls, part by part: so that only these are in memory, and the rest stays in registers.
+ghost use Rattle.std.specs.Prelude.{◌≡◌};
+
+use super::{Next, Spot, Start};
+use ion_meter::limits::Limits;
+use ion_value::plain_item::TextAt;
+
+/// The same limits.
+#[inline(always)]
+pub(super) fn limits_for_call(limits: Limits) -> Limits
+    ensures { result ≡ limits }
+{
+    Limits {
+        depth: limits.depth,
+        scalar: limits.scalar,
+        symbols: limits.symbols,
+        value: limits.value,
+        input: limits.input,
+    }
+}
+
+/// The same place in a lane.
+#[inline(always)]
+pub(super) fn spot_for_call<'a>(spot: Spot<'a>) -> Spot<'a>
+    ensures { result ≡ spot.entry }
+{
+    Spot {
+        rest: spot.rest,
+        expected: spot.expected,
+        top: spot.top,
+        values: spot.values,
+    }
+}
+
+/// The same beginning of a value.
+#[inline(always)]
+pub(super) fn start_for_call<'a>(start: Start<'a>) -> Start<'a>
+    ensures { result ≡ start.entry }
+{
+    Start {
+        field: text_for_call(start.field),
+        note: text_for_call(start.note),
+        next: Next {
+            told: start.next.told,
+            rest: start.next.rest,
+        },
+    }
+}
+
+// The same text, if there is one.
+#[inline(always)]
+fn text_for_call<'a>(text: Option<TextAt<'a>>) -> Option<TextAt<'a>>
+    ensures { result ≡ text.entry }
+{
+    match text {
+        Some(text) => Some(TextAt {
+            text: text.text,
+            place: text.place,
+        }),
+        None => None,
+    }
+}

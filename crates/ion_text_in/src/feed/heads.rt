@@ -1,0 +1,263 @@
+//! The heads of items in a lane.
+ghost use Rattle.std.specs.Prelude.{◌≡◌, ◌≢◌, ◌<◌, ℕ, Bool, List, ◌++◌, length, None, Some, IfSome};
+ghost use Rattle.ion_value.specs.declared.ion_type.Kind as kind_of;
+ghost use Rattle.ion_text_in.specs.Feeding.{Begins, IsBare, IsFound, IsSimpleWord};
+ghost use Rattle.ion_text_in.specs.Firsts.{first_of};
+ghost use Rattle.ion_text_in.specs.Quick.{as_quick};
+ghost use Rattle.ion_text_in.specs.Scanners.{Shows};
+ghost use Rattle.ion_text_in.specs.Token.{a_begin, a_run, a_short, a_word, first_at, token_of};
+ghost use Rattle.ion_text_in.specs.Views.{as_number, shown_text, word_token_of};
+ghost use Rattle.ion_value.specs.Items.{raw_head};
+ghost use Rattle.ion_value.specs.Value.{whole};
+
+use super::{Found, Next, behind, front, next_told};
+use crate::first::{First, brace};
+use crate::number::{Number, scan_number};
+use crate::quick::{Quick, scaled, scan_quick, signed_int};
+use crate::quoted::{Quote, scan_text};
+use crate::scanned::Scanned;
+use crate::word::{Word, scan_word, simple_word};
+use ion_meter::limits::Limits;
+use ion_value::ion_type::Kind;
+use ion_value::item::{Head, Sym, SymAt};
+
+/// The head of the item that begins so, where it lies whole in the bytes and is a frequent one.
+#[inline(always)]
+pub(super) fn scan_head<'a>(limits: Limits, place: u64, next: Next<'a>) -> Option<Found<'a>>
+    requires begins { Begins next }
+    ensures { IfSome result (IsFound limits place next.entry.rest.now) }
+{
+    match token(next) {
+        Some(First::Word) => word_head(limits, place, next.rest),
+        Some(First::Number) => number_head(limits, place, next.rest),
+        Some(First::String) => string_head(limits, place, next.rest),
+        Some(First::Begin(kind)) => Some(begin_head(limits, place, kind, next.rest)),
+        _ => None,
+    }
+}
+
+/// A container's beginning.
+#[inline(always)]
+pub(super) fn begin_head<'a>(limits: Limits, place: u64, kind: Kind, bytes: &'a [u8]) -> Found<'a>
+    requires bare { IsBare bytes.now }
+    requires first { (in_sexp : Bool) (more : List ℕ)
+        → first_at in_sexp (bytes.now ++ more) ≡ a_begin kind }
+    requires some { 0 < length bytes.now }
+    ensures found { IsFound limits place bytes.now result }
+    ensures begins { result.head ≡ Head.Begin kind }
+{
+    Found {
+        head: Head::Begin(kind),
+        rest: behind(1, bytes),
+    }
+}
+
+/// An int that was read in one pass, as a head.
+#[inline(always)]
+pub(super) fn int_head<'a>(quick: Quick) -> Head<'a>
+    requires int { quick.exponent ≡ None }
+    ensures is { raw_head result ≡ whole (as_number (as_quick quick)) }
+    ensures whole { (kind : kind_of.Kind) → result ≢ Head.Begin kind }
+{
+    Head::Int(signed_int(quick.negative, quick.number))
+}
+
+/// A decimal that was read in one pass, as a head.
+#[inline(always)]
+pub(super) fn decimal_head<'a>(quick: Quick, exponent: i32) -> Head<'a>
+    requires decimal { quick.exponent ≡ Some exponent }
+    ensures is { raw_head result ≡ whole (as_number (as_quick quick)) }
+    ensures whole { (kind : kind_of.Kind) → result ≢ Head.Begin kind }
+{
+    Head::Decimal(scaled(quick.negative, quick.number, exponent))
+}
+
+// A number that was read in one pass, as a head.
+#[inline(always)]
+fn quick_head<'a>(quick: Quick) -> Head<'a>
+    ensures { raw_head result ≡ whole (as_number (as_quick quick)) }
+{
+    match quick.exponent {
+        Some(exponent) => decimal_head(quick, exponent),
+        None => int_head(quick),
+    }
+}
+
+// A number or a timestamp, as a head.
+#[inline(always)]
+fn head_of<'a>(number: Number) -> Head<'a>
+    ensures { raw_head result ≡ whole (as_number number) }
+{
+    match number {
+        Number::Int(int) => Head::Int(int),
+        Number::Decimal(decimal) => Head::Decimal(decimal),
+        Number::Timestamp(timestamp) => Head::Timestamp(timestamp),
+    }
+}
+
+// Any number or timestamp.
+#[inline(never)]
+fn run_head<'a>(limits: Limits, place: u64, bytes: &'a [u8]) -> Option<Found<'a>>
+    requires bare { IsBare bytes.now }
+    requires first { (in_sexp : Bool) (more : List ℕ)
+        → first_at in_sexp (bytes.now ++ more) ≡ a_run }
+    requires some { 0 < length bytes.now }
+    ensures { IfSome result (IsFound limits place bytes.now) }
+{
+    match scan_number(limits.scalar, bytes) {
+        Scanned::Whole(number, count) => Some(Found {
+            head: head_of(number),
+            rest: behind(count, bytes),
+        }),
+        _ => None,
+    }
+}
+
+// A number: an int or a decimal is mostly read in one pass.
+#[inline(always)]
+fn number_head<'a>(limits: Limits, place: u64, bytes: &'a [u8]) -> Option<Found<'a>>
+    requires bare { IsBare bytes.now }
+    requires first { (in_sexp : Bool) (more : List ℕ)
+        → first_at in_sexp (bytes.now ++ more) ≡ a_run }
+    requires some { 0 < length bytes.now }
+    ensures { IfSome result (IsFound limits place bytes.now) }
+{
+    let Some(quick) = scan_quick(limits.scalar, bytes) else {
+        return run_head(limits, place, bytes);
+    };
+    Some(Found {
+        head: quick_head(quick),
+        rest: behind(quick.count, bytes),
+    })
+}
+
+/// A string of plain bytes alone.
+#[inline(always)]
+pub(super) fn string_head<'a>(limits: Limits, place: u64, bytes: &'a [u8]) -> Option<Found<'a>>
+    requires bare { IsBare bytes.now }
+    requires first { (in_sexp : Bool) (more : List ℕ)
+        → first_at in_sexp (bytes.now ++ more) ≡ a_short }
+    requires some { 0 < length bytes.now }
+    ensures found { IfSome result (IsFound limits place bytes.now) }
+    ensures whole { IfSome result (λ f. (kind : kind_of.Kind) → f.head ≢ Head.Begin kind) }
+{
+    let text = behind(1, bytes);
+    match scan_text(Quote::Short, limits.scalar, text) {
+        Scanned::Whole(plain, count) => Some(Found {
+            head: Head::String(front(plain, text)),
+            rest: behind(count, text),
+        }),
+        _ => None,
+    }
+}
+
+// A word: a null, a bool, or a symbol behind which no two colons come.
+#[inline(always)]
+fn word_head<'a>(limits: Limits, place: u64, bytes: &'a [u8]) -> Option<Found<'a>>
+    requires bare { IsBare bytes.now }
+    requires first { (in_sexp : Bool) (more : List ℕ)
+        → first_at in_sexp (bytes.now ++ more) ≡ a_word }
+    requires some { 0 < length bytes.now }
+    ensures { IfSome result (IsFound limits place bytes.now) }
+{
+    match simple_word(limits.scalar, bytes) {
+        Some(count) => symbol_head(limits, place, count, bytes),
+        None => keyword_head(limits, place, bytes),
+    }
+}
+
+/// A symbol that has so many bytes, where a token is told behind it that is no two colons.
+#[inline(always)]
+pub(super) fn symbol_head<'a>(
+    limits: Limits,
+    place: u64,
+    count: usize,
+    bytes: &'a [u8],
+) -> Option<Found<'a>>
+    requires bare { IsBare bytes.now }
+    requires first { (in_sexp : Bool) (more : List ℕ)
+        → first_at in_sexp (bytes.now ++ more) ≡ a_word }
+    requires word { IsSimpleWord limits.scalar bytes.now count }
+    ensures found { IfSome result (IsFound limits place bytes.now) }
+    ensures whole { IfSome result (λ f. (kind : kind_of.Kind) → f.head ≢ Head.Begin kind) }
+{
+    let rest = behind(count, bytes);
+    let next = next_told(rest);
+    if next.told == 0 {
+        return None;
+    }
+    let name = SymAt {
+        sym: Sym::Text(front(count, bytes)),
+        place,
+    };
+    Some(Found {
+        head: Head::Symbol(name),
+        rest,
+    })
+}
+
+/// A word that may be a null or a bool.
+#[inline(never)]
+pub(super) fn scan_keyword(limit: u64, bytes: &[u8]) -> Scanned<Word>
+    ensures { Shows (word_token_of (shown_text bytes.now result)) bytes.now result
+        (token_of (Some limit) a_word) }
+{
+    scan_word(limit, bytes)
+}
+
+// A null or a bool.
+#[inline(never)]
+fn keyword_head<'a>(limits: Limits, place: u64, bytes: &'a [u8]) -> Option<Found<'a>>
+    requires bare { IsBare bytes.now }
+    requires first { (in_sexp : Bool) (more : List ℕ)
+        → first_at in_sexp (bytes.now ++ more) ≡ a_word }
+    requires some { 0 < length bytes.now }
+    ensures { IfSome result (IsFound limits place bytes.now) }
+{
+    match scan_word(limits.scalar, bytes) {
+        Scanned::Whole(Word::Null(ion_type), count) => Some(Found {
+            head: Head::Null(ion_type),
+            rest: behind(count, bytes),
+        }),
+        Scanned::Whole(Word::Bool(truth), count) => Some(Found {
+            head: Head::Bool(truth),
+            rest: behind(count, bytes),
+        }),
+        _ => None,
+    }
+}
+
+/// The kind of token that begins so, where it begins an item that may be handed on.
+#[inline(always)]
+pub(super) fn token(next: Next<'_>) -> Option<First>
+    requires begins { Begins next }
+    ensures { IfSome result (λ f. (in_sexp : Bool) (more : List ℕ)
+        → first_at in_sexp (next.entry.rest.now ++ more) ≡ first_of f) }
+{
+    match next.told {
+        1 => Some(First::Word),
+        2 => Some(First::Number),
+        3 => Some(First::String),
+        5 => Some(First::Begin(Kind::List)),
+        6 => Some(First::Begin(Kind::Sexp)),
+        0 => mark(next.rest),
+        _ => None,
+    }
+}
+
+// The same of what no byte tells alone.
+#[tactic(auto, unfolding(crate::specs::Token::first_at))]
+#[inline(always)]
+fn mark(bytes: &[u8]) -> Option<First>
+    ensures { IfSome result (λ f. (in_sexp : Bool) (more : List ℕ)
+        → first_at in_sexp (bytes.now ++ more) ≡ first_of f) }
+{
+    match bytes {
+        [b'{', others @ ..] => match brace(others) {
+            Some(First::Begin(kind)) => Some(First::Begin(kind)),
+            _ => None,
+        },
+        [b'-', b'0'..=b'9', ..] => Some(First::Number),
+        _ => None,
+    }
+}

@@ -19,6 +19,7 @@ mod Texts
 mod Blobs
 mod Strings
 mod DecodedBytes
+mod DigitNumbers
 mod LobBytes
 mod RawTokens
 mod RawStreams

@@ -8,6 +8,7 @@ mod TokenLimits
 mod Tokens
 mod Advancing
 mod Allowing
+mod AsciiTexts
 mod Complete
 mod ReadWithin
 mod TokenCuts

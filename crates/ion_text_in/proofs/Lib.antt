@@ -8,6 +8,7 @@ mod TokenLimits
 mod Tokens
 mod Advancing
 mod Allowing
+mod AsciiTexts
 mod Complete
 mod ReadWithin
 mod TokenCuts
@@ -19,6 +20,7 @@ mod Texts
 mod Blobs
 mod Strings
 mod DecodedBytes
+mod DigitNumbers
 mod LobBytes
 mod RawTokens
 mod RawStreams

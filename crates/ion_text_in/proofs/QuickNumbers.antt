@@ -18,7 +18,7 @@ use Rattle.ion_value.proofs.TextDecimals.{sign-read, decimal-text, exponent_digi
 use Rattle.ion_text_in.specs.declared.number.Number.TheVariants as numbers
 use Rattle.ion_text_in.specs.declared.run.Run.TheVariants as run
 use Rattle.ion_text_in.specs.Blanks.{is_white, begins_comment}
-use Rattle.ion_text_in.specs.Quick.{scaled, signed_int, signed_text, AreDigits, IsWhole, IsQuick}
+use Rattle.ion_text_in.specs.Quick.{number_after, scaled, signed_int, signed_text, AreWhole, IsQuick}
 use Rattle.ion_text_in.specs.Runs.{EndBehind, stays}
 use Rattle.ion_text_in.specs.Token.{bytes_of, in_run, run_token}
 use Rattle.ion_text_in.specs.Views.{number_token, AreShown}
@@ -26,7 +26,10 @@ use Rattle.ion_text_in.proofs.Meaning.{run-more, run-none}
 use Rattle.ion_text_in.proofs.RunEnds.{stays-on, token-shown}
 use Rattle.ion_text_in.proofs.RunTokens.{int-token, decimal-token}
 
--- ---- one digit more
+-- ---- digits
+
+taken-some : (bytes : List ℕ) (k : ℕ) → 0 < k → k ≤ length bytes → 0 < length (take k bytes)
+taken-some bytes k some less = let long = length-take-le k bytes less in omega (arith, long, some)
 
 value-digit : (b : ℕ) → is_digit b ≡ true → digit_value b ≡ b - 48
 value-digit b e = grind (arith, nat_tests)
@@ -36,21 +39,52 @@ read-one : (n k : ℕ) (behind : Bool) (b : ℕ) (tail : List ℕ) → is_digit 
 unfolding read_digits
 read-one n k behind b tail e = rw (ten b, e, value-digit b e) refl
 
-pub digits-more : (start : ℕ) (bytes : List ℕ) (number i : ℕ) → i < length bytes → is_digit (get_or bytes i 0) ≡ true
-    → AreDigits start bytes number i → AreDigits start bytes (number * 10 + (get_or bytes i 0 - 48)) (i + 1)
-digits-more start bytes number i less e so =
-    let b : ℕ = get_or bytes i 0 in
-    let more = take_more bytes i 0 less in
+-- so many bytes in front are digits, and behind a number they spell another, whatever follows them
+pub record AreDigits (start : ℕ) (bytes : List ℕ) (number count : ℕ) : Type 0 where
+  pub within : count ≤ length bytes
+  pub digits : all_are is_digit (take count bytes) ≡ true
+  pub read : (tail : List ℕ) → read_digits 10 start false 0 (take count bytes ++ tail) ≡ read_digits 10 number (nat_lt 0 count) count tail
+
+-- they are digits of which a first zero stands alone, and another byte stands behind them
+pub record IsWhole (bytes : List ℕ) (number count : ℕ) : Type 0 where
+  pub read : AreDigits 0 bytes number count
+  pub some : 0 < count
+  pub within : count < length bytes
+  pub no_zeros : (first_is (λ b. b == 48) bytes && first_is (λ b. is_digit b || b == 95) (drop 1 bytes)) ≡ false
+
+read-on : (n k : ℕ) (ds tail : List ℕ) → all_are is_digit ds ≡ true → read_digits 10 n true k (ds ++ tail) ≡ read_digits 10 (number_after n ds) true (k + length ds) tail
+read-on n k [] tail e = let same : k ≡ k + 0 = omega arith in ap (λ (k : ℕ). read_digits 10 n true k tail) same
+read-on n k (d ∷ ds) tail e =
+    let parts = and_parts (is_digit d) (all_are is_digit ds) e in
+    let count : k + 1 + length ds ≡ k + suc (length ds) = omega arith in
+    read-one n k true d (ds ++ tail) parts.0
+    ∙ read-on (n * 10 + (d - 48)) (k + 1) ds tail parts.1
+    ∙ ap (λ (k : ℕ). read_digits 10 (number_after n (d ∷ ds)) true k tail) count
+
+read-all : (n : ℕ) (ds tail : List ℕ) → 0 < length ds → all_are is_digit ds ≡ true → read_digits 10 n false 0 (ds ++ tail) ≡ read_digits 10 (number_after n ds) true (length ds) tail
+read-all n [] tail some e = absurd (omega (arith, some))
+read-all n (d ∷ ds) tail some e =
+    let parts = and_parts (is_digit d) (all_are is_digit ds) e in
+    let count : 0 + 1 + length ds ≡ suc (length ds) = omega arith in
+    read-one n 0 false d (ds ++ tail) parts.0
+    ∙ read-on (n * 10 + (d - 48)) (0 + 1) ds tail parts.1
+    ∙ ap (λ (k : ℕ). read_digits 10 (number_after n (d ∷ ds)) true k tail) count
+
+-- digits spell a number behind another
+pub digits-spell : (start : ℕ) (bytes : List ℕ) (k : ℕ) → k ≤ length bytes → 0 < k → all_are is_digit (take k bytes) ≡ true → AreDigits start bytes (number_after start (take k bytes)) k
+digits-spell start bytes k within some e =
+    let n : ℕ = number_after start (take k bytes) in
     record {
-      within = omega (arith, less);
-      digits = ap (all_are is_digit) more ∙ all_are-append is_digit (take i bytes) (get_or bytes i 0 ∷ []) ∙ rw (so.digits, e) refl;
+      within = within;
+      digits = e;
       read = λ tail.
-          ap (λ (l : List ℕ). read_digits 10 start false 0 (l ++ tail)) more
-          ∙ ap (λ (l : List ℕ). read_digits 10 start false 0 l) (append_assoc (take i bytes) (get_or bytes i 0 ∷ []) tail)
-          ∙ so.read (get_or bytes i 0 ∷ tail)
-          ∙ read-one number i (nat_lt 0 i) (get_or bytes i 0) tail e
-          ∙ ap (λ (v : Bool). read_digits 10 (number * 10 + (get_or bytes i 0 - 48)) v (i + 1) tail) (sym (lt-ltb 0 (i + 1) (omega arith)));
+          read-all start (take k bytes) tail (taken-some bytes k some within) e
+          ∙ ap (λ (c : ℕ). read_digits 10 n true c tail) (length-take-le k bytes within)
+          ∙ ap (λ (v : Bool). read_digits 10 n v k tail) (sym (lt-ltb 0 k some));
     }
+
+pub whole-spells : (bytes : List ℕ) (k : ℕ) → AreWhole bytes k → IsWhole bytes (number_after 0 (take k bytes)) k
+whole-spells bytes k so = record { read = digits-spell 0 bytes k (omega (arith, so.within)) so.some so.digits; some = so.some; within = so.within; no_zeros = so.no_zeros }
 
 -- ---- where a number ends
 
@@ -139,9 +173,6 @@ int-digits (b ∷ c ∷ ds) e =
 sign-front : (ds ys : List ℕ) → 0 < length ds → all_are is_digit ds ≡ true → has_minus (ds ++ ys) ≡ false
 sign-front [] ys some e = absurd (omega (arith, some))
 sign-front (d ∷ ds) ys some e = let parts = and_parts (is_digit d) (all_are is_digit ds) e in let digit = parts.0 in grind (arith, nat_tests)
-
-taken-some : (bytes : List ℕ) (k : ℕ) → 0 < k → k ≤ length bytes → 0 < length (take k bytes)
-taken-some bytes k some less = let long = length-take-le k bytes less in omega (arith, long, some)
 
 -- ---- ints
 

@@ -1,9 +1,8 @@
 -- Ints and decimals that are read in one pass.
-use Rattle.std.specs.Prelude.{◌≡◌, ℕ, ◌<◌, ◌≤◌, ℤ, Option, Some, None, Bool, true, false, ◌&&◌, ◌||◌, ◌==◌, nat_lt, if◌then◌else◌, List, [], ◌∷◌, ◌++◌, length, take, drop, Ok}
+use Rattle.std.specs.Prelude.{◌≡◌, ℕ, ◌+◌, ◌-◌, ◌*◌, ◌<◌, ℤ, Option, Some, None, Bool, true, false, ◌&&◌, ◌||◌, ◌==◌, nat_lt, if◌then◌else◌, List, [], ◌∷◌, ◌++◌, length, take, drop, Ok}
 use Rattle.ion_value.specs.declared.decimal.Decimal.{Decimal}
 use Rattle.ion_value.specs.declared.int.Int.{Int}
 use Rattle.ion_value.specs.Digits.{is_digit, all_are, first_is}
-use Rattle.ion_value.specs.DigitReading.{read_digits}
 use Rattle.ion_value.specs.Standing.{InRange}
 use Rattle.ion_text_in.specs.declared.number.Number.{Number}
 use Rattle.ion_text_in.specs.declared.number.Number.TheVariants as numbers
@@ -34,17 +33,16 @@ number_by negative n None = numbers.Int (signed_int negative n)
 abbrev pub as_quick : Quick → Number
 as_quick x = number_by x.negative x.number x.exponent
 
--- so many bytes in front are digits, and behind a number they spell another, whatever follows them
-pub record AreDigits (start : ℕ) (bytes : List ℕ) (number count : ℕ) : Type 0 where
-  pub within : count ≤ length bytes
-  pub digits : all_are is_digit (take count bytes) ≡ true
-  pub read : (tail : List ℕ) → read_digits 10 start false 0 (take count bytes ++ tail) ≡ read_digits 10 number (nat_lt 0 count) count tail
+-- the number that digits spell behind another
+abbrev pub number_after : ℕ → List ℕ → ℕ
+number_after n [] = n
+number_after n (digit ∷ digits) = number_after (n * 10 + (digit - 48)) digits
 
--- they are digits of which a first zero stands alone, and another byte stands behind them
-pub record IsWhole (bytes : List ℕ) (number count : ℕ) : Type 0 where
-  pub read : AreDigits 0 bytes number count
+-- so many bytes in front are digits, of which a first zero stands alone, and another byte stands behind them
+pub record AreWhole (bytes : List ℕ) (count : ℕ) : Type 0 where
   pub some : 0 < count
   pub within : count < length bytes
+  pub digits : all_are is_digit (take count bytes) ≡ true
   pub no_zeros : (first_is (λ b. b == 48) bytes && first_is (λ b. is_digit b || b == 95) (drop 1 bytes)) ≡ false
 
 -- so many bytes behind a sign are a number, and a byte that stops it stands behind them

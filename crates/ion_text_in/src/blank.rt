@@ -298,10 +298,10 @@ pub(crate) fn white_run(bytes: &[u8]) -> usize
     bytes.len()
 }
 
-/// Whether a byte is white space: space, tab, LF, VT, FF or CR.
+/// Whether a byte is white space: space, tab, LF, VT, FF or CR. Most are told by one comparison.
 #[inline(always)]
 pub(crate) fn is_white(byte: u8) -> bool
     ensures { result ≡ is_white byte }
 {
-    byte == b' ' || (9..=13).contains(&byte)
+    byte <= b' ' && (byte == b' ' || (9..=13).contains(&byte))
 }

@@ -1,10 +1,11 @@
-//! Ints and decimals that 64 bits hold, without underscores and bases, read in one pass
+//! Ints and decimals of few digits, without underscores and bases, read in one pass
 //! (Ion specification, "Integers" and "Real Numbers").
-ghost use Rattle.std.specs.Prelude.{◌≡◌, ◌<◌, ◌≤◌, ◌&&◌, ◌||◌, ◌==◌, Ok, drop, take, get_or, IfSome};
-ghost use Rattle.ion_value.specs.Digits.{first_is, is_digit};
+ghost use Rattle.std.specs.Prelude.{◌≡◌, ◌+◌, ◌*◌, ◌^◌, ◌<◌, ◌≤◌, ◌&&◌, ◌||◌, ◌==◌, true, not, Ok, map, length, drop, take, get_or, IfSome};
+ghost use Rattle.std.specs.Simd.Lanes.{mask_l};
+ghost use Rattle.ion_value.specs.Digits.{all_are, first_is, is_digit};
 ghost use Rattle.ion_value.specs.Number.{signed};
 ghost use Rattle.ion_value.specs.Standing.{InRange};
-ghost use Rattle.ion_text_in.specs.Quick.{as_quick, scaled, signed_int, signed_text, AreDigits, IsQuick, IsWhole};
+ghost use Rattle.ion_text_in.specs.Quick.{as_quick, number_after, scaled, signed_int, signed_text, AreWhole, IsQuick};
 ghost use Rattle.ion_text_in.specs.declared.scanned.Scanned.TheVariants.{Whole};
 ghost use Rattle.ion_text_in.specs.Scanners.{Shows};
 ghost use Rattle.ion_text_in.specs.Token.{a_run, bytes_of, in_run, run_token, token_of};
@@ -13,6 +14,7 @@ ghost use Rattle.ion_text_in.specs.Views.{AreShown, as_number, number_token};
 use crate::run::stops_number;
 use ion_value::decimal::Decimal;
 use ion_value::int::Int;
+use std::simd::prelude::*;
 
 /// An int or a decimal by its sign, digits and exponent.
 #[derive(Clone, Copy)]
@@ -20,7 +22,7 @@ pub(crate) struct Quick {
     /// Whether there is a minus in front.
     pub(crate) negative: bool,
     /// What the digits spell.
-    pub(crate) number: u64,
+    pub(crate) number: u128,
     /// The exponent of a decimal; none for an int.
     pub(crate) exponent: Option<i32>,
     /// How many bytes it has.
@@ -29,8 +31,8 @@ pub(crate) struct Quick {
 
 /// The int or decimal at the front of these bytes, where it has no more than the limit.
 ///
-/// There is an answer where it is a minus or none and digits, which may have one point among them or
-/// a `d` and a small exponent behind them, where 64 bits hold the number that they spell, and where
+/// There is an answer where it is a minus or none and at most 38 digits, which may have a `d` and a
+/// small exponent behind them, or are at most 19 and may have one point among them, and where
 /// punctuation, a quote or white space ends it within the bytes.
 #[inline(always)]
 pub(crate) fn scan_quick(limit: u64, bytes: &[u8]) -> Option<Quick>
@@ -39,10 +41,6 @@ pub(crate) fn scan_quick(limit: u64, bytes: &[u8]) -> Option<Quick>
     ensures range { IfSome result (λ x. InRange (as_number (as_quick x))) }
     ensures some { IfSome result (λ x. 0 < x.count) }
 {
-    // A digit and a dash as fourth and fifth byte are those of a timestamp: no plain number has them.
-    if matches!(bytes, [_, _, _, fourth, b'-', ..] if fourth.is_ascii_digit()) {
-        return None;
-    }
     let Some(quick) = quick_number(bytes) else {
         return None;
     };
@@ -93,36 +91,36 @@ fn sign(bytes: &[u8]) -> (bool, &[u8])
 fn quick_digits(negative: bool, digits: &[u8]) -> Option<Quick>
     ensures { IfSome result (λ x. IsQuick negative digits.now x) }
 {
-    let (whole, count) = digits_behind(0, digits);
-    if count == 0 || count >= digits.len() || begins_zeros(digits) {
+    let count = digit_run(digits);
+    if count == 0 || count > WIDE || count >= digits.len() || begins_zeros(digits) {
         return None;
     }
     let next = digits[count];
+    if stops_number(next) {
+        return Some(Quick {
+            negative,
+            number: number_by(&digits[..count]),
+            exponent: None,
+            count,
+        });
+    }
     if next == b'.' {
-        return quick_decimal(negative, whole, count, digits);
+        return quick_decimal(negative, count, digits);
     }
     if next == b'd' {
-        return quick_power(negative, whole, count, digits);
+        return quick_power(negative, count, digits);
     }
-    if !stops_number(next) {
-        return None;
-    }
-    Some(Quick {
-        negative,
-        number: whole,
-        exponent: None,
-        count,
-    })
+    None
 }
 
 /// The int of a sign and digits, of which zero has no sign.
 #[inline(always)]
-pub(crate) fn signed_int(negative: bool, magnitude: u64) -> Int
+pub(crate) fn signed_int(negative: bool, magnitude: u128) -> Int
     ensures { result ≡ signed_int negative magnitude }
 {
     Int {
         negative: negative && magnitude > 0,
-        magnitude: magnitude as u128,
+        magnitude,
     }
 }
 
@@ -135,27 +133,33 @@ fn begins_zeros(digits: &[u8]) -> bool
     matches!(digits, [b'0', b'0'..=b'9' | b'_', ..])
 }
 
-// How many digits there may be behind a point.
-const MOST_PLACES: usize = 128;
+// The most digits of which 128 bits hold what they spell, whatever they are.
+const WIDE: usize = 38;
+
+// The most digits of which 64 bits do.
+const NARROW: usize = 19;
 
 // The greatest magnitude of an exponent.
 const GREATEST: u64 = 128;
 
 // The decimal of so many digits with a point behind them.
 #[inline(always)]
-fn quick_decimal(negative: bool, whole: u64, count: usize, digits: &[u8]) -> Option<Quick>
-    requires whole { IsWhole digits.now whole count }
+fn quick_decimal(negative: bool, count: usize, digits: &[u8]) -> Option<Quick>
+    requires whole { AreWhole digits.now count }
     requires point { get_or digits.now count 0 ≡ 46 }
     ensures { IfSome result (λ x. IsQuick negative digits.now x) }
 {
-    let (coefficient, places) = digits_behind(whole, &digits[count + 1..]);
+    let fraction = &digits[count + 1..];
+    let places = digit_run(fraction);
     let end = count + 1 + places;
-    if places == 0 || places > MOST_PLACES || end >= digits.len() || !stops_number(digits[end]) {
+    if places == 0 || count + places > NARROW || end >= digits.len() || !stops_number(digits[end]) {
         return None;
     }
+    let whole = number_after(0, &digits[..count]);
+    let coefficient = number_after(whole, &fraction[..places]);
     Some(Quick {
         negative,
-        number: coefficient,
+        number: coefficient as u128,
         exponent: Some(exponent_of(true, places as u64)),
         count: end,
     })
@@ -163,20 +167,25 @@ fn quick_decimal(negative: bool, whole: u64, count: usize, digits: &[u8]) -> Opt
 
 // The decimal of so many digits with a `d` behind them and an exponent.
 #[inline(always)]
-fn quick_power(negative: bool, whole: u64, count: usize, digits: &[u8]) -> Option<Quick>
-    requires whole { IsWhole digits.now whole count }
+fn quick_power(negative: bool, count: usize, digits: &[u8]) -> Option<Quick>
+    requires whole { AreWhole digits.now count }
+    requires few { count ≤ 38 }
     requires mark { get_or digits.now count 0 ≡ 100 }
     ensures { IfSome result (λ x. IsQuick negative digits.now x) }
 {
     let (below, power) = sign(&digits[count + 1..]);
-    let (magnitude, n) = digits_behind(0, power);
+    let n = digit_run(power);
+    if n == 0 || n > NARROW {
+        return None;
+    }
+    let magnitude = number_after(0, &power[..n]);
     let end = if below { count + 2 + n } else { count + 1 + n };
-    if n == 0 || magnitude > GREATEST || end >= digits.len() || !stops_number(digits[end]) {
+    if magnitude > GREATEST || end >= digits.len() || !stops_number(digits[end]) {
         return None;
     }
     Some(Quick {
         negative,
-        number: whole,
+        number: number_by(&digits[..count]),
         exponent: Some(exponent_of(below, magnitude)),
         count: end,
     })
@@ -197,31 +206,101 @@ fn exponent_of(below: bool, magnitude: u64) -> i32
 
 /// The decimal of a sign, digits and an exponent.
 #[inline(always)]
-pub(crate) fn scaled(negative: bool, coefficient: u64, exponent: i32) -> Decimal
+pub(crate) fn scaled(negative: bool, coefficient: u128, exponent: i32) -> Decimal
     ensures { result ≡ scaled negative coefficient exponent }
 {
     Decimal {
         negative,
-        coefficient: coefficient as u128,
+        coefficient,
         exponent,
     }
 }
 
-// Numbers up to this one have room for a digit more in 64 bits.
-const ROOMY: u64 = u64::MAX / 10 - 1;
-
-// Reads the digits at the front of these bytes, behind a number, as long as 64 bits hold what they
-// spell: that number, and how many they are.
+// The number that these digits spell.
 #[inline(always)]
-fn digits_behind(start: u64, bytes: &[u8]) -> (u64, usize)
-    ensures { AreDigits start bytes.now result.0 result.1 }
+fn number_by(digits: &[u8]) -> u128
+    requires digits { all_are is_digit digits.now ≡ true }
+    requires few { length digits.now ≤ 38 }
+    ensures { result ≡ number_after 0 digits.now }
+{
+    if digits.len() <= NARROW {
+        number_after(0, digits) as u128
+    } else {
+        wide_number(digits)
+    }
+}
+
+// The same of digits of which 64 bits may not hold it.
+#[inline(always)]
+fn wide_number(digits: &[u8]) -> u128
+    requires digits { all_are is_digit digits.now ≡ true }
+    requires few { length digits.now ≤ 38 }
+    requires many { 19 ≤ length digits.now }
+    ensures { result ≡ number_after 0 digits.now }
+{
+    let mut number = number_after(0, &digits[..NARROW]) as u128;
+    let mut rest = &digits[NARROW..];
+    while let [digit, others @ ..] = rest {
+        number = number * 10 + u128::from(*digit - b'0');
+        rest = others;
+    }
+    number
+}
+
+// The number that these digits spell behind another.
+#[inline(always)]
+fn number_after(start: u64, digits: &[u8]) -> u64
+    requires digits { all_are is_digit digits.now ≡ true }
+    requires room { (start + 1) * 10 ^ length digits.now ≤ 2 ^ 64 }
+    ensures { result ≡ number_after start digits.now }
 {
     let mut number = start;
-    'digits: for (i, byte) in bytes.iter().enumerate() {
-        if !byte.is_ascii_digit() || number > ROOMY {
-            return (number, i);
-        }
-        number = number * 10 + u64::from(*byte - b'0');
+    let mut rest = digits;
+    while let [digit, others @ ..] = rest {
+        number = number * 10 + u64::from(*digit - b'0');
+        rest = others;
     }
-    (number, bytes.len())
+    number
+}
+
+// How many bytes are looked at together.
+const BLOCK: usize = 16;
+
+// How many digits stand at the front of these bytes.
+#[inline(always)]
+fn digit_run(bytes: &[u8]) -> usize
+    ensures within { result ≤ length bytes.now }
+    ensures digits { all_are is_digit (take result bytes.now) ≡ true }
+{
+    let mut at = 0;
+    'skip: while bytes.len() - at >= BLOCK {
+        let others = no_digits(u8x16::from_slice(&bytes[at..]));
+        if others != 0 {
+            return at + others.trailing_zeros() as usize;
+        }
+        at += BLOCK;
+    }
+    at + few_digits(&bytes[at..])
+}
+
+// Which of these bytes are no digits: a bit for each, the lowest for the first.
+#[inline(always)]
+fn no_digits(bytes: u8x16) -> u64
+    ensures { result ≡ mask_l (map (λ b. not (is_digit b)) bytes) }
+{
+    (bytes.simd_lt(u8x16::splat(b'0')) | bytes.simd_gt(u8x16::splat(b'9'))).to_bitmask()
+}
+
+// How many digits stand at the front of these bytes, one after the other.
+#[inline(always)]
+fn few_digits(bytes: &[u8]) -> usize
+    ensures within { result ≤ length bytes.now }
+    ensures digits { all_are is_digit (take result bytes.now) ≡ true }
+{
+    for (i, byte) in bytes.iter().enumerate() {
+        if !byte.is_ascii_digit() {
+            return i;
+        }
+    }
+    bytes.len()
 }

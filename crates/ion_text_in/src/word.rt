@@ -1,5 +1,5 @@
 //! Words: keywords, ids and symbols without quotes (Ion specification, "Text Encoding").
-ghost use Rattle.std.specs.Prelude.{◌≡◌, ◌&&◌, ◌==◌, ◌∷◌, ◌^◌, ◌≤◌, ◌<◌, ◌*◌, codes, drop, length, Some, None, Ok, Err, true, false, IfOk, IfSome, MatchOption, MatchResult, OnOk};
+ghost use Rattle.std.specs.Prelude.{◌≡◌, ◌&&◌, ◌||◌, ◌==◌, ◌∷◌, ◌^◌, ◌≤◌, ◌<◌, ◌*◌, codes, drop, length, Some, None, Ok, Err, true, false, IfOk, IfSome, MatchOption, MatchResult, OnOk};
 ghost use Rattle.std.specs.Str.{bytes_eq};
 ghost use Rattle.ion_meter.specs.Windows.{lent};
 ghost use Rattle.ion_value.specs.Calls.{AnswersBy, CanRead, ReadsInto, passed_over};
@@ -15,7 +15,7 @@ ghost use Rattle.ion_text_in.specs.Symbols.{prepaid_word};
 ghost use Rattle.ion_text_in.specs.Views.{AreShown, IsWithin, id_in, is_point, may_be_keyword, shown_text, spelled, with_name, text_or_container, word_token_of};
 
 use crate::gather::{append, copy, gather, gather_token};
-use crate::run::{Run, word_run};
+use crate::run::{Run, is_identifier_byte, word_run};
 use crate::scanned::Scanned;
 use ion_meter::buf::Buf;
 use ion_meter::device::Input;
@@ -86,12 +86,13 @@ pub(crate) fn simple_word(limit: u64, bytes: &[u8]) -> Option<usize>
     Some(count)
 }
 
-// Whether an identifier may begin with this byte that is no dollar sign.
+// Whether an identifier may begin with this byte that is no dollar sign: its letters and `_` stand
+// behind its digits.
 #[inline(always)]
 fn begins_simple(first: u8) -> bool
     ensures { result ≡ true → (is_identifier_start first ≡ true) × ((first == 36) ≡ false) }
 {
-    matches!(first, b'a'..=b'z' | b'A'..=b'Z' | b'_')
+    first >= b'A' && is_identifier_byte(first)
 }
 
 // Whether a word is a symbol by its text.
@@ -99,7 +100,23 @@ fn begins_simple(first: u8) -> bool
 fn is_name(word: &[u8]) -> bool
     ensures { result ≡ true → word_token word.now ≡ Ok (name false (Text word.now)) }
 {
-    matches!(word_by(word), Ok(Word::Name))
+    if has_dollar(word) {
+        return false;
+    }
+    if !may_be_keyword(word) {
+        return true;
+    }
+    !is_keyword(word)
+}
+
+// Whether a word is a keyword, or begins as the null of a type does.
+#[inline(always)]
+fn is_keyword(word: &[u8]) -> bool
+    ensures { result ≡ ((bytes_eq (codes "null") word.now || begins_with (codes "null.") word.now)
+        || (bytes_eq (codes "true") word.now || bytes_eq (codes "false") word.now)
+        || bytes_eq (codes "nan") word.now) }
+{
+    is_null(word) || is_typed_null(word) || is_true(word) || is_false(word) || is_nan(word)
 }
 
 /// The word that begins here: the bytes of a symbol are copied to `text`.
@@ -264,7 +281,7 @@ fn word_extent(bytes: &[u8]) -> Option<usize>
 fn has_type(word: &[u8], behind: &[u8]) -> bool
     ensures { result ≡ (bytes_eq (codes "null") word.now && first_is (λ b. b == 46) behind.now) }
 {
-    is_text(word, b"null") && matches!(behind, [b'.', ..])
+    is_null(word) && matches!(behind, [b'.', ..])
 }
 
 // Whether these bytes are a text.
@@ -312,7 +329,7 @@ fn keyword_or_name(word: &[u8]) -> Result<Word, Reason>
     ensures { MatchResult result (λ w. word_token word.now ≡ Ok (word_token_of word.now w))
         (λ reason. word_token word.now ≡ Err reason) }
 {
-    if is_text(word, b"null") {
+    if is_null(word) {
         return Ok(Word::Null(IonType::Null));
     }
     if is_typed_null(word) {
@@ -321,19 +338,52 @@ fn keyword_or_name(word: &[u8]) -> Result<Word, Reason>
             None => Err(Reason::BadToken),
         };
     }
-    if is_text(word, b"true") {
+    if is_true(word) {
         return Ok(Word::Bool(true));
     }
-    if is_text(word, b"false") {
+    if is_false(word) {
         return Ok(Word::Bool(false));
     }
-    if is_text(word, b"nan") {
+    if is_nan(word) {
         return Ok(Word::NoNumber);
     }
     Ok(Word::Name)
 }
 
+// Whether a word is `null`.
+#[inline(always)]
+fn is_null(word: &[u8]) -> bool
+    ensures { result ≡ bytes_eq (codes "null") word.now }
+{
+    matches!(word, [b'n', b'u', b'l', b'l'])
+}
+
+// Whether a word is `true`.
+#[inline(always)]
+fn is_true(word: &[u8]) -> bool
+    ensures { result ≡ bytes_eq (codes "true") word.now }
+{
+    matches!(word, [b't', b'r', b'u', b'e'])
+}
+
+// Whether a word is `false`.
+#[inline(always)]
+fn is_false(word: &[u8]) -> bool
+    ensures { result ≡ bytes_eq (codes "false") word.now }
+{
+    matches!(word, [b'f', b'a', b'l', b's', b'e'])
+}
+
+// Whether a word is `nan`.
+#[inline(always)]
+fn is_nan(word: &[u8]) -> bool
+    ensures { result ≡ bytes_eq (codes "nan") word.now }
+{
+    matches!(word, [b'n', b'a', b'n'])
+}
+
 // Whether a word is `null` with a point, and the name of a type behind it.
+#[inline(always)]
 fn is_typed_null(word: &[u8]) -> bool
     ensures { result ≡ begins_with (codes "null.") word.now }
 {

@@ -1,12 +1,17 @@
-use Rattle.std.proofs.Common.{◌∙◌, sym, arith}
-use Rattle.ion_text_in.specs.Quick.{IsWhole}
-use Rattle.ion_text_in.proofs.QuickNumbers.{quick-int}
+use Rattle.std.proofs.Common.{◌∙◌, sym, take, arith}
+use Rattle.ion_text_in.specs.Quick.{number_after, AreWhole}
+use Rattle.ion_text_in.proofs.QuickNumbers.{quick-int, whole-spells}
 use Rattle.ion_text_in.proofs.quick.quick_digits.Goals as goal
 
-pub returns : goal.returns
-returns c =
+pub returns-then-stops_number : goal.returns-then-stops_number
+returns-then-stops_number c =
     let digits = c.args.digits.now in
-    let read = c.digits_behind-whole in
-    let stop = sym c.stops_number.ensures ∙ c.if-not-stops_number.false in
-    let whole : IsWhole digits read.result.0 read.result.1 = record { read = read.ensures; some = omega arith; within = omega arith; no_zeros = sym c.begins_zeros.ensures ∙ c.if-begins_zeros.false } in
-    quick-int c.args.negative digits read.result.0 read.result.1 whole stop (omega arith)
+    let count = c.digit_run-count.result in
+    let whole : AreWhole digits count = record {
+      some = omega arith;
+      within = omega arith;
+      digits = c.digit_run-count.ensures.digits;
+      no_zeros = sym c.begins_zeros.ensures ∙ c.if-begins_zeros.false;
+    } in
+    let stop = sym c.stops_number.ensures ∙ c.if-stops_number.true in
+    rw c.number_by.ensures (quick-int c.args.negative digits (number_after 0 (take count digits)) count (whole-spells digits count whole) stop (omega (arith, c.number_by.ensures)))

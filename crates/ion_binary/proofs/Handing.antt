@@ -20,10 +20,10 @@ use Rattle.ion_value.proofs.Readings.{reading_by-gives}
 use Rattle.ion_binary.specs.declared.wrapper.Frame as frame
 use Rattle.ion_binary.specs.declared.shown.Shown.{Shown}
 use Rattle.ion_binary.specs.Positions.{Frame, placed_scalar, symbol_id}
-use Rattle.ion_binary.specs.Descriptor.{Region, var_uint_at}
+use Rattle.ion_binary.specs.Descriptor.{var_uint_at}
 use Rattle.ion_binary.specs.Reading.{field_at, member_at, placed_item, region_of, step, step_for, step_of, top_of}
 use Rattle.ion_binary.specs.Reader.{IsInnermost, at_top, inside}
-use Rattle.ion_binary.specs.Shown.{Reaches, ShowsItem, ShowsNote, ShowsValue, ShowsVar, far_end, shown_value, window}
+use Rattle.ion_binary.specs.Shown.{Reaches, ShowsItem, ShowsNote, ShowsVar, shown_value, window}
 use Rattle.ion_binary.proofs.ShownParts.{reaches-less, shows_noted, shows_plain}
 use Rattle.ion_value.specs.declared.plain_item.TextAt.{TextAt}
 use Rattle.ion_meter.specs.Windows.{IsPassed}

@@ -383,7 +383,8 @@ impl<I: Input, A: Allocator + Copy> BinReader<I, A> {
         self.hand_head(frame, bare_front(field, at), meter, names, writer, sink)
     }
 
-    // The same of one with an annotation.
+    // The same of one with an annotation. All shapes of a head share a call here, so that `hand_head` has one
+    // caller, in which it is put in line.
     #[inline(always)]
     fn hand_noted<N: Names, W: ValueWriter<O, A>, O: Output>(
         &mut self,
@@ -415,7 +416,11 @@ impl<I: Input, A: Allocator + Copy> BinReader<I, A> {
         let Some(front) = noted_front(octets, here, frame, field, at, limits, names) else {
             return false;
         };
-        self.hand_head(frame, front, meter, names, writer, sink)
+        if front.head >= octets.len() {
+            return false;
+        }
+        let shape = Shape::of(octets[front.head]);
+        self.hand_shape(shape, frame, front, meter, names, writer, sink)
     }
 
     // The same of an item with this front. Each frequent shape of a head has a call of its own, so that what is

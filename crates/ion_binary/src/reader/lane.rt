@@ -260,7 +260,8 @@ impl<I: Input, A: Allocator + Copy> BinReader<I, A> {
         count
     }
 
-    // Hands the next item on, where it has no annotation and that is possible; else it answers false, and nothing is changed.
+    // Hands the next item on, where it has no annotation and that is possible; else it answers false, and
+    // nothing is changed.
     #[inline(always)]
     pub(super) fn hand<N: Names, W: ValueWriter<O, A>, O: Output>(
         &mut self,
@@ -423,8 +424,8 @@ impl<I: Input, A: Allocator + Copy> BinReader<I, A> {
         self.hand_shape(shape, frame, front, meter, names, writer, sink)
     }
 
-    // The same of an item with this front. Each frequent shape of a head has a call of its own, so that what is
-    // read of it and written of it is compiled for it alone.
+    // The same of an item with this front. Each frequent shape of a head has a call of its own, so that
+    // what is read of it and written of it is compiled for it alone.
     #[inline(always)]
     fn hand_head<N: Names, W: ValueWriter<O, A>, O: Output>(
         &mut self,

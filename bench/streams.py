@@ -7,7 +7,7 @@ Kinds: log ints strings blobs deep config fields nest, each as text (KIND.ion) a
 `yard convert`; bench/beside.py says how `yard` is built), and json (log.json, the records of log.ion). All of them where
 none is named; 100 MB of text each where MB is not given. A value at top level is some 100 KB at most, so the default
 limits hold. A further kind has to be named: bucket, structs over 3,000 names that no byte tells apart which `ion` reads for
-the bucket of a text, its first and last sixteen.
+the bucket of a text, its first and last sixteen; quoted, structs whose names and symbols stand between quotes in text.
 """
 import base64
 import json
@@ -19,7 +19,7 @@ import sys
 HERE = os.path.dirname(os.path.abspath(__file__))
 YARD = os.environ.get('YARD') or os.path.join(HERE, 'yard', 'target', 'release', 'yard')
 KINDS = ['log', 'json', 'ints', 'strings', 'blobs', 'deep', 'config', 'fields', 'nest']
-MORE = ['bucket']
+MORE = ['bucket', 'quoted']
 
 SERV = ['auth-api', 'billing', 'catalog', 'checkout', 'gateway', 'inventory', 'mailer', 'orders', 'search', 'users']
 LEVEL = ['DEBUG', 'INFO', 'INFO', 'INFO', 'INFO', 'WARN', 'ERROR']
@@ -194,6 +194,12 @@ def bucket(r):
     return '{' + ','.join('%s:%d' % (name, r.randrange(100)) for name in names) + '}\n'
 
 
+def quoted(r):
+    """A struct whose names and symbols are no identifiers."""
+    value = [lambda: str(r.randrange(10 ** 5)), lambda: "'%s'" % r.choice(REGION).replace('_', '-')]
+    return '{%s}\n' % ','.join("'%s-%s':%s" % (r.choice(TAG), r.choice(SERV), r.choice(value)()) for _ in range(12))
+
+
 def nest(r):
     """A value of some 20 KB below 40 to 60 containers, each with a few members of its own."""
     inside = '[' + ','.join(str(r.randrange(100000)) for _ in range(3000)) + ']'
@@ -223,7 +229,8 @@ def maker_of(kind, r):
     return {'log': lambda: log_line(log_record(r)),
             'json': lambda: json.dumps(log_record(r), separators=(',', ':')) + '\n',
             'ints': lambda: ints(r), 'strings': lambda: strings(r), 'blobs': lambda: blobs(r),
-            'deep': lambda: deep(r), 'config': lambda: config(r), 'nest': lambda: nest(r), 'bucket': lambda: bucket(r)}[kind]
+            'deep': lambda: deep(r), 'config': lambda: config(r), 'nest': lambda: nest(r), 'bucket': lambda: bucket(r),
+            'quoted': lambda: quoted(r)}[kind]
 
 
 def main(words):

@@ -20,11 +20,11 @@ use Rattle.ion_value.proofs.Readings.{reading_by-gives}
 use Rattle.ion_binary.specs.declared.wrapper.Frame as frame
 use Rattle.ion_binary.specs.declared.shown.Shown.{Shown}
 use Rattle.ion_binary.specs.Positions.{Frame, placed_scalar, symbol_id}
-use Rattle.ion_binary.specs.Descriptor.{Region, var_uint_at}
+use Rattle.ion_binary.specs.Descriptor.{var_uint_at}
 use Rattle.ion_binary.specs.Reading.{field_at, member_at, placed_item, region_of, step, step_for, step_of, top_of}
 use Rattle.ion_binary.specs.Reader.{IsInnermost, at_top, inside}
-use Rattle.ion_binary.specs.Shown.{Reaches, ShowsItem, ShowsNote, ShowsValue, ShowsVar, far_end, shown_value, window}
-use Rattle.ion_binary.proofs.ShownParts.{reaches-less, shows_noted}
+use Rattle.ion_binary.specs.Shown.{Reaches, ShowsItem, ShowsNote, ShowsVar, shown_value, window}
+use Rattle.ion_binary.proofs.ShownParts.{reaches-less, shows_noted, shows_plain}
 use Rattle.ion_value.specs.declared.plain_item.TextAt.{TextAt}
 use Rattle.ion_meter.specs.Windows.{IsPassed}
 use Rattle.ion_value.specs.declared.writer.ValueWriter.{Ghosts as WriterOf}
@@ -43,7 +43,7 @@ use Rattle.ion_binary.specs.Reading.{size}
 use Rattle.ion_binary.proofs.ReaderParts.{as_frames-length, innermost-struct, last-innermost, kinds-frames, kinds_of-length}
 use Rattle.ion_binary.proofs.Termination.{step-shrinks}
 use Rattle.std.specs.Prelude.{reverse}
-use Rattle.ion_binary.specs.Lane.{EndsHere, GoesOn, ShowsField, ShowsNoted}
+use Rattle.ion_binary.specs.Lane.{EndsHere, GoesOn, ShowsField, ShowsFront}
 use Rattle.ion_binary.specs.Wrappers.{as_frame, as_frames, innermost}
 use Rattle.ion_binary.proofs.ReaderParts.{innermost-field, innermost-region, inside-member, member_at-field, top-member}
 
@@ -101,15 +101,29 @@ shows_named texts octets here f id behind t struct v has simple at = record {
       (ap (var_uint_at (Some f.end)) (sym (skip-none here octets more)) ∙ v.gives here more (Some f.end) reaches);
 }
 
--- a value in a wrapper whose one id has a simple text
-pub shows_simple : (texts : ℕ → Option (List ℕ)) (limits : Limits) (octets : List ℕ) (here : ℕ) (region : Region) (depth at from inner behind end id : ℕ) (t : TextAt) (found : Shown)
-    → ShowsNote limits octets here region at from inner end id → ShowsValue limits octets here (Some end) depth inner behind found → end ≡ far_end here behind found
-    → texts (raw_id id) ≡ Some t.text.now → is_simple t.text.now ≡ true → t.place ≡ here + from → ShowsNoted texts limits octets here region depth at inner behind t found
-shows_simple texts limits octets here region depth at from inner behind end id t found n v full has simple place = record {
-  raw = symbol_id id (here + from);
+-- a field with no wrapper behind it
+pub front_bare : (texts : ℕ → Option (List ℕ)) (limits : Limits) (octets : List ℕ) (here : ℕ) (frames : List Frame) (field : Option TextAt) (at : ℕ) → ShowsField texts octets here frames field at
+    → ShowsFront texts limits octets here frames field None at at None
+front_bare texts limits octets here frames field at name = record {
+  name = name;
+  raws = [];
+  named = refl;
+  simple = tt;
+  within = name.within;
+  gives = λ depth behind found v full. shows_plain limits octets here (region_of frames) depth at behind found v;
+}
+
+-- a wrapper whose one id has a simple text
+pub front_noted : (texts : ℕ → Option (List ℕ)) (limits : Limits) (octets : List ℕ) (here : ℕ) (frames : List Frame) (field : Option TextAt) (at from inner end id : ℕ) (t : TextAt)
+    → ShowsField texts octets here frames field at → ShowsNote limits octets here (region_of frames) at from inner end id → texts (raw_id id) ≡ Some t.text.now → is_simple t.text.now ≡ true → t.place ≡ here + from
+    → ShowsFront texts limits octets here frames field (Some t) at inner (Some end)
+front_noted texts limits octets here frames field at from inner end id t name n has simple place = record {
+  name = name;
+  raws = symbol_id id (here + from) ∷ [];
   named = rw (has, place) refl;
-  simple = simple;
-  item = shows_noted limits octets here region depth at from inner behind end id found n v full;
+  simple = (simple, tt);
+  within = n.within;
+  gives = λ depth behind found v full. shows_noted limits octets here (region_of frames) depth at from inner behind end id found n v full;
 }
 
 -- ---- a member, and where the reader stands behind it

@@ -1,5 +1,5 @@
 -- What a call that hands one item to a writer asks for, gives, keeps and moves.
-use Rattle.std.specs.Prelude.{◌≡◌, ℕ, ◌+◌, ◌*◌, ◌-◌, ◌^◌, ◌<◌, ◌≤◌, List, [], ◌∷◌, length, map, Option, Some, None, option_map, is_some, true, Ok, ⊤}
+use Rattle.std.specs.Prelude.{◌≡◌, ℕ, ◌+◌, ◌*◌, ◌-◌, ◌^◌, ◌<◌, ◌≤◌, List, length, map, Option, Some, None, option_map, is_some, Ok, ⊤}
 use Rattle.ion_meter.specs.Counts.{Counts}
 use Rattle.ion_meter.specs.Windows.{Outgoing, left}
 use Rattle.ion_meter.specs.Sources.{BytesAreLeft, Stands, skip}
@@ -10,14 +10,13 @@ use Rattle.ion_value.specs.Outcome.{one_if_closed}
 use Rattle.ion_value.specs.Shares.{Charges}
 use Rattle.ion_value.specs.declared.plain_item.TextAt.{TextAt}
 use Rattle.ion_value.specs.Items.{named_at}
-use Rattle.ion_value.specs.PlainItems.{HasSimpleName, placed_text}
+use Rattle.ion_value.specs.PlainItems.{AreSimple, HasSimpleName, listed, placed_text}
 use Rattle.ion_value.specs.Standing.{in_struct}
 use Rattle.ion_value.specs.Value.{PlacedItem, SymbolAt}
 use Rattle.ion_binary.specs.declared.wrapper.Frame as frame
 use Rattle.ion_binary.specs.Positions.{Frame}
 use Rattle.ion_binary.specs.Reading.{field_at, region_of}
-use Rattle.ion_value.specs.Name.{is_simple}
-use Rattle.ion_binary.specs.Shown.{Reaches, ShowsItem, window}
+use Rattle.ion_binary.specs.Shown.{Reaches, ShowsItem, ShowsValue, far_end, window}
 use Rattle.ion_binary.specs.declared.shown.Shown.{Shown}
 use Rattle.ion_binary.specs.Descriptor.{Region}
 use Rattle.ion_meter.specs.declared.limits.Limits.{Limits}
@@ -92,12 +91,25 @@ pub record ShowsField (texts : ℕ → Option (List ℕ)) (octets : List ℕ) (h
   pub there : is_some field ≡ in_struct (map (λ f. f.kind) frames)
   pub gives : (more : List ℕ) → Reaches (region_of frames) (here + behind) → field_at frames (window here octets more) ≡ Ok (raw, skip behind (window here octets more))
 
--- octets show what stands behind a field: a value in a wrapper with one annotation, whose id has a simple text
-pub record ShowsNoted (texts : ℕ → Option (List ℕ)) (limits : Limits) (octets : List ℕ) (here : ℕ) (region : Region) (depth at head behind : ℕ) (annotation : TextAt) (found : Shown) : Type 0 where
-  pub raw : SymbolAt
-  pub named : named_at texts raw ≡ placed_text annotation
-  pub simple : is_simple annotation.text.now ≡ true
-  pub item : ShowsItem limits octets here region depth at head behind (raw ∷ []) found
+-- the region of a value: the wrapper around it, or else its container
+abbrev pub inner_region : Region → Region → Region
+inner_region (Some end) around = Some end
+inner_region None around = around
+
+-- what ends at a place fills the wrapper around it
+abbrev pub FillsTo : Region → ℕ → Type 0
+FillsTo (Some end) place = end ≡ place
+FillsTo None place = ⊤
+
+-- octets show what stands in front of a head: a field's name, and behind that, from a place on, a wrapper with an annotation, or nothing; a value that is shown behind it is one with this field and annotation
+pub record ShowsFront (texts : ℕ → Option (List ℕ)) (limits : Limits) (octets : List ℕ) (here : ℕ) (frames : List Frame) (field annotation : Option TextAt) (at head : ℕ) (wrapper : Region) : Type 0 where
+  pub name : ShowsField texts octets here frames field at
+  pub raws : List SymbolAt
+  pub named : map (named_at texts) raws ≡ listed (option_map placed_text annotation)
+  pub simple : AreSimple (listed (option_map placed_text annotation))
+  pub within : head ≤ length octets
+  pub gives : (depth behind : ℕ) (found : Shown) → ShowsValue limits octets here (inner_region wrapper (region_of frames)) depth head behind found
+      → FillsTo wrapper (far_end here behind found) → ShowsItem limits octets here (region_of frames) depth at head behind raws found
 
 -- the innermost container does not end here
 abbrev pub GoesOn : Option frame.Frame → ℕ → Type 0

@@ -98,8 +98,9 @@ impl Shape {
         }
     }
 
+    /// A scalar with a body.
     #[inline]
-    fn body(type_code: u8, length_code: u8) -> Shape
+    pub(crate) fn body(type_code: u8, length_code: u8) -> Shape
         ensures { as_shape result ≡ body type_code length_code }
     {
         Shape::Body {

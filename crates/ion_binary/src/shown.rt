@@ -1,6 +1,6 @@
 //! What a window shows of items that lie whole in it. Where it does not, or where something is at fault
 //! or rare, it shows nothing, and the item is read by `value`.
-ghost use Rattle.std.specs.Prelude.{◌≡◌, ◌+◌, ◌-◌, ◌*◌, ◌^◌, ◌<◌, ◌≤◌, length, Ok, true, IfSome};
+ghost use Rattle.std.specs.Prelude.{◌≡◌, ◌+◌, ◌-◌, ◌*◌, ◌^◌, ◌<◌, ◌≤◌, get_or, length, Ok, true, IfSome};
 ghost use Rattle.ion_value.specs.Int.{int_of_bytes};
 ghost use Rattle.ion_value.specs.Number.{uint};
 ghost use Rattle.ion_value.specs.Scalar.{scalar_of_body, with_value};
@@ -9,6 +9,8 @@ ghost use Rattle.ion_value.specs.Timestamp.{timestamp_of_bytes};
 ghost use Rattle.ion_value.specs.Value.{decimal, int, timestamp};
 ghost use Rattle.ion_value.specs.Standing.{InRange};
 ghost use Rattle.ion_binary.specs.Bodies.{IsBodyTypeCode};
+ghost use Rattle.ion_binary.specs.Descriptor.{shape_of};
+ghost use Rattle.ion_binary.specs.Shapes.{as_shape};
 ghost use Rattle.ion_binary.specs.Shown.{Reaches, ShowsBegin, ShowsBody, ShowsLength, ShowsNote, ShowsValue, ShowsVar, shown_scalar};
 
 use crate::body::{is_text, uint_id};
@@ -187,10 +189,11 @@ fn shown_timestamp(octets: &[u8]) -> Option<ShownScalar<'_>>
     }
 }
 
-/// The value that begins at a place of these octets, of which the first stands at `here` in the stream,
-/// and the place behind the value, or behind the header of a container.
+/// The value whose descriptor stands at a place of these octets, of which the first stands at `here` in the
+/// stream, and has this shape, and the place behind the value, or behind the header of a container.
 #[inline(always)]
 pub(crate) fn shown_value<'a>(
+    shape: Shape,
     octets: &'a [u8],
     here: u64,
     at: usize,
@@ -199,14 +202,12 @@ pub(crate) fn shown_value<'a>(
     limits: Limits,
 ) -> Option<(Shown<'a>, usize)>
     requires small { here + length octets.now < 2 ^ 63 }
-    requires within { at ≤ length octets.now }
+    requires within { at < length octets.now }
+    requires shape { as_shape shape ≡ shape_of (get_or octets.now at 0) }
     ensures shows { IfSome result
         (λ r. ShowsValue limits octets.entry.now here region depth at r.1 r.0) }
 {
-    if at == octets.len() {
-        return None;
-    }
-    match Shape::of(octets[at]) {
+    match shape {
         Shape::Null(of) => shown_bare(here, at, region, ShownScalar::Null(of)),
         Shape::Bool(truth) => shown_bare(here, at, region, ShownScalar::Bool(truth)),
         Shape::Body {

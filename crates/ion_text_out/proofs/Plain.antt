@@ -14,7 +14,7 @@ use Rattle.ion_value.specs.declared.plain_item.PlainItem.{PlainItem}
 use Rattle.ion_text_out.specs.Text.{Open, annotation_text, before_item, behind_value, field_text, item_text, opener, scalar_text, symbol_text}
 use Rattle.ion_meter.specs.declared.limits.Limits.{Limits}
 use Rattle.ion_text_out.specs.Writing.{behind_end, closing, shown, text_adds, Shows}
-use Rattle.ion_text_out.specs.Lane.{plain_begin, plain_front, plain_name, plain_note, plain_scalar}
+use Rattle.ion_text_out.specs.Lane.{plain_begin, plain_front, plain_name, plain_note, plain_scalar, text_in}
 
 both-left : (a b : Bool) → (a && b) ≡ true → a ≡ true
 both-left true b e = refl
@@ -28,27 +28,37 @@ pub simple_symbol : (s : Symbol) (bytes : List ℕ) → s ≡ v.Text bytes → I
 simple_symbol (v.Text b) bytes e simple = simple_text b simple ∙ cc e
 simple_symbol (v.Id id) bytes e simple = absurd simple
 
-name_is : (field : Option TextAt) → HasSimpleName (option_map placed_text field) → field_text (option_map user_symbol_at (option_map placed_text field)) ≡ plain_name field
+-- and it has a byte
+named : (bytes : List ℕ) → is_simple bytes ≡ true → bytes ++ codes ":" ≡ plain_name bytes
+named [] simple = absurd (cc simple)
+named (b ∷ bs) simple = refl
+
+noted : (bytes : List ℕ) → is_simple bytes ≡ true → bytes ++ codes "::" ≡ plain_note bytes
+noted [] simple = absurd (cc simple)
+noted (b ∷ bs) simple = refl
+
+name_is : (field : Option TextAt) → HasSimpleName (option_map placed_text field) → field_text (option_map user_symbol_at (option_map placed_text field)) ≡ plain_name (text_in field)
 name_is None simple = refl
-name_is (Some t) simple = ap (λ (l : List ℕ). l ++ codes ":") (simple_text t.text.now simple)
+name_is (Some t) simple = ap (λ (l : List ℕ). l ++ codes ":") (simple_text t.text.now simple) ∙ named t.text.now simple
 
 note_is : (annotation : Option TextAt) → AreSimple (listed (option_map placed_text annotation))
-    → flat_map annotation_text (map user_symbol_at (listed (option_map placed_text annotation))) ≡ plain_note annotation
+    → flat_map annotation_text (map user_symbol_at (listed (option_map placed_text annotation))) ≡ plain_note (text_in annotation)
 note_is None simple = refl
-note_is (Some t) simple = append-nil (symbol_text (v.Known t.text.now) ++ codes "::") ∙ ap (λ (l : List ℕ). l ++ codes "::") (simple_text t.text.now simple.0)
+note_is (Some t) simple =
+    append-nil (symbol_text (v.Known t.text.now) ++ codes "::") ∙ (ap (λ (l : List ℕ). l ++ codes "::") (simple_text t.text.now simple.0) ∙ noted t.text.now simple.0)
 
 -- what stands in front of its head
 front_is : (item : PlainItem) → IsSimple (placed_item item)
-    → field_text (user_item (placed_item item)).field ++ flat_map annotation_text (user_item (placed_item item)).annotations ≡ plain_front item
+    → field_text (user_item (placed_item item)).field ++ flat_map annotation_text (user_item (placed_item item)).annotations ≡ plain_front (text_in item.field) (text_in item.annotation)
 front_is item simple = rw (name_is item.field simple.field, note_is item.annotation simple.annotations) refl
 
-pub scalar_put : (cs : Open) (item : PlainItem) (body : v.Scalar SymbolAt) (text : List ℕ) → IsSimple (placed_item item) → raw_head item.head ≡ v.whole body → text ≡ scalar_text (map_scalar user_symbol_at body)
-    → plain_scalar cs item text ≡ item_text cs (user_item (placed_item item))
-scalar_put cs item body text simple head is = rw (head, front_is item simple, is) refl
+pub scalar_put : (cs : Open) (item : PlainItem) (name note : List ℕ) (body : v.Scalar SymbolAt) (text : List ℕ) → IsSimple (placed_item item) → name ≡ text_in item.field → note ≡ text_in item.annotation
+    → raw_head item.head ≡ v.whole body → text ≡ scalar_text (map_scalar user_symbol_at body) → plain_scalar cs name note text ≡ item_text cs (user_item (placed_item item))
+scalar_put cs item name note body text simple named noted head is = rw (head, front_is item simple, is, named, noted) refl
 
-pub begin_put : (cs : Open) (item : PlainItem) (kind : Kind) → IsSimple (placed_item item) → raw_head item.head ≡ v.begin kind
-    → plain_begin cs item (opener kind) ≡ item_text cs (user_item (placed_item item))
-begin_put cs item kind simple head = rw (head, front_is item simple) refl
+pub begin_put : (cs : Open) (item : PlainItem) (name note : List ℕ) (kind : Kind) → IsSimple (placed_item item) → name ≡ text_in item.field → note ≡ text_in item.annotation → raw_head item.head ≡ v.begin kind
+    → plain_begin cs name note (opener kind) ≡ item_text cs (user_item (placed_item item))
+begin_put cs item name note kind simple named noted head = rw (head, front_is item simple, named, noted) refl
 
 -- ---- marks are short
 

@@ -1,39 +1,46 @@
 //! Plain items, put in one go where the window on the output has room for them.
-ghost use Rattle.std.specs.Prelude.{◌≡◌, ◌+◌, ◌≤◌, ◌<◌, ◌++◌, ◌∷◌, [], length, true, false, if◌then◌else◌};
+ghost use Rattle.std.specs.Prelude.{◌≡◌, ◌+◌, ◌^◌, ◌≤◌, ◌<◌, ◌++◌, ◌∷◌, [], length, true, false, if◌then◌else◌};
 ghost use Rattle.ion_value.specs.Int.{int_text};
 ghost use Rattle.ion_text_out.specs.Writing.{behind_end, closing, shown};
 ghost use Rattle.ion_text_out.specs.Escape.{between_quotes};
 ghost use Rattle.ion_text_out.specs.Text.{end_text, opener};
-ghost use Rattle.ion_text_out.specs.Lane.{plain_front, plain_name, plain_note, plain_scalar};
+ghost use Rattle.ion_text_out.specs.Lane.{plain_front, plain_name, plain_note, plain_scalar, text_in};
 
 use crate::between::{before, behind, behind_end, closing, opener};
 use crate::quote::stands_in_string;
 use ion_meter::device::Output;
 use ion_meter::sink::Sink;
-use ion_value::int::Int;
 use ion_value::ion_type::Kind;
-use ion_value::plain_item::{PlainItem, TextAt};
+use ion_value::plain_item::TextAt;
 use itoa::Buffer;
 use std::alloc::Allocator;
+
+/// The text of a symbol that may be there, empty where there is none.
+#[inline(always)]
+pub fn text_in(at: Option<TextAt<'_>>) -> &[u8]
+    ensures { result.now ≡ text_in at.entry }
+{
+    match at {
+        Some(at) => at.text,
+        None => b"",
+    }
+}
 
 /// Whether there is room for a field's name, an annotation, so many bytes, and two marks of a byte.
 #[inline(always)]
 pub fn has_room<O: Output, A: Allocator + Copy>(
     sink: &Sink<O, A>,
-    item: &PlainItem<'_, '_>,
+    name: &[u8],
+    note: &[u8],
     more: usize,
 ) -> bool
+    requires { more < 2 ^ 63 + 2 ^ 32 }
     ensures { result ≡ true
-        → length sink.now.pending + length (plain_front item.now) + more + 2 ≤ 4096 }
+        → length sink.now.pending + length (plain_front name.now note.now) + more + 2 ≤ 4096 }
 {
-    let mut need = more.saturating_add(2);
-    if let Some(at) = item.field {
-        need = need.saturating_add(at.text.len()).saturating_add(1);
-    }
-    if let Some(at) = item.annotation {
-        need = need.saturating_add(at.text.len()).saturating_add(2);
-    }
-    need <= sink.room()
+    let room = sink.room();
+    let texts = name.len() + note.len();
+    texts <= room && texts + more + 5 <= room
 }
 
 // Puts a mark of one byte, or none.
@@ -51,25 +58,24 @@ fn put_mark<O: Output, A: Allocator + Copy>(sink: &mut Sink<O, A>, mark: &[u8])
 
 // Puts a field's name and a colon, where there is a field.
 #[inline(always)]
-fn put_name<O: Output, A: Allocator + Copy>(sink: &mut Sink<O, A>, field: Option<TextAt<'_>>)
-    requires { length sink.old.pending + length (plain_name field) ≤ 4096 }
-    ensures { sink.new ≡ record sink.old { pending = sink.old.pending ++ plain_name field.entry } }
+fn put_name<O: Output, A: Allocator + Copy>(sink: &mut Sink<O, A>, name: &[u8])
+    requires { length sink.old.pending + length (plain_name name.now) ≤ 4096 }
+    ensures { sink.new ≡ record sink.old { pending = sink.old.pending ++ plain_name name.now } }
 {
-    if let Some(at) = field {
-        sink.put_within(at.text);
+    if !name.is_empty() {
+        sink.put_within(name);
         sink.put_byte(b':');
     }
 }
 
 // Puts an annotation and two colons, where there is one.
 #[inline(always)]
-fn put_note<O: Output, A: Allocator + Copy>(sink: &mut Sink<O, A>, annotation: Option<TextAt<'_>>)
-    requires { length sink.old.pending + length (plain_note annotation) ≤ 4096 }
-    ensures { sink.new
-        ≡ record sink.old { pending = sink.old.pending ++ plain_note annotation.entry } }
+fn put_note<O: Output, A: Allocator + Copy>(sink: &mut Sink<O, A>, note: &[u8])
+    requires { length sink.old.pending + length (plain_note note.now) ≤ 4096 }
+    ensures { sink.new ≡ record sink.old { pending = sink.old.pending ++ plain_note note.now } }
 {
-    if let Some(at) = annotation {
-        sink.put_within(at.text);
+    if !note.is_empty() {
+        sink.put_within(note);
         sink.put_within(b"::");
     }
 }
@@ -81,20 +87,21 @@ pub fn put_scalar<O: Output, A: Allocator + Copy>(
     sink: &mut Sink<O, A>,
     kinds: &[Kind],
     empty: bool,
-    item: &PlainItem<'_, '_>,
+    name: &[u8],
+    note: &[u8],
     text: &[u8],
 ) -> bool
     ensures declines { result ≡ false → sink.new ≡ sink.old }
     ensures puts { result ≡ true → sink.new ≡ record sink.old {
-      pending = sink.old.pending ++ plain_scalar (shown kinds.now empty) item.now text.now;
+      pending = sink.old.pending ++ plain_scalar (shown kinds.now empty) name.now note.now text.now;
     } }
 {
-    if !has_room(sink, item, text.len()) {
+    if !has_room(sink, name, note, text.len()) {
         return false;
     }
     put_mark(sink, before(kinds, empty));
-    put_name(sink, item.field);
-    put_note(sink, item.annotation);
+    put_name(sink, name);
+    put_note(sink, note);
     sink.put_within(text);
     put_mark(sink, behind(kinds));
     true
@@ -114,23 +121,26 @@ pub fn put_int<O: Output, A: Allocator + Copy>(
     sink: &mut Sink<O, A>,
     kinds: &[Kind],
     empty: bool,
-    item: &PlainItem<'_, '_>,
-    int: Int,
+    name: &[u8],
+    note: &[u8],
+    negative: bool,
+    magnitude: u64,
 ) -> bool
     ensures declines { result ≡ false → sink.new ≡ sink.old }
     ensures puts { result ≡ true → sink.new ≡ record sink.old {
-      pending = sink.old.pending ++ plain_scalar (shown kinds.now empty) item.now (int_text int);
+      pending = sink.old.pending ++ plain_scalar (shown kinds.now empty) name.now note.now
+          (int_text (record { negative = negative; magnitude = magnitude }));
     } }
 {
-    if int.magnitude > u64::MAX as u128 || !has_room(sink, item, 41) {
+    if !has_room(sink, name, note, 41) {
         return false;
     }
     let mut buffer = Buffer::new();
-    let digits = buffer.format(int.magnitude as u64).as_bytes();
+    let digits = buffer.format(magnitude).as_bytes();
     put_mark(sink, before(kinds, empty));
-    put_name(sink, item.field);
-    put_note(sink, item.annotation);
-    put_mark(sink, minus(int.negative));
+    put_name(sink, name);
+    put_note(sink, note);
+    put_mark(sink, minus(negative));
     sink.put_within(digits);
     put_mark(sink, behind(kinds));
     true
@@ -142,21 +152,22 @@ pub fn put_string<O: Output, A: Allocator + Copy>(
     sink: &mut Sink<O, A>,
     kinds: &[Kind],
     empty: bool,
-    item: &PlainItem<'_, '_>,
+    name: &[u8],
+    note: &[u8],
     text: &[u8],
 ) -> bool
     ensures declines { result ≡ false → sink.new ≡ sink.old }
     ensures puts { result ≡ true → sink.new ≡ record sink.old {
-      pending = sink.old.pending ++ plain_scalar (shown kinds.now empty) item.now
+      pending = sink.old.pending ++ plain_scalar (shown kinds.now empty) name.now note.now
           (between_quotes 34 256 text.now);
     } }
 {
-    if !has_room(sink, item, text.len().saturating_add(2)) || !stands_in_string(text) {
+    if !has_room(sink, name, note, text.len() + 2) || !stands_in_string(text) {
         return false;
     }
     put_mark(sink, before(kinds, empty));
-    put_name(sink, item.field);
-    put_note(sink, item.annotation);
+    put_name(sink, name);
+    put_note(sink, note);
     sink.put_byte(b'"');
     sink.put_within(text);
     sink.put_byte(b'"');
@@ -169,18 +180,19 @@ pub fn put_string<O: Output, A: Allocator + Copy>(
 pub fn put_begin<O: Output, A: Allocator + Copy>(
     sink: &mut Sink<O, A>,
     mark: &[u8],
-    item: &PlainItem<'_, '_>,
+    name: &[u8],
+    note: &[u8],
     kind: Kind,
 )
-    requires room { length sink.old.pending + length (plain_front item.now) + 3 ≤ 4096 }
+    requires room { length sink.old.pending + length (plain_front name.now note.now) + 3 ≤ 4096 }
     requires mark { length mark.now ≤ 1 }
     ensures { sink.new ≡ record sink.old {
-      pending = sink.old.pending ++ (mark.now ++ (plain_front item.now ++ opener kind));
+      pending = sink.old.pending ++ (mark.now ++ (plain_front name.now note.now ++ opener kind));
     } }
 {
     put_mark(sink, mark);
-    put_name(sink, item.field);
-    put_note(sink, item.annotation);
+    put_name(sink, name);
+    put_note(sink, note);
     put_mark(sink, opener(kind));
 }
 

@@ -22,7 +22,7 @@ ghost use Rattle.ion_text_out.specs.Written.{text_grows, text-within};
 
 use crate::between::before;
 use crate::item::put_item;
-use crate::lane::{has_room, put_begin, put_end, put_int, put_scalar, put_string};
+use crate::lane::{has_room, put_begin, put_end, put_int, put_scalar, put_string, text_in};
 use crate::scalar::{bool_text, null};
 use ion_meter::device::Output;
 use ion_meter::fault::Fault;
@@ -142,44 +142,52 @@ impl<A: Allocator + Copy> TextWriter<A> {
 }
 
 // The calls of `take_plain`, by what the item is: each puts all of the item and moves behind it, or
-// answers false and changes nothing.
+// answers false and changes nothing. They are calls of their own that take few words: the item's name
+// and annotation as texts, which are empty where there is none, as no symbol's text here is.
 impl<A: Allocator + Copy> TextWriter<A> {
     // A scalar of this text.
-    #[inline(always)]
-    fn take_scalar<O: Output>(
+    #[inline(never)]
+    fn take_text<O: Output>(
         &mut self,
         sink: &mut Sink<O, A>,
-        item: &PlainItem<'_, '_>,
+        name: &[u8],
+        note: &[u8],
         text: &[u8],
     ) -> bool
         ensures declines { result ≡ false → (self.new ≡ self.old) × (sink.new ≡ sink.old) }
         ensures puts { result ≡ true → sink.new ≡ record sink.old {
-          pending = sink.old.pending ++ plain_scalar (opened_in self.old) item.now text.now;
+          pending = sink.old.pending ++ plain_scalar (opened_in self.old) name.now note.now text.now;
         } }
         ensures behind { result ≡ true → self.new ≡ record self.old { empty = false } }
     {
-        if !put_scalar(sink, self.kinds.as_slice(), self.empty, item, text) {
+        if !put_scalar(sink, self.kinds.as_slice(), self.empty, name, note, text) {
             return false;
         }
         self.empty = false;
         true
     }
 
-    // The same, as a call that gets a copy of the item: for scalars that few items are.
-    #[inline(never)]
-    fn take_copied<O: Output>(
+    // A symbol whose text is simple.
+    #[inline(always)]
+    fn take_symbol<O: Output>(
         &mut self,
         sink: &mut Sink<O, A>,
-        item: PlainItem<'_, '_>,
-        text: &[u8],
+        name: &[u8],
+        note: &[u8],
+        symbol: Sym<'_>,
     ) -> bool
+        requires { IsSimpleText (symbol_of symbol) }
         ensures declines { result ≡ false → (self.new ≡ self.old) × (sink.new ≡ sink.old) }
         ensures puts { result ≡ true → sink.new ≡ record sink.old {
-          pending = sink.old.pending ++ plain_scalar (opened_in self.old) item.entry text.now;
+          pending = sink.old.pending ++ plain_scalar (opened_in self.old) name.now note.now
+              (symbol_text (user_symbol (symbol_of symbol.entry)));
         } }
         ensures behind { result ≡ true → self.new ≡ record self.old { empty = false } }
     {
-        self.take_scalar(sink, &item, text)
+        match symbol {
+            Sym::Text(text) => self.take_text(sink, name, note, text),
+            Sym::Id(_) => false,
+        }
     }
 
     // An int.
@@ -187,16 +195,49 @@ impl<A: Allocator + Copy> TextWriter<A> {
     fn take_int<O: Output>(
         &mut self,
         sink: &mut Sink<O, A>,
-        item: &PlainItem<'_, '_>,
+        name: &[u8],
+        note: &[u8],
         int: Int,
     ) -> bool
         ensures declines { result ≡ false → (self.new ≡ self.old) × (sink.new ≡ sink.old) }
         ensures puts { result ≡ true → sink.new ≡ record sink.old {
-          pending = sink.old.pending ++ plain_scalar (opened_in self.old) item.now (int_text int);
+          pending = sink.old.pending ++ plain_scalar (opened_in self.old) name.now note.now
+              (int_text int);
         } }
         ensures behind { result ≡ true → self.new ≡ record self.old { empty = false } }
     {
-        if !put_int(sink, self.kinds.as_slice(), self.empty, item, int) {
+        if int.magnitude > u64::MAX as u128 {
+            return false;
+        }
+        self.take_narrow_int(sink, name, note, int.negative, int.magnitude as u64)
+    }
+
+    // The same of one with this sign and a magnitude that 64 bits hold.
+    #[inline(never)]
+    fn take_narrow_int<O: Output>(
+        &mut self,
+        sink: &mut Sink<O, A>,
+        name: &[u8],
+        note: &[u8],
+        negative: bool,
+        magnitude: u64,
+    ) -> bool
+        ensures declines { result ≡ false → (self.new ≡ self.old) × (sink.new ≡ sink.old) }
+        ensures puts { result ≡ true → sink.new ≡ record sink.old {
+          pending = sink.old.pending ++ plain_scalar (opened_in self.old) name.now note.now
+              (int_text (record { negative = negative; magnitude = magnitude }));
+        } }
+        ensures behind { result ≡ true → self.new ≡ record self.old { empty = false } }
+    {
+        if !put_int(
+            sink,
+            self.kinds.as_slice(),
+            self.empty,
+            name,
+            note,
+            negative,
+            magnitude,
+        ) {
             return false;
         }
         self.empty = false;
@@ -208,19 +249,20 @@ impl<A: Allocator + Copy> TextWriter<A> {
     fn take_decimal<O: Output>(
         &mut self,
         sink: &mut Sink<O, A>,
-        item: PlainItem<'_, '_>,
+        name: &[u8],
+        note: &[u8],
         decimal: Decimal,
     ) -> bool
         requires { IsDecimal decimal }
         ensures declines { result ≡ false → (self.new ≡ self.old) × (sink.new ≡ sink.old) }
         ensures puts { result ≡ true → sink.new ≡ record sink.old {
-          pending = sink.old.pending ++ plain_scalar (opened_in self.old) item.entry
+          pending = sink.old.pending ++ plain_scalar (opened_in self.old) name.now note.now
               (decimal_text decimal);
         } }
         ensures behind { result ≡ true → self.new ≡ record self.old { empty = false } }
     {
         let text = decimal_to_text(decimal);
-        self.take_scalar(sink, &item, text.as_str().as_bytes())
+        self.take_text(sink, name, note, text.as_str().as_bytes())
     }
 
     // A timestamp.
@@ -228,59 +270,39 @@ impl<A: Allocator + Copy> TextWriter<A> {
     fn take_timestamp<O: Output>(
         &mut self,
         sink: &mut Sink<O, A>,
-        item: PlainItem<'_, '_>,
+        name: &[u8],
+        note: &[u8],
         moment: Timestamp,
     ) -> bool
         requires { IsTimestamp moment }
         ensures declines { result ≡ false → (self.new ≡ self.old) × (sink.new ≡ sink.old) }
         ensures puts { result ≡ true → sink.new ≡ record sink.old {
-          pending = sink.old.pending ++ plain_scalar (opened_in self.old) item.entry
+          pending = sink.old.pending ++ plain_scalar (opened_in self.old) name.now note.now
               (timestamp_text moment);
         } }
         ensures behind { result ≡ true → self.new ≡ record self.old { empty = false } }
     {
         let text = timestamp_to_text(moment);
-        self.take_scalar(sink, &item, text.as_str().as_bytes())
-    }
-
-    // A symbol whose text is simple.
-    #[inline(always)]
-    fn take_symbol<O: Output>(
-        &mut self,
-        sink: &mut Sink<O, A>,
-        item: &PlainItem<'_, '_>,
-        symbol: Sym<'_>,
-    ) -> bool
-        requires { IsSimpleText (symbol_of symbol) }
-        ensures declines { result ≡ false → (self.new ≡ self.old) × (sink.new ≡ sink.old) }
-        ensures puts { result ≡ true → sink.new ≡ record sink.old {
-          pending = sink.old.pending ++ plain_scalar (opened_in self.old) item.now
-              (symbol_text (user_symbol (symbol_of symbol.entry)));
-        } }
-        ensures behind { result ≡ true → self.new ≡ record self.old { empty = false } }
-    {
-        match symbol {
-            Sym::Text(text) => self.take_scalar(sink, item, text),
-            Sym::Id(_) => false,
-        }
+        self.take_text(sink, name, note, text.as_str().as_bytes())
     }
 
     // A string that has no escapes.
-    #[inline(always)]
+    #[inline(never)]
     fn take_string<O: Output>(
         &mut self,
         sink: &mut Sink<O, A>,
-        item: &PlainItem<'_, '_>,
+        name: &[u8],
+        note: &[u8],
         text: &[u8],
     ) -> bool
         ensures declines { result ≡ false → (self.new ≡ self.old) × (sink.new ≡ sink.old) }
         ensures puts { result ≡ true → sink.new ≡ record sink.old {
-          pending = sink.old.pending ++ plain_scalar (opened_in self.old) item.now
+          pending = sink.old.pending ++ plain_scalar (opened_in self.old) name.now note.now
               (between_quotes 34 256 text.now);
         } }
         ensures behind { result ≡ true → self.new ≡ record self.old { empty = false } }
     {
-        if !put_string(sink, self.kinds.as_slice(), self.empty, item, text) {
+        if !put_string(sink, self.kinds.as_slice(), self.empty, name, note, text) {
             return false;
         }
         self.empty = false;
@@ -288,12 +310,13 @@ impl<A: Allocator + Copy> TextWriter<A> {
     }
 
     // The beginning of a container.
-    #[inline(always)]
+    #[inline(never)]
     fn take_begin<O: Output>(
         &mut self,
         meter: &mut Meter<A>,
         sink: &mut Sink<O, A>,
-        item: &PlainItem<'_, '_>,
+        name: &[u8],
+        note: &[u8],
         kind: Kind,
     ) -> bool
         requires can_step { CanStep self.old meter.old }
@@ -301,27 +324,28 @@ impl<A: Allocator + Copy> TextWriter<A> {
         ensures declines { result ≡ false
             → (self.new ≡ self.old) × (sink.new ≡ sink.old) × (meter.new ≡ meter.old) }
         ensures puts { result ≡ true → sink.new ≡ record sink.old {
-          pending = sink.old.pending ++ plain_begin (opened_in self.old) item.now (opener kind);
+          pending = sink.old.pending
+              ++ plain_begin (opened_in self.old) name.now note.now (opener kind);
         } }
         ensures opens { result ≡ true
             → opened_in self.new ≡ (kind, true) ∷ with_member (opened_in self.old) }
         ensures counted { meter.new.refused ≡ meter.old.refused }
         ensures stepped { Stepped self.old self.new meter.old meter.new }
     {
-        if !has_room(sink, item, 1) {
+        if !has_room(sink, name, note, 1) {
             return false;
         }
         let mark = before(self.kinds.as_slice(), self.empty);
         if !self.kinds.push_within(meter, kind) {
             return false;
         }
-        put_begin(sink, mark, item, kind);
+        put_begin(sink, mark, name, note, kind);
         self.empty = true;
         true
     }
 
     // The end of the innermost container.
-    #[inline(always)]
+    #[inline(never)]
     fn take_end<O: Output>(&mut self, meter: &mut Meter<A>, sink: &mut Sink<O, A>) -> bool
         requires can_step { CanStep self.old meter.old }
         ensures declines { result ≡ false
@@ -397,15 +421,17 @@ impl<O: Output, A: Allocator + Copy> ValueWriter<O, A> for TextWriter<A> {
         sink: &mut Sink<O, A>,
         item: PlainItem<'_, '_>,
     ) -> bool {
+        let name = text_in(item.field);
+        let note = text_in(item.annotation);
         match item.head {
-            Head::Null(of) => self.take_copied(sink, item, null(of)),
-            Head::Bool(truth) => self.take_copied(sink, item, bool_text(truth)),
-            Head::Int(int) => self.take_int(sink, &item, int),
-            Head::Decimal(decimal) => self.take_decimal(sink, item, decimal),
-            Head::Timestamp(moment) => self.take_timestamp(sink, item, moment),
-            Head::Symbol(at) => self.take_symbol(sink, &item, at.sym),
-            Head::String(text) => self.take_string(sink, &item, text),
-            Head::Begin(kind) => self.take_begin(meter, sink, &item, kind),
+            Head::Null(of) => self.take_text(sink, name, note, null(of)),
+            Head::Bool(truth) => self.take_text(sink, name, note, bool_text(truth)),
+            Head::Int(int) => self.take_int(sink, name, note, int),
+            Head::Decimal(decimal) => self.take_decimal(sink, name, note, decimal),
+            Head::Timestamp(moment) => self.take_timestamp(sink, name, note, moment),
+            Head::Symbol(at) => self.take_symbol(sink, name, note, at.sym),
+            Head::String(text) => self.take_string(sink, name, note, text),
+            Head::Begin(kind) => self.take_begin(meter, sink, name, note, kind),
             Head::End => self.take_end(meter, sink),
             _ => false,
         }

@@ -1,19 +1,23 @@
 //! Items that lie whole in the window, handed to a writer.
-ghost use Rattle.std.specs.Prelude.{◌≡◌, ◌+◌, ◌*◌, ◌-◌, ◌^◌, ◌<◌, ◌≤◌, length, false, true, Option, Some, None, IfSome, map};
+ghost use Rattle.std.specs.Prelude.{◌≡◌, ◌+◌, ◌*◌, ◌-◌, ◌^◌, ◌<◌, ◌≤◌, get_or, length, false, true, Option, Some, None, IfSome, map};
 ghost use Rattle.ion_value.specs.Items.{named_at, named_item, raw_head};
 ghost use Rattle.ion_value.specs.PlainItems.{HasSimpleName, IsSimpleHead};
-ghost use Rattle.ion_binary.specs.Lane.{CanHand, EndsHere, GoesOn, HandsItem, HandsNothing, HandsOn, KeepsOn, ShowsField, ShowsNoted};
+ghost use Rattle.ion_binary.specs.Lane.{CanHand, EndsHere, GoesOn, HandsItem, HandsNothing, HandsOn, KeepsOn, FillsTo, ShowsField, ShowsFront, inner_region};
 ghost use Rattle.ion_value.specs.Feeding.{CanTake};
 ghost use Rattle.ion_binary.specs.Steps.{IsSound, held_by, left_to, opened_in};
 ghost use Rattle.ion_binary.specs.Positions.{placed_scalar};
 ghost use Rattle.ion_binary.specs.Reader.{IsInnermost};
 ghost use Rattle.ion_binary.specs.Reading.{top_of};
+ghost use Rattle.ion_binary.specs.Descriptor.{body, shape_of};
+ghost use Rattle.ion_binary.specs.Shapes.{as_shape};
 ghost use Rattle.ion_binary.specs.Shown.{far_end, shown_scalar};
+ghost use Rattle.ion_meter.specs.Windows.{lent};
 ghost use Rattle.ion_binary.specs.Wrappers.{as_frames, innermost};
 ghost use Rattle.ion_value.specs.Value.{map_head, whole};
 
 use super::{BinReader, region, values_behind};
 use crate::body::id_of;
+use crate::descriptor::Shape;
 use crate::shown::{Shown, ShownScalar, shown_note, shown_value, shown_var};
 use crate::wrapper::Frame;
 use ion_meter::device::{Input, Output};
@@ -117,102 +121,110 @@ fn far_end(here: u64, behind: usize, found: Shown<'_>) -> u64
     }
 }
 
-// A value that is shown with one annotation, where its head begins among the octets, and where it ends.
+// What stands in front of the head of an item that is shown: a field's name and an annotation, where what is
+// behind the field's id begins among the octets, where the head does, and the place of the end of a wrapper
+// around it.
 #[derive(Clone, Copy)]
-pub(crate) struct Noted<'n, 'h> {
-    annotation: TextAt<'n>,
-    found: Shown<'h>,
+pub(crate) struct Front<'n> {
+    field: Option<TextAt<'n>>,
+    annotation: Option<TextAt<'n>>,
     at: usize,
-    behind: usize,
+    head: usize,
+    wrapper: Option<u64>,
 }
 
-// The value in the annotation wrapper that begins at a place. It answers none where the window does not
-// show one that has one annotation, of a simple text.
+// The front of an item with no annotation.
 #[inline(always)]
-fn shown_noted<'n, 'h, N: Names>(
-    octets: &'h [u8],
+fn bare_front<'n>(field: Option<TextAt<'n>>, at: usize) -> Front<'n>
+    ensures { result ≡ record {
+      field = field.entry;
+      annotation = None;
+      at = at;
+      head = at;
+      wrapper = None;
+    } }
+{
+    Front {
+        field,
+        annotation: None,
+        at,
+        head: at,
+        wrapper: None,
+    }
+}
+
+// The front of an item in the annotation wrapper that begins at a place behind a field. It answers none where
+// the window does not show one that has one annotation, of a simple text.
+#[inline(always)]
+fn noted_front<'n, N: Names>(
+    octets: &[u8],
     here: u64,
+    frame: Option<Frame>,
+    field: Option<TextAt<'n>>,
     at: usize,
-    region: Option<u64>,
-    depth: u32,
     limits: Limits,
     names: &'n N,
-) -> Option<Noted<'n, 'h>>
+) -> Option<Front<'n>>
     requires small { here + length octets.now < 2 ^ 63 }
-    requires within { at ≤ length octets.now }
-    ensures { IfSome result (λ n. ShowsNoted (N.text names.entry.now) limits octets.entry.now here
-        region depth at n.at n.behind n.annotation n.found) }
+    requires field { ShowsField (N.text names.now) octets.now here (innermost frame) field at }
+    ensures { IfSome result (λ f. ShowsFront (N.text names.entry.now) limits octets.now here
+        (innermost frame) f.field f.annotation f.at f.head f.wrapper) }
 {
-    if at == octets.len() {
+    if at >= octets.len() {
         return None;
     }
-    let Some(note) = shown_note(octets, here, at, region, limits) else {
+    let Some(note) = shown_note(octets, here, at, region(frame), limits) else {
         return None;
     };
     let Some(text) = names.simple_text(id_of(note.id)) else {
         return None;
     };
-    let inside = Some(note.end);
-    let Some((found, behind)) = shown_value(octets, here, note.inner, inside, depth, limits) else {
-        return None;
-    };
-    if note.end != far_end(here, behind, found) {
-        return None;
-    }
     let place = here + note.from as u64;
-    Some(Noted {
-        annotation: TextAt { text, place },
-        found,
-        at: note.inner,
-        behind,
+    Some(Front {
+        field,
+        annotation: Some(TextAt { text, place }),
+        at,
+        head: note.inner,
+        wrapper: Some(note.end),
     })
 }
 
-// An item with one annotation.
+// The region of a value: the wrapper around it, or else its container.
 #[inline(always)]
-fn noted_item<'n, 'h>(
-    field: Option<TextAt<'n>>,
-    annotation: TextAt<'n>,
-    head: Head<'h>,
-    place: u64,
-    top: u64,
-) -> PlainItem<'n, 'h>
-    ensures { result ≡ record {
-      field = field.entry;
-      annotation = Some annotation.entry;
-      head = head.entry;
-      place = place;
-      top = top;
-    } }
+fn inner_region(wrapper: Option<u64>, around: Option<u64>) -> Option<u64>
+    ensures { result ≡ inner_region wrapper around }
 {
-    PlainItem {
-        field,
-        annotation: Some(annotation),
-        head,
-        place,
-        top,
+    match wrapper {
+        Some(end) => Some(end),
+        None => around,
     }
 }
 
-// An item with no annotation.
+// Whether what ends at a place fills the wrapper around it.
 #[inline(always)]
-fn bare_item<'n, 'h>(
-    field: Option<TextAt<'n>>,
-    head: Head<'h>,
-    place: u64,
-    top: u64,
-) -> PlainItem<'n, 'h>
+fn fills(wrapper: Option<u64>, place: u64) -> bool
+    ensures { result ≡ true → FillsTo wrapper place }
+{
+    match wrapper {
+        Some(end) => end == place,
+        None => true,
+    }
+}
+
+// An item of what stands in front of its head, and its head.
+#[inline(always)]
+fn item_behind<'n, 'h>(front: Front<'n>, head: Head<'h>, place: u64, top: u64) -> PlainItem<'n, 'h>
     ensures { result ≡ record {
-      field = field.entry;
-      annotation = None;
+      field = front.entry.field;
+      annotation = front.entry.annotation;
       head = head.entry;
       place = place;
       top = top;
     } }
 {
     PlainItem {
-        field,
-        annotation: None,
+        field: front.field,
+        annotation: front.annotation,
         head,
         place,
         top,
@@ -248,7 +260,8 @@ impl<I: Input, A: Allocator + Copy> BinReader<I, A> {
         count
     }
 
-    // Hands the next item on, where it has no annotation and that is possible; else it answers false, and nothing is changed.
+    // Hands the next item on, where it has no annotation and that is possible; else it answers false, and
+    // nothing is changed.
     #[inline(always)]
     pub(super) fn hand<N: Names, W: ValueWriter<O, A>, O: Output>(
         &mut self,
@@ -368,43 +381,11 @@ impl<I: Input, A: Allocator + Copy> BinReader<I, A> {
         let Some((field, at)) = shown_field(octets, here, frame, names) else {
             return false;
         };
-        let region = region(frame);
-        let depth = self.frames.as_slice().len() as u32;
-        let Some((found, behind)) = shown_value(octets, here, at, region, depth, self.limits) else {
-            return false;
-        };
-        let place = here + at as u64;
-        let top = top_at(frame, self.top, here);
-        match found {
-            Shown::Scalar(scalar) => {
-                let Some(head) = shown_head(scalar, place, names) else {
-                    return false;
-                };
-                let item = bare_item(field, head, place, top);
-                if !writer.take_plain(meter, sink, item) {
-                    return false;
-                }
-                self.top = top;
-                self.source.consume(behind);
-                true
-            }
-            Shown::Begin(kind, end) => {
-                let item = bare_item(field, Head::Begin(kind), place, top);
-                if !self.frames.push_within(meter, Frame { kind, end }) {
-                    return false;
-                }
-                if !writer.take_plain(meter, sink, item) {
-                    self.frames.pop(meter);
-                    return false;
-                }
-                self.top = top;
-                self.source.consume(behind);
-                true
-            }
-        }
+        self.hand_head(frame, bare_front(field, at), meter, names, writer, sink)
     }
 
-    // The same of one with an annotation.
+    // The same of one with an annotation. All shapes of a head share a call here, so that `hand_head` has one
+    // caller, in which it is put in line.
     #[inline(always)]
     fn hand_noted<N: Names, W: ValueWriter<O, A>, O: Output>(
         &mut self,
@@ -432,23 +413,188 @@ impl<I: Input, A: Allocator + Copy> BinReader<I, A> {
         let Some((field, at)) = shown_field(octets, here, frame, names) else {
             return false;
         };
-        let region = region(frame);
-        let depth = self.frames.as_slice().len() as u32;
         let limits = self.limits;
-        let Some(noted) = shown_noted(octets, here, at, region, depth, limits, names) else {
+        let Some(front) = noted_front(octets, here, frame, field, at, limits, names) else {
             return false;
         };
-        let annotation = noted.annotation;
-        let found = noted.found;
-        let behind = noted.behind;
-        let place = here + noted.at as u64;
+        if front.head >= octets.len() {
+            return false;
+        }
+        let shape = Shape::of(octets[front.head]);
+        self.hand_shape(shape, frame, front, meter, names, writer, sink)
+    }
+
+    // The same of an item with this front. Each frequent shape of a head has a call of its own, so that
+    // what is read of it and written of it is compiled for it alone.
+    #[inline(always)]
+    fn hand_head<N: Names, W: ValueWriter<O, A>, O: Output>(
+        &mut self,
+        frame: Option<Frame>,
+        front: Front<'_>,
+        meter: &mut Meter<A>,
+        names: &N,
+        writer: &mut W,
+        sink: &mut Sink<O, A>,
+    ) -> bool
+        requires can_hand { CanHand W.ValueWriter self.old writer.old sink.old meter.old }
+        requires innermost { IsInnermost (as_frames self.old.frames) frame }
+        requires goes_on { GoesOn frame self.old.source.place }
+        requires front { ShowsFront (N.text names.now) self.old.limits (lent self.old.source)
+            self.old.source.place (innermost frame)
+            front.field front.annotation front.at front.head front.wrapper }
+        ensures hands { result ≡ true → HandsItem I.Input W.ValueWriter
+            (named_item (N.text names.now)) self.old self.new writer.old writer.new
+            sink.old sink.new }
+        ensures nothing { result ≡ false
+            → HandsNothing self.old self.new writer.old writer.new sink.old sink.new }
+        ensures keeps { KeepsOn W.ValueWriter self.old self.new writer.old writer.new
+            sink.old sink.new meter.old meter.new }
+        ensures goes { held_by self.new
+            ≤ held_by self.old + 16 * (left_to self.old - left_to self.new) }
+    {
+        let octets = self.source.buffer();
+        if front.head >= octets.len() {
+            return false;
+        }
+        match Shape::of(octets[front.head]) {
+            Shape::Null(of) => {
+                self.hand_shape(Shape::Null(of), frame, front, meter, names, writer, sink)
+            }
+            Shape::Bool(truth) => {
+                self.hand_shape(Shape::Bool(truth), frame, front, meter, names, writer, sink)
+            }
+            Shape::Body {
+                type_code,
+                length_code,
+            } => self.hand_body(
+                type_code,
+                length_code,
+                frame,
+                front,
+                meter,
+                names,
+                writer,
+                sink,
+            ),
+            Shape::Container(kind, length_code) => {
+                let shape = Shape::Container(kind, length_code);
+                self.hand_shape(shape, frame, front, meter, names, writer, sink)
+            }
+            _ => false,
+        }
+    }
+
+    // The same of a scalar with a body, by its type code. Lobs are not handed on.
+    #[inline(always)]
+    fn hand_body<N: Names, W: ValueWriter<O, A>, O: Output>(
+        &mut self,
+        type_code: u8,
+        length_code: u8,
+        frame: Option<Frame>,
+        front: Front<'_>,
+        meter: &mut Meter<A>,
+        names: &N,
+        writer: &mut W,
+        sink: &mut Sink<O, A>,
+    ) -> bool
+        requires can_hand { CanHand W.ValueWriter self.old writer.old sink.old meter.old }
+        requires innermost { IsInnermost (as_frames self.old.frames) frame }
+        requires goes_on { GoesOn frame self.old.source.place }
+        requires front { ShowsFront (N.text names.now) self.old.limits (lent self.old.source)
+            self.old.source.place (innermost frame)
+            front.field front.annotation front.at front.head front.wrapper }
+        requires within { front.head < length (lent self.old.source) }
+        requires shape { body type_code length_code ≡ shape_of (get_or (lent self.old.source) front.head 0) }
+        ensures hands { result ≡ true → HandsItem I.Input W.ValueWriter
+            (named_item (N.text names.now)) self.old self.new writer.old writer.new
+            sink.old sink.new }
+        ensures nothing { result ≡ false
+            → HandsNothing self.old self.new writer.old writer.new sink.old sink.new }
+        ensures keeps { KeepsOn W.ValueWriter self.old self.new writer.old writer.new
+            sink.old sink.new meter.old meter.new }
+        ensures goes { held_by self.new
+            ≤ held_by self.old + 16 * (left_to self.old - left_to self.new) }
+    {
+        match type_code {
+            2 => {
+                let shape = Shape::body(2, length_code);
+                self.hand_shape(shape, frame, front, meter, names, writer, sink)
+            }
+            3 => {
+                let shape = Shape::body(3, length_code);
+                self.hand_shape(shape, frame, front, meter, names, writer, sink)
+            }
+            5 => {
+                let shape = Shape::body(5, length_code);
+                self.hand_shape(shape, frame, front, meter, names, writer, sink)
+            }
+            6 => {
+                let shape = Shape::body(6, length_code);
+                self.hand_shape(shape, frame, front, meter, names, writer, sink)
+            }
+            7 => {
+                let shape = Shape::body(7, length_code);
+                self.hand_shape(shape, frame, front, meter, names, writer, sink)
+            }
+            8 => {
+                let shape = Shape::body(8, length_code);
+                self.hand_shape(shape, frame, front, meter, names, writer, sink)
+            }
+            _ => false,
+        }
+    }
+
+    // The same of a head whose descriptor has this shape.
+    #[inline(always)]
+    fn hand_shape<N: Names, W: ValueWriter<O, A>, O: Output>(
+        &mut self,
+        shape: Shape,
+        frame: Option<Frame>,
+        front: Front<'_>,
+        meter: &mut Meter<A>,
+        names: &N,
+        writer: &mut W,
+        sink: &mut Sink<O, A>,
+    ) -> bool
+        requires can_hand { CanHand W.ValueWriter self.old writer.old sink.old meter.old }
+        requires innermost { IsInnermost (as_frames self.old.frames) frame }
+        requires goes_on { GoesOn frame self.old.source.place }
+        requires front { ShowsFront (N.text names.now) self.old.limits (lent self.old.source)
+            self.old.source.place (innermost frame)
+            front.field front.annotation front.at front.head front.wrapper }
+        requires within { front.head < length (lent self.old.source) }
+        requires shape { as_shape shape ≡ shape_of (get_or (lent self.old.source) front.head 0) }
+        ensures hands { result ≡ true → HandsItem I.Input W.ValueWriter
+            (named_item (N.text names.now)) self.old self.new writer.old writer.new
+            sink.old sink.new }
+        ensures nothing { result ≡ false
+            → HandsNothing self.old self.new writer.old writer.new sink.old sink.new }
+        ensures keeps { KeepsOn W.ValueWriter self.old self.new writer.old writer.new
+            sink.old sink.new meter.old meter.new }
+        ensures goes { held_by self.new
+            ≤ held_by self.old + 16 * (left_to self.old - left_to self.new) }
+    {
+        let here = self.source.place();
+        let octets = self.source.buffer();
+        let region = inner_region(front.wrapper, region(frame));
+        let depth = self.frames.as_slice().len() as u32;
+        let limits = self.limits;
+        let at = front.head;
+        let Some((found, behind)) = shown_value(shape, octets, here, at, region, depth, limits)
+        else {
+            return false;
+        };
+        if !fills(front.wrapper, far_end(here, behind, found)) {
+            return false;
+        }
+        let place = here + at as u64;
         let top = top_at(frame, self.top, here);
         match found {
             Shown::Scalar(scalar) => {
                 let Some(head) = shown_head(scalar, place, names) else {
                     return false;
                 };
-                let item = noted_item(field, annotation, head, place, top);
+                let item = item_behind(front, head, place, top);
                 if !writer.take_plain(meter, sink, item) {
                     return false;
                 }
@@ -457,7 +603,7 @@ impl<I: Input, A: Allocator + Copy> BinReader<I, A> {
                 true
             }
             Shown::Begin(kind, end) => {
-                let item = noted_item(field, annotation, Head::Begin(kind), place, top);
+                let item = item_behind(front, Head::Begin(kind), place, top);
                 if !self.frames.push_within(meter, Frame { kind, end }) {
                     return false;
                 }

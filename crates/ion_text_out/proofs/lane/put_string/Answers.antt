@@ -14,7 +14,6 @@ put_mark-requires-2 g c =
       ap length (c.behind.ensures c.args.empty),
       behind-short cs,
       c.has_room.ensures c.if-not-has_room.false,
-      c.saturating_add.ensures,
       ap (λ s. length s.pending) c.put_mark.ensures,
       ap (λ s. length s.pending) c.put_name.ensures,
       ap (λ s. length s.pending) c.put_note.ensures,

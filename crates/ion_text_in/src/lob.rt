@@ -203,8 +203,12 @@ fn are_cut_quotes<I: Input, A: Allocator + Copy>(source: &mut Source<I, A>) -> R
     }
 }
 
-// How many characters of a blob are decoded at once: whole groups of four.
-const BLOCK: usize = 256;
+// How many characters of a blob are decoded at once: whole groups of four. Half a window costs
+// `base64` nothing beside all of it, and its room less to make.
+const BLOCK: usize = 2048;
+
+// The same of a line or a short blob, for which much less room is made.
+const LINE: usize = 256;
 
 // The bytes of a blob behind its opening braces and white space, read up to and with the closing
 // braces of a lob that begins at a place.
@@ -300,8 +304,37 @@ fn take_block<I: Input, A: Allocator + Copy>(
     ensures goes { GrowsWithin meter.old meter.new (length text.old) (length text.new)
         (8 * passed_over source.old source.new) }
 {
-    let mut room = [0; BLOCK / 4 * 3];
-    let Some(n) = decode(&source.buffer()[..count], &mut room) else {
+    if count <= LINE {
+        return take_groups(source, text, count, &mut [0; LINE / 4 * 3], limits, meter);
+    }
+    take_groups(source, text, count, &mut [0; BLOCK / 4 * 3], limits, meter)
+}
+
+// The same by some room for their bytes.
+fn take_groups<I: Input, A: Allocator + Copy>(
+    source: &mut Source<I, A>,
+    text: &mut Buf<A>,
+    count: usize,
+    room: &mut [u8],
+    limits: Limits,
+    meter: &mut Meter<A>,
+) -> Result<Option<bool>, Fault>
+    requires can_take { CanTake limits source.old text.old meter.old }
+    requires room { decoded_estimate count ≤ length room.old }
+    requires some { 0 < count }
+    requires there { count ≤ length (lent source.old) }
+    ensures gives { I.observable source.old.device → IfOk result (λ found. IfSome found (λ padded.
+        with_groups_behind limits.scalar text.old false (cursor I.Input source.old)
+        ≡ with_groups_behind limits.scalar text.new padded (cursor I.Input source.new))) }
+    ensures none { result ≡ Ok None → (source.new ≡ source.old) × (text.new ≡ text.old)
+        × (meter.new ≡ meter.old) }
+    ensures plain { (r : Reason) (p : ℕ) → result ≢ Err (Fault.Refused r p) }
+    ensures reads { ReadsInto I.Input source.old source.new meter.old meter.new
+        (length text.old) (length text.new) limits.scalar result }
+    ensures goes { GrowsWithin meter.old meter.new (length text.old) (length text.new)
+        (8 * passed_over source.old source.new) }
+{
+    let Some(n) = decode(&source.buffer()[..count], room) else {
         return Ok(None);
     };
     let left = limits.scalar - (text.as_slice().len() as u64);

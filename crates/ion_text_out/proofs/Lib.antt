@@ -3,6 +3,7 @@ mod ItemParts
 mod Annotations
 mod Paths
 mod Quoted
+mod ShownRuns
 mod Rows
 mod WriterSteps
 mod Plain

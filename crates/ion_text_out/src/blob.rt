@@ -14,17 +14,20 @@ use std::alloc::Allocator;
 /// How many bytes are encoded at once: whole threes, so that only the last piece may be padded.
 const PIECE: usize = 768;
 
-/// Puts the base64 of one piece, or of less.
+/// How many characters these are in base64.
+const CHARS: usize = 1024;
+
+/// Puts the base64 of one piece, or of less, by some room for its characters.
 fn put_piece<O: Output, A: Allocator + Copy>(
     sink: &mut Sink<O, A>,
     bytes: &[u8],
+    text: &mut [u8; CHARS],
 ) -> Result<(), Fault>
     requires well { sink.old.fault ≡ None }
     requires few { length bytes.now ≤ PIECE }
     ensures { IsPut O.Output sink.old sink.new result (encode_of standard bytes.now) }
 {
-    let mut text = [0; 1024];
-    let len = STANDARD.encode_slice(bytes, &mut text).unwrap();
+    let len = STANDARD.encode_slice(bytes, text).unwrap();
     put(sink, &text[..len])
 }
 
@@ -36,12 +39,13 @@ pub fn put_base64<O: Output, A: Allocator + Copy>(
     requires well { sink.old.fault ≡ None }
     ensures { IsPut O.Output sink.old sink.new result (encode_of standard bytes.now) }
 {
+    let mut text = [0; CHARS];
     let mut at = 0;
     'pieces: while bytes.len() - at > PIECE {
-        if let Err(fault) = put_piece(sink, &bytes[at..at + PIECE]) {
+        if let Err(fault) = put_piece(sink, &bytes[at..at + PIECE], &mut text) {
             return Err(fault);
         }
         at += PIECE;
     }
-    put_piece(sink, &bytes[at..])
+    put_piece(sink, &bytes[at..], &mut text)
 }

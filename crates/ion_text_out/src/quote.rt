@@ -1,6 +1,7 @@
 //! Bytes between quotes.
-ghost use Rattle.std.specs.Prelude.{◌≡◌, ◌<◌, ◌≤◌, ◌++◌, ◌∷◌, [], true, false, None, length, take, drop};
+ghost use Rattle.std.specs.Prelude.{◌≡◌, ◌<◌, ◌≤◌, ◌++◌, ◌∷◌, [], not, true, false, None, map, length, take, drop};
 ghost use Rattle.std.specs.List.{flat_map};
+ghost use Rattle.std.specs.Simd.Lanes.{mask_l};
 ghost use Rattle.ion_text_out.specs.Escape.{hex_digit, letter, is_shown, escaped, byte_text, between_quotes};
 ghost use Rattle.ion_meter.specs.Sinks.{IsPut};
 ghost use Rattle.ion_value.specs.Digits.{first_is, all_are};
@@ -10,6 +11,7 @@ use ion_meter::device::Output;
 use ion_meter::fault::Fault;
 use ion_meter::sink::Sink;
 use std::alloc::Allocator;
+use std::simd::prelude::*;
 
 /// Puts these bytes between two quotes, with escapes for those that do not stand for themselves.
 pub fn put_quoted<O: Output, A: Allocator + Copy>(
@@ -57,8 +59,7 @@ fn put_inside<O: Output, A: Allocator + Copy>(
     }
 }
 
-// How many bytes are looked at together. A loop over so many is compiled to a few steps, each on
-// sixteen bytes; a shorter one is unrolled, and then goes byte by byte.
+// How many bytes are looked at together.
 const BLOCK: usize = 32;
 
 // How many bytes at the front of these stand for themselves.
@@ -70,12 +71,31 @@ fn shown_run(quote: u8, top: u16, bytes: &[u8]) -> usize
 {
     let mut at = 0;
     'skip: while bytes.len() - at >= BLOCK {
-        if !are_shown(quote, top, &bytes[at..at + BLOCK]) {
-            break;
+        let hidden = hidden(quote, top, u8x32::from_slice(&bytes[at..]));
+        if hidden != 0 {
+            return at + hidden.trailing_zeros() as usize;
         }
         at += BLOCK;
     }
     at + few_shown(quote, top, &bytes[at..])
+}
+
+// Which of these bytes do not stand for themselves: a bit for each, the lowest for the first. Counted
+// round from the space, those from `top` on come behind those below it, and those below the space
+// last, so that one comparison tells both.
+#[inline(always)]
+fn hidden(quote: u8, top: u16, bytes: u8x32) -> u64
+    ensures { result ≡ mask_l (map (λ b. not (is_shown quote top b)) bytes) }
+{
+    let others = if top < 256 {
+        (top as u8).saturating_sub(b' ')
+    } else {
+        224
+    };
+    let is_mark = bytes.simd_eq(u8x32::splat(quote)) | bytes.simd_eq(u8x32::splat(b'\\'));
+    let is_other = (bytes - u8x32::splat(b' ')).simd_ge(u8x32::splat(others));
+    let is_delete = bytes.simd_eq(u8x32::splat(127));
+    (is_mark | is_other | is_delete).to_bitmask()
 }
 
 /// Whether the bytes of a string stand for themselves: it has no escape.
@@ -120,19 +140,6 @@ fn is_string_byte(byte: u8) -> bool
     ensures { result ≡ is_shown 34 256 byte }
 {
     STRING_BYTES[byte as usize] > 0
-}
-
-// Whether all these bytes stand for themselves. No byte ends the loop, so that it can look at many
-// of them at once.
-#[inline]
-fn are_shown(quote: u8, top: u16, bytes: &[u8]) -> bool
-    ensures { result ≡ all_are (is_shown quote top) bytes.now }
-{
-    let mut shown = true;
-    for byte in bytes {
-        shown &= is_shown(quote, top, *byte);
-    }
-    shown
 }
 
 // How many bytes at the front of these stand for themselves, one after the other.

@@ -1,17 +1,28 @@
-use Rattle.std.proofs.Common.{◌≡◌, ◌+◌, ◌-◌, ◌∙◌, sym, arith}
+use Rattle.std.proofs.Common.{arith}
 use Rattle.std.proofs.lemmas.List.{take_rest}
 use Rattle.ion_text_out.specs.Escape.{is_shown}
+use Rattle.ion_text_out.proofs.ShownRuns.{over_block, to_hidden}
 use Rattle.ion_text_out.proofs.Quoted.{all_behind}
 use Rattle.ion_text_out.proofs.quote.shown_run.Goals as goal
 
 pub skip-preserved : goal.skip-preserved
-skip-preserved c =
-    let block : (c.skip.at + 32) - c.skip.at ≡ 32 = omega arith in
-    let shown = rw block at (sym c.are_shown.ensures ∙ c.if-not-are_shown.false) in
-    record {
-      within = omega (arith, c.skip-test.true);
-      shown = all_behind (is_shown c.args.quote c.args.top) c.args.bytes.now c.skip.at 32 c.skip.invariant.shown shown;
-    }
+skip-preserved c = record {
+  within = omega (arith, c.skip-test.true);
+  shown = over_block c.args.quote c.args.top c.args.bytes.now c.skip.at c.hidden-hidden.result c.hidden-hidden.ensures c.skip.invariant.shown c.if-hidden-ne0.false;
+}
+
+pub returns-then-hidden-ne0-clause-within : goal.returns-then-hidden-ne0-clause-within
+returns-then-hidden-ne0-clause-within c =
+    let run = to_hidden c.args.quote c.args.top c.args.bytes.now c.skip.at c.hidden-hidden.result c.hidden-hidden.ensures c.skip.invariant.shown (omega (arith, c.skip-test.true)) c.if-hidden-ne0.true in
+    omega (arith, run.0, c.skip-test.true)
+
+pub returns-then-hidden-ne0-clause-shown : goal.returns-then-hidden-ne0-clause-shown
+returns-then-hidden-ne0-clause-shown c =
+    (to_hidden c.args.quote c.args.top c.args.bytes.now c.skip.at c.hidden-hidden.result c.hidden-hidden.ensures c.skip.invariant.shown (omega (arith, c.skip-test.true)) c.if-hidden-ne0.true).1
+
+pub returns-then-hidden-ne0-clause-ends : goal.returns-then-hidden-ne0-clause-ends
+returns-then-hidden-ne0-clause-ends c =
+    (to_hidden c.args.quote c.args.top c.args.bytes.now c.skip.at c.hidden-hidden.result c.hidden-hidden.ensures c.skip.invariant.shown (omega (arith, c.skip-test.true)) c.if-hidden-ne0.true).2
 
 pub returns-clause-shown : goal.returns-clause-shown
 returns-clause-shown c =

@@ -9,7 +9,7 @@ use Rattle.ion_text_in.specs.Lobs.{with_groups_behind, is_padded}
 use Rattle.ion_text_in.proofs.Blobs.{length-encode_of}
 use Rattle.ion_text_in.proofs.LobTurns.{block-of}
 use Rattle.ion_text_in.proofs.Turns.{turn, turn-then, extends-not}
-use Rattle.ion_text_in.proofs.lob.take_block.Goals as goal
+use Rattle.ion_text_in.proofs.lob.take_groups.Goals as goal
 
 pub returns-clause-gives : goal.returns-clause-gives
 returns-clause-gives g c = λ h.

@@ -242,9 +242,9 @@ fn pass_star<I: Input, A: Allocator + Copy>(source: &mut Source<I, A>) -> Result
 // How many bytes are looked at together.
 const BLOCK: usize = 32;
 
-// How many bytes at the front of these are neither of two.
+/// How many bytes at the front of these are neither of two.
 #[inline(always)]
-fn run_without(first: u8, second: u8, bytes: &[u8]) -> usize
+pub(crate) fn run_without(first: u8, second: u8, bytes: &[u8]) -> usize
     ensures within { result ≤ length bytes.now }
     ensures run { all_are (is_neither first second) (take result bytes.now) ≡ true }
     ensures ends { first_is (is_neither first second) (drop result bytes.now) ≡ false }

@@ -66,10 +66,18 @@ fn next_part(inside: Option<Kind>, bytes: &[u8]) -> Part<'_>
     }
 }
 
-// Whether a value at top level that so begins may be a version marker or a declaration: its first
-// symbol begins with a dollar sign, or with an escape.
+// Whether a value at top level that so begins may be a version marker or a declaration. The first word
+// of these is `$3`, or a name of no more bytes than `$ion_symbol_table`; in quotes it is not read here.
 fn may_be_declaration(bytes: &[u8]) -> bool {
-    matches!(bytes, [b'$', ..] | [b'\'', b'$' | b'\\', ..])
+    match bytes {
+        [b'\'', b'$' | b'\\', ..] => true,
+        [b'$', ..] => match scan_word(u64::MAX, bytes) {
+            Scanned::Whole(Word::Id(id), _) => id == 3,
+            Scanned::Whole(_, count) => count <= b"$ion_symbol_table".len(),
+            _ => true,
+        },
+        _ => false,
+    }
 }
 
 // An item, where all of its last token is there.

@@ -47,6 +47,105 @@ def ints_to_binary(length):
     return [(b"", MARKER)] + [(b"%d  " % (10 + n % 90), bytes([0x21, 10 + n % 90])) for n in range(length // 4)]
 
 
+def long_in_text(length):
+    """By name: what is so long in text, each with what has to be written of it. Where it is no value, one stands behind it."""
+    x = b"x" * length
+    segments = length // 10
+    return {
+        "string": (b'"%s"\n' % x,) * 2,
+        "long string": (b"'''%s''' 1\n" % x, b'"%s"\n1\n' % x),
+        "segments": (b"'''xxx'''\n" * segments + b"1\n", b'"%s"\n1\n' % (b"xxx" * segments)),
+        "symbol": (b"'x %s' 1\n" % x, b"'x %s'\n1\n" % x),
+        "annotation": (b"%s::1\n" % x,) * 2,
+        "blob": (b"{{%s}}\n" % (b"QUJD" * (length // 4)),) * 2,
+        "clob": (b'{{"%s"}}\n' % x,) * 2,
+        "comment": (b"/*%s*/1\n" % x, b"1\n"),
+        "comments": (b"// xxxxxx\n" * segments + b"1\n", b"1\n"),
+        "line": (b"//%s\n1\n" % x, b"1\n"),
+        "blanks": (b" " * length + b"1\n", b"1\n"),
+        "symbol table": (b'$ion_symbol_table::{symbols:["%s"]}1\n' % x, b"1\n"),
+    }
+
+
+def sized(descriptor, inside):
+    """What has this descriptor and these octets, fewer than 2^21, behind a length of three."""
+    length = len(inside)
+    return bytes([descriptor, length >> 14, length >> 7 & 0x7F, 0x80 | length & 0x7F]) + inside
+
+
+def long_in_binary(length):
+    """The same in binary."""
+    x = b"x" * length
+    table = b"\x81\x83" + sized(0xDE, b"\x87" + sized(0xBE, sized(0x8E, x)))
+    return {
+        "string": (sized(0x8E, x), b'"%s"\n' % x),
+        "blob": (sized(0xAE, b"ABC" * (length // 3)), b"{{%s}}\n" % (b"QUJD" * (length // 3))),
+        "annotated string": (sized(0xEE, b"\x81\x84" + sized(0x8E, x)), b'name::"%s"\n' % x),
+        "pad": (sized(0x0E, x) + b"\x21\x05", b"5\n"),
+        "pads": (b"\x01\x00" * (length // 2) + b"\x21\x05", b"5\n"),
+        "symbol table": (sized(0xEE, table) + b"\x21\x05", b"5\n"),
+    }
+
+
+def cut_in_long_ones():
+    """Rows: values that are whole, and one more that is longer than all windows, or stands behind what is, cut there."""
+    for form, make, long_ones in (("text", texts, long_in_text), ("binary", octets, long_in_binary)):
+        for name, pair in long_ones(50000).items():
+            # few bytes at once, many, and many that end where a window does
+            for values, behind in ((5, 200), (110, 9000), (20, 45056)):
+                some = make([200] * values)
+                size = sum(len(sent) for sent, _ in some) + behind
+                yield f"{form}, {name} behind {values}", "show", some + [pair] + make([150])[-1:], [size]
+
+
+# Values of many kinds, with what is passed over before them, and their lines: each is whole without a byte more.
+TEXTS_OF_MANY_KINDS = [
+    (b"17 ", b"17\n"),
+    (b"-1.50 ", b"-1.50\n"),
+    (b"a::'b c'::18 ", b"a::'b c'::18\n"),
+    (b'"x\\"y/*" ', b'"x\\"y/*"\n'),
+    (b"'x\\'y' 19 ", b"'x\\'y'\n19\n"),
+    (b"{{ aGVs bG8= }} ", b"{{aGVsbG8=}}\n"),
+    (b'{{ "}}\\"" }} ', b'{{"}}\\""}}\n'),
+    (b"/* a * / \" */ 20 // ' {\n", b"20\n"),
+    (b"// a \" /*\r\n21 ", b"21\n"),
+    (b"[1,(a + /**/ 2),{x:'''l''',\"y\":{{aGVs}}}] ", b"[1,(a '+' 2),{x:\"l\",y:{{aGVs}}}]\n"),
+    (b"'''l\\'''' /**/ '''m''' 22 ", b'"l\'m"\n22\n'),
+    (b"sym /* ::*/ 23 ", b"sym\n23\n"),
+    (b"$ion_symbol_table::{symbols:[\"a\"]} $10 24 ", b"a\n24\n"),
+    (b"'$ion_1_0' $ion_1_0 25 ", b"'$ion_1_0'\n25\n"),
+    (b"2007-01-02T ", b"2007-01-02\n"),
+    (b"null.int true ", b"null.int\ntrue\n"),
+    (b"26 ", b"26\n"),
+]
+OCTETS_OF_MANY_KINDS = [
+    (MARKER, b""),
+    (b"\x21\x05", b"5\n"),
+    (b"\x52\xC1\x0F", b"1.5\n"),
+    (b"\x8E\x83abc", b'"abc"\n'),
+    (b"\xE4\x81\x84\x21\x06", b"name::6\n"),
+    (b"\xE4\x81\x83\x21\x06", b"$ion_symbol_table::6\n"),
+    (b"\x01\x00\x0E\x82\x00\x00\x21\x07", b"7\n"),
+    (b"\xB6\x21\x05\xD3\x84\x21\x06", b"[5,{name:6}]\n"),
+    (b"\xD1\x83\x84\x21\x08", b"{name:8}\n"),
+    (b"\xE7\x81\x83\xD4\x87\xB2\x81\x61\x71\x0A", b"a\n"),
+    (MARKER + b"\x21\x09", b"9\n"),
+    (b"\xA5hello", b"{{aGVsbG8=}}\n"),
+    (b"\x11\x0F", b"true\nnull\n"),
+]
+
+
+def cut_in_each(pairs):
+    """Rows: each value is cut behind so many bytes, and what stands before it comes at once with these."""
+    for behind in range(1, max(len(sent) for sent, _ in pairs)):
+        at, cuts = 0, [0]
+        for sent, _ in pairs:
+            if behind < len(sent):
+                cuts.append(at + behind)
+            at += len(sent)
+        yield f"many kinds cut behind {behind}", "show", pairs, [cut - before for before, cut in zip(cuts, cuts[1:])]
+
+
 def whole_and_cut(make, size, most):
     """Two rows: values of some size, of which one ends where the block does, and values that the block's end cuts."""
     some = make([most] * (size // most - 2))
@@ -72,6 +171,9 @@ def rows():
         # lengths on both sides of those of a window
         for size in (1, 15, 16, 4080, 4081, 4095, 4097, 8191, 8193, 61439, 65535):
             yield f"{name} by {size}", "show", make([150, 177] * (size // 150 + 1)), [size] * 2
+    yield from cut_in_long_ones()
+    yield from cut_in_each(TEXTS_OF_MANY_KINDS)
+    yield from cut_in_each(OCTETS_OF_MANY_KINDS)
 
 
 def whole_at(pairs, length):

@@ -1,4 +1,5 @@
-//! Whether the octets of a window show the next item, so that its reader need not wait for more.
+//! Whether the octets of a window show the next item, so that its reader need not read more.
+ghost use Rattle.std.specs.Prelude.{◌<◌, ◌≤◌, length, IfSome};
 
 use crate::descriptor::Shape;
 use ion_value::ion_type::Kind;
@@ -7,22 +8,41 @@ use ion_value::var::var_uint_read;
 /// Whether these octets show the next member of a container of this kind, or the next value at top
 /// level, so that it is taken without an octet more.
 ///
-/// False may be wrong. It is answered of a NOP pad, a version marker and what may be a declaration of a
-/// symbol table, since what stands behind them is read in the same call.
+/// False may be wrong. What is passed over before an item is read in the same call, and has to be
+/// there too.
 pub(crate) fn shows_item(inside: Option<Kind>, octets: &[u8]) -> bool {
-    let value = match inside {
-        Some(Kind::Struct) => behind_var_uint(octets),
-        _ => Some(octets),
-    };
-    match value {
-        Some([octet, others @ ..]) => shows_value(Shape::of(*octet), others),
-        _ => false,
+    let mut rest = octets;
+    'passed: loop {
+        match behind_passed(inside, rest) {
+            None => return shows_value(inside, rest),
+            Some(behind) => rest = behind,
+        }
     }
 }
 
-// The same of a value whose descriptor octet has this shape.
-fn shows_value(shape: Shape, others: &[u8]) -> bool {
-    match shape {
+// The octets behind a NOP pad, a version marker or what may be a declaration of a symbol table, where
+// one stands here whole.
+fn behind_passed(inside: Option<Kind>, octets: &[u8]) -> Option<&[u8]>
+    ensures { IfSome result (λ rest. length rest.now < length octets.now) }
+{
+    match behind_field(inside, octets)? {
+        [] => None,
+        [octet, others @ ..] => match Shape::of(*octet) {
+            Shape::NopPad(length_code) => behind_body(length_code, others),
+            Shape::Marker => behind_marker(others),
+            Shape::Wrapper(length_code) => behind_declaration(length_code, others),
+            _ => None,
+        },
+    }
+}
+
+// Whether a value stands here whole that is nothing of these, or as much of a container as its
+// beginning needs.
+fn shows_value(inside: Option<Kind>, octets: &[u8]) -> bool {
+    let Some([octet, others @ ..]) = behind_field(inside, octets) else {
+        return false;
+    };
+    match Shape::of(*octet) {
         Shape::Null(_) | Shape::Bool(_) | Shape::Float | Shape::Illegal => true,
         Shape::NopPad(_) | Shape::Marker => false,
         Shape::Sorted => behind_var_uint(others).is_some(),
@@ -30,29 +50,66 @@ fn shows_value(shape: Shape, others: &[u8]) -> bool {
         Shape::Body {
             type_code: _,
             length_code,
-        } => body(length_code, others).is_some(),
+        } => behind_body(length_code, others).is_some(),
         Shape::Wrapper(length_code) => {
-            body(length_code, others).is_some_and(|wrapped| !may_declare(wrapped))
+            !may_declare(length_code, others) && behind_body(length_code, others).is_some()
         }
     }
 }
 
-// Whether the first annotation in a wrapper may be that of a declaration, whose id is 3.
-fn may_declare(wrapped: &[u8]) -> bool {
-    matches!(behind_var_uint(wrapped), Some([0x83 | 0, ..]))
+// The octets behind the id of a field, where one must stand here.
+fn behind_field(inside: Option<Kind>, octets: &[u8]) -> Option<&[u8]>
+    ensures { IfSome result (λ rest. length rest.now ≤ length octets.now) }
+{
+    match inside {
+        Some(Kind::Struct) => behind_var_uint(octets),
+        _ => Some(octets),
+    }
 }
 
-// The octets of a body, with those of its length before it.
-fn body(length_code: u8, octets: &[u8]) -> Option<&[u8]> {
-    let (length, behind) = sized(length_code, octets)?;
-    if behind.len() as u64 >= length {
-        return Some(behind);
+// The octets behind those of a version marker that follow its first.
+fn behind_marker(octets: &[u8]) -> Option<&[u8]>
+    ensures { IfSome result (λ rest. length rest.now ≤ length octets.now) }
+{
+    match octets {
+        [_, _, _, rest @ ..] => Some(rest),
+        _ => None,
+    }
+}
+
+// The octets behind an annotation wrapper that may be a declaration, from behind its descriptor octet.
+fn behind_declaration(length_code: u8, octets: &[u8]) -> Option<&[u8]>
+    ensures { IfSome result (λ rest. length rest.now ≤ length octets.now) }
+{
+    if may_declare(length_code, octets) {
+        return behind_body(length_code, octets);
     }
     None
 }
 
+// Whether the first annotation in a wrapper may be that of a declaration, whose id is 3.
+fn may_declare(length_code: u8, octets: &[u8]) -> bool {
+    let Some((_, wrapped)) = sized(length_code, octets) else {
+        return false;
+    };
+    matches!(behind_var_uint(wrapped), Some([0x83 | 0, ..]))
+}
+
+// The octets behind a body, with its length before it.
+fn behind_body(length_code: u8, octets: &[u8]) -> Option<&[u8]>
+    ensures { IfSome result (λ rest. length rest.now ≤ length octets.now) }
+{
+    let (length, behind) = sized(length_code, octets)?;
+    if (behind.len() as u64) < length {
+        return None;
+    }
+    Some(&behind[length as usize..])
+}
+
 // A length, and the octets behind it: 14 says that a VarUInt has it.
-fn sized(length_code: u8, octets: &[u8]) -> Option<(u64, &[u8])> {
+fn sized(length_code: u8, octets: &[u8]) -> Option<(u64, &[u8])>
+    ensures { IfSome result (λ found. length found.1.now ≤ length octets.now) }
+{
     if length_code != 14 {
         return Some((u64::from(length_code), octets));
     }
@@ -61,7 +118,9 @@ fn sized(length_code: u8, octets: &[u8]) -> Option<(u64, &[u8])> {
 }
 
 // The octets behind a VarUInt.
-fn behind_var_uint(octets: &[u8]) -> Option<&[u8]> {
+fn behind_var_uint(octets: &[u8]) -> Option<&[u8]>
+    ensures { IfSome result (λ rest. length rest.now ≤ length octets.now) }
+{
     let (_, count) = var_uint_read(octets).ok()?;
     Some(&octets[count..])
 }

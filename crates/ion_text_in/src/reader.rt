@@ -711,7 +711,7 @@ impl<I: Input, A: Allocator + Copy> RawReader<A> for TextReader<I, A> {
 
     #[inline(always)]
     fn may_wait(&self) -> bool {
-        self.source.is_short() && !shows_item(self.innermost(), self.source.buffer())
+        !shows_item(self.innermost(), self.source.buffer())
     }
 
     ghost within = { λ s sound. sound-within s sound.0 };

@@ -1,9 +1,9 @@
-//! Whether the bytes of a window show the next item, so that its reader need not wait for more.
+//! Whether the bytes of a window show the next item, so that its reader need not read more.
 ghost use Rattle.std.specs.Prelude.{◌<◌, ◌≤◌, ℕ, List, length, IfSome};
 ghost use Rattle.ion_text_in.specs.Firsts.{first_of, width};
 ghost use Rattle.ion_text_in.specs.Waiting.{PassesSome};
 
-use crate::blank::is_white;
+use crate::blank::{run_without, white_run};
 use crate::first::{First, scan_first};
 use crate::quoted::Quote;
 use crate::run::{Run, token_extent};
@@ -66,10 +66,18 @@ fn next_part(inside: Option<Kind>, bytes: &[u8]) -> Part<'_>
     }
 }
 
-// Whether a value at top level that so begins may be a version marker or a declaration: its first
-// symbol begins with a dollar sign, or with an escape.
+// Whether a value at top level that so begins may be a version marker or a declaration. The first word
+// of these is `$3`, or a name of no more bytes than `$ion_symbol_table`; in quotes it is not read here.
 fn may_be_declaration(bytes: &[u8]) -> bool {
-    matches!(bytes, [b'$', ..] | [b'\'', b'$' | b'\\', ..])
+    match bytes {
+        [b'\'', b'$' | b'\\', ..] => true,
+        [b'$', ..] => match scan_word(u64::MAX, bytes) {
+            Scanned::Whole(Word::Id(id), _) => id == 3,
+            Scanned::Whole(_, count) => count <= b"$ion_symbol_table".len(),
+            _ => true,
+        },
+        _ => false,
+    }
 }
 
 // An item, where all of its last token is there.
@@ -151,16 +159,11 @@ fn behind_blanks(bytes: &[u8]) -> Option<&[u8]>
 {
     let mut rest = bytes;
     'blanks: loop {
-        match rest {
+        match behind_white(rest) {
             [] | [b'/'] => return None,
             [b'/', b'/', line @ ..] => rest = behind_line(line)?,
             [b'/', b'*', block @ ..] => rest = behind_block(block)?,
-            [byte, others @ ..] => {
-                if !is_white(*byte) {
-                    return Some(rest);
-                }
-                rest = others;
-            }
+            found => return Some(found),
         }
     }
 }
@@ -169,43 +172,44 @@ fn behind_blanks(bytes: &[u8]) -> Option<&[u8]>
 fn behind_line(bytes: &[u8]) -> Option<&[u8]>
     ensures { IfSome result (λ rest. length rest.now ≤ length bytes.now) }
 {
-    for (i, byte) in bytes.iter().enumerate() {
-        if *byte == b'\n' || *byte == b'\r' {
-            return Some(&bytes[i + 1..]);
-        }
+    match &bytes[run_without(b'\n', b'\r', bytes)..] {
+        [] => None,
+        [_, rest @ ..] => Some(rest),
     }
-    None
 }
 
 // What stands behind the end of a comment in a block.
 fn behind_block(bytes: &[u8]) -> Option<&[u8]>
     ensures { IfSome result (λ rest. length rest.now ≤ length bytes.now) }
 {
-    let mut starred = false;
-    for (i, byte) in bytes.iter().enumerate() {
-        if starred && *byte == b'/' {
-            return Some(&bytes[i + 1..]);
+    let mut rest = bytes;
+    'block: loop {
+        match &rest[run_without(b'*', b'*', rest)..] {
+            [] => return None,
+            [_, b'/', others @ ..] => return Some(others),
+            [_, others @ ..] => rest = others,
         }
-        starred = *byte == b'*';
     }
-    None
 }
 
 // What stands behind the quotes that close a text.
 fn behind_text(quote: Quote, bytes: &[u8]) -> Option<&[u8]>
     ensures { IfSome result (λ rest. length rest.now < length bytes.now) }
 {
-    let mut escaped = false;
-    for (i, byte) in bytes.iter().enumerate() {
-        if escaped {
-            escaped = false;
-        } else if *byte == b'\\' {
-            escaped = true;
-        } else if let Some(rest) = behind_quotes(quote, &bytes[i..]) {
-            return Some(rest);
+    let mut rest = bytes;
+    'text: loop {
+        let found = &rest[run_without(quote.mark(), b'\\', rest)..];
+        match found {
+            [] | [b'\\'] => return None,
+            [b'\\', _, others @ ..] => rest = others,
+            [_, others @ ..] => {
+                if let Some(behind) = behind_quotes(quote, found) {
+                    return Some(behind);
+                }
+                rest = others;
+            }
         }
     }
-    None
 }
 
 // What stands behind closing quotes at the front of some bytes.
@@ -220,20 +224,26 @@ fn behind_quotes(quote: Quote, bytes: &[u8]) -> Option<&[u8]>
     }
 }
 
-// Whether a lob ends in these bytes, which stand behind its opening braces.
+// Whether a blob or a clob in short quotes ends in these bytes, which stand behind its opening braces.
 fn ends_lob(bytes: &[u8]) -> bool {
-    let mut rest = bytes;
-    'lob: loop {
-        let behind = match rest {
-            [] => return false,
-            [b'}', b'}', ..] => return true,
-            [b'"', text @ ..] => behind_text(Quote::Short, text),
-            [b'\'', b'\'', b'\'', text @ ..] => behind_text(Quote::Long, text),
-            [_, others @ ..] => Some(others),
-        };
-        match behind {
-            None => return false,
-            Some(behind) => rest = behind,
-        }
+    match behind_white(bytes) {
+        [b'"', text @ ..] => match behind_text(Quote::Short, text) {
+            None => false,
+            Some(rest) => begins_closing(behind_white(rest)),
+        },
+        [b'\'', ..] => false,
+        groups => begins_closing(&groups[run_without(b'}', b'}', groups)..]),
     }
+}
+
+// What stands behind white space.
+fn behind_white(bytes: &[u8]) -> &[u8]
+    ensures { length result.now ≤ length bytes.now }
+{
+    &bytes[white_run(bytes)..]
+}
+
+// Whether the two braces stand here that close a lob.
+fn begins_closing(bytes: &[u8]) -> bool {
+    matches!(bytes, [b'}', b'}', ..])
 }

@@ -1,6 +1,5 @@
 pub mod Acts
 pub mod Asking
-pub mod Given
 pub mod LimitsRead
 pub mod Loading
 pub mod OneRun

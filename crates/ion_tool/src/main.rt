@@ -4,21 +4,23 @@
 ghost use Rattle.std.specs.Prelude.{⊤};
 
 mod act;
-mod ahead;
 mod files;
 mod serve;
 mod words;
 
-use ahead::ReadAhead;
 use files::{FileSource, UsedFile};
 use ion_meter::fault::Fault;
 use ion_meter::meter::Meter;
 use ion_meter::stream::{FromRead, ToWrite};
 use serve::{give_usage, report, serve};
 use std::fs::File;
+use std::io::BufReader;
 use std::process::ExitCode;
 use std::rt::Files;
 use std::{env, fs, io};
+
+/// How many bytes are read at a time, where there is memory for so many.
+const AHEAD: usize = 65_536;
 
 /// The files of the system.
 #[derive(Drop)]
@@ -27,25 +29,32 @@ struct RealFiles {
 }
 
 impl FileSource for RealFiles {
-    type File = ReadAhead<File>;
+    type File = BufReader<File>;
 
     ghost gives = { λ files name found after. ⊤ };
 
     ghost closes = { λ files file after. ⊤ };
 
-    fn open_named(&mut self, name: &str) -> Option<ReadAhead<File>> {
+    fn open_named(&mut self, name: &str) -> Option<BufReader<File>> {
         let file = fs::open(&self.rt, name).ok()?;
-        Some(ReadAhead::new(self.rt.alloc(), file))
+        if let Ok(file) = BufReader::with_capacity(self.rt.alloc(), AHEAD, file) {
+            return Some(file);
+        }
+        let file = fs::open(&self.rt, name).ok()?;
+        BufReader::with_capacity(self.rt.alloc(), 0, file).ok()
     }
 
-    fn close(&mut self, _file: UsedFile<ReadAhead<File>>)
+    fn close(&mut self, _file: UsedFile<BufReader<File>>)
         ensures { ⊤ }
     {}
 }
 
 fn main(rt: HostRuntime) -> io::Result<ExitCode> {
     let alloc = rt.alloc();
-    let input = FromRead::new(ReadAhead::new(alloc, rt.stdin()));
+    let input = match BufReader::with_capacity(alloc, AHEAD, rt.stdin()) {
+        Ok(input) => FromRead::new(input),
+        Err(_) => FromRead::new(BufReader::with_capacity(alloc, 0, rt.stdin())?),
+    };
     let out = ToWrite::new(rt.stdout());
     let mut err = ToWrite::new(rt.stderr());
     let words = match env::args(&rt) {

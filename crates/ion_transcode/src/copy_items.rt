@@ -15,6 +15,7 @@ use ion_meter::device::Output;
 use ion_meter::fault::Fault;
 use ion_meter::meter::Meter;
 use ion_meter::sink::Sink;
+use ion_meter::source::WINDOW;
 use ion_symbols::user::UserReader;
 use ion_value::item::Head;
 use ion_value::reader::RawReader;
@@ -46,7 +47,8 @@ fn values_behind(values: u64, level: u32) -> u64
 }
 
 // Writes all that was put, where a value has ended since that was done last, and the reader may have
-// to wait. It answers how many values had ended when it was done last.
+// to wait. It answers how many values had ended when it was done last. Where nothing is to be written,
+// as of a check, the reader is not asked.
 #[inline]
 fn flush_ended<R: RawReader<A>, O: Output, A: Allocator + Copy>(
     values: u64,
@@ -63,7 +65,7 @@ fn flush_ended<R: RawReader<A>, O: Output, A: Allocator + Copy>(
     ensures count { O.failure_count sink.new.device
         ≡ O.failure_count sink.old.device + write_failures_in None result }
 {
-    if values == flushed || !reader.may_wait() {
+    if values == flushed || sink.room() == WINDOW || !reader.may_wait() {
         return Ok(flushed);
     }
     match sink.flush() {

@@ -386,6 +386,9 @@ fn expect_live(
     same_at(rt, "in pieces", shown, 0, given, (want, shown.as_bytes()));
 }
 
+/// Blanks that fill a window behind one byte.
+const BLANKS: [u8; 4_095] = [b' '; 4_095];
+
 /// Pieces of a text, each with how many bytes are written before it is read; how many values there are;
 /// and what is written in all.
 const LIVE_TEXTS: &[(&[(&[u8], usize)], u64, &str)] = &[
@@ -424,6 +427,48 @@ const LIVE_TEXTS: &[(&[(&[u8], usize)], u64, &str)] = &[
         &[(b"1 {{aGVsbG8", 0), (b"=}", 2), (b"} ", 2), (b"", 15)],
         2,
         "1\n{{aGVsbG8=}}\n",
+    ),
+    // So may a word, before two colons.
+    (
+        &[(b"1 a ", 0), (b"::b ", 2), (b"2 ", 2), (b"", 9)],
+        3,
+        "1\na::b\n2\n",
+    ),
+    (
+        &[(b"1 'a", 0), (b"b' ", 2), (b"2 ", 2), (b"", 7)],
+        3,
+        "1\nab\n2\n",
+    ),
+    (
+        &[(b"1 /* * x/ 7 ", 0), (b"*/ 2 ", 2), (b"", 4)],
+        2,
+        "1\n2\n",
+    ),
+    (
+        &[(b"1 \"a\\\" ", 0), (b"b\" ", 2), (b"", 10)],
+        2,
+        "1\n\"a\\\" b\"\n",
+    ),
+    (
+        &[(b"1 {{aGVsbG8=}", 0), (b"} ", 2), (b"", 15)],
+        2,
+        "1\n{{aGVsbG8=}}\n",
+    ),
+    (
+        &[
+            (b"1 '$ion_symbol_table'::{", 0),
+            (b"symbols:[\"a\"]} ", 2),
+            (b"$10 2 ", 2),
+            (b"", 6),
+        ],
+        3,
+        "1\na\n2\n",
+    ),
+    // Blanks fill the window, so that no read gave less than was asked for.
+    (
+        &[(b"1 2", 0), (&BLANKS, 2), (b"3 ", 4), (b"", 6)],
+        3,
+        "1\n2\n3\n",
     ),
     // A declaration is no value, and is read with the value behind it.
     (

@@ -59,5 +59,6 @@ mod ShortNumbers
 mod ShownParts
 mod Handing
 mod Feeding
+mod NotedOctets
 mod PlainAdded
 mod EndsLater

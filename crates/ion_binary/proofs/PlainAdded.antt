@@ -1,5 +1,5 @@
 -- A plain item that is added to an open value is that of the streaming definition.
-use Rattle.std.proofs.Common.{◌≡◌, ℕ, ◌+◌, ◌-◌, ◌*◌, ◌/◌, ◌<◌, ◌≤◌, ◌⊎◌, inl, subst, min, nat_lt, Bool, true, false, if◌then◌else◌, List, [], ◌∷◌, ◌++◌, length, map, take, drop, Option, Some, None, unwrap_or, Ok, refl, ap, sym, ◌∙◌, arith, append-nil, append_assoc, le-ltb, lt-ltb}
+use Rattle.std.proofs.Common.{◌≡◌, ℕ, ◌+◌, ◌-◌, ◌*◌, ◌/◌, ◌<◌, ◌≤◌, ◌⊎◌, inl, subst, min, nat_lt, Bool, true, false, if◌then◌else◌, List, [], ◌∷◌, ◌++◌, length, map, take, drop, Option, Some, None, unwrap_or, option_map, Ok, refl, ap, sym, ◌∙◌, arith, append-nil, append_assoc, le-ltb, lt-ltb, ne_eqb}
 use Rattle.std.specs.Prelude.{IfSome}
 use Rattle.std.proofs.lemmas.List.{length-take}
 use Rattle.ion_meter.specs.Counts.{Counts}
@@ -7,7 +7,7 @@ use Rattle.ion_meter.specs.declared.limits.Limits.{Limits}
 use Rattle.ion_meter.specs.declared.fault.Reason.{Reason}
 use Rattle.ion_value.specs.Value as value
 use Rattle.ion_value.specs.Value.{Head, Item, Known, PlacedItem, SymbolAt, UserSymbol, map_head, user_item, user_symbol_at}
-use Rattle.ion_symbols.specs.Output.{known_id, texts_cost}
+use Rattle.ion_symbols.specs.Output.{known_id, or_given, position, system_texts, texts_cost}
 use Rattle.ion_binary.specs.declared.headers.HeaderPlace.{HeaderPlace}
 use Rattle.ion_binary.specs.declared.open_value.OpenValue.{OpenValue}
 use Rattle.ion_binary.specs.declared.writer.BinWriter.{BinWriter}
@@ -15,11 +15,13 @@ use Rattle.ion_value.specs.Number.{var_uint_octets}
 use Rattle.ion_binary.specs.Canonical.{annotation_octets, declaration, header, marker_if, field_octets, headed, id_in, id_octets, member_octets, wrapped, with_symbol, with_symbols, with_text}
 use Rattle.ion_binary.specs.Held.{Held, closed_in, counted_ids, headed_at, headers_around, headers_with, held_forgotten, held_of, ids_place, moved_headers, moved_octets, octets_with, size_of, value_held, value_put, whole_at, with_front, with_names}
 use Rattle.ion_binary.specs.ItemOctets.{head_octets}
-use Rattle.ion_binary.specs.Opening.{IsOpen, MayAdd, MayCome, Stepped, wrapper_octets}
+use Rattle.ion_binary.specs.Opening.{IsOpen, MayAdd, MayCome, Stepped, name_octets, noted, wrapper_octets}
 use Rattle.ion_binary.specs.Plain.{AddsPlain, EndsPlain, HaveIds, IsWhole}
 use Rattle.ion_binary.specs.Writer.{CanTake, ComesAt, Follows, Taken, added, adds_at, held_in, item_refusal}
-use Rattle.ion_binary.specs.Writing.{Written, first_over, item_puts, item_symbols, refused_at, unless_refused}
+use Rattle.ion_value.specs.Writable.{field_symbols}
+use Rattle.ion_binary.specs.Writing.{Written, first_over, head_symbols, item_puts, item_symbols, refused_at, unless_refused}
 use Rattle.ion_binary.proofs.HeldMoves.{counted-are, whole-is}
+use Rattle.ion_binary.proofs.NotedOctets.{named-octets}
 use Rattle.ion_binary.proofs.Numbered.{users-item}
 use Rattle.ion_binary.specs.Counting.{ArePlaced}
 use Rattle.ion_binary.proofs.DeclarationOctets.{declaration-none}
@@ -68,6 +70,17 @@ known-kept texts t id e = ap (with_text texts t) (sym e)
 pub known-is : (texts : List (List ℕ)) (t : List ℕ) (id : ℕ) → Some id ≡ known_id texts t → id ≡ id_in texts (Known t)
 unfolding id_in
 known-is texts t id e = ap (λ (o : Option ℕ). unwrap_or o 0) e
+
+-- the id of a text is no 0
+positive-by : (p q : Option ℕ) (id : ℕ) → Some id ≡ or_given (option_map (λ place. place + 1) p) q → 0 < id
+positive-by (Some k) q id e = let f : id ≡ k + 1 = ap (λ (o : Option ℕ). unwrap_or o 0) e in omega (arith, f)
+positive-by None (Some k) id e = let f : id ≡ k + 10 = ap (λ (o : Option ℕ). unwrap_or o 0) e in omega (arith, f)
+positive-by None None id e = absurd (Prim.cc e)
+
+-- so the octets of a field's id are those of its field
+pub known-named : (texts : List (List ℕ)) (t : List ℕ) (id : ℕ) → Some id ≡ known_id texts t → name_octets id ≡ var_uint_octets (id_in texts (Known t))
+known-named texts t id e =
+    named-octets id (positive-by (position system_texts t) (position texts t) id e) ∙ ap var_uint_octets (known-is texts t id e)
 
 pub have-append : (texts : List (List ℕ)) (ss ts : List SymbolAt) → HaveIds texts ss → HaveIds texts ts → HaveIds texts (ss ++ ts)
 have-append texts [] ts h k = k
@@ -160,6 +173,29 @@ plain-added {A} w v before after item result c known some more held opened decli
   taken = plain-taken w v before after c s;
 }
 
+-- a scalar was added behind the ids of its field and its annotation, if the call says so
+pub member-plain : {A : Type 0} (w : BinWriter A) (v : OpenValue A) (before after : Counts) (item : PlacedItem) (result : Bool) (name note : ℕ) (x : List ℕ)
+    → CanTake w before → 0 < length w.open_value.headers → IsWhole item.head
+    → HaveIds w.symbols.texts (field_symbols item.field) → HaveIds w.symbols.texts item.annotations → HaveIds w.symbols.texts (head_symbols item.head)
+    → name_octets name ≡ field_octets (id_in w.symbols.texts) (user_item item).field
+    → counted_ids (name_octets note) ≡ annotation_octets (id_in w.symbols.texts) (user_item item).annotations
+    → x ≡ head_octets (id_in w.symbols.texts) (user_item item).head
+    → (result ≡ true → v.octets ≡ w.open_value.octets ++ noted name note x) → v.headers ≡ w.open_value.headers → (result ≡ true → IsOpen w.limits v)
+    → (result ≡ false → (v ≡ w.open_value) × (after ≡ before)) → Stepped w.limits w.open_value v before after None
+    → AddsPlain w (record w { open_value = v }) before after item result
+member-plain {A} w v before after item result name note x c some whole kf ka kh ef ea eh put same opened declines s =
+    let texts : List (List ℕ) = w.symbols.texts in
+    let known : HaveIds texts (item_symbols item) = have-append texts (field_symbols item.field) (item.annotations ++ head_symbols item.head) kf (have-append texts item.annotations (head_symbols item.head) ka kh) in
+    let long : length v.headers ≡ length w.open_value.headers = ap (λ (hs : List HeaderPlace). length hs) same in
+    let octets : noted name note x ≡ member_octets (id_in texts) (user_item item).field (user_item item).annotations (head_octets (id_in texts) (user_item item).head) =
+    ap (λ (y : List ℕ). y ++ wrapped (counted_ids (name_octets note)) x) ef
+    ∙ ap (λ (y : List ℕ). field_octets (id_in texts) (user_item item).field ++ y) (ap (λ (y : List ℕ). wrapped y x) ea ∙ ap (wrapped (annotation_octets (id_in texts) (user_item item).annotations)) eh) in
+    plain-added w v before after item result c known (inl some) (λ e. omega (arith, long, some))
+    (λ e.
+    ap (λ (hs : List HeaderPlace). record (held_in w) { octets = v.octets; headers = hs }) same
+    ∙ scalar-added (held_in w) item v.octets known whole (put e ∙ ap (λ (y : List ℕ). w.open_value.octets ++ y) octets))
+    opened declines s
+
 -- the id of a symbol value
 pub name-kept : (texts : List (List ℕ)) (t : List ℕ) (place : ℕ) (o : Option ℕ) → o ≡ known_id texts t
     → IfSome o (λ n. HaveIds texts (record { symbol = value.Text t; place = place } ∷ []))
@@ -170,17 +206,16 @@ pub name-is : (texts : List (List ℕ)) (t : List ℕ) (o : Option ℕ) → o �
 name-is texts t None e = tt
 name-is texts t (Some id) e = known-is texts t id e
 
--- an annotation's octets, and what stands before them
-pub annotation-front : (ids : UserSymbol → ℕ) (s : UserSymbol) (front d before x : List ℕ) (n : ℕ) → d ≡ var_uint_octets (ids s) → before ≡ wrapper_octets (length d) n → length x ≡ n
-    → ((front ++ before) ++ d) ++ x ≡ front ++ wrapped (annotation_octets ids (s ∷ [])) x
-annotation-front ids s front d before x n ed eb long =
-    let one : id_octets ids (s ∷ []) ≡ var_uint_octets (ids s) = append-nil (var_uint_octets (ids s)) in
-    append_assoc (front ++ before) d x
-    ∙ (append_assoc front before (d ++ x)
-    ∙ ap (λ (y : List ℕ). front ++ y)
-    (ap (λ (y : List ℕ). y ++ (d ++ x)) (eb ∙ ap (wrapper_octets (length d)) (sym long))
-    ∙ (wrapper-around d x
-    ∙ ap (λ (y : List ℕ). wrapped y x) (ap counted_ids (ed ∙ sym one) ∙ counted-are ids (s ∷ [])))))
+-- its octets, as those of a field and of an annotation
+pub name-octets-are : (texts : List (List ℕ)) (t : List ℕ) (o : Option ℕ) → o ≡ known_id texts t → IfSome o (λ n. name_octets n ≡ var_uint_octets (id_in texts (Known t)))
+name-octets-are texts t None e = tt
+name-octets-are texts t (Some id) e = known-named texts t id e
+
+pub note-octets-are : (texts : List (List ℕ)) (t : List ℕ) (o : Option ℕ) → o ≡ known_id texts t
+    → IfSome o (λ n. counted_ids (name_octets n) ≡ annotation_octets (id_in texts) (Known t ∷ []))
+note-octets-are texts t None e = tt
+note-octets-are texts t (Some id) e =
+    ap counted_ids (known-named texts t id e ∙ sym (append-nil (var_uint_octets (id_in texts (Known t))))) ∙ counted-are (id_in texts) (Known t ∷ [])
 
 -- ---- containers begin and end
 

@@ -14,7 +14,8 @@ use Rattle.ion_value.specs.Value as value
 use Rattle.ion_value.specs.Value.{Head, Item, PlacedItem}
 use Rattle.ion_binary.specs.declared.scalar.Octets.{Octets}
 use Rattle.ion_binary.specs.declared.scalar.Spelled.{Spelled}
-use Rattle.ion_binary.specs.Held.{size_of, whole_at}
+use Rattle.ion_binary.specs.Canonical.{wrapped}
+use Rattle.ion_binary.specs.Held.{counted_ids, size_of, whole_at}
 use Rattle.ion_binary.specs.ItemOctets.{opening}
 use Rattle.ion_binary.specs.Counting.{ArePlaced, AreReached}
 
@@ -78,6 +79,14 @@ pub record PutsScalar {A : Type 0} (limits : Limits) (place : ℕ) (scalar : Lis
 -- both parts
 abbrev pub both_octets : Octets → List ℕ
 both_octets s = s.front.now ++ s.rest.now
+
+-- the id of a field, and nothing where it is 0: then there is none
+abbrev pub name_octets : ℕ → List ℕ
+name_octets id = if nat_eq id 0 then [] else var_uint_octets id
+
+-- a value behind its field and in the wrapper of its annotation, by their ids, each 0 where there is none
+abbrev pub noted : ℕ → ℕ → List ℕ → List ℕ
+noted name note x = name_octets name ++ wrapped (counted_ids (name_octets note)) x
 
 -- the octets of a scalar, some of which are lent
 abbrev pub spelled_octets : Spelled → List ℕ

@@ -1,5 +1,5 @@
 //! The value at top level that is being written.
-ghost use Rattle.std.specs.Prelude.{◌≡◌, ◌+◌, ◌-◌, ◌*◌, ◌^◌, ◌<◌, ◌≤◌, ℕ, true, false, [], ◌∷◌, ◌++◌, if◌then◌else◌, length, drop, take, Ok, OnOk, OnErr, IfErr, None};
+ghost use Rattle.std.specs.Prelude.{◌≡◌, ◌+◌, ◌-◌, ◌*◌, ◌^◌, ◌<◌, ◌≤◌, ℕ, List, true, false, [], ◌∷◌, ◌++◌, if◌then◌else◌, length, drop, take, Ok, OnOk, OnErr, IfErr, None};
 ghost use Rattle.ion_meter.specs.Counts.{IsRefused, Shrinks};
 ghost use Rattle.ion_meter.specs.declared.limits.Limits.{Limits};
 ghost use Rattle.ion_value.specs.Items.{raw_head};
@@ -8,12 +8,12 @@ ghost use Rattle.ion_value.specs.Value.{UserSymbol};
 ghost use Rattle.ion_binary.specs.Counting.{IsCounted, IsCountedTo, AreReached, content_around, counted_length, cut, sizes_from};
 ghost use Rattle.ion_value.specs.Int.{IsInt};
 ghost use Rattle.ion_value.specs.Number.{uint_octets};
-ghost use Rattle.ion_binary.specs.Canonical.{headed};
+ghost use Rattle.ion_binary.specs.Canonical.{headed, wrapped};
 ghost use Rattle.ion_binary.specs.Grammar.{type_code};
-ghost use Rattle.ion_binary.specs.Held.{begun_at, begun_headers, closed_in, headers_around, innermost_in, moved_headers, moved_octets, size_of, whole_at, wrapper_headers, header_at};
+ghost use Rattle.ion_binary.specs.Held.{begun_at, begun_headers, closed_in, counted_ids, headers_around, innermost_in, moved_headers, moved_octets, size_of, whole_at, wrapper_headers, header_at};
 ghost use Rattle.ion_binary.specs.ItemOctets.{head_name, user_head};
 ghost use Rattle.ion_meter.specs.Limits.{AreChecked};
-ghost use Rattle.ion_binary.specs.Opening.{CanStep, IsOpen, IsOpenTo, IsWithin, MayFollow, PutsScalar, Raises, Stepped, both_octets, open_cost, spelled_octets, wrapper_octets};
+ghost use Rattle.ion_binary.specs.Opening.{CanStep, IsOpen, IsOpenTo, IsWithin, MayFollow, PutsScalar, Raises, Stepped, both_octets, name_octets, noted, open_cost, spelled_octets, wrapper_octets};
 
 mod ended;
 
@@ -38,6 +38,10 @@ const THRESHOLDS: [u64; 5] = [14, 128, 16_384, 2_097_152, 268_435_456];
 
 /// From so many octets on a container's header waits where it ends, and goes in with others.
 pub(crate) const LONG: usize = 4096;
+
+/// The most octets of a field, of what stands before a value in a wrapper, and of a header with a
+/// short body.
+const FRONT: usize = 80;
 
 /// The type code of annotations.
 pub(crate) const WRAPPER: u8 = 14;
@@ -350,6 +354,110 @@ impl<A: Allocator + Copy> OpenValue<A> {
         self.octets.extend_if_room(meter, octets.front, octets.rest)
     }
 
+    /// Adds a scalar behind the ids of its field and of its annotation, each 0 where there is none, as
+    /// `extend_if_room` adds octets.
+    #[inline(never)]
+    pub fn put_octets(
+        &mut self,
+        meter: &mut Meter<A>,
+        limits: &Limits,
+        name: u32,
+        note: u32,
+        scalar: &Octets<'_>,
+    ) -> bool
+        requires can_step { CanStep limits.now self.old meter.old }
+        requires open { IsOpen limits.now self.old }
+        ensures octets { result ≡ true → self.new.octets
+            ≡ self.old.octets ++ noted name note (both_octets scalar.now) }
+        ensures headers { self.new.headers ≡ self.old.headers }
+        ensures open { result ≡ true → IsOpen limits.now self.new }
+        ensures declines { result ≡ false → (self.new ≡ self.old) × (meter.new ≡ meter.old) }
+        ensures stepped { Stepped limits.now self.old self.new meter.old meter.new None }
+    {
+        if scalar.front.len() > LONGEST || scalar.len() > limits.value {
+            return false;
+        }
+        let mut front = name_front(name);
+        put_note(&mut front, note, scalar.len());
+        front.try_extend_from_slice(scalar.front).unwrap();
+        let octets = Octets {
+            front: front.as_slice(),
+            rest: scalar.rest,
+        };
+        self.extend_if_room(meter, *limits, &octets)
+    }
+
+    /// The same of a scalar whose header is one octet.
+    #[inline(never)]
+    pub fn put_short(
+        &mut self,
+        meter: &mut Meter<A>,
+        limits: &Limits,
+        name: u32,
+        note: u32,
+        header: u8,
+        body: &[u8],
+    ) -> bool
+        requires can_step { CanStep limits.now self.old meter.old }
+        requires open { IsOpen limits.now self.old }
+        ensures octets { result ≡ true → self.new.octets
+            ≡ self.old.octets ++ noted name note (header ∷ body.now) }
+        ensures headers { self.new.headers ≡ self.old.headers }
+        ensures open { result ≡ true → IsOpen limits.now self.new }
+        ensures declines { result ≡ false → (self.new ≡ self.old) × (meter.new ≡ meter.old) }
+        ensures stepped { Stepped limits.now self.old self.new meter.old meter.new None }
+    {
+        if note > 0 || name >= 128 {
+            let scalar = Octets {
+                front: &[header],
+                rest: body,
+            };
+            return self.put_octets(meter, limits, name, note, &scalar);
+        }
+        if name == 0 {
+            let octets = Octets {
+                front: &[header],
+                rest: body,
+            };
+            return self.extend_if_room(meter, *limits, &octets);
+        }
+        let octets = Octets {
+            front: &[128 + name as u8, header],
+            rest: body,
+        };
+        self.extend_if_room(meter, *limits, &octets)
+    }
+
+    /// Begins a container behind the id of its field, if any, as `begin_if_room` does.
+    #[inline(never)]
+    pub fn begin_member(
+        &mut self,
+        meter: &mut Meter<A>,
+        limits: &Limits,
+        name: u32,
+        kind: Kind,
+    ) -> bool
+        requires can_step { CanStep limits.now self.old meter.old }
+        requires open { IsOpen limits.now self.old }
+        requires deep { length self.old.headers + 1 ≤ 2 * limits.now.depth }
+        ensures octets { result ≡ true → self.new.octets ≡ self.old.octets ++ name_octets name }
+        ensures headers { result ≡ true → self.new.headers
+            ≡ header_at (length self.old.octets + length (name_octets name)) (type_code kind)
+            ∷ self.old.headers }
+        ensures open { result ≡ true → IsOpen limits.now self.new }
+        ensures declines { result ≡ false → (self.new ≡ self.old) × (meter.new ≡ meter.old) }
+        ensures stepped { Stepped limits.now self.old self.new meter.old meter.new None }
+    {
+        if name == 0 {
+            return self.begin_if_room(meter, *limits, &[], kind);
+        }
+        if name < 128 {
+            return self.begin_if_room(meter, *limits, &[128 + name as u8], kind);
+        }
+        let front = var_uint_write(u64::from(name));
+        self.begin_if_room(meter, *limits, front.as_slice(), kind)
+    }
+
     /// Begins a container behind octets that come first of its item, where there is room for all and
     /// the value surely keeps within its limit. Else it answers false, and nothing is changed.
     #[inline(always)]
@@ -384,7 +492,7 @@ impl<A: Allocator + Copy> OpenValue<A> {
 
     /// Closes the innermost container, where it has no wrapper, stands in another, is not long, and
     /// there is room for its header. Else it answers false, and nothing is changed.
-    #[inline(always)]
+    #[inline(never)]
     pub fn end_if_room(&mut self, meter: &mut Meter<A>, limits: Limits) -> bool
         requires can_step { CanStep limits self.old meter.old }
         requires open { IsOpen limits self.old }
@@ -569,6 +677,40 @@ impl<A: Allocator + Copy> OpenValue<A> {
         self.headers.push(meter, header)?;
         Ok(true)
     }
+}
+
+// The id of a field, and nothing where it is 0: then there is none.
+#[inline]
+fn name_front(name: u32) -> ArrayVec<u8, FRONT>
+    ensures octets { result.items ≡ name_octets name }
+    ensures few { length result.items ≤ 10 }
+{
+    let mut front = ArrayVec::new();
+    if name == 0 {
+        return front;
+    }
+    let octets = var_uint_write(u64::from(name));
+    front.try_extend_from_slice(octets.as_slice()).unwrap();
+    front
+}
+
+// Puts what stands before a value of so many octets in the wrapper of an annotation of this id, and
+// nothing where that is 0: then there is none.
+#[inline]
+fn put_note(front: &mut ArrayVec<u8, FRONT>, note: u32, size: u64)
+    requires few { length front.old.items ≤ 10 }
+    requires short { size ≤ 2 ^ 32 }
+    ensures octets { (x : List ℕ) → length x ≡ size → front.new.items ++ x
+        ≡ front.old.items ++ wrapped (counted_ids (name_octets note)) x }
+    ensures few { length front.new.items ≤ 40 }
+{
+    if note == 0 {
+        return;
+    }
+    let ids = var_uint_write(u64::from(note));
+    let before = wrapper(ids.len() as u64, size);
+    front.try_extend_from_slice(before.as_slice()).unwrap();
+    front.try_extend_from_slice(ids.as_slice()).unwrap();
 }
 
 // Puts octets in at a place, of which there are mostly none.

@@ -3,6 +3,7 @@ pub mod Devices
 pub mod Entries
 pub mod Limits
 pub mod Reasons
+pub mod Room
 pub mod Sinks
 pub mod Sources
 pub mod Windows

@@ -5,6 +5,7 @@ ghost use Rattle.ion_meter.specs.Counts.{Grows, Shrinks, IsRefused};
 
 use crate::fault::Fault;
 use crate::meter::Meter;
+use crate::roomy::Roomy;
 use std::alloc::Allocator;
 use std::marker::Model;
 
@@ -14,7 +15,7 @@ use std::marker::Model;
 /// `refused`. One that is dropped without `release` leaves the meter's `held` as it was.
 #[derive(Drop)]
 pub struct Buf<A: Allocator + Copy> {
-    bytes: Vec<u8, A>,
+    roomy: Roomy<A>,
 }
 
 impl<A: Allocator + Copy> Model for Buf<A> {
@@ -22,7 +23,7 @@ impl<A: Allocator + Copy> Model for Buf<A> {
 
     ghost Value = { List ℕ };
 
-    ghost view = { λ b. b.bytes.items };
+    ghost view = { λ b. b.roomy.bytes };
 }
 
 impl<A: Allocator + Copy> Buf<A> {
@@ -31,15 +32,16 @@ impl<A: Allocator + Copy> Buf<A> {
         ensures { result ≡ [] }
     {
         Buf {
-            bytes: Vec::new(meter.alloc()),
+            roomy: Roomy::new(meter),
         }
     }
 
     /// The bytes.
+    #[inline(always)]
     pub fn as_slice(&self) -> &[u8]
         ensures { result.now ≡ self.now }
     {
-        self.bytes.as_slice()
+        self.roomy.as_slice()
     }
 
     /// Adds a byte at the end.
@@ -52,10 +54,11 @@ impl<A: Allocator + Copy> Buf<A> {
         ensures err { OnErr result (self.new ≡ self.old) }
         ensures refused { OnErr result (IsRefused meter.old meter.new) }
     {
-        if self.bytes.push(byte).is_err() {
+        if !self.roomy.make_room(1) {
             meter.refuse();
             return Err(Fault::Memory);
         }
+        self.roomy.put_byte(byte);
         meter.add(1);
         Ok(())
     }
@@ -70,10 +73,11 @@ impl<A: Allocator + Copy> Buf<A> {
         ensures err { OnErr result (self.new ≡ self.old) }
         ensures refused { OnErr result (IsRefused meter.old meter.new) }
     {
-        if self.bytes.extend_from_slice(bytes).is_err() {
+        if !self.roomy.make_room(bytes.len()) {
             meter.refuse();
             return Err(Fault::Memory);
         }
+        self.roomy.put(bytes);
         meter.add(bytes.len() as u64);
         Ok(())
     }
@@ -88,10 +92,11 @@ impl<A: Allocator + Copy> Buf<A> {
         ensures err { OnErr result (self.new ≡ self.old) }
         ensures refused { OnErr result (IsRefused meter.old meter.new) }
     {
-        if self.bytes.resize(self.bytes.len() + count, 0).is_err() {
+        if !self.roomy.make_room(count) {
             meter.refuse();
             return Err(Fault::Memory);
         }
+        self.roomy.put_zeros(count);
         meter.add(count as u64);
         Ok(())
     }
@@ -106,22 +111,12 @@ impl<A: Allocator + Copy> Buf<A> {
             → Grows meter.old meter.new (length bytes.now + length more.now) }
         ensures declines { result ≡ false → (self.new ≡ self.old) × (meter.new ≡ meter.old) }
     {
-        let end = self.bytes.len();
-        let room = self.bytes.capacity().saturating_sub(end);
+        let room = self.roomy.room();
         if room < bytes.len() || room - bytes.len() < more.len() {
             return false;
         }
-        if self.bytes.extend_from_slice(bytes).is_err() {
-            return false;
-        }
-        if more.is_empty() {
-            meter.add(bytes.len() as u64);
-            return true;
-        }
-        if self.bytes.extend_from_slice(more).is_err() {
-            self.bytes.truncate(end);
-            return false;
-        }
+        self.roomy.put(bytes);
+        self.roomy.put(more);
         meter.add((bytes.len() + more.len()) as u64);
         true
     }
@@ -137,15 +132,10 @@ impl<A: Allocator + Copy> Buf<A> {
         ensures cost { result ≡ true → Grows meter.old meter.new (length bytes.now) }
         ensures declines { result ≡ false → (self.new ≡ self.old) × (meter.new ≡ meter.old) }
     {
-        if self.bytes.capacity().saturating_sub(self.bytes.len()) < bytes.len() {
+        if self.roomy.room() < bytes.len() {
             return false;
         }
-        let (end, to) = (self.bytes.len(), place + bytes.len());
-        if self.bytes.extend_from_slice(bytes).is_err() {
-            return false;
-        }
-        self.bytes.copy_within(place..end, to);
-        self.bytes[place..to].copy_from_slice(bytes);
+        self.roomy.put_at(place, bytes);
         meter.add(bytes.len() as u64);
         true
     }
@@ -161,10 +151,11 @@ impl<A: Allocator + Copy> Buf<A> {
         ensures err { OnErr result (self.new ≡ self.old) }
         ensures refused { OnErr result (IsRefused meter.old meter.new) }
     {
-        if self.bytes.insert(place, byte).is_err() {
+        if !self.roomy.make_room(1) {
             meter.refuse();
             return Err(Fault::Memory);
         }
+        self.roomy.put_at(place, &[byte]);
         meter.add(1);
         Ok(())
     }
@@ -186,13 +177,11 @@ impl<A: Allocator + Copy> Buf<A> {
         ensures err { OnErr result (self.new ≡ self.old) }
         ensures refused { OnErr result (IsRefused meter.old meter.new) }
     {
-        let (end, behind) = (self.bytes.len(), place + bytes.len());
-        if self.bytes.extend_from_slice(bytes).is_err() {
+        if !self.roomy.make_room(bytes.len()) {
             meter.refuse();
             return Err(Fault::Memory);
         }
-        self.bytes.copy_within(place..end, behind);
-        self.bytes[place..behind].copy_from_slice(bytes);
+        self.roomy.put_at(place, bytes);
         meter.add(bytes.len() as u64);
         Ok(())
     }
@@ -206,10 +195,7 @@ impl<A: Allocator + Copy> Buf<A> {
         ensures { self.new ≡ take (place + gap - length bytes.now) self.old ++ (bytes.now
             ++ (take (end - place) (drop place self.old) ++ drop (end + gap) self.old)) }
     {
-        let _all = self.bytes.len();
-        let moved = place + gap;
-        self.bytes.copy_within(place..end, moved);
-        self.bytes[moved - bytes.len()..moved].copy_from_slice(bytes);
+        self.roomy.move_behind(place, end, gap, bytes);
     }
 
     /// Writes a byte over the one at a place, counted from 0.
@@ -217,7 +203,7 @@ impl<A: Allocator + Copy> Buf<A> {
         requires { place < length self.old }
         ensures { self.new ≡ slice_set self.old place byte }
     {
-        self.bytes[place] = byte;
+        self.roomy.set(place, byte);
     }
 
     /// Takes the last byte off and hands it out.
@@ -228,7 +214,12 @@ impl<A: Allocator + Copy> Buf<A> {
         ensures cost { MatchOption result (meter.new ≡ meter.old)
             (λ _. Shrinks meter.old meter.new 1) }
     {
-        let last = self.bytes.pop()?;
+        let bytes = self.roomy.as_slice();
+        let Some(last) = bytes.last().copied() else {
+            return None;
+        };
+        let left = bytes.len() - 1;
+        self.roomy.truncate(left);
         meter.give_back(1);
         Some(last)
     }
@@ -239,9 +230,9 @@ impl<A: Allocator + Copy> Buf<A> {
         ensures bytes { self.new ≡ take len self.old }
         ensures cost { Shrinks meter.old meter.new (length self.old - len) }
     {
-        let before = self.bytes.len();
-        self.bytes.truncate(len);
-        meter.give_back((before - self.bytes.len()) as u64);
+        let before = self.roomy.len();
+        self.roomy.truncate(len);
+        meter.give_back((before - self.roomy.len()) as u64);
     }
 
     /// Keeps no byte.
@@ -250,8 +241,8 @@ impl<A: Allocator + Copy> Buf<A> {
         ensures bytes { self.new ≡ [] }
         ensures cost { Shrinks meter.old meter.new (length self.old) }
     {
-        meter.give_back(self.bytes.len() as u64);
-        self.bytes.clear();
+        meter.give_back(self.roomy.len() as u64);
+        self.roomy.truncate(0);
     }
 
     /// Gives all back.
@@ -259,6 +250,6 @@ impl<A: Allocator + Copy> Buf<A> {
         requires { length self ≤ meter.old.held }
         ensures { Shrinks meter.old meter.new (length self) }
     {
-        meter.give_back(self.bytes.len() as u64);
+        meter.give_back(self.roomy.len() as u64);
     }
 }

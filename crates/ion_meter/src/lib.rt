@@ -7,10 +7,12 @@
 #![tactic(auto)]
 
 pub mod buf;
+mod copy;
 pub mod device;
 pub mod fault;
 pub mod limits;
 pub mod meter;
+mod roomy;
 pub mod sink;
 pub mod source;
 pub mod stack;

@@ -1,23 +1,22 @@
 //! Plain items, added at once to a value that is open.
-ghost use Rattle.std.specs.Prelude.{◌≡◌, ◌≤◌, ◌<◌, ◌^◌, ◌∷◌, ◌++◌, ℕ, List, [], true, false, length, map, option_map, IfSome};
+ghost use Rattle.std.specs.Prelude.{◌≡◌, ◌<◌, ◌∷◌, true, false, map, option_map, IfSome};
 ghost use Rattle.ion_value.specs.Items.{raw_head, symbol_at};
 ghost use Rattle.ion_value.specs.PlainItems.{listed, placed_item, placed_text};
 ghost use Rattle.ion_value.specs.Standing.{HeadInRange};
 ghost use Rattle.ion_value.specs.Writable.{field_symbols};
-ghost use Rattle.ion_value.specs.Number.{uint_octets, var_uint_octets};
+ghost use Rattle.ion_value.specs.Number.{uint_octets};
 ghost use Rattle.ion_value.specs.Value.{begin, end, int, string, symbol, user_symbol_at, whole};
-ghost use Rattle.ion_binary.specs.Canonical.{annotation_octets, field_octets, headed, id_in, member_octets, wrapped};
+ghost use Rattle.ion_binary.specs.Canonical.{annotation_octets, field_octets, headed, id_in};
+ghost use Rattle.ion_binary.specs.Held.{counted_ids};
 ghost use Rattle.ion_binary.specs.ItemOctets.{head_name, head_octets, user_head};
-ghost use Rattle.ion_binary.specs.Opening.{MayCome, both_octets};
+ghost use Rattle.ion_binary.specs.Opening.{MayCome, both_octets, name_octets};
 ghost use Rattle.ion_binary.specs.Plain.{AddsPlain, EndsPlain, HaveIds, IsWhole};
 ghost use Rattle.ion_binary.specs.Writer.{CanTake};
 ghost use Rattle.ion_binary.specs.Writing.{head_symbols};
 
 use super::{BinWriter, FIRST_ID};
 use crate::header::header;
-use crate::open_value::wrapper;
-use crate::scalar::{Octets, spell, type_code};
-use arrayvec::ArrayVec;
+use crate::scalar::{Octets, spell, spell_int, type_code};
 use ion_meter::device::Output;
 use ion_meter::meter::Meter;
 use ion_meter::sink::Sink;
@@ -25,12 +24,7 @@ use ion_value::int::Int;
 use ion_value::ion_type::Kind;
 use ion_value::item::{Head, Sym, SymAt};
 use ion_value::plain_item::{PlainItem, TextAt};
-use ion_value::var::var_uint_write;
 use std::alloc::Allocator;
-
-/// The most octets of a field, of what stands before a value in a wrapper, and of a header with a
-/// short body.
-const FRONT: usize = 72;
 
 impl<A: Allocator + Copy> BinWriter<A> {
     // Adds an item behind which a value is open, where all is there that it needs: ids of its texts,
@@ -51,11 +45,12 @@ impl<A: Allocator + Copy> BinWriter<A> {
             Head::Int(int) => self.add_int(meter, &item, int),
             Head::Symbol(at) => self.add_symbol(meter, &item, at),
             Head::String(text) => self.add_string(meter, &item, text),
-            scalar => self.add_spelled(meter, &item, scalar),
+            _ => self.add_spelled(meter, &item),
         }
     }
 
     // Begins a container that has no annotation, in another or at top level where no text is forgotten.
+    #[inline(always)]
     fn begin_plain(&mut self, meter: &mut Meter<A>, item: &PlainItem<'_, '_>, kind: Kind) -> bool
         requires can_take { CanTake self.old meter.old }
         requires comes { MayCome self.old.limits self.old.open_value (placed_item item.now) }
@@ -70,15 +65,15 @@ impl<A: Allocator + Copy> BinWriter<A> {
         if item.annotation.is_some() {
             return false;
         }
-        let mut front = ArrayVec::new();
-        if !self.put_field(&mut front, item.field) {
+        let Some(name) = self.field_id(item.field) else {
             return false;
-        }
+        };
         self.open_value
-            .begin_if_room(meter, self.limits, front.as_slice(), kind)
+            .begin_member(meter, &self.limits, name, kind)
     }
 
     // Ends a container that stands in another.
+    #[inline(always)]
     fn end_plain(&mut self, meter: &mut Meter<A>, item: &PlainItem<'_, '_>) -> bool
         requires can_take { CanTake self.old meter.old }
         requires comes { MayCome self.old.limits self.old.open_value (placed_item item.now) }
@@ -93,6 +88,7 @@ impl<A: Allocator + Copy> BinWriter<A> {
     // Ends the value at top level and puts it, where all is there that it needs: it has no wrapper, its
     // texts have been declared, no version marker is due, and the sink has room for it. Else it
     // answers false.
+    #[inline(never)]
     pub(super) fn end_whole<O: Output>(
         &mut self,
         meter: &mut Meter<A>,
@@ -130,23 +126,18 @@ impl<A: Allocator + Copy> BinWriter<A> {
     }
 
     // Adds a scalar.
-    fn add_spelled(
-        &mut self,
-        meter: &mut Meter<A>,
-        item: &PlainItem<'_, '_>,
-        scalar: Head<'_>,
-    ) -> bool
+    #[inline(never)]
+    fn add_spelled(&mut self, meter: &mut Meter<A>, item: &PlainItem<'_, '_>) -> bool
         requires can_take { CanTake self.old meter.old }
         requires comes { MayCome self.old.limits self.old.open_value (placed_item item.now) }
-        requires head { raw_head scalar ≡ raw_head item.now.head }
-        requires whole { IsWhole (raw_head scalar) }
+        requires whole { IsWhole (raw_head item.now.head) }
         ensures { AddsPlain self.old self.new meter.old meter.new
             (placed_item item.now) result }
     {
-        let Some(name) = self.name_of(scalar) else {
+        let Some(name) = self.name_of(item.head) else {
             return false;
         };
-        let spelled = spell(scalar, name);
+        let spelled = spell(item.head, name);
         let octets = Octets {
             front: spelled.front.as_slice(),
             rest: spelled.lent,
@@ -155,7 +146,7 @@ impl<A: Allocator + Copy> BinWriter<A> {
     }
 
     // Adds an int: one that 64 bits hold without an `ArrayVec` of its octets.
-    #[inline]
+    #[inline(always)]
     fn add_int(&mut self, meter: &mut Meter<A>, item: &PlainItem<'_, '_>, number: Int) -> bool
         requires can_take { CanTake self.old meter.old }
         requires comes { MayCome self.old.limits self.old.open_value (placed_item item.now) }
@@ -166,12 +157,29 @@ impl<A: Allocator + Copy> BinWriter<A> {
         let code = if number.negative { 3 } else { 2 };
         match u64::try_from(number.magnitude) {
             Ok(n) => self.add_number(meter, item, code, n),
-            Err(_) => self.add_spelled(meter, item, Head::Int(number)),
+            Err(_) => self.add_wide(meter, item, number),
         }
     }
 
+    // Adds an int that 64 bits do not hold.
+    #[inline(always)]
+    fn add_wide(&mut self, meter: &mut Meter<A>, item: &PlainItem<'_, '_>, number: Int) -> bool
+        requires can_take { CanTake self.old meter.old }
+        requires comes { MayCome self.old.limits self.old.open_value (placed_item item.now) }
+        requires head { raw_head item.now.head ≡ whole (int number) }
+        ensures { AddsPlain self.old self.new meter.old meter.new
+            (placed_item item.now) result }
+    {
+        let spelled = spell_int(number);
+        let octets = Octets {
+            front: spelled.front.as_slice(),
+            rest: spelled.lent,
+        };
+        self.add_scalar(meter, item, &octets)
+    }
+
     // Adds a symbol.
-    #[inline]
+    #[inline(always)]
     fn add_symbol(&mut self, meter: &mut Meter<A>, item: &PlainItem<'_, '_>, at: SymAt<'_>) -> bool
         requires can_take { CanTake self.old meter.old }
         requires comes { MayCome self.old.limits self.old.open_value (placed_item item.now) }
@@ -189,7 +197,7 @@ impl<A: Allocator + Copy> BinWriter<A> {
     }
 
     // Adds a string.
-    #[inline]
+    #[inline(always)]
     fn add_string(&mut self, meter: &mut Meter<A>, item: &PlainItem<'_, '_>, text: &[u8]) -> bool
         requires can_take { CanTake self.old meter.old }
         requires comes { MayCome self.old.limits self.old.open_value (placed_item item.now) }
@@ -209,7 +217,7 @@ impl<A: Allocator + Copy> BinWriter<A> {
     }
 
     // Adds a scalar whose body is a number of 64 bits.
-    #[inline]
+    #[inline(always)]
     fn add_number(
         &mut self,
         meter: &mut Meter<A>,
@@ -234,7 +242,7 @@ impl<A: Allocator + Copy> BinWriter<A> {
     }
 
     // Adds a scalar of a header of one octet, and this body.
-    #[inline]
+    #[inline(always)]
     fn add_short(
         &mut self,
         meter: &mut Meter<A>,
@@ -254,26 +262,18 @@ impl<A: Allocator + Copy> BinWriter<A> {
         if self.open_value.headers.len() == 0 {
             return false;
         }
-        if item.annotation.is_some() {
-            let octets = Octets {
-                front: &[header],
-                rest: body,
-            };
-            return self.add_scalar(meter, item, &octets);
-        }
-        let mut front = ArrayVec::new();
-        if !self.put_field(&mut front, item.field) {
+        let Some(name) = self.field_id(item.field) else {
             return false;
-        }
-        front.push(header);
-        let octets = Octets {
-            front: front.as_slice(),
-            rest: body,
         };
-        self.open_value.extend_if_room(meter, self.limits, &octets)
+        let Some(note) = self.annotation_id(item.annotation) else {
+            return false;
+        };
+        self.open_value
+            .put_short(meter, &self.limits, name, note, header, body)
     }
 
     // Adds a scalar of these octets.
+    #[inline(always)]
     fn add_scalar(
         &mut self,
         meter: &mut Meter<A>,
@@ -292,86 +292,44 @@ impl<A: Allocator + Copy> BinWriter<A> {
         if self.open_value.headers.len() == 0 {
             return false;
         }
-        if scalar.front.len() > 28 || scalar.len() > self.limits.value {
+        let Some(name) = self.field_id(item.field) else {
             return false;
-        }
-        let mut front = ArrayVec::new();
-        if !self.put_lead(&mut front, item, scalar.len()) {
-            return false;
-        }
-        front.try_extend_from_slice(scalar.front).unwrap();
-        let octets = Octets {
-            front: front.as_slice(),
-            rest: scalar.rest,
         };
-        self.open_value.extend_if_room(meter, self.limits, &octets)
+        let Some(note) = self.annotation_id(item.annotation) else {
+            return false;
+        };
+        self.open_value
+            .put_octets(meter, &self.limits, name, note, scalar)
     }
 
-    // Puts what stands before a value of so many octets: its field and what its annotation needs,
-    // where both have ids.
-    fn put_lead(&self, front: &mut ArrayVec<u8, FRONT>, item: &PlainItem<'_, '_>, size: u64) -> bool
-        requires none { front.old.items ≡ [] }
-        requires short { size ≤ 2 ^ 32 }
-        ensures known { result ≡ true → HaveIds self.now.symbols.texts
-            (field_symbols (placed_item item.now).field ++ (placed_item item.now).annotations) }
-        ensures octets { result ≡ true → (x : List ℕ) → length x ≡ size
-            → front.new.items ++ x ≡ member_octets (id_in self.now.symbols.texts)
-            (option_map user_symbol_at (placed_item item.now).field)
-            (map user_symbol_at (placed_item item.now).annotations) x }
-        ensures few { length front.new.items ≤ 40 }
-    {
-        self.put_field(front, item.field) && self.put_annotation(front, item.annotation, size)
-    }
-
-    // Puts the id of a field, where its text has one.
-    fn put_field(&self, front: &mut ArrayVec<u8, FRONT>, field: Option<TextAt<'_>>) -> bool
-        requires { front.old.items ≡ [] }
-        ensures known { result ≡ true → HaveIds self.now.symbols.texts
-            (field_symbols (option_map placed_text field.entry)) }
-        ensures octets { result ≡ true → front.new.items
+    // The id of a field, where its text has one, and 0 where there is none.
+    #[inline(always)]
+    fn field_id(&self, field: Option<TextAt<'_>>) -> Option<u32>
+        ensures known { IfSome result (λ _. HaveIds self.now.symbols.texts
+            (field_symbols (option_map placed_text field.entry))) }
+        ensures octets { IfSome result (λ name. name_octets name
             ≡ field_octets (id_in self.now.symbols.texts)
-            (option_map user_symbol_at (option_map placed_text field.entry)) }
-        ensures few { length front.new.items ≤ 9 }
+            (option_map user_symbol_at (option_map placed_text field.entry))) }
     {
-        let Some(at) = field else {
-            return true;
-        };
-        let Some(id) = self.symbols.known(at.text) else {
-            return false;
-        };
-        put_id(front, id);
-        true
+        match field {
+            Some(at) => self.symbols.known(at.text),
+            None => Some(0),
+        }
     }
 
-    // Puts what stands before a value of so many octets in its wrapper, where the text of its
-    // annotation has an id, and nothing where it has no annotation.
-    fn put_annotation(
-        &self,
-        front: &mut ArrayVec<u8, FRONT>,
-        annotation: Option<TextAt<'_>>,
-        size: u64,
-    ) -> bool
-        requires few { length front.old.items ≤ 9 }
-        requires short { size ≤ 2 ^ 32 }
-        ensures known { result ≡ true → HaveIds self.now.symbols.texts
-            (listed (option_map placed_text annotation.entry)) }
-        ensures octets { result ≡ true → (x : List ℕ) → length x ≡ size
-            → front.new.items ++ x ≡ front.old.items ++ wrapped
-            (annotation_octets (id_in self.now.symbols.texts)
-            (map user_symbol_at (listed (option_map placed_text annotation.entry)))) x }
-        ensures few { length front.new.items ≤ 40 }
+    // The id of an annotation, where its text has one, and 0 where there is none.
+    #[inline(always)]
+    fn annotation_id(&self, annotation: Option<TextAt<'_>>) -> Option<u32>
+        ensures known { IfSome result (λ _. HaveIds self.now.symbols.texts
+            (listed (option_map placed_text annotation.entry))) }
+        ensures octets { IfSome result (λ note. counted_ids (name_octets note)
+            ≡ annotation_octets (id_in self.now.symbols.texts)
+            (map user_symbol_at (listed (option_map placed_text annotation.entry)))) }
     {
-        let Some(at) = annotation else {
-            return true;
-        };
-        let Some(id) = self.symbols.known(at.text) else {
-            return false;
-        };
-        let ids = var_uint_write(u64::from(id));
-        let before = wrapper(ids.len() as u64, size);
-        front.try_extend_from_slice(before.as_slice()).unwrap();
-        front.try_extend_from_slice(ids.as_slice()).unwrap();
-        true
+        match annotation {
+            Some(at) => self.symbols.known(at.text),
+            None => Some(0),
+        }
     }
 
     // The id of a symbol value, where its text has one, and 0 of other heads.
@@ -389,19 +347,4 @@ impl<A: Allocator + Copy> BinWriter<A> {
         };
         self.symbols.known(text)
     }
-}
-
-// Puts an id: mostly one octet.
-#[inline]
-fn put_id(front: &mut ArrayVec<u8, FRONT>, id: u32)
-    requires { front.old.items ≡ [] }
-    ensures octets { front.new.items ≡ var_uint_octets id }
-    ensures few { length front.new.items ≤ 9 }
-{
-    if id < 128 {
-        front.push(128 + id as u8);
-        return;
-    }
-    let octets = var_uint_write(u64::from(id));
-    front.try_extend_from_slice(octets.as_slice()).unwrap();
 }

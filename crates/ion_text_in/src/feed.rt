@@ -53,7 +53,7 @@ pub(crate) struct Spot<'a> {
 #[derive(Clone, Copy)]
 pub(crate) struct Next<'a> {
     /// The number of its kind, where its first byte tells it alone; 0 where that is not known.
-    told: u8,
+    told: u64,
     /// The bytes from there on; none where they show no end of the blanks.
     rest: &'a [u8],
 }
@@ -86,10 +86,10 @@ struct Turned<'a> {
 }
 
 // The number of a word among those of tokens that a byte tells alone.
-const WORD: u8 = 1;
+const WORD: u64 = 1;
 
 // The number of a comma among those of tokens that a byte tells alone.
-const COMMA: u8 = 4;
+const COMMA: u64 = 4;
 
 // What stands behind so many bytes.
 #[inline(always)]
@@ -261,7 +261,7 @@ fn to_colon(bytes: &[u8]) -> Option<&[u8]>
 
 // The kind of container that a token ends, by its number.
 #[inline(always)]
-fn ended_kind(told: u8) -> Option<Kind>
+fn ended_kind(told: u64) -> Option<Kind>
     ensures { IfSome result (λ k. (0 < told) × (numbered told ≡ an_end k)) }
 {
     match told {

@@ -78,7 +78,7 @@ pub(crate) fn scan_first(in_sexp: bool, bytes: &[u8]) -> Option<First>
 
 /// The number of the kind of token that the first of these bytes tells alone, or 0.
 #[inline(always)]
-pub(crate) fn told_first(bytes: &[u8]) -> u8
+pub(crate) fn told_first(bytes: &[u8]) -> u64
     ensures some { 0 < result → 1 ≤ length bytes.now }
     ensures bare { 0 < result → (place : ℕ) (more : List ℕ)
         → blanks (at place (bytes.now ++ more)) ≡ Ok (at place (bytes.now ++ more)) }
@@ -87,7 +87,7 @@ pub(crate) fn told_first(bytes: &[u8]) -> u8
 {
     match bytes {
         [] => 0,
-        [byte, ..] => FIRST_BYTES[*byte as usize],
+        [byte, ..] => u64::from(FIRST_BYTES[*byte as usize]),
     }
 }
 

@@ -34,7 +34,7 @@ use std::alloc::Allocator;
 impl<I: Input, A: Allocator + Copy> TextReader<I, A> {
     // Reads the token of a kind that its first byte told alone, and takes it.
     #[inline(always)]
-    pub(super) fn told(&mut self, told: u8, meter: &mut Meter<A>) -> Result<StepResult, Fault>
+    pub(super) fn told(&mut self, told: u64, meter: &mut Meter<A>) -> Result<StepResult, Fault>
         requires can_step { CanStep self.old meter.old }
         requires there { 1 ≤ length (lent self.old.source) }
         ensures gives { I.observable self.old.source.device → StepGives I.Input

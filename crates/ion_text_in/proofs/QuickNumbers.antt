@@ -7,9 +7,9 @@ use Rattle.std.proofs.lemmas.List.{take_more, drop_more, append_assoc, append-ni
 use Rattle.std.proofs.Math.Seq.{take-add}
 use Rattle.ion_value.specs.declared.decimal.Decimal.{Decimal}
 use Rattle.ion_value.specs.Int.{IsInt, int_of_text}
-use Rattle.ion_value.specs.Decimal.{IsDecimal, decimal_in_range, decimal_of_text}
+use Rattle.ion_value.specs.Decimal.{IsDecimal, decimal_in_range, decimal_of_parts, decimal_of_text, parts_of}
 use Rattle.ion_value.specs.Digits.{is_digit, digit_value, all_are, first_is, has_minus}
-use Rattle.ion_value.specs.DigitReading.{Read, read_digits, read_whole, read_int, read_fraction}
+use Rattle.ion_value.specs.DigitReading.{Read, decimal_behind, read_digits, read_whole, read_int, read_fraction}
 use Rattle.ion_value.specs.Name.{is_one_of}
 use Rattle.ion_value.specs.Number.{signed}
 use Rattle.ion_value.proofs.LeadingDigits.{all_are-append}
@@ -18,7 +18,7 @@ use Rattle.ion_value.proofs.TextDecimals.{sign-read, decimal-text, exponent_digi
 use Rattle.ion_text_in.specs.declared.number.Number.TheVariants as numbers
 use Rattle.ion_text_in.specs.declared.run.Run.TheVariants as run
 use Rattle.ion_text_in.specs.Blanks.{is_white, begins_comment}
-use Rattle.ion_text_in.specs.Quick.{number_after, scaled, signed_int, signed_text, AreWhole, IsQuick}
+use Rattle.ion_text_in.specs.Quick.{number_after, scaled, signed_int, signed_text, AreWhole, IsMantissa, IsQuick}
 use Rattle.ion_text_in.specs.Runs.{EndBehind, stays}
 use Rattle.ion_text_in.specs.Token.{bytes_of, in_run, run_token}
 use Rattle.ion_text_in.specs.Views.{number_token, AreShown}
@@ -234,12 +234,11 @@ split-text bytes c k j less is =
     ∙ append_assoc (take k bytes) (get_or bytes k 0 ∷ []) (take j (drop (k + 1) bytes))
     ∙ ap (λ (b : ℕ). take k bytes ++ (b ∷ take j (drop (k + 1) bytes))) is
 
+pub less-none : (j : ℕ) → signed true j -ℤ pos 0 ≡ signed true j
+less-none j = omega (arith, ints)
+
 minus-is : (j : ℕ) → pos 0 -ℤ pos j ≡ signed true j
 minus-is j = omega (arith, ints)
-
-minus-none : (below : Bool) (m : ℕ) → signed below m -ℤ pos 0 ≡ signed below m
-minus-none true m = omega (arith, ints)
-minus-none false m = omega (arith, ints)
 
 decimal-valid : (d : Decimal) (j : ℕ) → d.coefficient < 2 ^ 128 → d.exponent ≡ pos 0 -ℤ pos j → j ≤ 128 → IsDecimal d
 decimal-valid d j small e few = record { coefficient = small; exponent = (omega (arith, ints, e, few), omega (arith, ints, e, few)) }
@@ -312,17 +311,69 @@ digits-read bytes m n so some =
     ∙ ap (λ (v : Bool). read_digits 10 m v n []) (lt-ltb 0 n some)
     ∙ read-last m n
 
-power-read : (negative below : Bool) (ds ys : List ℕ) (n k m j : ℕ) (d : Decimal) → 0 < length ds → all_are is_digit ds ≡ true
-    → read_whole (ds ++ (100 ∷ signed_text below (take j ys))) ≡ Some (made n k (100 ∷ signed_text below (take j ys))) → AreDigits 0 ys m j → 0 < j
-    → decimal_in_range negative n (signed below m) ≡ Ok d → decimal_of_text (signed_text negative (ds ++ (100 ∷ signed_text below (take j ys)))) ≡ Ok d
-power-read negative below ds ys n k m j d some digits whole power more within =
+power-read : (negative below : Bool) (bytes ys : List ℕ) (n places k m j : ℕ) (d : Decimal) → IsMantissa bytes n places k → AreDigits 0 ys m j → 0 < j
+    → decimal_in_range negative n (signed below m -ℤ pos places) ≡ Ok d → decimal_of_text (signed_text negative (take k bytes ++ (100 ∷ signed_text below (take j ys)))) ≡ Ok d
+power-read negative below bytes ys n places k m j d mantissa power more within =
     let p : List ℕ = signed_text below (take j ys) in
-    let sign = sign-read negative (ds ++ (100 ∷ p)) (sign-front ds (100 ∷ p) some digits) in
+    let text : List ℕ = take k bytes ++ (100 ∷ p) in
+    let sign = sign-read negative text (mantissa.plain (100 ∷ p)) in
     let parts = power-parts below (take j ys) (taken-some ys j more power.within) power.digits in
     let is = exponent-read p (take j ys) below m j [] parts.0 parts.1 (digits-read ys m j power more) (sym (length-take-le j ys power.within)) in
-    sym (decimal-text (signed_text negative (ds ++ (100 ∷ p))) (ds ++ (100 ∷ p)) negative (sym sign.0) (sym sign.1))
-    ∙ mantissa-plain (ds ++ (100 ∷ p)) n k (100 ∷ p) whole refl negative
-    ∙ rw is.0 (ap (λ (e : ℤ). decimal_in_range negative n (e -ℤ pos 0)) is.1 ∙ ap (decimal_in_range negative n) (minus-none below m) ∙ within)
+    sym (decimal-text (signed_text negative text) text negative (sym sign.0) (sym sign.1))
+    ∙ mantissa.read p negative
+    ∙ rw is.0 (ap (λ (e : ℤ). decimal_in_range negative n (e -ℤ pos places)) is.1 ∙ within)
+
+powered-valid : (negative below : Bool) (n m places : ℕ) → n < 2 ^ 128 → m ≤ 128 → places ≤ 19 → IsDecimal (scaled negative n (signed below m -ℤ pos places))
+powered-valid negative true n m places small few less = record { coefficient = small; exponent = (omega (arith, ints, few, less), omega (arith, ints, few, less)) }
+powered-valid negative false n m places small few less = record { coefficient = small; exponent = (omega (arith, ints, few, less), omega (arith, ints, few, less)) }
+
+-- digits alone
+pub plain-mantissa : (bytes : List ℕ) (k : ℕ) → AreWhole bytes k → IsMantissa bytes (number_after 0 (take k bytes)) 0 k
+plain-mantissa bytes k so =
+    let n : ℕ = number_after 0 (take k bytes) in
+    let whole = whole-spells bytes k so in
+    record {
+      some = so.some;
+      within = so.within;
+      few = omega arith;
+      goes = all-stay (take k bytes) so.digits;
+      plain = λ power. sign-front (take k bytes) power (taken-some bytes k so.some whole.read.within) so.digits;
+      read = λ power negative. mantissa-plain (take k bytes ++ (100 ∷ power)) n k (100 ∷ power) (read-front bytes (100 ∷ power) n k whole refl ∙ read-mark n k power) refl negative;
+    }
+
+fraction-on : (n : ℕ) (fs tail : List ℕ) → 0 < length fs → all_are is_digit fs ≡ true → read_fraction n (fs ++ tail) ≡ read_digits 10 n false 0 (fs ++ tail)
+fraction-on n [] tail some e = absurd (omega (arith, some))
+fraction-on n (f ∷ fs) tail some e = let parts = and_parts (is_digit f) (all_are is_digit fs) e in rw parts.0 refl
+
+fraction-marked : (start : ℕ) (bytes power : List ℕ) (m j : ℕ) → AreDigits start bytes m j → 0 < j → read_fraction start (take j bytes ++ (100 ∷ power)) ≡ Some (made m j (100 ∷ power))
+fraction-marked start bytes power m j so some =
+    fraction-on start (take j bytes) (100 ∷ power) (taken-some bytes j some so.within) so.digits
+    ∙ so.read (100 ∷ power)
+    ∙ ap (λ (v : Bool). read_digits 10 m v j (100 ∷ power)) (lt-ltb 0 j some)
+    ∙ read-mark m j power
+
+-- digits with a point among them
+pub pointed-mantissa : (bytes : List ℕ) (n k m j : ℕ) → IsWhole bytes n k → get_or bytes k 0 ≡ 46 → AreDigits n (drop (k + 1) bytes) m j → 0 < j → j ≤ 19 → k + 1 + j < length bytes
+    → IsMantissa bytes m j (k + 1 + j)
+pointed-mantissa bytes n k m j whole point behind some few within =
+    let fs : List ℕ = take j (drop (k + 1) bytes) in
+    let text = split-text bytes 46 k j whole.within point in
+    let front : (tail : List ℕ) → take (k + 1 + j) bytes ++ tail ≡ take k bytes ++ (46 ∷ (fs ++ tail))
+    = λ tail. ap (λ (l : List ℕ). l ++ tail) text ∙ append_assoc (take k bytes) (46 ∷ fs) tail in
+    record {
+      some = omega (arith, some);
+      within = within;
+      few = few;
+      goes = ap (all_are (stays run.Number)) text
+          ∙ all_are-append (stays run.Number) (take k bytes) (46 ∷ fs)
+          ∙ rw (all-stay (take k bytes) whole.read.digits) (all-stay fs behind.digits);
+      plain = λ power. ap has_minus (front power) ∙ sign-front (take k bytes) (46 ∷ (fs ++ power)) (taken-some bytes k whole.some whole.read.within) whole.read.digits;
+      read = λ power negative.
+          ap (λ (l : List ℕ). decimal_of_parts negative (parts_of l)) (front (100 ∷ power))
+          ∙ mantissa-pointed (take k bytes ++ (46 ∷ (fs ++ (100 ∷ power)))) n k (46 ∷ (fs ++ (100 ∷ power))) m j (100 ∷ power)
+          (read-front bytes (46 ∷ (fs ++ (100 ∷ power))) n k whole refl ∙ read-point n k (fs ++ (100 ∷ power))) refl (fraction-marked n (drop (k + 1) bytes) power m j behind some) negative
+          ∙ ap (λ (v : Bool). decimal_behind negative m j v (100 ∷ power)) (sym (lt-ltb 0 j some));
+    }
 
 -- how many bytes there are of a sign
 abbrev pub sign_length : Bool → ℕ
@@ -336,25 +387,25 @@ signed-stay : (below : Bool) (ds : List ℕ) → all_are (stays run.Number) ds �
 signed-stay true ds e = e
 signed-stay false ds e = e
 
-pub quick-power : (negative below : Bool) (bytes ys : List ℕ) (n k m j : ℕ) → IsWhole bytes n k → get_or bytes k 0 ≡ 100 → signed_text below ys ≡ drop (k + 1) bytes → AreDigits 0 ys m j → 0 < j
-    → k + 1 + (sign_length below + j) < length bytes → stops (get_or bytes (k + 1 + (sign_length below + j)) 0) ≡ true → n < 2 ^ 128 → m ≤ 128
-    → IsQuick negative bytes (record { negative = negative; number = n; exponent = Some (signed below m); count = k + 1 + (sign_length below + j) })
-quick-power negative below bytes ys n k m j whole mark behind power some within stop small few =
+pub quick-power : (negative below : Bool) (bytes ys : List ℕ) (n places k m j : ℕ) → IsMantissa bytes n places k → get_or bytes k 0 ≡ 100 → signed_text below ys ≡ drop (k + 1) bytes → AreDigits 0 ys m j
+    → 0 < j → k + 1 + (sign_length below + j) < length bytes → stops (get_or bytes (k + 1 + (sign_length below + j)) 0) ≡ true → n < 2 ^ 128 → m ≤ 128
+    → IsQuick negative bytes (record { negative = negative; number = n; exponent = Some (signed below m -ℤ pos places); count = k + 1 + (sign_length below + j) })
+quick-power negative below bytes ys n places k m j mantissa mark behind power some within stop small few =
     let p : List ℕ = signed_text below (take j ys) in
-    let split = split-text bytes 100 k (sign_length below + j) whole.within mark in
+    let split = split-text bytes 100 k (sign_length below + j) mantissa.within mark in
     let front : take (sign_length below + j) (drop (k + 1) bytes) ≡ p = ap (take (sign_length below + j)) (sym behind) ∙ take-signed below ys j in
     let text : take (k + 1 + (sign_length below + j)) bytes ≡ take k bytes ++ (100 ∷ p) = split ∙ ap (λ (l : List ℕ). take k bytes ++ (100 ∷ l)) front in
-    let d : Decimal = scaled negative n (signed below m) in
-    let read = power-read negative below (take k bytes) ys n k m j d (taken-some bytes k whole.some whole.read.within) whole.read.digits
-    (read-front bytes (100 ∷ p) n k whole refl ∙ read-mark n k p) power some (decimal-in_range d (scaled-valid negative below n m small few)) in
+    let d : Decimal = scaled negative n (signed below m -ℤ pos places) in
+    let valid = powered-valid negative below n m places small few mantissa.few in
+    let read = power-read negative below bytes ys n places k m j d mantissa power some (decimal-in_range d valid) in
     record {
       sign = refl;
       some = omega arith;
       within = within;
       goes = ap (all_are (stays run.Number)) text
           ∙ all_are-append (stays run.Number) (take k bytes) (100 ∷ p)
-          ∙ rw (all-stay (take k bytes) whole.read.digits) (signed-stay below (take j ys) (all-stay (take j ys) power.digits));
+          ∙ rw mantissa.goes (signed-stay below (take j ys) (all-stay (take j ys) power.digits));
       ends = stop-ends bytes (k + 1 + (sign_length below + j)) within stop;
       gives = ap (λ (l : List ℕ). run_token (signed_text negative l)) text ∙ decimal-alone (signed_text negative (take k bytes ++ (100 ∷ p))) d read;
-      range = scaled-valid negative below n m small few;
+      range = valid;
     }

@@ -1,8 +1,10 @@
 -- Ints and decimals that are read in one pass.
-use Rattle.std.specs.Prelude.{◌≡◌, ℕ, ◌+◌, ◌-◌, ◌*◌, ◌<◌, ℤ, Option, Some, None, Bool, true, false, ◌&&◌, ◌||◌, ◌==◌, nat_lt, if◌then◌else◌, List, [], ◌∷◌, ◌++◌, length, take, drop, Ok}
+use Rattle.std.specs.Prelude.{◌≡◌, ℕ, ◌+◌, ◌-◌, ◌*◌, ◌<◌, ◌≤◌, ℤ, Option, Some, None, Bool, true, false, ◌&&◌, ◌||◌, ◌==◌, nat_lt, if◌then◌else◌, List, [], ◌∷◌, ◌++◌, length, take, drop, Ok}
 use Rattle.ion_value.specs.declared.decimal.Decimal.{Decimal}
 use Rattle.ion_value.specs.declared.int.Int.{Int}
-use Rattle.ion_value.specs.Digits.{is_digit, all_are, first_is}
+use Rattle.ion_value.specs.Decimal.{decimal_of_parts, parts_of}
+use Rattle.ion_value.specs.DigitReading.{decimal_behind}
+use Rattle.ion_value.specs.Digits.{is_digit, all_are, first_is, has_minus}
 use Rattle.ion_value.specs.Standing.{InRange}
 use Rattle.ion_text_in.specs.declared.number.Number.{Number}
 use Rattle.ion_text_in.specs.declared.number.Number.TheVariants as numbers
@@ -44,6 +46,16 @@ pub record AreWhole (bytes : List ℕ) (count : ℕ) : Type 0 where
   pub within : count < length bytes
   pub digits : all_are is_digit (take count bytes) ≡ true
   pub no_zeros : (first_is (λ b. b == 48) bytes && first_is (λ b. is_digit b || b == 95) (drop 1 bytes)) ≡ false
+
+-- so many bytes in front are a decimal's digits, so many of which may stand behind a point, and spell a number; behind them an exponent may come
+pub record IsMantissa (bytes : List ℕ) (number places count : ℕ) : Type 0 where
+  pub some : 0 < count
+  pub within : count < length bytes
+  pub few : places ≤ 19
+  pub goes : all_are (stays run.Number) (take count bytes) ≡ true
+  pub plain : (power : List ℕ) → has_minus (take count bytes ++ power) ≡ false
+  pub read : (power : List ℕ) (negative : Bool)
+      → decimal_of_parts negative (parts_of (take count bytes ++ 100 ∷ power)) ≡ decimal_behind negative number places (nat_lt 0 places) (100 ∷ power)
 
 -- so many bytes behind a sign are a number, and a byte that stops it stands behind them
 pub record IsQuick (negative : Bool) (bytes : List ℕ) (x : Quick) : Type 0 where

@@ -1,11 +1,11 @@
 //! Ints and decimals of few digits, without underscores and bases, read in one pass
 //! (Ion specification, "Integers" and "Real Numbers").
-ghost use Rattle.std.specs.Prelude.{◌≡◌, ◌+◌, ◌*◌, ◌^◌, ◌<◌, ◌≤◌, ◌&&◌, ◌||◌, ◌==◌, true, not, Ok, map, length, drop, take, get_or, IfSome};
+ghost use Rattle.std.specs.Prelude.{◌≡◌, pos, ◌-ℤ◌, ◌+◌, ◌*◌, ◌^◌, ◌<◌, ◌≤◌, ◌&&◌, ◌||◌, ◌==◌, true, not, Ok, map, length, drop, take, get_or, IfSome};
 ghost use Rattle.std.specs.Simd.Lanes.{mask_l};
 ghost use Rattle.ion_value.specs.Digits.{all_are, first_is, is_digit};
 ghost use Rattle.ion_value.specs.Number.{signed};
 ghost use Rattle.ion_value.specs.Standing.{InRange};
-ghost use Rattle.ion_text_in.specs.Quick.{as_quick, number_after, scaled, signed_int, signed_text, AreWhole, IsQuick};
+ghost use Rattle.ion_text_in.specs.Quick.{as_quick, number_after, scaled, signed_int, signed_text, AreWhole, IsMantissa, IsQuick};
 ghost use Rattle.ion_text_in.specs.declared.scanned.Scanned.TheVariants.{Whole};
 ghost use Rattle.ion_text_in.specs.Scanners.{Shows};
 ghost use Rattle.ion_text_in.specs.Token.{a_run, bytes_of, in_run, run_token, token_of};
@@ -31,9 +31,9 @@ pub(crate) struct Quick {
 
 /// The int or decimal at the front of these bytes, where it has no more than the limit.
 ///
-/// There is an answer where it is a minus or none and at most 38 digits, which may have a `d` and a
-/// small exponent behind them, or are at most 19 and may have one point among them, and where
-/// punctuation, a quote or white space ends it within the bytes.
+/// There is an answer where it is a minus or none and at most 38 digits, or at most 19 with a point
+/// among them, which may have a `d` and a small exponent behind them, and where punctuation, a quote
+/// or white space ends it within the bytes.
 #[inline(always)]
 pub(crate) fn scan_quick(limit: u64, bytes: &[u8]) -> Option<Quick>
     ensures shows { IfSome result (λ x. Shows number_token bytes.now
@@ -108,7 +108,7 @@ fn quick_digits(negative: bool, digits: &[u8]) -> Option<Quick>
         return quick_decimal(negative, count, digits);
     }
     if next == b'd' {
-        return quick_power(negative, count, digits);
+        return quick_power(negative, number_by(&digits[..count]), 0, count, digits);
     }
     None
 }
@@ -152,55 +152,68 @@ fn quick_decimal(negative: bool, count: usize, digits: &[u8]) -> Option<Quick>
     let fraction = &digits[count + 1..];
     let places = digit_run(fraction);
     let end = count + 1 + places;
-    if places == 0 || count + places > NARROW || end >= digits.len() || !stops_number(digits[end]) {
+    if places == 0 || count + places > NARROW || end >= digits.len() {
         return None;
     }
     let whole = number_after(0, &digits[..count]);
-    let coefficient = number_after(whole, &fraction[..places]);
-    Some(Quick {
-        negative,
-        number: coefficient as u128,
-        exponent: Some(exponent_of(true, places as u64)),
-        count: end,
-    })
+    let coefficient = number_after(whole, &fraction[..places]) as u128;
+    if stops_number(digits[end]) {
+        return Some(Quick {
+            negative,
+            number: coefficient,
+            exponent: Some(exponent_of(true, places as u64, 0)),
+            count: end,
+        });
+    }
+    if digits[end] == b'd' {
+        return quick_power(negative, coefficient, places, end, digits);
+    }
+    None
 }
 
-// The decimal of so many digits with a `d` behind them and an exponent.
-#[inline(always)]
-fn quick_power(negative: bool, count: usize, digits: &[u8]) -> Option<Quick>
-    requires whole { AreWhole digits.now count }
-    requires few { count ≤ 38 }
-    requires mark { get_or digits.now count 0 ≡ 100 }
+// The decimal of a coefficient, of which so many digits stand behind a point, that ends at a place
+// with a `d` and an exponent behind it.
+#[inline(never)]
+fn quick_power(
+    negative: bool,
+    coefficient: u128,
+    places: usize,
+    end: usize,
+    digits: &[u8],
+) -> Option<Quick>
+    requires mantissa { IsMantissa digits.now coefficient places end }
+    requires mark { get_or digits.now end 0 ≡ 100 }
     ensures { IfSome result (λ x. IsQuick negative digits.now x) }
 {
-    let (below, power) = sign(&digits[count + 1..]);
+    let (below, power) = sign(&digits[end + 1..]);
     let n = digit_run(power);
     if n == 0 || n > NARROW {
         return None;
     }
     let magnitude = number_after(0, &power[..n]);
-    let end = if below { count + 2 + n } else { count + 1 + n };
-    if magnitude > GREATEST || end >= digits.len() || !stops_number(digits[end]) {
+    let count = if below { end + 2 + n } else { end + 1 + n };
+    if magnitude > GREATEST || count >= digits.len() || !stops_number(digits[count]) {
         return None;
     }
     Some(Quick {
         negative,
-        number: number_by(&digits[..count]),
-        exponent: Some(exponent_of(below, magnitude)),
-        count: end,
+        number: coefficient,
+        exponent: Some(exponent_of(below, magnitude, places)),
+        count,
     })
 }
 
-// The exponent of this sign and magnitude.
+// The exponent of this sign and magnitude, less so many digits behind a point.
 #[inline(always)]
-fn exponent_of(below: bool, magnitude: u64) -> i32
-    requires few { magnitude ≤ 128 }
-    ensures { result ≡ signed below magnitude }
+fn exponent_of(below: bool, magnitude: u64, places: usize) -> i32
+    requires small { magnitude ≤ 128 }
+    requires few { places ≤ 19 }
+    ensures { result ≡ signed below magnitude -ℤ pos places }
 {
     if below {
-        -(magnitude as i32)
+        -(magnitude as i32) - places as i32
     } else {
-        magnitude as i32
+        magnitude as i32 - places as i32
     }
 }
 

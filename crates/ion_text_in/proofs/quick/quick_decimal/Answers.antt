@@ -5,7 +5,7 @@ use Rattle.std.proofs.Common.{rules, ◌≡◌, ℕ, ◌+◌, ◌∙◌, ℤ, So
 use Rattle.std.proofs.lemmas.List.{take_rest, length-take-le}
 use Rattle.ion_text_in.specs.Quick.{number_after, IsQuick}
 use Rattle.ion_text_in.proofs.DigitNumbers.{narrow-behind}
-use Rattle.ion_text_in.proofs.QuickNumbers.{digits-spell, quick-decimal, whole-spells}
+use Rattle.ion_text_in.proofs.QuickNumbers.{digits-spell, less-none, pointed-mantissa, quick-decimal, whole-spells}
 use Rattle.ion_text_in.proofs.quick.quick_decimal.Goals as goal
 
 pub number_after-coefficient-requires-clause-room : goal.number_after-coefficient-requires-clause-room
@@ -17,8 +17,8 @@ number_after-coefficient-requires-clause-room c =
     let room = narrow-behind (take c.args.count digits) places c.requires.whole.digits (omega (arith, front, c.if-count-places-gt-NARROW.false)) in
     rw (behind, c.number_after-whole.ensures) room
 
-pub returns : goal.returns
-returns c =
+pub returns-then-stops_number : goal.returns-then-stops_number
+returns-then-stops_number c =
     let digits = c.args.digits.now in
     let count = c.args.count in
     let places = c.digit_run-places.result in
@@ -29,9 +29,23 @@ returns c =
     = c.number_after-coefficient.ensures ∙ ap₂ number_after c.number_after-whole.ensures (ap (take places) rest) in
     let within = rw rest at c.digit_run-places.ensures.within in
     let behind = digits-spell n fraction places within (omega arith) (rw rest at c.digit_run-places.ensures.digits) in
-    let stop = sym c.stops_number.ensures ∙ c.if-not-stops_number.false in
+    let stop = sym c.stops_number.ensures ∙ c.if-stops_number.true in
     let quick = quick-decimal c.args.negative digits n count (number_after n (take places fraction)) places (whole-spells digits count c.requires.whole) c.requires.point behind (omega arith) (omega arith) stop (omega (arith, is)) (omega arith) in
     let fits : SFits w32 c.exponent_of.result = search rules in
-    let kept = to_z-of_z w32 c.exponent_of.result fits ∙ c.exponent_of.ensures in
+    let kept = to_z-of_z w32 c.exponent_of.result fits ∙ c.exponent_of.ensures ∙ less-none places in
     subst (λ (e : ℤ). IsQuick c.args.negative digits (record { negative = c.args.negative; number = c.number_after-coefficient.result; exponent = Some e; count = count + 1 + places })) (sym kept)
     (rw is quick)
+
+pub quick_power-requires-clause-mantissa : goal.quick_power-requires-clause-mantissa
+quick_power-requires-clause-mantissa c =
+    let digits = c.args.digits.now in
+    let count = c.args.count in
+    let places = c.digit_run-places.result in
+    let rest = take_rest digits (count + 1) in
+    let fraction = drop (count + 1) digits in
+    let n : ℕ = number_after 0 (take count digits) in
+    let is : c.number_after-coefficient.result ≡ number_after n (take places fraction)
+    = c.number_after-coefficient.ensures ∙ ap₂ number_after c.number_after-whole.ensures (ap (take places) rest) in
+    let within = rw rest at c.digit_run-places.ensures.within in
+    let behind = digits-spell n fraction places within (omega arith) (rw rest at c.digit_run-places.ensures.digits) in
+    rw is (pointed-mantissa digits n count (number_after n (take places fraction)) places (whole-spells digits count c.requires.whole) c.requires.point behind (omega arith) (omega arith) (omega arith))

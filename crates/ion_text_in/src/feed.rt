@@ -683,7 +683,7 @@ fn keyword<'a, W: ValueWriter<O, A>, O: Output, A: Allocator + Copy>(
 }
 
 // Hands on the value that begins here, or the container's beginning, behind its field's name.
-#[inline(always)]
+#[inline]
 fn value<'a, W: ValueWriter<O, A>, O: Output, A: Allocator + Copy>(
     at: &mut Spot<'a>,
     next: Next<'a>,
@@ -751,7 +751,7 @@ fn turn<'a, W: ValueWriter<O, A>, O: Output, A: Allocator + Copy>(
 
 /// Hands on the items at the front of the bytes of a window that ends at a place, as many as lie whole
 /// in it, are frequent ones, and are taken.
-#[inline(always)]
+#[inline(never)]
 pub(crate) fn feed_items<'a, W: ValueWriter<O, A>, O: Output, A: Allocator + Copy>(
     spot: Spot<'a>,
     limits: Limits,

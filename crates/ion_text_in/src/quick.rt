@@ -143,7 +143,7 @@ const NARROW: usize = 19;
 const GREATEST: u64 = 128;
 
 // The decimal of so many digits with a point behind them.
-#[inline(always)]
+#[inline(never)]
 fn quick_decimal(negative: bool, count: usize, digits: &[u8]) -> Option<Quick>
     requires whole { AreWhole digits.now count }
     requires point { get_or digits.now count 0 ≡ 46 }

@@ -87,7 +87,7 @@ pub(crate) fn told_first(bytes: &[u8]) -> u64
 {
     match bytes {
         [] => 0,
-        [byte, ..] => u64::from(FIRST_BYTES[*byte as usize]),
+        [byte, ..] => FIRST_BYTES[*byte as usize] as u64,
     }
 }
 

@@ -107,6 +107,18 @@ fn system_simple(id: u32) -> Option<&'static [u8]>
     }
 }
 
+// The same text. What a call that is not in line answered is built anew, so that where none is called
+// the answer does not go by memory.
+#[inline(always)]
+fn handed_on(text: Option<&[u8]>) -> Option<&[u8]>
+    ensures { result ≡ text.entry }
+{
+    match text {
+        Some(text) => Some(text),
+        None => None,
+    }
+}
+
 // The local slot at a place.
 #[inline(always)]
 fn local<A: Allocator + Copy>(slots: &Slots<A>, place: u64) -> Slot<'_>
@@ -357,11 +369,15 @@ impl<'c, A: Allocator + Copy> Names for Symbols<'c, A> {
     #[inline(always)]
     fn simple_text(&self, id: u32) -> Option<&[u8]> {
         if id < 10 {
-            return system_simple(id);
+            return handed_on(system_simple(id));
         }
         let place = (id - 10) as u64;
         if place < self.import_slots {
-            imported_simple(self.catalog, self.imports.as_slice(), place)
+            handed_on(imported_simple(
+                self.catalog,
+                self.imports.as_slice(),
+                place,
+            ))
         } else {
             local_simple(&self.slots, place - self.import_slots)
         }

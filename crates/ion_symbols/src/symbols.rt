@@ -373,11 +373,7 @@ impl<'c, A: Allocator + Copy> Names for Symbols<'c, A> {
         }
         let place = (id - 10) as u64;
         if place < self.import_slots {
-            handed_on(imported_simple(
-                self.catalog,
-                self.imports.as_slice(),
-                place,
-            ))
+            handed_on(imported_simple(self.catalog, self.imports.as_slice(), place))
         } else {
             local_simple(&self.slots, place - self.import_slots)
         }

@@ -190,8 +190,8 @@ pub trait RawReader<A: Allocator + Copy> {
             (own self.new + W.own writer.new) (most self.old + W.most writer.old) }
         ensures goes { own self.new ≤ own self.old + 16 * (left self.old - left self.new) };
 
-    /// Whether the next call of `next` may read from a device that gave less than was asked for, and
-    /// so may have to wait. What was put of the items so far is best written before that.
+    /// Whether the next call of `next` may read from the device, and so may have to wait. What was put
+    /// of the items so far is best written before that.
     ///
     /// It may be true of a call that reads nothing. Nothing is proved of the answer.
     fn may_wait(&self) -> bool;

@@ -259,13 +259,6 @@ impl<I: Input, A: Allocator + Copy> Source<I, A> {
         self.consume(1);
     }
 
-    /// Whether the last read gave fewer bytes than there was room for, or there was none yet: the
-    /// next one may then have to wait for the device.
-    #[inline]
-    pub fn is_short(&self) -> bool {
-        self.end < WINDOW
-    }
-
     /// How many bytes were passed over: the place of the next one, counted from 0.
     #[inline]
     pub fn place(&self) -> u64

@@ -34,4 +34,6 @@ mod tables;
 #[cfg(test)]
 mod to_binary;
 #[cfg(test)]
+mod uses;
+#[cfg(test)]
 mod vectors;

@@ -25,9 +25,6 @@ use ion_transcode::to::{Summary, To};
 use linked_list_allocator::LocalHeap;
 use std::alloc::Global;
 
-#[cfg(test)]
-mod tests;
-
 /// The canonical text of a stream, text or binary, or why there is none.
 pub fn text_of(alloc: Global, limits: Limits, stream: &[u8]) -> Result<Vec<u8>, Fault>
     requires { AreChecked limits }

@@ -1,5 +1,8 @@
-//! One run of each caller.
-use super::*;
+//! One run of each caller of `ion_uses`.
+
+use ion_meter::limits::Limits;
+use ion_meter::stream::{FromRead, ToWrite};
+use ion_uses::{count_with, show_within, text_of};
 
 #[test]
 fn a_text(rt: HostRuntime) {

@@ -4,11 +4,12 @@ use crate::hex::{MARKER, octets};
 use crate::limits::LIMITS;
 use crate::pieces::whole;
 use crate::reading::{Outcome, read, read_each_way};
-use crate::same::same;
 use crate::streams;
 use crate::tables::RAW;
 use ion_meter::fault::{Fault, Reason};
 use ion_meter::limits::Limits;
+use ion_rows::fields::{Fields, is_row};
+use ion_rows::same::same;
 use std::alloc::Global;
 use std::process::Abort;
 
@@ -41,18 +42,22 @@ pub fn expect_prefixes(rt: &impl Abort, alloc: Global, limits: Limits, octets: &
     }
 }
 
-#[test]
-fn streams_cut_short(rt: HostRuntime) {
-    for rows in RAW {
-        for (digits, _) in rows {
-            let octets = octets(&rt, rt.alloc(), MARKER, digits);
-            expect_prefixes(&rt, rt.alloc(), LIMITS, octets.as_slice());
+// The same of each row of a table, behind these octets.
+fn expect_all_prefixes(rt: &impl Abort, alloc: Global, front: &[u8], table: &str) {
+    for row in table.split('\n') {
+        if is_row(row) {
+            let octets = octets(rt, alloc, front, Fields::of(row).text(rt));
+            expect_prefixes(rt, alloc, LIMITS, octets.as_slice());
         }
     }
-    for (digits, _) in streams::ROWS {
-        let octets = octets(&rt, rt.alloc(), b"", digits);
-        expect_prefixes(&rt, rt.alloc(), LIMITS, octets.as_slice());
+}
+
+#[test]
+fn streams_cut_short(rt: HostRuntime) {
+    for table in RAW {
+        expect_all_prefixes(&rt, rt.alloc(), MARKER, table);
     }
+    expect_all_prefixes(&rt, rt.alloc(), b"", streams::ROWS);
 }
 
 const DEPTHS_AND_SCALARS: [(u32, u64); 6] = [(0, 0), (0, 15), (1, 1), (1, 16), (2, 17), (2, 33)];
@@ -84,10 +89,12 @@ fn expect_cut_short(rt: &impl Abort, alloc: Global, octets: &[u8]) {
 
 #[test]
 fn small_limits_only_cut_short(rt: HostRuntime) {
-    for rows in RAW {
-        for (digits, _) in rows {
-            let octets = octets(&rt, rt.alloc(), MARKER, digits);
-            expect_cut_short(&rt, rt.alloc(), octets.as_slice());
+    for table in RAW {
+        for row in table.split('\n') {
+            if is_row(row) {
+                let octets = octets(&rt, rt.alloc(), MARKER, Fields::of(row).text(&rt));
+                expect_cut_short(&rt, rt.alloc(), octets.as_slice());
+            }
         }
     }
 }

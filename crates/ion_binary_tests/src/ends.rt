@@ -1,120 +1,42 @@
 //! Containers that end one behind the other round long bodies, and what comes behind them.
 
 use crate::hex::{MARKER, add, add_digits, octets};
+use crate::items::{LONG, SHORT, items_of};
 use crate::limits::LIMITS;
-use crate::same::same;
-use crate::written::{Part, Step, put};
+use crate::written::put;
 use ion_meter::fault::{Fault, Reason};
 use ion_meter::limits::Limits;
-use ion_value::ion_type::Kind;
-use ion_value::item::Annotation;
+use ion_rows::fields::{Fields, is_row};
+use ion_rows::same::same;
 use std::alloc::Global;
 use std::process::Abort;
 
-// A body that is long, and one that is not.
-const LONG: [u8; 5_000] = [b'x'; 5_000];
-
-const SHORT: [u8; 3_000] = [b'x'; 3_000];
-
-// The annotation `name`.
-const NAME: &[Annotation] = &[Annotation::Text {
-    from: 0,
-    to: 4,
-    place: 0,
-}];
-
-const LIST: Step<'static> = (None, &[], Part::Begin(Kind::List));
-
-const NAMED: Step<'static> = (None, NAME, Part::Begin(Kind::List));
-
-const SEXP: Step<'static> = (None, &[], Part::Begin(Kind::Sexp));
-
-const STRUCT: Step<'static> = (None, &[], Part::Begin(Kind::Struct));
-
-const NAME_LIST: Step<'static> = (Some(b"name"), &[], Part::Begin(Kind::List));
-
-const NAME_STRUCT: Step<'static> = (Some(b"name"), &[], Part::Begin(Kind::Struct));
-
-const NAME_TEXT: Step<'static> = (Some(b"name"), &[], Part::Text(&LONG));
-
-const NAME_TRUE: Step<'static> = (Some(b"name"), &[], Part::Bool(true));
-
-const END: Step<'static> = (None, &[], Part::End);
-
-const TEXT: Step<'static> = (None, &[], Part::Text(&LONG));
-
-const FEW: Step<'static> = (None, &[], Part::Text(&SHORT));
-
-const TRUE: Step<'static> = (None, &[], Part::Bool(true));
-
-const NAMED_TRUE: Step<'static> = (None, NAME, Part::Bool(true));
-
-// The length of the first value, items, and the octets behind a version marker, among which the two
-// bodies stand by their names.
-type Row = (u64, &'static [Step<'static>], &'static str);
-
-const ROWS: &[Row] = &[
-    // The end of the value comes behind them.
-    (
-        5_012,
-        &[LIST, LIST, LIST, TEXT, END, END, END],
-        "BE 27 91 BE 27 8E BE 27 8B 8E 27 88 LONG",
-    ),
-    // A member does, and an empty list.
-    (
-        5_014,
-        &[LIST, SEXP, LIST, TEXT, END, END, TRUE, LIST, END, END],
-        "BE 27 93 CE 27 8E BE 27 8B 8E 27 88 LONG 11 B0",
-    ),
-    // A member does at each level.
-    (
-        5_014,
-        &[LIST, LIST, LIST, TEXT, END, TRUE, END, TRUE, END, TRUE],
-        "BE 27 93 BE 27 8F BE 27 8B 8E 27 88 LONG 11 11 11",
-    ),
-    // A field does.
-    (
-        5_015,
-        &[
-            STRUCT,
-            NAME_STRUCT,
-            NAME_TEXT,
-            END,
-            NAME_LIST,
-            END,
-            NAME_TRUE,
-            END,
-        ],
-        "DE 27 94 84 DE 27 8C 84 8E 27 88 LONG 84 B0 84 11",
-    ),
-    // They have wrappers, the outermost too.
-    (
-        5_019,
-        &[NAMED, NAMED, TEXT, END, END, NAMED_TRUE, LIST, END],
-        "EE 27 98 81 84 BE 27 93 EE 27 90 81 84 BE 27 8B 8E 27 88 LONG E3 81 84 11 B0",
-    ),
-    // A member with a wrapper comes behind two that have one.
-    (
-        5_026,
-        &[LIST, NAMED, NAMED, TEXT, END, END, NAMED_TRUE, END],
-        "BE 27 9F EE 27 98 81 84 BE 27 93 EE 27 90 81 84 BE 27 8B 8E 27 88 LONG E3 81 84 11",
-    ),
-    // The inner ones are short.
-    (
-        6_015,
-        &[LIST, LIST, LIST, FEW, END, FEW, END, END, TRUE],
-        "BE 2E FC BE 2E F9 BE 17 BB 8E 17 B8 SHORT 8E 17 B8 SHORT 11",
-    ),
-    // Others come behind them.
-    (
-        13_030,
-        &[
-            LIST, LIST, LIST, FEW, END, TEXT, END, NAMED, LIST, TEXT, END, END, TRUE, END,
-        ],
-        "BE 65 E3 BE 3E C9 BE 17 BB 8E 17 B8 SHORT 8E 27 88 LONG EE 27 93 81 84 BE 27 8E BE 27 8B \
-         8E 27 88 LONG 11",
-    ),
-];
+// Items, the length of the first value, and the octets behind a version marker, among which two texts
+// stand by their names.
+const ROWS: &str = "
+# The end of the value comes behind them.
+list,list,list,LONG,end,end,end|5012|BE 27 91 BE 27 8E BE 27 8B 8E 27 88 LONG|
+# A member does, and an empty list.
+list,sexp,list,LONG,end,end,true,list,end,end|5014|BE 27 93 CE 27 8E BE 27 8B 8E 27 88 LONG 11 B0|
+# A member does at each level.
+list,list,list,LONG,end,true,end,true,end,true|5014|\
+    BE 27 93 BE 27 8F BE 27 8B 8E 27 88 LONG 11 11 11|
+# A field does.
+struct,name//struct,name//LONG,end,name//list,end,name//true,end|5015|\
+    DE 27 94 84 DE 27 8C 84 8E 27 88 LONG 84 B0 84 11|
+# They have wrappers, the outermost too.
+/name/list,/name/list,LONG,end,end,/name/true,list,end|5019|\
+    EE 27 98 81 84 BE 27 93 EE 27 90 81 84 BE 27 8B 8E 27 88 LONG E3 81 84 11 B0|
+# A member with a wrapper comes behind two that have one.
+list,/name/list,/name/list,LONG,end,end,/name/true,end|5026|\
+    BE 27 9F EE 27 98 81 84 BE 27 93 EE 27 90 81 84 BE 27 8B 8E 27 88 LONG E3 81 84 11|
+# The inner ones are short.
+list,list,list,SHORT,end,SHORT,end,end,true|6015|\
+    BE 2E FC BE 2E F9 BE 17 BB 8E 17 B8 SHORT 8E 17 B8 SHORT 11|
+# Others come behind them.
+list,list,list,SHORT,end,LONG,end,/name/list,list,LONG,end,end,true,end|13030|BE 65 E3 BE 3E C9 \
+    BE 17 BB 8E 17 B8 SHORT 8E 27 88 LONG EE 27 93 81 84 BE 27 8E BE 27 8B 8E 27 88 LONG 11|
+";
 
 // The octets of a row.
 fn row_octets(rt: &impl Abort, alloc: Global, text: &str) -> Vec<u8> {
@@ -131,11 +53,14 @@ fn row_octets(rt: &impl Abort, alloc: Global, text: &str) -> Vec<u8> {
 
 // Asserts what is written of a row, where a value may have the length of the first, and that one octet
 // less is too few.
-fn expect_row(rt: &impl Abort, alloc: Global, row: &Row) {
-    let (value, steps, text) = *row;
+fn expect_row(rt: &impl Abort, alloc: Global, row: &str) {
+    let mut fields = Fields::of(row);
+    let steps = items_of(rt, alloc, fields.text(rt));
+    let steps = steps.as_slice();
+    let value = fields.number(rt);
     let limits = Limits { value, ..LIMITS };
     let written = put(rt, alloc, limits, steps, Ok(()), Vec::new(alloc));
-    let want = row_octets(rt, alloc, text);
+    let want = row_octets(rt, alloc, fields.text(rt));
     same(rt, written.as_slice(), want.as_slice());
     let limits = Limits {
         value: value.saturating_sub(1),
@@ -148,7 +73,9 @@ fn expect_row(rt: &impl Abort, alloc: Global, row: &Row) {
 
 #[test]
 fn ends_in_a_row_are_written(rt: HostRuntime) {
-    for row in ROWS {
-        expect_row(&rt, rt.alloc(), row);
+    for row in ROWS.split('\n') {
+        if is_row(row) {
+            expect_row(&rt, rt.alloc(), row);
+        }
     }
 }

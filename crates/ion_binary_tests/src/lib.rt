@@ -22,6 +22,8 @@ mod hex;
 #[cfg(test)]
 mod imports;
 #[cfg(test)]
+mod items;
+#[cfg(test)]
 mod laws;
 #[cfg(test)]
 mod limits;
@@ -35,8 +37,6 @@ mod pieces;
 mod reading;
 #[cfg(test)]
 mod refusing;
-#[cfg(test)]
-mod same;
 #[cfg(test)]
 mod scalars;
 #[cfg(test)]

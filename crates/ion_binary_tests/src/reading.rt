@@ -4,7 +4,6 @@ ghost use Rattle.ion_meter.specs.Limits.{AreChecked};
 ghost use Rattle.ion_symbols.specs.User.{IsReady, owned_by};
 
 use crate::pieces::{Pieces, in_pieces, whole};
-use crate::same::same;
 use crate::telling::tell_item;
 use ion_binary::reader::BinReader;
 use ion_meter::fault::Fault;
@@ -12,6 +11,7 @@ use ion_meter::limits::Limits;
 use ion_meter::meter::Meter;
 use ion_meter::source::Source;
 use ion_meter::stream::FromRead;
+use ion_rows::same::same;
 use ion_symbols::catalog::Catalog;
 use ion_symbols::user::UserReader;
 use ion_value::item::{Head, Item};

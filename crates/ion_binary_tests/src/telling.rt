@@ -7,7 +7,8 @@ use ion_value::timestamp::{Precision, Timestamp};
 use std::alloc::AllocError;
 use std::fmt::Write;
 
-fn type_name(kind: IonType) -> &'static str {
+/// The name of a type.
+pub fn type_name(kind: IonType) -> &'static str {
     match kind {
         IonType::Null => "null",
         IonType::Bool => "bool",

@@ -6,7 +6,6 @@ ghost use Rattle.ion_value.specs.Standing.{open_after, open_behind, is_marker, F
 ghost use Rattle.ion_value.specs.Value.{PlacedItem};
 
 use crate::reading::expect_little;
-use crate::same::same;
 use ion_binary::writer::BinWriter;
 use ion_meter::device::Output;
 use ion_meter::fault::Fault;
@@ -14,6 +13,7 @@ use ion_meter::limits::Limits;
 use ion_meter::meter::Meter;
 use ion_meter::sink::Sink;
 use ion_meter::stream::ToWrite;
+use ion_rows::same::same;
 use ion_value::decimal::decimal_from_text;
 use ion_value::int::int_from_text;
 use ion_value::ion_type::{IonType, Kind};

@@ -1,609 +1,154 @@
 //! Items, and the octets that they are written as.
 
 use crate::hex::{MARKER, add, octets};
+use crate::items::items_of;
 use crate::limits::LIMITS;
-use crate::same::same;
-use crate::tables::SYMBOLS;
 use crate::written::{Part, Step, put};
 use crate::written_again::FailingOnce;
 use ion_meter::fault::{Fault, Reason};
 use ion_meter::limits::Limits;
-use ion_value::ion_type::{IonType, Kind};
-use ion_value::item::Annotation;
+use ion_rows::fields::{Fields, is_row};
+use ion_rows::same::same;
+use ion_value::ion_type::Kind;
 use std::alloc::Global;
 use std::process::Abort;
 
-/// The greatest length of a value where nothing else is said.
-const VALUE: u64 = 16_777_216;
-
-/// An annotation of the text `name`, and of `version`.
-const NAME: Annotation = Annotation::Text {
-    from: 0,
-    to: 4,
-    place: 0,
-};
-
-const VERSION: Annotation = Annotation::Text {
-    from: 4,
-    to: 11,
-    place: 0,
-};
-
-/// The annotations `a`, one of unknown text, `name` and `a` again.
-const FOUR: &[Annotation] = &[
-    Annotation::Text {
-        from: 1,
-        to: 2,
-        place: 3,
-    },
-    Annotation::Id { id: 12, place: 4 },
-    Annotation::Text {
-        from: 0,
-        to: 4,
-        place: 5,
-    },
-    Annotation::Text {
-        from: 1,
-        to: 2,
-        place: 6,
-    },
-];
-
 const LIST: Step<'static> = (None, &[], Part::Begin(Kind::List));
-
-const SEXP: Step<'static> = (None, &[], Part::Begin(Kind::Sexp));
-
-const STRUCT: Step<'static> = (None, &[], Part::Begin(Kind::Struct));
 
 const END: Step<'static> = (None, &[], Part::End);
 
-const A: Step<'static> = (None, &[], Part::Symbol(b"a"));
-
-const B: Step<'static> = (None, &[], Part::Symbol(b"b"));
-
-const TRUE: Step<'static> = (None, &[], Part::Bool(true));
-
-const ONE: Step<'static> = (None, &[], Part::Int(b"1"));
-
-const TWO: Step<'static> = (None, &[], Part::Int(b"2"));
-
-const FIVE: Step<'static> = (None, &[], Part::Int(b"5"));
-
-const LIST_OF_NAME: Step<'static> = (Some(b"name"), &[], Part::Begin(Kind::List));
-
 const LETTERS: Step<'static> = (None, &[], Part::Text(&[b'a'; 64]));
-
-// A symbol as a field with four annotations.
-const Z: Step<'static> = (Some(b"f"), FOUR, Part::Symbol(b"z"));
 
 /// More bytes than a window has.
 const LONG: [u8; 5_000] = [b'a'; 5_000];
 
-/// The limits on a value and on symbol tables, items, the answer, and what is written.
-type Row = (
-    u64,
-    u64,
-    &'static [Step<'static>],
-    Result<(), Fault>,
-    &'static str,
-);
-
-/// Scalars.
-const SCALARS: &[Row] = &[
-    (
-        VALUE,
-        SYMBOLS,
-        &[(None, &[], Part::Null(IonType::Int))],
-        Ok(()),
-        "E0 01 00 EA 2F",
-    ),
-    (
-        VALUE,
-        SYMBOLS,
-        &[(None, &[], Part::Int(b"5"))],
-        Ok(()),
-        "E0 01 00 EA 21 05",
-    ),
-    (
-        VALUE,
-        SYMBOLS,
-        &[(None, &[], Part::Int(b"-0"))],
-        Ok(()),
-        "E0 01 00 EA 20",
-    ),
-    (
-        VALUE,
-        SYMBOLS,
-        &[(
-            None,
-            &[],
-            Part::Int(b"340282366920938463463374607431768211455"),
-        )],
-        Ok(()),
-        "E0 01 00 EA 2E 90 FF FF FF FF FF FF FF FF FF FF FF FF FF FF FF FF",
-    ),
-    (
-        VALUE,
-        SYMBOLS,
-        &[(None, &[], Part::Decimal(b"-0."))],
-        Ok(()),
-        "E0 01 00 EA 52 80 80",
-    ),
-    (
-        VALUE,
-        SYMBOLS,
-        &[(None, &[], Part::Timestamp(b"2011-02-20T11:30:59.100-08:00"))],
-        Ok(()),
-        "E0 01 00 EA 6B 43 E0 0F DB 82 94 93 9E BB C3 64",
-    ),
-    (
-        VALUE,
-        SYMBOLS,
-        &[(None, &[], Part::Symbol(b"name"))],
-        Ok(()),
-        "E0 01 00 EA 71 04",
-    ),
-    (
-        VALUE,
-        SYMBOLS,
-        &[(None, &[], Part::Unknown(0))],
-        Ok(()),
-        "E0 01 00 EA 70",
-    ),
-    (
-        VALUE,
-        SYMBOLS,
-        &[(None, &[], Part::Text(b"\xC3\xA9"))],
-        Ok(()),
-        "E0 01 00 EA 82 C3 A9",
-    ),
-    // Nulls of each type, and truths.
-    (
-        VALUE,
-        SYMBOLS,
-        &[
-            (None, &[], Part::Null(IonType::Null)),
-            (None, &[], Part::Null(IonType::Bool)),
-            (None, &[], Part::Null(IonType::Int)),
-            (None, &[], Part::Null(IonType::Float)),
-            (None, &[], Part::Null(IonType::Decimal)),
-            (None, &[], Part::Null(IonType::Timestamp)),
-            (None, &[], Part::Null(IonType::Symbol)),
-            (None, &[], Part::Null(IonType::String)),
-            (None, &[], Part::Null(IonType::Clob)),
-            (None, &[], Part::Null(IonType::Blob)),
-            (None, &[], Part::Null(IonType::List)),
-            (None, &[], Part::Null(IonType::Sexp)),
-            (None, &[], Part::Null(IonType::Struct)),
-            (None, &[], Part::Bool(false)),
-            TRUE,
-        ],
-        Ok(()),
-        "E0 01 00 EA 0F 1F 2F 4F 5F 6F 7F 8F 9F AF BF CF DF 10 11",
-    ),
-    // Ints, decimals and timestamps.
-    (
-        VALUE,
-        SYMBOLS,
-        &[
-            (None, &[], Part::Int(b"0")),
-            (None, &[], Part::Int(b"1")),
-            (None, &[], Part::Int(b"-7")),
-            (None, &[], Part::Int(b"256")),
-        ],
-        Ok(()),
-        "E0 01 00 EA 20 21 01 31 07 22 01 00",
-    ),
-    (
-        VALUE,
-        SYMBOLS,
-        &[
-            (None, &[], Part::Decimal(b"0.")),
-            (None, &[], Part::Decimal(b"-0.")),
-            (None, &[], Part::Decimal(b"0.00")),
-            (None, &[], Part::Decimal(b"1.5")),
-            (None, &[], Part::Decimal(b"-1.5")),
-            (None, &[], Part::Decimal(b"128.")),
-        ],
-        Ok(()),
-        "E0 01 00 EA 50 52 80 80 51 C2 52 C1 0F 52 C1 8F 53 80 00 80",
-    ),
-    (
-        VALUE,
-        SYMBOLS,
-        &[
-            (None, &[], Part::Timestamp(b"2007T")),
-            (None, &[], Part::Timestamp(b"2007-01-02")),
-            (None, &[], Part::Timestamp(b"2007-01-02T01:30+01:00")),
-            (None, &[], Part::Timestamp(b"2007-01-02T03:04:05.010-00:00")),
-        ],
-        Ok(()),
-        "E0 01 00 EA 63 C0 0F D7 65 C0 0F D7 81 82 67 BC 0F D7 81 82 80 9E 6A C0 0F D7 81 82 \
-         83 84 85 C3 0A",
-    ),
-    // What is lent.
-    (
-        VALUE,
-        SYMBOLS,
-        &[
-            (None, &[], Part::Text(b"")),
-            (None, &[], Part::Text(b"abc")),
-            (None, &[], Part::Text(b"0123456789012")),
-            (None, &[], Part::Text(b"01234567890123")),
-            (None, &[], Part::Clob(b"\x00\xFF")),
-            (None, &[], Part::Blob(b"\x00")),
-        ],
-        Ok(()),
-        "E0 01 00 EA 80 83 61 62 63 8D 30 31 32 33 34 35 36 37 38 39 30 31 32 8E 8E 30 31 32 \
-         33 34 35 36 37 38 39 30 31 32 33 92 00 FF A1 00",
-    ),
-];
+/// Scalars: items, how many there are or why one is refused, the octets that are written behind a
+/// version marker, and limits that are not the usual ones.
+const SCALARS: &str = "
+null.int|1|2F|
+int=5|1|21 05|
+int=-0|1|20|
+int=340282366920938463463374607431768211455|1|\
+    2E 90 FF FF FF FF FF FF FF FF FF FF FF FF FF FF FF FF|
+decimal=-0.|1|52 80 80|
+timestamp=2011-02-20T11:30:59.100-08:00|1|6B 43 E0 0F DB 82 94 93 9E BB C3 64|
+symbol=name|1|71 04|
+id=0|1|70|
+string=é|1|82 C3 A9|
+# Nulls of each type, and truths.
+null.null,null.bool,null.int,null.float,null.decimal,null.timestamp,null.symbol,null.string,\
+    null.clob,null.blob,null.list,null.sexp,null.struct,false,true|15|\
+    0F 1F 2F 4F 5F 6F 7F 8F 9F AF BF CF DF 10 11|
+# Ints, decimals and timestamps.
+int=0,int=1,int=-7,int=256|4|20 21 01 31 07 22 01 00|
+decimal=0.,decimal=-0.,decimal=0.00,decimal=1.5,decimal=-1.5,decimal=128.|6|\
+    50 52 80 80 51 C2 52 C1 0F 52 C1 8F 53 80 00 80|
+timestamp=2007T,timestamp=2007-01-02,timestamp=2007-01-02T01:30+01:00,\
+    timestamp=2007-01-02T03:04:05.010-00:00|4|\
+    63 C0 0F D7 65 C0 0F D7 81 82 67 BC 0F D7 81 82 80 9E 6A C0 0F D7 81 82 83 84 85 C3 0A|
+# What is lent.
+string=,string=abc,string=0123456789012,string=01234567890123,clob,blob|6|80 83 61 62 63 8D 30 \
+    31 32 33 34 35 36 37 38 39 30 31 32 8E 8E 30 31 32 33 34 35 36 37 38 39 30 31 32 33 92 00 FF \
+    A1 00|
+";
 
 /// Symbols, fields and annotations.
-const SYMBOLIC: &[Row] = &[
-    // Texts are declared before the value that needs them, in their order and each once.
-    (
-        VALUE,
-        SYMBOLS,
-        &[
-            (None, &[], Part::Null(IonType::Int)),
-            FIVE,
-            (None, &[], Part::Int(b"-0")),
-            (None, &[], Part::Symbol(b"a b")),
-            (None, &[], Part::Symbol(b"a b")),
-        ],
-        Ok(()),
-        "E0 01 00 EA 2F 21 05 20 EC 81 83 D9 86 71 03 87 B4 83 61 20 62 71 0A 71 0A",
-    ),
-    (VALUE, SYMBOLS, &[LIST, END], Ok(()), "E0 01 00 EA B0"),
-    (
-        VALUE,
-        SYMBOLS,
-        &[(None, &[], Part::Symbol(b"x"))],
-        Ok(()),
-        "E0 01 00 EA EA 81 83 D7 86 71 03 87 B2 81 78 71 0A",
-    ),
-    (
-        VALUE,
-        SYMBOLS,
-        &[
-            LIST,
-            (None, &[], Part::Symbol(b"c")),
-            (None, &[], Part::Symbol(b"a")),
-            (None, &[], Part::Symbol(b"")),
-            (None, &[], Part::Symbol(b"c")),
-            (None, &[], Part::Symbol(b"b")),
-            END,
-        ],
-        Ok(()),
-        "E0 01 00 EA EE 8F 81 83 DC 86 71 03 87 B7 81 63 81 61 80 81 62 BA 71 0A 71 0B 71 0C \
-         71 0A 71 0D",
-    ),
-    (
-        VALUE,
-        SYMBOLS,
-        &[(None, &[], Part::Symbol(b"01234567890123"))],
-        Ok(()),
-        "E0 01 00 EA EE 9A 81 83 DE 96 86 71 03 87 BE 90 8E 8E 30 31 32 33 34 35 36 37 38 39 \
-         30 31 32 33 71 0A",
-    ),
-    // A field and annotations, which get their ids before the value.
-    (
-        VALUE,
-        SYMBOLS,
-        &[STRUCT, (Some(b"f"), FOUR, Part::Symbol(b"f")), END],
-        Ok(()),
-        "E0 01 00 EA EC 81 83 D9 86 71 03 87 B4 81 66 81 61 D9 8A E7 84 8B 80 84 8B 71 0A",
-    ),
-    (
-        VALUE,
-        SYMBOLS,
-        &[STRUCT, Z, END],
-        Ok(()),
-        "E0 01 00 EA EE 8E 81 83 DB 86 71 03 87 B6 81 66 81 61 81 7A D9 8A E7 84 8B 80 84 8B \
-         71 0C",
-    ),
-    (
-        VALUE,
-        SYMBOLS,
-        &[STRUCT, (Some(b"f"), FOUR, Part::Symbol(b"imports")), END],
-        Ok(()),
-        "E0 01 00 EA EC 81 83 D9 86 71 03 87 B4 81 66 81 61 D9 8A E7 84 8B 80 84 8B 71 06",
-    ),
-    (
-        VALUE,
-        SYMBOLS,
-        &[STRUCT, (Some(b"f"), FOUR, Part::Unknown(12)), END],
-        Ok(()),
-        "E0 01 00 EA EC 81 83 D9 86 71 03 87 B4 81 66 81 61 D8 8A E6 84 8B 80 84 8B 70",
-    ),
-    (
-        VALUE,
-        SYMBOLS,
-        &[STRUCT, (Some(b"f"), FOUR, Part::Bool(true)), END],
-        Ok(()),
-        "E0 01 00 EA EC 81 83 D9 86 71 03 87 B4 81 66 81 61 D8 8A E6 84 8B 80 84 8B 11",
-    ),
-    // They fit, or the value is too long, wherever it is cut.
-    (
-        10,
-        51,
-        &[STRUCT, Z, END],
-        Ok(()),
-        "E0 01 00 EA EE 8E 81 83 DB 86 71 03 87 B6 81 66 81 61 81 7A D9 8A E7 84 8B 80 84 8B \
-         71 0C",
-    ),
-    (
-        9,
-        51,
-        &[STRUCT, Z, END],
-        Err(Fault::Refused(Reason::ValueLimit, 0)),
-        "E0 01 00 EA",
-    ),
-    (
-        5,
-        51,
-        &[STRUCT, Z, END],
-        Err(Fault::Refused(Reason::ValueLimit, 0)),
-        "E0 01 00 EA",
-    ),
-    (
-        4,
-        51,
-        &[STRUCT, Z, END],
-        Err(Fault::Refused(Reason::ValueLimit, 0)),
-        "E0 01 00 EA",
-    ),
-    (
-        3,
-        51,
-        &[STRUCT, Z, END],
-        Err(Fault::Refused(Reason::ValueLimit, 0)),
-        "E0 01 00 EA",
-    ),
-    (
-        2,
-        51,
-        &[STRUCT, Z, END],
-        Err(Fault::Refused(Reason::ValueLimit, 0)),
-        "E0 01 00 EA",
-    ),
-    (
-        1,
-        51,
-        &[STRUCT, Z, END],
-        Err(Fault::Refused(Reason::ValueLimit, 0)),
-        "E0 01 00 EA",
-    ),
-    // The first text that costs too much, even where the value is too long.
-    (
-        2,
-        16,
-        &[STRUCT, Z, END],
-        Err(Fault::Refused(Reason::SymbolLimit, 101)),
-        "E0 01 00 EA",
-    ),
-    (
-        2,
-        17,
-        &[STRUCT, Z, END],
-        Err(Fault::Refused(Reason::SymbolLimit, 3)),
-        "E0 01 00 EA",
-    ),
-    (
-        2,
-        33,
-        &[STRUCT, Z, END],
-        Err(Fault::Refused(Reason::SymbolLimit, 3)),
-        "E0 01 00 EA",
-    ),
-    (
-        2,
-        34,
-        &[STRUCT, Z, END],
-        Err(Fault::Refused(Reason::SymbolLimit, 1)),
-        "E0 01 00 EA",
-    ),
-    (
-        2,
-        50,
-        &[STRUCT, Z, END],
-        Err(Fault::Refused(Reason::SymbolLimit, 1)),
-        "E0 01 00 EA",
-    ),
-];
+const SYMBOLIC: &str = "
+# Texts are declared before the value that needs them, in their order and each once.
+null.int,int=5,int=-0,symbol=a b,symbol=a b|5|\
+    2F 21 05 20 EC 81 83 D9 86 71 03 87 B4 83 61 20 62 71 0A 71 0A|
+list,end|2|B0|
+symbol=x|1|EA 81 83 D7 86 71 03 87 B2 81 78 71 0A|
+list,symbol=c,symbol=a,symbol=,symbol=c,symbol=b,end|7|\
+    EE 8F 81 83 DC 86 71 03 87 B7 81 63 81 61 80 81 62 BA 71 0A 71 0B 71 0C 71 0A 71 0D|
+symbol=01234567890123|1|\
+    EE 9A 81 83 DE 96 86 71 03 87 BE 90 8E 8E 30 31 32 33 34 35 36 37 38 39 30 31 32 33 71 0A|
+# A field and annotations, which get their ids before the value.
+struct,f/four/symbol=f,end|3|EC 81 83 D9 86 71 03 87 B4 81 66 81 61 D9 8A E7 84 8B 80 84 8B 71 0A|
+struct,f/four/symbol=z,end|3|\
+    EE 8E 81 83 DB 86 71 03 87 B6 81 66 81 61 81 7A D9 8A E7 84 8B 80 84 8B 71 0C|
+struct,f/four/symbol=imports,end|3|\
+    EC 81 83 D9 86 71 03 87 B4 81 66 81 61 D9 8A E7 84 8B 80 84 8B 71 06|
+struct,f/four/id=12,end|3|EC 81 83 D9 86 71 03 87 B4 81 66 81 61 D8 8A E6 84 8B 80 84 8B 70|
+struct,f/four/true,end|3|EC 81 83 D9 86 71 03 87 B4 81 66 81 61 D8 8A E6 84 8B 80 84 8B 11|
+# They fit, or the value is too long, wherever it is cut.
+struct,f/four/symbol=z,end|3|EE 8E 81 83 DB 86 71 03 87 B6 81 66 81 61 81 7A D9 8A E7 84 8B 80 \
+    84 8B 71 0C|value=10|symbols=51|
+struct,f/four/symbol=z,end|ValueLimit 0||value=9|symbols=51|
+struct,f/four/symbol=z,end|ValueLimit 0||value=5|symbols=51|
+struct,f/four/symbol=z,end|ValueLimit 0||value=4|symbols=51|
+struct,f/four/symbol=z,end|ValueLimit 0||value=3|symbols=51|
+struct,f/four/symbol=z,end|ValueLimit 0||value=2|symbols=51|
+struct,f/four/symbol=z,end|ValueLimit 0||value=1|symbols=51|
+# The first text that costs too much, even where the value is too long.
+struct,f/four/symbol=z,end|SymbolLimit 101||value=2|symbols=16|
+struct,f/four/symbol=z,end|SymbolLimit 3||value=2|symbols=17|
+struct,f/four/symbol=z,end|SymbolLimit 3||value=2|symbols=33|
+struct,f/four/symbol=z,end|SymbolLimit 1||value=2|symbols=34|
+struct,f/four/symbol=z,end|SymbolLimit 1||value=2|symbols=50|
+";
 
 /// Containers, annotations and limits on a value.
-const CONTAINERS: &[Row] = &[
-    (
-        VALUE,
-        SYMBOLS,
-        &[STRUCT, LIST_OF_NAME, ONE, TWO, END],
-        Ok(()),
-        "E0 01 00 EA",
-    ),
-    (
-        VALUE,
-        SYMBOLS,
-        &[STRUCT, LIST_OF_NAME, ONE, TWO, END, END],
-        Ok(()),
-        "E0 01 00 EA D6 84 B4 21 01 21 02",
-    ),
-    (
-        VALUE,
-        SYMBOLS,
-        &[LIST, LIST, END, SEXP, END, END],
-        Ok(()),
-        "E0 01 00 EA B2 B0 C0",
-    ),
-    // Annotations.
-    (
-        VALUE,
-        SYMBOLS,
-        &[
-            (None, &[NAME], Part::Int(b"5")),
-            (None, &[NAME, VERSION], Part::Int(b"5")),
-        ],
-        Ok(()),
-        "E0 01 00 EA E4 81 84 21 05 E5 82 84 85 21 05",
-    ),
-    (
-        VALUE,
-        SYMBOLS,
-        &[
-            STRUCT,
-            (Some(b"name"), &[NAME], Part::Begin(Kind::List)),
-            ONE,
-            END,
-            (Some(b"version"), &[VERSION], Part::Int(b"1")),
-            END,
-        ],
-        Ok(()),
-        "E0 01 00 EA DD 84 E5 81 84 B2 21 01 85 E4 81 85 21 01",
-    ),
-    // Enough annotations for a longer header of the wrapper.
-    (
-        VALUE,
-        SYMBOLS,
-        &[LIST, (None, &[NAME; 13], Part::Begin(Kind::List)), END, END],
-        Ok(()),
-        "E0 01 00 EA BE 91 EE 8F 8D 84 84 84 84 84 84 84 84 84 84 84 84 84 B0",
-    ),
-    // Headers lengthen as members come.
-    (
-        16,
-        SYMBOLS,
-        &[
-            LIST, LIST, TRUE, TRUE, TRUE, TRUE, TRUE, TRUE, TRUE, TRUE, TRUE, TRUE, TRUE, TRUE,
-            TRUE, END, END,
-        ],
-        Ok(()),
-        "E0 01 00 EA BE 8E BD 11 11 11 11 11 11 11 11 11 11 11 11 11",
-    ),
-    (
-        15,
-        SYMBOLS,
-        &[
-            LIST, LIST, TRUE, TRUE, TRUE, TRUE, TRUE, TRUE, TRUE, TRUE, TRUE, TRUE, TRUE, TRUE,
-            TRUE, END, END,
-        ],
-        Err(Fault::Refused(Reason::ValueLimit, 0)),
-        "E0 01 00 EA",
-    ),
-    // A value that is too long, or not.
-    (
-        16,
-        SYMBOLS,
-        &[
-            (None, &[], Part::Null(IonType::Null)),
-            (None, &[], Part::Text(b"abcdefghijklmn")),
-        ],
-        Ok(()),
-        "E0 01 00 EA 0F 8E 8E 61 62 63 64 65 66 67 68 69 6A 6B 6C 6D 6E",
-    ),
-    (
-        15,
-        SYMBOLS,
-        &[
-            (None, &[], Part::Null(IonType::Null)),
-            (None, &[], Part::Text(b"abcdefghijklmn")),
-        ],
-        Err(Fault::Refused(Reason::ValueLimit, 1)),
-        "E0 01 00 EA 0F",
-    ),
-    // What is open counts as if it were closed here.
-    (
-        5,
-        SYMBOLS,
-        &[LIST, LIST, LIST, (None, &[], Part::Text(b"x"))],
-        Ok(()),
-        "E0 01 00 EA",
-    ),
-    (
-        4,
-        SYMBOLS,
-        &[LIST, LIST, LIST, (None, &[], Part::Text(b"x"))],
-        Err(Fault::Refused(Reason::ValueLimit, 0)),
-        "E0 01 00 EA",
-    ),
-    (
-        2,
-        SYMBOLS,
-        &[LIST, LIST, LIST],
-        Err(Fault::Refused(Reason::ValueLimit, 0)),
-        "E0 01 00 EA",
-    ),
-    // The field and the annotations alone pass the limit.
-    (
-        2,
-        SYMBOLS,
-        &[(None, &[NAME, NAME, NAME], Part::Int(b"5"))],
-        Err(Fault::Refused(Reason::ValueLimit, 0)),
-        "E0 01 00 EA",
-    ),
-];
+const CONTAINERS: &str = "
+struct,name//list,int=1,int=2,end|5||
+struct,name//list,int=1,int=2,end,end|6|D6 84 B4 21 01 21 02|
+list,list,end,sexp,end,end|6|B2 B0 C0|
+# Annotations.
+/name/int=5,/name+version/int=5|2|E4 81 84 21 05 E5 82 84 85 21 05|
+struct,name/name/list,int=1,end,version/version/int=1,end|6|\
+    DD 84 E5 81 84 B2 21 01 85 E4 81 85 21 01|
+# Enough annotations for a longer header of the wrapper.
+list,/name*13/list,end,end|4|BE 91 EE 8F 8D 84 84 84 84 84 84 84 84 84 84 84 84 84 B0|
+# Headers lengthen as members come.
+list,list,true,true,true,true,true,true,true,true,true,true,true,true,true,end,end|17|\
+    BE 8E BD 11 11 11 11 11 11 11 11 11 11 11 11 11|value=16|
+list,list,true,true,true,true,true,true,true,true,true,true,true,true,true,end,end|ValueLimit 0||\
+    value=15|
+# A value that is too long, or not.
+null.null,string=abcdefghijklmn|2|0F 8E 8E 61 62 63 64 65 66 67 68 69 6A 6B 6C 6D 6E|value=16|
+null.null,string=abcdefghijklmn|ValueLimit 1|0F|value=15|
+# What is open counts as if it were closed here.
+list,list,list,string=x|4||value=5|
+list,list,list,string=x|ValueLimit 0||value=4|
+list,list,list|ValueLimit 0||value=2|
+# The field and the annotations alone pass the limit.
+/name*3/int=5|ValueLimit 0||value=2|
+";
 
 /// The table begins anew where its texts cost too much.
-const ANEW: &[Row] = &[
-    (
-        VALUE,
-        17,
-        &[A, B],
-        Ok(()),
-        "E0 01 00 EA EA 81 83 D7 86 71 03 87 B2 81 61 71 0A E0 01 00 EA EA 81 83 D7 86 71 03 \
-         87 B2 81 62 71 0A",
-    ),
-    // A value without symbols may come behind the marker too, and none stands behind the last
-    // value.
-    (
-        VALUE,
-        17,
-        &[A, TRUE, LIST],
-        Ok(()),
-        "E0 01 00 EA EA 81 83 D7 86 71 03 87 B2 81 61 71 0A E0 01 00 EA 11",
-    ),
-    (
-        VALUE,
-        33,
-        &[LIST, A, B, END],
-        Err(Fault::Refused(Reason::SymbolLimit, 2)),
-        "E0 01 00 EA",
-    ),
-    (
-        VALUE,
-        34,
-        &[LIST, A, B, END],
-        Ok(()),
-        "E0 01 00 EA EC 81 83 D9 86 71 03 87 B4 81 61 81 62 B4 71 0A 71 0B",
-    ),
-    (
-        VALUE,
-        40,
-        &[A, B, A],
-        Ok(()),
-        "E0 01 00 EA EA 81 83 D7 86 71 03 87 B2 81 61 71 0A EA 81 83 D7 86 71 03 87 B2 81 62 \
-         71 0B E0 01 00 EA EA 81 83 D7 86 71 03 87 B2 81 61 71 0A",
-    ),
-];
+const ANEW: &str = "
+symbol=a,symbol=b|2|EA 81 83 D7 86 71 03 87 B2 81 61 71 0A E0 01 00 EA EA 81 83 D7 86 71 03 87 \
+    B2 81 62 71 0A|symbols=17|
+# A value without symbols may come behind the marker too, and none stands behind the last
+# value.
+symbol=a,true,list|3|EA 81 83 D7 86 71 03 87 B2 81 61 71 0A E0 01 00 EA 11|symbols=17|
+list,symbol=a,symbol=b,end|SymbolLimit 2||symbols=33|
+list,symbol=a,symbol=b,end|4|EC 81 83 D9 86 71 03 87 B4 81 61 81 62 B4 71 0A 71 0B|symbols=34|
+symbol=a,symbol=b,symbol=a|3|EA 81 83 D7 86 71 03 87 B2 81 61 71 0A EA 81 83 D7 86 71 03 87 B2 \
+    81 62 71 0B E0 01 00 EA EA 81 83 D7 86 71 03 87 B2 81 61 71 0A|symbols=40|
+";
 
 // Asserts what is written of a row.
-fn expect_row(rt: &impl Abort, alloc: Global, row: &Row) {
-    let (value, symbols, steps, want, text) = *row;
-    let limits = Limits {
-        value,
-        symbols,
-        ..LIMITS
+fn expect_row(rt: &impl Abort, alloc: Global, row: &str) {
+    let mut fields = Fields::of(row);
+    let steps = items_of(rt, alloc, fields.text(rt));
+    let want = match fields.verdict(rt) {
+        Ok(count) => Ok(same(rt, steps.len() as u64, count)),
+        Err(fault) => Err(fault),
     };
-    let written = put(rt, alloc, limits, steps, want, Vec::new(alloc));
-    let text = octets(rt, alloc, b"", text);
+    let text = octets(rt, alloc, MARKER, fields.text(rt));
+    let device = Vec::new(alloc);
+    let written = put(rt, alloc, fields.limits(rt), steps.as_slice(), want, device);
     same(rt, written.as_slice(), text.as_slice());
 }
 
 #[test]
 fn items_are_written(rt: HostRuntime) {
-    for rows in [SCALARS, SYMBOLIC, CONTAINERS, ANEW] {
-        for row in rows {
-            expect_row(&rt, rt.alloc(), row);
+    for table in [SCALARS, SYMBOLIC, CONTAINERS, ANEW] {
+        for row in table.split('\n') {
+            if is_row(row) {
+                expect_row(&rt, rt.alloc(), row);
+            }
         }
     }
 }

@@ -2,12 +2,12 @@
 
 use super::devices::Giving;
 use super::runs::{Case, LIMITS, text};
-use super::same::{same, same_at};
 use super::tables::{Kind, expect_rows};
 use ion_meter::fault::Fault;
 use ion_meter::limits::Limits;
 use ion_meter::meter::Meter;
 use ion_meter::stream::{FromRead, ToWrite};
+use ion_rows::same::{same, same_at};
 use ion_symbols::catalog::Catalog;
 use ion_transcode::load::load_catalog;
 use ion_transcode::run::{bound, run};

@@ -1,11 +1,11 @@
 //! Devices in memory, and runs over them.
 ghost use Rattle.std.specs.Prelude.{◌≤◌, length};
 
-use super::same::same;
 use ion_meter::fault::Fault;
 use ion_meter::limits::Limits;
 use ion_meter::meter::Meter;
 use ion_meter::stream::{FromRead, ToWrite};
+use ion_rows::same::same;
 use ion_symbols::catalog::Catalog;
 use ion_transcode::run::{bound, run};
 use ion_transcode::to::{Form, Summary, To};

@@ -1,13 +1,14 @@
 //! Runs over devices that move one byte a call, and fail at one of their calls.
 ghost use Rattle.std.specs.Prelude.{◌≡◌};
 
-use super::rows::{Verdict, answer_of};
+use super::rows::answer_of;
 use super::runs::{LIMITS, text};
-use super::same::same;
 use ion_meter::device::{Broken, Input, Output};
 use ion_meter::fault::{Fault, Reason};
 use ion_meter::limits::Limits;
 use ion_meter::meter::Meter;
+use ion_rows::fields::Verdict;
+use ion_rows::same::same;
 use ion_symbols::catalog::Catalog;
 use ion_transcode::run::run;
 use ion_transcode::to::{Summary, To};

@@ -2,11 +2,11 @@
 
 use super::devices::Giving;
 use super::runs::text;
-use super::same::same;
 use ion_meter::fault::Fault;
 use ion_meter::limits::Limits;
 use ion_meter::meter::Meter;
 use ion_meter::stream::{FromRead, ToWrite};
+use ion_rows::same::same;
 use ion_symbols::catalog::Catalog;
 use ion_transcode::run::run;
 use ion_transcode::to::{Summary, To};

@@ -28,8 +28,6 @@ mod rows;
 #[cfg(test)]
 mod runs;
 #[cfg(test)]
-mod same;
-#[cfg(test)]
 mod tables;
 #[cfg(test)]
 mod to_binary;

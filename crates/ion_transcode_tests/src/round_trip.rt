@@ -3,11 +3,11 @@
 use super::catalogs::{NAME_FIRST, ONE_TABLE};
 use super::devices::{answer, answer_by};
 use super::runs::{Case, LIMITS, binary, text};
-use super::same::same_at;
 use super::tables::{Kind, expect_rows};
 use ion_meter::limits::Limits;
 use ion_meter::meter::Meter;
 use ion_meter::stream::FromRead;
+use ion_rows::same::same_at;
 use ion_transcode::load::load_catalog;
 use ion_transcode::to::{Form, Summary, To};
 use std::alloc::Global;

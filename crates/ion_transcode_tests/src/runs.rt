@@ -3,10 +3,10 @@
 use super::devices::{Giving, Taking, Telling, Waiting, answer};
 use super::heaps::{LITTLE, fives, ignored};
 use super::round_trip::expect_round_trip;
-use super::same::{same, same_at};
 use super::tables::{Kind, expect_rows};
 use ion_meter::fault::{Fault, Reason};
 use ion_meter::limits::Limits;
+use ion_rows::same::{same, same_at};
 use ion_transcode::run::bound;
 use ion_transcode::to::{Form, Summary, To};
 use std::alloc::Global;

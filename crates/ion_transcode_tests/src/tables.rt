@@ -2,9 +2,10 @@
 
 use super::catalogs::expect_load;
 use super::round_trip::{expect_by, expect_round_trip};
-use super::rows::{Fields, answer_of, is_row};
+use super::rows::answer_of;
 use super::runs::{Case, expect_octets, expect_text};
 use super::to_binary::expect_converted;
+use ion_rows::fields::{Fields, is_row};
 use std::alloc::Global;
 use std::process::Abort;
 

@@ -3,9 +3,9 @@
 use super::devices::answer;
 use super::round_trip::expect_round_trip;
 use super::runs::{Case, expect, text};
-use super::same::same;
 use super::tables::{Kind, expect_rows};
 use ion_meter::limits::Limits;
+use ion_rows::same::same;
 use ion_transcode::run::bound;
 use ion_transcode::to::{Form, To};
 use std::alloc::Global;

@@ -23,13 +23,13 @@ mod text_tokens;
 
 use super::devices;
 use super::devices::Giving;
-use super::rows::{Fields, Verdict, is_row};
 use super::runs::{LIMITS, refused, text};
-use super::same::{same, same_at};
 use ion_meter::fault::{Fault, Reason};
 use ion_meter::limits::Limits;
 use ion_meter::meter::Meter;
 use ion_meter::stream::{FromRead, ToWrite};
+use ion_rows::fields::{Fields, Verdict, is_row};
+use ion_rows::same::{same, same_at};
 use ion_transcode::load::load_catalog;
 use ion_transcode::run::run;
 use ion_transcode::to::{Form, Summary, To};

@@ -1,9 +1,0 @@
-//! The assertion that most tests make.
-
-use std::fmt::Debug;
-use std::process::Abort;
-
-/// Asserts that what a call gave is what is wanted. The proof of an assertion stands here once.
-pub fn same<T: PartialEq + Debug + Copy>(rt: &impl Abort, given: T, wanted: T) {
-    assert_eq!(rt; given, wanted);
-}

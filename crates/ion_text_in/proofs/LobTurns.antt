@@ -29,6 +29,7 @@ use Rattle.ion_text_in.specs.declared.lob.Opening.{Opening}
 use Rattle.ion_text_in.specs.Scanning.{Spelled, groups, with_front}
 use Rattle.ion_text_in.proofs.Blobs.{Octets, octets-prefix, octets-behind, by_decoded, by-decoded, encode-nil, group-white, group-brace, group-char, group-decoded, length-encode_of}
 use Rattle.ion_text_in.proofs.BlankTurns.{behind_white, white-first, white-none}
+use Rattle.ion_text_in.proofs.Counting.{group-counts}
 use Rattle.ion_text_in.proofs.Fuel.{groups-first}
 use Rattle.ion_text_in.proofs.Meaning.{all-append}
 
@@ -239,6 +240,36 @@ behind-cursor c d total further =
 -- four characters
 pub taken-four : (group : List ℕ) (n : ℕ) → length group ≡ 4 → 4 ≤ n → take n group ≡ group
 taken-four group n four le = take_all n group (omega (arith, four, le))
+
+-- ---- white space before a group
+
+-- what a group comes to, and the place behind it
+abbrev cut_as : ℕ → List ℕ → Bool → List ℕ × List ℕ → Cursor → Spelled
+cut_as limit text padded g e =
+    with_front text (if nat_lt (length g.0) 4 then last_group g.0 e
+    else (group_bytes padded g.0 >>= (λ bytes. refuse (passes (Some limit) (length text + length bytes)) ScalarLimit
+    >> with_front bytes (groups (Some limit) (length text + length bytes) (nat_lt (length bytes) 3) e))))
+
+white-step : (limit : ℕ) (text : List ℕ) (padded : Bool) (p b : ℕ) (bytes : List ℕ) → is_white b ≡ true
+    → with_groups_behind limit text padded (at p (b ∷ bytes)) ≡ with_groups_behind limit text padded (at (p + 1) bytes)
+white-step limit text padded p b bytes white =
+    let g = group_of 4 bytes in
+    let counts = group-counts 4 bytes in
+    let place : p + (suc (length bytes) - length g.1) ≡ p + 1 + (length bytes - length g.1) = omega (arith, counts) in
+    first-group limit text padded (at p (b ∷ bytes))
+    ∙ ap (λ (g : List ℕ × List ℕ). cut_as limit text padded g (behind_to (at p (b ∷ bytes)) g.1)) (group-white 3 b bytes white)
+    ∙ ap (λ (q : ℕ). cut_as limit text padded g (at q g.1)) place
+    ∙ sym (first-group limit text padded (at (p + 1) bytes))
+
+pub white-groups : (limit : ℕ) (text : List ℕ) (padded : Bool) (p : ℕ) (bytes : List ℕ)
+    → with_groups_behind limit text padded (at p bytes) ≡ with_groups_behind limit text padded (behind_white (at p bytes))
+white-groups limit text padded p [] = ap (λ (c : Cursor). with_groups_behind limit text padded c) (sym (white-none p [] refl))
+white-groups limit text padded p (b ∷ bytes) = elim (cases_Bool (is_white b)) [
+  | inl white ↦
+      white-step limit text padded p b bytes white ∙ white-groups limit text padded (p + 1) bytes
+      ∙ ap (λ (c : Cursor). with_groups_behind limit text padded c) (sym (white-first p b bytes white))
+  | inr dark ↦ ap (λ (c : Cursor). with_groups_behind limit text padded c) (sym (white-none p (b ∷ bytes) dark))
+]
 
 -- ---- groups that stand in the window
 

@@ -1,5 +1,5 @@
 //! Blobs and clobs (Ion specification, "Blobs" and "Clobs").
-ghost use Rattle.std.specs.Prelude.{◌≡◌, ◌≢◌, ◌+◌, ◌<◌, ◌≤◌, ◌*◌, ℕ, Option, All, None, Some, Ok, Err, true, false, length, take, OnOk, IfOk, IfSome, IfNone};
+ghost use Rattle.std.specs.Prelude.{◌≡◌, ◌≢◌, ◌+◌, ◌<◌, ◌≤◌, ◌*◌, ℕ, List, Option, All, None, Some, Ok, Err, true, false, length, take, OnOk, IfOk, IfSome, IfNone};
 ghost use Rattle.base64.specs.Decode.{decoded_estimate};
 ghost use Rattle.base64.specs.Engines.{standard};
 ghost use Rattle.base64.specs.GeneralPurpose.{decoded_of, encode_of};
@@ -245,8 +245,8 @@ fn next_blob<I: Input, A: Allocator + Copy>(
     }
 }
 
-// Takes groups of the window in blocks, as far as they stand without white space between them and
-// are well formed; true where the last of them is padded.
+// Takes groups in blocks, as far as no white space stands within one of them and they are well
+// formed; true where the last of them is padded.
 fn take_blocks<I: Input, A: Allocator + Copy>(
     source: &mut Source<I, A>,
     text: &mut Buf<A>,
@@ -275,9 +275,34 @@ fn take_blocks<I: Input, A: Allocator + Copy>(
             Ok(Some(true)) => return Ok(true),
             Ok(Some(false)) => {}
         }
-        run -= count;
+        run = match next_run(source, run - count) {
+            Err(fault) => return Err(fault),
+            Ok(run) => run,
+        };
     }
     Ok(false)
+}
+
+// How many characters stand in the window without white space, where so many of a run are left:
+// where it is none, behind the white space that ends a line.
+fn next_run<I: Input, A: Allocator + Copy>(
+    source: &mut Source<I, A>,
+    left: usize,
+) -> Result<usize, Fault>
+    requires stands { Stands source.old }
+    ensures gives { I.observable source.old.device → OnOk result ((limit : ℕ) (text : List ℕ)
+        → with_groups_behind limit text false (cursor I.Input source.old)
+        ≡ with_groups_behind limit text false (cursor I.Input source.new)) }
+    ensures plain { (r : Reason) (p : ℕ) → result ≢ Err (Fault.Refused r p) }
+    ensures reads { Reads I.Input source.old source.new result }
+{
+    if left > 0 {
+        return Ok(left);
+    }
+    if let Err(fault) = pass_white(source) {
+        return Err(fault);
+    }
+    Ok(solid_run(source.buffer()))
 }
 
 // Takes so many characters of the window, where they are well formed and their bytes are within the
@@ -298,6 +323,8 @@ fn take_block<I: Input, A: Allocator + Copy>(
         ≡ with_groups_behind limits.scalar text.new padded (cursor I.Input source.new))) }
     ensures none { result ≡ Ok None → (source.new ≡ source.old) × (text.new ≡ text.old)
         × (meter.new ≡ meter.old) }
+    ensures taken { IfOk result (λ found. IfSome found (λ _.
+        source.old.place < source.new.place)) }
     ensures plain { (r : Reason) (p : ℕ) → result ≢ Err (Fault.Refused r p) }
     ensures reads { ReadsInto I.Input source.old source.new meter.old meter.new
         (length text.old) (length text.new) limits.scalar result }
@@ -328,6 +355,8 @@ fn take_groups<I: Input, A: Allocator + Copy>(
         ≡ with_groups_behind limits.scalar text.new padded (cursor I.Input source.new))) }
     ensures none { result ≡ Ok None → (source.new ≡ source.old) × (text.new ≡ text.old)
         × (meter.new ≡ meter.old) }
+    ensures taken { IfOk result (λ found. IfSome found (λ _.
+        source.old.place < source.new.place)) }
     ensures plain { (r : Reason) (p : ℕ) → result ≢ Err (Fault.Refused r p) }
     ensures reads { ReadsInto I.Input source.old source.new meter.old meter.new
         (length text.old) (length text.new) limits.scalar result }

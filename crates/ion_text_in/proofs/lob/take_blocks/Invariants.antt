@@ -1,4 +1,4 @@
-use Rattle.std.proofs.Common.{◌≡◌, ◌*◌, false, length}
+use Rattle.std.proofs.Common.{◌≡◌, ◌*◌, ◌-◌, false, length}
 use Rattle.ion_meter.specs.Sources.{cursor}
 use Rattle.ion_value.specs.Calls.{passed_over}
 use Rattle.ion_value.specs.Shares.{GrowsWithin}
@@ -15,4 +15,4 @@ invariant-pieces g l = record {
 }
 
 abbrev pub decreases-pieces : goal.decreases-pieces
-decreases-pieces g l = l.run
+decreases-pieces g l = l.source.limit - l.source.place

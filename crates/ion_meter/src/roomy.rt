@@ -147,8 +147,9 @@ impl<A: Allocator + Copy> Roomy<A> {
         requires order { place ≤ end }
         requires within { end + gap ≤ length self.old.bytes }
         requires short { length bytes.now ≤ gap }
-        ensures { self.new.bytes ≡ take (place + gap - length bytes.now) self.old.bytes ++ (bytes.now
-            ++ (take (end - place) (drop place self.old.bytes) ++ drop (end + gap) self.old.bytes)) }
+        ensures { self.new.bytes ≡ take (place + gap - length bytes.now) self.old.bytes
+            ++ (bytes.now ++ (take (end - place) (drop place self.old.bytes)
+            ++ drop (end + gap) self.old.bytes)) }
     {
         move_up(&mut self.bytes[0..self.len], place, end, gap, bytes);
     }

@@ -156,7 +156,8 @@ impl<A: Allocator + Copy> TextWriter<A> {
     ) -> bool
         ensures declines { result ≡ false → (self.new ≡ self.old) × (sink.new ≡ sink.old) }
         ensures puts { result ≡ true → sink.new ≡ record sink.old {
-          pending = sink.old.pending ++ plain_scalar (opened_in self.old) name.now note.now text.now;
+          pending = sink.old.pending
+              ++ plain_scalar (opened_in self.old) name.now note.now text.now;
         } }
         ensures behind { result ≡ true → self.new ≡ record self.old { empty = false } }
     {

@@ -504,7 +504,8 @@ impl<I: Input, A: Allocator + Copy> BinReader<I, A> {
             self.old.source.place (innermost frame)
             front.field front.annotation front.at front.head front.wrapper }
         requires within { front.head < length (lent self.old.source) }
-        requires shape { body type_code length_code ≡ shape_of (get_or (lent self.old.source) front.head 0) }
+        requires shape { body type_code length_code
+            ≡ shape_of (get_or (lent self.old.source) front.head 0) }
         ensures hands { result ≡ true → HandsItem I.Input W.ValueWriter
             (named_item (N.text names.now)) self.old self.new writer.old writer.new
             sink.old sink.new }

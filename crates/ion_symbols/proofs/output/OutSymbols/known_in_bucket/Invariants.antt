@@ -1,5 +1,5 @@
-use Rattle.ion_symbols.proofs.InBuckets.{Looks}
-use Rattle.ion_symbols.proofs.output.OutSymbols.known.Given as goal
+use Rattle.ion_symbols.specs.Buckets.{Looks}
+use Rattle.ion_symbols.proofs.output.OutSymbols.known_in_bucket.Given as goal
 
 -- what is left of the bucket has the text, where it has one
 abbrev pub invariant-loop-at : goal.invariant-loop-at

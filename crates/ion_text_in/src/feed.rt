@@ -683,6 +683,8 @@ fn keyword<'a, W: ValueWriter<O, A>, O: Output, A: Allocator + Copy>(
 }
 
 // Hands on the value that begins here, or the container's beginning, behind its field's name.
+// It is put in line where it is called, which is once; the mark `always` would be dropped, since so
+// much is put in line in it.
 #[inline]
 fn value<'a, W: ValueWriter<O, A>, O: Output, A: Allocator + Copy>(
     at: &mut Spot<'a>,

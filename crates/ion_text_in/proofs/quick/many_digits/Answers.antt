@@ -6,7 +6,7 @@ use lib.Count.{count_trailing_zeros}
 use Rattle.ion_value.specs.Digits.{all_are, is_digit}
 use Rattle.ion_text_in.proofs.Runs.{all-behind}
 use Rattle.ion_text_in.proofs.Blocks.{all_pass, run_passes, run_at}
-use Rattle.ion_text_in.proofs.quick.digit_run.Goals as goal
+use Rattle.ion_text_in.proofs.quick.many_digits.Goals as goal
 
 pub skip-preserved : goal.skip-preserved
 skip-preserved c =

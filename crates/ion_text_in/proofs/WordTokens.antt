@@ -139,6 +139,10 @@ pub other-word : (word : List ℕ) → bytes_eq (codes "null") word ≡ false �
 unfolding word_token
 other-word word not_null typed truth falsity nan dollar = rw (not_null, typed, truth, falsity, nan, dollar) refl
 
+pub keyword-first : (word : List ℕ) → 1 ≤ length word → (110 == get_or word 0 0 || 116 == get_or word 0 0 || 102 == get_or word 0 0) ≡ may_be_keyword word
+keyword-first [] some = absurd (omega (arith, some))
+keyword-first (b ∷ bytes) some = refl
+
 -- its first byte tells that
 pub plain-word : (word : List ℕ) → may_be_keyword word ≡ false → first_is (λ b. b == 36) word ≡ false → word_token word ≡ Ok (name false (value.Text word))
 plain-word [] none dollar = other-word [] refl refl refl refl refl refl

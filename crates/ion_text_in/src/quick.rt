@@ -281,7 +281,9 @@ fn number_after(start: u64, digits: &[u8]) -> u64
     let mut number = start;
     let mut rest = digits;
     while let [a, b, c, d, others @ ..] = rest {
-        number = number * 10_000 + (pair(*a, *b) * 100 + pair(*c, *d));
+        let front = pair(*a, *b);
+        let back = pair(*c, *d);
+        number = number * 10_000 + (front * 100 + back);
         rest = others;
     }
     few_after(number, rest)

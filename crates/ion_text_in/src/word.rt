@@ -156,6 +156,14 @@ fn begins_simple(first: u8) -> bool
     STARTS[first as usize] > 0
 }
 
+// Whether a keyword may begin with this byte.
+#[inline(always)]
+fn begins_keyword(first: u8) -> bool
+    ensures { result ≡ (110 == first || 116 == first || 102 == first) }
+{
+    STARTS[first as usize] > 1
+}
+
 // Which bytes begin an identifier, but for the dollar sign; 2 for those that begin a keyword.
 static STARTS: [u8; 256] = [
     0, 0, 0, 0, 0, 0, 0, 0, 0, 0, 0, 0, 0, 0, 0, 0, 0, 0, 0, 0, 0, 0, 0, 0, 0, 0, 0, 0, 0, 0, 0, 0,
@@ -362,7 +370,7 @@ fn may_be_keyword(word: &[u8]) -> bool
     ensures { result ≡ may_be_keyword word.now }
 {
     match word {
-        [first, ..] => STARTS[*first as usize] > 1,
+        [first, ..] => begins_keyword(*first),
         [] => false,
     }
 }
@@ -444,29 +452,28 @@ fn is_typed_null(word: &[u8]) -> bool
 }
 
 // The type of a name.
-#[inline(never)]
 fn type_named(name: &[u8]) -> Option<IonType>
     ensures { result ≡ type_named name.now }
 {
-    if matches!(name, [b'n', b'u', b'l', b'l']) {
+    if is_text(name, b"null") {
         return Some(IonType::Null);
     }
-    if matches!(name, [b'b', b'o', b'o', b'l']) {
+    if is_text(name, b"bool") {
         return Some(IonType::Bool);
     }
-    if matches!(name, [b'i', b'n', b't']) {
+    if is_text(name, b"int") {
         return Some(IonType::Int);
     }
-    if matches!(name, [b'f', b'l', b'o', b'a', b't']) {
+    if is_text(name, b"float") {
         return Some(IonType::Float);
     }
-    if matches!(name, [b'd', b'e', b'c', b'i', b'm', b'a', b'l']) {
+    if is_text(name, b"decimal") {
         return Some(IonType::Decimal);
     }
-    if matches!(name, [b't', b'i', b'm', b'e', b's', b't', b'a', b'm', b'p']) {
+    if is_text(name, b"timestamp") {
         return Some(IonType::Timestamp);
     }
-    if matches!(name, [b's', b'y', b'm', b'b', b'o', b'l']) {
+    if is_text(name, b"symbol") {
         return Some(IonType::Symbol);
     }
     text_or_container(name)
@@ -476,22 +483,22 @@ fn type_named(name: &[u8]) -> Option<IonType>
 fn text_or_container(name: &[u8]) -> Option<IonType>
     ensures { result ≡ text_or_container name.now }
 {
-    if matches!(name, [b's', b't', b'r', b'i', b'n', b'g']) {
+    if is_text(name, b"string") {
         return Some(IonType::String);
     }
-    if matches!(name, [b'c', b'l', b'o', b'b']) {
+    if is_text(name, b"clob") {
         return Some(IonType::Clob);
     }
-    if matches!(name, [b'b', b'l', b'o', b'b']) {
+    if is_text(name, b"blob") {
         return Some(IonType::Blob);
     }
-    if matches!(name, [b'l', b'i', b's', b't']) {
+    if is_text(name, b"list") {
         return Some(IonType::List);
     }
-    if matches!(name, [b's', b'e', b'x', b'p']) {
+    if is_text(name, b"sexp") {
         return Some(IonType::Sexp);
     }
-    if matches!(name, [b's', b't', b'r', b'u', b'c', b't']) {
+    if is_text(name, b"struct") {
         return Some(IonType::Struct);
     }
     None

@@ -1,5 +1,5 @@
 -- A lane over the bytes of a window: where it stands, what it reads of them, and what it moves.
-use Rattle.std.specs.Prelude.{◌≡◌, ℕ, ◌+◌, ◌*◌, ◌-◌, ◌^◌, ◌<◌, ◌≤◌, Bool, true, false, List, [], ◌∷◌, ◌++◌, take, drop, length, reverse, is_some, Option, Some, None, Ok, option_map}
+use Rattle.std.specs.Prelude.{◌≡◌, ℕ, ◌+◌, ◌*◌, ◌-◌, ◌^◌, ◌<◌, ◌≤◌, ◌==◌, Bool, get_or, true, false, List, [], ◌∷◌, ◌++◌, take, drop, length, reverse, is_some, Option, Some, None, Ok, option_map}
 use Rattle.ion_meter.specs.Counts.{Counts}
 use Rattle.ion_meter.specs.declared.limits.Limits.{Limits}
 use Rattle.ion_meter.specs.Limits.{AreChecked}
@@ -23,15 +23,20 @@ use Rattle.ion_text_in.specs.declared.feed.Spot.{Spot}
 use Rattle.ion_text_in.specs.declared.feed.Next.{Next}
 use Rattle.ion_text_in.specs.declared.feed.Start.{Start}
 use Rattle.ion_text_in.specs.declared.feed.Found.{Found}
+use Rattle.ion_text_in.specs.declared.scanned.Scanned.{Scanned}
+use Rattle.ion_text_in.specs.declared.scanned.Scanned.TheVariants.{Whole, Fault, Cut}
+use Rattle.ion_text_in.specs.declared.word.Word.{Word}
+use Rattle.ion_text_in.specs.declared.word.Word.TheVariants as word
 use Rattle.ion_text_in.specs.Blanks.{blanks}
 use Rattle.ion_text_in.specs.Expecting.{wanted, MayExpect}
 use Rattle.ion_text_in.specs.Firsts.{numbered}
 use Rattle.ion_text_in.specs.Meaning.{at}
 use Rattle.ion_text_in.specs.Positions.{State, Wants, a_field, a_value, innermost}
 use Rattle.ion_text_in.specs.Reading.{behind_member, item_of, member_of, top_of}
+use Rattle.ion_text_in.specs.Runs.{EndBehind}
 use Rattle.ion_text_in.specs.Steps.{later}
-use Rattle.ion_text_in.specs.Token.{a_colon, a_word, first_at, name, token_of}
-use Rattle.ion_value.specs.Name.{is_simple}
+use Rattle.ion_text_in.specs.Token.{a_colon, a_word, first_at, in_word, name, token_of}
+use Rattle.ion_value.specs.Name.{is_identifier_start, is_simple}
 
 -- ---- bytes
 
@@ -71,6 +76,27 @@ pub record IsSimpleWord (limit : ℕ) (bytes : List ℕ) (n : ℕ) : Type 0 wher
   pub simple : is_simple (take n bytes) ≡ true
   pub shown : (place : ℕ) (more : List ℕ)
       → token_of (Some limit) a_word (at place (bytes ++ more)) ≡ Ok (name false (value.Text (take n bytes)), at (place + n) (drop n bytes ++ more))
+
+-- so many bytes in front are a word without a type behind it, within a limit, and begin as a symbol does, but with no dollar sign
+pub record IsBegun (limit : ℕ) (bytes : List ℕ) (n : ℕ) : Type 0 where
+  pub others : ℕ
+  pub count : n ≡ 1 + others
+  pub some : 1 ≤ length bytes
+  pub within : others < length (drop 1 bytes)
+  pub ends : EndBehind in_word (drop 1 bytes) others
+  pub begins : is_identifier_start (get_or bytes 0 0) ≡ true
+  pub no_dollar : (get_or bytes 0 0 == 36) ≡ false
+  pub fits : n ≤ limit
+
+-- what holds of the bytes of a word where it is a symbol by its text
+abbrev pub IfName : (ℕ → Type 0) → Scanned Word → Type 0
+IfName P (Whole (word.Null type) n) = Unit {0}
+IfName P (Whole (word.Bool truth) n) = Unit {0}
+IfName P (Whole word.NoNumber n) = Unit {0}
+IfName P (Whole (word.Id id) n) = Unit {0}
+IfName P (Whole word.Name n) = P n
+IfName P (Fault reason) = Unit {0}
+IfName P Cut = Unit {0}
 
 -- behind blanks a colon stands there
 pub record ToColon (bytes rest : List ℕ) : Type 0 where

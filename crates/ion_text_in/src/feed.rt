@@ -2,7 +2,7 @@
 ghost use Rattle.std.specs.Prelude.{◌≡◌, ◌≢◌, ◌+◌, ◌-◌, ◌^◌, ◌<◌, ◌≤◌, ℕ, Bool, List, [], ◌∷◌, ◌++◌, take, drop, length, reverse, true, false, None, Some, Ok, option_map, IfSome};
 ghost use Rattle.ion_value.specs.declared.ion_type.Kind as kind_of;
 ghost use Rattle.ion_text_in.specs.Expecting.{wanted, MayExpect};
-ghost use Rattle.ion_text_in.specs.Feeding.{lane, notes, Begins, CanFeed, IsBare, IsFound, IsNamed, IsNext, IsStart, Moved, Onward, PassesBlanks, ToColon};
+ghost use Rattle.ion_text_in.specs.Feeding.{lane, notes, Begins, CanFeed, IsBare, IsFound, IsNamed, IsNext, IsSimpleWord, IsStart, Moved, Onward, PassesBlanks, ToColon};
 ghost use Rattle.ion_text_in.specs.Firsts.{numbered};
 ghost use Rattle.ion_text_in.specs.Reading.{top_of};
 ghost use Rattle.ion_text_in.specs.Token.{a_comma, a_run, a_short, a_word, an_end, first_at};
@@ -18,11 +18,11 @@ use crate::expected::{Expected, at_member, behind_comma, behind_member, is_same}
 use crate::first::{First, shows_colon, told_first};
 use crate::quick::scan_quick;
 use crate::scanned::Scanned;
-use crate::word::{Word, simple_word};
+use crate::word::{Word, scan_simple, simple_word};
 use comments::behind_blanks;
 use copies::{limits_for_call, spot_for_call, start_for_call};
 use heads::{
-    begin_head, decimal_head, int_head, scan_head, scan_keyword, string_head, symbol_head, token,
+    begin_head, decimal_head, int_head, scan_head, string_head, symbol_head, token,
 };
 use ion_meter::device::Output;
 use ion_meter::limits::Limits;
@@ -601,7 +601,7 @@ fn string<'a, W: ValueWriter<O, A>, O: Output, A: Allocator + Copy>(
     }
 }
 
-// Hands on a word: mostly a symbol behind which a token is told that is no two colons.
+// Hands on a word: a null, a bool, or a symbol, behind which a token is told that is no two colons.
 #[inline(always)]
 fn word<'a, W: ValueWriter<O, A>, O: Output, A: Allocator + Copy>(
     at: &mut Spot<'a>,
@@ -628,42 +628,11 @@ fn word<'a, W: ValueWriter<O, A>, O: Output, A: Allocator + Copy>(
 {
     let bytes = start.next.rest;
     let place = end - bytes.len() as u64;
-    let Some(count) = simple_word(limits.scalar, bytes) else {
-        return keyword(at, start, limits, end, kinds, meter, writer, sink);
-    };
-    if let Some(found) = symbol_head(limits, place, count, bytes) {
-        return scalar(at, start, found, limits, end, kinds, meter, writer, sink);
-    }
-    match noted(start, limits, place, count) {
-        Some(start) => rare(at, start, limits, end, kinds, meter, writer, sink),
-        None => false,
-    }
-}
-
-// Hands on a null or a bool.
-#[inline(always)]
-fn keyword<'a, W: ValueWriter<O, A>, O: Output, A: Allocator + Copy>(
-    at: &mut Spot<'a>,
-    start: Start<'a>,
-    limits: Limits,
-    end: u64,
-    kinds: &Stack<Kind, A>,
-    meter: &mut Meter<A>,
-    writer: &mut W,
-    sink: &mut Sink<O, A>,
-) -> bool
-    requires can { CanFeed W.ValueWriter limits end
-        (lane kinds.now at.old writer.old sink.old meter.old) }
-    requires start { IsStart limits at.old (end - length at.old.rest.now) start }
-    requires first { (in_sexp : Bool) (more : List ℕ)
-        → first_at in_sexp (start.next.rest.now ++ more) ≡ a_word }
-    ensures moved { Moved W.ValueWriter limits end
-        (lane kinds.now at.old writer.old sink.old meter.old)
-        (lane kinds.now at.new writer.new sink.new meter.new) }
-    ensures falls { result ≡ true → length at.new.rest.now < length at.old.rest.now }
-{
-    let bytes = start.next.rest;
-    match scan_keyword(limits.scalar, bytes) {
+    match scan_simple(limits.scalar, bytes) {
+        Scanned::Whole(Word::Name, count) => match symbol_head(limits, place, count, bytes) {
+            Some(found) => scalar(at, start, found, limits, end, kinds, meter, writer, sink),
+            None => note(at, start, count, limits, end, kinds, meter, writer, sink),
+        },
         Scanned::Whole(Word::Null(ion_type), count) => {
             let found = Found {
                 head: Head::Null(ion_type),
@@ -679,6 +648,40 @@ fn keyword<'a, W: ValueWriter<O, A>, O: Output, A: Allocator + Copy>(
             scalar(at, start, found, limits, end, kinds, meter, writer, sink)
         }
         _ => false,
+    }
+}
+
+// Hands on the value behind the annotation of so many bytes that stands here.
+#[inline(always)]
+fn note<'a, W: ValueWriter<O, A>, O: Output, A: Allocator + Copy>(
+    at: &mut Spot<'a>,
+    start: Start<'a>,
+    count: usize,
+    limits: Limits,
+    end: u64,
+    kinds: &mut Stack<Kind, A>,
+    meter: &mut Meter<A>,
+    writer: &mut W,
+    sink: &mut Sink<O, A>,
+) -> bool
+    requires can { CanFeed W.ValueWriter limits end
+        (lane kinds.old at.old writer.old sink.old meter.old) }
+    requires start { IsStart limits at.old (end - length at.old.rest.now) start }
+    requires bare { start.note ≡ None }
+    requires first { (in_sexp : Bool) (more : List ℕ)
+        → first_at in_sexp (start.next.rest.now ++ more) ≡ a_word }
+    requires word { IsSimpleWord limits.scalar start.next.rest.now count }
+    ensures moved { Moved W.ValueWriter limits end
+        (lane kinds.old at.old writer.old sink.old meter.old)
+        (lane kinds.new at.new writer.new sink.new meter.new) }
+    ensures goes { length kinds.new + length at.new.rest.now
+        ≤ length kinds.old + length at.old.rest.now }
+    ensures falls { result ≡ true → length at.new.rest.now < length at.old.rest.now }
+{
+    let place = end - start.next.rest.len() as u64;
+    match noted(start, limits, place, count) {
+        Some(start) => rare(at, start, limits, end, kinds, meter, writer, sink),
+        None => false,
     }
 }
 

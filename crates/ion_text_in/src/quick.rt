@@ -1,6 +1,6 @@
 //! Ints and decimals of few digits, without underscores and bases, read in one pass
 //! (Ion specification, "Integers" and "Real Numbers").
-ghost use Rattle.std.specs.Prelude.{◌≡◌, pos, ◌-ℤ◌, ◌+◌, ◌*◌, ◌^◌, ◌<◌, ◌≤◌, ◌&&◌, ◌||◌, ◌==◌, true, not, Ok, map, length, drop, take, get_or, IfSome};
+ghost use Rattle.std.specs.Prelude.{◌≡◌, pos, ◌-ℤ◌, ◌+◌, ◌*◌, ◌-◌, ◌^◌, ◌<◌, ◌≤◌, ◌&&◌, ◌||◌, ◌==◌, true, not, Ok, map, length, drop, take, get_or, IfSome};
 ghost use Rattle.std.specs.Simd.Lanes.{mask_l};
 ghost use Rattle.ion_value.specs.Digits.{all_are, first_is, is_digit};
 ghost use Rattle.ion_value.specs.Number.{signed};
@@ -120,7 +120,7 @@ fn quick_mantissa(negative: bool, count: usize, digits: &[u8]) -> Option<Quick>
         return quick_decimal(negative, count, digits);
     }
     if next == b'd' {
-        return quick_power(negative, number_by(&digits[..count]), 0, count, digits);
+        return quick_whole(negative, count, digits);
     }
     None
 }
@@ -181,6 +181,17 @@ fn quick_decimal(negative: bool, count: usize, digits: &[u8]) -> Option<Quick>
         return quick_power(negative, coefficient, places, end, digits);
     }
     None
+}
+
+// The decimal of so many digits with a `d` behind them.
+#[inline(never)]
+fn quick_whole(negative: bool, count: usize, digits: &[u8]) -> Option<Quick>
+    requires whole { AreWhole digits.now count }
+    requires few { count ≤ 38 }
+    requires mark { get_or digits.now count 0 ≡ 100 }
+    ensures { IfSome result (λ x. IsQuick negative digits.now x) }
+{
+    quick_power(negative, number_by(&digits[..count]), 0, count, digits)
 }
 
 // The decimal of a coefficient, of which so many digits stand behind a point, that ends at a place
@@ -272,7 +283,7 @@ fn wide_number(digits: &[u8]) -> u128
     number
 }
 
-// The number that these digits spell behind another.
+// The number that these digits spell behind another: read by fours, and then those that are left.
 #[inline(always)]
 fn number_after(start: u64, digits: &[u8]) -> u64
     requires digits { all_are is_digit digits.now ≡ true }
@@ -281,19 +292,74 @@ fn number_after(start: u64, digits: &[u8]) -> u64
 {
     let mut number = start;
     let mut rest = digits;
-    while let [digit, others @ ..] = rest {
-        number = number * 10 + u64::from(*digit - b'0');
+    while let [a, b, c, d, others @ ..] = rest {
+        let front = pair(*a, *b);
+        let back = pair(*c, *d);
+        number = number * 10_000 + (front * 100 + back);
         rest = others;
     }
-    number
+    few_after(number, rest)
+}
+
+// The same of fewer than four digits.
+#[inline(always)]
+fn few_after(start: u64, digits: &[u8]) -> u64
+    requires digits { all_are is_digit digits.now ≡ true }
+    requires few { length digits.now < 4 }
+    requires room { (start + 1) * 10 ^ length digits.now ≤ 2 ^ 64 }
+    ensures { result ≡ number_after start digits.now }
+{
+    match digits {
+        [a] => start * 10 + digit(*a),
+        [a, b] => start * 100 + pair(*a, *b),
+        [a, b, c] => start * 1_000 + (pair(*a, *b) * 10 + digit(*c)),
+        _ => start,
+    }
+}
+
+// What two digits spell.
+#[inline(always)]
+fn pair(tens: u8, ones: u8) -> u64
+    requires tens { is_digit tens ≡ true }
+    requires ones { is_digit ones ≡ true }
+    ensures is { result ≡ (tens - 48) * 10 + (ones - 48) }
+    ensures small { result < 100 }
+{
+    digit(tens) * 10 + digit(ones)
+}
+
+// What a digit counts.
+#[inline(always)]
+fn digit(byte: u8) -> u64
+    requires digit { is_digit byte ≡ true }
+    ensures is { result ≡ byte - 48 }
+    ensures small { result < 10 }
+{
+    u64::from(byte) - 48
 }
 
 // How many bytes are looked at together.
 const BLOCK: usize = 16;
 
-// How many digits stand at the front of these bytes.
+// How many digits stand at the front of these bytes. Most numbers are so short that the first block
+// shows where their digits end.
 #[inline(always)]
 fn digit_run(bytes: &[u8]) -> usize
+    ensures within { result ≤ length bytes.now }
+    ensures digits { all_are is_digit (take result bytes.now) ≡ true }
+{
+    if bytes.len() >= BLOCK {
+        let others = no_digits(u8x16::from_slice(bytes));
+        if others != 0 {
+            return others.trailing_zeros() as usize;
+        }
+    }
+    many_digits(bytes)
+}
+
+// The same block by block.
+#[inline(always)]
+fn many_digits(bytes: &[u8]) -> usize
     ensures within { result ≤ length bytes.now }
     ensures digits { all_are is_digit (take result bytes.now) ≡ true }
 {

@@ -4,9 +4,8 @@ ghost use Rattle.ion_value.specs.declared.ion_type.Kind as kind_of;
 ghost use Rattle.ion_text_in.specs.Feeding.{Begins, IsBare, IsFound, IsSimpleWord};
 ghost use Rattle.ion_text_in.specs.Firsts.{first_of};
 ghost use Rattle.ion_text_in.specs.Quick.{as_quick};
-ghost use Rattle.ion_text_in.specs.Scanners.{Shows};
-ghost use Rattle.ion_text_in.specs.Token.{a_begin, a_run, a_short, a_word, first_at, token_of};
-ghost use Rattle.ion_text_in.specs.Views.{as_number, shown_text, word_token_of};
+ghost use Rattle.ion_text_in.specs.Token.{a_begin, a_run, a_short, a_word, first_at};
+ghost use Rattle.ion_text_in.specs.Views.{as_number};
 ghost use Rattle.ion_value.specs.Items.{raw_head};
 ghost use Rattle.ion_value.specs.Value.{whole};
 
@@ -16,7 +15,7 @@ use crate::number::{Number, scan_number};
 use crate::quick::{Quick, scaled, scan_quick, signed_int};
 use crate::quoted::{Quote, scan_text};
 use crate::scanned::Scanned;
-use crate::word::{Word, scan_word, simple_word};
+use crate::word::{Word, scan_simple};
 use ion_meter::limits::Limits;
 use ion_value::ion_type::Kind;
 use ion_value::item::{Head, Sym, SymAt};
@@ -160,9 +159,17 @@ fn word_head<'a>(limits: Limits, place: u64, bytes: &'a [u8]) -> Option<Found<'a
     requires some { 0 < length bytes.now }
     ensures { IfSome result (IsFound limits place bytes.now) }
 {
-    match simple_word(limits.scalar, bytes) {
-        Some(count) => symbol_head(limits, place, count, bytes),
-        None => keyword_head(limits, place, bytes),
+    match scan_simple(limits.scalar, bytes) {
+        Scanned::Whole(Word::Name, count) => symbol_head(limits, place, count, bytes),
+        Scanned::Whole(Word::Null(ion_type), count) => Some(Found {
+            head: Head::Null(ion_type),
+            rest: behind(count, bytes),
+        }),
+        Scanned::Whole(Word::Bool(truth), count) => Some(Found {
+            head: Head::Bool(truth),
+            rest: behind(count, bytes),
+        }),
+        _ => None,
     }
 }
 
@@ -194,37 +201,6 @@ pub(super) fn symbol_head<'a>(
         head: Head::Symbol(name),
         rest,
     })
-}
-
-/// A word that may be a null or a bool.
-#[inline(never)]
-pub(super) fn scan_keyword(limit: u64, bytes: &[u8]) -> Scanned<Word>
-    ensures { Shows (word_token_of (shown_text bytes.now result)) bytes.now result
-        (token_of (Some limit) a_word) }
-{
-    scan_word(limit, bytes)
-}
-
-// A null or a bool.
-#[inline(never)]
-fn keyword_head<'a>(limits: Limits, place: u64, bytes: &'a [u8]) -> Option<Found<'a>>
-    requires bare { IsBare bytes.now }
-    requires first { (in_sexp : Bool) (more : List ℕ)
-        → first_at in_sexp (bytes.now ++ more) ≡ a_word }
-    requires some { 0 < length bytes.now }
-    ensures { IfSome result (IsFound limits place bytes.now) }
-{
-    match scan_word(limits.scalar, bytes) {
-        Scanned::Whole(Word::Null(ion_type), count) => Some(Found {
-            head: Head::Null(ion_type),
-            rest: behind(count, bytes),
-        }),
-        Scanned::Whole(Word::Bool(truth), count) => Some(Found {
-            head: Head::Bool(truth),
-            rest: behind(count, bytes),
-        }),
-        _ => None,
-    }
 }
 
 /// The kind of token that begins so, where it begins an item that may be handed on.

@@ -6,7 +6,7 @@ use Rattle.ion_text_in.specs.Token.{a_word}
 use Rattle.ion_text_in.specs.Views.{word_token_of}
 use Rattle.ion_text_in.proofs.FeedHeads.{head-plain}
 use Rattle.ion_text_in.proofs.ShownFurther.{shown-some}
-use Rattle.ion_text_in.proofs.feed.heads.keyword_head.Goals as goal
+use Rattle.ion_text_in.proofs.feed.heads.word_head.Goals as goal
 
 pub returns-in-Whole-Null-default : goal.returns-in-Whole-Null-default
 returns-in-Whole-Null-default c =

@@ -3,8 +3,8 @@ use Rattle.std.specs.Str.{is_utf8}
 use Rattle.ion_text_in.specs.Quotes.{quote_of, mark_of}
 use Rattle.ion_text_in.proofs.ScannedTexts.{text-shown, text-bad, text-over, ends-unclosed, stops-unclosed}
 use Rattle.ion_text_in.proofs.Utf8.{is_utf8-test}
-use Rattle.ion_text_in.proofs.quoted.scan_text.Goals.{then-is_long-via-then-is_long, then-is_long-via-else-is_long+then-plain-bytes, then-is_long-via-else-is_long+else-plain-bytes+then-bytes-plain, else-not-in_clob-via-then-not-in_clob+else-not-front_is_text, else-not-in_clob-via-else-not-in_clob}
-use Rattle.ion_text_in.proofs.quoted.scan_text.Goals as goal
+use Rattle.ion_text_in.proofs.quoted.any_text.Goals.{then-is_long-via-then-is_long, then-is_long-via-else-is_long+then-plain-bytes, then-is_long-via-else-is_long+else-plain-bytes+then-bytes-plain, else-not-in_clob-via-then-not-in_clob+else-not-front_is_text, else-not-in_clob-via-else-not-in_clob}
+use Rattle.ion_text_in.proofs.quoted.any_text.Goals as goal
 
 either : (a b : Bool) → b ≡ true → (a || b) ≡ true
 either true b e = refl

@@ -59,6 +59,7 @@ mod ShortNumbers
 mod ShownParts
 mod Handing
 mod Feeding
+mod FewOctets
 mod NotedOctets
 mod PlainAdded
 mod EndsLater

@@ -1,14 +1,14 @@
 //! The value at top level that is being written.
 ghost use Rattle.std.specs.Prelude.{◌≡◌, ◌+◌, ◌-◌, ◌*◌, ◌^◌, ◌<◌, ◌≤◌, ℕ, List, true, false, [], ◌∷◌, ◌++◌, if◌then◌else◌, length, drop, take, Ok, OnOk, OnErr, IfErr, None};
-ghost use Rattle.ion_meter.specs.Counts.{IsRefused, Shrinks};
+ghost use Rattle.ion_meter.specs.Counts.{Grows, IsRefused, Shrinks};
 ghost use Rattle.ion_meter.specs.declared.limits.Limits.{Limits};
 ghost use Rattle.ion_value.specs.Items.{raw_head};
 ghost use Rattle.ion_value.specs.Shares.{fault_of};
 ghost use Rattle.ion_value.specs.Value.{UserSymbol};
 ghost use Rattle.ion_binary.specs.Counting.{IsCounted, IsCountedTo, AreReached, content_around, counted_length, cut, sizes_from};
 ghost use Rattle.ion_value.specs.Int.{IsInt};
-ghost use Rattle.ion_value.specs.Number.{uint_octets};
-ghost use Rattle.ion_binary.specs.Canonical.{headed, wrapped};
+ghost use Rattle.ion_value.specs.Number.{coefficient_octets, uint_octets};
+ghost use Rattle.ion_binary.specs.Canonical.{headed, header, wrapped};
 ghost use Rattle.ion_binary.specs.Grammar.{type_code};
 ghost use Rattle.ion_binary.specs.Held.{begun_at, begun_headers, closed_in, counted_ids, headers_around, innermost_in, moved_headers, moved_octets, size_of, whole_at, wrapper_headers, header_at};
 ghost use Rattle.ion_binary.specs.ItemOctets.{head_name, user_head};
@@ -17,6 +17,7 @@ ghost use Rattle.ion_binary.specs.Opening.{CanStep, IsOpen, IsOpenTo, IsWithin, 
 
 mod ended;
 
+use crate::few::{Few, few_header, noted_front};
 use crate::front::Front;
 use crate::header::header;
 use crate::headers::{HeaderPlace, Headers};
@@ -387,45 +388,211 @@ impl<A: Allocator + Copy> OpenValue<A> {
         self.extend_if_room(meter, *limits, &octets)
     }
 
-    /// The same of a scalar whose header is one octet.
+    /// The same of a scalar of one octet.
     #[inline(never)]
-    pub fn put_short(
+    pub fn put_octet(
         &mut self,
         meter: &mut Meter<A>,
         limits: &Limits,
         name: u32,
         note: u32,
-        header: u8,
-        body: &[u8],
+        octet: u8,
     ) -> bool
         requires can_step { CanStep limits.now self.old meter.old }
         requires open { IsOpen limits.now self.old }
         ensures octets { result ≡ true → self.new.octets
-            ≡ self.old.octets ++ noted name note (header ∷ body.now) }
+            ≡ self.old.octets ++ noted name note (octet ∷ []) }
         ensures headers { self.new.headers ≡ self.old.headers }
         ensures open { result ≡ true → IsOpen limits.now self.new }
         ensures declines { result ≡ false → (self.new ≡ self.old) × (meter.new ≡ meter.old) }
         ensures stepped { Stepped limits.now self.old self.new meter.old meter.new None }
     {
-        if note > 0 || name >= 128 {
-            let scalar = Octets {
-                front: &[header],
-                rest: body,
-            };
-            return self.put_octets(meter, limits, name, note, &scalar);
-        }
-        if name == 0 {
-            let octets = Octets {
-                front: &[header],
-                rest: body,
-            };
-            return self.extend_if_room(meter, *limits, &octets);
-        }
-        let octets = Octets {
-            front: &[128 + name as u8, header],
-            rest: body,
+        let front = Few::one(octet);
+        self.put_few(meter, limits, name, note, &front, [0; 8], 0)
+    }
+
+    /// The same of a scalar whose body is a number of 64 bits.
+    #[inline(never)]
+    pub fn put_number(
+        &mut self,
+        meter: &mut Meter<A>,
+        limits: &Limits,
+        name: u32,
+        note: u32,
+        code: u8,
+        n: u64,
+    ) -> bool
+        requires can_step { CanStep limits.now self.old meter.old }
+        requires open { IsOpen limits.now self.old }
+        requires code { code < 16 }
+        ensures octets { result ≡ true → self.new.octets
+            ≡ self.old.octets ++ noted name note (headed code (uint_octets n)) }
+        ensures headers { self.new.headers ≡ self.old.headers }
+        ensures open { result ≡ true → IsOpen limits.now self.new }
+        ensures declines { result ≡ false → (self.new ≡ self.old) × (meter.new ≡ meter.old) }
+        ensures stepped { Stepped limits.now self.old self.new meter.old meter.new None }
+    {
+        let zeros = n.leading_zeros() / 8;
+        let size = 8 - zeros as usize;
+        let front = Few::one(16 * code + size as u8);
+        let body = n.wrapping_shl(8 * zeros).to_be_bytes();
+        self.put_few(meter, limits, name, note, &front, body, size)
+    }
+
+    /// The same of a decimal that is not zero, whose exponent has one octet.
+    #[inline(never)]
+    pub fn put_decimal(
+        &mut self,
+        meter: &mut Meter<A>,
+        limits: &Limits,
+        name: u32,
+        note: u32,
+        exponent: u8,
+        negative: bool,
+        coefficient: u64,
+    ) -> bool
+        requires can_step { CanStep limits.now self.old meter.old }
+        requires open { IsOpen limits.now self.old }
+        requires some { 0 < coefficient }
+        requires most { coefficient < 2 ^ 63 }
+        ensures octets { result ≡ true → self.new.octets
+            ≡ self.old.octets ++ noted name note (headed 5 (exponent ∷ coefficient_octets negative coefficient)) }
+        ensures headers { self.new.headers ≡ self.old.headers }
+        ensures open { result ≡ true → IsOpen limits.now self.new }
+        ensures declines { result ≡ false → (self.new ≡ self.old) × (meter.new ≡ meter.old) }
+        ensures stepped { Stepped limits.now self.old self.new meter.old meter.new None }
+    {
+        let zeros = (coefficient.leading_zeros() - 1) / 8;
+        let size = 8 - zeros as usize;
+        let sign = if negative { 1 << 63 } else { 0 };
+        let front = Few::one(exponent).behind(81 + size as u8);
+        let body = (coefficient.wrapping_shl(8 * zeros) + sign).to_be_bytes();
+        self.put_few(meter, limits, name, note, &front, body, size)
+    }
+
+    /// The same of a string.
+    #[inline(never)]
+    pub fn put_text(
+        &mut self,
+        meter: &mut Meter<A>,
+        limits: &Limits,
+        name: u32,
+        note: u32,
+        text: &[u8],
+    ) -> bool
+        requires can_step { CanStep limits.now self.old meter.old }
+        requires open { IsOpen limits.now self.old }
+        ensures octets { result ≡ true → self.new.octets
+            ≡ self.old.octets ++ noted name note (headed 8 text.now) }
+        ensures headers { self.new.headers ≡ self.old.headers }
+        ensures open { result ≡ true → IsOpen limits.now self.new }
+        ensures declines { result ≡ false → (self.new ≡ self.old) × (meter.new ≡ meter.old) }
+        ensures stepped { Stepped limits.now self.old self.new meter.old meter.new None }
+    {
+        let Some(header) = few_header(8, text.len()) else {
+            return self.put_long(meter, limits, name, note, text);
         };
-        self.extend_if_room(meter, *limits, &octets)
+        let Some(front) = noted_front(&header, text.len(), name, note) else {
+            return self.put_long(meter, limits, name, note, text);
+        };
+        if !self.surely_fits(*limits, front.len() + text.len(), 0) {
+            return false;
+        }
+        self.octets
+            .extend_block_if_room(meter, front.block(), front.len(), text)
+    }
+
+    // The same of one that is long, or behind long ids.
+    #[cold]
+    #[inline(never)]
+    fn put_long(
+        &mut self,
+        meter: &mut Meter<A>,
+        limits: &Limits,
+        name: u32,
+        note: u32,
+        text: &[u8],
+    ) -> bool
+        requires can_step { CanStep limits.now self.old meter.old }
+        requires open { IsOpen limits.now self.old }
+        ensures octets { result ≡ true → self.new.octets
+            ≡ self.old.octets ++ noted name note (headed 8 text.now) }
+        ensures headers { self.new.headers ≡ self.old.headers }
+        ensures open { result ≡ true → IsOpen limits.now self.new }
+        ensures declines { result ≡ false → (self.new ≡ self.old) × (meter.new ≡ meter.old) }
+        ensures stepped { Stepped limits.now self.old self.new meter.old meter.new None }
+    {
+        let before = header(8, text.len() as u64);
+        let octets = Octets {
+            front: before.as_slice(),
+            rest: text,
+        };
+        self.put_octets(meter, limits, name, note, &octets)
+    }
+
+    // The same of a scalar of these octets and the first of a body, so many.
+    #[inline(always)]
+    fn put_few(
+        &mut self,
+        meter: &mut Meter<A>,
+        limits: &Limits,
+        name: u32,
+        note: u32,
+        front: &Few,
+        body: [u8; 8],
+        size: usize,
+    ) -> bool
+        requires can_step { CanStep limits.now self.old meter.old }
+        requires open { IsOpen limits.now self.old }
+        requires few { length front.now ≤ 2 }
+        requires size { size ≤ 8 }
+        ensures octets { result ≡ true → self.new.octets
+            ≡ self.old.octets ++ noted name note (front.now ++ take size body) }
+        ensures headers { self.new.headers ≡ self.old.headers }
+        ensures open { result ≡ true → IsOpen limits.now self.new }
+        ensures declines { result ≡ false → (self.new ≡ self.old) × (meter.new ≡ meter.old) }
+        ensures stepped { Stepped limits.now self.old self.new meter.old meter.new None }
+    {
+        let Some(whole) = noted_front(front, size, name, note) else {
+            return self.put_behind_long(meter, limits, name, note, front, body, size);
+        };
+        if !self.surely_fits(*limits, 16, 0) {
+            return false;
+        }
+        self.octets
+            .extend_blocks_if_room(meter, whole.block(), whole.len(), body, size)
+    }
+
+    // The same behind long ids.
+    #[cold]
+    #[inline(never)]
+    fn put_behind_long(
+        &mut self,
+        meter: &mut Meter<A>,
+        limits: &Limits,
+        name: u32,
+        note: u32,
+        front: &Few,
+        body: [u8; 8],
+        size: usize,
+    ) -> bool
+        requires can_step { CanStep limits.now self.old meter.old }
+        requires open { IsOpen limits.now self.old }
+        requires few { length front.now ≤ 2 }
+        requires size { size ≤ 8 }
+        ensures octets { result ≡ true → self.new.octets
+            ≡ self.old.octets ++ noted name note (front.now ++ take size body) }
+        ensures headers { self.new.headers ≡ self.old.headers }
+        ensures open { result ≡ true → IsOpen limits.now self.new }
+        ensures declines { result ≡ false → (self.new ≡ self.old) × (meter.new ≡ meter.old) }
+        ensures stepped { Stepped limits.now self.old self.new meter.old meter.new None }
+    {
+        let first = front.block();
+        let octets = Octets {
+            front: &first[..front.len()],
+            rest: &body[..size],
+        };
+        self.put_octets(meter, limits, name, note, &octets)
     }
 
     /// Begins a container behind the id of its field, if any, as `begin_if_room` does.
@@ -513,8 +680,7 @@ impl<A: Allocator + Copy> OpenValue<A> {
         if around.code == WRAPPER || inside >= LONG {
             return false;
         }
-        let octets = header(innermost.code, inside as u64);
-        if !self.octets.insert_if_room(meter, place, octets.as_slice()) {
+        if !insert_header(&mut self.octets, meter, innermost.code, place, inside) {
             return false;
         }
         let _innermost = self.headers.pop(meter);
@@ -711,6 +877,58 @@ fn put_note(front: &mut ArrayVec<u8, FRONT>, note: u32, size: u64)
     let before = wrapper(ids.len() as u64, size);
     front.try_extend_from_slice(before.as_slice()).unwrap();
     front.try_extend_from_slice(ids.as_slice()).unwrap();
+}
+
+// Puts the header of a body of so many octets in at a place, where there is room for it. Else it
+// answers false, and nothing is changed.
+#[inline(always)]
+fn insert_header<A: Allocator + Copy>(
+    octets: &mut Buf<A>,
+    meter: &mut Meter<A>,
+    code: u8,
+    place: usize,
+    inside: usize,
+) -> bool
+    requires code { code < 16 }
+    requires within { place ≤ length octets.old }
+    requires short { inside < 2 ^ 63 }
+    requires room { meter.old.held + 10 < 2 ^ 63 }
+    ensures octets { result ≡ true → octets.new
+        ≡ take place octets.old ++ (header code inside ++ drop place octets.old) }
+    ensures cost { result ≡ true → Grows meter.old meter.new (length (header code inside)) }
+    ensures declines { result ≡ false → (octets.new ≡ octets.old) × (meter.new ≡ meter.old) }
+{
+    if inside < 14 {
+        let one = [16 * code + inside as u8];
+        return octets.insert_if_room(meter, place, &one);
+    }
+    if inside < 128 {
+        let two = [16 * code + 14, 128 + inside as u8];
+        return octets.insert_if_room(meter, place, &two);
+    }
+    insert_long_header(octets, meter, code, place, inside)
+}
+
+// The same of any header.
+#[inline(never)]
+fn insert_long_header<A: Allocator + Copy>(
+    octets: &mut Buf<A>,
+    meter: &mut Meter<A>,
+    code: u8,
+    place: usize,
+    inside: usize,
+) -> bool
+    requires code { code < 16 }
+    requires within { place ≤ length octets.old }
+    requires short { inside < 2 ^ 63 }
+    requires room { meter.old.held + 10 < 2 ^ 63 }
+    ensures octets { result ≡ true → octets.new
+        ≡ take place octets.old ++ (header code inside ++ drop place octets.old) }
+    ensures cost { result ≡ true → Grows meter.old meter.new (length (header code inside)) }
+    ensures declines { result ≡ false → (octets.new ≡ octets.old) × (meter.new ≡ meter.old) }
+{
+    let all = header(code, inside as u64);
+    octets.insert_if_room(meter, place, all.as_slice())
 }
 
 // Puts octets in at a place, of which there are mostly none.

@@ -60,6 +60,7 @@ mod ShownParts
 mod Handing
 mod Feeding
 mod FewOctets
+mod PutInRoom
 mod NotedOctets
 mod PlainAdded
 mod EndsLater

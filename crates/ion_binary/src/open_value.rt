@@ -7,7 +7,7 @@ ghost use Rattle.ion_value.specs.Shares.{fault_of};
 ghost use Rattle.ion_value.specs.Value.{UserSymbol};
 ghost use Rattle.ion_binary.specs.Counting.{IsCounted, IsCountedTo, AreReached, content_around, counted_length, cut, sizes_from};
 ghost use Rattle.ion_value.specs.Int.{IsInt};
-ghost use Rattle.ion_value.specs.Number.{coefficient_octets, uint_octets};
+ghost use Rattle.ion_value.specs.Number.{uint_octets};
 ghost use Rattle.ion_binary.specs.Canonical.{headed, header, wrapped};
 ghost use Rattle.ion_binary.specs.Grammar.{type_code};
 ghost use Rattle.ion_binary.specs.Held.{begun_at, begun_headers, closed_in, counted_ids, headers_around, innermost_in, moved_headers, moved_octets, size_of, whole_at, wrapper_headers, header_at};
@@ -16,8 +16,8 @@ ghost use Rattle.ion_meter.specs.Limits.{AreChecked};
 ghost use Rattle.ion_binary.specs.Opening.{CanStep, IsOpen, IsOpenTo, IsWithin, MayFollow, PutsScalar, Raises, Stepped, both_octets, name_octets, noted, open_cost, spelled_octets, wrapper_octets};
 
 mod ended;
+mod plain;
 
-use crate::few::{Few, few_header, noted_front};
 use crate::front::Front;
 use crate::header::header;
 use crate::headers::{HeaderPlace, Headers};
@@ -386,213 +386,6 @@ impl<A: Allocator + Copy> OpenValue<A> {
             rest: scalar.rest,
         };
         self.extend_if_room(meter, *limits, &octets)
-    }
-
-    /// The same of a scalar of one octet.
-    #[inline(never)]
-    pub fn put_octet(
-        &mut self,
-        meter: &mut Meter<A>,
-        limits: &Limits,
-        name: u32,
-        note: u32,
-        octet: u8,
-    ) -> bool
-        requires can_step { CanStep limits.now self.old meter.old }
-        requires open { IsOpen limits.now self.old }
-        ensures octets { result ≡ true → self.new.octets
-            ≡ self.old.octets ++ noted name note (octet ∷ []) }
-        ensures headers { self.new.headers ≡ self.old.headers }
-        ensures open { result ≡ true → IsOpen limits.now self.new }
-        ensures declines { result ≡ false → (self.new ≡ self.old) × (meter.new ≡ meter.old) }
-        ensures stepped { Stepped limits.now self.old self.new meter.old meter.new None }
-    {
-        let front = Few::one(octet);
-        self.put_few(meter, limits, name, note, &front, [0; 8], 0)
-    }
-
-    /// The same of a scalar whose body is a number of 64 bits.
-    #[inline(never)]
-    pub fn put_number(
-        &mut self,
-        meter: &mut Meter<A>,
-        limits: &Limits,
-        name: u32,
-        note: u32,
-        code: u8,
-        n: u64,
-    ) -> bool
-        requires can_step { CanStep limits.now self.old meter.old }
-        requires open { IsOpen limits.now self.old }
-        requires code { code < 16 }
-        ensures octets { result ≡ true → self.new.octets
-            ≡ self.old.octets ++ noted name note (headed code (uint_octets n)) }
-        ensures headers { self.new.headers ≡ self.old.headers }
-        ensures open { result ≡ true → IsOpen limits.now self.new }
-        ensures declines { result ≡ false → (self.new ≡ self.old) × (meter.new ≡ meter.old) }
-        ensures stepped { Stepped limits.now self.old self.new meter.old meter.new None }
-    {
-        let zeros = n.leading_zeros() / 8;
-        let size = 8 - zeros as usize;
-        let front = Few::one(16 * code + size as u8);
-        let body = n.wrapping_shl(8 * zeros).to_be_bytes();
-        self.put_few(meter, limits, name, note, &front, body, size)
-    }
-
-    /// The same of a decimal that is not zero, whose exponent has one octet.
-    #[inline(never)]
-    pub fn put_decimal(
-        &mut self,
-        meter: &mut Meter<A>,
-        limits: &Limits,
-        name: u32,
-        note: u32,
-        exponent: u8,
-        negative: bool,
-        coefficient: u64,
-    ) -> bool
-        requires can_step { CanStep limits.now self.old meter.old }
-        requires open { IsOpen limits.now self.old }
-        requires some { 0 < coefficient }
-        requires most { coefficient < 2 ^ 63 }
-        ensures octets { result ≡ true → self.new.octets
-            ≡ self.old.octets ++ noted name note (headed 5 (exponent ∷ coefficient_octets negative coefficient)) }
-        ensures headers { self.new.headers ≡ self.old.headers }
-        ensures open { result ≡ true → IsOpen limits.now self.new }
-        ensures declines { result ≡ false → (self.new ≡ self.old) × (meter.new ≡ meter.old) }
-        ensures stepped { Stepped limits.now self.old self.new meter.old meter.new None }
-    {
-        let zeros = (coefficient.leading_zeros() - 1) / 8;
-        let size = 8 - zeros as usize;
-        let sign = if negative { 1 << 63 } else { 0 };
-        let front = Few::one(exponent).behind(81 + size as u8);
-        let body = (coefficient.wrapping_shl(8 * zeros) + sign).to_be_bytes();
-        self.put_few(meter, limits, name, note, &front, body, size)
-    }
-
-    /// The same of a string.
-    #[inline(never)]
-    pub fn put_text(
-        &mut self,
-        meter: &mut Meter<A>,
-        limits: &Limits,
-        name: u32,
-        note: u32,
-        text: &[u8],
-    ) -> bool
-        requires can_step { CanStep limits.now self.old meter.old }
-        requires open { IsOpen limits.now self.old }
-        ensures octets { result ≡ true → self.new.octets
-            ≡ self.old.octets ++ noted name note (headed 8 text.now) }
-        ensures headers { self.new.headers ≡ self.old.headers }
-        ensures open { result ≡ true → IsOpen limits.now self.new }
-        ensures declines { result ≡ false → (self.new ≡ self.old) × (meter.new ≡ meter.old) }
-        ensures stepped { Stepped limits.now self.old self.new meter.old meter.new None }
-    {
-        let Some(header) = few_header(8, text.len()) else {
-            return self.put_long(meter, limits, name, note, text);
-        };
-        let Some(front) = noted_front(&header, text.len(), name, note) else {
-            return self.put_long(meter, limits, name, note, text);
-        };
-        if !self.surely_fits(*limits, front.len() + text.len(), 0) {
-            return false;
-        }
-        self.octets
-            .extend_block_if_room(meter, front.block(), front.len(), text)
-    }
-
-    // The same of one that is long, or behind long ids.
-    #[cold]
-    #[inline(never)]
-    fn put_long(
-        &mut self,
-        meter: &mut Meter<A>,
-        limits: &Limits,
-        name: u32,
-        note: u32,
-        text: &[u8],
-    ) -> bool
-        requires can_step { CanStep limits.now self.old meter.old }
-        requires open { IsOpen limits.now self.old }
-        ensures octets { result ≡ true → self.new.octets
-            ≡ self.old.octets ++ noted name note (headed 8 text.now) }
-        ensures headers { self.new.headers ≡ self.old.headers }
-        ensures open { result ≡ true → IsOpen limits.now self.new }
-        ensures declines { result ≡ false → (self.new ≡ self.old) × (meter.new ≡ meter.old) }
-        ensures stepped { Stepped limits.now self.old self.new meter.old meter.new None }
-    {
-        let before = header(8, text.len() as u64);
-        let octets = Octets {
-            front: before.as_slice(),
-            rest: text,
-        };
-        self.put_octets(meter, limits, name, note, &octets)
-    }
-
-    // The same of a scalar of these octets and the first of a body, so many.
-    #[inline(always)]
-    fn put_few(
-        &mut self,
-        meter: &mut Meter<A>,
-        limits: &Limits,
-        name: u32,
-        note: u32,
-        front: &Few,
-        body: [u8; 8],
-        size: usize,
-    ) -> bool
-        requires can_step { CanStep limits.now self.old meter.old }
-        requires open { IsOpen limits.now self.old }
-        requires few { length front.now ≤ 2 }
-        requires size { size ≤ 8 }
-        ensures octets { result ≡ true → self.new.octets
-            ≡ self.old.octets ++ noted name note (front.now ++ take size body) }
-        ensures headers { self.new.headers ≡ self.old.headers }
-        ensures open { result ≡ true → IsOpen limits.now self.new }
-        ensures declines { result ≡ false → (self.new ≡ self.old) × (meter.new ≡ meter.old) }
-        ensures stepped { Stepped limits.now self.old self.new meter.old meter.new None }
-    {
-        let Some(whole) = noted_front(front, size, name, note) else {
-            return self.put_behind_long(meter, limits, name, note, front, body, size);
-        };
-        if !self.surely_fits(*limits, 16, 0) {
-            return false;
-        }
-        self.octets
-            .extend_blocks_if_room(meter, whole.block(), whole.len(), body, size)
-    }
-
-    // The same behind long ids.
-    #[cold]
-    #[inline(never)]
-    fn put_behind_long(
-        &mut self,
-        meter: &mut Meter<A>,
-        limits: &Limits,
-        name: u32,
-        note: u32,
-        front: &Few,
-        body: [u8; 8],
-        size: usize,
-    ) -> bool
-        requires can_step { CanStep limits.now self.old meter.old }
-        requires open { IsOpen limits.now self.old }
-        requires few { length front.now ≤ 2 }
-        requires size { size ≤ 8 }
-        ensures octets { result ≡ true → self.new.octets
-            ≡ self.old.octets ++ noted name note (front.now ++ take size body) }
-        ensures headers { self.new.headers ≡ self.old.headers }
-        ensures open { result ≡ true → IsOpen limits.now self.new }
-        ensures declines { result ≡ false → (self.new ≡ self.old) × (meter.new ≡ meter.old) }
-        ensures stepped { Stepped limits.now self.old self.new meter.old meter.new None }
-    {
-        let first = front.block();
-        let octets = Octets {
-            front: &first[..front.len()],
-            rest: &body[..size],
-        };
-        self.put_octets(meter, limits, name, note, &octets)
     }
 
     /// Begins a container behind the id of its field, if any, as `begin_if_room` does.

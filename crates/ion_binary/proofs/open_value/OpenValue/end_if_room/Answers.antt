@@ -1,5 +1,5 @@
 use Rattle.std.proofs.Common.{rules, ◌≡◌, ◌-◌, ◌∷◌, List, ℕ, drop, length, refl, ap, subst, ◌∙◌, arith}
-use Rattle.ion_meter.specs.Counts.{Shrinks}
+use Rattle.ion_meter.specs.Counts.{Grows, Shrinks}
 use Rattle.ion_binary.specs.declared.headers.HeaderPlace.{HeaderPlace}
 use Rattle.ion_binary.specs.Canonical.{header}
 use Rattle.ion_binary.specs.Counting.{ArePlaced, cut}
@@ -43,11 +43,14 @@ returns-clause-stepped g c =
     let put = put-length h v.octets placed.0 in
     let x : List ℕ = header h.code (length v.octets - h.place) in
     let size : length x ≡ header_size (length v.octets - h.place) = refl in
+    let same : length c.as_slice.result.now ≡ length v.octets = ap (λ (os : List ℕ). length os) c.as_slice.ensures in
+    let Cost : ℕ → Type 0 = λ k. Grows c.args.meter.now c.insert_header.new.meter (length (header h.code (k - h.place))) in
+    let grows : Grows c.args.meter.now c.insert_header.new.meter (length x) = subst Cost same (c.insert_header.ensures.cost c.if-not-insert_header.false) in
     record {
       within = record { octets = omega (arith, fits); headers = omega (arith, few, before, now) };
-      memory = record { memory = λ e. absurd (Prim.cc e); counted = λ e. shrinks.refused ∙ (c.insert_header.ensures.cost c.if-not-insert_header.false).refused };
+      memory = record { memory = λ e. absurd (Prim.cc e); counted = λ e. shrinks.refused ∙ grows.refused };
       alone = λ f e. absurd (Prim.cc e);
       charges =
           grow-shrink c.args.meter.now c.insert_header.new.meter c.pop-innermost.new.meter (length x) 8 (open_cost v) (open_cost w) (open_most c.args.limits)
-          (c.insert_header.ensures.cost c.if-not-insert_header.false) shrinks (omega (arith, few, now, long, put, size)) c.requires.can_step.held (omega (arith, fits, few, before, long, put, size));
+          grows shrinks (omega (arith, few, now, long, put, size)) c.requires.can_step.held (omega (arith, fits, few, before, long, put, size));
     }

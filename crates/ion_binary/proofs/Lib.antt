@@ -61,6 +61,7 @@ mod Handing
 mod Feeding
 mod FewOctets
 mod PutInRoom
+mod ShortDecimals
 mod NotedOctets
 mod PlainAdded
 mod EndsLater

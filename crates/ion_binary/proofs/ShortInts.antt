@@ -16,7 +16,7 @@ pub byte_at-div : (k n : ℕ) → byte_at k n ≡ n / 256 ^ k % 256
 byte_at-div zero n = rw pow-zero (omega arith)
 byte_at-div (suc k) n = refl
 
-uint-all : (k n : ℕ) → uint (bytes_high_first k n) ≡ n % 256 ^ k
+pub uint-all : (k n : ℕ) → uint (bytes_high_first k n) ≡ n % 256 ^ k
 uint-all zero n = rw pow-zero (omega arith)
 uint-all (suc k) n =
     let e : 256 ^ suc k ≡ 2 ^ (8 + 8 * k) = let d : 8 * suc k ≡ 8 + 8 * k = omega arith in pow-256 (suc k) ∙ ap (λ (i : ℕ). 2 ^ i) d in

@@ -31,7 +31,7 @@ var-one (suc n) h =
     let r : suc n % 128 ≡ suc n = omega (arith, h) in
     ap marked (ap (λ (ds : List ℕ). ds ++ (suc n % 128 ∷ [])) (ap (digits_within n 128) q ∙ zero-digits n)) ∙ ap (λ k. k ∷ []) (omega (arith, r))
 
-one-digit : (k q : ℕ) → 0 < q → q < 128 → q ≤ k → digits_within k 128 q ≡ q ∷ []
+pub one-digit : (k q : ℕ) → 0 < q → q < 128 → q ≤ k → digits_within k 128 q ≡ q ∷ []
 unfolding digits_within
 one-digit k zero some few h = absurd (omega (arith, some))
 one-digit zero (suc q) some few h = absurd (omega (arith, h))

@@ -1,6 +1,6 @@
 //! Plain scalars, which are put where there is room for them, the octets before a body as one block.
-ghost use Rattle.std.specs.Prelude.{◌≡◌, ◌<◌, ◌≤◌, ◌∷◌, [], ◌++◌, true, false, length, take, None};
-ghost use Rattle.ion_value.specs.Number.{uint_octets};
+ghost use Rattle.std.specs.Prelude.{◌≡◌, ◌^◌, ◌<◌, ◌≤◌, ◌∷◌, [], ◌++◌, true, false, if◌then◌else◌, length, take, None};
+ghost use Rattle.ion_value.specs.Number.{coefficient_octets, uint_octets};
 ghost use Rattle.ion_binary.specs.Canonical.{headed};
 ghost use Rattle.ion_binary.specs.Opening.{CanStep, IsOpen, Stepped, noted};
 
@@ -61,6 +61,37 @@ impl<A: Allocator + Copy> OpenValue<A> {
         let size = 8 - zeros as usize;
         let front = Few::one(16 * code + size as u8);
         let body = n.wrapping_shl(8 * zeros).to_be_bytes();
+        self.put_few(meter, limits, name, note, &front, body, size)
+    }
+
+    /// The same of a decimal that is not zero: the octet of its exponent, and a coefficient of 63 bits.
+    #[inline(never)]
+    pub fn put_decimal(
+        &mut self,
+        meter: &mut Meter<A>,
+        limits: &Limits,
+        name: u32,
+        note: u32,
+        exponent: u8,
+        negative: bool,
+        coefficient: u64,
+    ) -> bool
+        requires can_step { CanStep limits.now self.old meter.old }
+        requires open { IsOpen limits.now self.old }
+        requires some { 0 < coefficient }
+        requires most { coefficient < 2 ^ 63 }
+        ensures octets { result ≡ true → self.new.octets ≡ self.old.octets
+            ++ noted name note (headed 5 (exponent ∷ coefficient_octets negative coefficient)) }
+        ensures headers { self.new.headers ≡ self.old.headers }
+        ensures open { result ≡ true → IsOpen limits.now self.new }
+        ensures declines { result ≡ false → (self.new ≡ self.old) × (meter.new ≡ meter.old) }
+        ensures stepped { Stepped limits.now self.old self.new meter.old meter.new None }
+    {
+        let zeros = (coefficient.leading_zeros() - 1) / 8;
+        let size = 8 - zeros as usize;
+        let sign = sign_bit(negative);
+        let front = Few::one(exponent).behind(81 + size as u8);
+        let body = (coefficient.wrapping_shl(8 * zeros) + sign).to_be_bytes();
         self.put_few(meter, limits, name, note, &front, body, size)
     }
 
@@ -188,4 +219,12 @@ impl<A: Allocator + Copy> OpenValue<A> {
         };
         self.put_octets(meter, limits, name, note, &octets)
     }
+}
+
+// The sign of a number as the highest bit of a word.
+#[inline(always)]
+fn sign_bit(negative: bool) -> u64
+    ensures { result ≡ (if negative then 2 ^ 63 else 0) }
+{
+    if negative { 1 << 63 } else { 0 }
 }

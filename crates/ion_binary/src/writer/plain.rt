@@ -4,8 +4,8 @@ ghost use Rattle.ion_value.specs.Items.{raw_head, symbol_at};
 ghost use Rattle.ion_value.specs.PlainItems.{listed, placed_item, placed_text};
 ghost use Rattle.ion_value.specs.Standing.{HeadInRange};
 ghost use Rattle.ion_value.specs.Writable.{field_symbols};
-ghost use Rattle.ion_value.specs.Number.{uint_octets};
-ghost use Rattle.ion_value.specs.Value.{begin, end, int, string, symbol, user_symbol_at, whole};
+ghost use Rattle.ion_value.specs.Number.{uint_octets, var_int_octets};
+ghost use Rattle.ion_value.specs.Value.{begin, decimal, end, int, string, symbol, user_symbol_at, whole};
 ghost use Rattle.ion_binary.specs.Canonical.{annotation_octets, field_octets, headed, id_in};
 ghost use Rattle.ion_binary.specs.Held.{counted_ids};
 ghost use Rattle.ion_binary.specs.ItemOctets.{head_name, head_octets, user_head};
@@ -20,6 +20,7 @@ use crate::scalar::{Octets, spell, spell_int, type_code};
 use ion_meter::device::Output;
 use ion_meter::meter::Meter;
 use ion_meter::sink::Sink;
+use ion_value::decimal::Decimal;
 use ion_value::int::Int;
 use ion_value::ion_type::Kind;
 use ion_value::item::{Head, Sym, SymAt};
@@ -51,6 +52,7 @@ impl<A: Allocator + Copy> BinWriter<A> {
             Head::Bool(truth) => self.add_octet(meter, &item, if truth { 17 } else { 16 }),
             Head::Int(int) => self.add_int(meter, &item, int),
             Head::Symbol(at) => self.add_symbol(meter, &item, at),
+            Head::Decimal(decimal) => self.add_decimal(meter, &item, decimal),
             Head::String(text) => self.add_string(meter, &item, text),
             _ => self.add_spelled(meter, &item),
         }
@@ -219,6 +221,43 @@ impl<A: Allocator + Copy> BinWriter<A> {
             .put_text(meter, &self.limits, ids.name, ids.note, text)
     }
 
+    // Adds a decimal: one that is not zero without an `ArrayVec` of its octets, where 63 bits hold its
+    // coefficient and one octet its exponent.
+    #[inline(always)]
+    fn add_decimal(
+        &mut self,
+        meter: &mut Meter<A>,
+        item: &PlainItem<'_, '_>,
+        number: Decimal,
+    ) -> bool
+        requires can_take { CanTake self.old meter.old }
+        requires comes { MayCome self.old.limits self.old.open_value (placed_item item.now) }
+        requires head { raw_head item.now.head ≡ whole (decimal number) }
+        ensures { AddsPlain self.old self.new meter.old meter.new
+            (placed_item item.now) result }
+    {
+        let magnitude = number.coefficient;
+        if magnitude == 0 || magnitude >= 1 << 63 {
+            return self.add_spelled(meter, item);
+        }
+        let Some(exponent) = var_int_octet(number.exponent < 0, number.exponent.unsigned_abs())
+        else {
+            return self.add_spelled(meter, item);
+        };
+        let Some(ids) = self.ids_of(item) else {
+            return false;
+        };
+        self.open_value.put_decimal(
+            meter,
+            &self.limits,
+            ids.name,
+            ids.note,
+            exponent,
+            number.negative,
+            magnitude as u64,
+        )
+    }
+
     // Adds a scalar whose body is a number of 64 bits.
     #[inline(always)]
     fn add_number(
@@ -361,4 +400,18 @@ impl<A: Allocator + Copy> BinWriter<A> {
         };
         self.symbols.known(text)
     }
+}
+
+// The octet of a VarInt of six bits and a sign.
+#[inline(always)]
+fn var_int_octet(negative: bool, magnitude: u32) -> Option<u8>
+    ensures { IfSome result (λ octet. octet ∷ [] ≡ var_int_octets negative magnitude) }
+{
+    if magnitude >= 64 {
+        return None;
+    }
+    if negative {
+        return Some(192 + magnitude as u8);
+    }
+    Some(128 + magnitude as u8)
 }

@@ -4,12 +4,13 @@ ghost use Rattle.ion_value.specs.Items.{named_at, named_item, raw_head};
 ghost use Rattle.ion_value.specs.PlainItems.{HasSimpleName, IsSimpleHead};
 ghost use Rattle.ion_binary.specs.Lane.{CanHand, EndsHere, GoesOn, HandsItem, HandsNothing, HandsOn, IsAround, KeepsOn, FillsTo, ShowsField, ShowsFront, frame_in, inner_region};
 ghost use Rattle.ion_value.specs.Feeding.{CanTake};
-ghost use Rattle.ion_binary.specs.Steps.{IsSound, held_by, left_to, opened_in};
+ghost use Rattle.ion_binary.specs.Steps.{IsSized, IsSound, held_by, left_to, opened_in};
 ghost use Rattle.ion_binary.specs.Positions.{placed_scalar};
-ghost use Rattle.ion_binary.specs.Reading.{top_of};
+ghost use Rattle.ion_binary.specs.Reading.{region_of, top_of};
 ghost use Rattle.ion_binary.specs.Descriptor.{Region, body, shape_of};
 ghost use Rattle.ion_binary.specs.Shapes.{as_shape};
-ghost use Rattle.ion_binary.specs.Shown.{Bounds, far_end, shown_scalar};
+ghost use Rattle.ion_binary.specs.Shown.{Bounds, ShowsValue, far_end, shown_scalar};
+ghost use Rattle.ion_meter.specs.Sources.{Stands};
 ghost use Rattle.ion_meter.specs.Windows.{CanPass, IsPassed, lent};
 ghost use Rattle.ion_binary.specs.Wrappers.{as_frames, innermost};
 ghost use Rattle.ion_value.specs.Value.{map_head, whole};
@@ -582,6 +583,40 @@ impl<I: Input, A: Allocator + Copy> BinReader<I, A> {
         }
     }
 
+    // What is shown behind a front of a head of this shape, and how many octets the item has.
+    #[inline(always)]
+    fn shown_behind(
+        &self,
+        shape: Shape,
+        around: Around,
+        front: Front<'_>,
+    ) -> Option<(Shown<'_>, usize)>
+        requires stands { Stands self.now.source }
+        requires sized { IsSized self.now }
+        requires within { front.head < length (lent self.now.source) }
+        requires shape { as_shape shape ≡ shape_of (get_or (lent self.now.source) front.head 0) }
+        ensures shows { IfSome result (λ r. ShowsValue self.entry.now.limits
+            (lent self.entry.now.source) self.entry.now.source.place
+            (inner_region front.wrapper (region_of (innermost (frame_in around))))
+            (length (as_frames self.entry.now.frames)) front.head r.1 r.0) }
+        ensures fills { IfSome result (λ r. FillsTo front.wrapper
+            (far_end self.entry.now.source.place r.1 r.0)) }
+    {
+        let here = self.source.place();
+        let octets = self.source.buffer();
+        let most = inner_end(front.wrapper, around.end);
+        let depth = self.frames.as_slice().len() as u32;
+        let at = front.head;
+        let Some((found, behind)) = shown_value(shape, octets, here, at, most, depth, self.limits)
+        else {
+            return None;
+        };
+        if !fills(front.wrapper, far_end(here, behind, found)) {
+            return None;
+        }
+        Some((found, behind))
+    }
+
     // Passes over an item whose octets are so many.
     #[inline(always)]
     fn pass(&mut self, around: Around, count: usize)
@@ -629,20 +664,11 @@ impl<I: Input, A: Allocator + Copy> BinReader<I, A> {
             ≤ held_by self.old + 16 * (left_to self.old - left_to self.new) }
         ensures around { result ≡ true → IsAround (as_frames self.new.frames) around.new }
     {
-        let here = self.source.place();
-        let octets = self.source.buffer();
-        let most = inner_end(front.wrapper, around.end);
-        let depth = self.frames.as_slice().len() as u32;
-        let limits = self.limits;
-        let at = front.head;
-        let Some((found, behind)) = shown_value(shape, octets, here, at, most, depth, limits)
-        else {
+        let Some((found, behind)) = self.shown_behind(shape, *around, front) else {
             return false;
         };
-        if !fills(front.wrapper, far_end(here, behind, found)) {
-            return false;
-        }
-        let place = here + at as u64;
+        let here = self.source.place();
+        let place = here + front.head as u64;
         let top = top_at(*around, self.top, here);
         match found {
             Shown::Scalar(scalar) => {

@@ -12,13 +12,13 @@ use Rattle.ion_value.specs.Value as value
 use Rattle.ion_binary.specs.declared.wrapper.Frame.{Frame}
 use Rattle.ion_binary.specs.declared.shown.Shown.TheVariants as shown
 use Rattle.ion_binary.specs.Positions.{placed_scalar}
-use Rattle.ion_binary.specs.Lane.{frame_in, inner_region}
-use Rattle.ion_binary.specs.Reading.{placed_item, region_of, top_of}
+use Rattle.ion_binary.specs.Lane.{frame_in}
+use Rattle.ion_binary.specs.Reading.{placed_item, top_of}
 use Rattle.ion_binary.specs.Reader.{kinds_of, to_come}
 use Rattle.ion_binary.specs.Shown.{shown_scalar}
 use Rattle.ion_binary.specs.Steps.{opened_in}
 use Rattle.ion_binary.specs.Wrappers.{as_frames, innermost}
-use Rattle.ion_binary.proofs.Handing.{around_pushed, as_frames-push, bounds_around, begin_fits, falls_begin, falls_scalar, hands_by, kinds_of-push, path_here, plain_seen, scalar_fits, step_shown, to_come-gives, whole-opens, whole-value}
+use Rattle.ion_binary.proofs.Handing.{around_pushed, as_frames-push, begin_fits, falls_begin, falls_scalar, hands_by, kinds_of-push, path_here, plain_seen, scalar_fits, step_shown, to_come-gives, whole-opens, whole-value}
 use Rattle.ion_binary.proofs.ReaderParts.{as_frames-length}
 use Rattle.ion_binary.proofs.reader.BinReader.hand_shape.Goals as goal
 
@@ -32,10 +32,8 @@ take_plain-requires-clause-path g c =
     let inner = c.requires.around.innermost in
     let front = c.requires.front in
     let name = front.name in
-    let region = inner_region c.args.front.wrapper (region_of (innermost f)) in
-    let bounds = c.inner_end-most.ensures (region_of (innermost f)) (bounds_around c.args.around.now) in
-    let shows = rw (c.buffer-octets.ensures, c.place-here.ensures, c.as_slice.ensures, sym (as_frames-length r.frames), c.in-Scalar.is) at (c.in-Some.ensures.shows region bounds) in
-    let full = rw (c.far_end.ensures, c.place-here.ensures, c.in-Scalar.is) at (c.fills.ensures c.if-not-fills.false) in
+    let shows = rw c.in-Scalar.is at c.in-Some.ensures.shows in
+    let full = rw c.in-Scalar.is at c.in-Some.ensures.fills in
     let v = front.gives (length (as_frames r.frames)) c.in-Some.behind (shown.Scalar c.in-Scalar.scalar) shows full in
     let head = rw c.place-here.ensures at c.in-Some-shown_head.ensures.head in
     let plain : PlainItem = record { field = c.args.front.field; annotation = c.args.front.annotation; head = c.in-Some-shown_head.head; place = c.place-here.result + c.args.front.head; top = c.top_at-top.result } in
@@ -54,10 +52,8 @@ take_plain-requires-in-Begin-clause-path g c =
     let inner = c.requires.around.innermost in
     let front = c.requires.front in
     let name = front.name in
-    let region = inner_region c.args.front.wrapper (region_of (innermost f)) in
-    let bounds = c.inner_end-most.ensures (region_of (innermost f)) (bounds_around c.args.around.now) in
-    let shows = rw (c.buffer-octets.ensures, c.place-here.ensures, c.as_slice.ensures, sym (as_frames-length r.frames), c.in-Begin.is) at (c.in-Some.ensures.shows region bounds) in
-    let full = rw (c.far_end.ensures, c.place-here.ensures, c.in-Begin.is) at (c.fills.ensures c.if-not-fills.false) in
+    let shows = rw c.in-Begin.is at c.in-Some.ensures.shows in
+    let full = rw c.in-Begin.is at c.in-Some.ensures.fills in
     let v = front.gives (length (as_frames r.frames)) c.in-Some.behind (shown.Begin c.in-Begin.kind c.in-Begin.end) shows full in
     let plain : PlainItem = record { field = c.args.front.field; annotation = c.args.front.annotation; head = code.Begin c.in-Begin.kind; place = c.place-here.result + c.args.front.head; top = c.top_at-top.result } in
     let few : length r.frames < r.limits.depth = subst (λ n. n < r.limits.depth) (as_frames-length r.frames) v.may_be in
@@ -78,10 +74,8 @@ returns-else-not-take_plain-clause-hands g c e =
     let inner = c.requires.around.innermost in
     let front = c.requires.front in
     let name = front.name in
-    let region = inner_region c.args.front.wrapper (region_of (innermost f)) in
-    let bounds = c.inner_end-most.ensures (region_of (innermost f)) (bounds_around c.args.around.now) in
-    let shows = rw (c.buffer-octets.ensures, c.place-here.ensures, c.as_slice.ensures, sym (as_frames-length r.frames), c.in-Scalar.is) at (c.in-Some.ensures.shows region bounds) in
-    let full = rw (c.far_end.ensures, c.place-here.ensures, c.in-Scalar.is) at (c.fills.ensures c.if-not-fills.false) in
+    let shows = rw c.in-Scalar.is at c.in-Some.ensures.shows in
+    let full = rw c.in-Scalar.is at c.in-Some.ensures.fills in
     let v = front.gives (length (as_frames r.frames)) c.in-Some.behind (shown.Scalar c.in-Scalar.scalar) shows full in
     let head = rw c.place-here.ensures at c.in-Some-shown_head.ensures.head in
     let plain : PlainItem = record { field = c.args.front.field; annotation = c.args.front.annotation; head = c.in-Some-shown_head.head; place = c.place-here.result + c.args.front.head; top = c.top_at-top.result } in
@@ -123,10 +117,8 @@ returns-else-not-take_plain-2-clause-hands g c e =
     let inner = c.requires.around.innermost in
     let front = c.requires.front in
     let name = front.name in
-    let region = inner_region c.args.front.wrapper (region_of (innermost f)) in
-    let bounds = c.inner_end-most.ensures (region_of (innermost f)) (bounds_around c.args.around.now) in
-    let shows = rw (c.buffer-octets.ensures, c.place-here.ensures, c.as_slice.ensures, sym (as_frames-length r.frames), c.in-Begin.is) at (c.in-Some.ensures.shows region bounds) in
-    let full = rw (c.far_end.ensures, c.place-here.ensures, c.in-Begin.is) at (c.fills.ensures c.if-not-fills.false) in
+    let shows = rw c.in-Begin.is at c.in-Some.ensures.shows in
+    let full = rw c.in-Begin.is at c.in-Some.ensures.fills in
     let v = front.gives (length (as_frames r.frames)) c.in-Some.behind (shown.Begin c.in-Begin.kind c.in-Begin.end) shows full in
     let plain : PlainItem = record { field = c.args.front.field; annotation = c.args.front.annotation; head = code.Begin c.in-Begin.kind; place = c.place-here.result + c.args.front.head; top = c.top_at-top.result } in
     let few : length r.frames < r.limits.depth = subst (λ n. n < r.limits.depth) (as_frames-length r.frames) v.may_be in

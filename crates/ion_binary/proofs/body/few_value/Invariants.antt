@@ -1,6 +1,6 @@
 use Rattle.std.proofs.Common.{◌≡◌, ◌^◌, ◌<◌, take}
 use Rattle.ion_value.specs.Number.{uint}
-use Rattle.ion_binary.proofs.shown.few_value.Given as goal
+use Rattle.ion_binary.proofs.body.few_value.Given as goal
 
 abbrev pub invariant-loop-octet : goal.invariant-loop-octet
 invariant-loop-octet l = record {

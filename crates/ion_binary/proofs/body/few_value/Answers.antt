@@ -1,7 +1,7 @@
 use Rattle.std.proofs.Common.{◌+◌, ◌*◌, ◌^◌, ◌<◌, ◌≤◌, arith, get_or}
 use Rattle.std.proofs.Math.Nat.{pow-le-pow_right}
 use Rattle.ion_value.proofs.Numbers.{append-lt, uint-take_more}
-use Rattle.ion_binary.proofs.shown.few_value.Goals as goal
+use Rattle.ion_binary.proofs.body.few_value.Goals as goal
 
 -- at most seven octets came before this one
 pub overflow_add-value : goal.overflow_add-value

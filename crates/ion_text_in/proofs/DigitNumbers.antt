@@ -84,9 +84,6 @@ tail-number n m (d ∷ ds) some all = rw (tail-all (d ∷ ds) m all) refl
 
 -- ---- how many digits have room
 
-pub narrow : (k : ℕ) → k ≤ 19 → (0 + 1) * 10 ^ k ≤ 2 ^ 64
-narrow k few = let less : 10 ^ k ≤ 10 ^ 19 = pow-le-pow_right (omega arith) few in omega (arith, less)
-
 pub narrow-behind : (xs : List ℕ) (k : ℕ) → all_are is_digit xs ≡ true → length xs + k ≤ 19 → (number_after 0 xs + 1) * 10 ^ k ≤ 2 ^ 64
 narrow-behind xs k e few =
     let less : 10 ^ (length xs + k) ≤ 10 ^ 19 = pow-le-pow_right (omega arith) few in

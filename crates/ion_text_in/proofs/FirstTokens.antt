@@ -218,4 +218,4 @@ no-colons-if false f g c one other = other
 pub no-colons : (n : ℕ) (c : Cursor) → colons_at (numbered n) c ≡ None
 no-colons n c =
     no-colons-if (n == 1) _ _ c refl (no-colons-if (n == 2) _ _ c refl (no-colons-if (n == 3) _ _ c refl (no-colons-if (n == 4) _ _ c refl
-    (no-colons-if (n == 5) _ _ c refl (no-colons-if (n == 6) _ _ c refl (no-colons-if (n == 7) _ _ c refl (no-colons-if (n == 8) _ _ c refl refl)))))))
+    (no-colons-if (n == 5) _ _ c refl (no-colons-if (n == 6) _ _ c refl (no-colons-if (n == 7) _ _ c refl (no-colons-if (n == 8) _ _ c refl (no-colons-if (n == 10) _ _ c refl refl))))))))

@@ -32,7 +32,7 @@ use ion_value::ion_type::Kind;
 use std::alloc::Allocator;
 
 impl<I: Input, A: Allocator + Copy> TextReader<I, A> {
-    // Reads the token of a kind that its first byte told alone, and takes it.
+    // Reads the token of a kind that its first byte or two told, and takes it.
     #[inline(always)]
     pub(super) fn told(&mut self, told: u64, meter: &mut Meter<A>) -> Result<StepResult, Fault>
         requires can_step { CanStep self.old meter.old }
@@ -55,6 +55,7 @@ impl<I: Input, A: Allocator + Copy> TextReader<I, A> {
             6 => self.begin(Kind::Sexp, meter),
             7 => self.finish(Kind::Struct, meter),
             8 => self.finish(Kind::List, meter),
+            10 => self.begin(Kind::Struct, meter),
             _ => self.finish(Kind::Sexp, meter),
         }
     }

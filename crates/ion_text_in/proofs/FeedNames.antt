@@ -184,17 +184,16 @@ named-start limits place n next start text colon is bare here bytes begins told 
     }
 
 pub start-field : (limits : Limits) (spot : Spot) (place named : ℕ) (next : Next) (start : Option Start) → expected_of spot ≡ codes_of.Field → IsNext spot.rest.now next
-    → (length next.rest.now ≤ length spot.rest.now → named ≡ place + (length spot.rest.now - length next.rest.now)) → IfSome start (IsNamed limits named next) → IfSome start (IsStart limits spot place)
+    → named ≡ place + (length spot.rest.now - length next.rest.now) → IfSome start (IsNamed limits named next) → IfSome start (IsStart limits spot place)
 start-field limits spot place named next None field is here h = tt
 start-field limits spot place named next (Some s) field is here h =
     let passes = is.passes (is.some h.some) in
     let fewer = passes.fewer in
-    let there = here fewer in
     record {
       simple = rw h.is h.simple;
       noted = rw h.bare tt;
       onward = λ kinds may.
-          rw (h.is, h.bare, field) (onward-then limits kinds spot.top place named a_field a_field (a_value (Some (placed_text h.text)) []) spot.rest.now next.rest.now s.next.rest.now (omega (arith, there, fewer))
+          rw (h.is, h.bare, field) (onward-then limits kinds spot.top place named a_field a_field (a_value (Some (placed_text h.text)) []) spot.rest.now next.rest.now s.next.rest.now (omega (arith, here, fewer))
           (onward-blanks limits kinds spot.top place a_field spot.rest.now next.rest.now passes) (h.onward kinds spot.top));
       named = λ kinds may. rw h.is (sym (subst (λ (e : Expected). MayExpect e kinds None []) field may).0);
       begins = h.begins;

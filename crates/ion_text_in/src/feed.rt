@@ -182,32 +182,39 @@ fn behind_separator<'a>(at: &mut Spot<'a>, rest: &'a [u8]) -> Next<'a>
 
 // What the value begins with that may begin here, behind the name of its field where one must come.
 #[inline(always)]
-fn to_start<'a>(spot: Spot<'a>, next: Next<'a>, limits: Limits, end: u64) -> Option<Start<'a>>
+fn to_start<'a>(spot: Spot<'a>, next: Next<'a>, limits: Limits, place: u64) -> Option<Start<'a>>
     requires next { IsNext spot.rest.now next }
-    requires within { length spot.rest.now ≤ end }
-    ensures start { IfSome result (IsStart limits spot.entry
-        (end - length spot.entry.rest.now)) }
+    requires small { place + length spot.rest.now < 2 ^ 63 }
+    ensures start { IfSome result (IsStart limits spot.entry place) }
     ensures bare { IfSome result (λ s. s.note ≡ None) }
 {
     if spot.separator {
         return None;
     }
     match spot.kind {
-        Kind::Struct => field_start(next, limits, end - next.rest.len() as u64),
+        Kind::Struct => field_start(next, limits, place_behind(place, spot, next)),
         Kind::List | Kind::Sexp => value_start(next),
     }
+}
+
+// The place of the next token behind blanks.
+#[inline(always)]
+fn place_behind(place: u64, spot: Spot<'_>, next: Next<'_>) -> u64
+    requires small { place + length spot.rest.now < 2 ^ 63 }
+    ensures { result ≡ place + (length spot.entry.rest.now - length next.entry.rest.now) }
+{
+    place + spot.rest.len().saturating_sub(next.rest.len()) as u64
 }
 
 // The same where no name must come.
 #[inline(always)]
 fn value_start<'a>(next: Next<'a>) -> Option<Start<'a>>
-    requires some { 0 < next.told → 0 < length next.rest.now }
     ensures field { IfSome result (λ s. s.field ≡ None) }
     ensures note { IfSome result (λ s. s.note ≡ None) }
     ensures next { IfSome result (λ s. s.next ≡ next.entry) }
     ensures some { IfSome result (λ s. 0 < length next.entry.rest.now) }
 {
-    if next.told == 0 {
+    if next.rest.is_empty() {
         return None;
     }
     Some(Start {
@@ -233,7 +240,7 @@ fn field_start<'a>(next: Next<'a>, limits: Limits, place: u64) -> Option<Start<'
         return None;
     };
     let value = next_told(behind(1, colon));
-    if value.told == 0 {
+    if value.rest.is_empty() {
         return None;
     }
     let name = TextAt {
@@ -282,7 +289,7 @@ fn pass_value<'a>(at: &mut Spot<'a>, rest: &'a [u8], top: u64, inner: Option<Kin
     requires inside { (kind : kind_of.Kind) → inner ≡ Some kind → top ≡ at.old.top }
     ensures { (opened : List kind_of.Kind) → innermost opened ≡ inner
         → at.new ≡ record at.old {
-          rest = rest;
+          rest = rest.entry;
           top = top;
           values = at.old.values + one_if_closed opened;
           separator = is_separated at.old.kind;
@@ -718,7 +725,7 @@ fn value<'a, W: ValueWriter<O, A>, O: Output, A: Allocator + Copy>(
         ≤ length kinds.old + length at.old.rest.now }
     ensures falls { result ≡ true → length at.new.rest.now < length at.old.rest.now }
 {
-    let Some(start) = to_start(*at, next, limits, end) else {
+    let Some(start) = to_start(*at, next, limits, end - at.rest.len() as u64) else {
         return false;
     };
     match token(start.next) {

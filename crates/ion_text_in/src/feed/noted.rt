@@ -27,7 +27,7 @@ pub(super) fn noted<'a>(
         return None;
     }
     let value = next_told(behind(2, colons));
-    if value.told == 0 {
+    if value.rest.is_empty() {
         return None;
     }
     let text = TextAt {

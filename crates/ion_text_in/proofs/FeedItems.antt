@@ -29,7 +29,7 @@ use Rattle.ion_text_in.specs.Expecting.{expected_in, is_separated, kind_in, want
 use Rattle.ion_text_in.specs.Feeding.{behind_head, expected_of, lane, notes, state, CanFeed, IsBehind, IsHead, IsNext, IsStart, Moved, Onward}
 use Rattle.ion_text_in.specs.Firsts.{numbered}
 use Rattle.ion_text_in.specs.Positions.{innermost}
-use Rattle.ion_text_in.specs.Reading.{at_member, behind_member, is_same, member_of, item_of, top_of}
+use Rattle.ion_text_in.specs.Reading.{at_member, behind_member, is_same, item_of, top_of}
 use Rattle.ion_text_in.specs.Steps.{later}
 use Rattle.ion_text_in.specs.Token as tokens
 use Rattle.ion_text_in.specs.Token.{first_at}
@@ -89,7 +89,7 @@ member-expects : (opened : List Kind) → MayExpect (expected_in false (kind_in 
 member-expects [] = refl
 member-expects (a_kind.List ∷ opened) = refl
 member-expects (a_kind.Sexp ∷ opened) = refl
-member-expects (a_kind.Struct ∷ opened) = (refl, (refl, refl))
+member-expects (a_kind.Struct ∷ opened) = (refl, refl, refl)
 
 pub wants-member : (opened : List Kind) (kind : Kind) → kind_in opened ≡ kind → wanted (expected_in false kind) None [] ≡ at_member (innermost opened)
 wants-member opened kind inner = subst (λ (k : Kind). wanted (expected_in false k) None [] ≡ at_member (innermost opened)) inner (member-wants opened)

@@ -1,15 +1,15 @@
-use Rattle.std.proofs.Common.{◌≡◌, ◌∙◌, ◌+◌, List, ℕ, length, reverse, refl, sym, ap, subst, arith}
+use Rattle.std.proofs.Common.{◌≡◌, ◌∙◌, ◌+◌, ◌-◌, List, ℕ, length, reverse, refl, sym, ap, subst, arith}
 use Rattle.ion_value.specs.declared.ion_type.Kind.{Kind}
 use Rattle.ion_text_in.specs.declared.expected.Expected.{Expected}
 use Rattle.ion_text_in.specs.declared.feed.Spot.{Spot}
 use Rattle.ion_text_in.specs.Expecting.{expected_in}
 use Rattle.ion_text_in.specs.Feeding.{lane, reader_lane, window_end, CanFeed, Lane, Moved}
-use Rattle.ion_meter.specs.Windows.{lent}
+use Rattle.ion_meter.specs.Windows.{lent, IsPassed}
 use Rattle.ion_text_in.proofs.FeedReader.{lane-of, moved-window}
 use Rattle.ion_text_in.proofs.reader.TextReader.feed_window.Goals as goal
 
-pub feed_items-requires : goal.feed_items-requires
-feed_items-requires g c =
+pub feed_items-last-requires : goal.feed_items-last-requires
+feed_items-last-requires g c =
     let w = g.W.ValueWriter in
     let a = c.args in
     let r = a.self.now in
@@ -41,7 +41,8 @@ returns-clause-moved g c =
     let first = reader_lane r 0 a.writer.now a.sink.now a.meter.now in
     let last = lane f.new.kinds f.result f.new.writer f.new.sink f.new.meter in
     let end = c.place.result + length bytes.now in
+    let passed = subst (λ (l : List ℕ). IsPassed r.source t (length l - length f.result.rest.now)) c.buffer-bytes.ensures c.consume.ensures in
     let moved : Moved w r.limits end first last = subst (λ (l : Lane g.row.W.Denot g.row.O.Denot). Moved w r.limits end l last) start f.ensures.moved in
     subst (λ (k : Kind). Moved w r.limits (window_end r.source) first (record last { rest = lent t; expected = c.expected_in-self.result; kind = k })) (sym moved.kind)
     (subst (λ (e : Expected). Moved w r.limits (window_end r.source) first (record last { rest = lent t; expected = e })) (sym c.expected_in-self.ensures)
-    (moved-window w r.limits r.source t end first last c.requires.stands refl (omega (arith, c.place.ensures, long)) moved c.consume.ensures))
+    (moved-window w r.limits r.source t end first last c.requires.stands refl (omega (arith, c.place.ensures, long)) moved passed))

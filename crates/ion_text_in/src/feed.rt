@@ -282,7 +282,8 @@ fn ended_kind(told: u64) -> Option<Kind>
     }
 }
 
-// Behind a value: where no container is open, one more has ended. It is told by a jump, since that is rare.
+// Behind a value: where no container is open, one more has ended. It is told by a jump, since that is
+// rare.
 #[inline(always)]
 fn pass_value<'a>(at: &mut Spot<'a>, rest: &'a [u8], top: u64, inner: Option<Kind>)
     requires few { at.old.values < 2 ^ 63 }

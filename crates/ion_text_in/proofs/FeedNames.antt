@@ -13,7 +13,7 @@ use Rattle.ion_value.specs.Parts.{Placed, ◌>>=◌}
 use Rattle.ion_value.specs.PlainItems.{placed_text}
 use Rattle.ion_value.specs.Value as value
 use Rattle.ion_value.specs.Value.{SymbolAt, Symbol}
-use Rattle.ion_text_in.specs.Feeding.{Begins, IfName, IsBare, IsBegun, IsNamed, IsNext, IsSimpleWord, IsStart, Onward, PassesBlanks, ToColon}
+use Rattle.ion_text_in.specs.Feeding.{expected_of, Begins, IfName, IsBare, IsBegun, IsNamed, IsNext, IsSimpleWord, IsStart, Onward, PassesBlanks, ToColon}
 use Rattle.ion_text_in.specs.declared.expected.Expected.{Expected}
 use Rattle.ion_text_in.specs.declared.expected.Expected.TheVariants as codes_of
 use Rattle.ion_text_in.specs.declared.feed.Next.{Next}
@@ -216,7 +216,7 @@ named-start limits place n next start text colon is bare here bytes begins told 
       begins = record { some = some; tells = behind.tells; bare = passes.bare };
     }
 
-pub start-field : (limits : Limits) (spot : Spot) (place named : ℕ) (next : Next) (start : Option Start) → spot.expected ≡ codes_of.Field → IsNext spot.rest.now next
+pub start-field : (limits : Limits) (spot : Spot) (place named : ℕ) (next : Next) (start : Option Start) → expected_of spot ≡ codes_of.Field → IsNext spot.rest.now next
     → named ≡ place + (length spot.rest.now - length next.rest.now) → IfSome start (IsNamed limits named next) → IfSome start (IsStart limits spot place)
 start-field limits spot place named next None field is here h = tt
 start-field limits spot place named next (Some s) field is here h =

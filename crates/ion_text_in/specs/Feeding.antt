@@ -28,7 +28,7 @@ use Rattle.ion_text_in.specs.declared.scanned.Scanned.TheVariants.{Whole, Fault,
 use Rattle.ion_text_in.specs.declared.word.Word.{Word}
 use Rattle.ion_text_in.specs.declared.word.Word.TheVariants as word
 use Rattle.ion_text_in.specs.Blanks.{blanks}
-use Rattle.ion_text_in.specs.Expecting.{wanted, MayExpect}
+use Rattle.ion_text_in.specs.Expecting.{expected_in, kind_in, wanted, MayExpect}
 use Rattle.ion_text_in.specs.Firsts.{numbered}
 use Rattle.ion_text_in.specs.Meaning.{at}
 use Rattle.ion_text_in.specs.Positions.{State, Wants, a_field, a_value, innermost}
@@ -63,7 +63,7 @@ pub record LeadsTo (one other : ℕ → List ℕ → Placed Cursor) (bytes rest 
   pub fewer : length rest ≤ length bytes
   pub same : (p q : ℕ) (more : List ℕ) → p + length bytes ≡ q + length rest → one p (bytes ++ more) ≡ other q (rest ++ more)
 
--- what a slice shows of the next token behind blanks, by the number of what its first byte tells alone: 0 is known of nothing
+-- what a slice shows of the next token behind blanks, by the number of what its first byte or two tell: 0 is known of nothing
 pub record IsNext (bytes : List ℕ) (next : Next) : Type 0 where
   pub passes : 0 < length next.rest.now → PassesBlanks bytes next.rest.now
   pub some : 0 < next.told → 0 < length next.rest.now
@@ -134,7 +134,7 @@ notes note = listed (option_map placed_text note)
 
 -- ---- parts of an item
 
--- a token begins here, of the kind that its first byte tells, if it does
+-- a token begins here, of the kind that its first byte or two tell, if they do
 pub record Begins (next : Next) : Type 0 where
   pub some : 0 < length next.rest.now
   pub tells : 0 < next.told → (in_sexp : Bool) (more : List ℕ) → first_at in_sexp (next.rest.now ++ more) ≡ numbered next.told
@@ -160,13 +160,17 @@ pub record IsNoted (limits : Limits) (place : ℕ) (start noted : Start) : Type 
       → Onward limits kinds top place (a_value field []) start.next.rest.now (a_value field (placed_text text ∷ [])) noted.next.rest.now
   pub begins : Begins noted.next
 
+-- what must come where a lane stands
+abbrev pub expected_of : Spot → Expected
+expected_of spot = expected_in spot.separator spot.kind
+
 -- a value begins here, behind the name of a field where one must come, and behind an annotation if it has one
 pub record IsStart (limits : Limits) (spot : Spot) (place : ℕ) (start : Start) : Type 0 where
   pub simple : HasSimpleName (option_map placed_text start.field)
   pub noted : AreSimple (notes start.note)
-  pub onward : (kinds : List Kind) → MayExpect spot.expected kinds None []
-      → Onward limits kinds spot.top place (wanted spot.expected None []) spot.rest.now (a_value (option_map placed_text start.field) (notes start.note)) start.next.rest.now
-  pub named : (kinds : List Kind) → MayExpect spot.expected kinds None [] → is_some start.field ≡ in_struct kinds
+  pub onward : (kinds : List Kind) → MayExpect (expected_of spot) kinds None []
+      → Onward limits kinds spot.top place (wanted (expected_of spot) None []) spot.rest.now (a_value (option_map placed_text start.field) (notes start.note)) start.next.rest.now
+  pub named : (kinds : List Kind) → MayExpect (expected_of spot) kinds None [] → is_some start.field ≡ in_struct kinds
   pub begins : Begins start.next
 
 -- a head stands at the front of some bytes, and these behind it
@@ -190,6 +194,7 @@ IsFound limits place bytes found = IsHead limits place bytes (raw_head found.hea
 -- what it moves: the reader's part of it, and what items are handed to
 pub record Lane (W O : Type 0) : Type 0 where
   pub kinds : List Kind
+  pub kind : Kind
   pub expected : Expected
   pub top : ℕ
   pub rest : List ℕ
@@ -202,7 +207,8 @@ pub record Lane (W O : Type 0) : Type 0 where
 abbrev pub lane : {W O : Type 0} → List Kind → Spot → W → Outgoing O → Counts → Lane W O
 lane kinds spot writer sink meter = record {
   kinds = kinds;
-  expected = spot.expected;
+  kind = spot.kind;
+  expected = expected_of spot;
   top = spot.top;
   rest = spot.rest.now;
   values = spot.values;
@@ -239,6 +245,7 @@ pub record CanFeed {W O A : Type 0} (w : WriterOf W O A) (limits : Limits) (end 
   pub low : end ≤ 2 ^ 62
   pub small : l.values + length l.rest ≤ 2 ^ 62
   pub few : length l.kinds ≤ limits.depth
+  pub kind : kind_in (reverse l.kinds) ≡ l.kind
   pub expects : MayExpect l.expected (reverse l.kinds) None []
   pub takes : CanTake w limits.depth (reverse l.kinds) l.writer l.sink
   pub share : WritesWithin (w.own l.writer) (w.most l.writer)
@@ -250,6 +257,7 @@ pub record Moved {W O A : Type 0} (w : WriterOf W O A) (limits : Limits) (end : 
   pub part : IsBehind old.rest new.rest
   pub fewer : length new.rest ≤ length old.rest
   pub few : length new.kinds ≤ limits.depth
+  pub kind : kind_in (reverse new.kinds) ≡ new.kind
   pub expects : MayExpect new.expected (reverse new.kinds) None []
   pub takes : CanTake w limits.depth (reverse new.kinds) new.writer new.sink
   pub share : WritesWithin (w.own new.writer) (w.most new.writer)
@@ -266,6 +274,7 @@ window_end s = s.place + length (lent s)
 abbrev pub reader_lane : {I A W O : Type 0} → TextReader I A → ℕ → W → Outgoing O → Counts → Lane W O
 reader_lane r values writer sink meter = record {
   kinds = r.kinds;
+  kind = kind_in (reverse r.kinds);
   expected = r.expected;
   top = r.top;
   rest = lent r.source;

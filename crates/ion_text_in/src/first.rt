@@ -74,7 +74,8 @@ pub(crate) fn scan_first(in_sexp: bool, bytes: &[u8]) -> Option<First>
     }
 }
 
-/// The number of the kind of token that the first of these bytes tells alone, or 0.
+/// The number of the kind of token that begins at the front of these bytes, where the first of them
+/// tells it, or the first two; or 0.
 #[inline(always)]
 pub(crate) fn told_first(bytes: &[u8]) -> u64
     ensures some { 0 < result → 1 ≤ length bytes.now }
@@ -85,7 +86,35 @@ pub(crate) fn told_first(bytes: &[u8]) -> u64
 {
     match bytes {
         [] => 0,
-        [byte, ..] => FIRST_BYTES[*byte as usize] as u64,
+        [byte, ..] => {
+            let told = FIRST_BYTES[*byte as usize] as u64;
+            if told > 0 {
+                return told;
+            }
+            told_by_two(bytes)
+        }
+    }
+}
+
+// The number of a struct's beginning, or of a negative number, where two bytes tell it.
+#[tactic(auto, unfolding(crate::specs::Token::first_at, crate::specs::Blanks::blanks_at))]
+#[inline(always)]
+fn told_by_two(bytes: &[u8]) -> u64
+    ensures some { 0 < result → 1 ≤ length bytes.now }
+    ensures bare { 0 < result → (place : ℕ) (more : List ℕ)
+        → blanks (at place (bytes.now ++ more)) ≡ Ok (at place (bytes.now ++ more)) }
+    ensures tells { 0 < result → (in_sexp : Bool) (more : List ℕ)
+        → first_at in_sexp (bytes.now ++ more) ≡ numbered result }
+{
+    match bytes {
+        [b'{', next, ..] => {
+            if *next == b'{' {
+                return 0;
+            }
+            10
+        }
+        [b'-', b'0'..=b'9', ..] => 2,
+        _ => 0,
     }
 }
 
@@ -107,7 +136,7 @@ pub(crate) fn shows_colon(bytes: &[u8]) -> bool
 
 // The numbers of the kinds that bytes tell alone: 1 for a word, 2 for a number, 3 for a string, 4 for
 // a comma, 5 and 6 for the beginnings of a list and a sexp, 7 to 9 for the ends of a struct, a list
-// and a sexp.
+// and a sexp. That of a struct's beginning is 10.
 static FIRST_BYTES: [u8; 256] = [
     0, 0, 0, 0, 0, 0, 0, 0, 0, 0, 0, 0, 0, 0, 0, 0, 0, 0, 0, 0, 0, 0, 0, 0, 0, 0, 0, 0, 0, 0, 0, 0,
     0, 0, 3, 0, 1, 0, 0, 0, 6, 9, 0, 0, 4, 0, 0, 0, 2, 2, 2, 2, 2, 2, 2, 2, 2, 2, 0, 0, 0, 0, 0, 0,
@@ -233,10 +262,10 @@ fn quote(others: &[u8]) -> Option<First>
     }
 }
 
-/// What begins with a brace.
+// What begins with a brace.
 #[tactic(auto, unfolding(crate::specs::Token::first_at))]
 #[inline(always)]
-pub(crate) fn brace(others: &[u8]) -> Option<First>
+fn brace(others: &[u8]) -> Option<First>
     ensures shows { (in_sexp : Bool) → IfSome result (λ f. (more : List ℕ)
         → first_at in_sexp (123 ∷ (others.now ++ more)) ≡ first_of f) }
     ensures wide { IfSome result (λ f. width (first_of f) ≤ 1 + length others.now) }

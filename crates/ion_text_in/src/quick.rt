@@ -107,8 +107,8 @@ fn quick_digits(negative: bool, digits: &[u8]) -> Option<Quick>
     quick_mantissa(negative, count, digits)
 }
 
-// The decimal of so many digits, with a point or an exponent behind them. It stands apart so that the
-// answers of its calls have no place in memory where a number is an int.
+// The decimal of so many digits, with a point or an exponent behind them. It stands apart so that
+// the answers of its calls have no place in memory where a number is an int.
 #[inline(always)]
 fn quick_mantissa(negative: bool, count: usize, digits: &[u8]) -> Option<Quick>
     requires whole { AreWhole digits.now count }

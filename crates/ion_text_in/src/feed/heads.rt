@@ -10,7 +10,7 @@ ghost use Rattle.ion_value.specs.Items.{raw_head};
 ghost use Rattle.ion_value.specs.Value.{whole};
 
 use super::{Found, Next, behind, front, next_told};
-use crate::first::{First, brace};
+use crate::first::First;
 use crate::number::{Number, scan_number};
 use crate::quick::{Quick, scaled, scan_quick, signed_int};
 use crate::quoted::{Quote, scan_text};
@@ -216,24 +216,7 @@ pub(super) fn token(next: Next<'_>) -> Option<First>
         3 => Some(First::String),
         5 => Some(First::Begin(Kind::List)),
         6 => Some(First::Begin(Kind::Sexp)),
-        0 => mark(next.rest),
-        _ => None,
-    }
-}
-
-// The same of what no byte tells alone.
-#[tactic(auto, unfolding(crate::specs::Token::first_at))]
-#[inline(always)]
-fn mark(bytes: &[u8]) -> Option<First>
-    ensures { IfSome result (λ f. (in_sexp : Bool) (more : List ℕ)
-        → first_at in_sexp (bytes.now ++ more) ≡ first_of f) }
-{
-    match bytes {
-        [b'{', others @ ..] => match brace(others) {
-            Some(First::Begin(kind)) => Some(First::Begin(kind)),
-            _ => None,
-        },
-        [b'-', b'0'..=b'9', ..] => Some(First::Number),
+        10 => Some(First::Begin(Kind::Struct)),
         _ => None,
     }
 }

@@ -218,6 +218,7 @@ fn item_behind<'n, 'h>(front: Front<'n>, head: Head<'h>, place: u64, top: u64) -
       field = front.entry.field;
       annotation = front.entry.annotation;
       head = head.entry;
+      spelled = None;
       place = place;
       top = top;
     } }
@@ -226,6 +227,7 @@ fn item_behind<'n, 'h>(front: Front<'n>, head: Head<'h>, place: u64, top: u64) -
         field: front.field,
         annotation: front.annotation,
         head,
+        spelled: None,
         place,
         top,
     }
@@ -343,6 +345,7 @@ impl<I: Input, A: Allocator + Copy> BinReader<I, A> {
             field: None,
             annotation: None,
             head: Head::End,
+            spelled: None,
             place: self.source.place(),
             top: self.top,
         };

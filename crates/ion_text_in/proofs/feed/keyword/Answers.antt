@@ -17,8 +17,9 @@ scalar-requires-clause-found g c =
     let bytes = a.start.next.rest.now in
     let begins = c.requires.start.begins in
     let counts = shown-some (word_token_of (take w.count bytes)) bytes w.field-0 w.count (Some a.limits.scalar) a_word w.ensures begins.some in
-    head-plain a.limits (a.end - length bytes) w.count a_word (null w.ion_type) bytes c.behind.result.now tt tt c.behind.ensures (omega (arith, counts)) w.ensures.0
-    (λ place more. w.ensures.1 place more ∙ ap (λ (x : Word). Ok (word_token_of (take w.count bytes) x, at (place + w.count) (drop w.count bytes ++ more))) w.field-0-is) begins.bare begins.some c.requires.first
+    let head = head-plain a.limits (a.end - length bytes) w.count a_word (null w.ion_type) bytes c.behind.result.now tt tt c.behind.ensures (omega (arith, counts)) w.ensures.0
+    (λ place more. w.ensures.1 place more ∙ ap (λ (x : Word). Ok (word_token_of (take w.count bytes) x, at (place + w.count) (drop w.count bytes ++ more))) w.field-0-is) begins.bare begins.some c.requires.first in
+    record { head = head; spelled = tt }
 
 pub scalar-requires-in-Whole-Bool-default-clause-found : goal.scalar-requires-in-Whole-Bool-default-clause-found
 scalar-requires-in-Whole-Bool-default-clause-found g c =
@@ -27,8 +28,9 @@ scalar-requires-in-Whole-Bool-default-clause-found g c =
     let bytes = a.start.next.rest.now in
     let begins = c.requires.start.begins in
     let counts = shown-some (word_token_of (take w.count bytes)) bytes w.field-0 w.count (Some a.limits.scalar) a_word w.ensures begins.some in
-    head-plain a.limits (a.end - length bytes) w.count a_word (bool w.truth) bytes c.behind-in-Whole-Bool-default.result.now tt tt c.behind-in-Whole-Bool-default.ensures (omega (arith, counts)) w.ensures.0
-    (λ place more. w.ensures.1 place more ∙ ap (λ (x : Word). Ok (word_token_of (take w.count bytes) x, at (place + w.count) (drop w.count bytes ++ more))) w.field-0-is) begins.bare begins.some c.requires.first
+    let head = head-plain a.limits (a.end - length bytes) w.count a_word (bool w.truth) bytes c.behind-in-Whole-Bool-default.result.now tt tt c.behind-in-Whole-Bool-default.ensures (omega (arith, counts)) w.ensures.0
+    (λ place more. w.ensures.1 place more ∙ ap (λ (x : Word). Ok (word_token_of (take w.count bytes) x, at (place + w.count) (drop w.count bytes ++ more))) w.field-0-is) begins.bare begins.some c.requires.first in
+    record { head = head; spelled = tt }
 
 pub returns-in_default-clause-moved : goal.returns-in_default-clause-moved
 returns-in_default-clause-moved g c =

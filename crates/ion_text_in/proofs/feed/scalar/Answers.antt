@@ -13,8 +13,8 @@ take_plain-requires-clause-path g c =
     let r = c.requires in
     let head = raw_head a.found.head in
     may-take w a.limits.depth (reverse a.kinds.now) a.writer.now a.sink.now _ r.can.takes
-    (head-stands w a.limits a.end a.kinds.now a.at.now a.start head c.top_at-top.result (a.end - length a.at.now.rest.now) (a.end - length a.start.next.rest.now) a.found.rest.now r.can.expects r.start r.found
-    (whole-place a.limits.depth (reverse a.kinds.now) a.found.head r.whole r.found.range r.found.value r.found.member))
+    (head-stands w a.limits a.end a.kinds.now a.at.now a.start head c.top_at-top.result (a.end - length a.at.now.rest.now) (a.end - length a.start.next.rest.now) a.found.rest.now r.can.expects r.start r.found.head
+    (whole-place a.limits.depth (reverse a.kinds.now) a.found.head r.whole r.found.head.range r.found.head.value r.found.head.member))
 
 pub returns-then-not-take_plain-clause-moved : goal.returns-then-not-take_plain-clause-moved
 returns-then-not-take_plain-clause-moved g c =
@@ -33,13 +33,13 @@ returns-clause-moved g c =
     let yes = c.if-not-take_plain.false in
     let opened = reverse a.kinds.now in
     let inner = sym c.innermost-inner.ensures in
-    let stays = whole-open opened a.found.head r.whole r.found.value r.found.member in
+    let stays = whole-open opened a.found.head r.whole r.found.head.value r.found.head.member in
     moved-head w a.limits a.end a.kinds.now a.kinds.now a.at.now
     (record { rest = a.found.rest; expected = c.behind_member-at.result; top = c.top_at-top.result; values = c.values_behind-at.result }) a.start (raw_head a.found.head)
-    a.writer.now t.new.self a.sink.now t.new.sink a.meter.now t.new.meter r.can r.start r.found
-    (whole-place a.limits.depth opened a.found.head r.whole r.found.range r.found.value r.found.member)
+    a.writer.now t.new.self a.sink.now t.new.sink a.meter.now t.new.meter r.can r.start r.found.head
+    (whole-place a.limits.depth opened a.found.head r.whole r.found.head.range r.found.head.value r.found.head.member)
     (sym stays) (c.top_at-top.ensures opened inner)
-    (c.behind_member-at.ensures.is ∙ (ap (λ (k : Option Kind). behind_member k) c.innermost-inner.ensures ∙ sym (whole-behind opened a.found.head r.whole r.found.value r.found.member)))
+    (c.behind_member-at.ensures.is ∙ (ap (λ (k : Option Kind). behind_member k) c.innermost-inner.ensures ∙ sym (whole-behind opened a.found.head r.whole r.found.head.value r.found.head.member)))
     (c.behind_member-at.ensures.may opened inner) (c.values_behind-at.ensures opened inner) r.can.few
     (record {
       sound = e.sound;

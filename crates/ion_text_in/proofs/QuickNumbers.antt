@@ -408,5 +408,5 @@ quick-power negative below bytes ys n places k m j mantissa mark behind power so
       ends = stop-ends bytes (k + 1 + (sign_length below + j)) within stop;
       gives = ap (λ (l : List ℕ). run_token (signed_text negative l)) text ∙ decimal-alone (signed_text negative (take k bytes ++ (100 ∷ p))) d read;
       range = valid;
-      spelled = record { int = λ none. absurd (cc none); text = λ yes. absurd (cc yes) };
+      spelled = record { int = λ none. absurd (cc none); text = λ e. absurd (cc e) };
     }

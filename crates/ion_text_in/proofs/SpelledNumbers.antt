@@ -126,8 +126,8 @@ front-text bytes k so few =
     ∙ decimal-spelled (take k bytes) (omega (arith, long, so.some)) (omega (arith, long, few)) so.digits (front-zeros bytes k so.some so.within so.digits so.no_zeros)
 
 int-sign : (negative : Bool) (bytes : List ℕ) (k : ℕ) → AreWhole bytes k → stops (get_or bytes k 0) ≡ true → HasNoZero negative bytes → negative ≡ true → 0 < number_after 0 (take k bytes)
-int-sign true bytes k so stop none yes = some-number bytes k so.some so.within so.digits (zero-apart bytes k so.some so.within so.digits stop none)
-int-sign false bytes k so stop none yes = absurd (cc yes)
+int-sign true bytes k so stop none is = some-number bytes k so.some so.within so.digits (zero-apart bytes k so.some so.within so.digits stop none)
+int-sign false bytes k so stop none is = absurd (cc is)
 
 pub int-spelled : (negative : Bool) (bytes : List ℕ) (k : ℕ) → AreWhole bytes k → k ≤ 38 → stops (get_or bytes k 0) ≡ true → HasNoZero negative bytes
     → AreSpelled (signed_text negative (take k bytes)) (record { negative = negative; number = number_after 0 (take k bytes); exponent = None; count = k; canonical = true })
@@ -184,7 +184,7 @@ pub spelled-signed : (negative : Bool) (text digits : List ℕ) (x : Quick) (n :
     → AreSpelled text (record { negative = negative; number = x.number; exponent = x.exponent; count = n; canonical = x.canonical })
 spelled-signed negative text digits x n sign is so = record {
   int = so.int;
-  text = λ yes.
+  text = λ e.
       subst (λ (l : List ℕ). IsTextOf l (whole (as_number (number_by negative x.number x.exponent)))) (sym is)
-      (subst (λ (b : Bool). IsTextOf (signed_text negative (take x.count digits)) (whole (as_number (number_by b x.number x.exponent)))) sign (so.text yes));
+      (subst (λ (b : Bool). IsTextOf (signed_text negative (take x.count digits)) (whole (as_number (number_by b x.number x.exponent)))) sign (so.text e));
 }

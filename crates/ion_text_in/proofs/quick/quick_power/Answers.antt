@@ -1,7 +1,7 @@
 use mir.Syntax.{w32}
 use mir.Val.{SFits, to_z, of_z}
 use Rattle.std.proofs.lemmas.Int.{to_z-of_z}
-use Rattle.std.proofs.Common.{rules, ◌≡◌, ℕ, ℤ, pos, ◌-ℤ◌, List, Some, ◌+◌, ◌∙◌, sym, ap, subst, take, drop, get_or, arith}
+use Rattle.std.proofs.Common.{rules, false, ◌≡◌, ℕ, ℤ, pos, ◌-ℤ◌, List, Some, ◌+◌, ◌∙◌, sym, ap, subst, take, drop, get_or, arith}
 use Rattle.std.proofs.lemmas.List.{take_rest}
 use Rattle.ion_value.specs.Number.{signed}
 use Rattle.ion_text_in.specs.Quick.{number_after, signed_text, stops, IsQuick}

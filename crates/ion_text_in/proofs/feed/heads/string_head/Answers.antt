@@ -10,6 +10,6 @@ returns-in-Whole-clause-found c =
     let rest = c.behind.result.now in
     record {
       head = subst (λ (l : List ℕ). IsHead a.limits a.place a.bytes.now (whole (string l)) rest) (sym c.front.ensures)
-    (head-string a.limits a.place c.in-Whole.plain c.in-Whole.count a.bytes.now c.behind-text.result.now rest c.behind-text.ensures c.behind.ensures c.in-Whole.ensures.shows c.requires.bare c.requires.some c.requires.first);
+          (head-string a.limits a.place c.in-Whole.plain c.in-Whole.count a.bytes.now c.behind-text.result.now rest c.behind-text.ensures c.behind.ensures c.in-Whole.ensures.shows c.requires.bare c.requires.some c.requires.first);
       spelled = tt;
     }

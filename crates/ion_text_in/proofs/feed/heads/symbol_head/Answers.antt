@@ -13,6 +13,6 @@ returns-clause-found c =
     let told : 0 < next.told = omega (arith, c.if-next-eq0.false) in
     record {
       head = subst (λ (l : List ℕ). IsHead a.limits a.place a.bytes.now (whole (symbol (at (Text l) a.place))) rest) (sym c.front.ensures)
-    (head-symbol a.limits a.place a.count a.bytes.now rest next c.behind-rest.ensures c.requires.word c.next_told-next.ensures told c.requires.bare c.requires.first);
+          (head-symbol a.limits a.place a.count a.bytes.now rest next c.behind-rest.ensures c.requires.word c.next_told-next.ensures told c.requires.bare c.requires.first);
       spelled = tt;
     }

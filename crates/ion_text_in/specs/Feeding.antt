@@ -1,5 +1,5 @@
 -- A lane over the bytes of a window: where it stands, what it reads of them, and what it moves.
-use Rattle.std.specs.Prelude.{◌≡◌, ℕ, ◌+◌, ◌*◌, ◌-◌, ◌^◌, ◌<◌, ◌≤◌, ◌==◌, Bool, get_or, true, false, List, [], ◌∷◌, ◌++◌, take, drop, length, reverse, is_some, Option, Some, None, Ok, option_map}
+use Rattle.std.specs.Prelude.{◌≡◌, ℕ, ◌+◌, ◌*◌, ◌-◌, ◌^◌, ◌<◌, ◌≤◌, ◌==◌, Bool, get_or, true, false, List, [], ◌∷◌, ◌++◌, take, drop, length, reverse, is_some, Option, Some, None, Ok, option_map, IfSome}
 use Rattle.ion_meter.specs.Counts.{Counts}
 use Rattle.ion_meter.specs.declared.limits.Limits.{Limits}
 use Rattle.ion_meter.specs.Limits.{AreChecked}
@@ -11,7 +11,7 @@ use Rattle.ion_value.specs.declared.writer.ValueWriter.{Ghosts as WriterOf}
 use Rattle.ion_value.specs.Feeding.{CanTake, Feeds, Joint, StaysWell}
 use Rattle.ion_value.specs.Items.{named_item, raw_head}
 use Rattle.ion_value.specs.Parts.{Placed}
-use Rattle.ion_value.specs.PlainItems.{listed, placed_text, AreSimple, HasSimpleName, IsSimpleHead}
+use Rattle.ion_value.specs.PlainItems.{listed, placed_text, AreSimple, HasSimpleName, IsSimpleHead, IsTextOf}
 use Rattle.ion_value.specs.Reading.{More}
 use Rattle.ion_value.specs.Shares.{Charges}
 use Rattle.ion_value.specs.Standing.{open_after, in_struct, has_field, is_marker, HasPlace, HeadInRange, WritesWithin}
@@ -185,9 +185,10 @@ pub record IsHead (limits : Limits) (place : ℕ) (bytes : List ℕ) (head : Hea
       → later limits (state kinds top (a_value field annotations) place (bytes ++ more))
       ≡ More (item_in kinds top field annotations place head) (later limits (state (open_after kinds head) (top_of kinds top annotations place) (behind_head kinds head) q (rest ++ more)))
 
--- the same of what the code found
-abbrev pub IsFound : Limits → ℕ → List ℕ → Found → Type 0
-IsFound limits place bytes found = IsHead limits place bytes (raw_head found.head) found.rest.now
+-- the same of what the code found, with the head's canonical text where it has that
+pub record IsFound (limits : Limits) (place : ℕ) (bytes : List ℕ) (found : Found) : Type 0 where
+  pub head : IsHead limits place bytes (raw_head found.head) found.rest.now
+  pub spelled : IfSome found.spelled (λ text. IsTextOf text.now (raw_head found.head))
 
 -- ---- a lane
 

@@ -22,7 +22,7 @@ use crate::word::{Word, scan_simple, simple_word};
 use comments::behind_blanks;
 use copies::{limits_for_call, spot_for_call, start_for_call};
 use heads::{
-    begin_head, decimal_head, int_head, scan_head, string_head, symbol_head, token,
+    begin_head, decimal_head, int_head, scan_head, spelled_quick, string_head, symbol_head, token,
 };
 use ion_meter::device::Output;
 use ion_meter::limits::Limits;
@@ -76,6 +76,8 @@ pub(crate) struct Start<'a> {
 pub(crate) struct Found<'a> {
     /// The head.
     head: Head<'a>,
+    /// Its canonical text, where that is known.
+    spelled: Option<&'a [u8]>,
     /// The bytes behind it.
     rest: &'a [u8],
 }
@@ -349,6 +351,7 @@ fn close<'a, W: ValueWriter<O, A>, O: Output, A: Allocator + Copy>(
         field: None,
         annotation: None,
         head: Head::End,
+        spelled: None,
         place: end - next.rest.len() as u64,
         top: at.top,
     };
@@ -414,6 +417,7 @@ fn begin<'a, W: ValueWriter<O, A>, O: Output, A: Allocator + Copy>(
         field: start.field,
         annotation: start.note,
         head: found.head,
+        spelled: found.spelled,
         place,
         top,
     };
@@ -458,6 +462,7 @@ fn scalar<'a, W: ValueWriter<O, A>, O: Output, A: Allocator + Copy>(
         field: start.field,
         annotation: start.note,
         head: found.head,
+        spelled: found.spelled,
         place,
         top,
     };
@@ -573,11 +578,13 @@ fn number<'a, W: ValueWriter<O, A>, O: Output, A: Allocator + Copy>(
     let Some(quick) = scan_quick(limits.scalar, start.next.rest) else {
         return rare(at, start, limits, end, kinds, meter, writer, sink);
     };
+    let text = front(quick.count, start.next.rest);
     let rest = behind(quick.count, start.next.rest);
     match quick.exponent {
         None => {
             let found = Found {
                 head: int_head(quick),
+                spelled: Some(text),
                 rest,
             };
             scalar(at, start, found, limits, end, kinds, meter, writer, sink)
@@ -585,6 +592,7 @@ fn number<'a, W: ValueWriter<O, A>, O: Output, A: Allocator + Copy>(
         Some(exponent) => {
             let found = Found {
                 head: decimal_head(quick, exponent),
+                spelled: spelled_quick(quick, text),
                 rest,
             };
             scalar(at, start, found, limits, end, kinds, meter, writer, sink)
@@ -656,6 +664,7 @@ fn word<'a, W: ValueWriter<O, A>, O: Output, A: Allocator + Copy>(
         Scanned::Whole(Word::Null(ion_type), count) => {
             let found = Found {
                 head: Head::Null(ion_type),
+                spelled: None,
                 rest: behind(count, bytes),
             };
             scalar(at, start, found, limits, end, kinds, meter, writer, sink)
@@ -663,6 +672,7 @@ fn word<'a, W: ValueWriter<O, A>, O: Output, A: Allocator + Copy>(
         Scanned::Whole(Word::Bool(truth), count) => {
             let found = Found {
                 head: Head::Bool(truth),
+                spelled: None,
                 rest: behind(count, bytes),
             };
             scalar(at, start, found, limits, end, kinds, meter, writer, sink)

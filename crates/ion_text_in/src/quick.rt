@@ -5,7 +5,7 @@ ghost use Rattle.std.specs.Simd.Lanes.{mask_l};
 ghost use Rattle.ion_value.specs.Digits.{all_are, first_is, is_digit};
 ghost use Rattle.ion_value.specs.Number.{signed};
 ghost use Rattle.ion_value.specs.Standing.{InRange};
-ghost use Rattle.ion_text_in.specs.Quick.{as_quick, number_after, scaled, signed_int, signed_text, AreWhole, IsMantissa, IsQuick};
+ghost use Rattle.ion_text_in.specs.Quick.{as_quick, number_after, scaled, signed_int, signed_text, stops, AreSpelled, AreWhole, IsMantissa, IsQuick};
 ghost use Rattle.ion_text_in.specs.declared.scanned.Scanned.TheVariants.{Whole};
 ghost use Rattle.ion_text_in.specs.Scanners.{Shows};
 ghost use Rattle.ion_text_in.specs.Token.{a_run, bytes_of, in_run, run_token, token_of};
@@ -27,19 +27,22 @@ pub(crate) struct Quick {
     pub(crate) exponent: Option<i32>,
     /// How many bytes it has.
     pub(crate) count: usize,
+    /// Whether they are its canonical text, as those of an int are.
+    pub(crate) canonical: bool,
 }
 
 /// The int or decimal at the front of these bytes, where it has no more than the limit.
 ///
 /// There is an answer where it is a minus or none and at most 38 digits, or at most 19 with a point
 /// among them, which may have a `d` and a small exponent behind them, and where punctuation, a quote
-/// or white space ends it within the bytes.
+/// or white space ends it within the bytes. There is none where it is `-0`.
 #[inline(always)]
 pub(crate) fn scan_quick(limit: u64, bytes: &[u8]) -> Option<Quick>
     ensures shows { IfSome result (λ x. Shows number_token bytes.now
         (Whole (as_quick x) x.count) (token_of (Some limit) a_run)) }
     ensures range { IfSome result (λ x. InRange (as_number (as_quick x))) }
     ensures some { IfSome result (λ x. 0 < x.count) }
+    ensures spelled { IfSome result (λ x. AreSpelled (take x.count bytes.now) x) }
 {
     let Some(quick) = quick_number(bytes) else {
         return None;
@@ -58,6 +61,7 @@ fn quick_number(bytes: &[u8]) -> Option<Quick>
         ≡ Ok (number_token (as_quick x))) }
     ensures range { IfSome result (λ x. InRange (as_number (as_quick x))) }
     ensures some { IfSome result (λ x. 0 < x.count) }
+    ensures spelled { IfSome result (λ x. AreSpelled (take x.count bytes.now) x) }
 {
     let (negative, digits) = sign(bytes);
     let Some(quick) = quick_digits(negative, digits) else {
@@ -72,6 +76,7 @@ fn quick_number(bytes: &[u8]) -> Option<Quick>
         } else {
             quick.count
         },
+        canonical: quick.canonical,
     })
 }
 
@@ -92,7 +97,7 @@ fn quick_digits(negative: bool, digits: &[u8]) -> Option<Quick>
     ensures { IfSome result (λ x. IsQuick negative digits.now x) }
 {
     let count = digit_run(digits);
-    if count == 0 || count > WIDE || count >= digits.len() || begins_zeros(digits) {
+    if count == 0 || count > WIDE || count >= digits.len() || begins_zeros(negative, digits) {
         return None;
     }
     let next = digits[count];
@@ -102,6 +107,7 @@ fn quick_digits(negative: bool, digits: &[u8]) -> Option<Quick>
             number: number_by(&digits[..count]),
             exponent: None,
             count,
+            canonical: true,
         });
     }
     quick_mantissa(negative, count, digits)
@@ -136,13 +142,18 @@ pub(crate) fn signed_int(negative: bool, magnitude: u128) -> Int
     }
 }
 
-// Whether a zero stands before another digit or an underscore.
+// Whether a zero stands before another digit or an underscore, or alone behind a minus.
 #[inline(always)]
-fn begins_zeros(digits: &[u8]) -> bool
+fn begins_zeros(negative: bool, digits: &[u8]) -> bool
     ensures { result ≡ (first_is (λ b. b == 48) digits.now
-        && first_is (λ b. is_digit b || b == 95) (drop 1 digits.now)) }
+        && (first_is (λ b. is_digit b || b == 95) (drop 1 digits.now)
+        || (negative && first_is stops (drop 1 digits.now)))) }
 {
-    matches!(digits, [b'0', b'0'..=b'9' | b'_', ..])
+    match digits {
+        [b'0', b'0'..=b'9' | b'_', ..] => true,
+        [b'0', next, ..] => negative && stops_number(*next),
+        _ => false,
+    }
 }
 
 // The most digits of which 128 bits hold what they spell, whatever they are.
@@ -175,6 +186,7 @@ fn quick_decimal(negative: bool, count: usize, digits: &[u8]) -> Option<Quick>
             number: coefficient,
             exponent: Some(exponent_of(true, places as u64, 0)),
             count: end,
+            canonical: true,
         });
     }
     if digits[end] == b'd' {
@@ -223,6 +235,7 @@ fn quick_power(
         number: coefficient,
         exponent: Some(exponent_of(below, magnitude, places)),
         count,
+        canonical: false,
     })
 }
 

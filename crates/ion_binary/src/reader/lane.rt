@@ -247,6 +247,7 @@ fn item_behind<'n, 'h>(front: Front<'n>, head: Head<'h>, place: u64, top: u64) -
       field = front.entry.field;
       annotation = front.entry.annotation;
       head = head.entry;
+      spelled = None;
       place = place;
       top = top;
     } }
@@ -255,6 +256,7 @@ fn item_behind<'n, 'h>(front: Front<'n>, head: Head<'h>, place: u64, top: u64) -
         field: front.field,
         annotation: front.annotation,
         head,
+        spelled: None,
         place,
         top,
     }
@@ -376,6 +378,7 @@ impl<I: Input, A: Allocator + Copy> BinReader<I, A> {
             field: None,
             annotation: None,
             head: Head::End,
+            spelled: None,
             place: self.source.place(),
             top: self.top,
         };

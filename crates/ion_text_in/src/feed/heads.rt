@@ -3,10 +3,11 @@ ghost use Rattle.std.specs.Prelude.{◌≡◌, ◌≢◌, ◌<◌, ℕ, Bool, Li
 ghost use Rattle.ion_value.specs.declared.ion_type.Kind as kind_of;
 ghost use Rattle.ion_text_in.specs.Feeding.{Begins, IsBare, IsFound, IsSimpleWord};
 ghost use Rattle.ion_text_in.specs.Firsts.{first_of};
-ghost use Rattle.ion_text_in.specs.Quick.{as_quick};
+ghost use Rattle.ion_text_in.specs.Quick.{as_quick, AreSpelled};
 ghost use Rattle.ion_text_in.specs.Token.{a_begin, a_run, a_short, a_word, first_at};
 ghost use Rattle.ion_text_in.specs.Views.{as_number};
 ghost use Rattle.ion_value.specs.Items.{raw_head};
+ghost use Rattle.ion_value.specs.PlainItems.{IsTextOf};
 ghost use Rattle.ion_value.specs.Value.{whole};
 
 use super::{Found, Next, behind, front, next_told};
@@ -47,6 +48,7 @@ pub(super) fn begin_head<'a>(limits: Limits, place: u64, kind: Kind, bytes: &'a 
 {
     Found {
         head: Head::Begin(kind),
+        spelled: None,
         rest: behind(1, bytes),
     }
 }
@@ -69,6 +71,15 @@ pub(super) fn decimal_head<'a>(quick: Quick, exponent: i32) -> Head<'a>
     ensures whole { (kind : kind_of.Kind) → result ≢ Head.Begin kind }
 {
     Head::Decimal(scaled(quick.negative, quick.number, exponent))
+}
+
+/// The text of a number that was read in one pass, where it is the canonical one.
+#[inline(always)]
+pub(super) fn spelled_quick(quick: Quick, text: &[u8]) -> Option<&[u8]>
+    requires { AreSpelled text.now quick }
+    ensures { IfSome result (λ t. IsTextOf t.now (whole (as_number (as_quick quick)))) }
+{
+    if quick.canonical { Some(text) } else { None }
 }
 
 // A number that was read in one pass, as a head.
@@ -106,6 +117,7 @@ fn run_head<'a>(limits: Limits, place: u64, bytes: &'a [u8]) -> Option<Found<'a>
     match scan_number(limits.scalar, bytes) {
         Scanned::Whole(number, count) => Some(Found {
             head: head_of(number),
+            spelled: None,
             rest: behind(count, bytes),
         }),
         _ => None,
@@ -126,6 +138,7 @@ fn number_head<'a>(limits: Limits, place: u64, bytes: &'a [u8]) -> Option<Found<
     };
     Some(Found {
         head: quick_head(quick),
+        spelled: spelled_quick(quick, front(quick.count, bytes)),
         rest: behind(quick.count, bytes),
     })
 }
@@ -144,6 +157,7 @@ pub(super) fn string_head<'a>(limits: Limits, place: u64, bytes: &'a [u8]) -> Op
     match scan_text(Quote::Short, limits.scalar, text) {
         Scanned::Whole(plain, count) => Some(Found {
             head: Head::String(front(plain, text)),
+            spelled: None,
             rest: behind(count, text),
         }),
         _ => None,
@@ -199,6 +213,7 @@ pub(super) fn symbol_head<'a>(
     };
     Some(Found {
         head: Head::Symbol(name),
+        spelled: None,
         rest,
     })
 }

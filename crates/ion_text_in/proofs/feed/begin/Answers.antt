@@ -55,7 +55,7 @@ returns-clause-moved g c =
     let long : length left ≡ 1 + length a.kinds.now = omega (arith, added_long, length-append a.kinds.now (a.kind ∷ [])) in
     moved-head w a.limits a.end a.kinds.now left a.at.now
     (record { rest = a.found.rest; top = c.top_at-top.result; values = a.at.now.values; separator = false; kind = a.kind }) a.start (raw_head a.found.head)
-    a.writer.now t.new.self a.sink.now t.new.sink a.meter.now t.new.meter r.can r.start r.found
+    a.writer.now t.new.self a.sink.now t.new.sink a.meter.now t.new.meter r.can r.start r.found.head
     (subst (λ (h : Head SymbolAt). HasPlace a.limits.depth kinds h) (sym begins) (omega (arith, few, length-reverse a.kinds.now)))
     (opened ∙ ap (λ (h : Head SymbolAt). open_after kinds h) (sym begins)) (c.top_at-top.ensures.is kinds (sym c.innermost.ensures)) inner
     (wants-member (a.kind ∷ kinds) a.kind refl ∙ ap (λ (h : Head SymbolAt). behind_head kinds h) (sym begins)) (expects-member left_kinds a.kind inner)
@@ -79,6 +79,6 @@ returns-clause-goes g c =
     let a = c.args in
     let added = ap (λ (l : List Kind). length l) (c.push_within.ensures.ok c.if-not-push_within.false) in
     let long = length-append a.kinds.now (a.kind ∷ []) in
-    let behind = c.requires.found.fewer in
+    let behind = c.requires.found.head.fewer in
     let before = (c.requires.start.onward (reverse a.kinds.now) c.requires.can.expects).fewer in
     omega (arith, added, long, behind, before)

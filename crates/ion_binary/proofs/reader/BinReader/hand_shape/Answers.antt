@@ -1,4 +1,4 @@
-use Rattle.std.proofs.Common.{◌≡◌, ◌+◌, ◌<◌, [], ◌∷◌, ◌++◌, length, refl, ap, sym, subst, ◌∙◌, arith}
+use Rattle.std.proofs.Common.{◌≡◌, ◌+◌, ◌<◌, None, [], ◌∷◌, ◌++◌, length, refl, ap, sym, subst, ◌∙◌, arith}
 use Rattle.std.proofs.lemmas.List.{length_push}
 use Rattle.ion_meter.proofs.Lent.{IsPassed-total, lent-CanPass}
 use Rattle.ion_value.proofs.Passing.{IsPassed-moves}
@@ -22,6 +22,12 @@ use Rattle.ion_binary.proofs.Handing.{around_pushed, as_frames-push, begin_fits,
 use Rattle.ion_binary.proofs.ReaderParts.{as_frames-length}
 use Rattle.ion_binary.proofs.reader.BinReader.hand_shape.Goals as goal
 
+pub take_plain-requires-clause-spelled : goal.take_plain-requires-clause-spelled
+take_plain-requires-clause-spelled g c = rw c.item_behind-item.ensures tt
+
+pub take_plain-requires-in-Begin-clause-spelled : goal.take_plain-requires-in-Begin-clause-spelled
+take_plain-requires-in-Begin-clause-spelled g c = rw c.item_behind-item-in-Begin.ensures tt
+
 pub take_plain-requires-clause-path : goal.take_plain-requires-clause-path
 take_plain-requires-clause-path g c =
     let device = g.I.Input in
@@ -36,7 +42,7 @@ take_plain-requires-clause-path g c =
     let full = rw c.in-Scalar.is at c.in-Some.ensures.fills in
     let v = front.gives (length (as_frames r.frames)) c.in-Some.behind (shown.Scalar c.in-Scalar.scalar) shows full in
     let head = rw c.place-here.ensures at c.in-Some-shown_head.ensures.head in
-    let plain : PlainItem = record { field = c.args.front.field; annotation = c.args.front.annotation; head = c.in-Some-shown_head.head; place = c.place-here.result + c.args.front.head; top = c.top_at-top.result } in
+    let plain : PlainItem = record { field = c.args.front.field; annotation = c.args.front.annotation; head = c.in-Some-shown_head.head; spelled = None; place = c.place-here.result + c.args.front.head; top = c.top_at-top.result } in
     let fits = scalar_fits r.limits.depth r.frames f texts (r.source.place + c.args.front.head) (shown_scalar c.in-Scalar.scalar) plain inner name.there head v.may_be in
     let write = c.requires.can_hand.writer in
     rw c.item_behind-item.ensures (path_here w r.limits.depth (opened_in r) c.args.writer.now (PlainItems.placed_item plain) write.depth_of fits
@@ -55,7 +61,7 @@ take_plain-requires-in-Begin-clause-path g c =
     let shows = rw c.in-Begin.is at c.in-Some.ensures.shows in
     let full = rw c.in-Begin.is at c.in-Some.ensures.fills in
     let v = front.gives (length (as_frames r.frames)) c.in-Some.behind (shown.Begin c.in-Begin.kind c.in-Begin.end) shows full in
-    let plain : PlainItem = record { field = c.args.front.field; annotation = c.args.front.annotation; head = code.Begin c.in-Begin.kind; place = c.place-here.result + c.args.front.head; top = c.top_at-top.result } in
+    let plain : PlainItem = record { field = c.args.front.field; annotation = c.args.front.annotation; head = code.Begin c.in-Begin.kind; spelled = None; place = c.place-here.result + c.args.front.head; top = c.top_at-top.result } in
     let few : length r.frames < r.limits.depth = subst (λ n. n < r.limits.depth) (as_frames-length r.frames) v.may_be in
     let fits = begin_fits r.limits.depth r.frames f c.in-Begin.kind plain inner name.there refl few in
     let write = c.requires.can_hand.writer in
@@ -78,7 +84,7 @@ returns-else-not-take_plain-clause-hands g c e =
     let full = rw c.in-Scalar.is at c.in-Some.ensures.fills in
     let v = front.gives (length (as_frames r.frames)) c.in-Some.behind (shown.Scalar c.in-Scalar.scalar) shows full in
     let head = rw c.place-here.ensures at c.in-Some-shown_head.ensures.head in
-    let plain : PlainItem = record { field = c.args.front.field; annotation = c.args.front.annotation; head = c.in-Some-shown_head.head; place = c.place-here.result + c.args.front.head; top = c.top_at-top.result } in
+    let plain : PlainItem = record { field = c.args.front.field; annotation = c.args.front.annotation; head = c.in-Some-shown_head.head; spelled = None; place = c.place-here.result + c.args.front.head; top = c.top_at-top.result } in
     let fits = scalar_fits r.limits.depth r.frames f texts (r.source.place + c.args.front.head) (shown_scalar c.in-Scalar.scalar) plain inner name.there head v.may_be in
     let write = c.requires.can_hand.writer in
     let taken = rw c.item_behind-item.ensures at c.if-not-take_plain.ensures in
@@ -120,7 +126,7 @@ returns-else-not-take_plain-2-clause-hands g c e =
     let shows = rw c.in-Begin.is at c.in-Some.ensures.shows in
     let full = rw c.in-Begin.is at c.in-Some.ensures.fills in
     let v = front.gives (length (as_frames r.frames)) c.in-Some.behind (shown.Begin c.in-Begin.kind c.in-Begin.end) shows full in
-    let plain : PlainItem = record { field = c.args.front.field; annotation = c.args.front.annotation; head = code.Begin c.in-Begin.kind; place = c.place-here.result + c.args.front.head; top = c.top_at-top.result } in
+    let plain : PlainItem = record { field = c.args.front.field; annotation = c.args.front.annotation; head = code.Begin c.in-Begin.kind; spelled = None; place = c.place-here.result + c.args.front.head; top = c.top_at-top.result } in
     let few : length r.frames < r.limits.depth = subst (λ n. n < r.limits.depth) (as_frames-length r.frames) v.may_be in
     let fits = begin_fits r.limits.depth r.frames f c.in-Begin.kind plain inner name.there refl few in
     let write = c.requires.can_hand.writer in

@@ -177,10 +177,12 @@ fn word_head<'a>(limits: Limits, place: u64, bytes: &'a [u8]) -> Option<Found<'a
         Scanned::Whole(Word::Name, count) => symbol_head(limits, place, count, bytes),
         Scanned::Whole(Word::Null(ion_type), count) => Some(Found {
             head: Head::Null(ion_type),
+            spelled: None,
             rest: behind(count, bytes),
         }),
         Scanned::Whole(Word::Bool(truth), count) => Some(Found {
             head: Head::Bool(truth),
+            spelled: None,
             rest: behind(count, bytes),
         }),
         _ => None,

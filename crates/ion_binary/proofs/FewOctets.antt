@@ -1,12 +1,12 @@
 -- A few octets in a word, and what a value begins with that is put so.
-use Rattle.std.proofs.Common.{◌≡◌, ℕ, zero, suc, ◌+◌, ◌-◌, ◌*◌, ◌/◌, ◌%◌, ◌^◌, ◌<◌, ◌≤◌, Bool, true, false, if◌then◌else◌, nat_lt, List, [], ◌∷◌, ◌++◌, length, take, refl, ap, sym, subst, ◌∙◌, arith, append_assoc, lt-ltb, le-ltb}
+use Rattle.std.proofs.Common.{◌≡◌, ℕ, zero, suc, ◌+◌, ◌*◌, ◌/◌, ◌%◌, ◌^◌, ◌<◌, ◌≤◌, Bool, if◌then◌else◌, List, [], ◌∷◌, ◌++◌, length, take, refl, ap, sym, ◌∙◌, arith, append_assoc, lt-ltb, le-ltb}
 use Rattle.std.specs.Int.{bytes_low_first}
 use Rattle.std.proofs.Math.Nat.{pow-zero, pow-suc, pow-le-pow_right, div-div-eq-div-mul}
-use Rattle.ion_value.specs.Number.{digits_within, marked, var_uint_octets}
+use Rattle.ion_value.specs.Number.{var_uint_octets}
 use Rattle.ion_binary.specs.Canonical.{header, wrapped}
 use Rattle.ion_binary.specs.Held.{counted_ids}
 use Rattle.ion_binary.specs.LowOctets.{low_octets}
-use Rattle.ion_binary.specs.Opening.{name_octets, noted, wrapper_octets}
+use Rattle.ion_binary.specs.Opening.{name_octets}
 use Rattle.ion_binary.proofs.NotedOctets.{named-octets, named-short}
 use Rattle.ion_binary.proofs.OpenSteps.{wrapper-around}
 use Rattle.ion_binary.proofs.ShortInts.{byte_at-div}

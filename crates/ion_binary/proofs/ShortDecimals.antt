@@ -3,15 +3,15 @@
 use Rattle.std.proofs.Common.{◌≡◌, ℕ, zero, suc, ◌+◌, ◌-◌, ◌*◌, ◌/◌, ◌%◌, ◌^◌, ◌<◌, ◌≤◌, inl, inr, Bool, true, false, leb, if◌then◌else◌, List, [], ◌∷◌, ◌++◌, length, take, drop, get_or, refl, ap, sym, subst, ◌∙◌, arith}
 use Rattle.std.specs.Int.{byte_at, bytes_high_first, leading_zeros, w64}
 use Rattle.std.proofs.lemmas.Bool.{cases_lt, lt-leb, le-leb, lt-ltb}
-use Rattle.std.proofs.lemmas.Nat.{div-add-mod', div-mul-add, mod-mul-add, mod_below, leading_length, pow-add, pow_pos, shl_whole}
+use Rattle.std.proofs.lemmas.Nat.{div-add-mod', div-mul-add, mod-mul-add, mod_below, leading_length, pow-add, shl_whole}
 use Rattle.std.proofs.Math.Nat.{pow-zero, pow-suc, pow-le-pow_right, mul-div_cancel, mul_assoc, mul-le-mul_right, mul-lt-mul_of_pos_right, add-mul}
 use Rattle.std.proofs.lemmas.Grind.{common_steps}
-use Rattle.ion_value.specs.Number.{number, uint, digits_in, digits_within, marked, with_sign, coefficient_octets, var_int_octets}
+use Rattle.ion_value.specs.Number.{number, digits_in, digits_within, marked, with_sign, coefficient_octets, var_int_octets}
 use Rattle.ion_value.specs.declared.decimal.Decimal.{Decimal}
 use Rattle.ion_value.specs.Decimal.{decimal_body, exponent_octets, is_nothing}
 use Rattle.ion_value.proofs.DecimalOctets.{decimal_body-parts}
 use Rattle.ion_value.proofs.Fields.{byte-bytes_high_first, length-bytes_high_first, pow-256}
-use Rattle.ion_value.proofs.Octets.{Below, Below-from, Signing, Signing-fewest, digits_in-Digits, low-same, number-same, with_sign-Signing}
+use Rattle.ion_value.proofs.Octets.{Below-from, Signing, Signing-fewest, digits_in-Digits, low-same, number-same, with_sign-Signing}
 use Rattle.ion_binary.specs.Canonical.{headed}
 use Rattle.ion_binary.proofs.FewOctets.{header-one}
 use Rattle.ion_binary.proofs.ShortestHeaders.{one-digit}

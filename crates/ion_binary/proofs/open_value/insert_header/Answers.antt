@@ -1,6 +1,5 @@
-use Rattle.std.proofs.Common.{◌≡◌, ◌≤◌, ◌++◌, List, ℕ, drop, length, subst, take, ap, ◌∙◌, arith}
+use Rattle.std.proofs.Common.{◌≤◌, ◌++◌, List, ℕ, drop, length, subst, take, ap, ◌∙◌, arith}
 use Rattle.ion_meter.specs.Counts.{Grows}
-use Rattle.ion_binary.specs.Canonical.{header}
 use Rattle.ion_binary.proofs.FewOctets.{header-two}
 use Rattle.ion_binary.proofs.open_value.insert_header.Goals as goal
 

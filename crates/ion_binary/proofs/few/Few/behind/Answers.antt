@@ -1,4 +1,4 @@
-use Rattle.std.proofs.Common.{◌≡◌, ◌+◌, ◌*◌, ◌^◌, ◌<◌, List, ℕ, length, ap, sym, ◌∙◌, arith}
+use Rattle.std.proofs.Common.{◌≡◌, ◌<◌, List, ℕ, length, ap, sym, ◌∙◌, arith}
 use Rattle.ion_binary.proofs.FewOctets.{low-length, room-behind}
 use Rattle.ion_binary.proofs.few.Few.behind.Goals as goal
 

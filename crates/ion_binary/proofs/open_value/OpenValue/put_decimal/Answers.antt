@@ -1,4 +1,4 @@
-use Rattle.std.proofs.Common.{◌≡◌, ◌+◌, ◌-◌, ◌*◌, ◌/◌, ◌%◌, ◌^◌, ◌<◌, ◌∷◌, [], ◌++◌, if◌then◌else◌, List, ℕ, length, take, refl, ap, sym, ◌∙◌, arith}
+use Rattle.std.proofs.Common.{◌≡◌, ◌+◌, ◌-◌, ◌*◌, ◌/◌, ◌%◌, ◌^◌, ◌<◌, ◌∷◌, [], ◌++◌, if◌then◌else◌, List, ℕ, length, take, refl, ap, ◌∙◌, arith}
 use Rattle.std.specs.Int.{bytes_high_first, leading_zeros, w64}
 use Rattle.std.proofs.lemmas.List.{length-take-le}
 use Rattle.ion_value.specs.Number.{coefficient_octets}

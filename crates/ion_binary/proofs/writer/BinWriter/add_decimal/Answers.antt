@@ -1,9 +1,8 @@
-use Rattle.std.proofs.Common.{rules, ◌≡◌, ◌≢◌, ◌<◌, ◌∷◌, [], ◌++◌, ℕ, List, true, false, refl, subst, sym, ap, ◌∙◌, arith}
+use Rattle.std.proofs.Common.{rules, ◌≡◌, ◌<◌, ◌∷◌, [], ℕ, List, subst, sym, ap}
 use Rattle.ion_value.specs.Decimal.{decimal_body, exponent_octets}
 use Rattle.ion_value.specs.Number.{coefficient_octets}
 use Rattle.ion_value.specs.PlainItems.{placed_item}
 use Rattle.ion_value.specs.Value.{Head, PlacedItem, SymbolAt, map_head, user_symbol_at}
-use Rattle.ion_value.proofs.DecimalOctets.{decimal_body-parts}
 use Rattle.ion_binary.specs.Canonical.{headed, id_in}
 use Rattle.ion_binary.specs.ItemOctets.{head_octets}
 use Rattle.ion_binary.specs.Plain.{HaveIds, IsWhole}

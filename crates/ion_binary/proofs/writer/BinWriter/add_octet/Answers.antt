@@ -1,12 +1,6 @@
-use Rattle.std.proofs.Common.{◌≡◌, ◌∷◌, [], ℕ, List, refl, subst, sym}
+use Rattle.std.proofs.Common.{◌∷◌, []}
 use Rattle.ion_value.specs.PlainItems.{placed_item}
-use Rattle.ion_value.specs.Number.{uint_octets}
-use Rattle.ion_value.specs.Value.{Head, PlacedItem, SymbolAt, map_head, user_symbol_at}
-use Rattle.ion_binary.specs.Canonical.{headed, id_in}
-use Rattle.ion_binary.specs.ItemOctets.{head_octets}
-use Rattle.ion_binary.specs.Opening.{both_octets}
-use Rattle.ion_binary.specs.Plain.{HaveIds, IsWhole}
-use Rattle.ion_binary.specs.Writing.{head_symbols}
+use Rattle.ion_value.specs.Value.{PlacedItem}
 use Rattle.ion_binary.proofs.PlainAdded.{member-plain}
 use Rattle.ion_binary.proofs.writer.BinWriter.add_octet.Goals as goal
 

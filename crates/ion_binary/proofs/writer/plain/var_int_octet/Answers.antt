@@ -1,4 +1,4 @@
-use Rattle.std.proofs.Common.{◌≡◌, ◌+◌, ◌<◌, Bool, true, false, List, [], ◌∷◌, ℕ, subst, sym, arith}
+use Rattle.std.proofs.Common.{◌≡◌, ◌+◌, ◌<◌, Bool, true, false, [], ◌∷◌, ℕ, subst, sym, arith}
 use Rattle.ion_value.specs.Number.{var_int_octets}
 use Rattle.ion_binary.proofs.ShortDecimals.{small-exponent}
 use Rattle.ion_binary.proofs.writer.plain.var_int_octet.Goals as goal

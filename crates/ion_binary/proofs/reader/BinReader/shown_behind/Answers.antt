@@ -1,5 +1,4 @@
 use Rattle.std.proofs.Common.{◌≤◌, length, sym, subst, arith}
-use Rattle.ion_meter.specs.Windows.{lent}
 use Rattle.ion_meter.proofs.Lent.{lent-CanPass}
 use Rattle.ion_binary.specs.Lane.{frame_in, inner_region}
 use Rattle.ion_binary.specs.Reading.{region_of}

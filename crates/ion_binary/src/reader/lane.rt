@@ -76,9 +76,12 @@ fn shown_field<'n, N: Names>(
     ensures { IfSome result (λ r. ShowsField (N.text names.entry.now) octets.now here
         (innermost (frame_in around)) r.0 r.1) }
 {
-    match around.kind {
-        None | Some(Kind::List | Kind::Sexp) => Some((None, 0)),
-        Some(Kind::Struct) => {
+    let Some(kind) = around.kind else {
+        return Some((None, 0));
+    };
+    match kind {
+        Kind::List | Kind::Sexp => Some((None, 0)),
+        Kind::Struct => {
             let Some((id, behind)) = shown_var(octets, 0) else {
                 return None;
             };
@@ -600,9 +603,9 @@ impl<I: Input, A: Allocator + Copy> BinReader<I, A> {
         requires shape { as_shape shape ≡ shape_of (get_or (lent self.now.source) front.head 0) }
         ensures shows { IfSome result (λ r. ShowsValue self.entry.now.limits
             (lent self.entry.now.source) self.entry.now.source.place
-            (inner_region front.wrapper (region_of (innermost (frame_in around))))
-            (length (as_frames self.entry.now.frames)) front.head r.1 r.0) }
-        ensures fills { IfSome result (λ r. FillsTo front.wrapper
+            (inner_region front.entry.wrapper (region_of (innermost (frame_in around))))
+            (length (as_frames self.entry.now.frames)) front.entry.head r.1 r.0) }
+        ensures fills { IfSome result (λ r. FillsTo front.entry.wrapper
             (far_end self.entry.now.source.place r.1 r.0)) }
     {
         let here = self.source.place();

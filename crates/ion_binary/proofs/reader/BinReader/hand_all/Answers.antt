@@ -30,7 +30,7 @@ items-preserved g c =
     let w = g.W.ValueWriter in
     let see = named_item (g.N.Names.text c.args.names.now) in
     let counts : c.values_behind-count.result ≡ c.items.count + one_if_closed (opened_in c.hand.new.self) =
-    c.values_behind-count.ensures ∙ ap (λ fs. c.items.count + one_if_closed (kinds_of fs)) c.as_slice.ensures in
+    c.values_behind-count.ensures ∙ ap (λ fs. c.items.count + one_if_closed (kinds_of fs)) c.as_slice-in-items.ensures in
     record {
       hands = hands_on-then input w see c.args.self.now c.items.self c.hand.new.self c.args.writer.now c.items.writer c.hand.new.writer c.args.sink.now c.items.sink c.hand.new.sink c.args.meter.now c.items.meter c.hand.new.meter c.args.values
           c.items.count c.values_behind-count.result c.requires.held c.items.invariant.hands

@@ -1,5 +1,4 @@
-use Rattle.std.proofs.Common.{◌∙◌, sym, ap, refl, ◌-◌, List, length, slice_get}
-use Rattle.ion_binary.specs.declared.wrapper.Frame.{Frame}
+use Rattle.std.proofs.Common.{◌∙◌, sym}
 use Rattle.ion_binary.proofs.Handing.{around_last, around_top}
 use Rattle.ion_binary.proofs.reader.lane.around_in.Goals as goal
 

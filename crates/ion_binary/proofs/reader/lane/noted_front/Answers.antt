@@ -6,7 +6,9 @@ use Rattle.ion_binary.proofs.Handing.{bounds_around, front_noted}
 use Rattle.ion_binary.proofs.reader.lane.noted_front.Goals as goal
 
 pub overflow_add-place : goal.overflow_add-place
-overflow_add-place g c = omega (arith, c.in-Some.ensures.starts, c.in-Some.ensures.within, c.requires.small)
+overflow_add-place g c =
+    let shows = c.in-Some.ensures (region_of (innermost (frame_in c.args.around))) (bounds_around c.args.around) in
+    omega (arith, shows.starts, shows.within, c.requires.small)
 
 pub returns : goal.returns
 returns g c =

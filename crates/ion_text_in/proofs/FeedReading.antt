@@ -36,8 +36,7 @@ use Rattle.ion_text_in.specs.Token as tokens
 use Rattle.ion_text_in.specs.Token.{First, Token, first_at, token_of}
 use Rattle.ion_text_in.proofs.BlankTurns.{no-slash}
 use Rattle.ion_text_in.proofs.BlankRuns.{white-over}
-use Rattle.ion_text_in.proofs.ReaderLanes.{may-comma, may-end}
-use Rattle.ion_text_in.proofs.ReaderSteps.{blanks-going, later-moved, part-token, step-part}
+use Rattle.ion_text_in.proofs.ReaderSteps.{blanks-going, later-moved, may-comma, may-end, part-token, step-part}
 
 -- ---- what stands behind some bytes
 

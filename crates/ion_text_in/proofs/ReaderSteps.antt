@@ -32,14 +32,14 @@ use Rattle.ion_text_in.specs.declared.reader.StepResult.{StepResult}
 use Rattle.ion_text_in.specs.declared.reader.StepResult.TheVariants as step_result
 use Rattle.ion_text_in.specs.declared.reader.TextReader.{TextReader}
 use Rattle.ion_text_in.specs.Blanks.{blanks, blanks_at}
-use Rattle.ion_text_in.specs.Positions.{State, Wants, at, in_sexp, innermost}
+use Rattle.ion_text_in.specs.Positions.{State, Wants, a_field, a_separator, a_value, at, in_sexp, innermost}
 use Rattle.ion_text_in.specs.declared.first.First as code_first
 use Rattle.ion_text_in.specs.declared.first.First.TheVariants as firsts
 use Rattle.ion_text_in.specs.Firsts.{first_of, width}
 use Rattle.ion_text_in.specs.Overrun.{overrun}
 use Rattle.ion_text_in.specs.Reading.{step, step_of, part_at, part_behind, part_from, behind_colons, colons_at, colons_behind, symbol_step, value_or_version, next_part, may_come, final_step, take, size, item_step, end_step, is_same, item_of, member_of, behind_member, is_marker, tells_version, top_of}
 use Rattle.ion_text_in.specs.Token as tokens
-use Rattle.ion_text_in.specs.Token.{First, Token, no_token, two_colons, first_at, token_of}
+use Rattle.ion_text_in.specs.Token.{First, Token, a_comma, an_end, no_token, two_colons, first_at, token_of}
 use Rattle.ion_text_in.specs.Scanning.{moved_to}
 use Rattle.ion_text_in.specs.Tokens.{as_symbol, going, TokenGives}
 use Rattle.ion_text_in.specs.Symbols.{as_annotations, as_field, is_annotated}
@@ -258,6 +258,20 @@ pub part-token : (limits : Limits) (s : State) (c d : Cursor) (first : First) (t
 part-token limits s c d first token may e =
     ap (λ (b : Bool). comes limits (next_part limits s c first b)) may
     ∙ ap (λ (o : Result (Token × Cursor) Reason). comes limits (part c.place o >>= (λ t. take limits s.kinds s.top s.wants c.place t.0 t.1))) e
+
+-- ---- which tokens may come
+
+pub may-comma : (w : Wants) → may_come w a_comma ≡ true
+unfolding may_come
+may-comma (a_value field annotations) = refl
+may-comma a_field = refl
+may-comma a_separator = refl
+
+pub may-end : (kind : Kind) (w : Wants) → may_come w (an_end kind) ≡ true
+unfolding may_come
+may-end kind (a_value field annotations) = refl
+may-end kind a_field = refl
+may-end kind a_separator = refl
 
 -- ---- containers
 

@@ -167,12 +167,12 @@ without_colons r symbol quoted place c =
     (tells_version (innermost (opened_in r)) (annotations_in r) quoted (as_symbol r.text symbol))))
 
 -- all that is to come where a field's name was read
-abbrev pub naming : {I A : Type 0} → TextReader I A → List ℕ → Symbol → ℕ → Cursor → Reading
-naming r text symbol place c = comes r.limits (field_step (opened_in r) r.top (at (as_symbol text symbol) place) c)
+abbrev pub naming : {I A : Type 0} → TextReader I A → Symbol → ℕ → Cursor → Reading
+naming r symbol place c = comes r.limits (field_step (opened_in r) r.top (at (as_symbol r.text symbol) place) c)
 
--- the same at the colon, the name's text being kept
+-- the same at the colon
 abbrev pub naming_here : {I A : Type 0} → TextReader I A → Symbol → ℕ → Cursor → Reading
-naming_here r symbol place c = comes r.limits (colon_of (opened_in r) r.top (at (as_symbol r.name symbol) place) c tokens.a_colon)
+naming_here r symbol place c = comes r.limits (colon_of (opened_in r) r.top (at (as_symbol r.text symbol) place) c tokens.a_colon)
 
 -- all that is to come where a bracket was read that closes a container of this kind
 abbrev pub closing : {I A : Type 0} → TextReader I A → Kind → ℕ → Cursor → Reading

@@ -1,5 +1,5 @@
 //! Which kind of token begins at a place (Ion specification, "Text Encoding").
-ghost use Rattle.std.specs.Prelude.{◌≡◌, ◌≢◌, ℕ, List, [], ◌+◌, ◌++◌, ◌∷◌, ◌<◌, ◌≤◌, length, slice_index, Bool, true, false, Ok, Err, ◌⊎◌, if◌then◌else◌, IfOk, IfSome, IsSome, MatchOption};
+ghost use Rattle.std.specs.Prelude.{◌≡◌, ℕ, List, [], ◌+◌, ◌++◌, ◌∷◌, ◌<◌, ◌≤◌, length, slice_index, Bool, true, false, Ok, Err, ◌⊎◌, if◌then◌else◌, IfOk, IfSome, IsSome, MatchOption};
 ghost use Rattle.ion_meter.specs.Sources.{cursor, Stands};
 ghost use Rattle.ion_meter.specs.Windows.{left, lent, Extends};
 ghost use Rattle.ion_value.specs.Calls.{Reads};
@@ -7,10 +7,8 @@ ghost use Rattle.ion_value.specs.Digits.{first_is, is_digit};
 ghost use Rattle.ion_text_in.specs.Firsts.{first_of, is_inf, is_told_alone, numbered, width};
 ghost use Rattle.ion_text_in.specs.Blanks.{blanks};
 ghost use Rattle.ion_text_in.specs.Meaning.{at};
-ghost use Rattle.ion_text_in.specs.Overrun.{overrun};
 ghost use Rattle.ion_text_in.specs.Token.{a_colon, first_at};
 
-use crate::blank::pass_blanks;
 use crate::run::{is_identifier_byte, is_operator_byte};
 use ion_meter::device::Input;
 use ion_meter::fault::{Fault, Reason};
@@ -89,25 +87,6 @@ pub(crate) fn told_first(bytes: &[u8]) -> u64
         [] => 0,
         [byte, ..] => FIRST_BYTES[*byte as usize] as u64,
     }
-}
-
-/// Passes over blanks. Mostly a byte that tells its token alone shows that there are none.
-#[inline(always)]
-pub(crate) fn pass_to_token<I: Input, A: Allocator + Copy>(
-    source: &mut Source<I, A>,
-) -> Result<Option<u64>, Fault>
-    requires stands { Stands source.old }
-    ensures gives { I.observable source.old.device → IfOk result (λ start.
-        blanks (cursor I.Input source.old) ≡ overrun start (cursor I.Input source.new)) }
-    ensures used_up { I.observable source.old.device → IfOk result (λ start.
-        IfSome start (λ _. left I.rest source.new ≡ [])) }
-    ensures plain { (r : Reason) (p : ℕ) → result ≢ Err (Fault.Refused r p) }
-    ensures reads { Reads I.Input source.old source.new result }
-{
-    if told_first(source.buffer()) > 0 {
-        return Ok(None);
-    }
-    pass_blanks(source)
 }
 
 /// Whether a colon stands at the front of these bytes, and one more byte that is none.

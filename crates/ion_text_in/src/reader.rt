@@ -18,13 +18,13 @@ ghost use Rattle.ion_text_in.specs.Symbols.{is_annotated, kept_text};
 ghost use Rattle.ion_text_in.specs.Expecting.{wanted, MayExpect};
 ghost use Rattle.ion_text_in.specs.Steps.{annotations_in, closing, ending, given_by, held_by, left_to, lent_by, naming, naming_here, opened_in, opening, scalar_by, share_of, sound-within, taking, to_come_by, to_come_in, with_colons, without_colons, CanAdvance, CanStep, IsInside, IsReady, IsSized, IsSound, ReadyAfter, StepGives, Stepped};
 
-mod lanes;
 mod lent;
+mod taking;
 mod window;
 
 use crate::blank::pass_blanks;
 use crate::expected::{Expected, at_member, behind_member, is_colons, is_same};
-use crate::first::{First, next_first, pass_to_token, told_first};
+use crate::first::{First, next_first};
 use crate::operator::{pass_colons, pass_mark};
 use crate::symbol::{FieldName, annotation_place, keep_text, lent_field};
 use crate::token::{Body, Symbol, Token};
@@ -365,9 +365,6 @@ impl<I: Input, A: Allocator + Copy> TextReader<I, A> {
         ensures goes { GrowsWithin meter.old meter.new (held_by self.old) (held_by self.new)
             (length (kept_text self.old.text symbol) + 16 * passed_over self.old.source self.new.source) }
     {
-        if told_first(self.source.buffer()) > 0 {
-            return self.symbol_value(symbol, quoted, place, None);
-        }
         let unfinished = match pass_blanks(&mut self.source) {
             Err(fault) => return Err(fault),
             Ok(unfinished) => unfinished,
@@ -390,24 +387,7 @@ impl<I: Input, A: Allocator + Copy> TextReader<I, A> {
         requires sized { IsSized self.old }
         ensures gives { I.observable self.old.source.device → (d : Cursor)
             → blanks d ≡ blanks (cursor I.Input self.old.source)
-            → StepGives I.Input (naming self.old self.old.text symbol place d) self.new result }
-        ensures ready { ReadyAfter result self.new }
-        ensures stepped { (m : Counts) → held_by self.old ≤ m.held
-            → Stepped I.Input StepResult.Item self.old self.new m m result }
-    {
-        mem::swap(&mut self.name, &mut self.text);
-        self.behind_name(symbol, place)
-    }
-
-    // The same where its text is the name already.
-    #[inline(never)]
-    fn behind_name(&mut self, symbol: Symbol, place: u64) -> Result<StepResult, Fault>
-        requires value { self.old.expected ≡ Expected.Field }
-        requires inside { IsInside self.old }
-        requires sized { IsSized self.old }
-        ensures gives { I.observable self.old.source.device → (d : Cursor)
-            → blanks d ≡ blanks (cursor I.Input self.old.source)
-            → StepGives I.Input (naming self.old self.old.name symbol place d) self.new result }
+            → StepGives I.Input (naming self.old symbol place d) self.new result }
         ensures ready { ReadyAfter result self.new }
         ensures stepped { (m : Counts) → held_by self.old ≤ m.held
             → Stepped I.Input StepResult.Item self.old self.new m m result }
@@ -420,28 +400,30 @@ impl<I: Input, A: Allocator + Copy> TextReader<I, A> {
         match next_first(&mut self.source, false) {
             Err(fault) => Err(fault),
             Ok(None) => Err(Fault::Refused(Reason::Truncated, self.source.place())),
-            Ok(Some(First::Colon)) => self.at_colon(symbol, place),
+            Ok(Some(First::Colon)) => Ok(self.at_colon(symbol, place)),
             Ok(Some(_)) => Err(Fault::Refused(Reason::BadToken, self.source.place())),
         }
     }
 
     // The same at the colon.
-    #[inline(always)]
-    fn at_colon(&mut self, symbol: Symbol, place: u64) -> Result<StepResult, Fault>
+    #[inline]
+    fn at_colon(&mut self, symbol: Symbol, place: u64) -> StepResult
         requires value { self.old.expected ≡ Expected.Field }
         requires inside { IsInside self.old }
         requires sized { IsSized self.old }
         requires there { 1 ≤ length (lent self.old.source) }
         ensures gives { I.observable self.old.source.device → StepGives I.Input
-            (naming_here self.old symbol place (cursor I.Input self.old.source)) self.new result }
-        ensures ready { ReadyAfter result self.new }
+            (naming_here self.old symbol place (cursor I.Input self.old.source))
+            self.new (Ok result) }
+        ensures ready { ReadyAfter (Ok result) self.new }
         ensures stepped { (m : Counts) → held_by self.old ≤ m.held
-            → Stepped I.Input StepResult.Item self.old self.new m m result }
+            → Stepped I.Input StepResult.Item self.old self.new m m (Ok result) }
     {
         pass_mark(&mut self.source);
+        mem::swap(&mut self.name, &mut self.text);
         self.field = Some(FieldName { symbol, place });
         self.expected = Expected::Value;
-        Ok(StepResult::Passed)
+        StepResult::Passed
     }
 
     // Closes the innermost open container, where it is of this kind.
@@ -562,14 +544,10 @@ impl<I: Input, A: Allocator + Copy> TextReader<I, A> {
         ensures goes { GoesWithReading meter.old meter.new
             (held_by self.old) (held_by self.new) (left_to self.old) (left_to self.new) }
     {
-        match pass_to_token(&mut self.source) {
+        match pass_blanks(&mut self.source) {
             Err(fault) => return Err(fault),
             Ok(Some(start)) => return Err(Fault::Refused(Reason::Truncated, start)),
             Ok(None) => {}
-        }
-        let told = told_first(self.source.buffer());
-        if told > 0 {
-            return self.told(told, meter);
         }
         let in_sexp = self.in_sexp();
         match next_first(&mut self.source, in_sexp) {

@@ -12,6 +12,8 @@ use Rattle.ion_text_in.specs.Token.{First, first_at, begins_run, is_infinity, pu
 use Rattle.ion_text_in.specs.Firsts.{numbered, width}
 use Rattle.ion_text_in.specs.Blanks.{blanks, is_white}
 use Rattle.ion_text_in.specs.Meaning.{at}
+use Rattle.ion_text_in.specs.Reading.{colons_at}
+use Rattle.ion_meter.specs.Sources.{Cursor}
 use Rattle.ion_text_in.proofs.BlankTurns.{found-other}
 use Rattle.ion_text_in.proofs.Fuel.{begins-within}
 
@@ -207,3 +209,13 @@ pub told-bare : (bytes : List ℕ) → 1 ≤ length bytes → get_or bytes 0 0 <
     → blanks (at place (bytes ++ more)) ≡ Ok (at place (bytes ++ more))
 told-bare [] some small told place more = absurd (omega (arith, some))
 told-bare (b ∷ bytes) some small told place more = let none = from-none b told (all-begin b small) in no-blank place b (bytes ++ more) none.0 none.1
+
+-- and it is no colon
+no-colons-if : (b : Bool) (f g : First) (c : Cursor) → colons_at f c ≡ None → colons_at g c ≡ None → colons_at (if b then f else g) c ≡ None
+no-colons-if true f g c one other = one
+no-colons-if false f g c one other = other
+
+pub no-colons : (n : ℕ) (c : Cursor) → colons_at (numbered n) c ≡ None
+no-colons n c =
+    no-colons-if (n == 1) _ _ c refl (no-colons-if (n == 2) _ _ c refl (no-colons-if (n == 3) _ _ c refl (no-colons-if (n == 4) _ _ c refl
+    (no-colons-if (n == 5) _ _ c refl (no-colons-if (n == 6) _ _ c refl (no-colons-if (n == 7) _ _ c refl (no-colons-if (n == 8) _ _ c refl refl)))))))

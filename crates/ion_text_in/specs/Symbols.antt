@@ -52,7 +52,9 @@ GrowsBy old new text (symbol.Id id) = new ≡ old
 
 -- how many counted bytes may be taken when a token has been read: an annotation's text is kept, and a container is opened
 abbrev pub prepaid : List ℕ → Token → ℕ
-prepaid text (token.Plain body) = 0
+prepaid text (token.Null type) = 0
+prepaid text (token.Bool truth) = 0
+prepaid text (token.Lob lob) = 0
 prepaid text (token.Symbol symbol quoted) = length (kept_text text symbol)
 prepaid text (token.String start) = 0
 prepaid text token.Operator = 0

@@ -1,5 +1,5 @@
 -- What is seen of the tokens of the code, and what the calls that read them answer and keep.
-use Rattle.std.specs.Prelude.{◌≡◌, ℕ, ◌<◌, List, length, Option, Some, None, Result, Ok, Err, OnOk, IfOk, ⊤}
+use Rattle.std.specs.Prelude.{◌≡◌, ℕ, ◌<◌, List, length, Option, Some, None, Result, Ok, Err, OnOk, ⊤}
 use Rattle.ion_meter.specs.Counts.{Counts}
 use Rattle.ion_meter.specs.declared.device.Input.{Ghosts as InputOf}
 use Rattle.ion_meter.specs.declared.fault.Fault.{Fault}
@@ -21,6 +21,7 @@ use Rattle.ion_text_in.specs.declared.token.Body.TheVariants as body
 use Rattle.ion_text_in.specs.declared.token.Token.{Token}
 use Rattle.ion_text_in.specs.declared.token.Token.TheVariants as code
 use Rattle.ion_text_in.specs.Blanks.{blanks}
+use Rattle.ion_text_in.specs.Lobs.{lob_of}
 use Rattle.ion_text_in.specs.Positions.{at}
 use Rattle.ion_text_in.specs.Token as tokens
 
@@ -45,7 +46,9 @@ as_scalar text place body.Blob = value.blob text
 
 -- a token from the code: `text` has its bytes, and `place` is where it begins
 abbrev pub token_view : List ℕ → ℕ → Token → tokens.Token
-token_view text place (code.Plain scalar) = tokens.plain (as_scalar text place scalar)
+token_view text place (code.Null type) = tokens.plain (value.null type)
+token_view text place (code.Bool truth) = tokens.plain (value.bool truth)
+token_view text place (code.Lob lob) = tokens.plain (lob_of lob text)
 token_view text place (code.Symbol name quoted) = tokens.name quoted (as_symbol text name)
 token_view text place (code.String start) = tokens.text text
 token_view text place code.Operator = tokens.operator text
@@ -68,24 +71,13 @@ BodyInRange body.String = ⊤
 BodyInRange body.Clob = ⊤
 BodyInRange body.Blob = ⊤
 
--- so are those of a token
-abbrev pub TokenInRange : Token → Type 0
-TokenInRange (code.Plain scalar) = BodyInRange scalar
-TokenInRange (code.Symbol name quoted) = ⊤
-TokenInRange (code.String start) = ⊤
-TokenInRange code.Operator = ⊤
-TokenInRange code.NoNumber = ⊤
-TokenInRange (code.Begin kind) = ⊤
-TokenInRange (code.End kind) = ⊤
-TokenInRange code.Comma = ⊤
-TokenInRange code.Colon = ⊤
-TokenInRange code.Colons = ⊤
-
 -- ---- blanks that were passed over behind a token
 
 -- where a comment begins among them that does not end
 abbrev pub overrun_of : Token → Option ℕ
-overrun_of (code.Plain scalar) = None
+overrun_of (code.Null type) = None
+overrun_of (code.Bool truth) = None
+overrun_of (code.Lob lob) = None
 overrun_of (code.Symbol name quoted) = None
 overrun_of (code.String start) = start
 overrun_of code.Operator = None
@@ -114,6 +106,5 @@ TokenGives text place (Err InputLimit) behind given = Unit {0}
 
 -- whatever it answers
 pub record ReadsToken {I : Type 0} (device : InputOf I) (limits : Limits) (old new : Incoming I) (earlier later : Counts) (before after : List ℕ) (result : Result Token Fault) : Type 0 where
-  pub range : IfOk result TokenInRange
   pub further : OnOk result (old.place < new.place)
   pub into : ReadsInto device old new earlier later (length before) (length after) limits.scalar result

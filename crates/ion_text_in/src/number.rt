@@ -1,5 +1,5 @@
 //! Numbers and timestamps (Ion specification, "Text Encoding").
-ghost use Rattle.std.specs.Prelude.{◌≡◌, ◌≤◌, ◌<◌, ◌*◌, Some, Ok, Err, length, IfOk, MatchResult, OnOk};
+ghost use Rattle.std.specs.Prelude.{◌≡◌, ◌≤◌, ◌<◌, ◌*◌, List, ℕ, Some, Ok, Err, length, IfOk, MatchResult, OnOk};
 ghost use Rattle.ion_value.specs.Decimal.{decimal_of_text};
 ghost use Rattle.ion_value.specs.Int.{int_of_text};
 ghost use Rattle.ion_meter.specs.Windows.{lent};
@@ -8,11 +8,13 @@ ghost use Rattle.ion_value.specs.Standing.{InRange};
 ghost use Rattle.ion_value.specs.Shares.{GrowsWithin};
 ghost use Rattle.ion_text_in.specs.Scanners.{Shows};
 ghost use Rattle.ion_text_in.specs.Token.{a_run, run_token, token_of};
+ghost use Rattle.ion_text_in.specs.Tokens.{as_scalar, BodyInRange};
 ghost use Rattle.ion_text_in.specs.Views.{IfWhole, as_number, number_token};
 
 use crate::gather::gather_token;
 use crate::run::{Run, token_extent};
 use crate::scanned::Scanned;
+use crate::token::Body;
 use ion_meter::buf::Buf;
 use ion_meter::device::Input;
 use ion_meter::fault::{Fault, Reason};
@@ -173,5 +175,18 @@ fn no_number(run: &[u8]) -> Result<Number, Reason>
     match timestamp_from_text(run) {
         Ok(timestamp) => Ok(Number::Timestamp(timestamp)),
         Err(reason) => Err(reason),
+    }
+}
+
+/// A number or a timestamp as a scalar.
+#[inline(always)]
+pub(crate) fn number_body(number: Number) -> Body
+    ensures is { (bytes : List ℕ) (place : ℕ) → as_scalar bytes place result ≡ as_number number }
+    ensures range { InRange (as_number number) → BodyInRange result }
+{
+    match number {
+        Number::Int(int) => Body::Int(int),
+        Number::Decimal(decimal) => Body::Decimal(decimal),
+        Number::Timestamp(timestamp) => Body::Timestamp(timestamp),
     }
 }

@@ -1,6 +1,6 @@
 //! Ints and decimals of few digits, without underscores and bases, read in one pass
 //! (Ion specification, "Integers" and "Real Numbers").
-ghost use Rattle.std.specs.Prelude.{◌≡◌, pos, ◌-ℤ◌, ◌+◌, ◌*◌, ◌^◌, ◌<◌, ◌≤◌, ◌&&◌, ◌||◌, ◌==◌, true, not, Ok, map, length, drop, take, get_or, IfSome};
+ghost use Rattle.std.specs.Prelude.{◌≡◌, List, ℕ, pos, ◌-ℤ◌, ◌+◌, ◌*◌, ◌^◌, ◌<◌, ◌≤◌, ◌&&◌, ◌||◌, ◌==◌, true, not, Ok, map, length, drop, take, get_or, IfSome};
 ghost use Rattle.std.specs.Simd.Lanes.{mask_l};
 ghost use Rattle.ion_value.specs.Digits.{all_are, first_is, is_digit};
 ghost use Rattle.ion_value.specs.Number.{signed};
@@ -9,9 +9,11 @@ ghost use Rattle.ion_text_in.specs.Quick.{as_quick, number_after, scaled, signed
 ghost use Rattle.ion_text_in.specs.declared.scanned.Scanned.TheVariants.{Whole};
 ghost use Rattle.ion_text_in.specs.Scanners.{Shows};
 ghost use Rattle.ion_text_in.specs.Token.{a_run, bytes_of, in_run, run_token, token_of};
+ghost use Rattle.ion_text_in.specs.Tokens.{as_scalar, BodyInRange};
 ghost use Rattle.ion_text_in.specs.Views.{AreShown, as_number, number_token};
 
 use crate::run::stops_number;
+use crate::token::Body;
 use ion_value::decimal::Decimal;
 use ion_value::int::Int;
 use std::simd::prelude::*;
@@ -121,6 +123,19 @@ pub(crate) fn signed_int(negative: bool, magnitude: u128) -> Int
     Int {
         negative: negative && magnitude > 0,
         magnitude,
+    }
+}
+
+/// An int or a decimal as a scalar.
+#[inline(always)]
+pub(crate) fn quick_body(quick: Quick) -> Body
+    ensures is { (bytes : List ℕ) (place : ℕ)
+        → as_scalar bytes place result ≡ as_number (as_quick quick) }
+    ensures range { InRange (as_number (as_quick quick)) → BodyInRange result }
+{
+    match quick.exponent {
+        Some(exponent) => Body::Decimal(scaled(quick.negative, quick.number, exponent)),
+        None => Body::Int(signed_int(quick.negative, quick.number)),
     }
 }
 

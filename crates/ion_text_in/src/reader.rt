@@ -24,8 +24,7 @@ mod window;
 
 use crate::blank::pass_blanks;
 use crate::expected::{Expected, at_member, behind_member, is_colons, is_same};
-use crate::first::{First, next_first};
-use crate::operator::{pass_colons, pass_mark};
+use crate::first::{First, next_first, told_first};
 use crate::symbol::{FieldName, annotation_place, keep_text, lent_field};
 use crate::token::{Body, Symbol, Token};
 use crate::version::{is_version, is_version_word};
@@ -319,7 +318,7 @@ impl<I: Input, A: Allocator + Copy> TextReader<I, A> {
         if limit < cost {
             return Err(Fault::Refused(Reason::AnnotationLimit, place));
         }
-        pass_colons(&mut self.source);
+        self.source.consume(2);
         match keep_text(&mut self.texts, self.text.as_slice(), symbol, place, meter) {
             Err(fault) => Err(fault),
             Ok(annotation) => match self.annotations.push(meter, annotation) {
@@ -365,6 +364,9 @@ impl<I: Input, A: Allocator + Copy> TextReader<I, A> {
         ensures goes { GrowsWithin meter.old meter.new (held_by self.old) (held_by self.new)
             (length (kept_text self.old.text symbol) + 16 * passed_over self.old.source self.new.source) }
     {
+        if told_first(self.source.buffer()) > 0 {
+            return self.symbol_value(symbol, quoted, place, None);
+        }
         let unfinished = match pass_blanks(&mut self.source) {
             Err(fault) => return Err(fault),
             Ok(unfinished) => unfinished,
@@ -419,7 +421,7 @@ impl<I: Input, A: Allocator + Copy> TextReader<I, A> {
         ensures stepped { (m : Counts) → held_by self.old ≤ m.held
             → Stepped I.Input StepResult.Item self.old self.new m m (Ok result) }
     {
-        pass_mark(&mut self.source);
+        self.source.consume(1);
         mem::swap(&mut self.name, &mut self.text);
         self.field = Some(FieldName { symbol, place });
         self.expected = Expected::Value;

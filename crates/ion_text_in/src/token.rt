@@ -1,22 +1,19 @@
 //! Tokens, each read by the kind that its first bytes tell (Ion specification, "Text Encoding").
-ghost use Rattle.std.specs.Prelude.{◌≡◌, ◌≤◌, ◌+◌, ◌*◌, ℕ, List, Some, None, length, IfOk};
-ghost use Rattle.ion_meter.specs.Sources.{cursor};
-ghost use Rattle.ion_meter.specs.Windows.{lent};
+ghost use Rattle.std.specs.Prelude.{◌≡◌, ◌≢◌, ◌≤◌, ◌+◌, ◌*◌, ℕ, List, Some, None, length, IfOk};
+ghost use Rattle.ion_meter.specs.Sources.{cursor, Stands};
+ghost use Rattle.ion_meter.specs.Windows.{lent, IsPassed};
 ghost use Rattle.ion_value.specs.Calls.{CanRead, passed_over};
-ghost use Rattle.ion_value.specs.Standing.{InRange};
 ghost use Rattle.ion_value.specs.Shares.{GrowsWithin};
 ghost use Rattle.ion_text_in.specs.Symbols.{prepaid, prepaid_word};
 ghost use Rattle.ion_text_in.specs.Firsts.{first_of, width};
-ghost use Rattle.ion_text_in.specs.Token as tokens;
 ghost use Rattle.ion_text_in.specs.Token.{token_of};
 ghost use Rattle.ion_text_in.specs.Lobs.{lob_of};
-ghost use Rattle.ion_text_in.specs.Tokens.{as_scalar, overrun_of, token_view, BodyInRange, ReadsToken, TokenGives, TokenInRange};
-ghost use Rattle.ion_text_in.specs.Views.{as_number, word_token_of};
+ghost use Rattle.ion_text_in.specs.Tokens.{as_scalar, overrun_of, token_view, BodyInRange, ReadsToken, TokenGives};
+ghost use Rattle.ion_text_in.specs.Views.{word_token_of};
 
 use crate::first::First;
 use crate::lob::{Lob, next_lob};
-use crate::number::{Number, next_number};
-use crate::operator::{next_infinity, next_operator, pass_colons, pass_mark};
+use crate::operator::{next_infinity, next_operator};
 use crate::text::{next_long_string, next_quoted_symbol, next_short_string};
 use crate::word::{Word, next_word};
 use ion_meter::buf::Buf;
@@ -66,8 +63,12 @@ pub(crate) enum Body {
 /// A token. The bytes of a symbol's text, a string, a lob or an operator stand beside it.
 #[derive(Clone, Copy)]
 pub(crate) enum Token {
-    /// A scalar that is neither a symbol nor a string.
-    Plain(Body),
+    /// The null of a type.
+    Null(IonType),
+    /// A truth value.
+    Bool(bool),
+    /// A clob or a blob.
+    Lob(Lob),
     /// A symbol, and whether it stands in quotes.
     Symbol(Symbol, bool),
     /// A string. Behind a long one blanks were passed over: `Some` is the place where a comment
@@ -89,8 +90,8 @@ pub(crate) enum Token {
     Colons,
 }
 
-/// Reads the token whose kind was told by its first bytes, which stand in the window. The bytes of
-/// a text, a lob or an operator are copied to `text`.
+/// Reads the token whose kind was told by its first bytes, which stand in the window, where it is no
+/// number. The bytes of a text, a lob or an operator are copied to `text`.
 ///
 /// Each fault stands at the token's first byte.
 pub(crate) fn next_token<I: Input, A: Allocator + Copy>(
@@ -102,6 +103,7 @@ pub(crate) fn next_token<I: Input, A: Allocator + Copy>(
 ) -> Result<Token, Fault>
     requires can_read { CanRead limits limits.scalar source.old text.old meter.old }
     requires there { width (first_of first) ≤ length (lent source.old) }
+    requires other { first ≢ First.Number }
     ensures gives { I.observable source.old.device → TokenGives text.new source.old.place result
         (cursor I.Input source.new)
         (token_of (Some limits.scalar) (first_of first) (cursor I.Input source.old)) }
@@ -113,257 +115,57 @@ pub(crate) fn next_token<I: Input, A: Allocator + Copy>(
         ≤ length text.old + 16 * passed_over source.old source.new) }
 {
     match first {
-        First::Word => word_token(source, text, limits, meter),
-        First::Number => number_token(source, text, limits, meter),
-        First::QuotedSymbol => quoted_token(source, text, limits, meter),
-        First::String => string_token(source, text, limits, meter),
-        First::LongString => long_string_token(source, text, limits, meter),
-        First::Lob => lob_token(source, text, limits, meter),
-        First::Operator => operator_token(source, text, limits, meter),
-        First::Infinity => infinity_token(source, text, limits, meter),
-        First::Begin(kind) => {
-            pass_mark(source);
-            Ok(Token::Begin(kind))
-        }
-        First::End(kind) => {
-            pass_mark(source);
-            Ok(Token::End(kind))
-        }
-        First::Comma => {
-            pass_mark(source);
-            Ok(Token::Comma)
-        }
-        First::Colon => {
-            pass_mark(source);
-            Ok(Token::Colon)
-        }
-        First::Colons => {
-            pass_colons(source);
-            Ok(Token::Colons)
-        }
-        First::Nothing => Err(Fault::Refused(Reason::BadToken, source.place())),
+        First::Word => match next_word(source, text, limits, meter) {
+            Err(fault) => Err(fault),
+            Ok(word) => Ok(word_of(word)),
+        },
+        First::QuotedSymbol => match next_quoted_symbol(source, text, limits, meter) {
+            Err(fault) => Err(fault),
+            Ok(()) => Ok(Token::Symbol(Symbol::Text, true)),
+        },
+        First::String => match next_short_string(source, text, limits, meter) {
+            Err(fault) => Err(fault),
+            Ok(()) => Ok(Token::String(None)),
+        },
+        First::LongString => match next_long_string(source, text, limits, meter) {
+            Err(fault) => Err(fault),
+            Ok(start) => Ok(Token::String(start)),
+        },
+        First::Lob => match next_lob(source, text, limits, meter) {
+            Err(fault) => Err(fault),
+            Ok(lob) => Ok(Token::Lob(lob)),
+        },
+        First::Operator => match next_operator(source, text, limits, meter) {
+            Err(fault) => Err(fault),
+            Ok(()) => Ok(Token::Operator),
+        },
+        First::Infinity => match next_infinity(source, limits) {
+            Err(fault) => Err(fault),
+            Ok(()) => Ok(Token::NoNumber),
+        },
+        First::Begin(kind) => Ok(mark(source, 1, Token::Begin(kind))),
+        First::End(kind) => Ok(mark(source, 1, Token::End(kind))),
+        First::Comma => Ok(mark(source, 1, Token::Comma)),
+        First::Colon => Ok(mark(source, 1, Token::Colon)),
+        First::Colons => Ok(mark(source, 2, Token::Colons)),
+        First::Number | First::Nothing => Err(Fault::Refused(Reason::BadToken, source.place())),
     }
 }
 
-// The word that begins here.
-#[inline]
-fn word_token<I: Input, A: Allocator + Copy>(
-    source: &mut Source<I, A>,
-    text: &mut Buf<A>,
-    limits: Limits,
-    meter: &mut Meter<A>,
-) -> Result<Token, Fault>
-    requires can_read { CanRead limits limits.scalar source.old text.old meter.old }
-    requires there { 1 ≤ length (lent source.old) }
-    ensures gives { I.observable source.old.device → TokenGives text.new source.old.place result
-        (cursor I.Input source.new)
-        (token_of (Some limits.scalar) tokens.a_word (cursor I.Input source.old)) }
-    ensures reads { ReadsToken I.Input limits source.old source.new meter.old meter.new
-        text.old text.new result }
-    ensures goes { GrowsWithin meter.old meter.new (length text.old) (length text.new)
-        (16 * passed_over source.old source.new) }
-    ensures paid { IfOk result (λ token. length text.new + prepaid text.new token
-        ≤ length text.old + 16 * passed_over source.old source.new) }
-{
-    match next_word(source, text, limits, meter) {
-        Err(fault) => Err(fault),
-        Ok(word) => Ok(word_of(word)),
-    }
-}
-
-// The number or timestamp that begins here.
-#[inline]
-fn number_token<I: Input, A: Allocator + Copy>(
-    source: &mut Source<I, A>,
-    text: &mut Buf<A>,
-    limits: Limits,
-    meter: &mut Meter<A>,
-) -> Result<Token, Fault>
-    requires can_read { CanRead limits limits.scalar source.old text.old meter.old }
-    requires there { 1 ≤ length (lent source.old) }
-    ensures gives { I.observable source.old.device → TokenGives text.new source.old.place result
-        (cursor I.Input source.new)
-        (token_of (Some limits.scalar) tokens.a_run (cursor I.Input source.old)) }
-    ensures reads { ReadsToken I.Input limits source.old source.new meter.old meter.new
-        text.old text.new result }
-    ensures goes { GrowsWithin meter.old meter.new (length text.old) (length text.new)
-        (16 * passed_over source.old source.new) }
-    ensures paid { IfOk result (λ token. length text.new + prepaid text.new token
-        ≤ length text.old + 16 * passed_over source.old source.new) }
-{
-    match next_number(source, text, limits, meter) {
-        Err(fault) => Err(fault),
-        Ok(number) => Ok(Token::Plain(number_body(number))),
-    }
-}
-
-// The symbol in quotes that begins here.
-#[inline]
-fn quoted_token<I: Input, A: Allocator + Copy>(
-    source: &mut Source<I, A>,
-    text: &mut Buf<A>,
-    limits: Limits,
-    meter: &mut Meter<A>,
-) -> Result<Token, Fault>
-    requires can_read { CanRead limits limits.scalar source.old text.old meter.old }
-    requires there { 1 ≤ length (lent source.old) }
-    ensures gives { I.observable source.old.device → TokenGives text.new source.old.place result
-        (cursor I.Input source.new)
-        (token_of (Some limits.scalar) tokens.a_quoted (cursor I.Input source.old)) }
-    ensures reads { ReadsToken I.Input limits source.old source.new meter.old meter.new
-        text.old text.new result }
-    ensures goes { GrowsWithin meter.old meter.new (length text.old) (length text.new)
-        (16 * passed_over source.old source.new) }
-    ensures paid { IfOk result (λ token. length text.new + prepaid text.new token
-        ≤ length text.old + 16 * passed_over source.old source.new) }
-{
-    match next_quoted_symbol(source, text, limits, meter) {
-        Err(fault) => Err(fault),
-        Ok(()) => Ok(Token::Symbol(Symbol::Text, true)),
-    }
-}
-
-// The string that begins here.
-#[inline]
-fn string_token<I: Input, A: Allocator + Copy>(
-    source: &mut Source<I, A>,
-    text: &mut Buf<A>,
-    limits: Limits,
-    meter: &mut Meter<A>,
-) -> Result<Token, Fault>
-    requires can_read { CanRead limits limits.scalar source.old text.old meter.old }
-    requires there { 1 ≤ length (lent source.old) }
-    ensures gives { I.observable source.old.device → TokenGives text.new source.old.place result
-        (cursor I.Input source.new)
-        (token_of (Some limits.scalar) tokens.a_short (cursor I.Input source.old)) }
-    ensures reads { ReadsToken I.Input limits source.old source.new meter.old meter.new
-        text.old text.new result }
-    ensures goes { GrowsWithin meter.old meter.new (length text.old) (length text.new)
-        (16 * passed_over source.old source.new) }
-    ensures paid { IfOk result (λ token. length text.new + prepaid text.new token
-        ≤ length text.old + 16 * passed_over source.old source.new) }
-{
-    match next_short_string(source, text, limits, meter) {
-        Err(fault) => Err(fault),
-        Ok(()) => Ok(Token::String(None)),
-    }
-}
-
-// The long string that begins here.
-#[inline]
-fn long_string_token<I: Input, A: Allocator + Copy>(
-    source: &mut Source<I, A>,
-    text: &mut Buf<A>,
-    limits: Limits,
-    meter: &mut Meter<A>,
-) -> Result<Token, Fault>
-    requires can_read { CanRead limits limits.scalar source.old text.old meter.old }
-    requires there { 3 ≤ length (lent source.old) }
-    ensures gives { I.observable source.old.device → TokenGives text.new source.old.place result
-        (cursor I.Input source.new)
-        (token_of (Some limits.scalar) tokens.a_long (cursor I.Input source.old)) }
-    ensures reads { ReadsToken I.Input limits source.old source.new meter.old meter.new
-        text.old text.new result }
-    ensures goes { GrowsWithin meter.old meter.new (length text.old) (length text.new)
-        (16 * passed_over source.old source.new) }
-    ensures paid { IfOk result (λ token. length text.new + prepaid text.new token
-        ≤ length text.old + 16 * passed_over source.old source.new) }
-{
-    match next_long_string(source, text, limits, meter) {
-        Err(fault) => Err(fault),
-        Ok(start) => Ok(Token::String(start)),
-    }
-}
-
-// The lob that begins here.
-#[inline]
-fn lob_token<I: Input, A: Allocator + Copy>(
-    source: &mut Source<I, A>,
-    text: &mut Buf<A>,
-    limits: Limits,
-    meter: &mut Meter<A>,
-) -> Result<Token, Fault>
-    requires can_read { CanRead limits limits.scalar source.old text.old meter.old }
-    requires there { 2 ≤ length (lent source.old) }
-    ensures gives { I.observable source.old.device → TokenGives text.new source.old.place result
-        (cursor I.Input source.new)
-        (token_of (Some limits.scalar) tokens.a_lob (cursor I.Input source.old)) }
-    ensures reads { ReadsToken I.Input limits source.old source.new meter.old meter.new
-        text.old text.new result }
-    ensures goes { GrowsWithin meter.old meter.new (length text.old) (length text.new)
-        (16 * passed_over source.old source.new) }
-    ensures paid { IfOk result (λ token. length text.new + prepaid text.new token
-        ≤ length text.old + 16 * passed_over source.old source.new) }
-{
-    match next_lob(source, text, limits, meter) {
-        Err(fault) => Err(fault),
-        Ok(lob) => Ok(Token::Plain(lob_body(lob))),
-    }
-}
-
-// The operator that begins here.
-#[inline]
-fn operator_token<I: Input, A: Allocator + Copy>(
-    source: &mut Source<I, A>,
-    text: &mut Buf<A>,
-    limits: Limits,
-    meter: &mut Meter<A>,
-) -> Result<Token, Fault>
-    requires can_read { CanRead limits limits.scalar source.old text.old meter.old }
-    requires there { 1 ≤ length (lent source.old) }
-    ensures gives { I.observable source.old.device → TokenGives text.new source.old.place result
-        (cursor I.Input source.new)
-        (token_of (Some limits.scalar) tokens.an_operator (cursor I.Input source.old)) }
-    ensures reads { ReadsToken I.Input limits source.old source.new meter.old meter.new
-        text.old text.new result }
-    ensures goes { GrowsWithin meter.old meter.new (length text.old) (length text.new)
-        (16 * passed_over source.old source.new) }
-    ensures paid { IfOk result (λ token. length text.new + prepaid text.new token
-        ≤ length text.old + 16 * passed_over source.old source.new) }
-{
-    match next_operator(source, text, limits, meter) {
-        Err(fault) => Err(fault),
-        Ok(()) => Ok(Token::Operator),
-    }
-}
-
-// `+inf` or `-inf`.
-#[inline]
-fn infinity_token<I: Input, A: Allocator + Copy>(
-    source: &mut Source<I, A>,
-    text: &mut Buf<A>,
-    limits: Limits,
-    meter: &mut Meter<A>,
-) -> Result<Token, Fault>
-    requires can_read { CanRead limits limits.scalar source.old text.old meter.old }
-    requires there { 4 ≤ length (lent source.old) }
-    ensures gives { I.observable source.old.device → TokenGives text.new source.old.place result
-        (cursor I.Input source.new)
-        (token_of (Some limits.scalar) tokens.an_infinity (cursor I.Input source.old)) }
-    ensures reads { ReadsToken I.Input limits source.old source.new meter.old meter.new
-        text.old text.new result }
-    ensures goes { GrowsWithin meter.old meter.new (length text.old) (length text.new)
-        (16 * passed_over source.old source.new) }
-    ensures paid { IfOk result (λ token. length text.new + prepaid text.new token
-        ≤ length text.old + 16 * passed_over source.old source.new) }
-{
-    match next_infinity(source, limits) {
-        Err(fault) => Err(fault),
-        Ok(()) => Ok(Token::NoNumber),
-    }
-}
-
-// A number or a timestamp as a scalar.
+// Passes over the bytes of punctuation, which stand in the window: it is this token.
 #[inline(always)]
-pub(crate) fn number_body(number: Number) -> Body
-    ensures is { (bytes : List ℕ) (place : ℕ) → as_scalar bytes place result ≡ as_number number }
-    ensures range { InRange (as_number number) → BodyInRange result }
+fn mark<I: Input, A: Allocator + Copy>(
+    source: &mut Source<I, A>,
+    count: usize,
+    token: Token,
+) -> Token
+    requires stands { Stands source.old }
+    requires there { count ≤ length (lent source.old) }
+    ensures same { result ≡ token }
+    ensures passed { IsPassed source.old source.new count }
 {
-    match number {
-        Number::Int(int) => Body::Int(int),
-        Number::Decimal(decimal) => Body::Decimal(decimal),
-        Number::Timestamp(timestamp) => Body::Timestamp(timestamp),
-    }
+    source.consume(count);
+    token
 }
 
 // A word as a token.
@@ -371,22 +173,21 @@ pub(crate) fn number_body(number: Number) -> Body
 fn word_of(word: Word) -> Token
     ensures is { (bytes : List ℕ) (place : ℕ)
         → token_view bytes place result ≡ word_token_of bytes word }
-    ensures range { TokenInRange result }
     ensures alone { overrun_of result ≡ None }
     ensures prepaid { (bytes : List ℕ) → prepaid bytes result ≡ prepaid_word bytes word }
 {
     match word {
-        Word::Null(ion_type) => Token::Plain(Body::Null(ion_type)),
-        Word::Bool(truth) => Token::Plain(Body::Bool(truth)),
+        Word::Null(ion_type) => Token::Null(ion_type),
+        Word::Bool(truth) => Token::Bool(truth),
         Word::NoNumber => Token::NoNumber,
         Word::Id(id) => Token::Symbol(Symbol::Id(id), false),
         Word::Name => Token::Symbol(Symbol::Text, false),
     }
 }
 
-// A lob as a scalar.
+/// A lob as a scalar.
 #[inline]
-fn lob_body(lob: Lob) -> Body
+pub(crate) fn lob_body(lob: Lob) -> Body
     ensures is { (bytes : List ℕ) (place : ℕ) → as_scalar bytes place result ≡ lob_of lob bytes }
     ensures range { BodyInRange result }
 {

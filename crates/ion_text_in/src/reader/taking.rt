@@ -7,20 +7,23 @@ ghost use Rattle.ion_value.specs.Shares.{GoesWithReading, GrowsWithin};
 ghost use Rattle.ion_text_in.specs.Symbols.{prepaid};
 ghost use Rattle.ion_text_in.specs.Blanks.{blanks};
 ghost use Rattle.ion_text_in.specs.Firsts.{first_of, width};
-ghost use Rattle.ion_text_in.specs.Tokens.{going, overrun_of, token_view, TokenInRange};
+ghost use Rattle.ion_text_in.specs.Token.{a_run};
+ghost use Rattle.ion_text_in.specs.Tokens.{going, overrun_of, token_view};
 ghost use Rattle.ion_text_in.specs.Steps.{held_by, left_to, part_by, taking, CanStep, ReadyAfter, StepGives, Stepped};
 
 use super::{StepResult, TextReader};
 use crate::expected::{Expected, behind_comma, may_come};
 use crate::first::First;
-use crate::token::{Body, Symbol, Token, next_token};
+use crate::number::{next_number, number_body};
+use crate::quick::{quick_body, scan_quick};
+use crate::token::{Body, Symbol, Token, lob_body, next_token};
 use ion_meter::device::Input;
 use ion_meter::fault::{Fault, Reason};
 use ion_meter::meter::Meter;
 use std::alloc::Allocator;
 
 impl<I: Input, A: Allocator + Copy> TextReader<I, A> {
-    // Reads the token that so begins, and takes it.
+    // Reads the token that so begins, and takes it: a number at once.
     #[inline(never)]
     pub(super) fn part(&mut self, first: First, meter: &mut Meter<A>) -> Result<StepResult, Fault>
         requires can_step { CanStep self.old meter.old }
@@ -38,9 +41,38 @@ impl<I: Input, A: Allocator + Copy> TextReader<I, A> {
         if !may_come(self.expected, first) {
             return Err(Fault::Refused(Reason::BadToken, place));
         }
+        if let First::Number = first {
+            return self.number(place, meter);
+        }
         match next_token(&mut self.source, &mut self.text, first, self.limits, meter) {
             Err(fault) => Err(fault),
             Ok(token) => self.take(token, place, meter),
+        }
+    }
+
+    // Reads the number or timestamp that begins here, and takes it: a plain one in one pass.
+    #[inline(always)]
+    fn number(&mut self, place: u64, meter: &mut Meter<A>) -> Result<StepResult, Fault>
+        requires can_step { CanStep self.old meter.old }
+        requires there { 1 ≤ length (lent self.old.source) }
+        requires value { self.old.expected ≡ Expected.Value }
+        requires here { place ≡ self.old.source.place }
+        ensures gives { I.observable self.old.source.device → StepGives I.Input
+            (part_by I.Input self.old a_run) self.new result }
+        ensures ready { ReadyAfter result self.new }
+        ensures further { OnOk result (left_to self.new < left_to self.old) }
+        ensures stepped { Stepped I.Input StepResult.Item self.old self.new
+            meter.old meter.new result }
+        ensures goes { GoesWithReading meter.old meter.new
+            (held_by self.old) (held_by self.new) (left_to self.old) (left_to self.new) }
+    {
+        if let Some(quick) = scan_quick(self.limits.scalar, self.source.buffer()) {
+            self.source.consume(quick.count);
+            return Ok(self.scalar(quick_body(quick), place, None));
+        }
+        match next_number(&mut self.source, &mut self.text, self.limits, meter) {
+            Err(fault) => Err(fault),
+            Ok(number) => Ok(self.scalar(number_body(number), place, None)),
         }
     }
 
@@ -48,7 +80,6 @@ impl<I: Input, A: Allocator + Copy> TextReader<I, A> {
     #[inline(always)]
     fn take(&mut self, token: Token, place: u64, meter: &mut Meter<A>) -> Result<StepResult, Fault>
         requires can_step { CanStep self.old meter.old }
-        requires range { TokenInRange token }
         ensures gives { I.observable self.old.source.device → (d : Cursor)
             → blanks d ≡ going (overrun_of token) (cursor I.Input self.old.source)
             → StepGives I.Input
@@ -138,7 +169,6 @@ impl<I: Input, A: Allocator + Copy> TextReader<I, A> {
     ) -> Result<StepResult, Fault>
         requires can_step { CanStep self.old meter.old }
         requires value { self.old.expected ≡ Expected.Value }
-        requires range { TokenInRange token }
         ensures gives { I.observable self.old.source.device → (d : Cursor)
             → blanks d ≡ going (overrun_of token) (cursor I.Input self.old.source)
             → StepGives I.Input
@@ -150,7 +180,9 @@ impl<I: Input, A: Allocator + Copy> TextReader<I, A> {
             (prepaid self.old.text token + 16 * passed_over self.old.source self.new.source) }
     {
         match token {
-            Token::Plain(body) => Ok(self.scalar(body, place, None)),
+            Token::Null(ion_type) => Ok(self.scalar(Body::Null(ion_type), place, None)),
+            Token::Bool(truth) => Ok(self.scalar(Body::Bool(truth), place, None)),
+            Token::Lob(lob) => Ok(self.scalar(lob_body(lob), place, None)),
             Token::String(start) => Ok(self.scalar(Body::String, place, start)),
             Token::Operator => Ok(self.scalar(Body::Symbol(Symbol::Text), place, None)),
             Token::Symbol(symbol, quoted) => self.symbol(symbol, quoted, place, meter),

@@ -10,16 +10,16 @@ returns-in-Ok-push-clause-gives g c = λ h.
     let r = c.args.self.now in
     let texts = c.keep_text.new.texts in
     let one = subst (λ (l : List ℕ). IsKept r.texts texts l c.args.symbol c.args.place c.in-Ok.annotation) c.as_slice.ensures c.in-Ok.ensures.kept in
-    gives-annotated g.I.Input r c.args.symbol c.args.place c.pass_colons.new.source texts c.push.new.self c.in-Ok.annotation _ c.requires.value c.requires.can_step.inside.kept one c.in-Ok-push.ensures.ok
-    (omega (arith, c.if-limit-cost.false, c.annotations_cost-cost.ensures)) (IsPassed-cursor g.I.Input r.source c.pass_colons.new.source 2 c.requires.colons c.pass_colons.ensures.passed)
+    gives-annotated g.I.Input r c.args.symbol c.args.place c.consume.new.self texts c.push.new.self c.in-Ok.annotation _ c.requires.value c.requires.can_step.inside.kept one c.in-Ok-push.ensures.ok
+    (omega (arith, c.if-limit-cost.false, c.annotations_cost-cost.ensures)) (IsPassed-cursor g.I.Input r.source c.consume.new.self 2 c.requires.colons c.consume.ensures)
 
 pub returns-in-Ok-push-clause-ready : goal.returns-in-Ok-push-clause-ready
 returns-in-Ok-push-clause-ready g c =
     let r = c.args.self.now in
     let texts = c.keep_text.new.texts in
     let one = subst (λ (l : List ℕ). IsKept r.texts texts l c.args.symbol c.args.place c.in-Ok.annotation) c.as_slice.ensures c.in-Ok.ensures.kept in
-    ready-annotated g.I.Input r c.args.symbol c.args.place c.pass_colons.new.source texts c.push.new.self c.in-Ok.annotation c.requires.value c.requires.can_step.inside one c.in-Ok-push.ensures.ok
-    c.requires.colons c.pass_colons.ensures.passed
+    ready-annotated g.I.Input r c.args.symbol c.args.place c.consume.new.self texts c.push.new.self c.in-Ok.annotation c.requires.value c.requires.can_step.inside one c.in-Ok-push.ensures.ok
+    c.requires.colons c.consume.ensures
 
 pub returns-in-Ok-push-clause-stepped : goal.returns-in-Ok-push-clause-stepped
 returns-in-Ok-push-clause-stepped g c =
@@ -27,8 +27,8 @@ returns-in-Ok-push-clause-stepped g c =
     let texts = c.keep_text.new.texts in
     let one = subst (λ (l : List ℕ). IsKept r.texts texts l c.args.symbol c.args.place c.in-Ok.annotation) c.as_slice.ensures c.in-Ok.ensures.kept in
     let text = subst (λ (l : List ℕ). GrowsBy c.args.meter.now c.keep_text.new.meter l c.args.symbol) c.as_slice.ensures c.in-Ok.ensures.cost in
-    stepped-annotated g.I.Input r c.args.symbol c.args.place c.pass_colons.new.source texts c.push.new.self c.in-Ok.annotation c.args.meter.now c.keep_text.new.meter c.push.new.meter
-    c.requires.can_step one c.in-Ok-push.ensures.ok (omega (arith, c.if-limit-cost.false, c.annotations_cost-cost.ensures)) c.requires.colons c.pass_colons.ensures.passed text c.in-Ok-push.ensures.cost
+    stepped-annotated g.I.Input r c.args.symbol c.args.place c.consume.new.self texts c.push.new.self c.in-Ok.annotation c.args.meter.now c.keep_text.new.meter c.push.new.meter
+    c.requires.can_step one c.in-Ok-push.ensures.ok (omega (arith, c.if-limit-cost.false, c.annotations_cost-cost.ensures)) c.requires.colons c.consume.ensures text c.in-Ok-push.ensures.cost
 
 pub returns-then-limit-cost-clause-gives : goal.returns-then-limit-cost-clause-gives
 returns-then-limit-cost-clause-gives g c = grind (arith, common_steps) steps 400000

@@ -42,10 +42,42 @@ impl Shape {
     pub(crate) fn of(octet: u8) -> Shape
         ensures { as_shape result ≡ shape_of octet }
     {
-        let type_code = octet / 16;
-        match octet % 16 {
-            15 => Shape::null(type_code),
-            length_code => Shape::sized(type_code, length_code),
+        let length_code = octet % 16;
+        match octet {
+            0x00..=0x0e => Shape::NopPad(length_code),
+            0x0f => Shape::Null(IonType::Null),
+            0x10 => Shape::Bool(false),
+            0x11 => Shape::Bool(true),
+            0x12..=0x1e => Shape::Illegal,
+            0x1f => Shape::Null(IonType::Bool),
+            0x20..=0x2e => Shape::body(2, length_code),
+            0x2f => Shape::Null(IonType::Int),
+            0x30..=0x3e => Shape::body(3, length_code),
+            0x3f => Shape::Null(IonType::Int),
+            0x40..=0x4e => Shape::Float,
+            0x4f => Shape::Null(IonType::Float),
+            0x50..=0x5e => Shape::body(5, length_code),
+            0x5f => Shape::Null(IonType::Decimal),
+            0x60..=0x6e => Shape::body(6, length_code),
+            0x6f => Shape::Null(IonType::Timestamp),
+            0x70..=0x7e => Shape::body(7, length_code),
+            0x7f => Shape::Null(IonType::Symbol),
+            0x80..=0x8e => Shape::body(8, length_code),
+            0x8f => Shape::Null(IonType::String),
+            0x90..=0x9e => Shape::body(9, length_code),
+            0x9f => Shape::Null(IonType::Clob),
+            0xa0..=0xae => Shape::body(10, length_code),
+            0xaf => Shape::Null(IonType::Blob),
+            0xb0..=0xbe => Shape::Container(Kind::List, length_code),
+            0xbf => Shape::Null(IonType::List),
+            0xc0..=0xce => Shape::Container(Kind::Sexp, length_code),
+            0xcf => Shape::Null(IonType::Sexp),
+            0xd1 => Shape::Sorted,
+            0xd0 | 0xd2..=0xde => Shape::Container(Kind::Struct, length_code),
+            0xdf => Shape::Null(IonType::Struct),
+            0xe0 => Shape::Marker,
+            0xe3..=0xee => Shape::Wrapper(length_code),
+            _ => Shape::Illegal,
         }
     }
 

@@ -21,6 +21,7 @@ use ion_value::decimal::{Decimal, decimal_from_bytes};
 use ion_value::int::Int;
 use ion_value::ion_type::{IonType, Kind};
 use ion_value::timestamp::{Timestamp, timestamp_from_bytes};
+use std::simd::prelude::*;
 
 /// A scalar that is shown.
 #[derive(Clone, Copy)]
@@ -198,6 +199,18 @@ pub(crate) fn shown_value<'a>(
     }
 }
 
+// Whether so many octets from a place on are ASCII.
+#[inline(always)]
+fn is_ascii(octets: &[u8], from: usize, count: usize) -> bool
+    requires { from ≤ length octets.now }
+{
+    if count > 32 || octets.len() - from < 32 {
+        return false;
+    }
+    let high = u8x32::from_slice(&octets[from..]).simd_ge(u8x32::splat(128)).to_bitmask();
+    high.trailing_zeros() as usize >= count
+}
+
 // A scalar that is whole in its descriptor, which stands at a place.
 #[inline(always)]
 fn shown_bare<'a>(
@@ -244,6 +257,9 @@ fn shown_with_body<'a>(
     let to = from + count;
     if most < here + to as u64 {
         return None;
+    }
+    if type_code == 8 && is_ascii(octets, from, count) {
+        return Some((Shown::Scalar(ShownScalar::String(&octets[from..to])), to));
     }
     match shown_body(type_code, &octets[from..to]) {
         Some(scalar) => Some((Shown::Scalar(scalar), to)),

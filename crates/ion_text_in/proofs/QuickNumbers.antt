@@ -1,5 +1,5 @@
 -- Ints and decimals that are read in one pass.
-use Rattle.std.proofs.Common.{◌≡◌, IsTrue, ℕ, zero, suc, ◌+◌, ◌*◌, ◌-◌, ◌^◌, ◌<◌, ◌≤◌, pos, ◌-ℤ◌, inl, inr, Bool, true, false, not, ◌&&◌, ◌||◌, ◌==◌, nat_lt, Some, Ok, List, [], ◌∷◌, ◌++◌, length, take, drop, get_or, codes, refl, sym, ap, subst, ◌∙◌, arith, None, if◌then◌else◌, ℤ}
+use Rattle.std.proofs.Common.{◌≡◌, IsTrue, ℕ, zero, suc, ◌+◌, ◌*◌, ◌-◌, ◌^◌, ◌<◌, ◌≤◌, pos, ◌-ℤ◌, inl, inr, Bool, true, false, not, ◌&&◌, ◌||◌, ◌==◌, nat_lt, Some, Ok, List, [], ◌∷◌, ◌++◌, length, take, drop, get_or, refl, sym, ap, subst, ◌∙◌, arith, None, if◌then◌else◌, ℤ}
 use Rattle.std.proofs.lemmas.Bool.{and_parts, and_right, lt-ltb}
 use Rattle.std.proofs.lemmas.Bool.Decides.{nat_tests}
 use Rattle.std.proofs.lemmas.Int.{ints}
@@ -10,14 +10,13 @@ use Rattle.ion_value.specs.Int.{IsInt, int_of_text}
 use Rattle.ion_value.specs.Decimal.{IsDecimal, decimal_in_range, decimal_of_parts, decimal_of_text, parts_of}
 use Rattle.ion_value.specs.Digits.{is_digit, digit_value, all_are, first_is, has_minus}
 use Rattle.ion_value.specs.DigitReading.{Read, decimal_behind, read_digits, read_whole, read_int, read_fraction}
-use Rattle.ion_value.specs.Name.{is_one_of}
 use Rattle.ion_value.specs.Number.{signed}
 use Rattle.ion_value.proofs.LeadingDigits.{all_are-append}
 use Rattle.ion_value.proofs.TextDigits.{ten, zero_first, int-text, int-whole}
 use Rattle.ion_value.proofs.TextDecimals.{sign-read, decimal-text, exponent_digits, exponent-read, mantissa-plain, mantissa-pointed, behind-nothing, decimal-in_range, one-shape}
 use Rattle.ion_text_in.specs.declared.number.Number.TheVariants as numbers
 use Rattle.ion_text_in.specs.declared.run.Run.TheVariants as run
-use Rattle.ion_text_in.specs.Blanks.{is_white, begins_comment}
+use Rattle.ion_text_in.specs.Blanks.{begins_comment}
 use Rattle.ion_text_in.specs.Quick.{number_after, scaled, signed_int, signed_text, stops, AreSpelled, AreWhole, IsMantissa, IsQuick}
 use Rattle.ion_text_in.specs.Runs.{EndBehind, stays}
 use Rattle.ion_text_in.specs.Token.{bytes_of, in_run, run_token}

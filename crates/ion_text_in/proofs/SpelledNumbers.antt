@@ -1,21 +1,20 @@
 -- Numbers of which the bytes that were read are the canonical text.
-use Rattle.std.proofs.Common.{◌≡◌, ◌⊎◌, inl, inr, ℕ, zero, suc, ◌+◌, ◌*◌, ◌-◌, ◌^◌, ◌<◌, ◌≤◌, ℤ, Bool, true, false, ◌&&◌, ◌||◌, ◌==◌, nat_lt, Option, Some, None, List, [], ◌∷◌, ◌++◌, length, take, drop, get_or, map, refl, sym, ap, subst, ◌∙◌, arith}
-use Rattle.std.proofs.lemmas.Bool.{cases_Bool, and_parts, eqb-true, lt-ltb, or_parts}
+use Rattle.std.proofs.Common.{◌≡◌, inl, inr, ℕ, zero, suc, ◌+◌, ◌*◌, ◌-◌, ◌^◌, ◌<◌, ◌≤◌, Bool, true, false, ◌&&◌, ◌||◌, ◌==◌, nat_lt, Some, None, List, [], ◌∷◌, ◌++◌, length, take, drop, get_or, map, refl, sym, ap, subst, ◌∙◌, arith}
+use Rattle.std.proofs.lemmas.Bool.{cases_Bool, and_parts, lt-ltb, or_parts}
 use Rattle.std.proofs.lemmas.Bool.Decides.{nat_tests}
 use Rattle.std.proofs.lemmas.List.{length-map, length-take-le}
 use Rattle.std.proofs.Math.Nat.{pow-zero, pow-suc}
 use Rattle.std.specs.Fmt.{decimal}
 use Rattle.ion_value.specs.Decimal.{decimal_text, magnitude_text, pointed_text}
 use Rattle.ion_value.specs.Digits.{all_are, digit_value, first_is, is_digit}
-use Rattle.ion_value.specs.Int.{int_text}
-use Rattle.ion_value.specs.Number.{number, signed}
+use Rattle.ion_value.specs.Number.{signed}
 use Rattle.ion_value.specs.PlainItems.{IsTextOf}
 use Rattle.ion_value.specs.Value.{whole}
 use Rattle.ion_value.proofs.SpelledDigits.{decimal-spelled, pointed-spelled, spelled_by, NoZeros}
 use Rattle.ion_text_in.specs.declared.quick.Quick.{Quick}
-use Rattle.ion_text_in.specs.Quick.{number_after, number_by, scaled, signed_int, signed_text, stops, AreSpelled, AreWhole}
+use Rattle.ion_text_in.specs.Quick.{number_after, number_by, scaled, signed_text, stops, AreSpelled, AreWhole}
 use Rattle.ion_text_in.specs.Views.{as_number}
-use Rattle.ion_text_in.proofs.DigitNumbers.{after-joined, cut-digits}
+use Rattle.ion_text_in.proofs.DigitNumbers.{after-joined}
 
 -- ---- the number that digits spell
 

@@ -1,5 +1,5 @@
 -- An item that a window shows whole is the next one of the reading.
-use Rattle.std.proofs.Common.{◌≡◌, ℕ, ◌+◌, ◌-◌, ◌*◌, ◌<◌, ◌≤◌, true, false, List, [], ◌∷◌, ◌++◌, length, take, drop, map, Option, Some, None, Ok, refl, ap, sym, subst, ◌∙◌, arith}
+use Rattle.std.proofs.Common.{◌≡◌, ℕ, ◌+◌, ◌-◌, ◌*◌, ◌<◌, ◌≤◌, true, false, List, [], ◌∷◌, ◌++◌, length, take, drop, map, Option, Some, None, Ok, refl, ap, ap₂, sym, subst, ◌∙◌, arith}
 use Rattle.std.specs.Prelude.{option_map, is_some, slice_get}
 use Rattle.std.proofs.lemmas.Option.{slice_get-get_or}
 use Rattle.std.proofs.lemmas.Grind.{common_steps}
@@ -23,7 +23,7 @@ use Rattle.ion_binary.specs.Positions.{Frame, placed_scalar, symbol_id}
 use Rattle.ion_binary.specs.Descriptor.{var_uint_at}
 use Rattle.ion_binary.specs.Reading.{field_at, member_at, placed_item, region_of, step, step_for, step_of, top_of}
 use Rattle.ion_binary.specs.Reader.{IsInnermost, at_top, inside}
-use Rattle.ion_binary.specs.Shown.{Reaches, ShowsItem, ShowsNote, ShowsVar, shown_value, window}
+use Rattle.ion_binary.specs.Shown.{Bounds, Reaches, ShowsItem, ShowsNote, ShowsVar, shown_value, window}
 use Rattle.ion_binary.proofs.ShownParts.{reaches-less, shows_noted, shows_plain}
 use Rattle.ion_value.specs.declared.plain_item.TextAt.{TextAt}
 use Rattle.ion_meter.specs.Windows.{IsPassed}
@@ -43,7 +43,8 @@ use Rattle.ion_binary.specs.Reading.{size}
 use Rattle.ion_binary.proofs.ReaderParts.{as_frames-length, innermost-struct, last-innermost, kinds-frames, kinds_of-length}
 use Rattle.ion_binary.proofs.Termination.{step-shrinks}
 use Rattle.std.specs.Prelude.{reverse}
-use Rattle.ion_binary.specs.Lane.{EndsHere, GoesOn, ShowsField, ShowsFront}
+use Rattle.ion_binary.specs.Lane.{EndsHere, GoesOn, IsAround, ShowsField, ShowsFront, frame_in}
+use Rattle.ion_binary.specs.declared.reader.lane.Around.{Around}
 use Rattle.ion_binary.specs.Wrappers.{as_frame, as_frames, innermost}
 use Rattle.ion_binary.proofs.ReaderParts.{innermost-field, innermost-region, inside-member, member_at-field, top-member}
 
@@ -290,6 +291,36 @@ no_last (x ∷ xs) e = absurd (some_is (sym (slice_get-get_or (x ∷ xs) (length
 pub innermost-of : (frames : List frame.Frame) (o : Option frame.Frame) → slice_get frames (length frames - 1) ≡ o → IsInnermost (as_frames frames) o
 innermost-of frames None e = subst (λ (l : List frame.Frame). IsInnermost (as_frames l) None) (sym (no_last frames e)) at_top
 innermost-of frames (Some f) e = last-innermost frames f e
+
+frame_there : (a : Around) (f : frame.Frame) → a.kind ≡ Some f.kind → a.end ≡ f.end → frame_in a ≡ Some f
+frame_there a f k e = ap₂ (λ (o : Option Kind) (n : ℕ). frame_in (record { kind = o; end = n })) k e
+
+-- where the members of the last of these containers stand
+pub around_last : (frames : List frame.Frame) (f : frame.Frame) (a : Around) → slice_get frames (length frames - 1) ≡ Some f → a.kind ≡ Some f.kind → a.end ≡ f.end → IsAround (as_frames frames) a
+around_last frames f a e k end = record {
+  innermost = subst (λ (o : Option frame.Frame). IsInnermost (as_frames frames) o) (sym (frame_there a f k end)) (innermost-of frames (Some f) e);
+  top = λ none. absurd (some_is (sym k ∙ none));
+}
+
+-- and where values at top level do
+pub around_top : (frames : List frame.Frame) → slice_get frames (length frames - 1) ≡ None → IsAround (as_frames frames) (record { kind = None; end = 18446744073709551615 })
+around_top frames e = record { innermost = innermost-of frames None e; top = λ _. refl }
+
+-- and those of one more
+pub around_pushed : (frames : List frame.Frame) (f : frame.Frame) (a : Around) → a.kind ≡ Some f.kind → a.end ≡ f.end → IsAround (as_frames (frames ++ f ∷ [])) a
+around_pushed frames f a k end = record {
+  innermost = subst (λ (l : List Frame). IsInnermost l (frame_in a)) (sym (as_frames-push frames f))
+      (subst (λ (o : Option frame.Frame). IsInnermost (as_frame f ∷ as_frames frames) o) (sym (frame_there a f k end)) (inside f (as_frames frames)));
+  top = λ none. absurd (some_is (sym k ∙ none));
+}
+
+bounds_in : (k : Option Kind) (end : ℕ) → Bounds (region_of (innermost (frame_in (record { kind = k; end = end })))) end
+bounds_in None end = tt
+bounds_in (Some k) end = omega arith
+
+-- the end of where a member stands bounds its region
+pub bounds_around : (a : Around) → Bounds (region_of (innermost (frame_in a))) a.end
+bounds_around a = bounds_in a.kind a.end
 
 -- one that ends here is open
 pub ends-some : (o : Option frame.Frame) (place : ℕ) → EndsHere o place → (f : frame.Frame) × (o ≡ Some f) × (f.end ≤ place)

@@ -59,6 +59,9 @@ mod ShortNumbers
 mod ShownParts
 mod Handing
 mod Feeding
+mod FewOctets
+mod PutInRoom
+mod ShortDecimals
 mod NotedOctets
 mod PlainAdded
 mod EndsLater

@@ -3,7 +3,7 @@ use Rattle.std.proofs.Common.{◌≡◌, ℕ, ◌+◌, ◌<◌, Bool, if◌then�
 use Rattle.ion_value.specs.Number.{var_uint_octets}
 use Rattle.ion_binary.specs.Canonical.{wrapped}
 use Rattle.ion_binary.specs.Held.{counted_ids}
-use Rattle.ion_binary.specs.Opening.{name_octets, noted, wrapper_octets}
+use Rattle.ion_binary.specs.Opening.{name_octets, wrapper_octets}
 use Rattle.ion_binary.proofs.OpenSteps.{wrapper-around}
 use Rattle.ion_binary.proofs.ShortestHeaders.{var-one}
 
@@ -12,10 +12,6 @@ named-octets id some = ap (λ (b : Bool). if b then [] else var_uint_octets id) 
 
 pub named-short : (id : ℕ) → 0 < id → id < 128 → (128 + id) ∷ [] ≡ name_octets id
 named-short id some few = sym (named-octets id some ∙ var-one id few)
-
--- a value behind a field of an id of one octet, without an annotation
-pub noted-short : (name note : ℕ) (x : List ℕ) → 0 < name → name < 128 → note ≡ 0 → (128 + name) ∷ x ≡ noted name note x
-noted-short name note x some few none = ap (λ (y : List ℕ). y ++ x) (named-short name some few) ∙ ap (λ n. noted name n x) (sym none)
 
 -- what stands before a value in its wrapper, behind its field
 pub note-front : (front d before x : List ℕ) (n note : ℕ) → d ≡ name_octets note → before ≡ wrapper_octets (length d) n → length x ≡ n

@@ -1,5 +1,5 @@
 -- A plain item that is added to an open value is that of the streaming definition.
-use Rattle.std.proofs.Common.{◌≡◌, ℕ, ◌+◌, ◌-◌, ◌*◌, ◌/◌, ◌<◌, ◌≤◌, ◌⊎◌, inl, subst, min, nat_lt, Bool, true, false, if◌then◌else◌, List, [], ◌∷◌, ◌++◌, length, map, take, drop, Option, Some, None, unwrap_or, option_map, Ok, refl, ap, sym, ◌∙◌, arith, append-nil, append_assoc, le-ltb, lt-ltb, ne_eqb}
+use Rattle.std.proofs.Common.{◌≡◌, ℕ, ◌+◌, ◌-◌, ◌*◌, ◌/◌, ◌<◌, ◌≤◌, ◌⊎◌, inl, subst, min, nat_lt, Bool, true, false, if◌then◌else◌, List, [], ◌∷◌, ◌++◌, length, map, take, drop, Option, Some, None, unwrap_or, option_map, Ok, refl, ap, sym, ◌∙◌, arith, append-nil, append_assoc, le-ltb, lt-ltb}
 use Rattle.std.specs.Prelude.{IfSome}
 use Rattle.std.proofs.lemmas.List.{length-take}
 use Rattle.ion_meter.specs.Counts.{Counts}
@@ -12,10 +12,10 @@ use Rattle.ion_binary.specs.declared.headers.HeaderPlace.{HeaderPlace}
 use Rattle.ion_binary.specs.declared.open_value.OpenValue.{OpenValue}
 use Rattle.ion_binary.specs.declared.writer.BinWriter.{BinWriter}
 use Rattle.ion_value.specs.Number.{var_uint_octets}
-use Rattle.ion_binary.specs.Canonical.{annotation_octets, declaration, header, marker_if, field_octets, headed, id_in, id_octets, member_octets, wrapped, with_symbol, with_symbols, with_text}
+use Rattle.ion_binary.specs.Canonical.{annotation_octets, declaration, header, marker_if, field_octets, headed, id_in, member_octets, wrapped, with_symbol, with_symbols, with_text}
 use Rattle.ion_binary.specs.Held.{Held, closed_in, counted_ids, headed_at, headers_around, headers_with, held_forgotten, held_of, ids_place, moved_headers, moved_octets, octets_with, size_of, value_held, value_put, whole_at, with_front, with_names}
 use Rattle.ion_binary.specs.ItemOctets.{head_octets}
-use Rattle.ion_binary.specs.Opening.{IsOpen, MayAdd, MayCome, Stepped, name_octets, noted, wrapper_octets}
+use Rattle.ion_binary.specs.Opening.{IsOpen, MayAdd, MayCome, Stepped, name_octets, noted}
 use Rattle.ion_binary.specs.Plain.{AddsPlain, EndsPlain, HaveIds, IsWhole}
 use Rattle.ion_binary.specs.Writer.{CanTake, ComesAt, Follows, Taken, added, adds_at, held_in, item_refusal}
 use Rattle.ion_value.specs.Writable.{field_symbols}
@@ -25,7 +25,7 @@ use Rattle.ion_binary.proofs.NotedOctets.{named-octets}
 use Rattle.ion_binary.proofs.Numbered.{users-item}
 use Rattle.ion_binary.specs.Counting.{ArePlaced}
 use Rattle.ion_binary.proofs.DeclarationOctets.{declaration-none}
-use Rattle.ion_binary.proofs.OpenSteps.{closed-put, put-length, wrapper-around}
+use Rattle.ion_binary.proofs.OpenSteps.{closed-put, put-length}
 use Rattle.ion_binary.proofs.WriterFollows.{adds-are, codes-after, follows-out, forgotten-is, held-behind, held-now, may-add, put-behind, refusal-is}
 use Rattle.ion_binary.proofs.WriterSteps.{kept, not-refused, same-held}
 

@@ -19,7 +19,7 @@ use Rattle.ion_binary.specs.Descriptor.{Region, Shape, null, bool, nop_pad, wrap
 use Rattle.ion_binary.specs.Finds.{end_by, IsOfDescriptor}
 use Rattle.ion_binary.specs.Parts.{body_here}
 use Rattle.ion_binary.specs.Reading.{TypedValue, a_scalar, bare_at, fits, ids_at, inner_at, read_by_descriptor, typed_value_at, wrapper_length}
-use Rattle.ion_binary.specs.Shown.{Fills, IsShown, Reaches, ShowsBegin, ShowsBody, ShowsItem, ShowsLength, ShowsNote, ShowsValue, ShowsVar, far_end, shown_scalar, shown_value, window}
+use Rattle.ion_binary.specs.Shown.{Bounds, Fills, IsShown, Reaches, ShowsBegin, ShowsBody, ShowsItem, ShowsLength, ShowsNote, ShowsValue, ShowsVar, far_end, shown_scalar, shown_value, window}
 use Rattle.ion_binary.specs.declared.shown.Shown.{Shown}
 use Rattle.ion_binary.specs.declared.shown.Shown.TheVariants as shown
 use Rattle.ion_binary.specs.declared.shown.ShownScalar.TheVariants as scalars
@@ -39,6 +39,38 @@ open_before (Some end) place behind h reaches = lt-leb end place (omega arith)
 pub reaches-less : (r : Region) (near far : ℕ) → near ≤ far → Reaches r far → Reaches r near
 reaches-less None near far h reaches = tt
 reaches-less (Some end) near far h reaches = omega arith
+
+-- a place up to the bound of a region is in it
+pub bounds-reaches : (region : Region) (most place : ℕ) → Bounds region most → place ≤ most → Reaches region place
+bounds-reaches None most place bounds h = tt
+bounds-reaches (Some end) most place bounds h = omega (arith, bounds, h)
+
+-- what is within the bound of a region is within the region
+pub body_within : {limits : Limits} {octets : List ℕ} {here type_code length_code at behind : ℕ} {found : Shown} (region : Region) (most : ℕ) → Bounds region most
+    → ShowsBody limits octets here (Some most) type_code length_code at behind found → ShowsBody limits octets here region type_code length_code at behind found
+body_within {here = here} {behind = behind} region most bounds s = record {
+  scalar = s.scalar;
+  is = s.is;
+  range = s.range;
+  from = s.from;
+  number = s.number;
+  length_is = s.length_is;
+  ends = s.ends;
+  within = s.within;
+  few = s.few;
+  reaches = bounds-reaches region most (here + behind) bounds s.reaches;
+  meaning = s.meaning;
+}
+
+pub begin_within : {limits : Limits} {octets : List ℕ} {here depth length_code at behind : ℕ} {kind : Kind} {found : Shown} (region : Region) (most : ℕ) → Bounds region most
+    → ShowsBegin limits octets here (Some most) depth kind length_code at behind found → ShowsBegin limits octets here region depth kind length_code at behind found
+begin_within {here = here} {behind = behind} region most bounds s = record {
+  number = s.number;
+  is = s.is;
+  length_is = s.length_is;
+  deep = s.deep;
+  reaches = bounds-reaches region most (here + behind + s.number) bounds s.reaches;
+}
 
 -- the first of the octets from a place on
 drop-first : (octets more : List ℕ) (at : ℕ) → at < length octets → drop at (octets ++ more) ≡ get_or octets at 0 ∷ drop (at + 1) (octets ++ more)

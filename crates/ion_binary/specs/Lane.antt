@@ -21,6 +21,8 @@ use Rattle.ion_binary.specs.declared.shown.Shown.{Shown}
 use Rattle.ion_binary.specs.Descriptor.{Region}
 use Rattle.ion_meter.specs.declared.limits.Limits.{Limits}
 use Rattle.ion_binary.specs.declared.reader.BinReader.{BinReader}
+use Rattle.ion_binary.specs.declared.reader.lane.Around.{Around}
+use Rattle.ion_binary.specs.Reader.{IsInnermost}
 use Rattle.ion_binary.specs.Steps.{IsSized, held_by, left_to, opened_in, share_of, to_come_by}
 
 -- a reader and a writer may hand an item on
@@ -110,6 +112,15 @@ pub record ShowsFront (texts : ℕ → Option (List ℕ)) (limits : Limits) (oct
   pub within : head ≤ length octets
   pub gives : (depth behind : ℕ) (found : Shown) → ShowsValue limits octets here (inner_region wrapper (region_of frames)) depth head behind found
       → FillsTo wrapper (far_end here behind found) → ShowsItem limits octets here (region_of frames) depth at head behind raws found
+
+-- the container around a member, by where the member stands
+abbrev pub frame_in : Around → Option frame.Frame
+frame_in a = option_map (λ kind. record { kind = kind; end = a.end }) a.kind
+
+-- the members of the innermost container stand so; at top level the end is behind all places
+pub record IsAround (frames : List Frame) (a : Around) : Type 0 where
+  pub innermost : IsInnermost frames (frame_in a)
+  pub top : a.kind ≡ None → a.end ≡ 2 ^ 64 - 1
 
 -- the innermost container does not end here
 abbrev pub GoesOn : Option frame.Frame → ℕ → Type 0

@@ -24,6 +24,11 @@ abbrev pub Reaches : Region → ℕ → Type 0
 Reaches None place = ⊤
 Reaches (Some end) place = place ≤ end
 
+-- all places up to one are in a region
+abbrev pub Bounds : Region → ℕ → Type 0
+Bounds None most = ⊤
+Bounds (Some end) most = most ≤ end
+
 -- a scalar that is shown
 abbrev pub shown_scalar : ShownScalar → Scalar Symbol
 shown_scalar (scalars.Null type) = value.null type

@@ -60,9 +60,33 @@ pub(crate) fn id_of(n: u64) -> u32
     n.min(1 << 31) as u32
 }
 
+/// The number that these octets spell, which are so few that 64 bits hold it.
+#[inline(always)]
+pub(crate) fn few_value(octets: &[u8]) -> u64
+    requires { length octets.now ≤ 8 }
+    ensures { result ≡ uint octets.now }
+{
+    let mut value: u64 = 0;
+    for octet in octets {
+        value = value * 256 + *octet as u64;
+    }
+    value
+}
+
 /// The id that a UInt spells.
-#[inline]
+#[inline(always)]
 pub(crate) fn uint_id(octets: &[u8]) -> u32
+    ensures { result ≡ raw_id (uint octets.now) }
+{
+    if octets.len() <= 8 {
+        return id_of(few_value(octets));
+    }
+    long_id(octets)
+}
+
+// The same of octets of any number.
+#[inline(never)]
+fn long_id(octets: &[u8]) -> u32
     ensures { result ≡ raw_id (uint octets.now) }
 {
     match int_from_bytes(false, octets) {

@@ -8,6 +8,7 @@
 mod body;
 mod declaration;
 mod descriptor;
+mod few;
 mod front;
 mod header;
 mod headers;

@@ -1,6 +1,6 @@
 //! The value at top level that is being written.
 ghost use Rattle.std.specs.Prelude.{◌≡◌, ◌+◌, ◌-◌, ◌*◌, ◌^◌, ◌<◌, ◌≤◌, ℕ, List, true, false, [], ◌∷◌, ◌++◌, if◌then◌else◌, length, drop, take, Ok, OnOk, OnErr, IfErr, None};
-ghost use Rattle.ion_meter.specs.Counts.{IsRefused, Shrinks};
+ghost use Rattle.ion_meter.specs.Counts.{Grows, IsRefused, Shrinks};
 ghost use Rattle.ion_meter.specs.declared.limits.Limits.{Limits};
 ghost use Rattle.ion_value.specs.Items.{raw_head};
 ghost use Rattle.ion_value.specs.Shares.{fault_of};
@@ -8,7 +8,7 @@ ghost use Rattle.ion_value.specs.Value.{UserSymbol};
 ghost use Rattle.ion_binary.specs.Counting.{IsCounted, IsCountedTo, AreReached, content_around, counted_length, cut, sizes_from};
 ghost use Rattle.ion_value.specs.Int.{IsInt};
 ghost use Rattle.ion_value.specs.Number.{uint_octets};
-ghost use Rattle.ion_binary.specs.Canonical.{headed, wrapped};
+ghost use Rattle.ion_binary.specs.Canonical.{headed, header, wrapped};
 ghost use Rattle.ion_binary.specs.Grammar.{type_code};
 ghost use Rattle.ion_binary.specs.Held.{begun_at, begun_headers, closed_in, counted_ids, headers_around, innermost_in, moved_headers, moved_octets, size_of, whole_at, wrapper_headers, header_at};
 ghost use Rattle.ion_binary.specs.ItemOctets.{head_name, user_head};
@@ -16,6 +16,7 @@ ghost use Rattle.ion_meter.specs.Limits.{AreChecked};
 ghost use Rattle.ion_binary.specs.Opening.{CanStep, IsOpen, IsOpenTo, IsWithin, MayFollow, PutsScalar, Raises, Stepped, both_octets, name_octets, noted, open_cost, spelled_octets, wrapper_octets};
 
 mod ended;
+mod plain;
 
 use crate::front::Front;
 use crate::header::header;
@@ -387,47 +388,6 @@ impl<A: Allocator + Copy> OpenValue<A> {
         self.extend_if_room(meter, *limits, &octets)
     }
 
-    /// The same of a scalar whose header is one octet.
-    #[inline(never)]
-    pub fn put_short(
-        &mut self,
-        meter: &mut Meter<A>,
-        limits: &Limits,
-        name: u32,
-        note: u32,
-        header: u8,
-        body: &[u8],
-    ) -> bool
-        requires can_step { CanStep limits.now self.old meter.old }
-        requires open { IsOpen limits.now self.old }
-        ensures octets { result ≡ true → self.new.octets
-            ≡ self.old.octets ++ noted name note (header ∷ body.now) }
-        ensures headers { self.new.headers ≡ self.old.headers }
-        ensures open { result ≡ true → IsOpen limits.now self.new }
-        ensures declines { result ≡ false → (self.new ≡ self.old) × (meter.new ≡ meter.old) }
-        ensures stepped { Stepped limits.now self.old self.new meter.old meter.new None }
-    {
-        if note > 0 || name >= 128 {
-            let scalar = Octets {
-                front: &[header],
-                rest: body,
-            };
-            return self.put_octets(meter, limits, name, note, &scalar);
-        }
-        if name == 0 {
-            let octets = Octets {
-                front: &[header],
-                rest: body,
-            };
-            return self.extend_if_room(meter, *limits, &octets);
-        }
-        let octets = Octets {
-            front: &[128 + name as u8, header],
-            rest: body,
-        };
-        self.extend_if_room(meter, *limits, &octets)
-    }
-
     /// Begins a container behind the id of its field, if any, as `begin_if_room` does.
     #[inline(never)]
     pub fn begin_member(
@@ -513,8 +473,7 @@ impl<A: Allocator + Copy> OpenValue<A> {
         if around.code == WRAPPER || inside >= LONG {
             return false;
         }
-        let octets = header(innermost.code, inside as u64);
-        if !self.octets.insert_if_room(meter, place, octets.as_slice()) {
+        if !insert_header(&mut self.octets, meter, innermost.code, place, inside) {
             return false;
         }
         let _innermost = self.headers.pop(meter);
@@ -711,6 +670,58 @@ fn put_note(front: &mut ArrayVec<u8, FRONT>, note: u32, size: u64)
     let before = wrapper(ids.len() as u64, size);
     front.try_extend_from_slice(before.as_slice()).unwrap();
     front.try_extend_from_slice(ids.as_slice()).unwrap();
+}
+
+// Puts the header of a body of so many octets in at a place, where there is room for it. Else it
+// answers false, and nothing is changed.
+#[inline(always)]
+fn insert_header<A: Allocator + Copy>(
+    octets: &mut Buf<A>,
+    meter: &mut Meter<A>,
+    code: u8,
+    place: usize,
+    inside: usize,
+) -> bool
+    requires code { code < 16 }
+    requires within { place ≤ length octets.old }
+    requires short { inside < 2 ^ 63 }
+    requires room { meter.old.held + 10 < 2 ^ 63 }
+    ensures octets { result ≡ true → octets.new
+        ≡ take place octets.old ++ (header code inside ++ drop place octets.old) }
+    ensures cost { result ≡ true → Grows meter.old meter.new (length (header code inside)) }
+    ensures declines { result ≡ false → (octets.new ≡ octets.old) × (meter.new ≡ meter.old) }
+{
+    if inside < 14 {
+        let one = [16 * code + inside as u8];
+        return octets.insert_if_room(meter, place, &one);
+    }
+    if inside < 128 {
+        let two = [16 * code + 14, 128 + inside as u8];
+        return octets.insert_if_room(meter, place, &two);
+    }
+    insert_long_header(octets, meter, code, place, inside)
+}
+
+// The same of any header.
+#[inline(never)]
+fn insert_long_header<A: Allocator + Copy>(
+    octets: &mut Buf<A>,
+    meter: &mut Meter<A>,
+    code: u8,
+    place: usize,
+    inside: usize,
+) -> bool
+    requires code { code < 16 }
+    requires within { place ≤ length octets.old }
+    requires short { inside < 2 ^ 63 }
+    requires room { meter.old.held + 10 < 2 ^ 63 }
+    ensures octets { result ≡ true → octets.new
+        ≡ take place octets.old ++ (header code inside ++ drop place octets.old) }
+    ensures cost { result ≡ true → Grows meter.old meter.new (length (header code inside)) }
+    ensures declines { result ≡ false → (octets.new ≡ octets.old) × (meter.new ≡ meter.old) }
+{
+    let all = header(code, inside as u64);
+    octets.insert_if_room(meter, place, all.as_slice())
 }
 
 // Puts octets in at a place, of which there are mostly none.

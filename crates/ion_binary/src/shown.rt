@@ -1,6 +1,6 @@
 //! What a window shows of items that lie whole in it. Where it does not, or where something is at fault
 //! or rare, it shows nothing, and the item is read by `value`.
-ghost use Rattle.std.specs.Prelude.{◌≡◌, ◌+◌, ◌-◌, ◌*◌, ◌^◌, ◌<◌, ◌≤◌, get_or, length, Ok, true, IfSome};
+ghost use Rattle.std.specs.Prelude.{◌≡◌, ◌+◌, ◌-◌, ◌*◌, ◌^◌, ◌<◌, ◌≤◌, get_or, length, Some, Ok, IfSome};
 ghost use Rattle.ion_value.specs.Int.{int_of_bytes};
 ghost use Rattle.ion_value.specs.Number.{uint};
 ghost use Rattle.ion_value.specs.Scalar.{scalar_of_body, with_value};
@@ -9,11 +9,11 @@ ghost use Rattle.ion_value.specs.Timestamp.{timestamp_of_bytes};
 ghost use Rattle.ion_value.specs.Value.{decimal, int, timestamp};
 ghost use Rattle.ion_value.specs.Standing.{InRange};
 ghost use Rattle.ion_binary.specs.Bodies.{IsBodyTypeCode};
-ghost use Rattle.ion_binary.specs.Descriptor.{shape_of};
+ghost use Rattle.ion_binary.specs.Descriptor.{Region, shape_of};
 ghost use Rattle.ion_binary.specs.Shapes.{as_shape};
-ghost use Rattle.ion_binary.specs.Shown.{Reaches, ShowsBegin, ShowsBody, ShowsLength, ShowsNote, ShowsValue, ShowsVar, shown_scalar};
+ghost use Rattle.ion_binary.specs.Shown.{Bounds, ShowsBegin, ShowsBody, ShowsLength, ShowsNote, ShowsValue, ShowsVar, shown_scalar};
 
-use crate::body::{is_text, uint_id};
+use crate::body::{few_value, is_text, uint_id};
 use crate::descriptor::Shape;
 use crate::value::wrapper_length_code;
 use ion_meter::limits::Limits;
@@ -99,17 +99,6 @@ fn shown_length(octets: &[u8], at: usize, length_code: u8) -> Option<(u64, usize
     shown_var(octets, at)
 }
 
-// Whether a region goes as far as a place.
-#[inline(always)]
-fn reaches(region: Option<u64>, place: u64) -> bool
-    ensures { result ≡ true → Reaches region place }
-{
-    match region {
-        None => true,
-        Some(end) => place <= end,
-    }
-}
-
 // A scalar of a type code and these octets.
 #[tactic(auto, unfolding(ion_value::specs::Scalar::scalar_of_body))]
 #[inline(always)]
@@ -150,19 +139,6 @@ fn shown_int(negative: bool, octets: &[u8]) -> Option<ShownScalar<'_>>
     }))
 }
 
-// The number that these octets spell, which are so few that 64 bits hold it.
-#[inline(always)]
-fn few_value(octets: &[u8]) -> u64
-    requires { length octets.now ≤ 8 }
-    ensures { result ≡ uint octets.now }
-{
-    let mut value: u64 = 0;
-    for octet in octets {
-        value = value * 256 + *octet as u64;
-    }
-    value
-}
-
 // A decimal of these octets.
 #[inline(always)]
 fn shown_decimal(octets: &[u8]) -> Option<ShownScalar<'_>>
@@ -197,7 +173,7 @@ pub(crate) fn shown_value<'a>(
     octets: &'a [u8],
     here: u64,
     at: usize,
-    region: Option<u64>,
+    most: u64,
     depth: u32,
     limits: Limits,
 ) -> Option<(Shown<'a>, usize)>
@@ -205,17 +181,18 @@ pub(crate) fn shown_value<'a>(
     requires within { at < length octets.now }
     requires shape { as_shape shape ≡ shape_of (get_or octets.now at 0) }
     ensures shows { IfSome result
-        (λ r. ShowsValue limits octets.entry.now here region depth at r.1 r.0) }
+        (λ r. (region : Region) → Bounds region most
+        → ShowsValue limits octets.entry.now here region depth at r.1 r.0) }
 {
     match shape {
-        Shape::Null(of) => shown_bare(here, at, region, ShownScalar::Null(of)),
-        Shape::Bool(truth) => shown_bare(here, at, region, ShownScalar::Bool(truth)),
+        Shape::Null(of) => shown_bare(here, at, most, ShownScalar::Null(of)),
+        Shape::Bool(truth) => shown_bare(here, at, most, ShownScalar::Bool(truth)),
         Shape::Body {
             type_code,
             length_code,
-        } => shown_with_body(octets, here, at, region, limits, type_code, length_code),
+        } => shown_with_body(octets, here, at, most, limits, type_code, length_code),
         Shape::Container(kind, length_code) => {
-            shown_begin(octets, here, at, region, depth, limits, kind, length_code)
+            shown_begin(octets, here, at, most, depth, limits, kind, length_code)
         }
         _ => None,
     }
@@ -226,14 +203,14 @@ pub(crate) fn shown_value<'a>(
 fn shown_bare<'a>(
     here: u64,
     at: usize,
-    region: Option<u64>,
+    most: u64,
     scalar: ShownScalar<'a>,
 ) -> Option<(Shown<'a>, usize)>
     requires { here + at < 2 ^ 63 }
     ensures { IfSome result (λ r. (r.0 ≡ Shown.Scalar scalar.entry) × (r.1 ≡ at + 1)
-        × Reaches region (here + (at + 1))) }
+        × here + (at + 1) ≤ most) }
 {
-    if !reaches(region, here + (at + 1) as u64) {
+    if most < here + (at + 1) as u64 {
         return None;
     }
     Some((Shown::Scalar(scalar), at + 1))
@@ -245,7 +222,7 @@ fn shown_with_body<'a>(
     octets: &'a [u8],
     here: u64,
     at: usize,
-    region: Option<u64>,
+    most: u64,
     limits: Limits,
     type_code: u8,
     length_code: u8,
@@ -255,7 +232,7 @@ fn shown_with_body<'a>(
     requires length_code { length_code < 15 }
     requires type_code { IsBodyTypeCode type_code }
     ensures { IfSome result
-        (λ r. ShowsBody limits octets.entry.now here region type_code length_code at r.1 r.0) }
+        (λ r. ShowsBody limits octets.entry.now here (Some most) type_code length_code at r.1 r.0) }
 {
     let Some((count, from)) = shown_length(octets, at + 1, length_code) else {
         return None;
@@ -265,7 +242,7 @@ fn shown_with_body<'a>(
         return None;
     }
     let to = from + count;
-    if !reaches(region, here + to as u64) {
+    if most < here + to as u64 {
         return None;
     }
     match shown_body(type_code, &octets[from..to]) {
@@ -280,7 +257,7 @@ fn shown_begin<'a>(
     octets: &'a [u8],
     here: u64,
     at: usize,
-    region: Option<u64>,
+    most: u64,
     depth: u32,
     limits: Limits,
     kind: Kind,
@@ -289,14 +266,14 @@ fn shown_begin<'a>(
     requires small { here + length octets.now < 2 ^ 63 }
     requires within { at < length octets.now }
     requires length_code { length_code < 15 }
-    ensures { IfSome result (λ r. ShowsBegin limits octets.entry.now here region depth kind
+    ensures { IfSome result (λ r. ShowsBegin limits octets.entry.now here (Some most) depth kind
         length_code at r.1 r.0) }
 {
     let Some((count, behind)) = shown_length(octets, at + 1, length_code) else {
         return None;
     };
     let end = here + behind as u64 + count;
-    if limits.depth <= depth || !reaches(region, end) {
+    if limits.depth <= depth || most < end {
         return None;
     }
     Some((Shown::Begin(kind, end), behind))
@@ -309,13 +286,13 @@ pub(crate) fn shown_note(
     octets: &[u8],
     here: u64,
     at: usize,
-    region: Option<u64>,
+    most: u64,
     limits: Limits,
 ) -> Option<ShownNote>
     requires small { here + length octets.now < 2 ^ 63 }
     requires within { at < length octets.now }
-    ensures { IfSome result (λ n. ShowsNote limits octets.entry.now here region
-        at n.from n.inner n.end n.id) }
+    ensures { IfSome result (λ n. (region : Region) → Bounds region most
+        → ShowsNote limits octets.entry.now here region at n.from n.inner n.end n.id) }
 {
     let Some(length_code) = wrapper_length_code(octets[at]) else {
         return None;
@@ -335,7 +312,7 @@ pub(crate) fn shown_note(
         || ids == 0
         || from as u64 + ids != inner as u64
         || end <= here + inner as u64
-        || !reaches(region, end)
+        || most < end
     {
         return None;
     }

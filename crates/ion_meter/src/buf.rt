@@ -121,6 +121,58 @@ impl<A: Allocator + Copy> Buf<A> {
         true
     }
 
+    /// Adds the first bytes of a block at the end, so many, and more behind them, where there is room
+    /// for the whole block and the others. Else it answers false, and nothing is changed.
+    #[inline(always)]
+    pub fn extend_block_if_room(
+        &mut self,
+        meter: &mut Meter<A>,
+        block: [u8; 8],
+        count: usize,
+        more: &[u8],
+    ) -> bool
+        requires within { count ≤ 8 }
+        requires room { meter.old.held + (count + length more.now) < 2 ^ 63 }
+        ensures bytes { result ≡ true → self.new ≡ self.old ++ (take count block ++ more.now) }
+        ensures cost { result ≡ true → Grows meter.old meter.new (count + length more.now) }
+        ensures declines { result ≡ false → (self.new ≡ self.old) × (meter.new ≡ meter.old) }
+    {
+        let room = self.roomy.room();
+        if room < 8 || room - 8 < more.len() {
+            return false;
+        }
+        self.roomy.put_block(block, count);
+        self.roomy.put(more);
+        meter.add((count + more.len()) as u64);
+        true
+    }
+
+    /// The same of the first bytes of two blocks.
+    #[inline(always)]
+    pub fn extend_blocks_if_room(
+        &mut self,
+        meter: &mut Meter<A>,
+        block: [u8; 8],
+        count: usize,
+        other: [u8; 8],
+        others: usize,
+    ) -> bool
+        requires within { count ≤ 8 }
+        requires others_within { others ≤ 8 }
+        requires room { meter.old.held + 16 < 2 ^ 63 }
+        ensures bytes { result ≡ true → self.new ≡ self.old ++ (take count block ++ take others other) }
+        ensures cost { result ≡ true → Grows meter.old meter.new (count + others) }
+        ensures declines { result ≡ false → (self.new ≡ self.old) × (meter.new ≡ meter.old) }
+    {
+        if self.roomy.room() < 16 {
+            return false;
+        }
+        self.roomy.put_block(block, count);
+        self.roomy.put_block(other, others);
+        meter.add((count + others) as u64);
+        true
+    }
+
     /// Puts these bytes in at a place, counted from 0, where there is room for them. Else it answers
     /// false, and nothing is changed.
     #[inline(always)]

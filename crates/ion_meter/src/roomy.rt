@@ -6,6 +6,9 @@ use crate::meter::Meter;
 use std::alloc::Allocator;
 use std::marker::Model;
 
+// How many bytes are moved as one block.
+const BLOCK: usize = 16;
+
 /// Bytes, and behind them others that mean nothing. A clause sees the list of the bytes, and how many
 /// more there is room for.
 #[derive(Drop)]
@@ -117,6 +120,19 @@ impl<A: Allocator + Copy> Roomy<A> {
         self.len = end;
     }
 
+    /// Puts the first `count` of these bytes: there is room for all of them.
+    #[inline(always)]
+    pub fn put_block(&mut self, block: [u8; 8], count: usize)
+        requires room { 8 ≤ self.old.room }
+        requires within { count ≤ 8 }
+        ensures bytes { self.new.bytes ≡ self.old.bytes ++ take count block }
+        ensures room { self.new.room + count ≡ self.old.room }
+    {
+        let at = self.len;
+        write_first(&mut self.bytes, at, block, count);
+        self.len = at + count;
+    }
+
     /// Puts so many zeros for which there is room.
     pub fn put_zeros(&mut self, count: usize)
         requires { count ≤ self.old.room }
@@ -173,6 +189,17 @@ impl<A: Allocator + Copy> Roomy<A> {
     }
 }
 
+// Writes a block from a place on, the first `count` bytes of which are those that mean something.
+#[inline(always)]
+fn write_first(all: &mut [u8], at: usize, block: [u8; 8], count: usize)
+    requires room { at + 8 ≤ length all.old }
+    requires within { count ≤ 8 }
+    ensures { take (at + count) all.new ≡ take at all.old ++ take count block }
+{
+    let _count = count;
+    all[at..at + 8].copy_from_slice(&block);
+}
+
 // Puts bytes in at a place among the first bytes: what stood from there on moves behind them.
 #[inline(always)]
 fn put_between(all: &mut [u8], place: usize, end: usize, bytes: &[u8])
@@ -182,8 +209,28 @@ fn put_between(all: &mut [u8], place: usize, end: usize, bytes: &[u8])
         ≡ take place (take end all.old) ++ (bytes.now ++ drop place (take end all.old)) }
 {
     let behind = place + bytes.len();
+    open_gap(all, place, end, behind);
+    copy(&mut all[place..behind], bytes);
+}
+
+// Moves the bytes from a place up to an end to a place behind: at most 16 of them as a block of as
+// many, without a call.
+#[inline(always)]
+fn open_gap(all: &mut [u8], place: usize, end: usize, behind: usize)
+    requires order { place ≤ end }
+    requires upward { place ≤ behind }
+    requires room { end + (behind - place) ≤ length all.old }
+    ensures len { length all.new ≡ length all.old }
+    ensures moved { take (end + (behind - place)) all.new
+        ≡ take behind all.old ++ take (end - place) (drop place all.old) }
+{
+    if end - place <= BLOCK && all.len() - behind >= BLOCK {
+        let mut moved = [0; BLOCK];
+        moved.copy_from_slice(&all[place..place + BLOCK]);
+        all[behind..behind + BLOCK].copy_from_slice(&moved);
+        return;
+    }
     all.copy_within(place..end, behind);
-    all[place..behind].copy_from_slice(bytes);
 }
 
 // Moves bytes from a place up to an end by a gap behind them, and writes these right before them.

@@ -3,6 +3,7 @@ ghost use Rattle.std.specs.Prelude.{◌≡◌, ◌+◌, ◌-◌, ◌^◌, ◌<�
 ghost use Rattle.ion_meter.specs.Counts.{Grows, Shrinks, IsRefused};
 ghost use Rattle.ion_meter.specs.Windows.{Outgoing, so_far, Puts, write_failures_in};
 
+use crate::copy::copy;
 use crate::device::{Output, write_all};
 use crate::fault::Fault;
 use crate::meter::Meter;
@@ -163,7 +164,7 @@ impl<O: Output, A: Allocator + Copy> Sink<O, A> {
     {
         let from = self.len;
         let to = from + bytes.len();
-        self.window[from..to].copy_from_slice(bytes);
+        copy(&mut self.window[from..to], bytes);
         self.len = to;
     }
 

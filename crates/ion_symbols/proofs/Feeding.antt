@@ -10,16 +10,15 @@ use Rattle.ion_value.specs.Name.{is_plain, is_simple}
 use Rattle.ion_value.specs.Value as value
 use Rattle.ion_value.specs.Value.{Symbol, SymbolAt, Scalar, Head, PlacedItem, map_head, map_scalar}
 use Rattle.ion_value.specs.Items.{named, named_at, named_item, text_or_id}
-use Rattle.ion_value.specs.PlainItems.{AreSimple, HasSimpleName, HasSimpleSymbol, IsSimple, IsSimpleHead, IsSimpleText}
+use Rattle.ion_value.specs.PlainItems.{AreSimple, HasSimpleName, IsSimple, IsSimpleHead, IsSimpleText}
 use Rattle.ion_value.specs.Feeding.{Joint, Hands, Feeds, nothing, more}
-use Rattle.ion_value.specs.Reading.{Reading, More}
+use Rattle.ion_value.specs.Reading.{More}
 use Rattle.ion_value.specs.Shares.{Charges}
 use Rattle.ion_value.specs.Standing.{is_marker, open_after}
-use Rattle.ion_symbols.specs.declared.known_text.Word.{Word}
 use Rattle.ion_symbols.specs.declared.known_text.Word.TheVariants as word
 use Rattle.ion_symbols.specs.Table.{Slot, Shared, Table, known, unknown, gap, above, slot_of, text_at, text_of_slot, word_of}
 use Rattle.ion_symbols.specs.Declaration.{word_by_id, word_in}
-use Rattle.ion_symbols.specs.Users.{Checked, fine, annotations_checked, at_checked, begins_declaration, checked, declares, field_checked, head_checked, is_declaration, is_struct, level_after, or_else, plain, resolve, slot_checked, symbol_checked, users}
+use Rattle.ion_symbols.specs.Users.{fine, annotations_checked, begins_declaration, checked, declares, field_checked, head_checked, is_declaration, is_struct, level_after, plain, resolve, slot_checked, symbol_checked, users}
 use Rattle.ion_symbols.specs.User.{CheckedAs}
 use Rattle.ion_symbols.proofs.UserTurns.{item_given, level_opens}
 

@@ -1,5 +1,5 @@
 -- Texts that are found by their buckets.
-use Rattle.std.proofs.Common.{◌≡◌, ◌≢◌, ◌⊎◌, inl, inr, ℕ, ◌+◌, ◌-◌, ◌^◌, ◌<◌, ◌≤◌, Bool, true, false, List, [], ◌∷◌, ◌++◌, length, get_or, set, replicate, Option, Some, None, option_map, refl, ap, ap₂, sym, subst, subst₂, ◌∙◌, arith, below_more}
+use Rattle.std.proofs.Common.{◌≡◌, inl, inr, ℕ, ◌+◌, ◌-◌, ◌^◌, ◌<◌, ◌≤◌, Bool, true, false, List, [], ◌∷◌, ◌++◌, length, get_or, set, replicate, Option, Some, None, refl, ap, ap₂, sym, subst, subst₂, ◌∙◌, arith, below_more}
 use Rattle.std.proofs.lemmas.Bool.Decides.{eqb_tells, leb_tells}
 use Rattle.std.proofs.lemmas.List.{get_or_append_left, get_or_push, get_or-set_same, get_or-set_other, length_push, length-map, length-set, get_or-map, length-replicate, get_or-replicate}
 use Rattle.std.proofs.lemmas.Bool.{true≢false}
@@ -8,7 +8,7 @@ use Rattle.std.specs.Str.{bytes_eq}
 use Rattle.ion_symbols.specs.declared.ordered.Place.{Place}
 use Rattle.ion_symbols.specs.Output.{position, system_id, or_given, known_id}
 use Rattle.ion_symbols.specs.Ordered.{place_text, texts_in, Orders, Ordered, IsWithin}
-use Rattle.ion_symbols.specs.Buckets.{bucket_of, IsLatest, Chained}
+use Rattle.ion_symbols.specs.Buckets.{bucket_of, IsLatest, Chained, Looks}
 use Rattle.ion_symbols.proofs.Orders.{there_position, absent_position}
 use Rattle.ion_symbols.proofs.OutputTexts.{follow_from}
 
@@ -113,12 +113,6 @@ not_of_system texts t h = by_id (system_id t) (position texts t) h
 
 -- ---- a text that is looked for
 
--- none from a place on is the text, and the one before that place stands in its bucket
-pub record Looks (texts : List (List ℕ)) (t : List ℕ) (at : ℕ) : Type 0 where
-  pub within : at ≤ length texts
-  pub none_behind : (i : ℕ) → at ≤ i → i < length texts → get_or texts i [] ≡ t → ⊥
-  pub there : 0 < at → bucket_of (get_or texts (at - 1) []) ≡ bucket_of t
-
 -- a text that is not the one before the place is not found from the one before it in its bucket on
 pub goes_on : (texts : List (List ℕ)) (places : List Place) (buckets : List ℕ) (t : List ℕ) (at at2 : ℕ) (d : Place) → Chained texts places buckets → Looks texts t at → 0 < at
     → (get_or texts (at - 1) [] ≡ t → ⊥) → at2 ≡ (get_or places (at - 1) d).next → (at2 < at) × Looks texts t at2
@@ -139,6 +133,17 @@ goes_on texts places buckets t at at2 d h k p other a =
         there = λ q. link.there q ∙ k.there p;
       },
     )
+
+-- a text is looked for from the last of its bucket on
+pub looks_from : (texts2 texts : List (List ℕ)) (places : List Place) (buckets : List ℕ) (t : List ℕ) (b : ℕ) → Chained texts2 places buckets → texts2 ≡ texts → b ≡ bucket_of t → b < 512
+    → Looks texts t (get_or buckets b 0)
+looks_from texts2 texts places buckets t b h e is l =
+    let k : IsLatest texts b (length texts) (get_or buckets b 0) = subst (λ ts. IsLatest ts b (length ts) (get_or buckets b 0)) e (h.heads b l) in
+    record {
+      within = k.within;
+      none_behind = λ i a m f. k.none_behind i a m (ap bucket_of f ∙ sym is);
+      there = λ p. k.there p ∙ is;
+    }
 
 -- an id of the system table, or none
 system_alone : (id : Option ℕ) → or_given id None ≡ id

@@ -42,6 +42,7 @@ mod OutputTexts
 mod Orders
 mod Adding
 mod Finding
+mod SameEnds
 mod InBuckets
 mod CatalogRows
 mod CatalogReadings

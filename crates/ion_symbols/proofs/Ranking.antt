@@ -1,5 +1,5 @@
 -- Shared tables in order of name and version, and what is found there.
-use Rattle.std.proofs.Common.{◌≡◌, ◌⊎◌, inl, inr, ℕ, zero, suc, ◌+◌, ◌-◌, ◌<◌, ◌≤◌, Bool, true, false, ◌&&◌, ◌==◌, if◌then◌else◌, nat_lt, nat_le, nat_eq, is_none, List, [], ◌∷◌, ◌++◌, length, take, drop, map, get_or, slice_get, All, MatchOption, Option, Some, None, option_map, Ordering, Less, Equal, Greater, refl, ap, ap₂, sym, subst, subst₂, ◌∙◌, arith, add-one, get_or-drop, get_or-take}
+use Rattle.std.proofs.Common.{◌≡◌, ◌⊎◌, inl, inr, ℕ, zero, suc, ◌+◌, ◌-◌, ◌<◌, ◌≤◌, Bool, true, false, ◌&&◌, ◌==◌, if◌then◌else◌, nat_lt, nat_le, is_none, List, [], ◌∷◌, ◌++◌, length, take, drop, get_or, slice_get, All, MatchOption, Option, Some, None, option_map, Ordering, Less, Equal, Greater, refl, ap, sym, subst, subst₂, ◌∙◌, arith, add-one, get_or-drop, get_or-take}
 use Rattle.std.specs.Prelude.{⊤}
 use Rattle.std.specs.Str.{bytes_eq}
 use Rattle.std.specs.List.{insert}
@@ -19,7 +19,7 @@ use Rattle.ion_meter.specs.declared.fault.Fault.{Fault}
 use Rattle.ion_meter.specs.declared.fault.Fault.TheVariants.{Memory}
 use Rattle.ion_symbols.specs.CatalogItems.{blank}
 use Rattle.ion_symbols.specs.UserValues.{SlotsAreText, CatalogIsText}
-use Rattle.ion_symbols.specs.Output.{text_cmp, Ascend, Belongs, position}
+use Rattle.ion_symbols.specs.Output.{text_cmp, Belongs, position}
 use Rattle.ion_symbols.specs.Ordered.{in_order, Orders}
 use Rattle.ion_symbols.specs.Ranks.{key_of, key, keys, IsRanked}
 use Rattle.ion_symbols.proofs.TextOrder.{equal_itself, equal_same, not_less, ascend_less, less_upto, greater_from}

@@ -1,5 +1,5 @@
 -- The bucket of a text, and the texts that stand in it.
-use Rattle.std.specs.Prelude.{◌≡◌, ℕ, ◌+◌, ◌-◌, ◌*◌, ◌/◌, ◌%◌, ◌^◌, ◌<◌, ◌≤◌, ◌==◌, nat_le, nat_lt, if◌then◌else◌, List, [], ◌∷◌, length, slice_index, slice_index_or, Option, None}
+use Rattle.std.specs.Prelude.{◌≡◌, ℕ, ◌+◌, ◌-◌, ◌*◌, ◌/◌, ◌%◌, ◌^◌, ◌<◌, ◌≤◌, ◌==◌, nat_le, nat_lt, if◌then◌else◌, List, [], ◌∷◌, length, slice_index, slice_index_or, None}
 use Rattle.std.specs.Int.{w32, w64, from_le_bytes}
 use Rattle.ion_symbols.specs.declared.ordered.Place.{Place}
 use Rattle.ion_symbols.specs.Output.{system_id}
@@ -53,3 +53,9 @@ pub record Chained (texts : List (List ℕ)) (places : List Place) (buckets : Li
   pub heads : (b : ℕ) → b < 512 → IsLatest texts b (length texts) (slice_index buckets b)
   pub links : (i : ℕ) (d : Place) → i < length texts → IsLatest texts (bucket_of (slice_index_or texts i [])) i (slice_index_or places i d).next
   pub no_system : (i : ℕ) → i < length texts → system_id (slice_index_or texts i []) ≡ None
+
+-- none from a place on is the text that is looked for, and the one before that place stands in its bucket
+pub record Looks (texts : List (List ℕ)) (t : List ℕ) (at : ℕ) : Type 0 where
+  pub within : at ≤ length texts
+  pub none_behind : (i : ℕ) → at ≤ i → i < length texts → slice_index_or texts i [] ≡ t → ⊥
+  pub there : 0 < at → bucket_of (slice_index_or texts (at - 1) []) ≡ bucket_of t

@@ -83,7 +83,7 @@ fn middle(text: &[u8]) -> u64
 
 // The first byte of a text below four bytes, the one in the middle, and the last.
 #[inline]
-fn few(text: &[u8]) -> u64
+pub(crate) fn few(text: &[u8]) -> u64
     ensures { result ≡ few_of text.now }
 {
     if text.is_empty() {
@@ -95,7 +95,7 @@ fn few(text: &[u8]) -> u64
 
 // Eight bytes of a text from a place on, as a number.
 #[inline]
-fn eight(text: &[u8], at: usize) -> u64
+pub(crate) fn eight(text: &[u8], at: usize) -> u64
     requires { at + 8 ≤ length text.now }
     ensures { result ≡ eight_at text.now at }
 {
@@ -113,7 +113,7 @@ fn eight(text: &[u8], at: usize) -> u64
 
 // Four bytes of a text from a place on, as a number.
 #[inline]
-fn four(text: &[u8], at: usize) -> u64
+pub(crate) fn four(text: &[u8], at: usize) -> u64
     requires { at + 4 ≤ length text.now }
     ensures { result ≡ four_at text.now at }
 {

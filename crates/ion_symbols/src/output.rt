@@ -6,9 +6,10 @@ ghost use Rattle.ion_meter.specs.Counts.{Shrinks};
 ghost use Rattle.ion_value.specs.Shares.{Charges};
 ghost use Rattle.std.specs.Str.{bytes_eq};
 ghost use Rattle.ion_symbols.specs.Output.{Belongs, CanAdd, IsSorted, binary_digits, id_given, known_id, probes_for, system_id, texts_cost};
+ghost use Rattle.ion_symbols.specs.Buckets.{Looks};
 ghost use Rattle.ion_value.specs.Items.{is_none_left};
 
-use crate::hash::{BUCKETS, bucket, no_buckets};
+use crate::hash::{BUCKETS, bucket, eight, few, four, no_buckets};
 use crate::ordered::{Place, Search};
 use crate::search::place_of;
 use ion_meter::buf::Buf;
@@ -24,6 +25,9 @@ const PLACE_COST: u64 = 12;
 
 /// The cost of an id in the order, in counted bytes.
 const ID_COST: u64 = 4;
+
+/// The most bytes of a text that is compared at once.
+const SHORT: usize = 16;
 
 /// The most texts of a bucket that are compared before the search by halving.
 const MOST_COMPARED: u32 = 8;
@@ -154,7 +158,25 @@ impl<A: Allocator + Copy> OutSymbols<A> {
         if places.len() > MOST_IN_BUCKETS {
             return self.known_by_halving(text);
         }
-        let mut at = self.buckets[bucket(text)];
+        let last = self.buckets[bucket(text)];
+        if last > 0 && text.len() <= SHORT {
+            let place = places[last as usize - 1];
+            if is_same_short(&bytes[place.from as usize..place.to as usize], text) {
+                return Some(FIRST_ID + last - 1);
+            }
+        }
+        self.known_in_bucket(text, last)
+    }
+
+    // The id of a text, among those of its bucket, of which the last is given.
+    #[inline(never)]
+    fn known_in_bucket(&self, text: &[u8], last: u32) -> Option<u32>
+        requires { Looks self.now.texts text.now last }
+        ensures { result ≡ known_id self.now.texts text.now }
+    {
+        let bytes = self.bytes.as_slice();
+        let places = self.places.as_slice();
+        let mut at = last;
         let mut left = MOST_COMPARED;
         while at > 0 {
             if left == 0 {
@@ -386,7 +408,55 @@ fn is_same(text: &[u8], other: &[u8]) -> bool
     text == other
 }
 
+// The same where the second is short.
+#[inline(always)]
+fn is_same_short(text: &[u8], other: &[u8]) -> bool
+    requires { length other.now ≤ SHORT }
+    ensures { result ≡ bytes_eq text.now other.now }
+{
+    if text.len() != other.len() {
+        false
+    } else if text.len() >= 8 {
+        are_same_eights(text, other)
+    } else if text.len() >= 4 {
+        are_same_fours(text, other)
+    } else {
+        few(text) == few(other)
+    }
+}
+
+// The same of texts of 8 to 16 bytes: by the first eight and the last.
+#[inline(always)]
+fn are_same_eights(text: &[u8], other: &[u8]) -> bool
+    requires same { length text.now ≡ length other.now }
+    requires least { 8 ≤ length text.now }
+    requires most { length text.now ≤ 16 }
+    ensures { result ≡ bytes_eq text.now other.now }
+{
+    let last = text.len() - 8;
+    if eight(text, 0) != eight(other, 0) {
+        return false;
+    }
+    eight(text, last) == eight(other, last)
+}
+
+// The same of texts of 4 to 8 bytes: by the first four and the last.
+#[inline(always)]
+fn are_same_fours(text: &[u8], other: &[u8]) -> bool
+    requires same { length text.now ≡ length other.now }
+    requires least { 4 ≤ length text.now }
+    requires most { length text.now ≤ 8 }
+    ensures { result ≡ bytes_eq text.now other.now }
+{
+    let last = text.len() - 4;
+    if four(text, 0) != four(other, 0) {
+        return false;
+    }
+    four(text, last) == four(other, last)
+}
+
 // The id of a text of the system table.
+#[inline(never)]
 fn system_id(text: &[u8]) -> Option<u32>
     ensures { result ≡ system_id text.now }
 {

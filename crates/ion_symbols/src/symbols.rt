@@ -4,7 +4,7 @@ ghost use Rattle.ion_meter.specs.declared.fault.Fault.TheVariants.{Memory};
 ghost use Rattle.ion_meter.specs.Counts.{Grows, Shrinks};
 ghost use Rattle.ion_value.specs.Name.{is_simple};
 ghost use Rattle.ion_symbols.specs.Table as tables;
-ghost use Rattle.ion_symbols.specs.Table.{count_of, import_slot, known, local_slot, most_slots, slot_in, slot_of, slots_cost, system, system_slots, table_cost};
+ghost use Rattle.ion_symbols.specs.Table.{count_of, import_slot, known, local_slot, most_slots, slot_in, slot_of, slots_cost, system, system_slots, table_cost, text_at};
 ghost use Rattle.ion_symbols.specs.Present.{IsKept, Starts, imports_in, kept_table, as_slot, slots_at, with_locals};
 ghost use Rattle.ion_symbols.specs.Kept.{CanGrow, IsUndone};
 
@@ -13,7 +13,6 @@ use crate::slots::Slots;
 use ion_meter::fault::Fault;
 use ion_meter::meter::Meter;
 use ion_meter::table::Table;
-use ion_value::name::is_simple;
 use ion_value::names::Names;
 use std::alloc::Allocator;
 use std::marker::Model;
@@ -101,8 +100,12 @@ fn system_simple(id: u32) -> Option<&'static [u8]>
         (λ t. local_slot (slice_get system_slots id) ≡ known t.now) }
     ensures simple { IfSome result (λ t. is_simple t.now ≡ true) }
 {
-    match system_slot(id) {
-        Slot::Known(text) if is_simple(text) => Some(text),
+    match id {
+        4 => Some(b"name"),
+        5 => Some(b"version"),
+        6 => Some(b"imports"),
+        7 => Some(b"symbols"),
+        8 => Some(b"max_id"),
         _ => None,
     }
 }
@@ -266,6 +269,31 @@ impl<'c, A: Allocator + Copy> Symbols<'c, A> {
         }
     }
 
+    // The text of an id of the system table or of an import, if it has one that is simple.
+    #[inline(always)]
+    fn early_simple(&self, id: u32) -> Option<&[u8]>
+        ensures { IfSome result (λ t. (text_at self.now.table id ≡ Some t.now)
+            × (is_simple t.now ≡ true)) }
+    {
+        handed_on(self.early_simple_text(id))
+    }
+
+    // The same as a call of its own.
+    #[inline(never)]
+    fn early_simple_text(&self, id: u32) -> Option<&[u8]>
+        ensures { IfSome result (λ t. (text_at self.now.table id ≡ Some t.now)
+            × (is_simple t.now ≡ true)) }
+    {
+        if id < 10 {
+            return system_simple(id);
+        }
+        let place = (id - 10) as u64;
+        if place < self.import_slots {
+            return imported_simple(self.catalog, self.imports.as_slice(), place);
+        }
+        None
+    }
+
     // The catalogue.
     pub(crate) fn catalog(&self) -> &'c Catalog<A>
         ensures { result.now ≡ self.now.catalog }
@@ -368,14 +396,11 @@ impl<'c, A: Allocator + Copy> Names for Symbols<'c, A> {
 
     #[inline(always)]
     fn simple_text(&self, id: u32) -> Option<&[u8]> {
-        if id < 10 {
-            return handed_on(system_simple(id));
+        let first = 10 + self.import_slots;
+        let place = id as u64;
+        if place < first {
+            return self.early_simple(id);
         }
-        let place = (id - 10) as u64;
-        if place < self.import_slots {
-            handed_on(imported_simple(self.catalog, self.imports.as_slice(), place))
-        } else {
-            local_simple(&self.slots, place - self.import_slots)
-        }
+        local_simple(&self.slots, place - first)
     }
 }

@@ -25,11 +25,11 @@ use Rattle.ion_text_in.specs.declared.expected.Expected.TheVariants as codes
 use Rattle.ion_text_in.specs.declared.feed.Next.{Next}
 use Rattle.ion_text_in.specs.declared.feed.Spot.{Spot}
 use Rattle.ion_text_in.specs.declared.feed.Start.{Start}
-use Rattle.ion_text_in.specs.Expecting.{wanted, MayExpect}
-use Rattle.ion_text_in.specs.Feeding.{behind_head, lane, notes, state, CanFeed, IsBehind, IsHead, IsNext, IsStart, Moved, Onward}
+use Rattle.ion_text_in.specs.Expecting.{expected_in, is_separated, kind_in, wanted, MayExpect}
+use Rattle.ion_text_in.specs.Feeding.{behind_head, expected_of, lane, notes, state, CanFeed, IsBehind, IsHead, IsNext, IsStart, Moved, Onward}
 use Rattle.ion_text_in.specs.Firsts.{numbered}
 use Rattle.ion_text_in.specs.Positions.{innermost}
-use Rattle.ion_text_in.specs.Reading.{behind_member, is_same, item_of, top_of}
+use Rattle.ion_text_in.specs.Reading.{at_member, behind_member, is_same, item_of, top_of}
 use Rattle.ion_text_in.specs.Steps.{later}
 use Rattle.ion_text_in.specs.Token as tokens
 use Rattle.ion_text_in.specs.Token.{first_at}
@@ -57,6 +57,46 @@ took-later w item old new before after m x y t same = record {
   refused = same ∙ t.refused;
 }
 
+-- ---- what must come
+
+-- behind a member
+behind-wants : (opened : List Kind) → wanted (expected_in (is_separated (kind_in opened)) (kind_in opened)) None [] ≡ behind_member (innermost opened)
+behind-wants [] = refl
+behind-wants (a_kind.List ∷ opened) = refl
+behind-wants (a_kind.Sexp ∷ opened) = refl
+behind-wants (a_kind.Struct ∷ opened) = refl
+
+behind-expects : (opened : List Kind) → MayExpect (expected_in (is_separated (kind_in opened)) (kind_in opened)) opened None []
+behind-expects [] = refl
+behind-expects (a_kind.List ∷ opened) = (refl, refl)
+behind-expects (a_kind.Sexp ∷ opened) = refl
+behind-expects (a_kind.Struct ∷ opened) = (refl, refl)
+
+pub wants-behind : (opened : List Kind) (now : Spot) → kind_in opened ≡ now.kind → now.separator ≡ is_separated now.kind → wanted (expected_of now) None [] ≡ behind_member (innermost opened)
+wants-behind opened now inner separator = rw (separator, sym inner) (behind-wants opened)
+
+pub expects-behind : (opened : List Kind) (now : Spot) → kind_in opened ≡ now.kind → now.separator ≡ is_separated now.kind → MayExpect (expected_of now) opened None []
+expects-behind opened now inner separator = rw (separator, sym inner) (behind-expects opened)
+
+-- where a member may begin
+member-wants : (opened : List Kind) → wanted (expected_in false (kind_in opened)) None [] ≡ at_member (innermost opened)
+member-wants [] = refl
+member-wants (a_kind.List ∷ opened) = refl
+member-wants (a_kind.Sexp ∷ opened) = refl
+member-wants (a_kind.Struct ∷ opened) = refl
+
+member-expects : (opened : List Kind) → MayExpect (expected_in false (kind_in opened)) opened None []
+member-expects [] = refl
+member-expects (a_kind.List ∷ opened) = refl
+member-expects (a_kind.Sexp ∷ opened) = refl
+member-expects (a_kind.Struct ∷ opened) = (refl, refl, refl)
+
+pub wants-member : (opened : List Kind) (kind : Kind) → kind_in opened ≡ kind → wanted (expected_in false kind) None [] ≡ at_member (innermost opened)
+wants-member opened kind inner = subst (λ (k : Kind). wanted (expected_in false k) None [] ≡ at_member (innermost opened)) inner (member-wants opened)
+
+pub expects-member : (opened : List Kind) (kind : Kind) → kind_in opened ≡ kind → MayExpect (expected_in false kind) opened None []
+expects-member opened kind inner = subst (λ (k : Kind). MayExpect (expected_in false k) opened None []) inner (member-expects opened)
+
 -- between two items nothing is read of the next one
 may-end : (e : Expected) → MayEnd (wanted e None [])
 may-end codes.Value = at_value
@@ -77,15 +117,16 @@ module _ {W O A : Type 0} (w : WriterOf W O A) (limits : Limits) (end : ℕ) whe
       rw (writes, sinks, counts) (moved-stopped kinds spot now writer sink m same can)
 
   -- to where a member may begin
-  pub moved-member : (kinds : List Kind) (spot now : Spot) (writer : W) (sink : Outgoing O) (m : Counts) → now.top ≡ spot.top → now.values ≡ spot.values → CanFeed w limits end (lane kinds spot writer sink m)
-      → MayExpect now.expected (reverse kinds) None []
-      → Onward limits (reverse kinds) spot.top (end - length spot.rest.now) (wanted spot.expected None []) spot.rest.now (wanted now.expected None []) now.rest.now
+  pub moved-member : (kinds : List Kind) (spot now : Spot) (writer : W) (sink : Outgoing O) (m : Counts) → now ≡ record spot { rest = now.rest; separator = now.separator }
+      → CanFeed w limits end (lane kinds spot writer sink m) → MayExpect (expected_of now) (reverse kinds) None []
+      → Onward limits (reverse kinds) spot.top (end - length spot.rest.now) (wanted (expected_of spot) None []) spot.rest.now (wanted (expected_of now) None []) now.rest.now
       → Moved w limits end (lane kinds spot writer sink m) (lane kinds now writer sink m)
-  moved-member kinds spot now writer sink m top values can may onward =
+  moved-member kinds spot now writer sink m same can may onward =
       let l = lane kinds spot writer sink m in
-      subst (λ (t : ℕ). Moved w limits end l (record l { expected = now.expected; rest = now.rest.now; top = t; values = now.values })) (sym top)
-      (subst (λ (n : ℕ). Moved w limits end l (record l { expected = now.expected; rest = now.rest.now; values = n })) (sym values)
-      (moved-onward w limits end l now.expected now.rest.now can may onward))
+      let there : Spot = record spot { rest = now.rest; separator = now.separator } in
+      subst (λ (s : Spot). Moved w limits end l (lane kinds s writer sink m)) (sym same)
+      (moved-onward w limits end l (expected_of there) now.rest.now can (subst (λ (s : Spot). MayExpect (expected_of s) (reverse kinds) None []) same may)
+      (subst (λ (s : Spot). Onward limits (reverse kinds) spot.top (end - length spot.rest.now) (wanted (expected_of spot) None []) spot.rest.now (wanted (expected_of s) None []) now.rest.now) same onward))
 
   -- ---- a container's end
 
@@ -102,11 +143,11 @@ module _ {W O A : Type 0} (w : WriterOf W O A) (limits : Limits) (end : ℕ) whe
   pub moved-closed : (kinds left : List Kind) (j k : Kind) (spot new : Spot) (next : Next) (place : ℕ) (writer after : W) (sink behind : Outgoing O) (m x y : Counts)
       → CanFeed w limits end (lane kinds spot writer sink m) → IsNext spot.rest.now next → 0 < next.told → numbered next.told ≡ tokens.an_end k
       → reverse kinds ≡ j ∷ reverse left → is_same j k ≡ true → place ≡ end - length next.rest.now
-      → new.rest.now ≡ drop 1 next.rest.now → new.top ≡ spot.top → wanted new.expected None [] ≡ behind_member (innermost (reverse left)) → MayExpect new.expected (reverse left) None []
+      → new.rest.now ≡ drop 1 next.rest.now → new.top ≡ spot.top → kind_in (reverse left) ≡ new.kind → new.separator ≡ is_separated new.kind
       → new.values ≡ spot.values + one_if_closed (reverse left)
       → Took w (end_item spot.top place) writer after sink behind m x → Charges m x (w.own writer) (w.own after) (w.most writer) → Shrinks x y 16
       → Moved w limits end (lane kinds spot writer sink m) (lane left new after behind y)
-  moved-closed kinds left j k spot new next place writer after sink behind m x y can is told ends opened same here rest top wants may counts took charges shrinks =
+  moved-closed kinds left j k spot new next place writer after sink behind m x y can is told ends opened same here rest top inner separator counts took charges shrinks =
       let some = is.some told in
       let passes = is.passes some in
       let fewer = passes.fewer in
@@ -127,14 +168,14 @@ module _ {W O A : Type 0} (w : WriterOf W O A) (limits : Limits) (end : ℕ) whe
       moved-item w limits end (lane kinds spot writer sink m) (lane left new after behind y) (end_item spot.top place) can (end-stands kinds j (reverse left) spot.top place opened)
       (took-later w (end_item spot.top place) writer after sink behind m x y took shrinks.refused)
       (ap (λ (l : List Kind). drop 1 l) (sym opened)) counts
-      (behind-then spot.rest.now bytes new.rest.now passes.part (subst (λ (l : List ℕ). IsBehind bytes l) (sym rest) (some-behind bytes 1 (omega (arith, some))))) (omega (arith, longer, some, fewer)) (omega (arith, lengths, few)) may c_share
+      (behind-then spot.rest.now bytes new.rest.now passes.part (subst (λ (l : List ℕ). IsBehind bytes l) (sym rest) (some-behind bytes 1 (omega (arith, some))))) (omega (arith, longer, some, fewer)) (omega (arith, lengths, few)) inner (expects-behind (reverse left) new inner separator) c_share
       (record { held = omega (arith, c_held, s_held, lengths); share = omega (arith, c_share, lengths, few); peak = omega (arith, c_peak, s_peak, lengths, few, held); rises = omega (arith, c_rises, s_peak) })
       (λ more.
-      (onward-blanks limits (reverse kinds) spot.top (end - length spot.rest.now) (wanted spot.expected None []) spot.rest.now bytes passes).same (end - length bytes) more (omega (arith, fewer, within))
-      ∙ (ap (λ (l : List Kind). later limits (state l spot.top (wanted spot.expected None []) (end - length bytes) (bytes ++ more))) opened
-      ∙ (end-gives limits j k (reverse left) spot.top (end - length bytes) (end - length new.rest.now) (wanted spot.expected None []) bytes more (may-end spot.expected) same passes.bare some
+      (onward-blanks limits (reverse kinds) spot.top (end - length spot.rest.now) (wanted (expected_of spot) None []) spot.rest.now bytes passes).same (end - length bytes) more (omega (arith, fewer, within))
+      ∙ (ap (λ (l : List Kind). later limits (state l spot.top (wanted (expected_of spot) None []) (end - length bytes) (bytes ++ more))) opened
+      ∙ (end-gives limits j k (reverse left) spot.top (end - length bytes) (end - length new.rest.now) (wanted (expected_of spot) None []) bytes more (may-end (expected_of spot)) same passes.bare some
       (λ sexp rest. is.tells told sexp rest ∙ ends) (omega (arith, long, longer, some, fewer, within))
-      ∙ rw (here, top, wants, rest) refl)))
+      ∙ rw (here, top, wants-behind (reverse left) new inner separator, rest) refl)))
 
   -- ---- a value, and a container's beginning
 
@@ -148,7 +189,7 @@ module _ {W O A : Type 0} (w : WriterOf W O A) (limits : Limits) (end : ℕ) whe
   may-note value.end annotations value member = absurd (cc (member (a_kind.Struct ∷ [])))
   may-note value.marker annotations value member = absurd (cc value)
 
-  pub head-stands : (kinds : List Kind) (spot : Spot) (start : Start) (head : Head SymbolAt) (top place at_place : ℕ) (rest : List ℕ) → MayExpect spot.expected (reverse kinds) None []
+  pub head-stands : (kinds : List Kind) (spot : Spot) (start : Start) (head : Head SymbolAt) (top place at_place : ℕ) (rest : List ℕ) → MayExpect (expected_of spot) (reverse kinds) None []
       → IsStart limits spot place start → IsHead limits at_place start.next.rest.now head rest → HasPlace limits.depth (reverse kinds) head
       → Stands limits.depth (reverse kinds) (item_of top (option_map placed_text start.field) (notes start.note) at_place head)
   head-stands kinds spot start head top place at_place rest may start_is head_is fits = record {
@@ -165,13 +206,13 @@ module _ {W O A : Type 0} (w : WriterOf W O A) (limits : Limits) (end : ℕ) whe
       → CanFeed w limits end (lane kinds spot writer sink m) → IsStart limits spot (end - length spot.rest.now) start
       → IsHead limits (end - length start.next.rest.now) start.next.rest.now head new.rest.now → HasPlace limits.depth (reverse kinds) head
       → reverse left ≡ open_after (reverse kinds) head → new.top ≡ top_of (reverse kinds) spot.top (notes start.note) (end - length start.next.rest.now)
-      → wanted new.expected None [] ≡ behind_head (reverse kinds) head → MayExpect new.expected (reverse left) None []
+      → kind_in (reverse left) ≡ new.kind → wanted (expected_of new) None [] ≡ behind_head (reverse kinds) head → MayExpect (expected_of new) (reverse left) None []
       → new.values ≡ spot.values + one_if_closed (reverse left) → length left ≤ limits.depth
       → Took w (item_of new.top (option_map placed_text start.field) (notes start.note) (end - length start.next.rest.now) head) writer after sink behind m y
       → w.own after ≤ w.most writer
       → Charges m y (16 * length kinds + w.own writer) (16 * length left + w.own after) (16 * limits.depth + w.most writer)
       → Moved w limits end (lane kinds spot writer sink m) (lane left new after behind y)
-  moved-head kinds left spot new start head writer after sink behind m y can start_is head_is fits opened top wants may counts few took own charges =
+  moved-head kinds left spot new start head writer after sink behind m y can start_is head_is fits opened top inner wants may counts few took own charges =
       let bytes = start.next.rest.now in
       let place = end - length bytes in
       let field = option_map placed_text start.field in
@@ -180,7 +221,7 @@ module _ {W O A : Type 0} (w : WriterOf W O A) (limits : Limits) (end : ℕ) whe
       let less = head_is.fewer in
       let within = can.within in
       moved-item w limits end (lane kinds spot writer sink m) (lane left new after behind y) (item_of new.top field (notes start.note) place head) can
-      (head-stands kinds spot start head new.top (end - length spot.rest.now) place new.rest.now can.expects start_is head_is fits) took opened counts (behind-then spot.rest.now bytes new.rest.now to_start.part head_is.part) (omega (arith, fewer, less)) few may own charges
+      (head-stands kinds spot start head new.top (end - length spot.rest.now) place new.rest.now can.expects start_is head_is fits) took opened counts (behind-then spot.rest.now bytes new.rest.now to_start.part head_is.part) (omega (arith, fewer, less)) few inner may own charges
       (λ more.
       to_start.same place more (omega (arith, fewer, within))
       ∙ (head_is.gives (reverse kinds) spot.top (end - length new.rest.now) field (notes start.note) more fits (omega (arith, fewer, less, within))
@@ -237,6 +278,7 @@ module _ {W O A : Type 0} (w : WriterOf W O A) (limits : Limits) (end : ℕ) whe
         part = none-behind spot.rest.now;
         fewer = omega arith;
         few = none.few;
+        kind = none.kind;
         expects = none.expects;
         takes = none.takes;
         share = none.share;

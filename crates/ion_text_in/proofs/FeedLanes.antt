@@ -12,7 +12,7 @@ use Rattle.ion_value.specs.Standing.{open_after}
 use Rattle.ion_value.specs.Value.{PlacedItem}
 use Rattle.ion_value.proofs.Handing.{Stands, Took, can-took, feeds-then, hands-took, stays-then}
 use Rattle.ion_text_in.specs.declared.expected.Expected.{Expected}
-use Rattle.ion_text_in.specs.Expecting.{wanted, MayExpect}
+use Rattle.ion_text_in.specs.Expecting.{kind_in, wanted, MayExpect}
 use Rattle.ion_text_in.specs.Feeding.{joint, lane_held, lane_share, CanFeed, IsBehind, Lane, Moved, Onward}
 use Rattle.ion_text_in.proofs.FeedReading.{behind-then, none-behind}
 use Rattle.ion_text_in.proofs.Holding.{charges-then}
@@ -35,6 +35,7 @@ module _ {W O A : Type 0} (w : WriterOf W O A) (limits : Limits) (end : ℕ) whe
     part = none-behind l.rest;
     fewer = omega arith;
     few = can.few;
+    kind = can.kind;
     expects = can.expects;
     takes = can.takes;
     share = can.share;
@@ -61,6 +62,7 @@ module _ {W O A : Type 0} (w : WriterOf W O A) (limits : Limits) (end : ℕ) whe
         low = can.low;
         small = omega (arith, small, falls);
         few = moved.few;
+        kind = moved.kind;
         expects = moved.expects;
         takes = moved.takes;
         share = moved.share;
@@ -82,6 +84,7 @@ module _ {W O A : Type 0} (w : WriterOf W O A) (limits : Limits) (end : ℕ) whe
         part = behind-then l.rest n.rest r.rest f.part g.part;
         fewer = omega (arith, first_fewer, then_fewer);
         few = g.few;
+        kind = g.kind;
         expects = g.expects;
         takes = g.takes;
         share = g.share;
@@ -104,6 +107,7 @@ module _ {W O A : Type 0} (w : WriterOf W O A) (limits : Limits) (end : ℕ) whe
         part = onward.part;
         fewer = fewer;
         few = can.few;
+        kind = can.kind;
         expects = may;
         takes = can.takes;
         share = can.share;
@@ -118,11 +122,11 @@ module _ {W O A : Type 0} (w : WriterOf W O A) (limits : Limits) (end : ℕ) whe
   -- an item is taken
   pub moved-item : (l n : Lane W O) (item : PlacedItem) → CanFeed w limits end l → Stands limits.depth (reverse l.kinds) item → Took w item l.writer n.writer l.sink n.sink l.meter n.meter
       → reverse n.kinds ≡ open_after (reverse l.kinds) item.head → n.values ≡ l.values + one_if_closed (reverse n.kinds) → IsBehind l.rest n.rest → length n.rest < length l.rest
-      → length n.kinds ≤ limits.depth → MayExpect n.expected (reverse n.kinds) None []
+      → length n.kinds ≤ limits.depth → kind_in (reverse n.kinds) ≡ n.kind → MayExpect n.expected (reverse n.kinds) None []
       → w.own n.writer ≤ w.most l.writer → Charges l.meter n.meter (lane_held w l) (lane_held w n) (lane_share w limits l)
       → ((more : List ℕ) → (joint limits end more l).coming ≡ More item (joint limits end more n).coming)
       → Moved w limits end l n
-  moved-item l n item can stands took opens counts part less few may own charges gives =
+  moved-item l n item can stands took opens counts part less few inner may own charges gives =
       let one = one-most (reverse n.kinds) in
       record {
         feeds = λ texts more.
@@ -132,6 +136,7 @@ module _ {W O A : Type 0} (w : WriterOf W O A) (limits : Limits) (end : ℕ) whe
         part = part;
         fewer = omega (arith, less);
         few = few;
+        kind = inner;
         expects = may;
         takes = can-took w limits.depth (reverse l.kinds) (reverse n.kinds) l.writer n.writer l.sink n.sink l.meter n.meter item can.takes stands took opens;
         share = record { share = subst (λ (k : ℕ). w.own n.writer ≤ k) (sym took.most) own; small = subst (λ (k : ℕ). k ≤ 2 ^ 59) (sym took.most) can.share.small };

@@ -13,12 +13,15 @@ use Rattle.ion_value.specs.Parts.{Placed, ◌>>=◌}
 use Rattle.ion_value.specs.PlainItems.{placed_text}
 use Rattle.ion_value.specs.Value as value
 use Rattle.ion_value.specs.Value.{SymbolAt, Symbol}
-use Rattle.ion_text_in.specs.Feeding.{Begins, IsBare, IsNamed, IsNext, IsSimpleWord, IsStart, Onward, PassesBlanks, ToColon}
+use Rattle.ion_text_in.specs.Feeding.{expected_of, Begins, IfName, IsBare, IsBegun, IsNamed, IsNext, IsSimpleWord, IsStart, Onward, PassesBlanks, ToColon}
 use Rattle.ion_text_in.specs.declared.expected.Expected.{Expected}
 use Rattle.ion_text_in.specs.declared.expected.Expected.TheVariants as codes_of
 use Rattle.ion_text_in.specs.declared.feed.Next.{Next}
 use Rattle.ion_text_in.specs.declared.feed.Spot.{Spot}
 use Rattle.ion_text_in.specs.declared.feed.Start.{Start}
+use Rattle.ion_text_in.specs.declared.scanned.Scanned.TheVariants.{Whole}
+use Rattle.ion_text_in.specs.declared.word.Word.{Word}
+use Rattle.ion_text_in.specs.declared.word.Word.TheVariants as word
 use Rattle.ion_text_in.specs.Expecting.{MayExpect}
 use Rattle.ion_text_in.specs.Firsts.{numbered}
 use Rattle.ion_text_in.specs.Meaning.{at}
@@ -30,7 +33,7 @@ use Rattle.ion_text_in.specs.Runs.{EndBehind}
 use Rattle.ion_text_in.specs.Steps.{comes, later}
 use Rattle.ion_text_in.specs.Token as tokens
 use Rattle.ion_text_in.specs.Token.{Token, by_keyword, first_at, in_word, token_of, word_of, word_token}
-use Rattle.ion_text_in.specs.Views.{AreShown}
+use Rattle.ion_text_in.specs.Views.{AreShown, may_be_keyword, word_token_of}
 use Rattle.ion_text_in.proofs.FeedReading.{behind-then, some-behind, later-token, mark-behind, onward-blanks, onward-then}
 use Rattle.ion_text_in.proofs.ShownTokens.{word-shown}
 use Rattle.ion_text_in.proofs.WordTokens.{word-untyped}
@@ -119,6 +122,36 @@ pub slice-simple : (limit n : ℕ) (bytes : List ℕ) → 1 ≤ length bytes →
 slice-simple limit n [] some within ends begins dollar le token = absurd (omega (arith, some))
 slice-simple limit n (b ∷ bytes) some within ends begins dollar le token = word-simple limit n b bytes within ends begins dollar le token
 
+-- a word that was begun, by what it means
+pub begun-simple : (limit n : ℕ) (bytes : List ℕ) → IsBegun limit bytes n → word_token (take n bytes) ≡ Ok (tokens.name false (value.Text (take n bytes))) → IsSimpleWord limit bytes n
+begun-simple limit n bytes begun token =
+    subst (λ (k : ℕ). IsSimpleWord limit bytes k) (sym begun.count)
+    (slice-simple limit begun.others bytes begun.some begun.within begun.ends begun.begins begun.no_dollar (let fits = begun.fits in let count = begun.count in omega (arith, fits, count))
+    (subst (λ (k : ℕ). word_token (take k bytes) ≡ Ok (tokens.name false (value.Text (take k bytes)))) begun.count token))
+
+-- it begins with no dollar sign
+pub begun-dollar : (limit n : ℕ) (bytes : List ℕ) → IsBegun limit bytes n → first_is (λ b. b == 36) (take n bytes) ≡ false
+begun-dollar limit n [] begun = absurd (let some = begun.some in omega (arith, some))
+begun-dollar limit n (b ∷ bytes) begun = subst (λ (k : ℕ). first_is (λ b. b == 36) (take k (b ∷ bytes)) ≡ false) (sym begun.count ∙ refl) begun.no_dollar
+
+-- and with the byte that the slice begins with
+pub begun-first : (limit n : ℕ) (bytes : List ℕ) → IsBegun limit bytes n → may_be_keyword (take n bytes) ≡ may_be_keyword bytes
+begun-first limit n [] begun = absurd (let some = begun.some in omega (arith, some))
+begun-first limit n (b ∷ bytes) begun = subst (λ (k : ℕ). may_be_keyword (take k (b ∷ bytes)) ≡ may_be_keyword (b ∷ bytes)) (sym begun.count) refl
+
+-- where no type is behind it, it is all of the word
+pub begun-shown : (limit n : ℕ) (bytes : List ℕ) → IsBegun limit bytes n → (bytes_eq (codes "null") (take n bytes) && first_is (λ b. b == 46) (drop n bytes)) ≡ false → AreShown word_of bytes n
+begun-shown limit n bytes begun none =
+    subst (λ (k : ℕ). AreShown word_of bytes k) (sym begun.count)
+    (word-untyped bytes begun.others begun.some begun.within begun.ends (subst (λ (k : ℕ). (bytes_eq (codes "null") (take k bytes) && first_is (λ b. b == 46) (drop k bytes)) ≡ false) begun.count none))
+
+pub begun-name : (limit n : ℕ) (bytes : List ℕ) (w : Word) → IsBegun limit bytes n → word_token (take n bytes) ≡ Ok (word_token_of (take n bytes) w) → IfName (IsSimpleWord limit bytes) (Whole w n)
+begun-name limit n bytes (word.Null type) begun token = tt
+begun-name limit n bytes (word.Bool truth) begun token = tt
+begun-name limit n bytes word.NoNumber begun token = tt
+begun-name limit n bytes (word.Id id) begun token = tt
+begun-name limit n bytes word.Name begun token = begun-simple limit n bytes begun token
+
 -- ---- names of fields
 
 may-name : may_come a_field tokens.a_word ≡ true
@@ -183,7 +216,7 @@ named-start limits place n next start text colon is bare here bytes begins told 
       begins = record { some = some; tells = behind.tells; bare = passes.bare };
     }
 
-pub start-field : (limits : Limits) (spot : Spot) (place named : ℕ) (next : Next) (start : Option Start) → spot.expected ≡ codes_of.Field → IsNext spot.rest.now next
+pub start-field : (limits : Limits) (spot : Spot) (place named : ℕ) (next : Next) (start : Option Start) → expected_of spot ≡ codes_of.Field → IsNext spot.rest.now next
     → named ≡ place + (length spot.rest.now - length next.rest.now) → IfSome start (IsNamed limits named next) → IfSome start (IsStart limits spot place)
 start-field limits spot place named next None field is here h = tt
 start-field limits spot place named next (Some s) field is here h =

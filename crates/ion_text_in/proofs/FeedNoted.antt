@@ -16,7 +16,7 @@ use Rattle.ion_text_in.specs.declared.feed.Spot.{Spot}
 use Rattle.ion_text_in.specs.declared.feed.Start.{Start}
 use Rattle.ion_text_in.specs.Blanks.{blanks}
 use Rattle.ion_text_in.specs.Expecting.{wanted}
-use Rattle.ion_text_in.specs.Feeding.{notes, Begins, IsBare, IsNext, IsNoted, IsSimpleWord, IsStart, Onward, PassesBlanks}
+use Rattle.ion_text_in.specs.Feeding.{expected_of, notes, Begins, IsBare, IsNext, IsNoted, IsSimpleWord, IsStart, Onward, PassesBlanks}
 use Rattle.ion_text_in.specs.Meaning.{at}
 use Rattle.ion_text_in.specs.Positions as positions
 use Rattle.ion_text_in.specs.Positions.{Wants, a_value, in_sexp, innermost}
@@ -124,8 +124,8 @@ start-noted limits spot end start noted within is bare h =
       onward = λ kinds may.
           let before = is.onward kinds may in
           let fewer = before.fewer in
-          let plain = subst (λ (n : Option TextAt). Onward limits kinds spot.top at_spot (wanted spot.expected None []) spot.rest.now (a_value field (notes n)) start.next.rest.now) bare before in
-          rw (h.is, h.same) (onward-then limits kinds spot.top at_spot at_start (wanted spot.expected None []) (a_value field []) (a_value field (placed_text h.text ∷ [])) spot.rest.now start.next.rest.now noted.next.rest.now
+          let plain = subst (λ (n : Option TextAt). Onward limits kinds spot.top at_spot (wanted (expected_of spot) None []) spot.rest.now (a_value field (notes n)) start.next.rest.now) bare before in
+          rw (h.is, h.same) (onward-then limits kinds spot.top at_spot at_start (wanted (expected_of spot) None []) (a_value field []) (a_value field (placed_text h.text ∷ [])) spot.rest.now start.next.rest.now noted.next.rest.now
           (omega (arith, fewer, within)) plain (h.onward kinds spot.top field));
       named = λ kinds may. rw h.same (is.named kinds may);
       begins = h.begins;

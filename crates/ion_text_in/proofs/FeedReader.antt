@@ -1,5 +1,5 @@
 -- What a lane over a reader's window makes of the reader.
-use Rattle.std.proofs.Common.{◌≡◌, ℕ, ◌+◌, ◌-◌, ◌≤◌, List, [], ◌++◌, length, take, drop, Option, None, refl, sym, ap, subst, ◌∙◌, arith}
+use Rattle.std.proofs.Common.{◌≡◌, ℕ, ◌+◌, ◌-◌, ◌≤◌, List, [], ◌++◌, length, reverse, take, drop, Option, None, refl, sym, ap, subst, ◌∙◌, arith}
 use Rattle.std.proofs.lemmas.List.{drop-append-le, drop-take, length-drop}
 use Rattle.ion_meter.specs.Counts.{Counts}
 use Rattle.ion_meter.specs.declared.device.Input.{Ghosts as InputOf}
@@ -14,8 +14,9 @@ use Rattle.ion_value.specs.Items.{named_item}
 use Rattle.ion_value.specs.Reading.{Reading}
 use Rattle.ion_value.proofs.Handing.{feeds-under}
 use Rattle.ion_text_in.specs.declared.reader.TextReader.{TextReader}
-use Rattle.ion_text_in.specs.Expecting.{wanted}
-use Rattle.ion_text_in.specs.Feeding.{joint, reader_lane, state, window_end, IsBehind, Lane, Moved, PassedLent}
+use Rattle.ion_text_in.specs.declared.feed.Spot.{Spot}
+use Rattle.ion_text_in.specs.Expecting.{kind_in, wanted}
+use Rattle.ion_text_in.specs.Feeding.{expected_of, joint, lane, reader_lane, state, window_end, IsBehind, Lane, Moved, PassedLent}
 use Rattle.ion_text_in.specs.Steps.{later, opened_in, state_behind, to_come_by, unless_unfinished}
 use Rattle.ion_text_in.proofs.Shown.{behind_lent, lent-left}
 
@@ -57,6 +58,11 @@ module _ {W O A : Type 0} (w : WriterOf W O A) (limits : Limits) where
       subst (λ (x : List ℕ). Moved w limits (window_end s) (record l { rest = lent s }) (record n { rest = x })) rest
       (subst (λ (x : List ℕ). Moved w limits (window_end s) (record l { rest = x }) n) bytes
       (subst (λ (e : ℕ). Moved w limits e l n) ends moved))
+
+-- a lane as the code has it, over what the window of a reader lends
+pub lane-of : {I A W O : Type 0} (r : TextReader I A) (spot : Spot) (values : ℕ) (writer : W) (sink : Outgoing O) (m : Counts) → spot.rest.now ≡ lent r.source → spot.top ≡ r.top → spot.values ≡ values
+    → expected_of spot ≡ r.expected → kind_in (reverse r.kinds) ≡ spot.kind → lane r.kinds spot writer sink m ≡ reader_lane r values writer sink m
+lane-of r spot values writer sink m rest top counts expected kind = rw (rest, top, counts, expected, sym kind) refl
 
 -- ---- what is to come of the reader
 

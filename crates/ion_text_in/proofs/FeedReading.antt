@@ -26,7 +26,7 @@ use Rattle.ion_text_in.specs.Scanners.{Shows}
 use Rattle.ion_text_in.specs.Views.{as_number, number_token}
 use Rattle.ion_value.specs.PlainItems.{HasSimpleSymbol}
 use Rattle.ion_value.specs.Standing.{InRange}
-use Rattle.ion_text_in.specs.Feeding.{state, item_in, Begins, IsBare, IsBehind, IsHead, IsNext, IsStart, Onward, PassesBlanks}
+use Rattle.ion_text_in.specs.Feeding.{expected_of, item_in, state, Begins, IsBare, IsBehind, IsHead, IsNext, IsStart, Onward, PassesBlanks}
 use Rattle.ion_text_in.specs.Meaning.{at}
 use Rattle.ion_text_in.specs.Positions.{Wants, a_value, a_field, a_separator, innermost, in_sexp}
 use Rattle.ion_text_in.specs.Reading.{take as taken, may_come, at_member, behind_member, is_same, item_step, item_of, member_of, top_of}
@@ -291,7 +291,7 @@ onward-separator limits opened top place expected after bytes rest behind separa
     (onward-then limits opened top place (place + (length bytes - length rest)) a_separator a_separator (at_member (innermost opened)) bytes rest (drop 1 rest) (omega (arith, fewer))
     (onward-blanks limits opened top place a_separator bytes rest passes) (onward-comma limits opened top (place + (length bytes - length rest)) rest passes.bare some comma))
 
-pub start-value : (limits : Limits) (spot : Spot) (place : ℕ) (next : Next) (start : Option Start) → spot.expected ≡ codes.Value → IsNext spot.rest.now next
+pub start-value : (limits : Limits) (spot : Spot) (place : ℕ) (next : Next) (start : Option Start) → expected_of spot ≡ codes.Value → IsNext spot.rest.now next
     → IfSome start (λ s. s.field ≡ None) → IfSome start (λ s. s.note ≡ None) → IfSome start (λ s. s.next ≡ next) → IfSome start (λ s. 0 < length next.rest.now) → IfSome start (IsStart limits spot place)
 start-value limits spot place next None value is none bare same some = tt
 start-value limits spot place next (Some s) value is none bare same some =

@@ -1,6 +1,6 @@
 -- The kind of token that begins: at the input's end, and how many bytes tell it.
-use Rattle.std.proofs.Common.{◌≡◌, ℕ, zero, suc, inl, inr, ◌+◌, ◌-◌, min, ◌<◌, ◌≤◌, Bool, true, false, ◌&&◌, ◌||◌, ◌==◌, if◌then◌else◌, List, [], ◌∷◌, ◌++◌, length, take, drop, get_or, slice_get, nat_le, not, None, Ok, codes, refl, sym, ap, ◌∙◌, arith}
-use Rattle.std.proofs.lemmas.Bool.{agree_below_at, and_parts, eqb-false, eqb-true, or_cases, false≢true, leb-true, leb-false}
+use Rattle.std.proofs.Common.{◌≡◌, ◌≢◌, ℕ, zero, suc, inl, inr, ◌+◌, ◌-◌, min, ◌<◌, ◌≤◌, Bool, true, false, ◌&&◌, ◌||◌, ◌==◌, if◌then◌else◌, List, [], ◌∷◌, ◌++◌, length, take, drop, get_or, slice_get, nat_le, not, None, Ok, codes, refl, sym, ap, ◌∙◌, arith}
+use Rattle.std.proofs.lemmas.Bool.{agree_below_at, and_parts, eqb-false, eqb-true, ne_eqb, or_cases, false≢true, leb-true, leb-false}
 use Rattle.std.proofs.lemmas.List.{take_rest, length-append, length-take, nil_from_length, append-nil, append_assoc}
 use Rattle.ion_meter.specs.Windows.{Incoming, lent, lent_by, Extends}
 use Rattle.ion_value.specs.Digits.{first_is}
@@ -210,7 +210,22 @@ pub told-bare : (bytes : List ℕ) → 1 ≤ length bytes → get_or bytes 0 0 <
 told-bare [] some small told place more = absurd (omega (arith, some))
 told-bare (b ∷ bytes) some small told place more = let none = from-none b told (all-begin b small) in no-blank place b (bytes ++ more) none.0 none.1
 
--- and it is no colon
+-- ---- a struct's beginning
+
+one-brace : (sexp : Bool) (x : ℕ) (bytes : List ℕ) → (123 == x) ≡ false → first_at sexp (123 ∷ x ∷ bytes) ≡ tokens.a_begin kind.Struct
+unfolding first_at
+one-brace true x bytes other = ap (λ (b : Bool). if b && true then tokens.a_lob else tokens.a_begin kind.Struct) other
+one-brace false x bytes other = ap (λ (b : Bool). if b && true then tokens.a_lob else tokens.a_begin kind.Struct) other
+
+-- a brace begins one where no brace follows
+pub brace-first : (bytes : List ℕ) → 2 ≤ length bytes → get_or bytes 0 0 ≡ 123 → get_or bytes 1 0 ≢ 123 → (sexp : Bool) (more : List ℕ) → first_at sexp (bytes ++ more) ≡ tokens.a_begin kind.Struct
+brace-first [] two first other sexp more = absurd (omega (arith, two))
+brace-first (a ∷ []) two first other sexp more = absurd (omega (arith, two))
+brace-first (a ∷ b ∷ bytes) two first other sexp more =
+    ap (λ (x : ℕ). first_at sexp (x ∷ b ∷ (bytes ++ more))) first ∙ one-brace sexp b (bytes ++ more) (ne_eqb 123 b (λ e. other (sym e)))
+
+-- ---- no kind that is told is a colon
+
 no-colons-if : (b : Bool) (f g : First) (c : Cursor) → colons_at f c ≡ None → colons_at g c ≡ None → colons_at (if b then f else g) c ≡ None
 no-colons-if true f g c one other = one
 no-colons-if false f g c one other = other
@@ -218,4 +233,4 @@ no-colons-if false f g c one other = other
 pub no-colons : (n : ℕ) (c : Cursor) → colons_at (numbered n) c ≡ None
 no-colons n c =
     no-colons-if (n == 1) _ _ c refl (no-colons-if (n == 2) _ _ c refl (no-colons-if (n == 3) _ _ c refl (no-colons-if (n == 4) _ _ c refl
-    (no-colons-if (n == 5) _ _ c refl (no-colons-if (n == 6) _ _ c refl (no-colons-if (n == 7) _ _ c refl (no-colons-if (n == 8) _ _ c refl refl)))))))
+    (no-colons-if (n == 5) _ _ c refl (no-colons-if (n == 6) _ _ c refl (no-colons-if (n == 7) _ _ c refl (no-colons-if (n == 8) _ _ c refl (no-colons-if (n == 10) _ _ c refl refl))))))))

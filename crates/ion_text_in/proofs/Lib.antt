@@ -75,6 +75,7 @@ mod RunCuts
 mod Prepaid
 mod Rows
 mod QuickNumbers
+mod SpelledNumbers
 mod QuotedRows
 mod Lanes
 mod Blocks

@@ -1,5 +1,5 @@
 -- Ints and decimals that are read in one pass.
-use Rattle.std.proofs.Common.{◌≡◌, IsTrue, ℕ, zero, suc, ◌+◌, ◌*◌, ◌-◌, ◌^◌, ◌<◌, ◌≤◌, pos, ◌-ℤ◌, inl, inr, Bool, true, false, not, ◌&&◌, ◌||◌, ◌==◌, nat_lt, Some, Ok, List, [], ◌∷◌, ◌++◌, length, take, drop, get_or, codes, refl, sym, ap, subst, ◌∙◌, arith, None, if◌then◌else◌, ℤ}
+use Rattle.std.proofs.Common.{◌≡◌, IsTrue, ℕ, zero, suc, ◌+◌, ◌*◌, ◌-◌, ◌^◌, ◌<◌, ◌≤◌, pos, ◌-ℤ◌, inl, inr, Bool, true, false, not, ◌&&◌, ◌||◌, ◌==◌, nat_lt, Some, Ok, List, [], ◌∷◌, ◌++◌, length, take, drop, get_or, refl, sym, ap, subst, ◌∙◌, arith, None, if◌then◌else◌, ℤ}
 use Rattle.std.proofs.lemmas.Bool.{and_parts, and_right, lt-ltb}
 use Rattle.std.proofs.lemmas.Bool.Decides.{nat_tests}
 use Rattle.std.proofs.lemmas.Int.{ints}
@@ -10,15 +10,14 @@ use Rattle.ion_value.specs.Int.{IsInt, int_of_text}
 use Rattle.ion_value.specs.Decimal.{IsDecimal, decimal_in_range, decimal_of_parts, decimal_of_text, parts_of}
 use Rattle.ion_value.specs.Digits.{is_digit, digit_value, all_are, first_is, has_minus}
 use Rattle.ion_value.specs.DigitReading.{Read, decimal_behind, read_digits, read_whole, read_int, read_fraction}
-use Rattle.ion_value.specs.Name.{is_one_of}
 use Rattle.ion_value.specs.Number.{signed}
 use Rattle.ion_value.proofs.LeadingDigits.{all_are-append}
 use Rattle.ion_value.proofs.TextDigits.{ten, zero_first, int-text, int-whole}
 use Rattle.ion_value.proofs.TextDecimals.{sign-read, decimal-text, exponent_digits, exponent-read, mantissa-plain, mantissa-pointed, behind-nothing, decimal-in_range, one-shape}
 use Rattle.ion_text_in.specs.declared.number.Number.TheVariants as numbers
 use Rattle.ion_text_in.specs.declared.run.Run.TheVariants as run
-use Rattle.ion_text_in.specs.Blanks.{is_white, begins_comment}
-use Rattle.ion_text_in.specs.Quick.{number_after, scaled, signed_int, signed_text, AreWhole, IsMantissa, IsQuick}
+use Rattle.ion_text_in.specs.Blanks.{begins_comment}
+use Rattle.ion_text_in.specs.Quick.{number_after, scaled, signed_int, signed_text, stops, AreSpelled, AreWhole, IsMantissa, IsQuick}
 use Rattle.ion_text_in.specs.Runs.{EndBehind, stays}
 use Rattle.ion_text_in.specs.Token.{bytes_of, in_run, run_token}
 use Rattle.ion_text_in.specs.Views.{number_token, AreShown}
@@ -87,10 +86,6 @@ pub whole-spells : (bytes : List ℕ) (k : ℕ) → AreWhole bytes k → IsWhole
 whole-spells bytes k so = record { read = digits-spell 0 bytes k (omega (arith, so.within)) so.some so.digits; some = so.some; within = so.within; no_zeros = so.no_zeros }
 
 -- ---- where a number ends
-
--- punctuation, a quote or white space
-abbrev pub stops : ℕ → Bool
-stops b = is_one_of (codes "{}[](),\"'") b || is_white b
 
 in_run-stop : (b : ℕ) (rest : List ℕ) → stops b ≡ true → in_run (b ∷ rest) ≡ false
 in_run-stop b rest e = ap (λ (v : Bool). not (v || begins_comment (b ∷ rest))) e
@@ -202,8 +197,9 @@ int-valid negative n small = record { positive_zero = λ h. positive negative n 
     positive false n h = absurd (cc h)
 
 pub quick-int : (negative : Bool) (bytes : List ℕ) (n k : ℕ) → IsWhole bytes n k → stops (get_or bytes k 0) ≡ true → n < 2 ^ 128
-    → IsQuick negative bytes (record { negative = negative; number = n; exponent = None; count = k })
-quick-int negative bytes n k so stop small = record {
+    → AreSpelled (signed_text negative (take k bytes)) (record { negative = negative; number = n; exponent = None; count = k; canonical = true })
+    → IsQuick negative bytes (record { negative = negative; number = n; exponent = None; count = k; canonical = true })
+quick-int negative bytes n k so stop small spelled = record {
   sign = refl;
   some = so.some;
   within = so.within;
@@ -211,6 +207,7 @@ quick-int negative bytes n k so stop small = record {
   ends = stop-ends bytes k so.within stop;
   gives = int-token (signed_text negative (take k bytes)) (signed_int negative n) (int-text-read negative bytes n k so small);
   range = int-valid negative n small;
+  spelled = spelled;
 }
 
 -- ---- decimals
@@ -227,7 +224,7 @@ fraction-is start bytes m j so some =
     ∙ ap (λ (v : Bool). read_digits 10 m v j []) (lt-ltb 0 j some)
     ∙ read-last m j
 
-split-text : (bytes : List ℕ) (c k j : ℕ) → k < length bytes → get_or bytes k 0 ≡ c → take (k + 1 + j) bytes ≡ take k bytes ++ (c ∷ take j (drop (k + 1) bytes))
+pub split-text : (bytes : List ℕ) (c k j : ℕ) → k < length bytes → get_or bytes k 0 ≡ c → take (k + 1 + j) bytes ≡ take k bytes ++ (c ∷ take j (drop (k + 1) bytes))
 split-text bytes c k j less is =
     take-add (k + 1) j bytes
     ∙ ap (λ (l : List ℕ). l ++ take j (drop (k + 1) bytes)) (take_more bytes k 0 less)
@@ -275,8 +272,9 @@ decimal-gives negative bytes n k m j whole behind some small few =
 
 pub quick-decimal : (negative : Bool) (bytes : List ℕ) (n k m j : ℕ) → IsWhole bytes n k → get_or bytes k 0 ≡ 46 → AreDigits n (drop (k + 1) bytes) m j → 0 < j
     → k + 1 + j < length bytes → stops (get_or bytes (k + 1 + j) 0) ≡ true → m < 2 ^ 128 → j ≤ 128
-    → IsQuick negative bytes (record { negative = negative; number = m; exponent = Some (signed true j); count = k + 1 + j })
-quick-decimal negative bytes n k m j whole point behind some within stop small few =
+    → AreSpelled (signed_text negative (take (k + 1 + j) bytes)) (record { negative = negative; number = m; exponent = Some (signed true j); count = k + 1 + j; canonical = true })
+    → IsQuick negative bytes (record { negative = negative; number = m; exponent = Some (signed true j); count = k + 1 + j; canonical = true })
+quick-decimal negative bytes n k m j whole point behind some within stop small few spelled =
     let text = split-text bytes 46 k j whole.within point in
     record {
       sign = refl;
@@ -288,6 +286,7 @@ quick-decimal negative bytes n k m j whole point behind some within stop small f
       ends = stop-ends bytes (k + 1 + j) within stop;
       gives = ap (λ (l : List ℕ). run_token (signed_text negative l)) text ∙ decimal-gives negative bytes n k m j whole behind some small few;
       range = scaled-valid negative true m j small few;
+      spelled = spelled;
     }
 
 -- ---- decimals with an exponent
@@ -389,7 +388,7 @@ signed-stay false ds e = e
 
 pub quick-power : (negative below : Bool) (bytes ys : List ℕ) (n places k m j : ℕ) → IsMantissa bytes n places k → get_or bytes k 0 ≡ 100 → signed_text below ys ≡ drop (k + 1) bytes → AreDigits 0 ys m j
     → 0 < j → k + 1 + (sign_length below + j) < length bytes → stops (get_or bytes (k + 1 + (sign_length below + j)) 0) ≡ true → n < 2 ^ 128 → m ≤ 128
-    → IsQuick negative bytes (record { negative = negative; number = n; exponent = Some (signed below m -ℤ pos places); count = k + 1 + (sign_length below + j) })
+    → IsQuick negative bytes (record { negative = negative; number = n; exponent = Some (signed below m -ℤ pos places); count = k + 1 + (sign_length below + j); canonical = false })
 quick-power negative below bytes ys n places k m j mantissa mark behind power some within stop small few =
     let p : List ℕ = signed_text below (take j ys) in
     let split = split-text bytes 100 k (sign_length below + j) mantissa.within mark in
@@ -408,4 +407,5 @@ quick-power negative below bytes ys n places k m j mantissa mark behind power so
       ends = stop-ends bytes (k + 1 + (sign_length below + j)) within stop;
       gives = ap (λ (l : List ℕ). run_token (signed_text negative l)) text ∙ decimal-alone (signed_text negative (take k bytes ++ (100 ∷ p))) d read;
       range = valid;
+      spelled = record { int = λ none. absurd (cc none); text = λ e. absurd (cc e) };
     }

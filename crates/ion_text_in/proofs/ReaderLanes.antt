@@ -39,12 +39,6 @@ may-comma (a_value field annotations) = refl
 may-comma a_field = refl
 may-comma a_separator = refl
 
-pub may-begin : (kind : Kind) (w : Wants) → may_come w (tokens.a_begin kind) ≡ true
-unfolding may_come
-may-begin kind (a_value field annotations) = refl
-may-begin kind a_field = refl
-may-begin kind a_separator = refl
-
 pub may-end : (kind : Kind) (w : Wants) → may_come w (tokens.an_end kind) ≡ true
 unfolding may_come
 may-end kind (a_value field annotations) = refl

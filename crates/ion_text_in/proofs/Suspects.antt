@@ -114,3 +114,40 @@ pub over-one : (test : ℕ → Bool) (bytes : List ℕ) (n : ℕ) → n < length
 over-one test bytes n there before one =
     let cons : drop n bytes ≡ slice_index bytes n ∷ drop (suc n) bytes = drop-cons bytes n 0 there in
     all-behind test bytes n 1 before (rw (cons, one) refl)
+
+-- ---- a text of ASCII alone, in one block
+
+clob-sure : (m e g c : Bool) (in_clob : Bool) → (not m && not e && (g && (false || c))) ≡ true → (not m && not e && (g && (not in_clob || c))) ≡ true
+clob-sure true e' g c in_clob e = absurd (cc e)
+clob-sure false true g c in_clob e = absurd (cc e)
+clob-sure false false false c in_clob e = absurd (cc e)
+clob-sure false false true false in_clob e = absurd (cc e)
+clob-sure false false true true true e = refl
+clob-sure false false true true false e = refl
+
+clob-low : (m e g c : Bool) → (not m && not e && (g && (false || c))) ≡ true → c ≡ true
+clob-low true e' g c e = absurd (cc e)
+clob-low false true g c e = absurd (cc e)
+clob-low false false false c e = absurd (cc e)
+clob-low false false true c e = e
+
+all-clob : (mark : ℕ) (in_clob : Bool) (xs : List ℕ) → all_are (is_sure mark true) xs ≡ true → (all_are (is_sure mark in_clob) xs ≡ true) × (all_are (λ b. nat_lt b 128) xs ≡ true)
+all-clob mark in_clob [] e = (refl, refl)
+all-clob mark in_clob (b ∷ xs) e =
+    let both = and_parts (is_sure mark true b) (all_are (is_sure mark true) xs) e in
+    let others = all-clob mark in_clob xs both.1 in (
+      ap₂ (λ y z. y && z) (clob-sure (mark == b) (b == 92) (nat_le 32 b) (nat_lt b 128) in_clob both.0) others.0,
+      ap₂ (λ y z. y && z) (clob-low (mark == b) (b == 92) (nat_le 32 b) (nat_lt b 128) both.0) others.1,
+    )
+
+pub ascii-plain : (mark : ℕ) (lines in_clob : Bool) (bytes : List ℕ) (found : ℕ) → found ≡ mask_l (map (λ b. not (is_sure mark true b)) (chunk 0 32 bytes)) → 32 ≤ length bytes → found ≢ 0
+    → (count_trailing_zeros 64 found < length bytes) × (all_are (is_plain_byte (one_mark mark lines in_clob)) (take (count_trailing_zeros 64 found) bytes) ≡ true)
+    × (all_are (λ b. nat_lt b 128) (take (count_trailing_zeros 64 found) bytes) ≡ true)
+ascii-plain mark lines in_clob bytes found same room some =
+    let sure : ℕ → Bool = is_sure mark true in
+    let n = count_trailing_zeros 64 found in
+    let run = run_at sure bytes 0 32 room (omega arith) (omega (arith, same, some)) in
+    let count : prefix_len sure bytes ≡ n = run.0 ∙ sym (ap (count_trailing_zeros 64) same) in
+    let passes = subst (λ (k : ℕ). all_are sure (take k bytes) ≡ true) count (run_passes sure bytes) in
+    let both = all-clob mark in_clob (take n bytes) passes in
+    (omega (arith, run.0, run.1, count, room), all-sure mark lines in_clob (take n bytes) both.0, both.1)

@@ -139,19 +139,9 @@ pub other-word : (word : List ℕ) → bytes_eq (codes "null") word ≡ false �
 unfolding word_token
 other-word word not_null typed truth falsity nan dollar = rw (not_null, typed, truth, falsity, nan, dollar) refl
 
--- none of them, in one test
-pub no_keyword-word : (word : List ℕ) → ((bytes_eq (codes "null") word || begins_with (codes "null.") word) || (bytes_eq (codes "true") word || bytes_eq (codes "false") word) || bytes_eq (codes "nan") word) ≡ false
-    → first_is (λ b. b == 36) word ≡ false → word_token word ≡ Ok (name false (value.Text word))
-no_keyword-word word none dollar = by (bytes_eq (codes "null") word) (begins_with (codes "null.") word) (bytes_eq (codes "true") word) (bytes_eq (codes "false") word) (bytes_eq (codes "nan") word) refl refl refl refl refl none
-  where
-    by : (a b c d e : Bool) → bytes_eq (codes "null") word ≡ a → begins_with (codes "null.") word ≡ b → bytes_eq (codes "true") word ≡ c → bytes_eq (codes "false") word ≡ d
-        → bytes_eq (codes "nan") word ≡ e → ((a || b) || (c || d) || e) ≡ false → word_token word ≡ Ok (name false (value.Text word))
-    by false false false false false p q r s t none = other-word word p q r s t dollar
-    by true b c d e p q r s t none = absurd (cc none)
-    by false true c d e p q r s t none = absurd (cc none)
-    by false false true d e p q r s t none = absurd (cc none)
-    by false false false true e p q r s t none = absurd (cc none)
-    by false false false false true p q r s t none = absurd (cc none)
+pub keyword-first : (word : List ℕ) → 1 ≤ length word → (110 == get_or word 0 0 || 116 == get_or word 0 0 || 102 == get_or word 0 0) ≡ may_be_keyword word
+keyword-first [] some = absurd (omega (arith, some))
+keyword-first (b ∷ bytes) some = refl
 
 -- its first byte tells that
 pub plain-word : (word : List ℕ) → may_be_keyword word ≡ false → first_is (λ b. b == 36) word ≡ false → word_token word ≡ Ok (name false (value.Text word))

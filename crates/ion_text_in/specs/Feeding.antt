@@ -1,5 +1,5 @@
 -- A lane over the bytes of a window: where it stands, what it reads of them, and what it moves.
-use Rattle.std.specs.Prelude.{◌≡◌, ℕ, ◌+◌, ◌*◌, ◌-◌, ◌^◌, ◌<◌, ◌≤◌, Bool, true, false, List, [], ◌∷◌, ◌++◌, take, drop, length, reverse, is_some, Option, Some, None, Ok, option_map}
+use Rattle.std.specs.Prelude.{◌≡◌, ℕ, ◌+◌, ◌*◌, ◌-◌, ◌^◌, ◌<◌, ◌≤◌, ◌==◌, Bool, get_or, true, false, List, [], ◌∷◌, ◌++◌, take, drop, length, reverse, is_some, Option, Some, None, Ok, option_map, IfSome}
 use Rattle.ion_meter.specs.Counts.{Counts}
 use Rattle.ion_meter.specs.declared.limits.Limits.{Limits}
 use Rattle.ion_meter.specs.Limits.{AreChecked}
@@ -11,7 +11,7 @@ use Rattle.ion_value.specs.declared.writer.ValueWriter.{Ghosts as WriterOf}
 use Rattle.ion_value.specs.Feeding.{CanTake, Feeds, Joint, StaysWell}
 use Rattle.ion_value.specs.Items.{named_item, raw_head}
 use Rattle.ion_value.specs.Parts.{Placed}
-use Rattle.ion_value.specs.PlainItems.{listed, placed_text, AreSimple, HasSimpleName, IsSimpleHead}
+use Rattle.ion_value.specs.PlainItems.{listed, placed_text, AreSimple, HasSimpleName, IsSimpleHead, IsTextOf}
 use Rattle.ion_value.specs.Reading.{More}
 use Rattle.ion_value.specs.Shares.{Charges}
 use Rattle.ion_value.specs.Standing.{open_after, in_struct, has_field, is_marker, HasPlace, HeadInRange, WritesWithin}
@@ -23,15 +23,20 @@ use Rattle.ion_text_in.specs.declared.feed.Spot.{Spot}
 use Rattle.ion_text_in.specs.declared.feed.Next.{Next}
 use Rattle.ion_text_in.specs.declared.feed.Start.{Start}
 use Rattle.ion_text_in.specs.declared.feed.Found.{Found}
+use Rattle.ion_text_in.specs.declared.scanned.Scanned.{Scanned}
+use Rattle.ion_text_in.specs.declared.scanned.Scanned.TheVariants.{Whole, Fault, Cut}
+use Rattle.ion_text_in.specs.declared.word.Word.{Word}
+use Rattle.ion_text_in.specs.declared.word.Word.TheVariants as word
 use Rattle.ion_text_in.specs.Blanks.{blanks}
-use Rattle.ion_text_in.specs.Expecting.{wanted, MayExpect}
+use Rattle.ion_text_in.specs.Expecting.{expected_in, kind_in, wanted, MayExpect}
 use Rattle.ion_text_in.specs.Firsts.{numbered}
 use Rattle.ion_text_in.specs.Meaning.{at}
 use Rattle.ion_text_in.specs.Positions.{State, Wants, a_field, a_value, innermost}
 use Rattle.ion_text_in.specs.Reading.{behind_member, item_of, member_of, top_of}
+use Rattle.ion_text_in.specs.Runs.{EndBehind}
 use Rattle.ion_text_in.specs.Steps.{later}
-use Rattle.ion_text_in.specs.Token.{a_colon, a_word, first_at, name, token_of}
-use Rattle.ion_value.specs.Name.{is_simple}
+use Rattle.ion_text_in.specs.Token.{a_colon, a_word, first_at, in_word, name, token_of}
+use Rattle.ion_value.specs.Name.{is_identifier_start, is_simple}
 
 -- ---- bytes
 
@@ -58,7 +63,7 @@ pub record LeadsTo (one other : ℕ → List ℕ → Placed Cursor) (bytes rest 
   pub fewer : length rest ≤ length bytes
   pub same : (p q : ℕ) (more : List ℕ) → p + length bytes ≡ q + length rest → one p (bytes ++ more) ≡ other q (rest ++ more)
 
--- what a slice shows of the next token behind blanks, by the number of what its first byte tells alone: 0 is known of nothing
+-- what a slice shows of the next token behind blanks, by the number of what its first byte or two tell: 0 is known of nothing
 pub record IsNext (bytes : List ℕ) (next : Next) : Type 0 where
   pub passes : 0 < length next.rest.now → PassesBlanks bytes next.rest.now
   pub some : 0 < next.told → 0 < length next.rest.now
@@ -71,6 +76,27 @@ pub record IsSimpleWord (limit : ℕ) (bytes : List ℕ) (n : ℕ) : Type 0 wher
   pub simple : is_simple (take n bytes) ≡ true
   pub shown : (place : ℕ) (more : List ℕ)
       → token_of (Some limit) a_word (at place (bytes ++ more)) ≡ Ok (name false (value.Text (take n bytes)), at (place + n) (drop n bytes ++ more))
+
+-- so many bytes in front are a word without a type behind it, within a limit, and begin as a symbol does, but with no dollar sign
+pub record IsBegun (limit : ℕ) (bytes : List ℕ) (n : ℕ) : Type 0 where
+  pub others : ℕ
+  pub count : n ≡ 1 + others
+  pub some : 1 ≤ length bytes
+  pub within : others < length (drop 1 bytes)
+  pub ends : EndBehind in_word (drop 1 bytes) others
+  pub begins : is_identifier_start (get_or bytes 0 0) ≡ true
+  pub no_dollar : (get_or bytes 0 0 == 36) ≡ false
+  pub fits : n ≤ limit
+
+-- what holds of the bytes of a word where it is a symbol by its text
+abbrev pub IfName : (ℕ → Type 0) → Scanned Word → Type 0
+IfName P (Whole (word.Null type) n) = Unit {0}
+IfName P (Whole (word.Bool truth) n) = Unit {0}
+IfName P (Whole word.NoNumber n) = Unit {0}
+IfName P (Whole (word.Id id) n) = Unit {0}
+IfName P (Whole word.Name n) = P n
+IfName P (Fault reason) = Unit {0}
+IfName P Cut = Unit {0}
 
 -- behind blanks a colon stands there
 pub record ToColon (bytes rest : List ℕ) : Type 0 where
@@ -108,7 +134,7 @@ notes note = listed (option_map placed_text note)
 
 -- ---- parts of an item
 
--- a token begins here, of the kind that its first byte tells, if it does
+-- a token begins here, of the kind that its first byte or two tell, if they do
 pub record Begins (next : Next) : Type 0 where
   pub some : 0 < length next.rest.now
   pub tells : 0 < next.told → (in_sexp : Bool) (more : List ℕ) → first_at in_sexp (next.rest.now ++ more) ≡ numbered next.told
@@ -134,13 +160,17 @@ pub record IsNoted (limits : Limits) (place : ℕ) (start noted : Start) : Type 
       → Onward limits kinds top place (a_value field []) start.next.rest.now (a_value field (placed_text text ∷ [])) noted.next.rest.now
   pub begins : Begins noted.next
 
+-- what must come where a lane stands
+abbrev pub expected_of : Spot → Expected
+expected_of spot = expected_in spot.separator spot.kind
+
 -- a value begins here, behind the name of a field where one must come, and behind an annotation if it has one
 pub record IsStart (limits : Limits) (spot : Spot) (place : ℕ) (start : Start) : Type 0 where
   pub simple : HasSimpleName (option_map placed_text start.field)
   pub noted : AreSimple (notes start.note)
-  pub onward : (kinds : List Kind) → MayExpect spot.expected kinds None []
-      → Onward limits kinds spot.top place (wanted spot.expected None []) spot.rest.now (a_value (option_map placed_text start.field) (notes start.note)) start.next.rest.now
-  pub named : (kinds : List Kind) → MayExpect spot.expected kinds None [] → is_some start.field ≡ in_struct kinds
+  pub onward : (kinds : List Kind) → MayExpect (expected_of spot) kinds None []
+      → Onward limits kinds spot.top place (wanted (expected_of spot) None []) spot.rest.now (a_value (option_map placed_text start.field) (notes start.note)) start.next.rest.now
+  pub named : (kinds : List Kind) → MayExpect (expected_of spot) kinds None [] → is_some start.field ≡ in_struct kinds
   pub begins : Begins start.next
 
 -- a head stands at the front of some bytes, and these behind it
@@ -155,15 +185,17 @@ pub record IsHead (limits : Limits) (place : ℕ) (bytes : List ℕ) (head : Hea
       → later limits (state kinds top (a_value field annotations) place (bytes ++ more))
       ≡ More (item_in kinds top field annotations place head) (later limits (state (open_after kinds head) (top_of kinds top annotations place) (behind_head kinds head) q (rest ++ more)))
 
--- the same of what the code found
-abbrev pub IsFound : Limits → ℕ → List ℕ → Found → Type 0
-IsFound limits place bytes found = IsHead limits place bytes (raw_head found.head) found.rest.now
+-- the same of what the code found, with the head's canonical text where it has that
+pub record IsFound (limits : Limits) (place : ℕ) (bytes : List ℕ) (found : Found) : Type 0 where
+  pub head : IsHead limits place bytes (raw_head found.head) found.rest.now
+  pub spelled : IfSome found.spelled (λ text. IsTextOf text.now (raw_head found.head))
 
 -- ---- a lane
 
 -- what it moves: the reader's part of it, and what items are handed to
 pub record Lane (W O : Type 0) : Type 0 where
   pub kinds : List Kind
+  pub kind : Kind
   pub expected : Expected
   pub top : ℕ
   pub rest : List ℕ
@@ -176,7 +208,8 @@ pub record Lane (W O : Type 0) : Type 0 where
 abbrev pub lane : {W O : Type 0} → List Kind → Spot → W → Outgoing O → Counts → Lane W O
 lane kinds spot writer sink meter = record {
   kinds = kinds;
-  expected = spot.expected;
+  kind = spot.kind;
+  expected = expected_of spot;
   top = spot.top;
   rest = spot.rest.now;
   values = spot.values;
@@ -213,6 +246,7 @@ pub record CanFeed {W O A : Type 0} (w : WriterOf W O A) (limits : Limits) (end 
   pub low : end ≤ 2 ^ 62
   pub small : l.values + length l.rest ≤ 2 ^ 62
   pub few : length l.kinds ≤ limits.depth
+  pub kind : kind_in (reverse l.kinds) ≡ l.kind
   pub expects : MayExpect l.expected (reverse l.kinds) None []
   pub takes : CanTake w limits.depth (reverse l.kinds) l.writer l.sink
   pub share : WritesWithin (w.own l.writer) (w.most l.writer)
@@ -224,6 +258,7 @@ pub record Moved {W O A : Type 0} (w : WriterOf W O A) (limits : Limits) (end : 
   pub part : IsBehind old.rest new.rest
   pub fewer : length new.rest ≤ length old.rest
   pub few : length new.kinds ≤ limits.depth
+  pub kind : kind_in (reverse new.kinds) ≡ new.kind
   pub expects : MayExpect new.expected (reverse new.kinds) None []
   pub takes : CanTake w limits.depth (reverse new.kinds) new.writer new.sink
   pub share : WritesWithin (w.own new.writer) (w.most new.writer)
@@ -240,6 +275,7 @@ window_end s = s.place + length (lent s)
 abbrev pub reader_lane : {I A W O : Type 0} → TextReader I A → ℕ → W → Outgoing O → Counts → Lane W O
 reader_lane r values writer sink meter = record {
   kinds = r.kinds;
+  kind = kind_in (reverse r.kinds);
   expected = r.expected;
   top = r.top;
   rest = lent r.source;

@@ -24,7 +24,7 @@ first_of kind.Colon = tokens.a_colon
 first_of kind.Colons = tokens.two_colons
 first_of kind.Nothing = tokens.no_token
 
--- the kinds that a byte tells alone, by their numbers in the table of such bytes
+-- the kinds that a byte tells alone, by their numbers in the table of such bytes, and a struct's beginning
 abbrev pub numbered : ℕ → tokens.First
 numbered n =
     if n == 1 then tokens.a_word
@@ -35,7 +35,8 @@ numbered n =
     else (if n == 6 then tokens.a_begin kinds.Sexp
     else (if n == 7 then tokens.an_end kinds.Struct
     else (if n == 8 then tokens.an_end kinds.List
-    else tokens.an_end kinds.Sexp)))))))
+    else (if n == 10 then tokens.a_begin kinds.Struct
+    else tokens.an_end kinds.Sexp))))))))
 
 -- how many bytes of a token tell its kind
 abbrev pub width : tokens.First → ℕ

@@ -1,15 +1,19 @@
 -- Ints and decimals that are read in one pass.
-use Rattle.std.specs.Prelude.{◌≡◌, ℕ, ◌+◌, ◌-◌, ◌*◌, ◌<◌, ◌≤◌, ℤ, Option, Some, None, Bool, true, false, ◌&&◌, ◌||◌, ◌==◌, nat_lt, if◌then◌else◌, List, [], ◌∷◌, ◌++◌, length, take, drop, Ok}
+use Rattle.std.specs.Prelude.{◌≡◌, ℕ, ◌+◌, ◌-◌, ◌*◌, ◌<◌, ◌≤◌, ℤ, Option, Some, None, Bool, true, false, ◌&&◌, ◌||◌, ◌==◌, nat_lt, if◌then◌else◌, List, [], ◌∷◌, ◌++◌, length, take, drop, codes, Ok}
 use Rattle.ion_value.specs.declared.decimal.Decimal.{Decimal}
 use Rattle.ion_value.specs.declared.int.Int.{Int}
 use Rattle.ion_value.specs.Decimal.{decimal_of_parts, parts_of}
 use Rattle.ion_value.specs.DigitReading.{decimal_behind}
 use Rattle.ion_value.specs.Digits.{is_digit, all_are, first_is, has_minus}
+use Rattle.ion_value.specs.Name.{is_one_of}
+use Rattle.ion_value.specs.PlainItems.{IsTextOf}
 use Rattle.ion_value.specs.Standing.{InRange}
+use Rattle.ion_value.specs.Value.{whole}
 use Rattle.ion_text_in.specs.declared.number.Number.{Number}
 use Rattle.ion_text_in.specs.declared.number.Number.TheVariants as numbers
 use Rattle.ion_text_in.specs.declared.quick.Quick.{Quick}
 use Rattle.ion_text_in.specs.declared.run.Run.TheVariants as run
+use Rattle.ion_text_in.specs.Blanks.{is_white}
 use Rattle.ion_text_in.specs.Runs.{stays}
 use Rattle.ion_text_in.specs.Token.{in_run, run_token}
 use Rattle.ion_text_in.specs.Views.{as_number, number_token}
@@ -40,6 +44,10 @@ abbrev pub number_after : ℕ → List ℕ → ℕ
 number_after n [] = n
 number_after n (digit ∷ digits) = number_after (n * 10 + (digit - 48)) digits
 
+-- punctuation, a quote or white space, which end a number whatever follows them
+abbrev pub stops : ℕ → Bool
+stops b = is_one_of (codes "{}[](),\"'") b || is_white b
+
 -- so many bytes in front are digits, of which a first zero stands alone, and another byte stands behind them
 pub record AreWhole (bytes : List ℕ) (count : ℕ) : Type 0 where
   pub some : 0 < count
@@ -57,6 +65,11 @@ pub record IsMantissa (bytes : List ℕ) (number places count : ℕ) : Type 0 wh
   pub read : (power : List ℕ) (negative : Bool)
       → decimal_of_parts negative (parts_of (take count bytes ++ 100 ∷ power)) ≡ decimal_behind negative number places (nat_lt 0 places) (100 ∷ power)
 
+-- some bytes are the canonical text of the number that was read of them where it says so, which it does of each int
+pub record AreSpelled (bytes : List ℕ) (x : Quick) : Type 0 where
+  pub int : x.exponent ≡ None → x.canonical ≡ true
+  pub text : x.canonical ≡ true → IsTextOf bytes (whole (as_number (as_quick x)))
+
 -- so many bytes behind a sign are a number, and a byte that stops it stands behind them
 pub record IsQuick (negative : Bool) (bytes : List ℕ) (x : Quick) : Type 0 where
   pub sign : x.negative ≡ negative
@@ -66,3 +79,4 @@ pub record IsQuick (negative : Bool) (bytes : List ℕ) (x : Quick) : Type 0 whe
   pub ends : (more : List ℕ) → in_run (drop x.count bytes ++ more) ≡ false
   pub gives : run_token (signed_text negative (take x.count bytes)) ≡ Ok (number_token (as_quick x))
   pub range : InRange (as_number (as_quick x))
+  pub spelled : AreSpelled (signed_text negative (take x.count bytes)) x

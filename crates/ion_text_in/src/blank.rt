@@ -283,9 +283,39 @@ fn few_without(first: u8, second: u8, bytes: &[u8]) -> usize
     bytes.len()
 }
 
-/// How many bytes at the front of these are white space. Mostly there are few.
+// How many bytes are looked at together where white space may stand.
+const FEW: usize = 16;
+
+/// How many bytes at the front of these are white space.
 #[inline(always)]
 pub(crate) fn white_run(bytes: &[u8]) -> usize
+    ensures within { result ≤ length bytes.now }
+    ensures run { all_are is_white (take result bytes.now) ≡ true }
+    ensures ends { first_is is_white (drop result bytes.now) ≡ false }
+{
+    let mut at = 0;
+    'skip: while bytes.len() - at >= FEW {
+        let others = no_white(u8x16::from_slice(&bytes[at..]));
+        if others != 0 {
+            return at + others.trailing_zeros() as usize;
+        }
+        at += FEW;
+    }
+    at + few_white(&bytes[at..])
+}
+
+// Which of these bytes are no white space: a bit for each, the lowest for the first.
+#[inline(always)]
+fn no_white(bytes: u8x16) -> u64
+    ensures { result ≡ mask_l (map (λ b. not (is_white b)) bytes) }
+{
+    let no_control = bytes.simd_lt(u8x16::splat(9)) | bytes.simd_gt(u8x16::splat(13));
+    (no_control & bytes.simd_ne(u8x16::splat(b' '))).to_bitmask()
+}
+
+// How many bytes at the front of these are white space, one after the other.
+#[inline(always)]
+fn few_white(bytes: &[u8]) -> usize
     ensures within { result ≤ length bytes.now }
     ensures run { all_are is_white (take result bytes.now) ≡ true }
     ensures ends { first_is is_white (drop result bytes.now) ≡ false }

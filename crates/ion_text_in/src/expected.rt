@@ -5,7 +5,7 @@ ghost use Rattle.ion_value.specs.Value.{SymbolAt};
 ghost use Rattle.ion_text_in.specs.Firsts.{first_of};
 ghost use Rattle.ion_text_in.specs.Positions.{innermost};
 ghost use Rattle.ion_text_in.specs.Reading as reading;
-ghost use Rattle.ion_text_in.specs.Expecting.{wanted, MayExpect};
+ghost use Rattle.ion_text_in.specs.Expecting.{expected_in, is_separated, kind_in, wanted, MayExpect};
 
 use crate::first::First;
 use ion_value::ion_type::Kind;
@@ -41,6 +41,49 @@ pub(crate) fn at_member(kind: Kind) -> Expected
     match kind {
         Kind::Struct => Expected::Field,
         Kind::List | Kind::Sexp => Expected::Value,
+    }
+}
+
+// Whether a comma must come, or the end of the container.
+#[inline]
+pub(crate) fn is_separator(expected: Expected) -> bool
+    ensures { (opened : List kinds.Kind) → MayExpect expected opened None []
+        → expected_in result (kind_in opened) ≡ expected }
+{
+    matches!(expected, Expected::Separator)
+}
+
+// What must come in a container of a kind: a separator, or a member.
+#[inline]
+pub(crate) fn expected_in(separator: bool, kind: Kind) -> Expected
+    ensures { result ≡ expected_in separator kind }
+{
+    if separator {
+        Expected::Separator
+    } else {
+        at_member(kind)
+    }
+}
+
+// Whether a comma stands between members of a container of a kind.
+#[inline(always)]
+pub(crate) fn is_separated(kind: Kind) -> bool
+    ensures { result ≡ is_separated kind }
+{
+    match kind {
+        Kind::List | Kind::Struct => true,
+        Kind::Sexp => false,
+    }
+}
+
+// The kind of container in which members stand so.
+#[inline(always)]
+pub(crate) fn member_kind(inner: Option<Kind>) -> Kind
+    ensures { (opened : List kinds.Kind) → innermost opened ≡ inner → kind_in opened ≡ result }
+{
+    match inner {
+        Some(kind) => kind,
+        None => Kind::Sexp,
     }
 }
 

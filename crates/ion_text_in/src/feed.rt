@@ -1,8 +1,8 @@
 //! A lane for items that lie whole in the window: they go to the writer as they are read.
 ghost use Rattle.std.specs.Prelude.{◌≡◌, ◌≢◌, ◌+◌, ◌-◌, ◌^◌, ◌<◌, ◌≤◌, ℕ, Bool, List, [], ◌∷◌, ◌++◌, take, drop, length, reverse, true, false, None, Some, Ok, option_map, IfSome};
 ghost use Rattle.ion_value.specs.declared.ion_type.Kind as kind_of;
-ghost use Rattle.ion_text_in.specs.Expecting.{wanted, MayExpect};
-ghost use Rattle.ion_text_in.specs.Feeding.{lane, notes, Begins, CanFeed, IsBare, IsFound, IsNamed, IsNext, IsStart, Moved, Onward, PassesBlanks, ToColon};
+ghost use Rattle.ion_text_in.specs.Expecting.{is_separated, kind_in, wanted, MayExpect};
+ghost use Rattle.ion_text_in.specs.Feeding.{expected_of, lane, notes, Begins, CanFeed, IsBare, IsFound, IsNamed, IsNext, IsSimpleWord, IsStart, Moved, Onward, PassesBlanks, ToColon};
 ghost use Rattle.ion_text_in.specs.Firsts.{numbered};
 ghost use Rattle.ion_text_in.specs.Reading.{top_of};
 ghost use Rattle.ion_text_in.specs.Token.{a_comma, a_run, a_short, a_word, an_end, first_at};
@@ -14,15 +14,15 @@ mod copies;
 mod heads;
 mod noted;
 
-use crate::expected::{Expected, at_member, behind_comma, behind_member, is_same};
+use crate::expected::{is_same, is_separated, member_kind};
 use crate::first::{First, shows_colon, told_first};
 use crate::quick::scan_quick;
 use crate::scanned::Scanned;
-use crate::word::{Word, simple_word};
+use crate::word::{Word, scan_simple, simple_word};
 use comments::behind_blanks;
 use copies::{limits_for_call, spot_for_call, start_for_call};
 use heads::{
-    begin_head, decimal_head, int_head, scan_head, scan_keyword, string_head, symbol_head, token,
+    begin_head, decimal_head, int_head, scan_head, spelled_quick, string_head, symbol_head, token,
 };
 use ion_meter::device::Output;
 use ion_meter::limits::Limits;
@@ -41,18 +41,20 @@ use std::alloc::Allocator;
 pub(crate) struct Spot<'a> {
     /// The bytes to come of the window.
     pub(crate) rest: &'a [u8],
-    /// What must come.
-    pub(crate) expected: Expected,
     /// The place of the top-level value that is open.
     pub(crate) top: u64,
     /// How many values at top level have ended.
     pub(crate) values: u64,
+    /// Whether a comma must come, or the end of the container.
+    pub(crate) separator: bool,
+    /// The kind of the innermost open container. Where none is open values stand as in a sexp.
+    pub(crate) kind: Kind,
 }
 
 /// What the next token is behind blanks.
 #[derive(Clone, Copy)]
 pub(crate) struct Next<'a> {
-    /// The number of its kind, where its first byte tells it alone; 0 where that is not known.
+    /// The number of its kind, where its first byte or two tell it; 0 where that is not known.
     told: u64,
     /// The bytes from there on; none where they show no end of the blanks.
     rest: &'a [u8],
@@ -74,6 +76,8 @@ pub(crate) struct Start<'a> {
 pub(crate) struct Found<'a> {
     /// The head.
     head: Head<'a>,
+    /// Its canonical text, where that is known.
+    spelled: Option<&'a [u8]>,
     /// The bytes behind it.
     rest: &'a [u8],
 }
@@ -127,48 +131,54 @@ fn next_told(bytes: &[u8]) -> Next<'_>
 
 // Passes over the comma that must come; what the next token is behind it, and behind blanks.
 #[inline(always)]
-fn to_member<'a>(at: &mut Spot<'a>, inner: Option<Kind>) -> Next<'a>
+fn to_member<'a>(at: &mut Spot<'a>) -> Next<'a>
     ensures onward { (limits : Limits) (opened : List kind_of.Kind) (place : ℕ)
-        → innermost opened ≡ inner
+        → kind_in opened ≡ at.old.kind
         → Onward limits opened at.old.top place
-        (wanted at.old.expected None []) at.old.rest.now
-        (wanted at.new.expected None []) at.new.rest.now }
-    ensures expects { (opened : List kind_of.Kind) → innermost opened ≡ inner
-        → MayExpect at.old.expected opened None []
-        → MayExpect at.new.expected opened None [] }
-    ensures same { (at.new.top ≡ at.old.top) × (at.new.values ≡ at.old.values) }
+        (wanted (expected_of at.old) None []) at.old.rest.now
+        (wanted (expected_of at.new) None []) at.new.rest.now }
+    ensures expects { (opened : List kind_of.Kind) → kind_in opened ≡ at.old.kind
+        → MayExpect (expected_of at.old) opened None []
+        → MayExpect (expected_of at.new) opened None [] }
+    ensures same { at.new ≡ record at.old {
+      rest = at.new.rest;
+      separator = at.new.separator;
+    } }
     ensures next { IsNext at.new.rest.now result }
 {
     let next = next_told(at.rest);
     if next.told != COMMA {
         return next;
     }
-    match at.expected {
-        Expected::Separator => behind_separator(at, next.rest, inner),
-        _ => Next { told: 0, rest: &[] },
+    if !at.separator {
+        return Next { told: 0, rest: &[] };
     }
+    behind_separator(at, next.rest)
 }
 
 // Passes over the comma that stands here, and looks behind it.
 #[inline(always)]
-fn behind_separator<'a>(at: &mut Spot<'a>, rest: &'a [u8], inner: Option<Kind>) -> Next<'a>
-    requires separator { at.old.expected ≡ Expected.Separator }
+fn behind_separator<'a>(at: &mut Spot<'a>, rest: &'a [u8]) -> Next<'a>
+    requires separator { at.old.separator ≡ true }
     requires passes { PassesBlanks at.old.rest.now rest.now }
     requires some { 0 < length rest.now }
     requires comma { (in_sexp : Bool) (more : List ℕ)
         → first_at in_sexp (rest.now ++ more) ≡ a_comma }
     ensures onward { (limits : Limits) (opened : List kind_of.Kind) (place : ℕ)
-        → innermost opened ≡ inner
+        → kind_in opened ≡ at.old.kind
         → Onward limits opened at.old.top place
-        (wanted at.old.expected None []) at.old.rest.now
-        (wanted at.new.expected None []) at.new.rest.now }
-    ensures expects { (opened : List kind_of.Kind) → innermost opened ≡ inner
-        → MayExpect at.new.expected opened None [] }
-    ensures same { (at.new.top ≡ at.old.top) × (at.new.values ≡ at.old.values) }
+        (wanted (expected_of at.old) None []) at.old.rest.now
+        (wanted (expected_of at.new) None []) at.new.rest.now }
+    ensures expects { (opened : List kind_of.Kind) → kind_in opened ≡ at.old.kind
+        → MayExpect (expected_of at.new) opened None [] }
+    ensures same { at.new ≡ record at.old {
+      rest = at.new.rest;
+      separator = at.new.separator;
+    } }
     ensures next { IsNext at.new.rest.now result }
 {
     at.rest = behind(1, rest);
-    at.expected = behind_comma(inner);
+    at.separator = false;
     next_told(at.rest)
 }
 
@@ -180,10 +190,12 @@ fn to_start<'a>(spot: Spot<'a>, next: Next<'a>, limits: Limits, place: u64) -> O
     ensures start { IfSome result (IsStart limits spot.entry place) }
     ensures bare { IfSome result (λ s. s.note ≡ None) }
 {
-    match spot.expected {
-        Expected::Value => value_start(next),
-        Expected::Field => field_start(next, limits, place_behind(place, spot, next)),
-        Expected::Separator => None,
+    if spot.separator {
+        return None;
+    }
+    match spot.kind {
+        Kind::Struct => field_start(next, limits, place_behind(place, spot, next)),
+        Kind::List | Kind::Sexp => value_start(next),
     }
 }
 
@@ -272,22 +284,34 @@ fn ended_kind(told: u64) -> Option<Kind>
     }
 }
 
-// One value more, where no container is open.
+// Behind a value: where no container is open, one more has ended. It is told by a jump, since that is
+// rare.
 #[inline(always)]
-fn values_behind(values: u64, inner: Option<Kind>) -> u64
-    requires few { values < 2 ^ 63 }
+fn pass_value<'a>(at: &mut Spot<'a>, rest: &'a [u8], top: u64, inner: Option<Kind>)
+    requires few { at.old.values < 2 ^ 63 }
+    requires inside { (kind : kind_of.Kind) → inner ≡ Some kind → top ≡ at.old.top }
     ensures { (opened : List kind_of.Kind) → innermost opened ≡ inner
-        → result ≡ values + one_if_closed opened }
+        → at.new ≡ record at.old {
+          rest = rest.entry;
+          top = top;
+          values = at.old.values + one_if_closed opened;
+          separator = is_separated at.old.kind;
+        } }
 {
+    at.rest = rest;
+    at.separator = is_separated(at.kind);
     match inner {
-        None => values + 1,
-        Some(_) => values,
+        Some(_) => {}
+        None => {
+            at.top = top;
+            at.values += 1;
+        }
     }
 }
 
-// The kind of the innermost open container.
+/// The kind of the innermost open container.
 #[inline(always)]
-fn innermost<A: Allocator + Copy>(kinds: &Stack<Kind, A>) -> Option<Kind>
+pub(crate) fn innermost<A: Allocator + Copy>(kinds: &Stack<Kind, A>) -> Option<Kind>
     ensures { result ≡ innermost (reverse kinds.now) }
 {
     kinds.as_slice().last().copied()
@@ -327,6 +351,7 @@ fn close<'a, W: ValueWriter<O, A>, O: Output, A: Allocator + Copy>(
         field: None,
         annotation: None,
         head: Head::End,
+        spelled: None,
         place: end - next.rest.len() as u64,
         top: at.top,
     };
@@ -335,17 +360,17 @@ fn close<'a, W: ValueWriter<O, A>, O: Output, A: Allocator + Copy>(
     }
     let _closed = kinds.pop(meter);
     let outer = innermost(kinds);
-    at.rest = behind(1, next.rest);
-    at.expected = behind_member(outer);
-    at.values = values_behind(at.values, outer);
+    at.kind = member_kind(outer);
+    pass_value(at, behind(1, next.rest), at.top, outer);
     true
 }
 
 // Where the top-level value begins that an item is in whose head begins at a place.
 #[inline(always)]
 fn top_at(top: u64, inner: Option<Kind>, note: Option<TextAt<'_>>, place: u64) -> u64
-    ensures { (opened : List kind_of.Kind) → innermost opened ≡ inner
+    ensures is { (opened : List kind_of.Kind) → innermost opened ≡ inner
         → result ≡ top_of opened top (notes note.entry) place }
+    ensures inside { (kind : kind_of.Kind) → inner ≡ Some kind → result ≡ top }
 {
     match (inner, note) {
         (None, None) => place,
@@ -392,6 +417,7 @@ fn begin<'a, W: ValueWriter<O, A>, O: Output, A: Allocator + Copy>(
         field: start.field,
         annotation: start.note,
         head: found.head,
+        spelled: found.spelled,
         place,
         top,
     };
@@ -400,8 +426,9 @@ fn begin<'a, W: ValueWriter<O, A>, O: Output, A: Allocator + Copy>(
         return false;
     }
     at.rest = found.rest;
-    at.expected = at_member(kind);
     at.top = top;
+    at.separator = false;
+    at.kind = kind;
     true
 }
 
@@ -435,16 +462,14 @@ fn scalar<'a, W: ValueWriter<O, A>, O: Output, A: Allocator + Copy>(
         field: start.field,
         annotation: start.note,
         head: found.head,
+        spelled: found.spelled,
         place,
         top,
     };
     if !writer.take_plain(meter, sink, item) {
         return false;
     }
-    at.rest = found.rest;
-    at.expected = behind_member(inner);
-    at.top = top;
-    at.values = values_behind(at.values, inner);
+    pass_value(at, found.rest, top, inner);
     true
 }
 
@@ -553,11 +578,13 @@ fn number<'a, W: ValueWriter<O, A>, O: Output, A: Allocator + Copy>(
     let Some(quick) = scan_quick(limits.scalar, start.next.rest) else {
         return rare(at, start, limits, end, kinds, meter, writer, sink);
     };
+    let text = front(quick.count, start.next.rest);
     let rest = behind(quick.count, start.next.rest);
     match quick.exponent {
         None => {
             let found = Found {
                 head: int_head(quick),
+                spelled: Some(text),
                 rest,
             };
             scalar(at, start, found, limits, end, kinds, meter, writer, sink)
@@ -565,6 +592,7 @@ fn number<'a, W: ValueWriter<O, A>, O: Output, A: Allocator + Copy>(
         Some(exponent) => {
             let found = Found {
                 head: decimal_head(quick, exponent),
+                spelled: spelled_quick(quick, text),
                 rest,
             };
             scalar(at, start, found, limits, end, kinds, meter, writer, sink)
@@ -601,7 +629,7 @@ fn string<'a, W: ValueWriter<O, A>, O: Output, A: Allocator + Copy>(
     }
 }
 
-// Hands on a word: mostly a symbol behind which a token is told that is no two colons.
+// Hands on a word: a null, a bool, or a symbol, behind which a token is told that is no two colons.
 #[inline(always)]
 fn word<'a, W: ValueWriter<O, A>, O: Output, A: Allocator + Copy>(
     at: &mut Spot<'a>,
@@ -628,45 +656,15 @@ fn word<'a, W: ValueWriter<O, A>, O: Output, A: Allocator + Copy>(
 {
     let bytes = start.next.rest;
     let place = end - bytes.len() as u64;
-    let Some(count) = simple_word(limits.scalar, bytes) else {
-        return keyword(at, start, limits, end, kinds, meter, writer, sink);
-    };
-    if let Some(found) = symbol_head(limits, place, count, bytes) {
-        return scalar(at, start, found, limits, end, kinds, meter, writer, sink);
-    }
-    match noted(start, limits, place, count) {
-        Some(start) => rare(at, start, limits, end, kinds, meter, writer, sink),
-        None => false,
-    }
-}
-
-// Hands on a null or a bool.
-#[inline(always)]
-fn keyword<'a, W: ValueWriter<O, A>, O: Output, A: Allocator + Copy>(
-    at: &mut Spot<'a>,
-    start: Start<'a>,
-    limits: Limits,
-    end: u64,
-    kinds: &Stack<Kind, A>,
-    meter: &mut Meter<A>,
-    writer: &mut W,
-    sink: &mut Sink<O, A>,
-) -> bool
-    requires can { CanFeed W.ValueWriter limits end
-        (lane kinds.now at.old writer.old sink.old meter.old) }
-    requires start { IsStart limits at.old (end - length at.old.rest.now) start }
-    requires first { (in_sexp : Bool) (more : List ℕ)
-        → first_at in_sexp (start.next.rest.now ++ more) ≡ a_word }
-    ensures moved { Moved W.ValueWriter limits end
-        (lane kinds.now at.old writer.old sink.old meter.old)
-        (lane kinds.now at.new writer.new sink.new meter.new) }
-    ensures falls { result ≡ true → length at.new.rest.now < length at.old.rest.now }
-{
-    let bytes = start.next.rest;
-    match scan_keyword(limits.scalar, bytes) {
+    match scan_simple(limits.scalar, bytes) {
+        Scanned::Whole(Word::Name, count) => match symbol_head(limits, place, count, bytes) {
+            Some(found) => scalar(at, start, found, limits, end, kinds, meter, writer, sink),
+            None => note(at, start, count, limits, end, kinds, meter, writer, sink),
+        },
         Scanned::Whole(Word::Null(ion_type), count) => {
             let found = Found {
                 head: Head::Null(ion_type),
+                spelled: None,
                 rest: behind(count, bytes),
             };
             scalar(at, start, found, limits, end, kinds, meter, writer, sink)
@@ -674,6 +672,7 @@ fn keyword<'a, W: ValueWriter<O, A>, O: Output, A: Allocator + Copy>(
         Scanned::Whole(Word::Bool(truth), count) => {
             let found = Found {
                 head: Head::Bool(truth),
+                spelled: None,
                 rest: behind(count, bytes),
             };
             scalar(at, start, found, limits, end, kinds, meter, writer, sink)
@@ -682,7 +681,43 @@ fn keyword<'a, W: ValueWriter<O, A>, O: Output, A: Allocator + Copy>(
     }
 }
 
+// Hands on the value behind the annotation of so many bytes that stands here.
+#[inline(always)]
+fn note<'a, W: ValueWriter<O, A>, O: Output, A: Allocator + Copy>(
+    at: &mut Spot<'a>,
+    start: Start<'a>,
+    count: usize,
+    limits: Limits,
+    end: u64,
+    kinds: &mut Stack<Kind, A>,
+    meter: &mut Meter<A>,
+    writer: &mut W,
+    sink: &mut Sink<O, A>,
+) -> bool
+    requires can { CanFeed W.ValueWriter limits end
+        (lane kinds.old at.old writer.old sink.old meter.old) }
+    requires start { IsStart limits at.old (end - length at.old.rest.now) start }
+    requires bare { start.note ≡ None }
+    requires first { (in_sexp : Bool) (more : List ℕ)
+        → first_at in_sexp (start.next.rest.now ++ more) ≡ a_word }
+    requires word { IsSimpleWord limits.scalar start.next.rest.now count }
+    ensures moved { Moved W.ValueWriter limits end
+        (lane kinds.old at.old writer.old sink.old meter.old)
+        (lane kinds.new at.new writer.new sink.new meter.new) }
+    ensures goes { length kinds.new + length at.new.rest.now
+        ≤ length kinds.old + length at.old.rest.now }
+    ensures falls { result ≡ true → length at.new.rest.now < length at.old.rest.now }
+{
+    let place = end - start.next.rest.len() as u64;
+    match noted(start, limits, place, count) {
+        Some(start) => rare(at, start, limits, end, kinds, meter, writer, sink),
+        None => false,
+    }
+}
+
 // Hands on the value that begins here, or the container's beginning, behind its field's name.
+// It is put in line where it is called, which is once; the mark `always` would be dropped, since so
+// much is put in line in it.
 #[inline]
 fn value<'a, W: ValueWriter<O, A>, O: Output, A: Allocator + Copy>(
     at: &mut Spot<'a>,
@@ -742,7 +777,7 @@ fn turn<'a, W: ValueWriter<O, A>, O: Output, A: Allocator + Copy>(
         ≤ length kinds.old + length at.old.rest.now }
     ensures falls { result ≡ true → length at.new.rest.now < length at.old.rest.now }
 {
-    let next = to_member(at, innermost(kinds));
+    let next = to_member(at);
     match ended_kind(next.told) {
         Some(kind) => close(at, next, kind, limits, end, kinds, meter, writer, sink),
         None => value(at, next, limits, end, kinds, meter, writer, sink),

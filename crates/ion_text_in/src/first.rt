@@ -1,16 +1,14 @@
 //! Which kind of token begins at a place (Ion specification, "Text Encoding").
-ghost use Rattle.std.specs.Prelude.{◌≡◌, ◌≢◌, ℕ, List, [], ◌+◌, ◌++◌, ◌∷◌, ◌<◌, ◌≤◌, length, slice_index, Bool, true, false, Ok, Err, ◌⊎◌, if◌then◌else◌, IfOk, IfSome, IsSome, MatchOption};
-ghost use Rattle.ion_meter.specs.Sources.{cursor, Stands};
+ghost use Rattle.std.specs.Prelude.{◌≡◌, ℕ, List, [], ◌+◌, ◌++◌, ◌∷◌, ◌<◌, ◌≤◌, length, slice_index, Bool, true, false, Ok, Err, ◌⊎◌, if◌then◌else◌, IfOk, IfSome, IsSome, MatchOption};
+ghost use Rattle.ion_meter.specs.Sources.{Stands};
 ghost use Rattle.ion_meter.specs.Windows.{left, lent, Extends};
 ghost use Rattle.ion_value.specs.Calls.{Reads};
 ghost use Rattle.ion_value.specs.Digits.{first_is, is_digit};
 ghost use Rattle.ion_text_in.specs.Firsts.{first_of, is_inf, is_told_alone, numbered, width};
 ghost use Rattle.ion_text_in.specs.Blanks.{blanks};
 ghost use Rattle.ion_text_in.specs.Meaning.{at};
-ghost use Rattle.ion_text_in.specs.Overrun.{overrun};
 ghost use Rattle.ion_text_in.specs.Token.{a_colon, first_at};
 
-use crate::blank::pass_blanks;
 use crate::run::{is_identifier_byte, is_operator_byte};
 use ion_meter::device::Input;
 use ion_meter::fault::{Fault, Reason};
@@ -76,7 +74,8 @@ pub(crate) fn scan_first(in_sexp: bool, bytes: &[u8]) -> Option<First>
     }
 }
 
-/// The number of the kind of token that the first of these bytes tells alone, or 0.
+/// The number of the kind of token that begins at the front of these bytes, where the first of them
+/// tells it, or the first two; or 0.
 #[inline(always)]
 pub(crate) fn told_first(bytes: &[u8]) -> u64
     ensures some { 0 < result → 1 ≤ length bytes.now }
@@ -87,27 +86,36 @@ pub(crate) fn told_first(bytes: &[u8]) -> u64
 {
     match bytes {
         [] => 0,
-        [byte, ..] => FIRST_BYTES[*byte as usize] as u64,
+        [byte, ..] => {
+            let told = FIRST_BYTES[*byte as usize] as u64;
+            if told > 0 {
+                return told;
+            }
+            told_by_two(bytes)
+        }
     }
 }
 
-/// Passes over blanks. Mostly a byte that tells its token alone shows that there are none.
+// The number of a struct's beginning, or of a negative number, where two bytes tell it.
+#[tactic(auto, unfolding(crate::specs::Token::first_at, crate::specs::Blanks::blanks_at))]
 #[inline(always)]
-pub(crate) fn pass_to_token<I: Input, A: Allocator + Copy>(
-    source: &mut Source<I, A>,
-) -> Result<Option<u64>, Fault>
-    requires stands { Stands source.old }
-    ensures gives { I.observable source.old.device → IfOk result (λ start.
-        blanks (cursor I.Input source.old) ≡ overrun start (cursor I.Input source.new)) }
-    ensures used_up { I.observable source.old.device → IfOk result (λ start.
-        IfSome start (λ _. left I.rest source.new ≡ [])) }
-    ensures plain { (r : Reason) (p : ℕ) → result ≢ Err (Fault.Refused r p) }
-    ensures reads { Reads I.Input source.old source.new result }
+fn told_by_two(bytes: &[u8]) -> u64
+    ensures some { 0 < result → 1 ≤ length bytes.now }
+    ensures bare { 0 < result → (place : ℕ) (more : List ℕ)
+        → blanks (at place (bytes.now ++ more)) ≡ Ok (at place (bytes.now ++ more)) }
+    ensures tells { 0 < result → (in_sexp : Bool) (more : List ℕ)
+        → first_at in_sexp (bytes.now ++ more) ≡ numbered result }
 {
-    if told_first(source.buffer()) > 0 {
-        return Ok(None);
+    match bytes {
+        [b'{', next, ..] => {
+            if *next == b'{' {
+                return 0;
+            }
+            10
+        }
+        [b'-', b'0'..=b'9', ..] => 2,
+        _ => 0,
     }
-    pass_blanks(source)
 }
 
 /// Whether a colon stands at the front of these bytes, and one more byte that is none.
@@ -128,7 +136,7 @@ pub(crate) fn shows_colon(bytes: &[u8]) -> bool
 
 // The numbers of the kinds that bytes tell alone: 1 for a word, 2 for a number, 3 for a string, 4 for
 // a comma, 5 and 6 for the beginnings of a list and a sexp, 7 to 9 for the ends of a struct, a list
-// and a sexp.
+// and a sexp. That of a struct's beginning is 10.
 static FIRST_BYTES: [u8; 256] = [
     0, 0, 0, 0, 0, 0, 0, 0, 0, 0, 0, 0, 0, 0, 0, 0, 0, 0, 0, 0, 0, 0, 0, 0, 0, 0, 0, 0, 0, 0, 0, 0,
     0, 0, 3, 0, 1, 0, 0, 0, 6, 9, 0, 0, 4, 0, 0, 0, 2, 2, 2, 2, 2, 2, 2, 2, 2, 2, 0, 0, 0, 0, 0, 0,
@@ -254,10 +262,10 @@ fn quote(others: &[u8]) -> Option<First>
     }
 }
 
-/// What begins with a brace.
+// What begins with a brace.
 #[tactic(auto, unfolding(crate::specs::Token::first_at))]
 #[inline(always)]
-pub(crate) fn brace(others: &[u8]) -> Option<First>
+fn brace(others: &[u8]) -> Option<First>
     ensures shows { (in_sexp : Bool) → IfSome result (λ f. (more : List ℕ)
         → first_at in_sexp (123 ∷ (others.now ++ more)) ≡ first_of f) }
     ensures wide { IfSome result (λ f. width (first_of f) ≤ 1 + length others.now) }

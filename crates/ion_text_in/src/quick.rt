@@ -1,11 +1,11 @@
 //! Ints and decimals of few digits, without underscores and bases, read in one pass
 //! (Ion specification, "Integers" and "Real Numbers").
-ghost use Rattle.std.specs.Prelude.{◌≡◌, pos, ◌-ℤ◌, ◌+◌, ◌*◌, ◌^◌, ◌<◌, ◌≤◌, ◌&&◌, ◌||◌, ◌==◌, true, not, Ok, map, length, drop, take, get_or, IfSome};
+ghost use Rattle.std.specs.Prelude.{◌≡◌, pos, ◌-ℤ◌, ◌+◌, ◌*◌, ◌-◌, ◌^◌, ◌<◌, ◌≤◌, ◌&&◌, ◌||◌, ◌==◌, true, not, Ok, map, length, drop, take, get_or, IfSome};
 ghost use Rattle.std.specs.Simd.Lanes.{mask_l};
 ghost use Rattle.ion_value.specs.Digits.{all_are, first_is, is_digit};
 ghost use Rattle.ion_value.specs.Number.{signed};
 ghost use Rattle.ion_value.specs.Standing.{InRange};
-ghost use Rattle.ion_text_in.specs.Quick.{as_quick, number_after, scaled, signed_int, signed_text, AreWhole, IsMantissa, IsQuick};
+ghost use Rattle.ion_text_in.specs.Quick.{as_quick, number_after, scaled, signed_int, signed_text, stops, AreSpelled, AreWhole, IsMantissa, IsQuick};
 ghost use Rattle.ion_text_in.specs.declared.scanned.Scanned.TheVariants.{Whole};
 ghost use Rattle.ion_text_in.specs.Scanners.{Shows};
 ghost use Rattle.ion_text_in.specs.Token.{a_run, bytes_of, in_run, run_token, token_of};
@@ -27,19 +27,22 @@ pub(crate) struct Quick {
     pub(crate) exponent: Option<i32>,
     /// How many bytes it has.
     pub(crate) count: usize,
+    /// Whether they are its canonical text, as those of an int are.
+    pub(crate) canonical: bool,
 }
 
 /// The int or decimal at the front of these bytes, where it has no more than the limit.
 ///
 /// There is an answer where it is a minus or none and at most 38 digits, or at most 19 with a point
 /// among them, which may have a `d` and a small exponent behind them, and where punctuation, a quote
-/// or white space ends it within the bytes.
+/// or white space ends it within the bytes. There is none where it is `-0`.
 #[inline(always)]
 pub(crate) fn scan_quick(limit: u64, bytes: &[u8]) -> Option<Quick>
     ensures shows { IfSome result (λ x. Shows number_token bytes.now
         (Whole (as_quick x) x.count) (token_of (Some limit) a_run)) }
     ensures range { IfSome result (λ x. InRange (as_number (as_quick x))) }
     ensures some { IfSome result (λ x. 0 < x.count) }
+    ensures spelled { IfSome result (λ x. AreSpelled (take x.count bytes.now) x) }
 {
     let Some(quick) = quick_number(bytes) else {
         return None;
@@ -58,6 +61,7 @@ fn quick_number(bytes: &[u8]) -> Option<Quick>
         ≡ Ok (number_token (as_quick x))) }
     ensures range { IfSome result (λ x. InRange (as_number (as_quick x))) }
     ensures some { IfSome result (λ x. 0 < x.count) }
+    ensures spelled { IfSome result (λ x. AreSpelled (take x.count bytes.now) x) }
 {
     let (negative, digits) = sign(bytes);
     let Some(quick) = quick_digits(negative, digits) else {
@@ -72,6 +76,7 @@ fn quick_number(bytes: &[u8]) -> Option<Quick>
         } else {
             quick.count
         },
+        canonical: quick.canonical,
     })
 }
 
@@ -92,7 +97,7 @@ fn quick_digits(negative: bool, digits: &[u8]) -> Option<Quick>
     ensures { IfSome result (λ x. IsQuick negative digits.now x) }
 {
     let count = digit_run(digits);
-    if count == 0 || count > WIDE || count >= digits.len() || begins_zeros(digits) {
+    if count == 0 || count > WIDE || count >= digits.len() || begins_zeros(negative, digits) {
         return None;
     }
     let next = digits[count];
@@ -102,13 +107,26 @@ fn quick_digits(negative: bool, digits: &[u8]) -> Option<Quick>
             number: number_by(&digits[..count]),
             exponent: None,
             count,
+            canonical: true,
         });
     }
+    quick_mantissa(negative, count, digits)
+}
+
+// The decimal of so many digits, with a point or an exponent behind them. It stands apart so that
+// the answers of its calls have no place in memory where a number is an int.
+#[inline(always)]
+fn quick_mantissa(negative: bool, count: usize, digits: &[u8]) -> Option<Quick>
+    requires whole { AreWhole digits.now count }
+    requires few { count ≤ 38 }
+    ensures { IfSome result (λ x. IsQuick negative digits.now x) }
+{
+    let next = digits[count];
     if next == b'.' {
         return quick_decimal(negative, count, digits);
     }
     if next == b'd' {
-        return quick_power(negative, number_by(&digits[..count]), 0, count, digits);
+        return quick_whole(negative, count, digits);
     }
     None
 }
@@ -124,13 +142,18 @@ pub(crate) fn signed_int(negative: bool, magnitude: u128) -> Int
     }
 }
 
-// Whether a zero stands before another digit or an underscore.
+// Whether a zero stands before another digit or an underscore, or alone behind a minus.
 #[inline(always)]
-fn begins_zeros(digits: &[u8]) -> bool
+fn begins_zeros(negative: bool, digits: &[u8]) -> bool
     ensures { result ≡ (first_is (λ b. b == 48) digits.now
-        && first_is (λ b. is_digit b || b == 95) (drop 1 digits.now)) }
+        && (first_is (λ b. is_digit b || b == 95) (drop 1 digits.now)
+        || (negative && first_is stops (drop 1 digits.now)))) }
 {
-    matches!(digits, [b'0', b'0'..=b'9' | b'_', ..])
+    match digits {
+        [b'0', b'0'..=b'9' | b'_', ..] => true,
+        [b'0', next, ..] => negative && stops_number(*next),
+        _ => false,
+    }
 }
 
 // The most digits of which 128 bits hold what they spell, whatever they are.
@@ -163,12 +186,24 @@ fn quick_decimal(negative: bool, count: usize, digits: &[u8]) -> Option<Quick>
             number: coefficient,
             exponent: Some(exponent_of(true, places as u64, 0)),
             count: end,
+            canonical: true,
         });
     }
     if digits[end] == b'd' {
         return quick_power(negative, coefficient, places, end, digits);
     }
     None
+}
+
+// The decimal of so many digits with a `d` behind them.
+#[inline(never)]
+fn quick_whole(negative: bool, count: usize, digits: &[u8]) -> Option<Quick>
+    requires whole { AreWhole digits.now count }
+    requires few { count ≤ 38 }
+    requires mark { get_or digits.now count 0 ≡ 100 }
+    ensures { IfSome result (λ x. IsQuick negative digits.now x) }
+{
+    quick_power(negative, number_by(&digits[..count]), 0, count, digits)
 }
 
 // The decimal of a coefficient, of which so many digits stand behind a point, that ends at a place
@@ -200,6 +235,7 @@ fn quick_power(
         number: coefficient,
         exponent: Some(exponent_of(below, magnitude, places)),
         count,
+        canonical: false,
     })
 }
 
@@ -260,7 +296,7 @@ fn wide_number(digits: &[u8]) -> u128
     number
 }
 
-// The number that these digits spell behind another.
+// The number that these digits spell behind another: read by fours, and then those that are left.
 #[inline(always)]
 fn number_after(start: u64, digits: &[u8]) -> u64
     requires digits { all_are is_digit digits.now ≡ true }
@@ -269,19 +305,74 @@ fn number_after(start: u64, digits: &[u8]) -> u64
 {
     let mut number = start;
     let mut rest = digits;
-    while let [digit, others @ ..] = rest {
-        number = number * 10 + u64::from(*digit - b'0');
+    while let [a, b, c, d, others @ ..] = rest {
+        let front = pair(*a, *b);
+        let back = pair(*c, *d);
+        number = number * 10_000 + (front * 100 + back);
         rest = others;
     }
-    number
+    few_after(number, rest)
+}
+
+// The same of fewer than four digits.
+#[inline(always)]
+fn few_after(start: u64, digits: &[u8]) -> u64
+    requires digits { all_are is_digit digits.now ≡ true }
+    requires few { length digits.now < 4 }
+    requires room { (start + 1) * 10 ^ length digits.now ≤ 2 ^ 64 }
+    ensures { result ≡ number_after start digits.now }
+{
+    match digits {
+        [a] => start * 10 + digit(*a),
+        [a, b] => start * 100 + pair(*a, *b),
+        [a, b, c] => start * 1_000 + (pair(*a, *b) * 10 + digit(*c)),
+        _ => start,
+    }
+}
+
+// What two digits spell.
+#[inline(always)]
+fn pair(tens: u8, ones: u8) -> u64
+    requires tens { is_digit tens ≡ true }
+    requires ones { is_digit ones ≡ true }
+    ensures is { result ≡ (tens - 48) * 10 + (ones - 48) }
+    ensures small { result < 100 }
+{
+    digit(tens) * 10 + digit(ones)
+}
+
+// What a digit counts.
+#[inline(always)]
+fn digit(byte: u8) -> u64
+    requires digit { is_digit byte ≡ true }
+    ensures is { result ≡ byte - 48 }
+    ensures small { result < 10 }
+{
+    u64::from(byte) - 48
 }
 
 // How many bytes are looked at together.
 const BLOCK: usize = 16;
 
-// How many digits stand at the front of these bytes.
+// How many digits stand at the front of these bytes. Most numbers are so short that the first block
+// shows where their digits end.
 #[inline(always)]
 fn digit_run(bytes: &[u8]) -> usize
+    ensures within { result ≤ length bytes.now }
+    ensures digits { all_are is_digit (take result bytes.now) ≡ true }
+{
+    if bytes.len() >= BLOCK {
+        let others = no_digits(u8x16::from_slice(bytes));
+        if others != 0 {
+            return others.trailing_zeros() as usize;
+        }
+    }
+    many_digits(bytes)
+}
+
+// The same block by block.
+#[inline(always)]
+fn many_digits(bytes: &[u8]) -> usize
     ensures within { result ≤ length bytes.now }
     ensures digits { all_are is_digit (take result bytes.now) ≡ true }
 {

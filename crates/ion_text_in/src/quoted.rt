@@ -1,9 +1,9 @@
 //! Quotes, and the plain bytes between them (Ion specification, "Strings", "Symbols" and "Clobs").
-ghost use Rattle.std.specs.Prelude.{◌≡◌, ◌<◌, ◌≤◌, ◌↔◌, ◌&&◌, ◌||◌, ◌==◌, nat_le, nat_lt, not, [], ◌∷◌, true, false, Some, map, length, take, drop, IsTrue, IsUtf8};
+ghost use Rattle.std.specs.Prelude.{◌≡◌, ◌<◌, ◌≤◌, ◌↔◌, ◌&&◌, ◌||◌, ◌==◌, nat_le, nat_lt, not, [], ◌∷◌, true, false, Some, map, length, take, drop, IfSome, IsTrue, IsUtf8};
 ghost use Rattle.std.specs.Simd.Lanes.{mask_l};
 ghost use Rattle.ion_value.specs.Name.{is_one_of};
 ghost use Rattle.ion_value.specs.Digits.{first_is, all_are};
-ghost use Rattle.ion_text_in.specs.Quotes.{quote_of, mark_of, one_mark, is_sure, IsWithin, StopsBefore};
+ghost use Rattle.ion_text_in.specs.Quotes.{quote_of, mark_of, one_mark, is_sure, IsAsciiText, IsWithin, StopsBefore};
 ghost use Rattle.ion_text_in.specs.Quoted.{text_at};
 ghost use Rattle.ion_text_in.specs.Scanners.{Shows};
 ghost use Rattle.ion_text_in.specs.Scanning.{is_plain_byte};
@@ -71,6 +71,41 @@ impl Quote {
 /// are no UTF-8, but in a clob.
 #[inline(always)]
 pub(crate) fn scan_text(quote: Quote, limit: u64, bytes: &[u8]) -> Scanned<usize>
+    ensures shows { Shows (λ n. take n bytes.now) bytes.now result
+        (λ c. text_at (quote_of quote) (Some limit) c) }
+    ensures within { IsWithin limit result }
+    ensures known { result ≡ Scanned.Cut → (quote_of quote).is_long ≡ false
+        → StopsBefore quote bytes.now }
+{
+    match ascii_text(quote, bytes) {
+        Some(plain) if plain as u64 <= limit => Scanned::Whole(plain, plain + 1),
+        _ => any_text(quote, limit, bytes),
+    }
+}
+
+// How many bytes the text has, where the first block of these bytes shows its closing quote, and that
+// each byte before it is ASCII and stands for itself.
+#[inline(always)]
+fn ascii_text(quote: Quote, bytes: &[u8]) -> Option<usize>
+    ensures { IfSome result (IsAsciiText quote bytes.now) }
+{
+    if quote.is_long() || bytes.len() < BLOCK {
+        return None;
+    }
+    let suspects = suspects(quote.mark(), true, u8x32::from_slice(bytes));
+    if suspects == 0 {
+        return None;
+    }
+    let plain = suspects.trailing_zeros() as usize;
+    if bytes[plain] != quote.mark() {
+        return None;
+    }
+    Some(plain)
+}
+
+// The same of any text.
+#[inline(always)]
+fn any_text(quote: Quote, limit: u64, bytes: &[u8]) -> Scanned<usize>
     ensures shows { Shows (λ n. take n bytes.now) bytes.now result
         (λ c. text_at (quote_of quote) (Some limit) c) }
     ensures within { IsWithin limit result }

@@ -24,7 +24,7 @@ mod window;
 
 use crate::blank::pass_blanks;
 use crate::expected::{Expected, at_member, behind_member, is_colons, is_same};
-use crate::first::{First, next_first, pass_to_token, told_first};
+use crate::first::{First, next_first, told_first};
 use crate::operator::{pass_colons, pass_mark};
 use crate::symbol::{FieldName, annotation_place, keep_text, lent_field};
 use crate::token::{Body, Symbol, Token};
@@ -562,14 +562,10 @@ impl<I: Input, A: Allocator + Copy> TextReader<I, A> {
         ensures goes { GoesWithReading meter.old meter.new
             (held_by self.old) (held_by self.new) (left_to self.old) (left_to self.new) }
     {
-        match pass_to_token(&mut self.source) {
+        match pass_blanks(&mut self.source) {
             Err(fault) => return Err(fault),
             Ok(Some(start)) => return Err(Fault::Refused(Reason::Truncated, start)),
             Ok(None) => {}
-        }
-        let told = told_first(self.source.buffer());
-        if told > 0 {
-            return self.told(told, meter);
         }
         let in_sexp = self.in_sexp();
         match next_first(&mut self.source, in_sexp) {

@@ -355,7 +355,7 @@ fn infinity_token<I: Input, A: Allocator + Copy>(
 
 // A number or a timestamp as a scalar.
 #[inline(always)]
-pub(crate) fn number_body(number: Number) -> Body
+fn number_body(number: Number) -> Body
     ensures is { (bytes : List ℕ) (place : ℕ) → as_scalar bytes place result ≡ as_number number }
     ensures range { InRange (as_number number) → BodyInRange result }
 {

@@ -8,14 +8,14 @@ ghost use Rattle.ion_text_in.specs.Runs.{CanAppend};
 ghost use Rattle.ion_value.specs.Name.{begins_with, is_identifier_start, type_named};
 ghost use Rattle.ion_text_in.specs.Scanners.{Shows};
 ghost use Rattle.ion_text_in.specs.Token.{a_word, name, token_of, word_of, word_token};
-ghost use Rattle.ion_text_in.specs.Feeding.{IsSimpleWord};
+ghost use Rattle.ion_text_in.specs.Feeding.{IfName, IsBegun, IsSimpleWord};
 ghost use Rattle.ion_value.specs.Value.{Text};
 ghost use Rattle.ion_value.specs.Shares.{GrowsWithin};
 ghost use Rattle.ion_text_in.specs.Symbols.{prepaid_word};
 ghost use Rattle.ion_text_in.specs.Views.{AreShown, IsWithin, id_in, is_point, may_be_keyword, shown_text, spelled, with_name, text_or_container, word_token_of};
 
 use crate::gather::{append, copy, gather, gather_token};
-use crate::run::{Run, is_identifier_byte, word_run};
+use crate::run::{Run, word_run};
 use crate::scanned::Scanned;
 use ion_meter::buf::Buf;
 use ion_meter::device::Input;
@@ -69,6 +69,35 @@ pub(crate) fn scan_word(limit: u64, bytes: &[u8]) -> Scanned<Word>
 pub(crate) fn simple_word(limit: u64, bytes: &[u8]) -> Option<usize>
     ensures { IfSome result (IsSimpleWord limit bytes.now) }
 {
+    match scan_simple(limit, bytes) {
+        Scanned::Whole(Word::Name, count) => Some(count),
+        _ => None,
+    }
+}
+
+/// What a slice shows of the word that begins at the front of it, where that is a symbol that does
+/// not begin with a dollar sign, or a keyword, and has no more bytes than the limit.
+#[inline(always)]
+pub(crate) fn scan_simple(limit: u64, bytes: &[u8]) -> Scanned<Word>
+    ensures shows { Shows (word_token_of (shown_text bytes.now result)) bytes.now result
+        (token_of (Some limit) a_word) }
+    ensures name { IfName (IsSimpleWord limit bytes.now) result }
+{
+    let Some(count) = begun_word(limit, bytes) else {
+        return Scanned::Cut;
+    };
+    if !may_be_keyword(bytes) {
+        return Scanned::Whole(Word::Name, count);
+    }
+    begun_keyword(limit, count, bytes)
+}
+
+// How many bytes stand at the front of a slice that are a word without a type behind it, where the
+// slice shows them, they are no more than the limit, and a symbol may begin so, but for a dollar sign.
+#[inline(always)]
+fn begun_word(limit: u64, bytes: &[u8]) -> Option<usize>
+    ensures { IfSome result (IsBegun limit bytes.now) }
+{
     let [first, others @ ..] = bytes else {
         return None;
     };
@@ -80,44 +109,72 @@ pub(crate) fn simple_word(limit: u64, bytes: &[u8]) -> Option<usize>
         return None;
     }
     let count = 1 + extent.len;
-    if limit < count as u64 || !is_name(&bytes[..count]) {
+    if limit < count as u64 {
         return None;
     }
     Some(count)
 }
 
-// Whether an identifier may begin with this byte that is no dollar sign: its letters and `_` stand
-// behind its digits.
+// What a slice shows of a word that begins as a keyword does.
+#[inline(always)]
+fn begun_keyword(limit: u64, count: usize, bytes: &[u8]) -> Scanned<Word>
+    requires begun { IsBegun limit bytes.now count }
+    ensures shows { Shows (word_token_of (shown_text bytes.now result)) bytes.now result
+        (token_of (Some limit) a_word) }
+    ensures name { IfName (IsSimpleWord limit bytes.now) result }
+{
+    let word = &bytes[..count];
+    if has_type(word, &bytes[count..]) {
+        return typed_null(limit, bytes);
+    }
+    match keyword_or_name(word) {
+        Ok(word) => Scanned::Whole(word, count),
+        Err(_) => Scanned::Cut,
+    }
+}
+
+// The same of a null with the name of a type.
+#[inline(never)]
+fn typed_null(limit: u64, bytes: &[u8]) -> Scanned<Word>
+    ensures shows { Shows (word_token_of (shown_text bytes.now result)) bytes.now result
+        (token_of (Some limit) a_word) }
+    ensures name { IfName (IsSimpleWord limit bytes.now) result }
+{
+    match scan_word(limit, bytes) {
+        Scanned::Whole(Word::Null(ion_type), count) => {
+            Scanned::Whole(Word::Null(ion_type), count)
+        }
+        _ => Scanned::Cut,
+    }
+}
+
+// Whether an identifier may begin with this byte that is no dollar sign.
 #[inline(always)]
 fn begins_simple(first: u8) -> bool
     ensures { result ≡ true → (is_identifier_start first ≡ true) × ((first == 36) ≡ false) }
 {
-    first >= b'A' && is_identifier_byte(first)
+    STARTS[first as usize] > 0
 }
 
-// Whether a word is a symbol by its text.
+// Whether a keyword may begin with this byte.
 #[inline(always)]
-fn is_name(word: &[u8]) -> bool
-    ensures { result ≡ true → word_token word.now ≡ Ok (name false (Text word.now)) }
+fn begins_keyword(first: u8) -> bool
+    ensures { result ≡ (110 == first || 116 == first || 102 == first) }
 {
-    if has_dollar(word) {
-        return false;
-    }
-    if !may_be_keyword(word) {
-        return true;
-    }
-    !is_keyword(word)
+    STARTS[first as usize] > 1
 }
 
-// Whether a word is a keyword, or begins as the null of a type does.
-#[inline(always)]
-fn is_keyword(word: &[u8]) -> bool
-    ensures { result ≡ ((bytes_eq (codes "null") word.now || begins_with (codes "null.") word.now)
-        || (bytes_eq (codes "true") word.now || bytes_eq (codes "false") word.now)
-        || bytes_eq (codes "nan") word.now) }
-{
-    is_null(word) || is_typed_null(word) || is_true(word) || is_false(word) || is_nan(word)
-}
+// Which bytes begin an identifier, but for the dollar sign; 2 for those that begin a keyword.
+static STARTS: [u8; 256] = [
+    0, 0, 0, 0, 0, 0, 0, 0, 0, 0, 0, 0, 0, 0, 0, 0, 0, 0, 0, 0, 0, 0, 0, 0, 0, 0, 0, 0, 0, 0, 0, 0,
+    0, 0, 0, 0, 0, 0, 0, 0, 0, 0, 0, 0, 0, 0, 0, 0, 0, 0, 0, 0, 0, 0, 0, 0, 0, 0, 0, 0, 0, 0, 0, 0,
+    0, 1, 1, 1, 1, 1, 1, 1, 1, 1, 1, 1, 1, 1, 1, 1, 1, 1, 1, 1, 1, 1, 1, 1, 1, 1, 1, 0, 0, 0, 0, 1,
+    0, 1, 1, 1, 1, 1, 2, 1, 1, 1, 1, 1, 1, 1, 2, 1, 1, 1, 1, 1, 2, 1, 1, 1, 1, 1, 1, 0, 0, 0, 0, 0,
+    0, 0, 0, 0, 0, 0, 0, 0, 0, 0, 0, 0, 0, 0, 0, 0, 0, 0, 0, 0, 0, 0, 0, 0, 0, 0, 0, 0, 0, 0, 0, 0,
+    0, 0, 0, 0, 0, 0, 0, 0, 0, 0, 0, 0, 0, 0, 0, 0, 0, 0, 0, 0, 0, 0, 0, 0, 0, 0, 0, 0, 0, 0, 0, 0,
+    0, 0, 0, 0, 0, 0, 0, 0, 0, 0, 0, 0, 0, 0, 0, 0, 0, 0, 0, 0, 0, 0, 0, 0, 0, 0, 0, 0, 0, 0, 0, 0,
+    0, 0, 0, 0, 0, 0, 0, 0, 0, 0, 0, 0, 0, 0, 0, 0, 0, 0, 0, 0, 0, 0, 0, 0, 0, 0, 0, 0, 0, 0, 0, 0,
+];
 
 /// The word that begins here: the bytes of a symbol are copied to `text`.
 ///
@@ -312,7 +369,10 @@ fn word_by(word: &[u8]) -> Result<Word, Reason>
 fn may_be_keyword(word: &[u8]) -> bool
     ensures { result ≡ may_be_keyword word.now }
 {
-    matches!(word, [b'n' | b't' | b'f', ..])
+    match word {
+        [first, ..] => begins_keyword(*first),
+        [] => false,
+    }
 }
 
 // Whether a word begins with a dollar sign.
@@ -324,6 +384,7 @@ fn has_dollar(word: &[u8]) -> bool
 }
 
 // The same of one that begins as a keyword does.
+#[inline(always)]
 fn keyword_or_name(word: &[u8]) -> Result<Word, Reason>
     requires { first_is (λ b. b == 36) word.now ≡ false }
     ensures { MatchResult result (λ w. word_token word.now ≡ Ok (word_token_of word.now w))

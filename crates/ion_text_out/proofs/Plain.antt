@@ -6,7 +6,7 @@ use Rattle.ion_value.specs.Name.{is_plain, is_simple}
 use Rattle.ion_value.specs.Value as v
 use Rattle.ion_value.specs.Value.{PlacedItem, SymbolAt, Symbol, map_head, map_scalar, user_symbol, user_symbol_at, user_item}
 use Rattle.ion_value.specs.Items.{raw_head}
-use Rattle.ion_value.specs.PlainItems.{AreSimple, HasSimpleName, IsSimple, IsSimpleText, listed, placed_item, placed_text}
+use Rattle.ion_value.specs.PlainItems.{AreSimple, HasSimpleName, IsSimple, IsSimpleText, IsTextOf, listed, placed_item, placed_text}
 use Rattle.ion_value.specs.declared.ion_type.Kind.{Kind}
 use Rattle.ion_value.specs.declared.ion_type.Kind.TheVariants as kind
 use Rattle.ion_value.specs.declared.plain_item.TextAt.{TextAt}
@@ -55,6 +55,27 @@ front_is item simple = rw (name_is item.field simple.field, note_is item.annotat
 pub scalar_put : (cs : Open) (item : PlainItem) (name note : List ℕ) (body : v.Scalar SymbolAt) (text : List ℕ) → IsSimple (placed_item item) → name ≡ text_in item.field → note ≡ text_in item.annotation
     → raw_head item.head ≡ v.whole body → text ≡ scalar_text (map_scalar user_symbol_at body) → plain_scalar cs name note text ≡ item_text cs (user_item (placed_item item))
 scalar_put cs item name note body text simple named noted head is = rw (head, front_is item simple, is, named, noted) refl
+
+-- an item that comes with a text is a scalar, of which that text is put
+pub spelled_body : (text : List ℕ) (head : v.Head SymbolAt) → IsTextOf text head → (body : v.Scalar SymbolAt) × (head ≡ v.whole body) × (text ≡ scalar_text (map_scalar user_symbol_at body))
+spelled_body text (v.whole (v.int number)) is = (v.int number, refl, is)
+spelled_body text (v.whole (v.decimal number)) is = (v.decimal number, refl, is)
+spelled_body text (v.whole (v.timestamp moment)) is = (v.timestamp moment, refl, is)
+spelled_body text (v.whole (v.null type)) is = absurd is
+spelled_body text (v.whole (v.bool truth)) is = absurd is
+spelled_body text (v.whole (v.symbol s)) is = absurd is
+spelled_body text (v.whole (v.string bytes)) is = absurd is
+spelled_body text (v.whole (v.clob bytes)) is = absurd is
+spelled_body text (v.whole (v.blob bytes)) is = absurd is
+spelled_body text (v.begin kind) is = absurd is
+spelled_body text v.end is = absurd is
+spelled_body text v.marker is = absurd is
+
+pub spelled_put : (cs : Open) (item : PlainItem) (name note text : List ℕ) → IsSimple (placed_item item) → name ≡ text_in item.field → note ≡ text_in item.annotation
+    → IsTextOf text (raw_head item.head) → plain_scalar cs name note text ≡ item_text cs (user_item (placed_item item))
+spelled_put cs item name note text simple named noted is =
+    let b = spelled_body text (raw_head item.head) is in
+    scalar_put cs item name note b.0 text simple named noted b.1 b.2
 
 pub begin_put : (cs : Open) (item : PlainItem) (name note : List ℕ) (kind : Kind) → IsSimple (placed_item item) → name ≡ text_in item.field → note ≡ text_in item.annotation → raw_head item.head ≡ v.begin kind
     → plain_begin cs name note (opener kind) ≡ item_text cs (user_item (placed_item item))

@@ -1,9 +1,9 @@
 -- Runs of bytes that stand for themselves between quotes, as vectors find them.
-use Rattle.std.proofs.Common.{◌≡◌, ◌≢◌, ℕ, suc, ◌+◌, ◌-◌, ◌*◌, ◌%◌, ◌^◌, ◌<◌, ◌≤◌, Bool, true, false, not, cond, eqb, leb, ◌&&◌, ◌||◌, nat_le, nat_lt, List, [], ◌∷◌, map, take, drop, length, replicate, refl, sym, subst, ap, ap₂, ◌∙◌, inl, inr, arith, w8, Fits}
-use Rattle.std.proofs.lemmas.Bool.{cases_Bool, ne_eqb}
+use Rattle.std.proofs.Common.{◌≡◌, ◌≢◌, ℕ, zero, suc, ◌+◌, ◌-◌, ◌*◌, ◌%◌, ◌^◌, ◌<◌, ◌≤◌, Bool, true, false, not, cond, eqb, leb, ◌&&◌, ◌||◌, nat_le, nat_lt, List, [], ◌∷◌, map, take, drop, length, replicate, refl, sym, subst, ap, ap₂, ◌∙◌, inl, inr, arith, w8, Fits}
+use Rattle.std.proofs.lemmas.Bool.{and_parts, cases_Bool, ne_eqb}
 use Rattle.std.proofs.lemmas.Bool.Decides.{nat_tests}
 use Rattle.std.proofs.lemmas.Simd.{zip2_splat, zip2_splat_left, map-map, mask_l-mod, chunk-drop, length-chunk, trailing_mask_l}
-use Rattle.std.proofs.lemmas.List.{length-map, length-drop, drop-drop}
+use Rattle.std.proofs.lemmas.List.{length-map, length-drop, drop-drop, take_all}
 use Rattle.std.proofs.lemmas.List.Folds.{prefix_len-append}
 use Rattle.std.proofs.lemmas.List.Sums.{prefix_len-le-length}
 use Rattle.std.specs.List.{prefix_len}
@@ -38,19 +38,19 @@ pub either : (p q : ℕ → Bool) (v : List ℕ) {a b : List ℕ} → Tested p v
 either p q v s t = ap₂ (zip2 bit_or) s t ∙ either_of p q v
 
 -- a byte in each lane of the other vector, which is equal to that of this one
-pub equal_to : (v : List ℕ) (y : ℕ) → length v ≡ 32 → Tested (λ x. eqb x y) v (zip2 (λ a b. lane (eqb a b)) v (replicate 32 y))
-equal_to v y long = zip2_splat (λ a b. lane (eqb a b)) v 32 y long
+pub equal_to : (v : List ℕ) (y : ℕ) → length v ≡ 16 → Tested (λ x. eqb x y) v (zip2 (λ a b. lane (eqb a b)) v (replicate 16 y))
+equal_to v y long = zip2_splat (λ a b. lane (eqb a b)) v 16 y long
 
 -- a byte as it is counted round from the space
 abbrev pub round : ℕ → ℕ
 round x = (x + 224) % 256
 
 -- or that this one is not above, counted round
-pub from_round : (v : List ℕ) (y : ℕ) → length v ≡ 32
-    → Tested (λ x. leb y (round x)) v (zip2 (λ a b. lane (leb a b)) (replicate 32 y) (zip2 (λ (a b : ℕ). (a + (256 - b)) % 256) v (replicate 32 32)))
+pub from_round : (v : List ℕ) (y : ℕ) → length v ≡ 16
+    → Tested (λ x. leb y (round x)) v (zip2 (λ a b. lane (leb a b)) (replicate 16 y) (zip2 (λ (a b : ℕ). (a + (256 - b)) % 256) v (replicate 16 32)))
 from_round v y long =
-    ap (λ a. zip2 (λ b c. lane (leb b c)) (replicate 32 y) a) (zip2_splat (λ (a b : ℕ). (a + (256 - b)) % 256) v 32 32 long)
-    ∙ zip2_splat_left (λ a b. lane (leb a b)) y 32 (map round v) (length-map v round ∙ long) ∙ map-map (λ x. lane (leb y x)) round v
+    ap (λ a. zip2 (λ b c. lane (leb b c)) (replicate 16 y) a) (zip2_splat (λ (a b : ℕ). (a + (256 - b)) % 256) v 16 32 long)
+    ∙ zip2_splat_left (λ a b. lane (leb a b)) y 16 (map round v) (length-map v round ∙ long) ∙ map-map (λ x. lane (leb y x)) round v
 
 top_lane : (b : Bool) → top 7 (lane b) ≡ b
 top_lane true = refl
@@ -158,25 +158,39 @@ module _ (p : ℕ → Bool) where
       let within : prefix_len p c < length c = omega (arith, prefix_len-le-length p c, other) in
       (split d i n ∙ ap (λ b. cond b (length c + prefix_len p (drop (i + n) d)) (prefix_len p c)) (ne_eqb _ _ other) ∙ lowest, omega (arith, lowest, long, within))
 
-module _ (quote most : ℕ) (bytes : List ℕ) (at found : ℕ) (same : found ≡ mask_l (map (λ b. not (is_shown quote most b)) (chunk at 32 bytes)))
+module _ (quote most : ℕ) (bytes : List ℕ) (at found : ℕ) (same : found ≡ mask_l (map (λ b. not (is_shown quote most b)) (chunk at 16 bytes)))
     (before : all_are (is_shown quote most) (take at bytes) ≡ true) where
   abbrev shown : ℕ → Bool
   shown = is_shown quote most
 
   -- over a block that has no other
-  pub over_block : found ≡ 0 → all_are shown (take (at + 32) bytes) ≡ true
-  over_block none = all_behind shown bytes at 32 before (all_pass shown (chunk at 32 bytes) (sym same ∙ none))
+  pub over_block : found ≡ 0 → all_are shown (take (at + 16) bytes) ≡ true
+  over_block none = all_behind shown bytes at 16 before (all_pass shown (chunk at 16 bytes) (sym same ∙ none))
 
   -- up to the first other of a block
-  pub to_hidden : at + 32 ≤ length bytes → found ≢ 0
-      → (count_trailing_zeros 64 found < 32) × (all_are shown (take (at + count_trailing_zeros 64 found) bytes) ≡ true)
+  pub to_hidden : at + 16 ≤ length bytes → found ≢ 0
+      → (count_trailing_zeros 64 found < 16) × (all_are shown (take (at + count_trailing_zeros 64 found) bytes) ≡ true)
       × (first_is shown (drop (at + count_trailing_zeros 64 found) bytes) ≡ false)
   to_hidden room some =
       let n = count_trailing_zeros 64 found in
-      let run = run_at shown bytes at 32 room (omega arith) (omega (arith, same, some)) in
+      let run = run_at shown bytes at 16 room (omega arith) (omega (arith, same, some)) in
       let count : prefix_len shown (drop at bytes) ≡ n = run.0 ∙ sym (ap (count_trailing_zeros 64) same) in
       let passes = subst (λ (k : ℕ). all_are shown (take k (drop at bytes)) ≡ true) count (run_passes shown (drop at bytes)) in
-      let there : n < 32 = omega (arith, run.0, run.1, count) in
+      let there : n < 16 = omega (arith, run.0, run.1, count) in
       let within : prefix_len shown (drop at bytes) < length (drop at bytes) = omega (arith, count, there, room, length-drop at bytes) in
       let end : first_is shown (drop n (drop at bytes)) ≡ false = subst (λ (k : ℕ). first_is shown (drop k (drop at bytes)) ≡ false) count (run_ends shown (drop at bytes) within) in
       (there, all_behind shown bytes at n before passes, rw (drop-drop n at bytes) at end)
+
+-- ---- a last block, and all before it
+
+pub all_prefix : (p : ℕ → Bool) (m n : ℕ) (xs : List ℕ) → m ≤ n → all_are p (take n xs) ≡ true → all_are p (take m xs) ≡ true
+all_prefix p zero n xs le e = refl
+all_prefix p (suc m) n [] le e = refl
+all_prefix p (suc m) zero (x ∷ xs) le e = absurd (omega (arith, le))
+all_prefix p (suc m) (suc n) (x ∷ xs) le e = let both = and_parts (p x) (all_are p (take n xs)) e in ap₂ (λ y z. y && z) both.0 (all_prefix p m n xs (omega (arith, le)) both.1)
+
+pub over_last : (quote most : ℕ) (bytes : List ℕ) (at last found : ℕ) → found ≡ mask_l (map (λ b. not (is_shown quote most b)) (chunk last 16 bytes)) → found ≡ 0
+    → last + 16 ≡ length bytes → last ≤ at → all_are (is_shown quote most) (take at bytes) ≡ true → all_are (is_shown quote most) bytes ≡ true
+over_last quote most bytes at last found same none whole le before =
+    subst (λ (l : List ℕ). all_are (is_shown quote most) l ≡ true) (take_all (last + 16) bytes (omega (arith, whole)))
+    (over_block quote most bytes last found same (all_prefix (is_shown quote most) last at bytes le before) none)

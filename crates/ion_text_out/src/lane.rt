@@ -34,13 +34,12 @@ pub fn has_room<O: Output, A: Allocator + Copy>(
     note: &[u8],
     more: usize,
 ) -> bool
-    requires { more < 2 ^ 63 + 2 ^ 32 }
     ensures { result ≡ true
         → length sink.now.pending + length (plain_front name.now note.now) + more + 2 ≤ 4096 }
 {
     let room = sink.room();
     let texts = name.len() + note.len();
-    texts <= room && texts + more + 5 <= room
+    texts <= room && more <= room && texts + more + 5 <= room
 }
 
 // Puts a mark of one byte, or none.

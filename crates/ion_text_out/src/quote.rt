@@ -60,7 +60,7 @@ fn put_inside<O: Output, A: Allocator + Copy>(
 }
 
 // How many bytes are looked at together.
-const BLOCK: usize = 32;
+const BLOCK: usize = 16;
 
 // How many bytes at the front of these stand for themselves.
 #[inline]
@@ -71,7 +71,7 @@ fn shown_run(quote: u8, top: u16, bytes: &[u8]) -> usize
 {
     let mut at = 0;
     'skip: while bytes.len() - at >= BLOCK {
-        let hidden = hidden(quote, top, u8x32::from_slice(&bytes[at..]));
+        let hidden = hidden(quote, top, u8x16::from_slice(&bytes[at..]));
         if hidden != 0 {
             return at + hidden.trailing_zeros() as usize;
         }
@@ -84,7 +84,7 @@ fn shown_run(quote: u8, top: u16, bytes: &[u8]) -> usize
 // round from the space, those from `top` on come behind those below it, and those below the space
 // last, so that one comparison tells both.
 #[inline(always)]
-fn hidden(quote: u8, top: u16, bytes: u8x32) -> u64
+fn hidden(quote: u8, top: u16, bytes: u8x16) -> u64
     ensures { result ≡ mask_l (map (λ b. not (is_shown quote top b)) bytes) }
 {
     let others = if top < 256 {
@@ -92,9 +92,9 @@ fn hidden(quote: u8, top: u16, bytes: u8x32) -> u64
     } else {
         224
     };
-    let is_mark = bytes.simd_eq(u8x32::splat(quote)) | bytes.simd_eq(u8x32::splat(b'\\'));
-    let is_other = (bytes - u8x32::splat(b' ')).simd_ge(u8x32::splat(others));
-    let is_delete = bytes.simd_eq(u8x32::splat(127));
+    let is_mark = bytes.simd_eq(u8x16::splat(quote)) | bytes.simd_eq(u8x16::splat(b'\\'));
+    let is_other = (bytes - u8x16::splat(b' ')).simd_ge(u8x16::splat(others));
+    let is_delete = bytes.simd_eq(u8x16::splat(127));
     (is_mark | is_other | is_delete).to_bitmask()
 }
 
@@ -106,7 +106,19 @@ pub fn stands_in_string(bytes: &[u8]) -> bool
     if bytes.len() < BLOCK {
         return few_in_string(bytes);
     }
-    shown_run(b'"', 256, bytes) == bytes.len()
+    let last = bytes.len() - BLOCK;
+    let hidden_last = hidden(b'"', 256, u8x16::from_slice(&bytes[last..]));
+    if hidden_last != 0 {
+        return false;
+    }
+    let mut at = 0;
+    'over: while at < last {
+        if hidden(b'"', 256, u8x16::from_slice(&bytes[at..])) != 0 {
+            return false;
+        }
+        at += BLOCK;
+    }
+    true
 }
 
 // Whether each of a few bytes stands for itself in a string.

@@ -424,6 +424,9 @@ impl<O: Output, A: Allocator + Copy> ValueWriter<O, A> for TextWriter<A> {
     ) -> bool {
         let name = text_in(item.field);
         let note = text_in(item.annotation);
+        if let Some(text) = item.spelled {
+            return self.take_text(sink, name, note, text);
+        }
         match item.head {
             Head::Null(of) => self.take_text(sink, name, note, null(of)),
             Head::Bool(truth) => self.take_text(sink, name, note, bool_text(truth)),

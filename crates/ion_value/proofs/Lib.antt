@@ -13,6 +13,7 @@ pub mod TextDigits
 pub mod TextDecimals
 pub mod FixedDigits
 pub mod PointedText
+pub mod SpelledDigits
 pub mod LeadingDigits
 pub mod TextParts
 pub mod TimestampText

@@ -1,9 +1,12 @@
 -- What is seen of plain items: those whose symbols are simple texts.
-use Rattle.std.specs.Prelude.{◌≡◌, ℕ, true, List, [], ◌∷◌, Option, Some, None, option_map, ⊤}
+use Rattle.std.specs.Prelude.{◌≡◌, ℕ, true, List, [], ◌∷◌, Option, Some, None, option_map, IfSome, ⊤}
 use Rattle.ion_value.specs.declared.plain_item.TextAt.{TextAt}
 use Rattle.ion_value.specs.declared.plain_item.PlainItem.{PlainItem}
+use Rattle.ion_value.specs.Decimal.{decimal_text}
+use Rattle.ion_value.specs.Int.{int_text}
 use Rattle.ion_value.specs.Name.{is_simple}
 use Rattle.ion_value.specs.Items.{raw_head}
+use Rattle.ion_value.specs.Timestamp.{timestamp_text}
 use Rattle.ion_value.specs.Value.{Symbol, Text, Id, SymbolAt, Scalar, null, bool, int, decimal, timestamp, symbol, string, clob, blob, Head, whole, begin, end, marker, PlacedItem}
 
 -- a text with its place, as a symbol
@@ -66,3 +69,16 @@ pub record IsSimple (item : PlacedItem) : Type 0 where
   pub field : HasSimpleName item.field
   pub annotations : AreSimple item.annotations
   pub head : IsSimpleHead item.head
+
+-- ---- items that come with a text
+
+-- a text is the canonical one of an int, a decimal or a timestamp
+abbrev pub IsTextOf : List ℕ → Head SymbolAt → Type 0
+IsTextOf text (whole (int number)) = text ≡ int_text number
+IsTextOf text (whole (decimal number)) = text ≡ decimal_text number
+IsTextOf text (whole (timestamp moment)) = text ≡ timestamp_text moment
+IsTextOf text _ = ⊥
+
+-- the text that an item comes with, if there is one, is the canonical text of its head
+abbrev pub IsSpelled : PlainItem → Type 0
+IsSpelled item = IfSome item.spelled (λ text. IsTextOf text.now (raw_head item.head))

@@ -22,6 +22,8 @@ pub struct PlainItem<'n, 'h> {
     pub annotation: Option<TextAt<'n>>,
     /// What the item is.
     pub head: Head<'h>,
+    /// The head's canonical text, where a reader has it.
+    pub spelled: Option<&'h [u8]>,
     /// The place of the head's first byte in the input.
     pub place: u64,
     /// The place of the first byte of the value at top level that the item belongs to.

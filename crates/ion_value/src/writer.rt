@@ -7,7 +7,7 @@ ghost use Rattle.ion_meter.specs.declared.limits.Limits.{Limits};
 ghost use Rattle.ion_meter.specs.Windows.{so_far, Puts, PutsPart};
 ghost use Rattle.ion_value.specs.Value.{PlacedItem};
 ghost use Rattle.ion_value.specs.Items.{item_of};
-ghost use Rattle.ion_value.specs.PlainItems.{IsSimple, placed_item};
+ghost use Rattle.ion_value.specs.PlainItems.{IsSimple, IsSpelled, placed_item};
 ghost use Rattle.ion_value.specs.Shares.{Charges, MemoryCauses, WriteCauses, fault_of};
 ghost use Rattle.ion_value.specs.Standing.{Continues, WritesWithin};
 
@@ -158,6 +158,7 @@ pub trait ValueWriter<O: Output, A: Allocator + Copy> {
         requires fresh { failed self.old ≡ None }
         requires well { sink.old.fault ≡ None }
         requires simple { IsSimple (placed_item item) }
+        requires spelled { IsSpelled item }
         requires path { (path : List PlacedItem) × stands self.old path
             × Continues (limits self.old) path (placed_item item) }
         ensures sound { sound self.new }

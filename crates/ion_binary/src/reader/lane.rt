@@ -2,20 +2,20 @@
 ghost use Rattle.std.specs.Prelude.{◌≡◌, ◌+◌, ◌*◌, ◌-◌, ◌^◌, ◌<◌, ◌≤◌, get_or, length, false, true, Option, Some, None, IfSome, map};
 ghost use Rattle.ion_value.specs.Items.{named_at, named_item, raw_head};
 ghost use Rattle.ion_value.specs.PlainItems.{HasSimpleName, IsSimpleHead};
-ghost use Rattle.ion_binary.specs.Lane.{CanHand, EndsHere, GoesOn, HandsItem, HandsNothing, HandsOn, KeepsOn, FillsTo, ShowsField, ShowsFront, inner_region};
+ghost use Rattle.ion_binary.specs.Lane.{CanHand, EndsHere, GoesOn, HandsItem, HandsNothing, HandsOn, IsAround, KeepsOn, FillsTo, ShowsField, ShowsFront, frame_in, inner_region};
 ghost use Rattle.ion_value.specs.Feeding.{CanTake};
-ghost use Rattle.ion_binary.specs.Steps.{IsSound, held_by, left_to, opened_in};
+ghost use Rattle.ion_binary.specs.Steps.{IsSized, IsSound, held_by, left_to, opened_in};
 ghost use Rattle.ion_binary.specs.Positions.{placed_scalar};
-ghost use Rattle.ion_binary.specs.Reader.{IsInnermost};
-ghost use Rattle.ion_binary.specs.Reading.{top_of};
-ghost use Rattle.ion_binary.specs.Descriptor.{body, shape_of};
+ghost use Rattle.ion_binary.specs.Reading.{region_of, top_of};
+ghost use Rattle.ion_binary.specs.Descriptor.{Region, body, shape_of};
 ghost use Rattle.ion_binary.specs.Shapes.{as_shape};
-ghost use Rattle.ion_binary.specs.Shown.{far_end, shown_scalar};
-ghost use Rattle.ion_meter.specs.Windows.{lent};
+ghost use Rattle.ion_binary.specs.Shown.{Bounds, ShowsValue, far_end, shown_scalar};
+ghost use Rattle.ion_meter.specs.Sources.{Stands};
+ghost use Rattle.ion_meter.specs.Windows.{CanPass, IsPassed, lent};
 ghost use Rattle.ion_binary.specs.Wrappers.{as_frames, innermost};
 ghost use Rattle.ion_value.specs.Value.{map_head, whole};
 
-use super::{BinReader, region, values_behind};
+use super::{BinReader, values_behind};
 use crate::body::id_of;
 use crate::descriptor::Shape;
 use crate::shown::{Shown, ShownScalar, shown_note, shown_value, shown_var};
@@ -31,22 +31,55 @@ use ion_value::plain_item::{PlainItem, TextAt};
 use ion_value::writer::ValueWriter;
 use std::alloc::Allocator;
 
+// Where a member stands: the kind of the container around it and the place of its end; or at top level,
+// which goes as far as all places.
+#[derive(Clone, Copy)]
+pub(crate) struct Around {
+    kind: Option<Kind>,
+    end: u64,
+}
+
+// Where the members of the innermost container stand.
+#[inline(always)]
+fn around_in(frames: &[Frame]) -> Around
+    ensures { IsAround (as_frames frames.now) result }
+{
+    match frames.last().copied() {
+        None => Around {
+            kind: None,
+            end: u64::MAX,
+        },
+        Some(frame) => inside(frame),
+    }
+}
+
+// Where the members of this container stand.
+#[inline(always)]
+fn inside(frame: Frame) -> Around
+    ensures { (result.kind ≡ Some frame.kind) × (result.end ≡ frame.end) }
+{
+    Around {
+        kind: Some(frame.kind),
+        end: frame.end,
+    }
+}
+
 // The name of a field that stands before a member, and how many octets its id has; none outside
 // structs. It answers none where the window does not show an id of a simple text.
 #[inline(always)]
 fn shown_field<'n, N: Names>(
     octets: &[u8],
     here: u64,
-    frame: Option<Frame>,
+    around: Around,
     names: &'n N,
 ) -> Option<(Option<TextAt<'n>>, usize)>
-    ensures { IfSome result
-        (λ r. ShowsField (N.text names.entry.now) octets.now here (innermost frame) r.0 r.1) }
+    ensures { IfSome result (λ r. ShowsField (N.text names.entry.now) octets.now here
+        (innermost (frame_in around)) r.0 r.1) }
 {
-    let Some(frame) = frame else {
+    let Some(kind) = around.kind else {
         return Some((None, 0));
     };
-    match frame.kind {
+    match kind {
         Kind::List | Kind::Sexp => Some((None, 0)),
         Kind::Struct => {
             let Some((id, behind)) = shown_var(octets, 0) else {
@@ -88,22 +121,20 @@ fn shown_head<'h, N: Names>(scalar: ShownScalar<'h>, place: u64, names: &'h N) -
 
 // Whether the innermost container ends at a place.
 #[inline(always)]
-fn ends_here(frame: Option<Frame>, place: u64) -> bool
-    ensures ends { result ≡ true → EndsHere frame place }
-    ensures goes_on { result ≡ false → GoesOn frame place }
+fn ends_here(around: Around, place: u64) -> bool
+    requires top { around.kind ≡ None → place < around.end }
+    ensures ends { result ≡ true → EndsHere (frame_in around) place }
+    ensures goes_on { result ≡ false → GoesOn (frame_in around) place }
 {
-    match frame {
-        None => false,
-        Some(frame) => frame.end <= place,
-    }
+    around.end <= place
 }
 
 // Where the value at top level begins that a member belongs to.
 #[inline(always)]
-fn top_at(frame: Option<Frame>, top: u64, here: u64) -> u64
-    ensures { result ≡ top_of (innermost frame) top here }
+fn top_at(around: Around, top: u64, here: u64) -> u64
+    ensures { result ≡ top_of (innermost (frame_in around)) top here }
 {
-    match frame {
+    match around.kind {
         None => here,
         Some(_) => top,
     }
@@ -159,21 +190,22 @@ fn bare_front<'n>(field: Option<TextAt<'n>>, at: usize) -> Front<'n>
 fn noted_front<'n, N: Names>(
     octets: &[u8],
     here: u64,
-    frame: Option<Frame>,
+    around: Around,
     field: Option<TextAt<'n>>,
     at: usize,
     limits: Limits,
     names: &'n N,
 ) -> Option<Front<'n>>
     requires small { here + length octets.now < 2 ^ 63 }
-    requires field { ShowsField (N.text names.now) octets.now here (innermost frame) field at }
+    requires field { ShowsField (N.text names.now) octets.now here
+        (innermost (frame_in around)) field at }
     ensures { IfSome result (λ f. ShowsFront (N.text names.entry.now) limits octets.now here
-        (innermost frame) f.field f.annotation f.at f.head f.wrapper) }
+        (innermost (frame_in around)) f.field f.annotation f.at f.head f.wrapper) }
 {
     if at >= octets.len() {
         return None;
     }
-    let Some(note) = shown_note(octets, here, at, region(frame), limits) else {
+    let Some(note) = shown_note(octets, here, at, around.end, limits) else {
         return None;
     };
     let Some(text) = names.simple_text(id_of(note.id)) else {
@@ -189,13 +221,13 @@ fn noted_front<'n, N: Names>(
     })
 }
 
-// The region of a value: the wrapper around it, or else its container.
+// How far a value may go: to the end of the wrapper around it, or else of its container.
 #[inline(always)]
-fn inner_region(wrapper: Option<u64>, around: Option<u64>) -> Option<u64>
-    ensures { result ≡ inner_region wrapper around }
+fn inner_end(wrapper: Option<u64>, around: u64) -> u64
+    ensures { (region : Region) → Bounds region around → Bounds (inner_region wrapper region) result }
 {
     match wrapper {
-        Some(end) => Some(end),
+        Some(end) => end,
         None => around,
     }
 }
@@ -218,6 +250,7 @@ fn item_behind<'n, 'h>(front: Front<'n>, head: Head<'h>, place: u64, top: u64) -
       field = front.entry.field;
       annotation = front.entry.annotation;
       head = head.entry;
+      spelled = None;
       place = place;
       top = top;
     } }
@@ -226,6 +259,7 @@ fn item_behind<'n, 'h>(front: Front<'n>, head: Head<'h>, place: u64, top: u64) -
         field: front.field,
         annotation: front.annotation,
         head,
+        spelled: None,
         place,
         top,
     }
@@ -254,7 +288,8 @@ impl<I: Input, A: Allocator + Copy> BinReader<I, A> {
             writer.old writer.new sink.old sink.new meter.old meter.new values result }
     {
         let mut count = values;
-        'items: while self.hand(meter, names, writer, sink) {
+        let mut around = around_in(self.frames.as_slice());
+        'items: while self.hand(&mut around, meter, names, writer, sink) {
             count = values_behind(count, self.frames.as_slice());
         }
         count
@@ -265,12 +300,14 @@ impl<I: Input, A: Allocator + Copy> BinReader<I, A> {
     #[inline(always)]
     pub(super) fn hand<N: Names, W: ValueWriter<O, A>, O: Output>(
         &mut self,
+        around: &mut Around,
         meter: &mut Meter<A>,
         names: &N,
         writer: &mut W,
         sink: &mut Sink<O, A>,
     ) -> bool
-        requires { CanHand W.ValueWriter self.old writer.old sink.old meter.old }
+        requires can_hand { CanHand W.ValueWriter self.old writer.old sink.old meter.old }
+        requires around { IsAround (as_frames self.old.frames) around.old }
         ensures hands { result ≡ true → HandsItem I.Input W.ValueWriter
             (named_item (N.text names.now)) self.old self.new writer.old writer.new
             sink.old sink.new }
@@ -280,12 +317,12 @@ impl<I: Input, A: Allocator + Copy> BinReader<I, A> {
             sink.old sink.new meter.old meter.new }
         ensures goes { held_by self.new
             ≤ held_by self.old + 16 * (left_to self.old - left_to self.new) }
+        ensures around { result ≡ true → IsAround (as_frames self.new.frames) around.new }
     {
-        let frame = self.frames.as_slice().last().copied();
-        if ends_here(frame, self.source.place()) {
-            return self.hand_end(frame, meter, names, writer, sink);
+        if ends_here(*around, self.source.place()) {
+            return self.hand_end(around, meter, names, writer, sink);
         }
-        self.hand_member(frame, meter, names, writer, sink)
+        self.hand_member(around, meter, names, writer, sink)
     }
 
     // The same of an item that has an annotation. It is a call of its own, so that the loop over all
@@ -309,26 +346,26 @@ impl<I: Input, A: Allocator + Copy> BinReader<I, A> {
         ensures goes { held_by self.new
             ≤ held_by self.old + 16 * (left_to self.old - left_to self.new) }
     {
-        let frame = self.frames.as_slice().last().copied();
-        if ends_here(frame, self.source.place()) {
+        let mut around = around_in(self.frames.as_slice());
+        if ends_here(around, self.source.place()) {
             return false;
         }
-        self.hand_noted(frame, meter, names, writer, sink)
+        self.hand_noted(&mut around, meter, names, writer, sink)
     }
 
     // The end of the innermost container, which stands here.
     #[inline(always)]
     fn hand_end<N: Names, W: ValueWriter<O, A>, O: Output>(
         &mut self,
-        _frame: Option<Frame>,
+        around: &mut Around,
         meter: &mut Meter<A>,
         _names: &N,
         writer: &mut W,
         sink: &mut Sink<O, A>,
     ) -> bool
         requires can_hand { CanHand W.ValueWriter self.old writer.old sink.old meter.old }
-        requires innermost { IsInnermost (as_frames self.old.frames) _frame }
-        requires ends { EndsHere _frame self.old.source.place }
+        requires around { IsAround (as_frames self.old.frames) around.old }
+        requires ends { EndsHere (frame_in around.old) self.old.source.place }
         ensures hands { result ≡ true → HandsItem I.Input W.ValueWriter
             (named_item (N.text _names.now)) self.old self.new writer.old writer.new
             sink.old sink.new }
@@ -338,11 +375,13 @@ impl<I: Input, A: Allocator + Copy> BinReader<I, A> {
             sink.old sink.new meter.old meter.new }
         ensures goes { held_by self.new
             ≤ held_by self.old + 16 * (left_to self.old - left_to self.new) }
+        ensures around { result ≡ true → IsAround (as_frames self.new.frames) around.new }
     {
         let item = PlainItem {
             field: None,
             annotation: None,
             head: Head::End,
+            spelled: None,
             place: self.source.place(),
             top: self.top,
         };
@@ -350,6 +389,7 @@ impl<I: Input, A: Allocator + Copy> BinReader<I, A> {
             return false;
         }
         self.close(meter);
+        *around = around_in(self.frames.as_slice());
         true
     }
 
@@ -357,15 +397,15 @@ impl<I: Input, A: Allocator + Copy> BinReader<I, A> {
     #[inline(always)]
     fn hand_member<N: Names, W: ValueWriter<O, A>, O: Output>(
         &mut self,
-        frame: Option<Frame>,
+        around: &mut Around,
         meter: &mut Meter<A>,
         names: &N,
         writer: &mut W,
         sink: &mut Sink<O, A>,
     ) -> bool
         requires can_hand { CanHand W.ValueWriter self.old writer.old sink.old meter.old }
-        requires innermost { IsInnermost (as_frames self.old.frames) frame }
-        requires goes_on { GoesOn frame self.old.source.place }
+        requires around { IsAround (as_frames self.old.frames) around.old }
+        requires goes_on { GoesOn (frame_in around.old) self.old.source.place }
         ensures hands { result ≡ true → HandsItem I.Input W.ValueWriter
             (named_item (N.text names.now)) self.old self.new writer.old writer.new
             sink.old sink.new }
@@ -375,13 +415,14 @@ impl<I: Input, A: Allocator + Copy> BinReader<I, A> {
             sink.old sink.new meter.old meter.new }
         ensures goes { held_by self.new
             ≤ held_by self.old + 16 * (left_to self.old - left_to self.new) }
+        ensures around { result ≡ true → IsAround (as_frames self.new.frames) around.new }
     {
         let here = self.source.place();
         let octets = self.source.buffer();
-        let Some((field, at)) = shown_field(octets, here, frame, names) else {
+        let Some((field, at)) = shown_field(octets, here, *around, names) else {
             return false;
         };
-        self.hand_head(frame, bare_front(field, at), meter, names, writer, sink)
+        self.hand_head(around, bare_front(field, at), meter, names, writer, sink)
     }
 
     // The same of one with an annotation. All shapes of a head share a call here, so that `hand_head` has one
@@ -389,15 +430,15 @@ impl<I: Input, A: Allocator + Copy> BinReader<I, A> {
     #[inline(always)]
     fn hand_noted<N: Names, W: ValueWriter<O, A>, O: Output>(
         &mut self,
-        frame: Option<Frame>,
+        around: &mut Around,
         meter: &mut Meter<A>,
         names: &N,
         writer: &mut W,
         sink: &mut Sink<O, A>,
     ) -> bool
         requires can_hand { CanHand W.ValueWriter self.old writer.old sink.old meter.old }
-        requires innermost { IsInnermost (as_frames self.old.frames) frame }
-        requires goes_on { GoesOn frame self.old.source.place }
+        requires around { IsAround (as_frames self.old.frames) around.old }
+        requires goes_on { GoesOn (frame_in around.old) self.old.source.place }
         ensures hands { result ≡ true → HandsItem I.Input W.ValueWriter
             (named_item (N.text names.now)) self.old self.new writer.old writer.new
             sink.old sink.new }
@@ -407,21 +448,22 @@ impl<I: Input, A: Allocator + Copy> BinReader<I, A> {
             sink.old sink.new meter.old meter.new }
         ensures goes { held_by self.new
             ≤ held_by self.old + 16 * (left_to self.old - left_to self.new) }
+        ensures around { result ≡ true → IsAround (as_frames self.new.frames) around.new }
     {
         let here = self.source.place();
         let octets = self.source.buffer();
-        let Some((field, at)) = shown_field(octets, here, frame, names) else {
+        let Some((field, at)) = shown_field(octets, here, *around, names) else {
             return false;
         };
         let limits = self.limits;
-        let Some(front) = noted_front(octets, here, frame, field, at, limits, names) else {
+        let Some(front) = noted_front(octets, here, *around, field, at, limits, names) else {
             return false;
         };
         if front.head >= octets.len() {
             return false;
         }
         let shape = Shape::of(octets[front.head]);
-        self.hand_shape(shape, frame, front, meter, names, writer, sink)
+        self.hand_shape(shape, around, front, meter, names, writer, sink)
     }
 
     // The same of an item with this front. Each frequent shape of a head has a call of its own, so that
@@ -429,7 +471,7 @@ impl<I: Input, A: Allocator + Copy> BinReader<I, A> {
     #[inline(always)]
     fn hand_head<N: Names, W: ValueWriter<O, A>, O: Output>(
         &mut self,
-        frame: Option<Frame>,
+        around: &mut Around,
         front: Front<'_>,
         meter: &mut Meter<A>,
         names: &N,
@@ -437,10 +479,10 @@ impl<I: Input, A: Allocator + Copy> BinReader<I, A> {
         sink: &mut Sink<O, A>,
     ) -> bool
         requires can_hand { CanHand W.ValueWriter self.old writer.old sink.old meter.old }
-        requires innermost { IsInnermost (as_frames self.old.frames) frame }
-        requires goes_on { GoesOn frame self.old.source.place }
+        requires around { IsAround (as_frames self.old.frames) around.old }
+        requires goes_on { GoesOn (frame_in around.old) self.old.source.place }
         requires front { ShowsFront (N.text names.now) self.old.limits (lent self.old.source)
-            self.old.source.place (innermost frame)
+            self.old.source.place (innermost (frame_in around.old))
             front.field front.annotation front.at front.head front.wrapper }
         ensures hands { result ≡ true → HandsItem I.Input W.ValueWriter
             (named_item (N.text names.now)) self.old self.new writer.old writer.new
@@ -451,6 +493,7 @@ impl<I: Input, A: Allocator + Copy> BinReader<I, A> {
             sink.old sink.new meter.old meter.new }
         ensures goes { held_by self.new
             ≤ held_by self.old + 16 * (left_to self.old - left_to self.new) }
+        ensures around { result ≡ true → IsAround (as_frames self.new.frames) around.new }
     {
         let octets = self.source.buffer();
         if front.head >= octets.len() {
@@ -458,10 +501,10 @@ impl<I: Input, A: Allocator + Copy> BinReader<I, A> {
         }
         match Shape::of(octets[front.head]) {
             Shape::Null(of) => {
-                self.hand_shape(Shape::Null(of), frame, front, meter, names, writer, sink)
+                self.hand_shape(Shape::Null(of), around, front, meter, names, writer, sink)
             }
             Shape::Bool(truth) => {
-                self.hand_shape(Shape::Bool(truth), frame, front, meter, names, writer, sink)
+                self.hand_shape(Shape::Bool(truth), around, front, meter, names, writer, sink)
             }
             Shape::Body {
                 type_code,
@@ -469,7 +512,7 @@ impl<I: Input, A: Allocator + Copy> BinReader<I, A> {
             } => self.hand_body(
                 type_code,
                 length_code,
-                frame,
+                around,
                 front,
                 meter,
                 names,
@@ -478,7 +521,7 @@ impl<I: Input, A: Allocator + Copy> BinReader<I, A> {
             ),
             Shape::Container(kind, length_code) => {
                 let shape = Shape::Container(kind, length_code);
-                self.hand_shape(shape, frame, front, meter, names, writer, sink)
+                self.hand_shape(shape, around, front, meter, names, writer, sink)
             }
             _ => false,
         }
@@ -490,7 +533,7 @@ impl<I: Input, A: Allocator + Copy> BinReader<I, A> {
         &mut self,
         type_code: u8,
         length_code: u8,
-        frame: Option<Frame>,
+        around: &mut Around,
         front: Front<'_>,
         meter: &mut Meter<A>,
         names: &N,
@@ -498,10 +541,10 @@ impl<I: Input, A: Allocator + Copy> BinReader<I, A> {
         sink: &mut Sink<O, A>,
     ) -> bool
         requires can_hand { CanHand W.ValueWriter self.old writer.old sink.old meter.old }
-        requires innermost { IsInnermost (as_frames self.old.frames) frame }
-        requires goes_on { GoesOn frame self.old.source.place }
+        requires around { IsAround (as_frames self.old.frames) around.old }
+        requires goes_on { GoesOn (frame_in around.old) self.old.source.place }
         requires front { ShowsFront (N.text names.now) self.old.limits (lent self.old.source)
-            self.old.source.place (innermost frame)
+            self.old.source.place (innermost (frame_in around.old))
             front.field front.annotation front.at front.head front.wrapper }
         requires within { front.head < length (lent self.old.source) }
         requires shape { body type_code length_code
@@ -515,34 +558,85 @@ impl<I: Input, A: Allocator + Copy> BinReader<I, A> {
             sink.old sink.new meter.old meter.new }
         ensures goes { held_by self.new
             ≤ held_by self.old + 16 * (left_to self.old - left_to self.new) }
+        ensures around { result ≡ true → IsAround (as_frames self.new.frames) around.new }
     {
         match type_code {
             2 => {
                 let shape = Shape::body(2, length_code);
-                self.hand_shape(shape, frame, front, meter, names, writer, sink)
+                self.hand_shape(shape, around, front, meter, names, writer, sink)
             }
             3 => {
                 let shape = Shape::body(3, length_code);
-                self.hand_shape(shape, frame, front, meter, names, writer, sink)
+                self.hand_shape(shape, around, front, meter, names, writer, sink)
             }
             5 => {
                 let shape = Shape::body(5, length_code);
-                self.hand_shape(shape, frame, front, meter, names, writer, sink)
+                self.hand_shape(shape, around, front, meter, names, writer, sink)
             }
             6 => {
                 let shape = Shape::body(6, length_code);
-                self.hand_shape(shape, frame, front, meter, names, writer, sink)
+                self.hand_shape(shape, around, front, meter, names, writer, sink)
             }
             7 => {
                 let shape = Shape::body(7, length_code);
-                self.hand_shape(shape, frame, front, meter, names, writer, sink)
+                self.hand_shape(shape, around, front, meter, names, writer, sink)
             }
             8 => {
                 let shape = Shape::body(8, length_code);
-                self.hand_shape(shape, frame, front, meter, names, writer, sink)
+                self.hand_shape(shape, around, front, meter, names, writer, sink)
             }
             _ => false,
         }
+    }
+
+    // What is shown behind a front of a head of this shape, and how many octets the item has.
+    #[inline(always)]
+    fn shown_behind(
+        &self,
+        shape: Shape,
+        around: Around,
+        front: Front<'_>,
+    ) -> Option<(Shown<'_>, usize)>
+        requires stands { Stands self.now.source }
+        requires sized { IsSized self.now }
+        requires within { front.head < length (lent self.now.source) }
+        requires shape { as_shape shape ≡ shape_of (get_or (lent self.now.source) front.head 0) }
+        ensures shows { IfSome result (λ r. ShowsValue self.entry.now.limits
+            (lent self.entry.now.source) self.entry.now.source.place
+            (inner_region front.entry.wrapper (region_of (innermost (frame_in around))))
+            (length (as_frames self.entry.now.frames)) front.entry.head r.1 r.0) }
+        ensures fills { IfSome result (λ r. FillsTo front.entry.wrapper
+            (far_end self.entry.now.source.place r.1 r.0)) }
+    {
+        let here = self.source.place();
+        let octets = self.source.buffer();
+        let most = inner_end(front.wrapper, around.end);
+        let depth = self.frames.as_slice().len() as u32;
+        let at = front.head;
+        let Some((found, behind)) = shown_value(shape, octets, here, at, most, depth, self.limits)
+        else {
+            return None;
+        };
+        if !fills(front.wrapper, far_end(here, behind, found)) {
+            return None;
+        }
+        Some((found, behind))
+    }
+
+    // Passes over an item whose octets are so many.
+    #[inline(always)]
+    fn pass(&mut self, around: Around, count: usize)
+        requires { CanPass self.old.source count }
+        ensures passed { IsPassed self.old.source self.new.source count }
+        ensures top { self.new ≡ record self.old {
+          top = top_of (innermost (frame_in around)) self.old.top self.old.source.place;
+          source = self.new.source;
+        } }
+    {
+        if around.kind.is_none() {
+            self.top = self.source.place();
+        }
+        self.source.consume(count);
     }
 
     // The same of a head whose descriptor has this shape.
@@ -550,7 +644,7 @@ impl<I: Input, A: Allocator + Copy> BinReader<I, A> {
     fn hand_shape<N: Names, W: ValueWriter<O, A>, O: Output>(
         &mut self,
         shape: Shape,
-        frame: Option<Frame>,
+        around: &mut Around,
         front: Front<'_>,
         meter: &mut Meter<A>,
         names: &N,
@@ -558,10 +652,10 @@ impl<I: Input, A: Allocator + Copy> BinReader<I, A> {
         sink: &mut Sink<O, A>,
     ) -> bool
         requires can_hand { CanHand W.ValueWriter self.old writer.old sink.old meter.old }
-        requires innermost { IsInnermost (as_frames self.old.frames) frame }
-        requires goes_on { GoesOn frame self.old.source.place }
+        requires around { IsAround (as_frames self.old.frames) around.old }
+        requires goes_on { GoesOn (frame_in around.old) self.old.source.place }
         requires front { ShowsFront (N.text names.now) self.old.limits (lent self.old.source)
-            self.old.source.place (innermost frame)
+            self.old.source.place (innermost (frame_in around.old))
             front.field front.annotation front.at front.head front.wrapper }
         requires within { front.head < length (lent self.old.source) }
         requires shape { as_shape shape ≡ shape_of (get_or (lent self.old.source) front.head 0) }
@@ -574,22 +668,14 @@ impl<I: Input, A: Allocator + Copy> BinReader<I, A> {
             sink.old sink.new meter.old meter.new }
         ensures goes { held_by self.new
             ≤ held_by self.old + 16 * (left_to self.old - left_to self.new) }
+        ensures around { result ≡ true → IsAround (as_frames self.new.frames) around.new }
     {
-        let here = self.source.place();
-        let octets = self.source.buffer();
-        let region = inner_region(front.wrapper, region(frame));
-        let depth = self.frames.as_slice().len() as u32;
-        let limits = self.limits;
-        let at = front.head;
-        let Some((found, behind)) = shown_value(shape, octets, here, at, region, depth, limits)
-        else {
+        let Some((found, behind)) = self.shown_behind(shape, *around, front) else {
             return false;
         };
-        if !fills(front.wrapper, far_end(here, behind, found)) {
-            return false;
-        }
-        let place = here + at as u64;
-        let top = top_at(frame, self.top, here);
+        let here = self.source.place();
+        let place = here + front.head as u64;
+        let top = top_at(*around, self.top, here);
         match found {
             Shown::Scalar(scalar) => {
                 let Some(head) = shown_head(scalar, place, names) else {
@@ -599,8 +685,7 @@ impl<I: Input, A: Allocator + Copy> BinReader<I, A> {
                 if !writer.take_plain(meter, sink, item) {
                     return false;
                 }
-                self.top = top;
-                self.source.consume(behind);
+                self.pass(*around, behind);
                 true
             }
             Shown::Begin(kind, end) => {
@@ -612,8 +697,8 @@ impl<I: Input, A: Allocator + Copy> BinReader<I, A> {
                     self.frames.pop(meter);
                     return false;
                 }
-                self.top = top;
-                self.source.consume(behind);
+                self.pass(*around, behind);
+                *around = inside(Frame { kind, end });
                 true
             }
         }

@@ -1,11 +1,11 @@
 //! Plain items, added at once to a value that is open.
-ghost use Rattle.std.specs.Prelude.{◌≡◌, ◌<◌, ◌∷◌, true, false, map, option_map, IfSome};
+ghost use Rattle.std.specs.Prelude.{◌≡◌, ◌<◌, ◌∷◌, [], length, true, false, map, option_map, IfSome};
 ghost use Rattle.ion_value.specs.Items.{raw_head, symbol_at};
 ghost use Rattle.ion_value.specs.PlainItems.{listed, placed_item, placed_text};
 ghost use Rattle.ion_value.specs.Standing.{HeadInRange};
 ghost use Rattle.ion_value.specs.Writable.{field_symbols};
-ghost use Rattle.ion_value.specs.Number.{uint_octets};
-ghost use Rattle.ion_value.specs.Value.{begin, end, int, string, symbol, user_symbol_at, whole};
+ghost use Rattle.ion_value.specs.Number.{uint_octets, var_int_octets};
+ghost use Rattle.ion_value.specs.Value.{begin, decimal, end, int, string, symbol, user_symbol_at, whole};
 ghost use Rattle.ion_binary.specs.Canonical.{annotation_octets, field_octets, headed, id_in};
 ghost use Rattle.ion_binary.specs.Held.{counted_ids};
 ghost use Rattle.ion_binary.specs.ItemOctets.{head_name, head_octets, user_head};
@@ -20,11 +20,19 @@ use crate::scalar::{Octets, spell, spell_int, type_code};
 use ion_meter::device::Output;
 use ion_meter::meter::Meter;
 use ion_meter::sink::Sink;
+use ion_value::decimal::Decimal;
 use ion_value::int::Int;
 use ion_value::ion_type::Kind;
 use ion_value::item::{Head, Sym, SymAt};
 use ion_value::plain_item::{PlainItem, TextAt};
 use std::alloc::Allocator;
+
+// The ids of an item's field and of its annotation, each 0 where there is none.
+#[derive(Drop)]
+struct Ids {
+    name: u32,
+    note: u32,
+}
 
 impl<A: Allocator + Copy> BinWriter<A> {
     // Adds an item behind which a value is open, where all is there that it needs: ids of its texts,
@@ -40,10 +48,11 @@ impl<A: Allocator + Copy> BinWriter<A> {
             Head::Begin(kind) => self.begin_plain(meter, &item, kind),
             Head::End => self.end_plain(meter, &item),
             Head::Marker => false,
-            Head::Null(of) => self.add_short(meter, &item, 16 * type_code(of) + 15, &[]),
-            Head::Bool(truth) => self.add_short(meter, &item, if truth { 17 } else { 16 }, &[]),
+            Head::Null(of) => self.add_octet(meter, &item, 16 * type_code(of) + 15),
+            Head::Bool(truth) => self.add_octet(meter, &item, if truth { 17 } else { 16 }),
             Head::Int(int) => self.add_int(meter, &item, int),
             Head::Symbol(at) => self.add_symbol(meter, &item, at),
+            Head::Decimal(decimal) => self.add_decimal(meter, &item, decimal),
             Head::String(text) => self.add_string(meter, &item, text),
             _ => self.add_spelled(meter, &item),
         }
@@ -205,15 +214,48 @@ impl<A: Allocator + Copy> BinWriter<A> {
         ensures { AddsPlain self.old self.new meter.old meter.new
             (placed_item item.now) result }
     {
-        if text.len() < 14 {
-            return self.add_short(meter, item, 128 + text.len() as u8, text);
-        }
-        let before = header(8, text.len() as u64);
-        let octets = Octets {
-            front: before.as_slice(),
-            rest: text,
+        let Some(ids) = self.ids_of(item) else {
+            return false;
         };
-        self.add_scalar(meter, item, &octets)
+        self.open_value
+            .put_text(meter, &self.limits, ids.name, ids.note, text)
+    }
+
+    // Adds a decimal: one that is not zero without an `ArrayVec` of its octets, where 63 bits hold its
+    // coefficient and one octet its exponent.
+    #[inline(always)]
+    fn add_decimal(
+        &mut self,
+        meter: &mut Meter<A>,
+        item: &PlainItem<'_, '_>,
+        number: Decimal,
+    ) -> bool
+        requires can_take { CanTake self.old meter.old }
+        requires comes { MayCome self.old.limits self.old.open_value (placed_item item.now) }
+        requires head { raw_head item.now.head ≡ whole (decimal number) }
+        ensures { AddsPlain self.old self.new meter.old meter.new
+            (placed_item item.now) result }
+    {
+        let magnitude = number.coefficient;
+        if magnitude == 0 || magnitude >= 1 << 63 {
+            return self.add_spelled(meter, item);
+        }
+        let Some(exponent) = var_int_octet(number.exponent < 0, number.exponent.unsigned_abs())
+        else {
+            return self.add_spelled(meter, item);
+        };
+        let Some(ids) = self.ids_of(item) else {
+            return false;
+        };
+        self.open_value.put_decimal(
+            meter,
+            &self.limits,
+            ids.name,
+            ids.note,
+            exponent,
+            number.negative,
+            magnitude as u64,
+        )
     }
 
     // Adds a scalar whose body is a number of 64 bits.
@@ -235,41 +277,30 @@ impl<A: Allocator + Copy> BinWriter<A> {
         ensures { AddsPlain self.old self.new meter.old meter.new
             (placed_item item.now) result }
     {
-        let octets = n.to_be_bytes();
-        let zeros = n.leading_zeros() as usize / 8;
-        let body = &octets[zeros..];
-        self.add_short(meter, item, 16 * code + body.len() as u8, body)
+        let Some(ids) = self.ids_of(item) else {
+            return false;
+        };
+        self.open_value
+            .put_number(meter, &self.limits, ids.name, ids.note, code, n)
     }
 
-    // Adds a scalar of a header of one octet, and this body.
+    // Adds a scalar of one octet.
     #[inline(always)]
-    fn add_short(
-        &mut self,
-        meter: &mut Meter<A>,
-        item: &PlainItem<'_, '_>,
-        header: u8,
-        body: &[u8],
-    ) -> bool
+    fn add_octet(&mut self, meter: &mut Meter<A>, item: &PlainItem<'_, '_>, octet: u8) -> bool
         requires can_take { CanTake self.old meter.old }
         requires comes { MayCome self.old.limits self.old.open_value (placed_item item.now) }
         requires whole { IsWhole (raw_head item.now.head) }
         requires known { HaveIds self.old.symbols.texts (head_symbols (raw_head item.now.head)) }
-        requires octets { header ∷ body.now
+        requires octets { octet ∷ []
             ≡ head_octets (id_in self.old.symbols.texts) (user_head item.now.head) }
         ensures { AddsPlain self.old self.new meter.old meter.new
             (placed_item item.now) result }
     {
-        if self.open_value.headers.len() == 0 {
-            return false;
-        }
-        let Some(name) = self.field_id(item.field) else {
-            return false;
-        };
-        let Some(note) = self.annotation_id(item.annotation) else {
+        let Some(ids) = self.ids_of(item) else {
             return false;
         };
         self.open_value
-            .put_short(meter, &self.limits, name, note, header, body)
+            .put_octet(meter, &self.limits, ids.name, ids.note, octet)
     }
 
     // Adds a scalar of these octets.
@@ -289,17 +320,39 @@ impl<A: Allocator + Copy> BinWriter<A> {
         ensures { AddsPlain self.old self.new meter.old meter.new
             (placed_item item.now) result }
     {
-        if self.open_value.headers.len() == 0 {
-            return false;
-        }
-        let Some(name) = self.field_id(item.field) else {
-            return false;
-        };
-        let Some(note) = self.annotation_id(item.annotation) else {
+        let Some(ids) = self.ids_of(item) else {
             return false;
         };
         self.open_value
-            .put_octets(meter, &self.limits, name, note, scalar)
+            .put_octets(meter, &self.limits, ids.name, ids.note, scalar)
+    }
+
+    // The ids of an item's field and of its annotation, where a container is open and their texts have
+    // ids.
+    #[inline(always)]
+    fn ids_of(&self, item: &PlainItem<'_, '_>) -> Option<Ids>
+        ensures open { IfSome result (λ _. 0 < length self.now.open_value.headers) }
+        ensures field_known { IfSome result (λ _. HaveIds self.now.symbols.texts
+            (field_symbols (option_map placed_text item.now.field))) }
+        ensures note_known { IfSome result (λ _. HaveIds self.now.symbols.texts
+            (listed (option_map placed_text item.now.annotation))) }
+        ensures field { IfSome result (λ ids. name_octets ids.name
+            ≡ field_octets (id_in self.now.symbols.texts)
+            (option_map user_symbol_at (option_map placed_text item.now.field))) }
+        ensures note { IfSome result (λ ids. counted_ids (name_octets ids.note)
+            ≡ annotation_octets (id_in self.now.symbols.texts)
+            (map user_symbol_at (listed (option_map placed_text item.now.annotation)))) }
+    {
+        if self.open_value.headers.len() == 0 {
+            return None;
+        }
+        let Some(name) = self.field_id(item.field) else {
+            return None;
+        };
+        match self.annotation_id(item.annotation) {
+            Some(note) => Some(Ids { name, note }),
+            None => None,
+        }
     }
 
     // The id of a field, where its text has one, and 0 where there is none.
@@ -347,4 +400,18 @@ impl<A: Allocator + Copy> BinWriter<A> {
         };
         self.symbols.known(text)
     }
+}
+
+// The octet of a VarInt of six bits and a sign.
+#[inline(always)]
+fn var_int_octet(negative: bool, magnitude: u32) -> Option<u8>
+    ensures { IfSome result (λ octet. octet ∷ [] ≡ var_int_octets negative magnitude) }
+{
+    if magnitude >= 64 {
+        return None;
+    }
+    if negative {
+        return Some(192 + magnitude as u8);
+    }
+    Some(128 + magnitude as u8)
 }

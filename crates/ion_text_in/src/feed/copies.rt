@@ -26,9 +26,10 @@ pub(super) fn spot_for_call<'a>(spot: Spot<'a>) -> Spot<'a>
 {
     Spot {
         rest: spot.rest,
-        expected: spot.expected,
         top: spot.top,
         values: spot.values,
+        separator: spot.separator,
+        kind: spot.kind,
     }
 }
 

@@ -3,20 +3,20 @@ ghost use Rattle.std.specs.Prelude.{◌≡◌, ◌≢◌, ◌<◌, ℕ, Bool, Li
 ghost use Rattle.ion_value.specs.declared.ion_type.Kind as kind_of;
 ghost use Rattle.ion_text_in.specs.Feeding.{Begins, IsBare, IsFound, IsSimpleWord};
 ghost use Rattle.ion_text_in.specs.Firsts.{first_of};
-ghost use Rattle.ion_text_in.specs.Quick.{as_quick};
-ghost use Rattle.ion_text_in.specs.Scanners.{Shows};
-ghost use Rattle.ion_text_in.specs.Token.{a_begin, a_run, a_short, a_word, first_at, token_of};
-ghost use Rattle.ion_text_in.specs.Views.{as_number, shown_text, word_token_of};
+ghost use Rattle.ion_text_in.specs.Quick.{as_quick, AreSpelled};
+ghost use Rattle.ion_text_in.specs.Token.{a_begin, a_run, a_short, a_word, first_at};
+ghost use Rattle.ion_text_in.specs.Views.{as_number};
 ghost use Rattle.ion_value.specs.Items.{raw_head};
+ghost use Rattle.ion_value.specs.PlainItems.{IsTextOf};
 ghost use Rattle.ion_value.specs.Value.{whole};
 
 use super::{Found, Next, behind, front, next_told};
-use crate::first::{First, brace};
+use crate::first::First;
 use crate::number::{Number, scan_number};
 use crate::quick::{Quick, scaled, scan_quick, signed_int};
 use crate::quoted::{Quote, scan_text};
 use crate::scanned::Scanned;
-use crate::word::{Word, scan_word, simple_word};
+use crate::word::{Word, scan_simple};
 use ion_meter::limits::Limits;
 use ion_value::ion_type::Kind;
 use ion_value::item::{Head, Sym, SymAt};
@@ -48,6 +48,7 @@ pub(super) fn begin_head<'a>(limits: Limits, place: u64, kind: Kind, bytes: &'a 
 {
     Found {
         head: Head::Begin(kind),
+        spelled: None,
         rest: behind(1, bytes),
     }
 }
@@ -70,6 +71,15 @@ pub(super) fn decimal_head<'a>(quick: Quick, exponent: i32) -> Head<'a>
     ensures whole { (kind : kind_of.Kind) → result ≢ Head.Begin kind }
 {
     Head::Decimal(scaled(quick.negative, quick.number, exponent))
+}
+
+/// The text of a number that was read in one pass, where it is the canonical one.
+#[inline(always)]
+pub(super) fn spelled_quick(quick: Quick, text: &[u8]) -> Option<&[u8]>
+    requires { AreSpelled text.now quick }
+    ensures { IfSome result (λ t. IsTextOf t.now (whole (as_number (as_quick quick)))) }
+{
+    if quick.canonical { Some(text) } else { None }
 }
 
 // A number that was read in one pass, as a head.
@@ -107,6 +117,7 @@ fn run_head<'a>(limits: Limits, place: u64, bytes: &'a [u8]) -> Option<Found<'a>
     match scan_number(limits.scalar, bytes) {
         Scanned::Whole(number, count) => Some(Found {
             head: head_of(number),
+            spelled: None,
             rest: behind(count, bytes),
         }),
         _ => None,
@@ -127,6 +138,7 @@ fn number_head<'a>(limits: Limits, place: u64, bytes: &'a [u8]) -> Option<Found<
     };
     Some(Found {
         head: quick_head(quick),
+        spelled: spelled_quick(quick, front(quick.count, bytes)),
         rest: behind(quick.count, bytes),
     })
 }
@@ -145,6 +157,7 @@ pub(super) fn string_head<'a>(limits: Limits, place: u64, bytes: &'a [u8]) -> Op
     match scan_text(Quote::Short, limits.scalar, text) {
         Scanned::Whole(plain, count) => Some(Found {
             head: Head::String(front(plain, text)),
+            spelled: None,
             rest: behind(count, text),
         }),
         _ => None,
@@ -160,9 +173,19 @@ fn word_head<'a>(limits: Limits, place: u64, bytes: &'a [u8]) -> Option<Found<'a
     requires some { 0 < length bytes.now }
     ensures { IfSome result (IsFound limits place bytes.now) }
 {
-    match simple_word(limits.scalar, bytes) {
-        Some(count) => symbol_head(limits, place, count, bytes),
-        None => keyword_head(limits, place, bytes),
+    match scan_simple(limits.scalar, bytes) {
+        Scanned::Whole(Word::Name, count) => symbol_head(limits, place, count, bytes),
+        Scanned::Whole(Word::Null(ion_type), count) => Some(Found {
+            head: Head::Null(ion_type),
+            spelled: None,
+            rest: behind(count, bytes),
+        }),
+        Scanned::Whole(Word::Bool(truth), count) => Some(Found {
+            head: Head::Bool(truth),
+            spelled: None,
+            rest: behind(count, bytes),
+        }),
+        _ => None,
     }
 }
 
@@ -192,39 +215,9 @@ pub(super) fn symbol_head<'a>(
     };
     Some(Found {
         head: Head::Symbol(name),
+        spelled: None,
         rest,
     })
-}
-
-/// A word that may be a null or a bool.
-#[inline(never)]
-pub(super) fn scan_keyword(limit: u64, bytes: &[u8]) -> Scanned<Word>
-    ensures { Shows (word_token_of (shown_text bytes.now result)) bytes.now result
-        (token_of (Some limit) a_word) }
-{
-    scan_word(limit, bytes)
-}
-
-// A null or a bool.
-#[inline(never)]
-fn keyword_head<'a>(limits: Limits, place: u64, bytes: &'a [u8]) -> Option<Found<'a>>
-    requires bare { IsBare bytes.now }
-    requires first { (in_sexp : Bool) (more : List ℕ)
-        → first_at in_sexp (bytes.now ++ more) ≡ a_word }
-    requires some { 0 < length bytes.now }
-    ensures { IfSome result (IsFound limits place bytes.now) }
-{
-    match scan_word(limits.scalar, bytes) {
-        Scanned::Whole(Word::Null(ion_type), count) => Some(Found {
-            head: Head::Null(ion_type),
-            rest: behind(count, bytes),
-        }),
-        Scanned::Whole(Word::Bool(truth), count) => Some(Found {
-            head: Head::Bool(truth),
-            rest: behind(count, bytes),
-        }),
-        _ => None,
-    }
 }
 
 /// The kind of token that begins so, where it begins an item that may be handed on.
@@ -240,24 +233,7 @@ pub(super) fn token(next: Next<'_>) -> Option<First>
         3 => Some(First::String),
         5 => Some(First::Begin(Kind::List)),
         6 => Some(First::Begin(Kind::Sexp)),
-        0 => mark(next.rest),
-        _ => None,
-    }
-}
-
-// The same of what no byte tells alone.
-#[tactic(auto, unfolding(crate::specs::Token::first_at))]
-#[inline(always)]
-fn mark(bytes: &[u8]) -> Option<First>
-    ensures { IfSome result (λ f. (in_sexp : Bool) (more : List ℕ)
-        → first_at in_sexp (bytes.now ++ more) ≡ first_of f) }
-{
-    match bytes {
-        [b'{', others @ ..] => match brace(others) {
-            Some(First::Begin(kind)) => Some(First::Begin(kind)),
-            _ => None,
-        },
-        [b'-', b'0'..=b'9', ..] => Some(First::Number),
+        10 => Some(First::Begin(Kind::Struct)),
         _ => None,
     }
 }

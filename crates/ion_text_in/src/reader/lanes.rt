@@ -1,5 +1,5 @@
-//! Each frequent kind of token in a function of its own: what was read is taken at once, and no token is
-//! built that is copied and told apart again.
+//! Tokens that are read and taken. Words, numbers and symbols in quotes, which a lane leaves most, are taken
+//! at once: no token is built of them that is copied and told apart again.
 ghost use Rattle.std.specs.Prelude.{◌≡◌, ◌<◌, ◌≤◌, ◌+◌, ◌*◌, length, Ok, OnOk};
 ghost use Rattle.ion_meter.specs.Counts.{Counts};
 ghost use Rattle.ion_meter.specs.Sources.{Cursor, cursor};
@@ -9,7 +9,7 @@ ghost use Rattle.ion_value.specs.Calls.{passed_over};
 ghost use Rattle.ion_value.specs.Shares.{GoesWithReading, GrowsWithin};
 ghost use Rattle.ion_text_in.specs.Symbols.{prepaid, prepaid_word};
 ghost use Rattle.ion_text_in.specs.Blanks.{blanks};
-ghost use Rattle.ion_text_in.specs.Firsts.{first_of, numbered, width};
+ghost use Rattle.ion_text_in.specs.Firsts.{first_of, width};
 ghost use Rattle.ion_text_in.specs.Quick.{as_quick};
 ghost use Rattle.ion_text_in.specs.Token as tokens;
 ghost use Rattle.ion_text_in.specs.Tokens.{going, overrun_of, token_view, TokenInRange};
@@ -19,48 +19,18 @@ ghost use Rattle.ion_text_in.specs.Steps.{held_by, left_to, naming, part_by, tak
 use super::{StepResult, TextReader};
 use crate::expected::{Expected, behind_comma, may_come};
 use crate::first::{First, shows_colon};
-use crate::number::next_number;
-use crate::operator::pass_mark;
 use crate::quick::{Quick, scaled, scan_quick, signed_int};
-use crate::text::{next_quoted_symbol, next_short_string};
-use crate::token::{Body, Symbol, Token, next_token, number_body};
+use crate::text::next_quoted_symbol;
+use crate::token::{Body, Symbol, Token, next_token};
 use crate::word::{Word, next_word};
 use ion_meter::device::Input;
 use ion_meter::fault::{Fault, Reason};
 use ion_meter::meter::Meter;
-use ion_value::ion_type::Kind;
 use std::alloc::Allocator;
 
 impl<I: Input, A: Allocator + Copy> TextReader<I, A> {
-    // Reads the token of a kind that its first byte told alone, and takes it.
-    #[inline(always)]
-    pub(super) fn told(&mut self, told: u64, meter: &mut Meter<A>) -> Result<StepResult, Fault>
-        requires can_step { CanStep self.old meter.old }
-        requires there { 1 ≤ length (lent self.old.source) }
-        ensures gives { I.observable self.old.source.device → StepGives I.Input
-            (part_by I.Input self.old (numbered told)) self.new result }
-        ensures ready { ReadyAfter result self.new }
-        ensures further { OnOk result (left_to self.new < left_to self.old) }
-        ensures stepped { Stepped I.Input StepResult.Item self.old self.new
-            meter.old meter.new result }
-        ensures goes { GoesWithReading meter.old meter.new
-            (held_by self.old) (held_by self.new) (left_to self.old) (left_to self.new) }
-    {
-        match told {
-            1 => self.word(meter),
-            2 => self.number(meter),
-            3 => self.string(meter),
-            4 => self.comma(meter),
-            5 => self.begin(Kind::List, meter),
-            6 => self.begin(Kind::Sexp, meter),
-            7 => self.finish(Kind::Struct, meter),
-            8 => self.finish(Kind::List, meter),
-            _ => self.finish(Kind::Sexp, meter),
-        }
-    }
-
-    // Reads the token that so begins, and takes it: a frequent kind in its own function.
-    #[inline(never)]
+    // Reads the token that so begins, and takes it.
+    #[inline]
     pub(super) fn part(&mut self, first: First, meter: &mut Meter<A>) -> Result<StepResult, Fault>
         requires can_step { CanStep self.old meter.old }
         requires there { width (first_of first) ≤ length (lent self.old.source) }
@@ -76,11 +46,7 @@ impl<I: Input, A: Allocator + Copy> TextReader<I, A> {
         match first {
             First::Word => self.word(meter),
             First::Number => self.number(meter),
-            First::String => self.string(meter),
             First::QuotedSymbol => self.quoted(meter),
-            First::Comma => self.comma(meter),
-            First::Begin(kind) => self.begin(kind, meter),
-            First::End(kind) => self.finish(kind, meter),
             _ => self.other(first, meter),
         }
     }
@@ -237,10 +203,10 @@ impl<I: Input, A: Allocator + Copy> TextReader<I, A> {
     {
         match self.expected {
             Expected::Value => {}
-            _ => return self.any_number(meter),
+            _ => return self.other(First::Number, meter),
         }
         let Some(quick) = scan_quick(self.limits.scalar, self.source.buffer()) else {
-            return self.any_number(meter);
+            return self.other(First::Number, meter);
         };
         let place = self.source.place();
         self.source.consume(quick.count);
@@ -273,55 +239,7 @@ impl<I: Input, A: Allocator + Copy> TextReader<I, A> {
         }
     }
 
-    // The same of any number or timestamp, by way of a token.
-    #[inline(never)]
-    fn any_number(&mut self, meter: &mut Meter<A>) -> Result<StepResult, Fault>
-        requires can_step { CanStep self.old meter.old }
-        requires there { 1 ≤ length (lent self.old.source) }
-        ensures gives { I.observable self.old.source.device → StepGives I.Input
-            (part_by I.Input self.old tokens.a_run) self.new result }
-        ensures ready { ReadyAfter result self.new }
-        ensures further { OnOk result (left_to self.new < left_to self.old) }
-        ensures stepped { Stepped I.Input StepResult.Item self.old self.new
-            meter.old meter.new result }
-        ensures goes { GoesWithReading meter.old meter.new
-            (held_by self.old) (held_by self.new) (left_to self.old) (left_to self.new) }
-    {
-        let place = self.source.place();
-        if !may_come(self.expected, First::Number) {
-            return Err(Fault::Refused(Reason::BadToken, place));
-        }
-        match next_number(&mut self.source, &mut self.text, self.limits, meter) {
-            Err(fault) => Err(fault),
-            Ok(number) => self.take(Token::Plain(number_body(number)), place, meter),
-        }
-    }
-
-    // Reads the string that begins here, and takes it.
-    #[inline(never)]
-    fn string(&mut self, meter: &mut Meter<A>) -> Result<StepResult, Fault>
-        requires can_step { CanStep self.old meter.old }
-        requires there { 1 ≤ length (lent self.old.source) }
-        ensures gives { I.observable self.old.source.device → StepGives I.Input
-            (part_by I.Input self.old tokens.a_short) self.new result }
-        ensures ready { ReadyAfter result self.new }
-        ensures further { OnOk result (left_to self.new < left_to self.old) }
-        ensures stepped { Stepped I.Input StepResult.Item self.old self.new
-            meter.old meter.new result }
-        ensures goes { GoesWithReading meter.old meter.new
-            (held_by self.old) (held_by self.new) (left_to self.old) (left_to self.new) }
-    {
-        let place = self.source.place();
-        if !may_come(self.expected, First::String) {
-            return Err(Fault::Refused(Reason::BadToken, place));
-        }
-        match next_short_string(&mut self.source, &mut self.text, self.limits, meter) {
-            Err(fault) => Err(fault),
-            Ok(()) => self.take(Token::String(None), place, meter),
-        }
-    }
-
-    // The same of a symbol in quotes.
+    // Reads the symbol in quotes that begins here, and takes it.
     #[inline(never)]
     fn quoted(&mut self, meter: &mut Meter<A>) -> Result<StepResult, Fault>
         requires can_step { CanStep self.old meter.old }
@@ -343,63 +261,6 @@ impl<I: Input, A: Allocator + Copy> TextReader<I, A> {
             Err(fault) => Err(fault),
             Ok(()) => self.take(Token::Symbol(Symbol::Text, true), place, meter),
         }
-    }
-
-    // Passes over the comma that stands here, and takes it.
-    #[inline(always)]
-    fn comma(&mut self, meter: &mut Meter<A>) -> Result<StepResult, Fault>
-        requires can_step { CanStep self.old meter.old }
-        requires there { 1 ≤ length (lent self.old.source) }
-        ensures gives { I.observable self.old.source.device → StepGives I.Input
-            (part_by I.Input self.old tokens.a_comma) self.new result }
-        ensures ready { ReadyAfter result self.new }
-        ensures further { OnOk result (left_to self.new < left_to self.old) }
-        ensures stepped { Stepped I.Input StepResult.Item self.old self.new
-            meter.old meter.new result }
-        ensures goes { GoesWithReading meter.old meter.new
-            (held_by self.old) (held_by self.new) (left_to self.old) (left_to self.new) }
-    {
-        let place = self.source.place();
-        pass_mark(&mut self.source);
-        self.take(Token::Comma, place, meter)
-    }
-
-    // The same of a container's beginning.
-    #[inline(always)]
-    fn begin(&mut self, kind: Kind, meter: &mut Meter<A>) -> Result<StepResult, Fault>
-        requires can_step { CanStep self.old meter.old }
-        requires there { 1 ≤ length (lent self.old.source) }
-        ensures gives { I.observable self.old.source.device → StepGives I.Input
-            (part_by I.Input self.old (tokens.a_begin kind)) self.new result }
-        ensures ready { ReadyAfter result self.new }
-        ensures further { OnOk result (left_to self.new < left_to self.old) }
-        ensures stepped { Stepped I.Input StepResult.Item self.old self.new
-            meter.old meter.new result }
-        ensures goes { GoesWithReading meter.old meter.new
-            (held_by self.old) (held_by self.new) (left_to self.old) (left_to self.new) }
-    {
-        let place = self.source.place();
-        pass_mark(&mut self.source);
-        self.take(Token::Begin(kind), place, meter)
-    }
-
-    // The same of a container's end.
-    #[inline(always)]
-    fn finish(&mut self, kind: Kind, meter: &mut Meter<A>) -> Result<StepResult, Fault>
-        requires can_step { CanStep self.old meter.old }
-        requires there { 1 ≤ length (lent self.old.source) }
-        ensures gives { I.observable self.old.source.device → StepGives I.Input
-            (part_by I.Input self.old (tokens.an_end kind)) self.new result }
-        ensures ready { ReadyAfter result self.new }
-        ensures further { OnOk result (left_to self.new < left_to self.old) }
-        ensures stepped { Stepped I.Input StepResult.Item self.old self.new
-            meter.old meter.new result }
-        ensures goes { GoesWithReading meter.old meter.new
-            (held_by self.old) (held_by self.new) (left_to self.old) (left_to self.new) }
-    {
-        let place = self.source.place();
-        pass_mark(&mut self.source);
-        self.take(Token::End(kind), place, meter)
     }
 
     // Takes the word that was read where a value may stand.

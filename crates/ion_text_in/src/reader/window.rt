@@ -5,7 +5,8 @@ ghost use Rattle.ion_text_in.specs.Feeding.{reader_lane, window_end, CanFeed, Mo
 ghost use Rattle.ion_text_in.specs.Steps.{held_by, left_to};
 
 use super::TextReader;
-use crate::feed::{Spot, feed_items};
+use crate::expected::{expected_in, is_separator, member_kind};
+use crate::feed::{Spot, feed_items, innermost};
 use ion_meter::device::{Input, Output};
 use ion_meter::meter::Meter;
 use ion_meter::sink::Sink;
@@ -41,14 +42,15 @@ impl<I: Input, A: Allocator + Copy> TextReader<I, A> {
         let count = bytes.len();
         let spot = Spot {
             rest: bytes,
-            expected: self.expected,
             top: self.top,
             values: 0,
+            separator: is_separator(self.expected),
+            kind: member_kind(innermost(&self.kinds)),
         };
         let end = self.source.place() + count as u64;
         let last = feed_items(spot, self.limits, end, &mut self.kinds, meter, writer, sink);
         let taken = count - last.rest.len();
-        self.expected = last.expected;
+        self.expected = expected_in(last.separator, last.kind);
         self.top = last.top;
         let values = last.values;
         self.source.consume(taken);

@@ -1,11 +1,11 @@
 use Rattle.std.proofs.Common.{◌+◌, get_or, refl, sym, arith}
-use Rattle.ion_binary.proofs.ShownParts.{shows_note}
+use Rattle.ion_binary.proofs.ShownParts.{bounds-reaches, shows_note}
 use Rattle.ion_binary.proofs.shown.shown_note.Goals as goal
 
 pub returns : goal.returns
-returns c =
+returns c = λ region b.
     let octets = c.args.octets.now in
-    shows_note c.args.limits octets c.args.here c.args.region c.args.at c.in-Some-shown_length.behind c.in-Some-shown_var.from c.in-Some-shown_var-2.inner c.in-Some.length_code c.in-Some-shown_length.count
+    shows_note c.args.limits octets c.args.here region c.args.at c.in-Some-shown_length.behind c.in-Some-shown_var.from c.in-Some-shown_var-2.inner c.in-Some.length_code c.in-Some-shown_length.count
     c.in-Some-shown_var.ids c.in-Some-shown_var-2.id (get_or octets c.args.at 0) (c.args.here + c.in-Some-shown_length.behind + c.in-Some-shown_length.count) (omega arith) refl (sym c.in-Some.ensures.is)
     c.in-Some-shown_length.ensures.shows c.in-Some-shown_var.ensures.shows c.in-Some-shown_var-2.ensures.shows refl (omega arith) (omega arith) (omega arith) (omega arith) (omega arith)
-    (c.reaches.ensures c.if-not-reaches.false)
+    (bounds-reaches region c.args.most (c.args.here + c.in-Some-shown_length.behind + c.in-Some-shown_length.count) b (omega arith))

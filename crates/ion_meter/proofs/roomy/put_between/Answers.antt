@@ -1,7 +1,13 @@
-use Rattle.std.proofs.Common.{arith}
+use Rattle.std.proofs.Common.{◌≡◌, ◌+◌, ◌-◌, ◌++◌, ℕ, length, take, drop, subst, arith}
 use Rattle.ion_meter.proofs.Gaps.{gap_filled}
 use Rattle.ion_meter.proofs.roomy.put_between.Goals as goal
 
 pub returns : goal.returns
 returns c =
-    gap_filled c.args.all.now c.copy_within.new.self c.args.bytes.now c.copy_from_slice.new.self c.args.place c.args.end _ c.requires.within c.requires.room c.copy_within.ensures.after c.copy_from_slice.ensures.after (omega arith)
+    let xs = c.args.all.now in
+    let p = c.args.place in
+    let n = length c.args.bytes.now in
+    let same : (p + n) - p ≡ n = omega arith in
+    let opened : take (c.args.end + n) c.open_gap.new.all ≡ take (p + n) xs ++ take (c.args.end - p) (drop p xs) =
+    subst (λ (k : ℕ). take (c.args.end + k) c.open_gap.new.all ≡ take (p + n) xs ++ take (c.args.end - p) (drop p xs)) same c.open_gap.ensures.moved in
+    gap_filled xs c.open_gap.new.all c.args.bytes.now c.copy.new.to p c.args.end _ c.requires.within c.requires.room opened c.copy.ensures (omega arith)

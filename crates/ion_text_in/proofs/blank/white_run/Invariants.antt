@@ -1,7 +1,13 @@
-use Rattle.std.proofs.Common.{◌≡◌, true, take}
+use Rattle.std.proofs.Common.{◌≡◌, ◌-◌, ◌≤◌, true, length, take}
 use Rattle.ion_value.specs.Digits.{all_are}
 use Rattle.ion_text_in.specs.Blanks.{is_white}
 use Rattle.ion_text_in.proofs.blank.white_run.Given as goal
 
-abbrev pub invariant-loop-i : goal.invariant-loop-i
-invariant-loop-i l = all_are is_white (take l.i l.bytes) ≡ true
+abbrev pub invariant-skip : goal.invariant-skip
+invariant-skip l = record {
+  within : l.at ≤ length l.bytes;
+  run : all_are is_white (take l.at l.bytes) ≡ true;
+}
+
+abbrev pub decreases-skip : goal.decreases-skip
+decreases-skip l = length l.bytes - l.at

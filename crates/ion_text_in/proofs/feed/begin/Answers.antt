@@ -1,13 +1,13 @@
-use Rattle.std.proofs.Common.{◌≡◌, ◌∙◌, ◌<◌, ◌++◌, ◌∷◌, ◌+◌, [], None, List, length, reverse, refl, sym, ap, subst, arith}
+use Rattle.std.proofs.Common.{◌≡◌, ◌∙◌, ◌<◌, ◌++◌, ◌∷◌, ◌+◌, [], false, List, length, reverse, refl, sym, ap, subst, arith}
 use Rattle.std.proofs.lemmas.List.{length-append, length-reverse, reverse-append}
 use Rattle.ion_value.specs.declared.ion_type.Kind.{Kind}
 use Rattle.ion_value.specs.Items.{raw_head}
 use Rattle.ion_value.specs.Standing.{open_after, HasPlace}
 use Rattle.ion_value.specs.Value as value
 use Rattle.ion_value.specs.Value.{Head, SymbolAt}
-use Rattle.ion_text_in.specs.Expecting.{MayExpect}
+use Rattle.ion_text_in.specs.Expecting.{kind_in}
 use Rattle.ion_text_in.specs.Feeding.{behind_head, lane}
-use Rattle.ion_text_in.proofs.FeedItems.{charges-begin, closed-cost, moved-head, moved-undone, pushed-off, pushed-inner, took-earlier}
+use Rattle.ion_text_in.proofs.FeedItems.{charges-begin, closed-cost, expects-member, moved-head, moved-undone, pushed-off, pushed-inner, took-earlier, wants-member}
 use Rattle.ion_text_in.proofs.FeedLanes.{moved-none}
 use Rattle.ion_text_in.proofs.feed.begin.Goals as goal
 
@@ -49,15 +49,16 @@ returns-clause-moved g c =
     let begins : raw_head a.found.head ≡ value.begin a.kind = ap raw_head r.begins in
     let added : left ≡ a.kinds.now ++ a.kind ∷ [] = p.ensures.ok pushed in
     let opened : reverse left ≡ a.kind ∷ kinds = ap (λ (l : List Kind). reverse l) added ∙ reverse-append a.kinds.now (a.kind ∷ []) in
+    let left_kinds = reverse left in
+    let inner : kind_in left_kinds ≡ a.kind = ap (λ (l : List Kind). kind_in l) opened in
     let added_long = ap (λ (l : List Kind). length l) added in
     let long : length left ≡ 1 + length a.kinds.now = omega (arith, added_long, length-append a.kinds.now (a.kind ∷ [])) in
     moved-head w a.limits a.end a.kinds.now left a.at.now
-    (record { rest = a.found.rest; expected = c.at_member-at.result; top = c.top_at-top.result; values = a.at.now.values }) a.start (raw_head a.found.head)
-    a.writer.now t.new.self a.sink.now t.new.sink a.meter.now t.new.meter r.can r.start r.found
+    (record { rest = a.found.rest; top = c.top_at-top.result; values = a.at.now.values; separator = false; kind = a.kind }) a.start (raw_head a.found.head)
+    a.writer.now t.new.self a.sink.now t.new.sink a.meter.now t.new.meter r.can r.start r.found.head
     (subst (λ (h : Head SymbolAt). HasPlace a.limits.depth kinds h) (sym begins) (omega (arith, few, length-reverse a.kinds.now)))
-    (opened ∙ ap (λ (h : Head SymbolAt). open_after kinds h) (sym begins)) (c.top_at-top.ensures kinds (sym c.innermost.ensures))
-    (c.at_member-at.ensures.is ∙ ap (λ (h : Head SymbolAt). behind_head kinds h) (sym begins))
-    (subst (λ (l : List Kind). MayExpect c.at_member-at.result l None []) (sym opened) (c.at_member-at.ensures.may kinds))
+    (opened ∙ ap (λ (h : Head SymbolAt). open_after kinds h) (sym begins)) (c.top_at-top.ensures.is kinds (sym c.innermost.ensures)) inner
+    (wants-member (a.kind ∷ kinds) a.kind refl ∙ ap (λ (h : Head SymbolAt). behind_head kinds h) (sym begins)) (expects-member left_kinds a.kind inner)
     (rw opened (omega arith)) (omega (arith, long, few))
     (took-earlier w _ a.writer.now t.new.self a.sink.now t.new.sink a.meter.now p.new.meter t.new.meter (record {
       sound = e.sound;
@@ -78,6 +79,6 @@ returns-clause-goes g c =
     let a = c.args in
     let added = ap (λ (l : List Kind). length l) (c.push_within.ensures.ok c.if-not-push_within.false) in
     let long = length-append a.kinds.now (a.kind ∷ []) in
-    let behind = c.requires.found.fewer in
+    let behind = c.requires.found.head.fewer in
     let before = (c.requires.start.onward (reverse a.kinds.now) c.requires.can.expects).fewer in
     omega (arith, added, long, behind, before)

@@ -1,7 +1,8 @@
-use Rattle.std.proofs.Common.{◌∙◌, ◌-◌, Option, length, reverse, refl, sym, ap}
-use Rattle.ion_value.specs.declared.ion_type.Kind.{Kind}
-use Rattle.ion_text_in.specs.Reading.{behind_member}
-use Rattle.ion_text_in.specs.Feeding.{lane}
+use Rattle.std.proofs.Common.{◌∙◌, ◌+◌, ◌-◌, length, reverse, refl, sym, subst}
+use Rattle.ion_value.specs.Outcome.{one_if_closed}
+use Rattle.ion_text_in.specs.declared.feed.Spot.{Spot}
+use Rattle.ion_text_in.specs.Expecting.{is_separated}
+use Rattle.ion_text_in.specs.Feeding.{lane, Moved}
 use Rattle.ion_text_in.proofs.FeedItems.{closed-cost, moved-closed, moved-declined}
 use Rattle.ion_text_in.proofs.FeedLanes.{moved-none}
 use Rattle.ion_text_in.proofs.ReaderSteps.{closed-opened}
@@ -31,12 +32,17 @@ returns-clause-moved g c =
     let yes = c.if-not-take_plain.false in
     let left = c.pop-closed.new.self in
     let opened = closed-opened a.kinds.now left c.in-Some.inner c.pop-closed.result (sym c.innermost.ensures ∙ c.in-Some.is) c.pop-closed.ensures.items in
-    moved-closed w a.limits a.end a.kinds.now left c.in-Some.inner a.kind a.at.now
-    (record { rest = c.behind-at.result; expected = c.behind_member-at.result; top = a.at.now.top; values = c.values_behind-at.result }) a.next (a.end - length a.next.rest.now)
+    let outer = sym c.innermost-outer.ensures in
+    let now : Spot = record a.at.now {
+      rest = c.behind.result;
+      values = a.at.now.values + one_if_closed (reverse left);
+      separator = is_separated c.member_kind-at.result;
+      kind = c.member_kind-at.result;
+    } in
+    subst (λ (s : Spot). Moved w a.limits a.end (lane a.kinds.now a.at.now a.writer.now a.sink.now a.meter.now) (lane left s t.new.self t.new.sink c.pop-closed.new.meter)) (sym (c.pass_value.ensures (reverse left) outer))
+    (moved-closed w a.limits a.end a.kinds.now left c.in-Some.inner a.kind a.at.now now a.next (a.end - length a.next.rest.now)
     a.writer.now t.new.self a.sink.now t.new.sink a.meter.now t.new.meter c.pop-closed.new.meter c.requires.can c.requires.next c.requires.told.0 c.requires.told.1 opened
-    (sym c.is_same.ensures ∙ c.if-not-is_same.false) refl c.behind-at.ensures refl
-    (c.behind_member-at.ensures.is ∙ ap (λ (k : Option Kind). behind_member k) c.innermost-outer.ensures) (c.behind_member-at.ensures.may (reverse left) (sym c.innermost-outer.ensures))
-    (c.values_behind-at.ensures (reverse left) (sym c.innermost-outer.ensures))
+    (sym c.is_same.ensures ∙ c.if-not-is_same.false) refl c.behind.ensures refl (c.member_kind-at.ensures (reverse left) outer) refl refl
     (record {
       sound = e.sound;
       stands = e.stands yes;
@@ -48,4 +54,4 @@ returns-clause-moved g c =
       fault = e.device.1;
       refused = e.counted;
     })
-    e.charges (closed-cost a.kinds.now left c.in-Some.inner c.pop-closed.result t.new.meter c.pop-closed.new.meter (sym c.innermost.ensures ∙ c.in-Some.is) c.pop-closed.ensures.items c.pop-closed.ensures.cost)
+    e.charges (closed-cost a.kinds.now left c.in-Some.inner c.pop-closed.result t.new.meter c.pop-closed.new.meter (sym c.innermost.ensures ∙ c.in-Some.is) c.pop-closed.ensures.items c.pop-closed.ensures.cost))

@@ -1,5 +1,10 @@
-use Rattle.std.proofs.Common.{◌-◌, length}
+use Rattle.std.proofs.Common.{◌-◌, ℕ, List, length, sym, subst}
+use Rattle.std.specs.Prelude.{IfSome}
 use Rattle.ion_value.specs.Items.{raw_head}
+use Rattle.ion_value.specs.PlainItems.{IsTextOf}
+use Rattle.ion_value.specs.Value.{whole, Head, SymbolAt}
+use Rattle.ion_text_in.specs.Quick.{as_quick}
+use Rattle.ion_text_in.specs.Views.{as_number}
 use Rattle.ion_text_in.proofs.FeedReading.{head-number}
 use Rattle.ion_text_in.proofs.feed.number.Goals as goal
 
@@ -9,8 +14,9 @@ scalar-requires-clause-found g c =
     let bytes = a.start.next.rest.now in
     let e = c.in-Some.ensures in
     let begins = c.requires.start.begins in
-    head-number a.limits (a.end - length bytes) c.in-Some.quick bytes c.behind-rest.result.now (raw_head c.int_head.result) c.int_head.ensures.is c.behind-rest.ensures e.some e.shows e.range
-    begins.bare begins.some c.requires.first
+    let head = head-number a.limits (a.end - length bytes) c.in-Some.quick bytes c.behind-rest.result.now (raw_head c.int_head.result) c.int_head.ensures.is c.behind-rest.ensures e.some e.shows e.range
+    begins.bare begins.some c.requires.first in
+    record { head = head; spelled = subst (λ (h : Head SymbolAt). IsTextOf c.front-text.result.now h) (sym c.int_head.ensures.is) (subst (λ (l : List ℕ). IsTextOf l (whole (as_number (as_quick c.in-Some.quick)))) (sym c.front-text.ensures) (e.spelled.text (e.spelled.int c.in-None.is))) }
 
 pub scalar-requires-in-Some-exponent-clause-found : goal.scalar-requires-in-Some-exponent-clause-found
 scalar-requires-in-Some-exponent-clause-found g c =
@@ -18,5 +24,6 @@ scalar-requires-in-Some-exponent-clause-found g c =
     let bytes = a.start.next.rest.now in
     let e = c.in-Some.ensures in
     let begins = c.requires.start.begins in
-    head-number a.limits (a.end - length bytes) c.in-Some.quick bytes c.behind-rest.result.now (raw_head c.decimal_head.result) c.decimal_head.ensures.is c.behind-rest.ensures e.some e.shows e.range
-    begins.bare begins.some c.requires.first
+    let head = head-number a.limits (a.end - length bytes) c.in-Some.quick bytes c.behind-rest.result.now (raw_head c.decimal_head.result) c.decimal_head.ensures.is c.behind-rest.ensures e.some e.shows e.range
+    begins.bare begins.some c.requires.first in
+    record { head = head; spelled = subst (λ (h : Head SymbolAt). IfSome c.spelled_quick.result (λ text. IsTextOf text.now h)) (sym c.decimal_head.ensures.is) c.spelled_quick.ensures }

@@ -1,9 +1,11 @@
-use Rattle.std.proofs.Common.{◌∙◌, ◌-◌, Option, length, reverse, refl, sym, ap}
-use Rattle.ion_value.specs.declared.ion_type.Kind.{Kind}
+use Rattle.std.proofs.Common.{◌∙◌, ◌+◌, ◌-◌, length, reverse, refl, sym, subst}
 use Rattle.ion_value.specs.Items.{raw_head}
+use Rattle.ion_value.specs.Outcome.{one_if_closed}
 use Rattle.ion_value.proofs.Handing.{may-take}
-use Rattle.ion_text_in.specs.Reading.{behind_member}
-use Rattle.ion_text_in.proofs.FeedItems.{charges-scalar, head-stands, moved-declined, moved-head, whole-behind, whole-open, whole-place}
+use Rattle.ion_text_in.specs.declared.feed.Spot.{Spot}
+use Rattle.ion_text_in.specs.Expecting.{is_separated}
+use Rattle.ion_text_in.specs.Feeding.{lane, Moved}
+use Rattle.ion_text_in.proofs.FeedItems.{charges-scalar, expects-behind, head-stands, moved-declined, moved-head, wants-behind, whole-behind, whole-open, whole-place}
 use Rattle.ion_text_in.proofs.feed.scalar.Goals as goal
 
 pub take_plain-requires-clause-path : goal.take_plain-requires-clause-path
@@ -13,8 +15,8 @@ take_plain-requires-clause-path g c =
     let r = c.requires in
     let head = raw_head a.found.head in
     may-take w a.limits.depth (reverse a.kinds.now) a.writer.now a.sink.now _ r.can.takes
-    (head-stands w a.limits a.end a.kinds.now a.at.now a.start head c.top_at-top.result (a.end - length a.at.now.rest.now) (a.end - length a.start.next.rest.now) a.found.rest.now r.can.expects r.start r.found
-    (whole-place a.limits.depth (reverse a.kinds.now) a.found.head r.whole r.found.range r.found.value r.found.member))
+    (head-stands w a.limits a.end a.kinds.now a.at.now a.start head c.top_at-top.result (a.end - length a.at.now.rest.now) (a.end - length a.start.next.rest.now) a.found.rest.now r.can.expects r.start r.found.head
+    (whole-place a.limits.depth (reverse a.kinds.now) a.found.head r.whole r.found.head.range r.found.head.value r.found.head.member))
 
 pub returns-then-not-take_plain-clause-moved : goal.returns-then-not-take_plain-clause-moved
 returns-then-not-take_plain-clause-moved g c =
@@ -33,14 +35,15 @@ returns-clause-moved g c =
     let yes = c.if-not-take_plain.false in
     let opened = reverse a.kinds.now in
     let inner = sym c.innermost-inner.ensures in
-    let stays = whole-open opened a.found.head r.whole r.found.value r.found.member in
-    moved-head w a.limits a.end a.kinds.now a.kinds.now a.at.now
-    (record { rest = a.found.rest; expected = c.behind_member-at.result; top = c.top_at-top.result; values = c.values_behind-at.result }) a.start (raw_head a.found.head)
-    a.writer.now t.new.self a.sink.now t.new.sink a.meter.now t.new.meter r.can r.start r.found
-    (whole-place a.limits.depth opened a.found.head r.whole r.found.range r.found.value r.found.member)
-    (sym stays) (c.top_at-top.ensures opened inner)
-    (c.behind_member-at.ensures.is ∙ (ap (λ (k : Option Kind). behind_member k) c.innermost-inner.ensures ∙ sym (whole-behind opened a.found.head r.whole r.found.value r.found.member)))
-    (c.behind_member-at.ensures.may opened inner) (c.values_behind-at.ensures opened inner) r.can.few
+    let stays = whole-open opened a.found.head r.whole r.found.head.value r.found.head.member in
+    let now : Spot = record a.at.now { rest = a.found.rest; top = c.top_at-top.result; values = a.at.now.values + one_if_closed opened; separator = is_separated a.at.now.kind } in
+    subst (λ (s : Spot). Moved w a.limits a.end (lane a.kinds.now a.at.now a.writer.now a.sink.now a.meter.now) (lane a.kinds.now s t.new.self t.new.sink t.new.meter)) (sym (c.pass_value.ensures opened inner))
+    (moved-head w a.limits a.end a.kinds.now a.kinds.now a.at.now now a.start (raw_head a.found.head)
+    a.writer.now t.new.self a.sink.now t.new.sink a.meter.now t.new.meter r.can r.start r.found.head
+    (whole-place a.limits.depth opened a.found.head r.whole r.found.head.range r.found.head.value r.found.head.member)
+    (sym stays) (c.top_at-top.ensures.is opened inner) r.can.kind
+    (wants-behind opened now r.can.kind refl ∙ sym (whole-behind opened a.found.head r.whole r.found.head.value r.found.head.member))
+    (expects-behind opened now r.can.kind refl) refl r.can.few
     (record {
       sound = e.sound;
       stands = e.stands yes;
@@ -52,4 +55,4 @@ returns-clause-moved g c =
       fault = e.device.1;
       refused = e.counted;
     })
-    e.charges.share (charges-scalar w a.limits a.end a.kinds.now a.meter.now t.new.meter (w.own a.writer.now) (w.own t.new.self) (w.most a.writer.now) r.can.few r.can.held e.charges)
+    e.charges.share (charges-scalar w a.limits a.end a.kinds.now a.meter.now t.new.meter (w.own a.writer.now) (w.own t.new.self) (w.most a.writer.now) r.can.few r.can.held e.charges))

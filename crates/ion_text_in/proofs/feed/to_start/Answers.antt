@@ -1,17 +1,35 @@
+use Rattle.std.proofs.Common.{◌≡◌, ◌∙◌, ◌⊎◌, inl, inr, Bool, false, ap}
+use Rattle.ion_value.specs.declared.ion_type.Kind.{Kind}
+use Rattle.ion_value.specs.declared.ion_type.Kind.TheVariants as a_kind
+use Rattle.ion_text_in.specs.declared.expected.Expected.TheVariants as codes
+use Rattle.ion_text_in.specs.Expecting.{expected_in}
+use Rattle.ion_text_in.specs.Feeding.{expected_of}
 use Rattle.ion_text_in.proofs.FeedReading.{start-value}
 use Rattle.ion_text_in.proofs.FeedNames.{next-begins, start-field, named-bare}
 use Rattle.ion_text_in.proofs.feed.to_start.Goals as goal
 
-pub returns-in-Value-clause-start : goal.returns-in-Value-clause-start
-returns-in-Value-clause-start c =
-    start-value c.args.limits c.args.spot c.args.place c.args.next c.value_start.result c.in-Value.is c.requires.next c.value_start.ensures.field c.value_start.ensures.note c.value_start.ensures.next c.value_start.ensures.some
+value-in : (kind : Kind) → (kind ≡ a_kind.List) ⊎ (kind ≡ a_kind.Sexp) → expected_in false kind ≡ codes.Value
+value-in kind (inl list) = ap (λ (k : Kind). expected_in false k) list
+value-in kind (inr sexp) = ap (λ (k : Kind). expected_in false k) sexp
+
+pub returns-in-List : goal.returns-in-List
+returns-in-List c =
+    let spot = c.args.spot in
+    let e = c.value_start.ensures in
+    let value : expected_of spot ≡ codes.Value = ap (λ (b : Bool). expected_in b spot.kind) c.if-spot.false ∙ value-in spot.kind c.in-List.is in
+    record {
+      start = start-value c.args.limits spot c.args.place c.args.next c.value_start.result value c.requires.next e.field e.note e.next e.some;
+      bare = e.note;
+    }
 
 pub field_start-requires : goal.field_start-requires
 field_start-requires c = record { begins = next-begins c.args.spot.rest.now c.args.next c.requires.next }
 
-pub returns-in-Field-clause-start : goal.returns-in-Field-clause-start
-returns-in-Field-clause-start c =
-    start-field c.args.limits c.args.spot c.args.place c.place_behind.result c.args.next c.field_start.result c.in-Field.is c.requires.next c.place_behind.ensures c.field_start.ensures
+pub returns-in-Struct-clause-start : goal.returns-in-Struct-clause-start
+returns-in-Struct-clause-start c =
+    let spot = c.args.spot in
+    let field : expected_of spot ≡ codes.Field = ap (λ (b : Bool). expected_in b spot.kind) c.if-spot.false ∙ ap (λ (k : Kind). expected_in false k) c.in-Struct.is in
+    start-field c.args.limits spot c.args.place c.place_behind.result c.args.next c.field_start.result field c.requires.next c.place_behind.ensures c.field_start.ensures
 
-pub returns-in-Field-clause-bare : goal.returns-in-Field-clause-bare
-returns-in-Field-clause-bare c = named-bare c.args.limits c.place_behind.result c.args.next c.field_start.result c.field_start.ensures
+pub returns-in-Struct-clause-bare : goal.returns-in-Struct-clause-bare
+returns-in-Struct-clause-bare c = named-bare c.args.limits c.place_behind.result c.args.next c.field_start.result c.field_start.ensures

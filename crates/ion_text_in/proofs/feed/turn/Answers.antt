@@ -1,4 +1,4 @@
-use Rattle.std.proofs.Common.{◌-◌, length, reverse, sym, arith}
+use Rattle.std.proofs.Common.{◌-◌, length, reverse, arith}
 use Rattle.ion_text_in.specs.Feeding.{lane}
 use Rattle.ion_text_in.proofs.FeedItems.{moved-member}
 use Rattle.ion_text_in.proofs.FeedLanes.{can-moved, moved-then}
@@ -8,9 +8,9 @@ pub close-requires-clause-can : goal.close-requires-clause-can
 close-requires-clause-can g c =
     let a = c.args in
     let m = c.to_member-next in
-    let inner = sym c.innermost.ensures in
+    let inner = c.requires.can.kind in
     let opened = reverse a.kinds.now in
-    let moved = moved-member g.W.ValueWriter a.limits a.end a.kinds.now a.at.now m.new.at a.writer.now a.sink.now a.meter.now m.ensures.same.0 m.ensures.same.1 c.requires.can
+    let moved = moved-member g.W.ValueWriter a.limits a.end a.kinds.now a.at.now m.new.at a.writer.now a.sink.now a.meter.now m.ensures.same c.requires.can
     (m.ensures.expects opened inner c.requires.can.expects) (m.ensures.onward a.limits opened (a.end - length a.at.now.rest.now) inner) in
     can-moved g.W.ValueWriter a.limits a.end (lane a.kinds.now a.at.now a.writer.now a.sink.now a.meter.now) (lane a.kinds.now m.new.at a.writer.now a.sink.now a.meter.now) c.requires.can moved
 
@@ -18,9 +18,9 @@ pub value-requires-clause-can : goal.value-requires-clause-can
 value-requires-clause-can g c =
     let a = c.args in
     let m = c.to_member-next in
-    let inner = sym c.innermost.ensures in
+    let inner = c.requires.can.kind in
     let opened = reverse a.kinds.now in
-    let moved = moved-member g.W.ValueWriter a.limits a.end a.kinds.now a.at.now m.new.at a.writer.now a.sink.now a.meter.now m.ensures.same.0 m.ensures.same.1 c.requires.can
+    let moved = moved-member g.W.ValueWriter a.limits a.end a.kinds.now a.at.now m.new.at a.writer.now a.sink.now a.meter.now m.ensures.same c.requires.can
     (m.ensures.expects opened inner c.requires.can.expects) (m.ensures.onward a.limits opened (a.end - length a.at.now.rest.now) inner) in
     can-moved g.W.ValueWriter a.limits a.end (lane a.kinds.now a.at.now a.writer.now a.sink.now a.meter.now) (lane a.kinds.now m.new.at a.writer.now a.sink.now a.meter.now) c.requires.can moved
 
@@ -28,9 +28,9 @@ pub returns-in-Some-clause-moved : goal.returns-in-Some-clause-moved
 returns-in-Some-clause-moved g c =
     let a = c.args in
     let m = c.to_member-next in
-    let inner = sym c.innermost.ensures in
+    let inner = c.requires.can.kind in
     let opened = reverse a.kinds.now in
-    let moved = moved-member g.W.ValueWriter a.limits a.end a.kinds.now a.at.now m.new.at a.writer.now a.sink.now a.meter.now m.ensures.same.0 m.ensures.same.1 c.requires.can
+    let moved = moved-member g.W.ValueWriter a.limits a.end a.kinds.now a.at.now m.new.at a.writer.now a.sink.now a.meter.now m.ensures.same c.requires.can
     (m.ensures.expects opened inner c.requires.can.expects) (m.ensures.onward a.limits opened (a.end - length a.at.now.rest.now) inner) in
     moved-then g.W.ValueWriter a.limits a.end (lane a.kinds.now a.at.now a.writer.now a.sink.now a.meter.now) (lane a.kinds.now m.new.at a.writer.now a.sink.now a.meter.now)
     (lane c.close.new.kinds c.close.new.at c.close.new.writer c.close.new.sink c.close.new.meter) c.requires.can moved c.close.ensures.moved
@@ -39,7 +39,7 @@ pub returns-in-Some-clause-falls : goal.returns-in-Some-clause-falls
 returns-in-Some-clause-falls g c = λ more.
     let a = c.args in
     let m = c.to_member-next in
-    let fewer = (m.ensures.onward a.limits (reverse a.kinds.now) 0 (sym c.innermost.ensures)).fewer in
+    let fewer = (m.ensures.onward a.limits (reverse a.kinds.now) 0 c.requires.can.kind).fewer in
     let less = c.close.ensures.falls more in
     omega (arith, fewer, less)
 
@@ -47,9 +47,9 @@ pub returns-in-None-clause-moved : goal.returns-in-None-clause-moved
 returns-in-None-clause-moved g c =
     let a = c.args in
     let m = c.to_member-next in
-    let inner = sym c.innermost.ensures in
+    let inner = c.requires.can.kind in
     let opened = reverse a.kinds.now in
-    let moved = moved-member g.W.ValueWriter a.limits a.end a.kinds.now a.at.now m.new.at a.writer.now a.sink.now a.meter.now m.ensures.same.0 m.ensures.same.1 c.requires.can
+    let moved = moved-member g.W.ValueWriter a.limits a.end a.kinds.now a.at.now m.new.at a.writer.now a.sink.now a.meter.now m.ensures.same c.requires.can
     (m.ensures.expects opened inner c.requires.can.expects) (m.ensures.onward a.limits opened (a.end - length a.at.now.rest.now) inner) in
     moved-then g.W.ValueWriter a.limits a.end (lane a.kinds.now a.at.now a.writer.now a.sink.now a.meter.now) (lane a.kinds.now m.new.at a.writer.now a.sink.now a.meter.now)
     (lane c.value.new.kinds c.value.new.at c.value.new.writer c.value.new.sink c.value.new.meter) c.requires.can moved c.value.ensures.moved
@@ -58,7 +58,7 @@ pub returns-in-None-clause-falls : goal.returns-in-None-clause-falls
 returns-in-None-clause-falls g c = λ more.
     let a = c.args in
     let m = c.to_member-next in
-    let fewer = (m.ensures.onward a.limits (reverse a.kinds.now) 0 (sym c.innermost.ensures)).fewer in
+    let fewer = (m.ensures.onward a.limits (reverse a.kinds.now) 0 c.requires.can.kind).fewer in
     let less = c.value.ensures.falls more in
     omega (arith, fewer, less)
 
@@ -66,7 +66,7 @@ pub returns-in-Some-clause-goes : goal.returns-in-Some-clause-goes
 returns-in-Some-clause-goes g c =
     let a = c.args in
     let m = c.to_member-next in
-    let fewer = (m.ensures.onward a.limits (reverse a.kinds.now) 0 (sym c.innermost.ensures)).fewer in
+    let fewer = (m.ensures.onward a.limits (reverse a.kinds.now) 0 c.requires.can.kind).fewer in
     let goes = c.close.ensures.goes in
     omega (arith, fewer, goes)
 
@@ -74,6 +74,6 @@ pub returns-in-None-clause-goes : goal.returns-in-None-clause-goes
 returns-in-None-clause-goes g c =
     let a = c.args in
     let m = c.to_member-next in
-    let fewer = (m.ensures.onward a.limits (reverse a.kinds.now) 0 (sym c.innermost.ensures)).fewer in
+    let fewer = (m.ensures.onward a.limits (reverse a.kinds.now) 0 c.requires.can.kind).fewer in
     let goes = c.value.ensures.goes in
     omega (arith, fewer, goes)

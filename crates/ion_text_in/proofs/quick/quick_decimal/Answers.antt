@@ -1,11 +1,12 @@
 use mir.Syntax.{w32}
 use mir.Val.{SFits}
 use Rattle.std.proofs.lemmas.Int.{to_z-of_z}
-use Rattle.std.proofs.Common.{rules, ◌≡◌, ℕ, ◌+◌, ◌∙◌, ℤ, Some, take, drop, ap, ap₂, sym, subst, arith}
+use Rattle.std.proofs.Common.{rules, true, ◌≡◌, ℕ, ◌+◌, ◌∙◌, ℤ, Some, take, drop, ap, ap₂, sym, subst, arith}
 use Rattle.std.proofs.lemmas.List.{take_rest, length-take-le}
 use Rattle.ion_text_in.specs.Quick.{number_after, IsQuick}
 use Rattle.ion_text_in.proofs.DigitNumbers.{narrow-behind}
-use Rattle.ion_text_in.proofs.QuickNumbers.{digits-spell, less-none, pointed-mantissa, quick-decimal, whole-spells}
+use Rattle.ion_text_in.proofs.QuickNumbers.{digits-spell, less-none, pointed-mantissa, quick-decimal, split-text, whole-spells}
+use Rattle.ion_text_in.proofs.SpelledNumbers.{pointed-is}
 use Rattle.ion_text_in.proofs.quick.quick_decimal.Goals as goal
 
 pub number_after-coefficient-requires-clause-room : goal.number_after-coefficient-requires-clause-room
@@ -30,10 +31,12 @@ returns-then-stops_number c =
     let within = rw rest at c.digit_run-places.ensures.within in
     let behind = digits-spell n fraction places within (omega arith) (rw rest at c.digit_run-places.ensures.digits) in
     let stop = sym c.stops_number.ensures ∙ c.if-stops_number.true in
-    let quick = quick-decimal c.args.negative digits n count (number_after n (take places fraction)) places (whole-spells digits count c.requires.whole) c.requires.point behind (omega arith) (omega arith) stop (omega (arith, is)) (omega arith) in
+    let spelled = pointed-is c.args.negative digits (take (count + 1 + places) digits) count places c.requires.whole (omega arith) within (rw rest at c.digit_run-places.ensures.digits)
+    (omega (arith, c.if-count-places-gt-NARROW.false)) (split-text digits 46 count places c.requires.whole.within c.requires.point) in
+    let quick = quick-decimal c.args.negative digits n count (number_after n (take places fraction)) places (whole-spells digits count c.requires.whole) c.requires.point behind (omega arith) (omega arith) stop (omega (arith, is)) (omega arith) spelled in
     let fits : SFits w32 c.exponent_of.result = search rules in
     let kept = to_z-of_z w32 c.exponent_of.result fits ∙ c.exponent_of.ensures ∙ less-none places in
-    subst (λ (e : ℤ). IsQuick c.args.negative digits (record { negative = c.args.negative; number = c.number_after-coefficient.result; exponent = Some e; count = count + 1 + places })) (sym kept)
+    subst (λ (e : ℤ). IsQuick c.args.negative digits (record { negative = c.args.negative; number = c.number_after-coefficient.result; exponent = Some e; count = count + 1 + places; canonical = true })) (sym kept)
     (rw is quick)
 
 pub quick_power-requires-clause-mantissa : goal.quick_power-requires-clause-mantissa

@@ -1,29 +1,19 @@
 use Rattle.std.proofs.Common.{◌∙◌, sym, take, arith}
-use Rattle.ion_text_in.specs.Quick.{number_after, AreWhole}
-use Rattle.ion_text_in.proofs.QuickNumbers.{plain-mantissa, quick-int, whole-spells}
+use Rattle.ion_text_in.specs.Quick.{number_after}
+use Rattle.ion_text_in.proofs.QuickNumbers.{quick-int, whole-spells}
+use Rattle.ion_text_in.proofs.SpelledNumbers.{int-spelled, whole-front}
 use Rattle.ion_text_in.proofs.quick.quick_digits.Goals as goal
 
 pub returns-then-stops_number : goal.returns-then-stops_number
 returns-then-stops_number c =
     let digits = c.args.digits.now in
     let count = c.digit_run-count.result in
-    let whole : AreWhole digits count = record {
-      some = omega arith;
-      within = omega arith;
-      digits = c.digit_run-count.ensures.digits;
-      no_zeros = sym c.begins_zeros.ensures ∙ c.if-begins_zeros.false;
-    } in
+    let zeros = sym c.begins_zeros.ensures ∙ c.if-begins_zeros.false in
+    let whole = whole-front c.args.negative digits count (omega arith) (omega arith) c.digit_run-count.ensures.digits zeros in
     let stop = sym c.stops_number.ensures ∙ c.if-stops_number.true in
-    rw c.number_by.ensures (quick-int c.args.negative digits (number_after 0 (take count digits)) count (whole-spells digits count whole) stop (omega (arith, c.number_by.ensures)))
+    rw c.number_by.ensures (quick-int c.args.negative digits (number_after 0 (take count digits)) count (whole-spells digits count whole) stop (omega (arith, c.number_by.ensures))
+    (int-spelled c.args.negative digits count whole (omega arith) stop zeros))
 
-pub quick_power-requires-clause-mantissa : goal.quick_power-requires-clause-mantissa
-quick_power-requires-clause-mantissa c =
-    let digits = c.args.digits.now in
-    let count = c.digit_run-count.result in
-    let whole : AreWhole digits count = record {
-      some = omega arith;
-      within = omega arith;
-      digits = c.digit_run-count.ensures.digits;
-      no_zeros = sym c.begins_zeros.ensures ∙ c.if-begins_zeros.false;
-    } in
-    rw c.number_by-then-next-eq100.ensures (plain-mantissa digits count whole)
+pub quick_mantissa-requires-clause-whole : goal.quick_mantissa-requires-clause-whole
+quick_mantissa-requires-clause-whole c =
+    whole-front c.args.negative c.args.digits.now c.digit_run-count.result (omega arith) (omega arith) c.digit_run-count.ensures.digits (sym c.begins_zeros.ensures ∙ c.if-begins_zeros.false)

@@ -1,11 +1,11 @@
 use mir.Syntax.{w32}
 use mir.Val.{SFits, to_z, of_z}
 use Rattle.std.proofs.lemmas.Int.{to_z-of_z}
-use Rattle.std.proofs.Common.{rules, ◌≡◌, ℕ, ℤ, pos, ◌-ℤ◌, List, Some, ◌+◌, ◌∙◌, sym, ap, subst, take, drop, get_or, arith}
+use Rattle.std.proofs.Common.{rules, false, ◌≡◌, ℕ, ℤ, pos, ◌-ℤ◌, List, Some, ◌+◌, ◌∙◌, sym, ap, subst, take, drop, get_or, arith}
 use Rattle.std.proofs.lemmas.List.{take_rest}
 use Rattle.ion_value.specs.Number.{signed}
-use Rattle.ion_text_in.specs.Quick.{number_after, signed_text, IsQuick}
-use Rattle.ion_text_in.proofs.QuickNumbers.{digits-spell, quick-power, sign_length, stops}
+use Rattle.ion_text_in.specs.Quick.{number_after, signed_text, stops, IsQuick}
+use Rattle.ion_text_in.proofs.QuickNumbers.{digits-spell, quick-power, sign_length}
 use Rattle.ion_text_in.proofs.quick.quick_power.Goals as goal
 use Rattle.ion_text_in.proofs.quick.quick_power.Goals.{then-below, else-below}
 
@@ -31,6 +31,6 @@ returns c =
     let kept : to_z w32 (of_z w32 c.exponent_of.result) ≡ signed below m -ℤ pos places
     = to_z-of_z w32 c.exponent_of.result fits ∙ c.exponent_of.ensures ∙ ap (λ (k : ℕ). signed below k -ℤ pos places) c.number_after-magnitude.ensures in
     let e : ℤ = to_z w32 (of_z w32 c.exponent_of.result) in
-    let same : IsQuick c.args.negative digits (record { negative = c.args.negative; number = n; exponent = Some e; count = at + 1 + (sign_length below + j) })
-    = subst (λ (z : ℤ). IsQuick c.args.negative digits (record { negative = c.args.negative; number = n; exponent = Some z; count = at + 1 + (sign_length below + j) })) (sym kept) quick in
-    subst (λ (k : ℕ). IsQuick c.args.negative digits (record { negative = c.args.negative; number = n; exponent = Some e; count = k })) (sym count) same
+    let same : IsQuick c.args.negative digits (record { negative = c.args.negative; number = n; exponent = Some e; count = at + 1 + (sign_length below + j); canonical = false })
+    = subst (λ (z : ℤ). IsQuick c.args.negative digits (record { negative = c.args.negative; number = n; exponent = Some z; count = at + 1 + (sign_length below + j); canonical = false })) (sym kept) quick in
+    subst (λ (k : ℕ). IsQuick c.args.negative digits (record { negative = c.args.negative; number = n; exponent = Some e; count = k; canonical = false })) (sym count) same

@@ -1,5 +1,4 @@
-use Rattle.std.proofs.Common.{◌≡◌, ◌≢◌, ◌+◌, ◌<◌, ◌∷◌, [], ◌++◌, List, ℕ, length, ap, sym, ◌∙◌, arith}
-use Rattle.ion_binary.specs.declared.headers.HeaderPlace.{HeaderPlace}
+use Rattle.std.proofs.Common.{◌≡◌, ◌≢◌, ◌+◌, ◌∷◌, [], ◌++◌, List, ℕ, length, ap, ◌∙◌, arith}
 use Rattle.ion_binary.specs.Grammar.{type_code}
 use Rattle.ion_binary.specs.Held.{header_at}
 use Rattle.ion_binary.specs.Opening.{name_octets}

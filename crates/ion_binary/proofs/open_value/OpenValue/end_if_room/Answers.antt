@@ -1,5 +1,5 @@
 use Rattle.std.proofs.Common.{rules, ◌≡◌, ◌-◌, ◌∷◌, List, ℕ, drop, length, refl, ap, subst, ◌∙◌, arith}
-use Rattle.ion_meter.specs.Counts.{Shrinks}
+use Rattle.ion_meter.specs.Counts.{Grows, Shrinks}
 use Rattle.ion_binary.specs.declared.headers.HeaderPlace.{HeaderPlace}
 use Rattle.ion_binary.specs.Canonical.{header}
 use Rattle.ion_binary.specs.Counting.{ArePlaced, cut}
@@ -29,8 +29,8 @@ returns-clause-stepped g c =
     let rest : List HeaderPlace = c.in-Some.around ∷ drop 2 v.headers in
     let two : v.headers ≡ h ∷ rest = c.in-Some.ensures in
     let left : c.pop-innermost.new.self ≡ rest = popped c.pop-innermost.result v.headers c.pop-innermost.new.self rest h two c.pop-innermost.ensures.items in
-    let shrinks : Shrinks c.insert_if_room.new.meter c.pop-innermost.new.meter 8 =
-    popped-cost c.pop-innermost.result v.headers c.pop-innermost.new.self rest h c.insert_if_room.new.meter c.pop-innermost.new.meter two c.pop-innermost.ensures.items c.pop-innermost.ensures.cost in
+    let shrinks : Shrinks c.insert_header.new.meter c.pop-innermost.new.meter 8 =
+    popped-cost c.pop-innermost.result v.headers c.pop-innermost.new.self rest h c.insert_header.new.meter c.pop-innermost.new.meter two c.pop-innermost.ensures.items c.pop-innermost.ensures.cost in
     let opened : IsOpen c.args.limits w = returns-clause-open g c refl in
     let fits = opened.fits in
     let before = c.requires.can_step.within.headers in
@@ -41,13 +41,16 @@ returns-clause-stepped g c =
     let Placed : List HeaderPlace → Type 0 = λ hs. ArePlaced (length v.octets) hs in
     let placed = subst Placed two c.requires.open.placed in
     let put = put-length h v.octets placed.0 in
-    let x : c.as_slice-2.result.now ≡ header h.code (length v.octets - h.place) = search rules in
-    let size : length c.as_slice-2.result.now ≡ header_size (length v.octets - h.place) = ap (λ (os : List ℕ). length os) x in
+    let x : List ℕ = header h.code (length v.octets - h.place) in
+    let size : length x ≡ header_size (length v.octets - h.place) = refl in
+    let same : length c.as_slice.result.now ≡ length v.octets = ap (λ (os : List ℕ). length os) c.as_slice.ensures in
+    let Cost : ℕ → Type 0 = λ k. Grows c.args.meter.now c.insert_header.new.meter (length (header h.code (k - h.place))) in
+    let grows : Grows c.args.meter.now c.insert_header.new.meter (length x) = subst Cost same (c.insert_header.ensures.cost c.if-not-insert_header.false) in
     record {
       within = record { octets = omega (arith, fits); headers = omega (arith, few, before, now) };
-      memory = record { memory = λ e. absurd (Prim.cc e); counted = λ e. shrinks.refused ∙ (c.insert_if_room.ensures.cost c.if-not-insert_if_room.false).refused };
+      memory = record { memory = λ e. absurd (Prim.cc e); counted = λ e. shrinks.refused ∙ grows.refused };
       alone = λ f e. absurd (Prim.cc e);
       charges =
-          grow-shrink c.args.meter.now c.insert_if_room.new.meter c.pop-innermost.new.meter (length c.as_slice-2.result.now) 8 (open_cost v) (open_cost w) (open_most c.args.limits)
-          (c.insert_if_room.ensures.cost c.if-not-insert_if_room.false) shrinks (omega (arith, few, now, long, put, size)) c.requires.can_step.held (omega (arith, fits, few, before, long, put, size));
+          grow-shrink c.args.meter.now c.insert_header.new.meter c.pop-innermost.new.meter (length x) 8 (open_cost v) (open_cost w) (open_most c.args.limits)
+          grows shrinks (omega (arith, few, now, long, put, size)) c.requires.can_step.held (omega (arith, fits, few, before, long, put, size));
     }

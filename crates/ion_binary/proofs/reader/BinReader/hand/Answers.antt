@@ -1,14 +1,5 @@
-use Rattle.std.proofs.Common.{◌∙◌, sym, ap, ◌-◌, List, length, slice_get}
-use Rattle.ion_binary.specs.declared.wrapper.Frame.{Frame}
-use Rattle.ion_binary.proofs.Handing.{innermost-of}
+use Rattle.std.proofs.Common.{arith}
 use Rattle.ion_binary.proofs.reader.BinReader.hand.Goals as goal
 
-pub hand_end-requires-clause-innermost : goal.hand_end-requires-clause-innermost
-hand_end-requires-clause-innermost g c =
-    innermost-of c.args.self.now.frames c.copied-frame.result
-    (ap (λ (l : List Frame). slice_get l (length l - 1)) (sym c.as_slice.ensures) ∙ (sym c.last.ensures.value ∙ sym c.copied-frame.ensures))
-
-pub hand_member-requires-clause-innermost : goal.hand_member-requires-clause-innermost
-hand_member-requires-clause-innermost g c =
-    innermost-of c.args.self.now.frames c.copied-frame.result
-    (ap (λ (l : List Frame). slice_get l (length l - 1)) (sym c.as_slice.ensures) ∙ (sym c.last.ensures.value ∙ sym c.copied-frame.ensures))
+pub ends_here-requires : goal.ends_here-requires
+ends_here-requires g c = record { top = λ none. omega (arith, c.place.ensures, c.requires.around.top none, c.requires.can_hand.stands.within, c.requires.can_hand.stands.small) }

@@ -3,6 +3,7 @@ use Rattle.ion_meter.specs.Sources.{cursor}
 use Rattle.ion_value.specs.Reading.{Gives, More}
 use Rattle.ion_value.specs.Items.{named_item}
 use Rattle.ion_value.specs.Value as value
+use Rattle.ion_binary.specs.Lane.{frame_in}
 use Rattle.ion_binary.specs.Positions.{Frame}
 use Rattle.ion_binary.specs.Reading.{placed_item}
 use Rattle.ion_binary.specs.Reader.{IsInnermost, to_come}
@@ -20,8 +21,8 @@ returns-clause-hands g c e =
     let new = c.close.new.self in
     let taken = c.if-not-take_plain.ensures in
     let item = placed_item r.top None [] c.place.result value.end in
-    let some = ends-some c.args._frame r.source.place c.requires.ends in
-    let inner = subst (λ o. IsInnermost (as_frames r.frames) o) some.1 c.requires.innermost in
+    let some = ends-some (frame_in c.args.around.now) r.source.place c.requires.ends in
+    let inner = subst (λ o. IsInnermost (as_frames r.frames) o) some.1 c.requires.around.innermost in
     let ends = inside-ends r.limits (as_frames r.frames) some.0 r.top (cursor device r.source) inner some.2 in
     let here = ap (λ n. Gives (placed_item r.top None [] n value.end) (record { frames = as_frames new.frames; top = r.top; cursor = cursor device r.source })) (sym c.place.ensures) in
     let closed = ap (λ (fs : List Frame). Gives (placed_item r.top None [] r.source.place value.end) (record { frames = fs; top = r.top; cursor = cursor device r.source })) (sym c.close.ensures.frames) in
@@ -43,8 +44,8 @@ returns-clause-hands g c e =
 pub close-requires-clause-open : goal.close-requires-clause-open
 close-requires-clause-open g c =
     let r = c.args.self.now in
-    let some = ends-some c.args._frame r.source.place c.requires.ends in
-    let inner = subst (λ o. IsInnermost (as_frames r.frames) o) some.1 c.requires.innermost in
+    let some = ends-some (frame_in c.args.around.now) r.source.place c.requires.ends in
+    let inner = subst (λ o. IsInnermost (as_frames r.frames) o) some.1 c.requires.around.innermost in
     omega (arith, open_one r.frames some.0 inner, kinds_of-length r.frames)
 
 pub take_plain-requires-clause-path : goal.take_plain-requires-clause-path
@@ -52,7 +53,10 @@ take_plain-requires-clause-path g c =
     let w = g.W.ValueWriter in
     let r = c.args.self.now in
     let write = c.requires.can_hand.writer in
-    let some = ends-some c.args._frame r.source.place c.requires.ends in
-    let inner = subst (λ o. IsInnermost (as_frames r.frames) o) some.1 c.requires.innermost in
+    let some = ends-some (frame_in c.args.around.now) r.source.place c.requires.ends in
+    let inner = subst (λ o. IsInnermost (as_frames r.frames) o) some.1 c.requires.around.innermost in
     path_here w r.limits.depth (opened_in r) c.args.writer.now (placed_item r.top None [] c.place.result value.end) write.depth_of
     (end_fits r.limits.depth (opened_in r) c.place.result r.top (open_one r.frames some.0 inner)) refl write.behind
+
+pub returns-clause-around : goal.returns-clause-around
+returns-clause-around g c e = rw c.as_slice.ensures at c.around_in.ensures

@@ -1,9 +1,8 @@
-use Rattle.std.proofs.Common.{◌∙◌, sym, ap, ◌-◌, List, length, slice_get}
-use Rattle.ion_binary.specs.declared.wrapper.Frame.{Frame}
-use Rattle.ion_binary.proofs.Handing.{innermost-of}
+use Rattle.std.proofs.Common.{arith}
 use Rattle.ion_binary.proofs.reader.BinReader.hand_next_noted.Goals as goal
 
-pub hand_noted-requires-clause-innermost : goal.hand_noted-requires-clause-innermost
-hand_noted-requires-clause-innermost g c =
-    innermost-of c.args.self.now.frames c.copied-frame.result
-    (ap (λ (l : List Frame). slice_get l (length l - 1)) (sym c.as_slice.ensures) ∙ (sym c.last.ensures.value ∙ sym c.copied-frame.ensures))
+pub ends_here-requires : goal.ends_here-requires
+ends_here-requires g c = record { top = λ none. omega (arith, c.place.ensures, c.around_in-around.ensures.top none, c.requires.stands.within, c.requires.stands.small) }
+
+pub hand_noted-requires-clause-around : goal.hand_noted-requires-clause-around
+hand_noted-requires-clause-around g c = rw c.as_slice.ensures at c.around_in-around.ensures

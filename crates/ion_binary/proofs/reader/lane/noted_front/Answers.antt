@@ -1,15 +1,19 @@
 use Rattle.std.proofs.Common.{◌≡◌, ◌+◌, Some, refl, subst, arith}
+use Rattle.ion_binary.specs.Lane.{frame_in}
+use Rattle.ion_binary.specs.Reading.{region_of}
 use Rattle.ion_binary.specs.Wrappers.{innermost}
-use Rattle.ion_binary.proofs.Handing.{front_noted}
+use Rattle.ion_binary.proofs.Handing.{bounds_around, front_noted}
 use Rattle.ion_binary.proofs.reader.lane.noted_front.Goals as goal
 
 pub overflow_add-place : goal.overflow_add-place
-overflow_add-place g c = omega (arith, c.in-Some.ensures.starts, c.in-Some.ensures.within, c.requires.small)
+overflow_add-place g c =
+    let shows = c.in-Some.ensures (region_of (innermost (frame_in c.args.around))) (bounds_around c.args.around) in
+    omega (arith, shows.starts, shows.within, c.requires.small)
 
 pub returns : goal.returns
 returns g c =
     let text = c.in-Some-simple_text.text in
     let note = c.in-Some.note in
     let has = subst (λ n. g.N.Names.text c.args.names.now n ≡ Some text.now) c.id_of.ensures c.in-Some-simple_text.ensures.0 in
-    front_noted (g.N.Names.text c.args.names.now) c.args.limits c.args.octets.now c.args.here (innermost c.args.frame) c.args.field c.args.at note.from note.inner note.end note.id
-    (record { text = text; place = c.args.here + note.from }) c.requires.field (rw c.region.ensures at c.in-Some.ensures) has c.in-Some-simple_text.ensures.1 refl
+    front_noted (g.N.Names.text c.args.names.now) c.args.limits c.args.octets.now c.args.here (innermost (frame_in c.args.around)) c.args.field c.args.at note.from note.inner note.end note.id
+    (record { text = text; place = c.args.here + note.from }) c.requires.field (c.in-Some.ensures (region_of (innermost (frame_in c.args.around))) (bounds_around c.args.around)) has c.in-Some-simple_text.ensures.1 refl

@@ -1,9 +1,15 @@
-use Rattle.std.proofs.Common.{◌∙◌, arith}
-use Rattle.ion_binary.proofs.PlainAdded.{short-headed}
-use Rattle.ion_binary.proofs.ShortInts.{short-uint}
+use Rattle.ion_value.specs.PlainItems.{placed_item}
+use Rattle.ion_value.specs.Number.{uint_octets}
+use Rattle.ion_value.specs.Value.{PlacedItem}
+use Rattle.ion_binary.specs.Canonical.{headed}
+use Rattle.ion_binary.proofs.PlainAdded.{member-plain}
 use Rattle.ion_binary.proofs.writer.BinWriter.add_number.Goals as goal
 
-pub add_short-requires-clause-octets : goal.add_short-requires-clause-octets
-add_short-requires-clause-octets g c =
-    let spelled = short-uint c.args.n c.to_be_bytes-octets.result (omega (arith, c.ranges.n.fits)) c.to_be_bytes-octets.ensures in
-    short-headed c.args.code _ _ _ (omega arith) spelled ∙ c.requires.octets
+pub returns : goal.returns
+returns g c =
+    let w = c.args.self.now in
+    let item : PlacedItem = placed_item c.args.item.now in
+    let k = c.in-Some.ensures in
+    member-plain w c.put_number.new.self c.args.meter.now c.put_number.new.meter item c.put_number.result c.in-Some.ids.name c.in-Some.ids.note (headed c.args.code (uint_octets c.args.n)) c.requires.can_take k.open
+    c.requires.whole k.field_known k.note_known c.requires.known k.field k.note c.requires.octets c.put_number.ensures.octets
+    c.put_number.ensures.headers c.put_number.ensures.open c.put_number.ensures.declines c.put_number.ensures.stepped

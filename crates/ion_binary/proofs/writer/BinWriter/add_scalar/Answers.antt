@@ -1,4 +1,3 @@
-use Rattle.std.proofs.Common.{◌≡◌, ◌≢◌, ◌<◌, ℕ, length, arith}
 use Rattle.ion_value.specs.PlainItems.{placed_item}
 use Rattle.ion_value.specs.Value.{PlacedItem}
 use Rattle.ion_binary.specs.Opening.{both_octets}
@@ -9,9 +8,7 @@ pub returns : goal.returns
 returns g c =
     let w = c.args.self.now in
     let item : PlacedItem = placed_item c.args.item.now in
-    let name = c.in-Some in
-    let note = c.in-Some-annotation_id in
-    let some : 0 < length w.open_value.headers = let n = c.len.ensures in let f : c.len.result ≢ 0 = c.if-len-eq0.false in omega (arith, n, f) in
-    member-plain w c.put_octets.new.self c.args.meter.now c.put_octets.new.meter item c.put_octets.result name.name note.note (both_octets c.args.scalar.now) c.requires.can_take some
-    c.requires.whole name.ensures.known note.ensures.known c.requires.known name.ensures.octets note.ensures.octets c.requires.octets c.put_octets.ensures.octets
+    let k = c.in-Some.ensures in
+    member-plain w c.put_octets.new.self c.args.meter.now c.put_octets.new.meter item c.put_octets.result c.in-Some.ids.name c.in-Some.ids.note (both_octets c.args.scalar.now) c.requires.can_take k.open
+    c.requires.whole k.field_known k.note_known c.requires.known k.field k.note c.requires.octets c.put_octets.ensures.octets
     c.put_octets.ensures.headers c.put_octets.ensures.open c.put_octets.ensures.declines c.put_octets.ensures.stepped

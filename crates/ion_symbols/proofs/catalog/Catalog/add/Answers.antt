@@ -1,8 +1,6 @@
-use Rattle.std.proofs.Common.{◌≡◌, ◌++◌, ◌∷◌, [], true, false, length, slice_get, Some, refl, ap, ap₂, sym, subst, ◌∙◌, arith}
+use Rattle.std.proofs.Common.{◌≡◌, ◌++◌, ◌∷◌, [], true, length, Some, ap, ap₂, sym, ◌∙◌}
 use Rattle.ion_symbols.specs.Table.{find, may_stand}
-use Rattle.ion_symbols.specs.Output.{Belongs}
-use Rattle.ion_symbols.specs.Ordered.{in_order}
-use Rattle.ion_symbols.specs.Ranks.{key, key_of, keys}
+use Rattle.ion_symbols.specs.Ranks.{key, key_of}
 use Rattle.ion_symbols.proofs.Ranking.{orders_lent, found_lent, rank_points, not_there, added_order, texts_added, belongs_lent, refused_table}
 use Rattle.ion_symbols.proofs.catalog.Catalog.add.Goals as goal
 

@@ -1,5 +1,5 @@
-use Rattle.std.proofs.Common.{◌≡◌, ◌∙◌, ap, sym, subst, None}
-use Rattle.ion_symbols.specs.Output.{Output, IsSorted, known_id}
+use Rattle.std.proofs.Common.{ap, sym, subst}
+use Rattle.ion_symbols.specs.Output.{Output, IsSorted}
 use Rattle.ion_symbols.proofs.Finding.{searched, belongs_sorted, found_known}
 use Rattle.ion_symbols.proofs.InBuckets.{not_of_system}
 use Rattle.ion_symbols.proofs.output.OutSymbols.add_new.Goals as goal

@@ -1,31 +1,31 @@
-use Rattle.std.proofs.Common.{ap, ◌∙◌, arith}
+use Rattle.std.proofs.Common.{get_or, ap, arith}
 use Rattle.ion_symbols.specs.Output.{Output}
-use Rattle.ion_symbols.proofs.InBuckets.{place_bounds, known_found, known_system, next_place}
+use Rattle.ion_symbols.proofs.InBuckets.{looks_from, place_bounds, known_found}
 use Rattle.ion_symbols.proofs.output.OutSymbols.known.Goals as goal
 
-pub slice_bounds-is_same-count : goal.slice_bounds-is_same-count
-slice_bounds-is_same-count g c =
-    (place_bounds _ _ _ _ _ _ _ _ c.self.invariant.0 (ap (λ (s : Output). s.texts) c.self.view_is) c.as_slice-bytes.ensures c.as_slice-places.ensures c.loop-at.invariant.within c.loop-at-test.true).0
+pub slice_bounds-is_same_short-count : goal.slice_bounds-is_same_short-count
+slice_bounds-is_same_short-count g c =
+    let e = ap (λ (s : Output). s.texts) c.self.view_is in
+    let k = looks_from _ _ _ c.self.inside.buckets c.args.text.now c.bucket.result c.self.invariant.2 e c.bucket.ensures.of c.bucket.ensures.within in
+    (place_bounds _ _ _ _ _ _ _ (record { from = 0; to = 0; next = 0 }) c.self.invariant.0 e c.as_slice-bytes.ensures c.as_slice-places.ensures k.within c.if-last-gt0.true).0
 
-pub slice_bounds-is_same-start : goal.slice_bounds-is_same-start
-slice_bounds-is_same-start g c =
-    let h = place_bounds _ _ _ _ _ _ c.loop-at.at (record { from = 0; to = 0; next = 0 }) c.self.invariant.0 (ap (λ (s : Output). s.texts) c.self.view_is) c.as_slice-bytes.ensures c.as_slice-places.ensures c.loop-at.invariant.within c.loop-at-test.true in
+pub slice_bounds-is_same_short-start : goal.slice_bounds-is_same_short-start
+slice_bounds-is_same_short-start g c =
+    let e = ap (λ (s : Output). s.texts) c.self.view_is in
+    let k = looks_from _ _ _ c.self.inside.buckets c.args.text.now c.bucket.result c.self.invariant.2 e c.bucket.ensures.of c.bucket.ensures.within in
+    let h = place_bounds _ _ _ _ _ _ (get_or c.self.inside.buckets c.bucket.result 0) (record { from = 0; to = 0; next = 0 }) c.self.invariant.0 e c.as_slice-bytes.ensures c.as_slice-places.ensures k.within c.if-last-gt0.true in
     omega (arith, h.0, h.1)
 
-pub slice_bounds-is_same-end : goal.slice_bounds-is_same-end
-slice_bounds-is_same-end g c =
-    let h = place_bounds _ _ _ _ _ _ c.loop-at.at (record { from = 0; to = 0; next = 0 }) c.self.invariant.0 (ap (λ (s : Output). s.texts) c.self.view_is) c.as_slice-bytes.ensures c.as_slice-places.ensures c.loop-at.invariant.within c.loop-at-test.true in
+pub slice_bounds-is_same_short-end : goal.slice_bounds-is_same_short-end
+slice_bounds-is_same_short-end g c =
+    let e = ap (λ (s : Output). s.texts) c.self.view_is in
+    let k = looks_from _ _ _ c.self.inside.buckets c.args.text.now c.bucket.result c.self.invariant.2 e c.bucket.ensures.of c.bucket.ensures.within in
+    let h = place_bounds _ _ _ _ _ _ (get_or c.self.inside.buckets c.bucket.result 0) (record { from = 0; to = 0; next = 0 }) c.self.invariant.0 e c.as_slice-bytes.ensures c.as_slice-places.ensures k.within c.if-last-gt0.true in
     omega (arith, h.0, h.1)
 
-pub returns-then-is_same : goal.returns-then-is_same
-returns-then-is_same g c =
-    known_found _ _ _ _ _ _ _ _ _ (record { from = 0; to = 0; next = 0 }) _ c.self.invariant.0 c.self.invariant.2 (ap (λ (s : Output). s.texts) c.self.view_is) c.as_slice-bytes.ensures c.as_slice-places.ensures
-    c.loop-at.invariant c.loop-at-test.true c.is_same.ensures c.if-is_same.true
-
-pub loop-at-preserved : goal.loop-at-preserved
-loop-at-preserved g c =
-    (next_place _ _ _ _ _ _ _ _ (record { from = 0; to = 0; next = 0 }) _ c.self.invariant.2 (ap (λ (s : Output). s.texts) c.self.view_is) c.as_slice-bytes.ensures c.as_slice-places.ensures
-    c.loop-at.invariant c.loop-at-test.true c.is_same.ensures c.if-is_same.false).1
-
-pub returns : goal.returns
-returns g c = c.system_id.ensures ∙ known_system _ _ c.loop-at.at c.loop-at.invariant (omega (arith, c.loop-at-test.false))
+pub returns-then-is_same_short : goal.returns-then-is_same_short
+returns-then-is_same_short g c =
+    let e = ap (λ (s : Output). s.texts) c.self.view_is in
+    let k = looks_from _ _ _ c.self.inside.buckets c.args.text.now c.bucket.result c.self.invariant.2 e c.bucket.ensures.of c.bucket.ensures.within in
+    known_found _ _ _ _ _ _ _ _ _ (record { from = 0; to = 0; next = 0 }) _ c.self.invariant.0 c.self.invariant.2 e c.as_slice-bytes.ensures c.as_slice-places.ensures
+    k c.if-last-gt0.true c.is_same_short.ensures c.if-is_same_short.true

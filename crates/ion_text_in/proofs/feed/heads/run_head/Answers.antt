@@ -15,6 +15,9 @@ returns-in-Whole c =
     let w = c.in-Whole in
     let rest = c.behind.result.now in
     let counts = shown-some number_token a.bytes.now w.number w.count (Some a.limits.scalar) a_run w.ensures.shows c.requires.some in
-    subst (λ (h : Head SymbolAt). IsHead a.limits a.place a.bytes.now h rest) (sym c.head_of.ensures)
-    (head-plain a.limits a.place w.count a_run (as_number w.number) a.bytes.now rest (number-simple w.number) w.ensures.range c.behind.ensures (omega (arith, counts)) w.ensures.shows.0 w.ensures.shows.1
-    c.requires.bare c.requires.some c.requires.first)
+    record {
+      head = subst (λ (h : Head SymbolAt). IsHead a.limits a.place a.bytes.now h rest) (sym c.head_of.ensures)
+          (head-plain a.limits a.place w.count a_run (as_number w.number) a.bytes.now rest (number-simple w.number) w.ensures.range c.behind.ensures (omega (arith, counts)) w.ensures.shows.0 w.ensures.shows.1
+          c.requires.bare c.requires.some c.requires.first);
+      spelled = tt;
+    }

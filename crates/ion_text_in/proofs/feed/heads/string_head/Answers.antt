@@ -8,5 +8,8 @@ pub returns-in-Whole-clause-found : goal.returns-in-Whole-clause-found
 returns-in-Whole-clause-found c =
     let a = c.args in
     let rest = c.behind.result.now in
-    subst (λ (l : List ℕ). IsHead a.limits a.place a.bytes.now (whole (string l)) rest) (sym c.front.ensures)
-    (head-string a.limits a.place c.in-Whole.plain c.in-Whole.count a.bytes.now c.behind-text.result.now rest c.behind-text.ensures c.behind.ensures c.in-Whole.ensures.shows c.requires.bare c.requires.some c.requires.first)
+    record {
+      head = subst (λ (l : List ℕ). IsHead a.limits a.place a.bytes.now (whole (string l)) rest) (sym c.front.ensures)
+          (head-string a.limits a.place c.in-Whole.plain c.in-Whole.count a.bytes.now c.behind-text.result.now rest c.behind-text.ensures c.behind.ensures c.in-Whole.ensures.shows c.requires.bare c.requires.some c.requires.first);
+      spelled = tt;
+    }

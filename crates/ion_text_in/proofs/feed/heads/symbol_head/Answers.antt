@@ -11,5 +11,8 @@ returns-clause-found c =
     let rest = c.behind-rest.result.now in
     let next = c.next_told-next.result in
     let told : 0 < next.told = omega (arith, c.if-next-eq0.false) in
-    subst (λ (l : List ℕ). IsHead a.limits a.place a.bytes.now (whole (symbol (at (Text l) a.place))) rest) (sym c.front.ensures)
-    (head-symbol a.limits a.place a.count a.bytes.now rest next c.behind-rest.ensures c.requires.word c.next_told-next.ensures told c.requires.bare c.requires.first)
+    record {
+      head = subst (λ (l : List ℕ). IsHead a.limits a.place a.bytes.now (whole (symbol (at (Text l) a.place))) rest) (sym c.front.ensures)
+          (head-symbol a.limits a.place a.count a.bytes.now rest next c.behind-rest.ensures c.requires.word c.next_told-next.ensures told c.requires.bare c.requires.first);
+      spelled = tt;
+    }

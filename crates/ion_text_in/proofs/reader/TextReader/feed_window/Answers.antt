@@ -1,15 +1,48 @@
-use Rattle.std.proofs.Common.{◌+◌, List, ℕ, length, ap, arith}
-use Rattle.ion_text_in.specs.Feeding.{lane}
-use Rattle.ion_text_in.proofs.FeedReader.{moved-window}
+use Rattle.std.proofs.Common.{◌≡◌, ◌∙◌, ◌+◌, ◌-◌, List, ℕ, length, reverse, refl, sym, ap, subst, arith}
+use Rattle.ion_value.specs.declared.ion_type.Kind.{Kind}
+use Rattle.ion_text_in.specs.declared.expected.Expected.{Expected}
+use Rattle.ion_text_in.specs.declared.feed.Spot.{Spot}
+use Rattle.ion_text_in.specs.Expecting.{expected_in}
+use Rattle.ion_text_in.specs.Feeding.{lane, reader_lane, window_end, CanFeed, Lane, Moved}
+use Rattle.ion_meter.specs.Windows.{lent, IsPassed}
+use Rattle.ion_text_in.proofs.FeedReader.{lane-of, moved-window}
 use Rattle.ion_text_in.proofs.reader.TextReader.feed_window.Goals as goal
+
+pub feed_items-last-requires : goal.feed_items-last-requires
+feed_items-last-requires g c =
+    let w = g.W.ValueWriter in
+    let a = c.args in
+    let r = a.self.now in
+    let bytes = c.buffer-bytes.result in
+    let long = ap (λ (l : List ℕ). length l) c.buffer-bytes.ensures in
+    let kind = c.member_kind.ensures (reverse r.kinds) (sym c.innermost.ensures) in
+    let expected = ap (λ (k : Kind). expected_in c.is_separator.result k) (sym kind) ∙ c.is_separator.ensures (reverse r.kinds) c.requires.can.expects in
+    let spot : Spot = record { rest = bytes; top = r.top; values = 0; separator = c.is_separator.result; kind = c.member_kind.result } in
+    let here : window_end r.source ≡ c.place.result + length bytes.now = omega (arith, c.place.ensures, long) in
+    let start = lane-of r spot 0 a.writer.now a.sink.now a.meter.now c.buffer-bytes.ensures refl refl expected kind in
+    record {
+      can = subst (λ (e : ℕ). CanFeed w r.limits e (lane r.kinds spot a.writer.now a.sink.now a.meter.now)) here
+          (subst (λ (l : Lane g.row.W.Denot g.row.O.Denot). CanFeed w r.limits (window_end r.source) l) (sym start) c.requires.can);
+    }
 
 pub returns-clause-moved : goal.returns-clause-moved
 returns-clause-moved g c =
+    let w = g.W.ValueWriter in
     let a = c.args in
     let r = a.self.now in
     let f = c.feed_items-last in
+    let t = c.consume.new.self in
     let bytes = c.buffer-bytes.result in
     let long = ap (λ (l : List ℕ). length l) c.buffer-bytes.ensures in
-    moved-window g.W.ValueWriter r.limits r.source c.consume.new.self (c.place.result + length bytes.now)
-    (lane r.kinds (record { rest = bytes; expected = r.expected; top = r.top; values = 0 }) a.writer.now a.sink.now a.meter.now)
-    (lane f.new.kinds f.result f.new.writer f.new.sink f.new.meter) c.requires.stands c.buffer-bytes.ensures (omega (arith, c.place.ensures, long)) f.ensures.moved c.consume.ensures
+    let kind = c.member_kind.ensures (reverse r.kinds) (sym c.innermost.ensures) in
+    let expected = ap (λ (k : Kind). expected_in c.is_separator.result k) (sym kind) ∙ c.is_separator.ensures (reverse r.kinds) c.requires.can.expects in
+    let spot : Spot = record { rest = bytes; top = r.top; values = 0; separator = c.is_separator.result; kind = c.member_kind.result } in
+    let start = lane-of r spot 0 a.writer.now a.sink.now a.meter.now c.buffer-bytes.ensures refl refl expected kind in
+    let first = reader_lane r 0 a.writer.now a.sink.now a.meter.now in
+    let last = lane f.new.kinds f.result f.new.writer f.new.sink f.new.meter in
+    let end = c.place.result + length bytes.now in
+    let passed = subst (λ (l : List ℕ). IsPassed r.source t (length l - length f.result.rest.now)) c.buffer-bytes.ensures c.consume.ensures in
+    let moved : Moved w r.limits end first last = subst (λ (l : Lane g.row.W.Denot g.row.O.Denot). Moved w r.limits end l last) start f.ensures.moved in
+    subst (λ (k : Kind). Moved w r.limits (window_end r.source) first (record last { rest = lent t; expected = c.expected_in-self.result; kind = k })) (sym moved.kind)
+    (subst (λ (e : Expected). Moved w r.limits (window_end r.source) first (record last { rest = lent t; expected = e })) (sym c.expected_in-self.ensures)
+    (moved-window w r.limits r.source t end first last c.requires.stands refl (omega (arith, c.place.ensures, long)) moved passed))

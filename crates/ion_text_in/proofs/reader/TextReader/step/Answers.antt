@@ -1,17 +1,16 @@
-use Rattle.std.proofs.Common.{◌≡◌, ◌∙◌, ℕ, ◌<◌, ◌≤◌, Bool, List, [], ◌++◌, length, sym, ap, subst, arith}
+use Rattle.std.proofs.Common.{◌≡◌, ◌∙◌, ℕ, ◌<◌, ◌≤◌, Bool, List, [], length, sym, ap, arith}
 use Rattle.ion_meter.specs.Sources.{Cursor, cursor}
 use Rattle.ion_meter.specs.Windows.{left, lent}
 use Rattle.ion_value.proofs.Cursors.{cursor-extends}
 use Rattle.ion_value.proofs.Passing.{lent-there}
 use Rattle.ion_text_in.specs.declared.reader.StepResult.TheVariants as step_result
-use Rattle.ion_text_in.specs.Firsts.{first_of, numbered, width}
+use Rattle.ion_text_in.specs.Firsts.{first_of, width}
 use Rattle.ion_text_in.specs.Positions.{in_sexp, innermost}
 use Rattle.ion_text_in.specs.Reading.{part_from}
 use Rattle.ion_text_in.specs.Token.{first_at}
 use Rattle.ion_text_in.specs.Steps.{comes, ending, opened_in, state_at}
 use Rattle.ion_text_in.proofs.ReaderSteps.{gives-same, step-ended, step-part, step-unfinished, width-some}
 use Rattle.ion_text_in.proofs.ReaderCalls.{reached-look, reached-then, stepped-behind}
-use Rattle.ion_text_in.proofs.Shown.{lent-left}
 use Rattle.ion_text_in.proofs.reader.TextReader.step.Goals as goal
 
 pub returns-in-Ok-Some-clause-gives : goal.returns-in-Ok-Some-clause-gives
@@ -19,27 +18,11 @@ returns-in-Ok-Some-clause-gives g c = λ h.
     let r = c.args.self.now in
     step-unfinished r.limits (state_at (cursor g.I.Input r.source) r) c.in-Ok-Some.start (rw c.in-Ok-Some.field-0-is at (c.in-Ok-Some.ensures.gives h))
 
-pub returns-then-told-gt0-clause-gives : goal.returns-then-told-gt0-clause-gives
-returns-then-told-gt0-clause-gives g c = λ h.
-    let device = g.I.Input in
-    let r = c.args.self.now in
-    let s = c.pass_to_token.new.source in
-    let hs = c.in-Ok-None.ensures.reads.moves.still_observable.1 h in
-    let told = c.told_first-told in
-    let sexp = in_sexp (innermost (opened_in r)) in
-    let some : 1 ≤ length (lent s) = subst (λ (l : List ℕ). 1 ≤ length l) c.buffer.ensures (told.ensures.some c.if-told-gt0.true) in
-    let there : 1 ≤ length (left device.rest s) = lent-there device.rest s 1 some in
-    let tells = subst (λ (l : List ℕ). (in_sexp : Bool) (more : List ℕ) → first_at in_sexp (l ++ more) ≡ numbered told.result) c.buffer.ensures (told.ensures.tells c.if-told-gt0.true) in
-    let found = ap (λ (l : List ℕ). first_at sexp l) (lent-left device.rest s) ∙ tells sexp _ in
-    gives-same device _ _ c.told.new.self c.told.result
-    (step-part r.limits (state_at (cursor device r.source) r) (cursor device s) (numbered told.result) (rw c.in-Ok-None.field-0-is at (c.in-Ok-None.ensures.gives h)) (omega (arith, there)) found)
-    (c.told.ensures.gives hs)
-
 pub returns-in-Ok-None-next_first-clause-gives : goal.returns-in-Ok-None-next_first-clause-gives
 returns-in-Ok-None-next_first-clause-gives g c = λ h.
     let device = g.I.Input in
     let r = c.args.self.now in
-    let s = c.pass_to_token.new.source in
+    let s = c.pass_blanks.new.source in
     let t = c.next_first.new.source in
     let hs = c.in-Ok-None.ensures.reads.moves.still_observable.1 h in
     let kept = c.in-Ok-None-next_first.ensures.kept in
@@ -56,7 +39,7 @@ pub returns-in-Ok-None-next_first-clause-stepped : goal.returns-in-Ok-None-next_
 returns-in-Ok-None-next_first-clause-stepped g c =
     let device = g.I.Input in
     let r = c.args.self.now in
-    let s = c.pass_to_token.new.source in
+    let s = c.pass_blanks.new.source in
     let t = c.next_first.new.source in
     let m = c.args.meter.now in
     let can = c.requires.can_step in
@@ -71,7 +54,7 @@ pub returns-in-Ok-Some-next_first-clause-gives : goal.returns-in-Ok-Some-next_fi
 returns-in-Ok-Some-next_first-clause-gives g c = λ h.
     let device = g.I.Input in
     let r = c.args.self.now in
-    let s = c.pass_to_token.new.source in
+    let s = c.pass_blanks.new.source in
     let t = c.next_first.new.source in
     let hs = c.in-Ok-None.ensures.reads.moves.still_observable.1 h in
     let first = c.in-Ok-Some-next_first.first in

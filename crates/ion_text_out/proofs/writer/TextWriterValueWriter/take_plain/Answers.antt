@@ -1,10 +1,11 @@
 use Rattle.std.proofs.Common.{refl, ap, subst, length}
+use Rattle.std.specs.Prelude.{IfSome}
 use Rattle.ion_value.specs.Items.{raw_head, symbol_at}
-use Rattle.ion_value.specs.PlainItems.{placed_item}
+use Rattle.ion_value.specs.PlainItems.{placed_item, IsTextOf}
 use Rattle.ion_value.specs.Value as value
 use Rattle.ion_value.specs.Value.{Head, SymbolAt}
 use Rattle.ion_text_out.specs.Writing.{shown, HasRoom}
-use Rattle.ion_text_out.proofs.Plain.{adds_here, begin_put, scalar_put}
+use Rattle.ion_text_out.proofs.Plain.{adds_here, begin_put, scalar_put, spelled_put}
 use Rattle.ion_text_out.proofs.WriterSteps.{has_room}
 use Rattle.ion_text_out.proofs.writer.TextWriterValueWriter.take_plain.Goals as goal
 
@@ -20,7 +21,7 @@ pub returns-in-Null-clause-puts : goal.returns-in-Null-clause-puts
 returns-in-Null-clause-puts g c e path stands continues =
     let w = c.args.self.now in
     let item = c.args.item in
-    adds_here w.limits w.kinds w.empty path item _ _ _ stands.1 (ap (λ s. s.pending) (c.take_text.ensures.puts e))
+    adds_here w.limits w.kinds w.empty path item _ _ _ stands.1 (ap (λ s. s.pending) (c.take_text-in-Null.ensures.puts e))
     (scalar_put (shown w.kinds w.empty) item c.text_in-name.result.now c.text_in-note.result.now (value.null c.in-Null.of) _ c.requires.simple c.text_in-name.ensures c.text_in-note.ensures (ap raw_head c.in-Null.is) c.null.ensures)
 
 pub returns-in-Bool-clause-puts : goal.returns-in-Bool-clause-puts
@@ -71,3 +72,11 @@ returns-in-Begin-clause-puts g c e path stands continues =
     let item = c.args.item in
     adds_here w.limits w.kinds w.empty path item _ _ _ stands.1 (ap (λ s. s.pending) (c.take_begin.ensures.puts e))
     (begin_put (shown w.kinds w.empty) item c.text_in-name.result.now c.text_in-note.result.now c.in-Begin.kind c.requires.simple c.text_in-name.ensures c.text_in-note.ensures (ap raw_head c.in-Begin.is))
+
+pub returns-in-Some-clause-puts : goal.returns-in-Some-clause-puts
+returns-in-Some-clause-puts g c e path stands continues =
+    let w = c.args.self.now in
+    let item = c.args.item in
+    let spelled : IfSome item.spelled (λ text. IsTextOf text.now (raw_head item.head)) = c.requires.spelled in
+    adds_here w.limits w.kinds w.empty path item _ _ _ stands.1 (ap (λ s. s.pending) (c.take_text.ensures.puts e))
+    (spelled_put (shown w.kinds w.empty) item c.text_in-name.result.now c.text_in-note.result.now c.in-Some.text.now c.requires.simple c.text_in-name.ensures c.text_in-note.ensures (rw c.in-Some.is at spelled))

@@ -1,9 +1,0 @@
-use Rattle.std.proofs.Common.{◌≡◌, ◌^◌, ◌<◌, take}
-use Rattle.ion_value.specs.Number.{uint}
-use Rattle.ion_binary.proofs.shown.few_value.Given as goal
-
-abbrev pub invariant-loop-octet : goal.invariant-loop-octet
-invariant-loop-octet l = record {
-  so_far : l.value ≡ uint (take l.octet-index l.octets);
-  small : l.value < 256 ^ l.octet-index;
-}

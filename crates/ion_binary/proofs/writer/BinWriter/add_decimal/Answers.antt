@@ -1,0 +1,34 @@
+use Rattle.std.proofs.Common.{rules, ◌≡◌, ◌<◌, ◌∷◌, [], ℕ, List, subst, sym, ap}
+use Rattle.ion_value.specs.Decimal.{decimal_body, exponent_octets}
+use Rattle.ion_value.specs.Number.{coefficient_octets}
+use Rattle.ion_value.specs.PlainItems.{placed_item}
+use Rattle.ion_value.specs.Value.{Head, PlacedItem, SymbolAt, map_head, user_symbol_at}
+use Rattle.ion_binary.specs.Canonical.{headed, id_in}
+use Rattle.ion_binary.specs.ItemOctets.{head_octets}
+use Rattle.ion_binary.specs.Plain.{HaveIds, IsWhole}
+use Rattle.ion_binary.specs.Writing.{head_symbols}
+use Rattle.ion_binary.proofs.PlainAdded.{member-plain}
+use Rattle.ion_binary.proofs.ShortDecimals.{some-decimal}
+use Rattle.ion_binary.proofs.writer.BinWriter.add_decimal.Goals as goal
+
+pub returns : goal.returns
+returns g c =
+    let w = c.args.self.now in
+    let d = c.args.number in
+    let item : PlacedItem = placed_item c.args.item.now in
+    let k = c.in-Some-ids_of.ensures in
+    let texts : List (List ℕ) = w.symbols.texts in
+    let octet : ℕ = c.in-Some.exponent in
+    let body : List ℕ = octet ∷ coefficient_octets d.negative d.coefficient in
+    let some : 0 < d.coefficient = search rules in
+    let exponent : octet ∷ [] ≡ exponent_octets d.exponent = search rules in
+    let spelled : body ≡ decimal_body d = some-decimal d octet some exponent in
+    let W : Head SymbolAt → Type 0 = λ h. IsWhole h in
+    let K : Head SymbolAt → Type 0 = λ h. HaveIds texts (head_symbols h) in
+    let O : Head SymbolAt → Type 0 = λ h. headed 5 body ≡ head_octets (id_in texts) (map_head user_symbol_at h) in
+    let whole = subst W (sym c.requires.head) tt in
+    let known = subst K (sym c.requires.head) tt in
+    let octets = subst O (sym c.requires.head) (ap (headed 5) spelled) in
+    member-plain w c.put_decimal.new.self c.args.meter.now c.put_decimal.new.meter item c.put_decimal.result c.in-Some-ids_of.ids.name c.in-Some-ids_of.ids.note (headed 5 body)
+    c.requires.can_take k.open whole k.field_known k.note_known known k.field k.note octets c.put_decimal.ensures.octets c.put_decimal.ensures.headers c.put_decimal.ensures.open
+    c.put_decimal.ensures.declines c.put_decimal.ensures.stepped

@@ -1,0 +1,142 @@
+//! A few octets, in a word.
+ghost use Rattle.std.specs.Prelude.{◌≡◌, ◌+◌, ◌<◌, ◌≤◌, ◌∷◌, ◌++◌, [], List, ℕ, length, take, IfSome};
+ghost use Rattle.ion_binary.specs.Canonical.{header, wrapped};
+ghost use Rattle.ion_binary.specs.Held.{counted_ids};
+ghost use Rattle.ion_binary.specs.Opening.{name_octets, noted};
+
+use std::marker::Model;
+
+/// At most eight octets, which are put as one block. A clause sees the list of them.
+#[derive(Drop)]
+pub(crate) struct Few {
+    // The first octet counts least.
+    word: u64,
+    count: u64,
+}
+
+impl Model for Few {
+    ghost use Rattle.std.specs.Prelude.{◌^◌, ◌<◌, ◌≤◌, List, ℕ};
+    ghost use Rattle.ion_binary.specs.LowOctets.{low_octets};
+
+    ghost Value = { List ℕ };
+
+    ghost view = { λ f. low_octets f.count f.word };
+
+    ghost invariant = { λ f. (f.count ≤ 8) × (f.word < 256 ^ f.count) };
+}
+
+impl Few {
+    /// One octet.
+    #[inline(always)]
+    pub fn one(octet: u8) -> Few
+        ensures { result ≡ octet ∷ [] }
+    {
+        Few {
+            word: octet as u64,
+            count: 1,
+        }
+    }
+
+    /// How many octets there are.
+    #[inline(always)]
+    pub fn len(&self) -> usize
+        ensures len { result ≡ length self.now }
+        ensures few { result ≤ 8 }
+    {
+        self.count as usize
+    }
+
+    /// A block that begins with the octets.
+    #[inline(always)]
+    pub fn block(&self) -> [u8; 8]
+        ensures { take (length self.now) result ≡ self.now }
+    {
+        self.word.to_le_bytes()
+    }
+
+    /// The same octets.
+    #[inline(always)]
+    pub fn same(&self) -> Few
+        ensures { result ≡ self.now }
+    {
+        Few {
+            word: self.word,
+            count: self.count,
+        }
+    }
+
+    /// An octet, and these behind it.
+    #[inline(always)]
+    pub fn behind(&self, octet: u8) -> Few
+        requires { length self.now < 8 }
+        ensures { result ≡ octet ∷ self.now }
+    {
+        Few {
+            word: self.word * 256 + octet as u64,
+            count: self.count + 1,
+        }
+    }
+}
+
+/// The header of a body of so many octets, where it has two octets at most.
+#[inline(always)]
+pub(crate) fn few_header(code: u8, n: usize) -> Option<Few>
+    requires code { code < 16 }
+    ensures few { IfSome result (λ f. length f ≤ 2) }
+    ensures octets { IfSome result (λ f. f ≡ header code n) }
+{
+    if n < 14 {
+        return Some(Few::one(16 * code + n as u8));
+    }
+    if n < 128 {
+        return Some(Few::one(128 + n as u8).behind(16 * code + 14));
+    }
+    None
+}
+
+/// The octets of a field's id, those of an annotation's in its wrapper, each 0 where there is none,
+/// and the first of a value, which has so many more: where the field's id has two octets at most, and
+/// what the annotation adds four.
+#[inline(always)]
+pub(crate) fn noted_front(front: &Few, more: usize, name: u32, note: u32) -> Option<Few>
+    requires few { length front.now ≤ 2 }
+    ensures octets { IfSome result (λ f. (x : List ℕ) → length x ≡ more
+        → f ++ x ≡ noted name note (front.now ++ x)) }
+{
+    let Some(inside) = wrapped_front(front, more, note) else {
+        return None;
+    };
+    if name == 0 {
+        return Some(inside);
+    }
+    if name < 128 {
+        return Some(inside.behind(128 + name as u8));
+    }
+    if name < 16_384 {
+        let last = inside.behind(128 + (name % 128) as u8);
+        return Some(last.behind((name / 128) as u8));
+    }
+    None
+}
+
+// The same without a field.
+#[inline(always)]
+fn wrapped_front(front: &Few, more: usize, note: u32) -> Option<Few>
+    requires few { length front.now ≤ 2 }
+    ensures few { IfSome result (λ f. length f ≤ 6) }
+    ensures octets { IfSome result (λ f. (x : List ℕ) → length x ≡ more
+        → f ++ x ≡ wrapped (counted_ids (name_octets note)) (front.now ++ x)) }
+{
+    if note == 0 {
+        return Some(front.same());
+    }
+    if note >= 128 || more >= 124 {
+        return None;
+    }
+    let inside = 2 + front.len() + more;
+    let ids = front.behind(128 + note as u8).behind(129);
+    if inside < 14 {
+        return Some(ids.behind(224 + inside as u8));
+    }
+    Some(ids.behind(128 + inside as u8).behind(238))
+}

@@ -1,0 +1,230 @@
+//! Plain scalars, which are put where there is room for them, the octets before a body as one block.
+ghost use Rattle.std.specs.Prelude.{◌≡◌, ◌^◌, ◌<◌, ◌≤◌, ◌∷◌, [], ◌++◌, true, false, if◌then◌else◌, length, take, None};
+ghost use Rattle.ion_value.specs.Number.{coefficient_octets, uint_octets};
+ghost use Rattle.ion_binary.specs.Canonical.{headed};
+ghost use Rattle.ion_binary.specs.Opening.{CanStep, IsOpen, Stepped, noted};
+
+use super::OpenValue;
+use crate::few::{Few, few_header, noted_front};
+use crate::header::header;
+use crate::scalar::Octets;
+use ion_meter::limits::Limits;
+use ion_meter::meter::Meter;
+use std::alloc::Allocator;
+
+impl<A: Allocator + Copy> OpenValue<A> {
+    /// Adds a scalar of one octet, as `put_octets` does.
+    #[inline(never)]
+    pub fn put_octet(
+        &mut self,
+        meter: &mut Meter<A>,
+        limits: &Limits,
+        name: u32,
+        note: u32,
+        octet: u8,
+    ) -> bool
+        requires can_step { CanStep limits.now self.old meter.old }
+        requires open { IsOpen limits.now self.old }
+        ensures octets { result ≡ true → self.new.octets
+            ≡ self.old.octets ++ noted name note (octet ∷ []) }
+        ensures headers { self.new.headers ≡ self.old.headers }
+        ensures open { result ≡ true → IsOpen limits.now self.new }
+        ensures declines { result ≡ false → (self.new ≡ self.old) × (meter.new ≡ meter.old) }
+        ensures stepped { Stepped limits.now self.old self.new meter.old meter.new None }
+    {
+        let front = Few::one(octet);
+        self.put_few(meter, limits, name, note, &front, [0; 8], 0)
+    }
+
+    /// The same of a scalar whose body is a number of 64 bits.
+    #[inline(never)]
+    pub fn put_number(
+        &mut self,
+        meter: &mut Meter<A>,
+        limits: &Limits,
+        name: u32,
+        note: u32,
+        code: u8,
+        n: u64,
+    ) -> bool
+        requires can_step { CanStep limits.now self.old meter.old }
+        requires open { IsOpen limits.now self.old }
+        requires code { code < 16 }
+        ensures octets { result ≡ true → self.new.octets
+            ≡ self.old.octets ++ noted name note (headed code (uint_octets n)) }
+        ensures headers { self.new.headers ≡ self.old.headers }
+        ensures open { result ≡ true → IsOpen limits.now self.new }
+        ensures declines { result ≡ false → (self.new ≡ self.old) × (meter.new ≡ meter.old) }
+        ensures stepped { Stepped limits.now self.old self.new meter.old meter.new None }
+    {
+        let zeros = n.leading_zeros() / 8;
+        let size = 8 - zeros as usize;
+        let front = Few::one(16 * code + size as u8);
+        let body = n.wrapping_shl(8 * zeros).to_be_bytes();
+        self.put_few(meter, limits, name, note, &front, body, size)
+    }
+
+    /// The same of a decimal that is not zero: the octet of its exponent, and a coefficient of 63 bits.
+    #[inline(never)]
+    pub fn put_decimal(
+        &mut self,
+        meter: &mut Meter<A>,
+        limits: &Limits,
+        name: u32,
+        note: u32,
+        exponent: u8,
+        negative: bool,
+        coefficient: u64,
+    ) -> bool
+        requires can_step { CanStep limits.now self.old meter.old }
+        requires open { IsOpen limits.now self.old }
+        requires some { 0 < coefficient }
+        requires most { coefficient < 2 ^ 63 }
+        ensures octets { result ≡ true → self.new.octets ≡ self.old.octets
+            ++ noted name note (headed 5 (exponent ∷ coefficient_octets negative coefficient)) }
+        ensures headers { self.new.headers ≡ self.old.headers }
+        ensures open { result ≡ true → IsOpen limits.now self.new }
+        ensures declines { result ≡ false → (self.new ≡ self.old) × (meter.new ≡ meter.old) }
+        ensures stepped { Stepped limits.now self.old self.new meter.old meter.new None }
+    {
+        let zeros = (coefficient.leading_zeros() - 1) / 8;
+        let size = 8 - zeros as usize;
+        let sign = sign_bit(negative);
+        let front = Few::one(exponent).behind(81 + size as u8);
+        let body = (coefficient.wrapping_shl(8 * zeros) + sign).to_be_bytes();
+        self.put_few(meter, limits, name, note, &front, body, size)
+    }
+
+    /// The same of a string.
+    #[inline(never)]
+    pub fn put_text(
+        &mut self,
+        meter: &mut Meter<A>,
+        limits: &Limits,
+        name: u32,
+        note: u32,
+        text: &[u8],
+    ) -> bool
+        requires can_step { CanStep limits.now self.old meter.old }
+        requires open { IsOpen limits.now self.old }
+        ensures octets { result ≡ true → self.new.octets
+            ≡ self.old.octets ++ noted name note (headed 8 text.now) }
+        ensures headers { self.new.headers ≡ self.old.headers }
+        ensures open { result ≡ true → IsOpen limits.now self.new }
+        ensures declines { result ≡ false → (self.new ≡ self.old) × (meter.new ≡ meter.old) }
+        ensures stepped { Stepped limits.now self.old self.new meter.old meter.new None }
+    {
+        let Some(header) = few_header(8, text.len()) else {
+            return self.put_long(meter, limits, name, note, text);
+        };
+        let Some(front) = noted_front(&header, text.len(), name, note) else {
+            return self.put_long(meter, limits, name, note, text);
+        };
+        if !self.surely_fits(*limits, front.len() + text.len(), 0) {
+            return false;
+        }
+        self.octets
+            .extend_block_if_room(meter, front.block(), front.len(), text)
+    }
+
+    // The same of one that is long, or behind long ids.
+    #[cold]
+    #[inline(never)]
+    fn put_long(
+        &mut self,
+        meter: &mut Meter<A>,
+        limits: &Limits,
+        name: u32,
+        note: u32,
+        text: &[u8],
+    ) -> bool
+        requires can_step { CanStep limits.now self.old meter.old }
+        requires open { IsOpen limits.now self.old }
+        ensures octets { result ≡ true → self.new.octets
+            ≡ self.old.octets ++ noted name note (headed 8 text.now) }
+        ensures headers { self.new.headers ≡ self.old.headers }
+        ensures open { result ≡ true → IsOpen limits.now self.new }
+        ensures declines { result ≡ false → (self.new ≡ self.old) × (meter.new ≡ meter.old) }
+        ensures stepped { Stepped limits.now self.old self.new meter.old meter.new None }
+    {
+        let before = header(8, text.len() as u64);
+        let octets = Octets {
+            front: before.as_slice(),
+            rest: text,
+        };
+        self.put_octets(meter, limits, name, note, &octets)
+    }
+
+    // The same of a scalar of these octets and the first of a body, so many.
+    #[inline(always)]
+    fn put_few(
+        &mut self,
+        meter: &mut Meter<A>,
+        limits: &Limits,
+        name: u32,
+        note: u32,
+        front: &Few,
+        body: [u8; 8],
+        size: usize,
+    ) -> bool
+        requires can_step { CanStep limits.now self.old meter.old }
+        requires open { IsOpen limits.now self.old }
+        requires few { length front.now ≤ 2 }
+        requires size { size ≤ 8 }
+        ensures octets { result ≡ true → self.new.octets
+            ≡ self.old.octets ++ noted name note (front.now ++ take size body) }
+        ensures headers { self.new.headers ≡ self.old.headers }
+        ensures open { result ≡ true → IsOpen limits.now self.new }
+        ensures declines { result ≡ false → (self.new ≡ self.old) × (meter.new ≡ meter.old) }
+        ensures stepped { Stepped limits.now self.old self.new meter.old meter.new None }
+    {
+        let Some(whole) = noted_front(front, size, name, note) else {
+            return self.put_behind_long(meter, limits, name, note, front, body, size);
+        };
+        if !self.surely_fits(*limits, 16, 0) {
+            return false;
+        }
+        self.octets
+            .extend_blocks_if_room(meter, whole.block(), whole.len(), body, size)
+    }
+
+    // The same behind long ids.
+    #[cold]
+    #[inline(never)]
+    fn put_behind_long(
+        &mut self,
+        meter: &mut Meter<A>,
+        limits: &Limits,
+        name: u32,
+        note: u32,
+        front: &Few,
+        body: [u8; 8],
+        size: usize,
+    ) -> bool
+        requires can_step { CanStep limits.now self.old meter.old }
+        requires open { IsOpen limits.now self.old }
+        requires few { length front.now ≤ 2 }
+        requires size { size ≤ 8 }
+        ensures octets { result ≡ true → self.new.octets
+            ≡ self.old.octets ++ noted name note (front.now ++ take size body) }
+        ensures headers { self.new.headers ≡ self.old.headers }
+        ensures open { result ≡ true → IsOpen limits.now self.new }
+        ensures declines { result ≡ false → (self.new ≡ self.old) × (meter.new ≡ meter.old) }
+        ensures stepped { Stepped limits.now self.old self.new meter.old meter.new None }
+    {
+        let first = front.block();
+        let octets = Octets {
+            front: &first[..front.len()],
+            rest: &body[..size],
+        };
+        self.put_octets(meter, limits, name, note, &octets)
+    }
+}
+
+// The sign of a number as the highest bit of a word.
+#[inline(always)]
+fn sign_bit(negative: bool) -> u64
+    ensures { result ≡ (if negative then 2 ^ 63 else 0) }
+{
+    if negative { 1 << 63 } else { 0 }
+}

@@ -1,0 +1,6 @@
+use Rattle.ion_text_in.proofs.QuickNumbers.{plain-mantissa}
+use Rattle.ion_text_in.proofs.quick.quick_mantissa.Goals as goal
+
+pub quick_power-requires-clause-mantissa : goal.quick_power-requires-clause-mantissa
+quick_power-requires-clause-mantissa c =
+    rw c.number_by.ensures (plain-mantissa c.args.digits.now c.args.count c.requires.whole)

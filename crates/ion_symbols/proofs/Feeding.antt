@@ -10,7 +10,7 @@ use Rattle.ion_value.specs.Name.{is_plain, is_simple}
 use Rattle.ion_value.specs.Value as value
 use Rattle.ion_value.specs.Value.{Symbol, SymbolAt, Scalar, Head, PlacedItem, map_head, map_scalar}
 use Rattle.ion_value.specs.Items.{named, named_at, named_item, text_or_id}
-use Rattle.ion_value.specs.PlainItems.{AreSimple, HasSimpleName, IsSimple, IsSimpleHead, IsSimpleText}
+use Rattle.ion_value.specs.PlainItems.{AreSimple, HasSimpleName, IsKnown, IsKnownHead, IsSimple, IsSimpleText}
 use Rattle.ion_value.specs.Feeding.{Joint, Hands, Feeds, nothing, more}
 use Rattle.ion_value.specs.Reading.{More}
 use Rattle.ion_value.specs.Shares.{Charges}
@@ -24,15 +24,22 @@ use Rattle.ion_symbols.proofs.UserTurns.{item_given, level_opens}
 
 -- ---- the symbols of a simple item are fine
 
-slot_fine : (id place : ℕ) (s : Slot) → IsSimpleText (text_or_id id (text_of_slot s)) → slot_checked true place s ≡ fine
-slot_fine id place (known t) simple = refl
-slot_fine id place unknown simple = absurd simple
-slot_fine id place gap simple = absurd simple
-slot_fine id place above simple = absurd simple
+slot_fine : (id place : ℕ) (s : Slot) → IsKnown (text_or_id id (text_of_slot s)) → slot_checked true place s ≡ fine
+slot_fine id place (known t) text = refl
+slot_fine id place unknown text = absurd text
+slot_fine id place gap text = absurd text
+slot_fine id place above text = absurd text
+
+known_fine : (t : Table) (place : ℕ) (s : Symbol) → IsKnown (named (text_at t) s) → symbol_checked t true place s ≡ fine
+known_fine t place (value.Text bytes) text = refl
+known_fine t place (value.Id id) text = slot_fine id place (slot_of t id) text
+
+simple_known : (s : Symbol) → IsSimpleText s → IsKnown s
+simple_known (value.Text bytes) simple = tt
+simple_known (value.Id id) simple = absurd simple
 
 symbol_fine : (t : Table) (place : ℕ) (s : Symbol) → IsSimpleText (named (text_at t) s) → symbol_checked t true place s ≡ fine
-symbol_fine t place (value.Text bytes) simple = refl
-symbol_fine t place (value.Id id) simple = slot_fine id place (slot_of t id) simple
+symbol_fine t place s simple = known_fine t place s (simple_known (named (text_at t) s) simple)
 
 field_fine : (t : Table) (field : Option SymbolAt) → HasSimpleName (option_map (named_at (text_at t)) field) → field_checked t true field ≡ fine
 field_fine t None simple = refl
@@ -42,13 +49,13 @@ all_fine : (t : Table) (ss : List SymbolAt) → AreSimple (map (named_at (text_a
 all_fine t [] simple = refl
 all_fine t (s ∷ ss) simple = rw (symbol_fine t s.place s.symbol simple.0) (all_fine t ss simple.1)
 
-head_fine : (t : Table) (head : Head SymbolAt) → IsSimpleHead (map_head (named_at (text_at t)) head) → head_checked t true head ≡ fine
+head_fine : (t : Table) (head : Head SymbolAt) → IsKnownHead (map_head (named_at (text_at t)) head) → head_checked t true head ≡ fine
 head_fine t (value.whole (value.null type)) simple = refl
 head_fine t (value.whole (value.bool truth)) simple = refl
 head_fine t (value.whole (value.int number)) simple = refl
 head_fine t (value.whole (value.decimal number)) simple = refl
 head_fine t (value.whole (value.timestamp moment)) simple = refl
-head_fine t (value.whole (value.symbol s)) simple = symbol_fine t s.place s.symbol simple
+head_fine t (value.whole (value.symbol s)) simple = known_fine t s.place s.symbol simple
 head_fine t (value.whole (value.string bytes)) simple = refl
 head_fine t (value.whole (value.clob bytes)) simple = refl
 head_fine t (value.whole (value.blob bytes)) simple = refl
@@ -63,7 +70,7 @@ item_fine t i simple =
 
 -- ---- and it is no marker and begins no declaration
 
-no_marker : (f : SymbolAt → SymbolAt) (head : Head SymbolAt) → IsSimpleHead (map_head f head) → is_marker head ≡ false
+no_marker : (f : SymbolAt → SymbolAt) (head : Head SymbolAt) → IsKnownHead (map_head f head) → is_marker head ≡ false
 no_marker f (value.whole body) simple = refl
 no_marker f (value.begin kind) simple = refl
 no_marker f value.end simple = refl

@@ -9,7 +9,7 @@ use Rattle.ion_value.specs.declared.ion_type.Kind.{Kind}
 use Rattle.ion_value.specs.Digits.{first_is}
 use Rattle.ion_value.specs.Name.{is_plain, is_version}
 use Rattle.ion_value.specs.Parts.{part, ◌>>=◌}
-use Rattle.ion_value.specs.PlainItems.{HasSimpleSymbol}
+use Rattle.ion_value.specs.PlainItems.{IsKnownScalar}
 use Rattle.ion_value.specs.Reading.{More}
 use Rattle.ion_value.specs.Standing.{InRange}
 use Rattle.ion_value.specs.Value as value
@@ -32,7 +32,7 @@ use Rattle.ion_text_in.proofs.FirstTokens.{no-colons}
 
 -- ---- scalars that are no text and no symbol
 
-pub head-plain : (limits : Limits) (place n : ℕ) (first : First) (body : Scalar SymbolAt) (bytes rest : List ℕ) → HasSimpleSymbol body → InRange body → rest ≡ drop n bytes → 0 < n → n ≤ length bytes
+pub head-plain : (limits : Limits) (place n : ℕ) (first : First) (body : Scalar SymbolAt) (bytes rest : List ℕ) → IsKnownScalar body → InRange body → rest ≡ drop n bytes → 0 < n → n ≤ length bytes
     → ((place : ℕ) (more : List ℕ) → token_of (Some limits.scalar) first (at place (bytes ++ more)) ≡ Ok (tokens.plain body, at (place + n) (drop n bytes ++ more)))
     → IsBare bytes → 0 < length bytes → ((in_sexp : Bool) (more : List ℕ) → first_at in_sexp (bytes ++ more) ≡ first) → IsHead limits place bytes (value.whole body) rest
 head-plain limits place n first body bytes rest simple range behind counts within shown bare some begins =

@@ -24,7 +24,7 @@ use Rattle.ion_text_in.specs.Expecting.{wanted, MayExpect}
 use Rattle.ion_text_in.specs.Quick.{as_quick}
 use Rattle.ion_text_in.specs.Scanners.{Shows}
 use Rattle.ion_text_in.specs.Views.{as_number, number_token}
-use Rattle.ion_value.specs.PlainItems.{HasSimpleSymbol}
+use Rattle.ion_value.specs.PlainItems.{IsKnownScalar}
 use Rattle.ion_value.specs.Standing.{InRange}
 use Rattle.ion_text_in.specs.Feeding.{expected_of, item_in, state, Begins, IsBare, IsBehind, IsHead, IsNext, IsStart, Onward, PassesBlanks}
 use Rattle.ion_text_in.specs.Meaning.{at}
@@ -255,7 +255,7 @@ head-begin limits place k bytes rest behind bare some begins =
       gives = λ kinds top q field annotations more few e. begin-gives limits place q k bytes bare some begins kinds top field annotations more few e;
     })
 
-pub number-simple : (x : Number) → HasSimpleSymbol (as_number x)
+pub number-simple : (x : Number) → IsKnownScalar (as_number x)
 number-simple (numbers.Int i) = tt
 number-simple (numbers.Decimal d) = tt
 number-simple (numbers.Timestamp t) = tt

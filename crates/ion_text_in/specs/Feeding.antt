@@ -11,7 +11,7 @@ use Rattle.ion_value.specs.declared.writer.ValueWriter.{Ghosts as WriterOf}
 use Rattle.ion_value.specs.Feeding.{CanTake, Feeds, Joint, StaysWell}
 use Rattle.ion_value.specs.Items.{named_item, raw_head}
 use Rattle.ion_value.specs.Parts.{Placed}
-use Rattle.ion_value.specs.PlainItems.{listed, placed_text, AreSimple, HasSimpleName, IsSimpleHead, IsTextOf}
+use Rattle.ion_value.specs.PlainItems.{listed, placed_text, AreSimple, HasSimpleName, IsKnownHead, IsTextOf}
 use Rattle.ion_value.specs.Reading.{More}
 use Rattle.ion_value.specs.Shares.{Charges}
 use Rattle.ion_value.specs.Standing.{open_after, in_struct, has_field, is_marker, HasPlace, HeadInRange, WritesWithin}
@@ -177,7 +177,7 @@ pub record IsStart (limits : Limits) (spot : Spot) (place : ℕ) (start : Start)
 pub record IsHead (limits : Limits) (place : ℕ) (bytes : List ℕ) (head : Head SymbolAt) (rest : List ℕ) : Type 0 where
   pub part : IsBehind bytes rest
   pub fewer : length rest < length bytes
-  pub simple : IsSimpleHead head
+  pub simple : IsKnownHead head
   pub range : HeadInRange head
   pub member : (kinds : List Kind) → has_field kinds head ≡ in_struct kinds
   pub value : is_marker head ≡ false

@@ -22,7 +22,7 @@ use crate::word::{Word, scan_simple, simple_word};
 use comments::behind_blanks;
 use copies::{limits_for_call, spot_for_call, start_for_call};
 use heads::{
-    begin_head, decimal_head, int_head, scan_head, spelled_quick, string_head, symbol_head, token,
+    begin_head, begins_quoted, decimal_head, int_head, scan_head, spelled_quick, string_head, symbol_head, token,
 };
 use ion_meter::device::Output;
 use ion_meter::limits::Limits;
@@ -753,6 +753,7 @@ fn value<'a, W: ValueWriter<O, A>, O: Output, A: Allocator + Copy>(
                 at, start, found, kind, limits, end, kinds, meter, writer, sink,
             )
         }
+        _ if begins_quoted(start.next.rest) => rare(at, start, limits, end, kinds, meter, writer, sink),
         _ => false,
     }
 }

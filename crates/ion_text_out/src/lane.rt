@@ -7,7 +7,7 @@ ghost use Rattle.ion_text_out.specs.Text.{end_text, opener};
 ghost use Rattle.ion_text_out.specs.Lane.{plain_front, plain_name, plain_note, plain_scalar, text_in};
 
 use crate::between::{before, behind, behind_end, closing, opener};
-use crate::quote::stands_in_string;
+use crate::quote::{stands_in_string, stands_in_symbol};
 use ion_meter::device::Output;
 use ion_meter::sink::Sink;
 use ion_value::ion_type::Kind;
@@ -170,6 +170,35 @@ pub fn put_string<O: Output, A: Allocator + Copy>(
     sink.put_byte(b'"');
     sink.put_within(text);
     sink.put_byte(b'"');
+    put_mark(sink, behind(kinds));
+    true
+}
+
+/// Puts a string that has no escapes, as `put_scalar` does.
+#[inline(always)]
+pub fn put_quoted_symbol<O: Output, A: Allocator + Copy>(
+    sink: &mut Sink<O, A>,
+    kinds: &[Kind],
+    empty: bool,
+    name: &[u8],
+    note: &[u8],
+    text: &[u8],
+) -> bool
+    ensures declines { result ≡ false → sink.new ≡ sink.old }
+    ensures puts { result ≡ true → sink.new ≡ record sink.old {
+      pending = sink.old.pending ++ plain_scalar (shown kinds.now empty) name.now note.now
+          (between_quotes 39 256 text.now);
+    } }
+{
+    if !has_room(sink, name, note, text.len() + 2) || !stands_in_symbol(text) {
+        return false;
+    }
+    put_mark(sink, before(kinds, empty));
+    put_name(sink, name);
+    put_note(sink, note);
+    sink.put_byte(b'\'');
+    sink.put_within(text);
+    sink.put_byte(b'\'');
     put_mark(sink, behind(kinds));
     true
 }

@@ -121,6 +121,12 @@ pub fn stands_in_string(bytes: &[u8]) -> bool
     true
 }
 
+/// The same of a symbol.
+#[inline]
+pub fn stands_in_symbol(bytes: &[u8]) -> bool {
+    shown_run(b'\'', 256, bytes) == bytes.len()
+}
+
 // Whether each of a few bytes stands for itself in a string.
 #[inline(always)]
 fn few_in_string(bytes: &[u8]) -> bool

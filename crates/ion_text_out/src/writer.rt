@@ -22,7 +22,9 @@ ghost use Rattle.ion_text_out.specs.Written.{text_grows, text-within};
 
 use crate::between::before;
 use crate::item::put_item;
-use crate::lane::{has_room, put_begin, put_end, put_int, put_scalar, put_string, text_in};
+use crate::lane::{
+    has_room, put_begin, put_end, put_int, put_quoted_symbol, put_scalar, put_string, text_in,
+};
 use crate::scalar::{bool_text, null};
 use ion_meter::device::Output;
 use ion_meter::fault::Fault;
@@ -34,6 +36,7 @@ use ion_value::decimal::{Decimal, decimal_to_text};
 use ion_value::int::Int;
 use ion_value::ion_type::Kind;
 use ion_value::item::{Head, Item, Sym};
+use ion_value::name::is_plain;
 use ion_value::names::Names;
 use ion_value::plain_item::PlainItem;
 use ion_value::timestamp::{Timestamp, timestamp_to_text};
@@ -168,8 +171,8 @@ impl<A: Allocator + Copy> TextWriter<A> {
         true
     }
 
-    // A symbol whose text is simple.
-    #[inline(always)]
+    // A symbol.
+    #[inline(never)]
     fn take_symbol<O: Output>(
         &mut self,
         sink: &mut Sink<O, A>,
@@ -177,7 +180,6 @@ impl<A: Allocator + Copy> TextWriter<A> {
         note: &[u8],
         symbol: Sym<'_>,
     ) -> bool
-        requires { IsSimpleText (symbol_of symbol) }
         ensures declines { result ≡ false → (self.new ≡ self.old) × (sink.new ≡ sink.old) }
         ensures puts { result ≡ true → sink.new ≡ record sink.old {
           pending = sink.old.pending ++ plain_scalar (opened_in self.old) name.now note.now
@@ -186,7 +188,14 @@ impl<A: Allocator + Copy> TextWriter<A> {
         ensures behind { result ≡ true → self.new ≡ record self.old { empty = false } }
     {
         match symbol {
-            Sym::Text(text) => self.take_text(sink, name, note, text),
+            Sym::Text(text) if is_plain(text) => self.take_text(sink, name, note, text),
+            Sym::Text(text) => {
+                if !put_quoted_symbol(sink, self.kinds.as_slice(), self.empty, name, note, text) {
+                    return false;
+                }
+                self.empty = false;
+                true
+            }
             Sym::Id(_) => false,
         }
     }

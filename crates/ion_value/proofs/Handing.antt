@@ -9,31 +9,35 @@ use Rattle.ion_value.specs.declared.writer.ValueWriter.{Ghosts as WriterOf}
 use Rattle.ion_value.specs.Feeding.{CanTake, Feeds, nothing, more, Hands, Joint, StaysWell}
 use Rattle.ion_value.specs.Items.{named, named_at, named_item}
 use Rattle.ion_value.specs.Outcome.{one_if_closed}
-use Rattle.ion_value.specs.PlainItems.{AreSimple, HasSimpleName, HasSimpleSymbol, IsSimple, IsSimpleHead, IsSimpleText}
+use Rattle.ion_value.specs.PlainItems.{AreSimple, HasSimpleName, IsKnown, IsKnownHead, IsKnownScalar, IsSimple, IsSimpleText}
 use Rattle.ion_value.specs.Reading.{Finished, Reading, More}
 use Rattle.ion_value.specs.Standing.{open_after, open_behind, is_marker, Continues, Fits}
 use Rattle.ion_value.specs.Value as value
 use Rattle.ion_value.specs.Value.{Symbol, SymbolAt, Scalar, Head, PlacedItem, map_head, map_scalar}
 use Rattle.ion_value.proofs.Outcomes.{open_behind-append}
 
--- ---- simple texts keep their names
+-- ---- texts stay as they are
 
-symbol-kept : (texts : ℕ → Option (List ℕ)) (s : Symbol) → IsSimpleText s → named texts s ≡ s
-symbol-kept texts (value.Text bytes) simple = refl
-symbol-kept texts (value.Id id) simple = absurd simple
+symbol-kept : (texts : ℕ → Option (List ℕ)) (s : Symbol) → IsKnown s → named texts s ≡ s
+symbol-kept texts (value.Text bytes) text = refl
+symbol-kept texts (value.Id id) text = absurd text
 
-at-kept : (texts : ℕ → Option (List ℕ)) (s : SymbolAt) → IsSimpleText s.symbol → named_at texts s ≡ s
-at-kept texts s simple = ap (λ (x : Symbol). record { symbol = x; place = s.place }) (symbol-kept texts s.symbol simple)
+simple-text : (s : Symbol) → IsSimpleText s → IsKnown s
+simple-text (value.Text bytes) simple = tt
+simple-text (value.Id id) simple = absurd simple
+
+at-kept : (texts : ℕ → Option (List ℕ)) (s : SymbolAt) → IsKnown s.symbol → named_at texts s ≡ s
+at-kept texts s text = ap (λ (x : Symbol). record { symbol = x; place = s.place }) (symbol-kept texts s.symbol text)
 
 name-kept : (texts : ℕ → Option (List ℕ)) (field : Option SymbolAt) → HasSimpleName field → option_map (named_at texts) field ≡ field
 name-kept texts None simple = refl
-name-kept texts (Some s) simple = ap (λ (x : SymbolAt). Some x) (at-kept texts s simple)
+name-kept texts (Some s) simple = ap (λ (x : SymbolAt). Some x) (at-kept texts s (simple-text s.symbol simple))
 
 all-kept : (texts : ℕ → Option (List ℕ)) (ss : List SymbolAt) → AreSimple ss → map (named_at texts) ss ≡ ss
 all-kept texts [] simple = refl
-all-kept texts (s ∷ ss) simple = ap (λ (x : SymbolAt). x ∷ map (named_at texts) ss) (at-kept texts s simple.0) ∙ ap (λ (l : List SymbolAt). s ∷ l) (all-kept texts ss simple.1)
+all-kept texts (s ∷ ss) simple = ap (λ (x : SymbolAt). x ∷ map (named_at texts) ss) (at-kept texts s (simple-text s.symbol simple.0)) ∙ ap (λ (l : List SymbolAt). s ∷ l) (all-kept texts ss simple.1)
 
-head-kept : (texts : ℕ → Option (List ℕ)) (head : Head SymbolAt) → IsSimpleHead head → map_head (named_at texts) head ≡ head
+head-kept : (texts : ℕ → Option (List ℕ)) (head : Head SymbolAt) → IsKnownHead head → map_head (named_at texts) head ≡ head
 head-kept texts (value.whole (value.null type)) simple = refl
 head-kept texts (value.whole (value.bool truth)) simple = refl
 head-kept texts (value.whole (value.int number)) simple = refl

@@ -1,4 +1,4 @@
--- What is seen of plain items: those whose symbols are simple texts.
+-- What is seen of plain items: those whose names and annotations are simple texts.
 use Rattle.std.specs.Prelude.{◌≡◌, ℕ, true, List, [], ◌∷◌, Option, Some, None, option_map, IfSome, ⊤}
 use Rattle.ion_value.specs.declared.plain_item.TextAt.{TextAt}
 use Rattle.ion_value.specs.declared.plain_item.PlainItem.{PlainItem}
@@ -28,7 +28,7 @@ placed_item item = record {
   top = item.top;
 }
 
--- ---- items whose symbols are simple texts
+-- ---- items whose names and annotations are simple texts
 
 -- a symbol is a simple text
 abbrev pub IsSimpleText : Symbol → Type 0
@@ -45,38 +45,49 @@ abbrev pub AreSimple : List SymbolAt → Type 0
 AreSimple [] = ⊤
 AreSimple (s ∷ ss) = IsSimpleText s.symbol × AreSimple ss
 
+-- a symbol is a text
+abbrev pub IsKnown : Symbol → Type 0
+IsKnown (Text bytes) = ⊤
+IsKnown (Id id) = ⊥
+
 -- so is a scalar that is a symbol
-abbrev pub HasSimpleSymbol : Scalar SymbolAt → Type 0
-HasSimpleSymbol (null type) = ⊤
-HasSimpleSymbol (bool truth) = ⊤
-HasSimpleSymbol (int number) = ⊤
-HasSimpleSymbol (decimal number) = ⊤
-HasSimpleSymbol (timestamp moment) = ⊤
-HasSimpleSymbol (symbol s) = IsSimpleText s.symbol
-HasSimpleSymbol (string bytes) = ⊤
-HasSimpleSymbol (clob bytes) = ⊤
-HasSimpleSymbol (blob bytes) = ⊤
+abbrev pub IsKnownScalar : Scalar SymbolAt → Type 0
+IsKnownScalar (null type) = ⊤
+IsKnownScalar (bool truth) = ⊤
+IsKnownScalar (int number) = ⊤
+IsKnownScalar (decimal number) = ⊤
+IsKnownScalar (timestamp moment) = ⊤
+IsKnownScalar (symbol s) = IsKnown s.symbol
+IsKnownScalar (string bytes) = ⊤
+IsKnownScalar (clob bytes) = ⊤
+IsKnownScalar (blob bytes) = ⊤
 
 -- the same of a head that is no version marker
-abbrev pub IsSimpleHead : Head SymbolAt → Type 0
-IsSimpleHead (whole body) = HasSimpleSymbol body
-IsSimpleHead (begin kind) = ⊤
-IsSimpleHead end = ⊤
-IsSimpleHead marker = ⊥
+abbrev pub IsKnownHead : Head SymbolAt → Type 0
+IsKnownHead (whole body) = IsKnownScalar body
+IsKnownHead (begin kind) = ⊤
+IsKnownHead end = ⊤
+IsKnownHead marker = ⊥
 
--- all symbols of an item are simple texts, and it is no version marker
+-- an item's name and annotations are simple texts, a symbol that it is is a text, and it is no version marker
 pub record IsSimple (item : PlacedItem) : Type 0 where
   pub field : HasSimpleName item.field
   pub annotations : AreSimple item.annotations
-  pub head : IsSimpleHead item.head
+  pub head : IsKnownHead item.head
 
 -- ---- items that come with a text
 
--- a text is the canonical one of an int, a decimal or a timestamp
+-- a symbol is a simple text, which is its own canonical text
+abbrev pub IsOwnText : List ℕ → Symbol → Type 0
+IsOwnText text (Text bytes) = (is_simple bytes ≡ true) × (text ≡ bytes)
+IsOwnText text (Id id) = ⊥
+
+-- a text is the canonical one of an int, a decimal, a timestamp or a simple symbol
 abbrev pub IsTextOf : List ℕ → Head SymbolAt → Type 0
 IsTextOf text (whole (int number)) = text ≡ int_text number
 IsTextOf text (whole (decimal number)) = text ≡ decimal_text number
 IsTextOf text (whole (timestamp moment)) = text ≡ timestamp_text moment
+IsTextOf text (whole (symbol s)) = IsOwnText text s.symbol
 IsTextOf text _ = ⊥
 
 -- the text that an item comes with, if there is one, is the canonical text of its head

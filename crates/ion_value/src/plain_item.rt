@@ -1,4 +1,5 @@
-//! Items whose symbols are simple texts: what most items are, and what is copied with the fewest steps.
+//! Items whose names and annotations are simple texts: what most items are, and what is copied with the
+//! fewest steps.
 
 use crate::item::Head;
 
@@ -11,9 +12,9 @@ pub struct TextAt<'a> {
     pub place: u64,
 }
 
-/// An item of a user value that has one annotation at most, with all its symbols as simple texts:
-/// identifiers that mean nothing else and do not begin with a dollar sign. Names have a lifetime of
-/// their own, since they may stand in a symbol table.
+/// An item of a user value that has one annotation at most. Its name and its annotation are simple
+/// texts: identifiers that mean nothing else and do not begin with a dollar sign. A symbol that it is
+/// is any text, and no id. Names have a lifetime of their own, since they may stand in a symbol table.
 #[derive(Clone, Copy)]
 pub struct PlainItem<'n, 'h> {
     /// The field's name, inside a struct.
@@ -22,7 +23,8 @@ pub struct PlainItem<'n, 'h> {
     pub annotation: Option<TextAt<'n>>,
     /// What the item is.
     pub head: Head<'h>,
-    /// The head's canonical text, where a reader has it.
+    /// The head's canonical text, where a reader has it: that of an int, a decimal, a timestamp, or a
+    /// symbol whose text is simple.
     pub spelled: Option<&'h [u8]>,
     /// The place of the head's first byte in the input.
     pub place: u64,

@@ -1,7 +1,7 @@
 //! Items that lie whole in the window, handed to a writer.
 ghost use Rattle.std.specs.Prelude.{◌≡◌, ◌+◌, ◌*◌, ◌-◌, ◌^◌, ◌<◌, ◌≤◌, get_or, length, false, true, Option, Some, None, IfSome, map};
 ghost use Rattle.ion_value.specs.Items.{named_at, named_item, raw_head};
-ghost use Rattle.ion_value.specs.PlainItems.{HasSimpleName, IsSimpleHead};
+ghost use Rattle.ion_value.specs.PlainItems.{HasSimpleName, IsKnownHead};
 ghost use Rattle.ion_binary.specs.Lane.{CanHand, EndsHere, GoesOn, HandsItem, HandsNothing, HandsOn, IsAround, KeepsOn, FillsTo, ShowsField, ShowsFront, frame_in, inner_region};
 ghost use Rattle.ion_value.specs.Feeding.{CanTake};
 ghost use Rattle.ion_binary.specs.Steps.{IsSized, IsSound, held_by, left_to, opened_in};
@@ -95,26 +95,30 @@ fn shown_field<'n, N: Names>(
 
 // A scalar as a head, where it is no symbol without a simple text.
 #[inline(always)]
-fn shown_head<'h, N: Names>(scalar: ShownScalar<'h>, place: u64, names: &'h N) -> Option<Head<'h>>
+fn shown_head<'h, N: Names>(scalar: ShownScalar<'h>, place: u64, names: &'h N) -> Option<(Head<'h>, Option<&'h [u8]>)>
     ensures head { IfSome result (λ h. raw_head h ≡ map_head (named_at (N.text names.entry.now))
         (whole (placed_scalar place (shown_scalar scalar.entry)))) }
-    ensures simple { IfSome result (λ h. IsSimpleHead (raw_head h)) }
+    ensures simple { IfSome result (λ h. IsKnownHead (raw_head h)) }
 {
     match scalar {
-        ShownScalar::Null(of) => Some(Head::Null(of)),
-        ShownScalar::Bool(truth) => Some(Head::Bool(truth)),
-        ShownScalar::Int(int) => Some(Head::Int(int)),
-        ShownScalar::Decimal(decimal) => Some(Head::Decimal(decimal)),
-        ShownScalar::Timestamp(moment) => Some(Head::Timestamp(moment)),
-        ShownScalar::String(text) => Some(Head::String(text)),
+        ShownScalar::Null(of) => Some((Head::Null(of), None)),
+        ShownScalar::Bool(truth) => Some((Head::Bool(truth), None)),
+        ShownScalar::Int(int) => Some((Head::Int(int), None)),
+        ShownScalar::Decimal(decimal) => Some((Head::Decimal(decimal), None)),
+        ShownScalar::Timestamp(moment) => Some((Head::Timestamp(moment), None)),
+        ShownScalar::String(text) => Some((Head::String(text), None)),
         ShownScalar::Symbol(id) => {
-            let Some(text) = names.simple_text(id) else {
-                return None;
+            let (text, spelled) = match names.simple_text(id) {
+                Some(text) => (text, Some(text)),
+                None => match names.text_of(id) {
+                    Some(text) => (text, None),
+                    None => return None,
+                },
             };
-            Some(Head::Symbol(SymAt {
+            Some((Head::Symbol(SymAt {
                 sym: Sym::Text(text),
                 place,
-            }))
+            }), spelled))
         }
     }
 }
@@ -678,10 +682,11 @@ impl<I: Input, A: Allocator + Copy> BinReader<I, A> {
         let top = top_at(*around, self.top, here);
         match found {
             Shown::Scalar(scalar) => {
-                let Some(head) = shown_head(scalar, place, names) else {
+                let Some((head, spelled)) = shown_head(scalar, place, names) else {
                     return false;
                 };
-                let item = item_behind(front, head, place, top);
+                let mut item = item_behind(front, head, place, top);
+                item.spelled = spelled;
                 if !writer.take_plain(meter, sink, item) {
                     return false;
                 }

@@ -27,6 +27,9 @@ pub(super) fn scan_head<'a>(limits: Limits, place: u64, next: Next<'a>) -> Optio
     requires begins { Begins next }
     ensures { IfSome result (IsFound limits place next.entry.rest.now) }
 {
+    if begins_quoted(next.rest) {
+        return quoted_head(limits, place, next.rest);
+    }
     match token(next) {
         Some(First::Word) => word_head(limits, place, next.rest),
         Some(First::Number) => number_head(limits, place, next.rest),
@@ -215,9 +218,33 @@ pub(super) fn symbol_head<'a>(
     };
     Some(Found {
         head: Head::Symbol(name),
-        spelled: None,
+        spelled: Some(front(count, bytes)),
         rest,
     })
+}
+
+/// A symbol in quotes of plain bytes alone, where a token is told behind it that is no two colons.
+#[inline(never)]
+pub(super) fn quoted_head<'a>(limits: Limits, place: u64, bytes: &'a [u8]) -> Option<Found<'a>> {
+    let text = behind(1, bytes);
+    match scan_text(Quote::Symbol, limits.scalar, text) {
+        Scanned::Whole(plain, count) => {
+            let rest = behind(count, text);
+            if next_told(rest).told == 0 {
+                return None;
+            }
+            let name = SymAt {
+                sym: Sym::Text(front(plain, text)),
+                place,
+            };
+            Some(Found {
+                head: Head::Symbol(name),
+                spelled: None,
+                rest,
+            })
+        }
+        _ => None,
+    }
 }
 
 /// The kind of token that begins so, where it begins an item that may be handed on.
@@ -235,5 +262,14 @@ pub(super) fn token(next: Next<'_>) -> Option<First>
         6 => Some(First::Begin(Kind::Sexp)),
         10 => Some(First::Begin(Kind::Struct)),
         _ => None,
+    }
+}
+
+/// Whether a symbol in quotes begins here that has a byte.
+#[inline(always)]
+pub(super) fn begins_quoted(bytes: &[u8]) -> bool {
+    match bytes {
+        [b'\'', next, ..] => *next != b'\'',
+        _ => false,
     }
 }

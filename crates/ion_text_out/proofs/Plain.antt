@@ -6,11 +6,12 @@ use Rattle.ion_value.specs.Name.{is_plain, is_simple}
 use Rattle.ion_value.specs.Value as v
 use Rattle.ion_value.specs.Value.{PlacedItem, SymbolAt, Symbol, map_head, map_scalar, user_symbol, user_symbol_at, user_item}
 use Rattle.ion_value.specs.Items.{raw_head}
-use Rattle.ion_value.specs.PlainItems.{AreSimple, HasSimpleName, IsSimple, IsSimpleText, IsTextOf, listed, placed_item, placed_text}
+use Rattle.ion_value.specs.PlainItems.{AreSimple, HasSimpleName, IsSimple, IsOwnText, IsTextOf, listed, placed_item, placed_text}
 use Rattle.ion_value.specs.declared.ion_type.Kind.{Kind}
 use Rattle.ion_value.specs.declared.ion_type.Kind.TheVariants as kind
 use Rattle.ion_value.specs.declared.plain_item.TextAt.{TextAt}
 use Rattle.ion_value.specs.declared.plain_item.PlainItem.{PlainItem}
+use Rattle.ion_text_out.specs.Escape.{between_quotes}
 use Rattle.ion_text_out.specs.Text.{Open, annotation_text, before_item, behind_value, field_text, item_text, opener, scalar_text, symbol_text}
 use Rattle.ion_meter.specs.declared.limits.Limits.{Limits}
 use Rattle.ion_text_out.specs.Writing.{behind_end, closing, shown, text_adds, Shows}
@@ -24,9 +25,18 @@ both-left false b e = absurd (cc e)
 pub simple_text : (bytes : List ℕ) → is_simple bytes ≡ true → symbol_text (v.Known bytes) ≡ bytes
 simple_text bytes simple = let plain : is_plain bytes ≡ true = both-left (is_plain bytes) _ simple in rw plain refl
 
-pub simple_symbol : (s : Symbol) (bytes : List ℕ) → s ≡ v.Text bytes → IsSimpleText s → symbol_text (user_symbol s) ≡ bytes
-simple_symbol (v.Text b) bytes e simple = simple_text b simple ∙ cc e
-simple_symbol (v.Id id) bytes e simple = absurd simple
+-- so does the text of a symbol that is a plain one
+pub plain_symbol : (s : Symbol) (bytes : List ℕ) → s ≡ v.Text bytes → is_plain bytes ≡ true → symbol_text (user_symbol s) ≡ bytes
+plain_symbol s bytes is plain = rw (is, plain) refl
+
+-- and any other between quotes
+pub quoted_symbol : (s : Symbol) (bytes : List ℕ) → s ≡ v.Text bytes → is_plain bytes ≡ false → symbol_text (user_symbol s) ≡ between_quotes 39 256 bytes
+quoted_symbol s bytes is plain = rw (is, plain) refl
+
+-- a symbol's own text is what is put of it
+own_text : (text : List ℕ) (s : Symbol) → IsOwnText text s → text ≡ symbol_text (user_symbol s)
+own_text text (v.Text bytes) is = is.1 ∙ sym (simple_text bytes is.0)
+own_text text (v.Id id) is = absurd is
 
 -- and it has a byte
 named : (bytes : List ℕ) → is_simple bytes ≡ true → bytes ++ codes ":" ≡ plain_name bytes
@@ -63,7 +73,7 @@ spelled_body text (v.whole (v.decimal number)) is = (v.decimal number, refl, is)
 spelled_body text (v.whole (v.timestamp moment)) is = (v.timestamp moment, refl, is)
 spelled_body text (v.whole (v.null type)) is = absurd is
 spelled_body text (v.whole (v.bool truth)) is = absurd is
-spelled_body text (v.whole (v.symbol s)) is = absurd is
+spelled_body text (v.whole (v.symbol s)) is = (v.symbol s, refl, own_text text s.symbol is)
 spelled_body text (v.whole (v.string bytes)) is = absurd is
 spelled_body text (v.whole (v.clob bytes)) is = absurd is
 spelled_body text (v.whole (v.blob bytes)) is = absurd is

@@ -145,6 +145,36 @@ pub fn put_int<O: Output, A: Allocator + Copy>(
     true
 }
 
+// Puts a text as it stands between two quotes, as `put_scalar` does.
+#[inline(always)]
+fn put_between<O: Output, A: Allocator + Copy>(
+    sink: &mut Sink<O, A>,
+    kinds: &[Kind],
+    empty: bool,
+    name: &[u8],
+    note: &[u8],
+    quote: u8,
+    text: &[u8],
+) -> bool
+    ensures declines { result ≡ false → sink.new ≡ sink.old }
+    ensures puts { result ≡ true → sink.new ≡ record sink.old {
+      pending = sink.old.pending ++ plain_scalar (shown kinds.now empty) name.now note.now
+          (quote ∷ (text.now ++ quote ∷ []));
+    } }
+{
+    if !has_room(sink, name, note, text.len() + 2) {
+        return false;
+    }
+    put_mark(sink, before(kinds, empty));
+    put_name(sink, name);
+    put_note(sink, note);
+    sink.put_byte(quote);
+    sink.put_within(text);
+    sink.put_byte(quote);
+    put_mark(sink, behind(kinds));
+    true
+}
+
 /// Puts a string that has no escapes, as `put_scalar` does.
 #[inline(always)]
 pub fn put_string<O: Output, A: Allocator + Copy>(
@@ -161,20 +191,13 @@ pub fn put_string<O: Output, A: Allocator + Copy>(
           (between_quotes 34 256 text.now);
     } }
 {
-    if !has_room(sink, name, note, text.len() + 2) || !stands_in_string(text) {
+    if !stands_in_string(text) {
         return false;
     }
-    put_mark(sink, before(kinds, empty));
-    put_name(sink, name);
-    put_note(sink, note);
-    sink.put_byte(b'"');
-    sink.put_within(text);
-    sink.put_byte(b'"');
-    put_mark(sink, behind(kinds));
-    true
+    put_between(sink, kinds, empty, name, note, b'"', text)
 }
 
-/// Puts a string that has no escapes, as `put_scalar` does.
+/// Puts a symbol between quotes that has no escapes, as `put_scalar` does.
 #[inline(always)]
 pub fn put_quoted_symbol<O: Output, A: Allocator + Copy>(
     sink: &mut Sink<O, A>,
@@ -190,17 +213,10 @@ pub fn put_quoted_symbol<O: Output, A: Allocator + Copy>(
           (between_quotes 39 256 text.now);
     } }
 {
-    if !has_room(sink, name, note, text.len() + 2) || !stands_in_symbol(text) {
+    if !stands_in_symbol(text) {
         return false;
     }
-    put_mark(sink, before(kinds, empty));
-    put_name(sink, name);
-    put_note(sink, note);
-    sink.put_byte(b'\'');
-    sink.put_within(text);
-    sink.put_byte(b'\'');
-    put_mark(sink, behind(kinds));
-    true
+    put_between(sink, kinds, empty, name, note, b'\'', text)
 }
 
 /// Puts the beginning of a container behind a separator or nothing, for which there is room.

@@ -121,10 +121,16 @@ pub fn stands_in_string(bytes: &[u8]) -> bool
     true
 }
 
-/// The same of a symbol.
+/// Whether those of a symbol between quotes do.
 #[inline]
-pub fn stands_in_symbol(bytes: &[u8]) -> bool {
-    shown_run(b'\'', 256, bytes) == bytes.len()
+pub fn stands_in_symbol(bytes: &[u8]) -> bool
+    ensures { result ≡ true → between_quotes 39 256 bytes.now ≡ 39 ∷ (bytes.now ++ 39 ∷ []) }
+{
+    let shown = shown_run(b'\'', 256, bytes);
+    if shown < bytes.len() {
+        return false;
+    }
+    true
 }
 
 // Whether each of a few bytes stands for itself in a string.

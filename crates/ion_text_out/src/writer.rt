@@ -9,7 +9,7 @@ ghost use Rattle.ion_value.specs.Decimal.{IsDecimal, decimal_text};
 ghost use Rattle.ion_value.specs.Timestamp.{IsTimestamp, timestamp_text};
 ghost use Rattle.ion_value.specs.Int.{int_text};
 ghost use Rattle.ion_value.specs.Items.{raw_head, item_of, symbol_of};
-ghost use Rattle.ion_value.specs.PlainItems.{IsSimpleText};
+ghost use Rattle.ion_value.specs.PlainItems.{IsKnown};
 ghost use Rattle.ion_value.specs.Shares.{MemoryCauses, WriteCauses, fault_of};
 ghost use Rattle.ion_text_out.specs.Escape.{between_quotes};
 ghost use Rattle.ion_text_out.specs.Text.{end_text, open_after, opener, symbol_text, with_member};
@@ -187,17 +187,37 @@ impl<A: Allocator + Copy> TextWriter<A> {
         } }
         ensures behind { result ≡ true → self.new ≡ record self.old { empty = false } }
     {
-        match symbol {
-            Sym::Text(text) if is_plain(text) => self.take_text(sink, name, note, text),
-            Sym::Text(text) => {
-                if !put_quoted_symbol(sink, self.kinds.as_slice(), self.empty, name, note, text) {
-                    return false;
-                }
-                self.empty = false;
-                true
-            }
-            Sym::Id(_) => false,
+        let Sym::Text(text) = symbol else {
+            return false;
+        };
+        if is_plain(text) {
+            self.take_text(sink, name, note, text)
+        } else {
+            self.take_quoted(sink, name, note, text)
         }
+    }
+
+    // A symbol between quotes that has no escapes.
+    #[inline(always)]
+    fn take_quoted<O: Output>(
+        &mut self,
+        sink: &mut Sink<O, A>,
+        name: &[u8],
+        note: &[u8],
+        text: &[u8],
+    ) -> bool
+        ensures declines { result ≡ false → (self.new ≡ self.old) × (sink.new ≡ sink.old) }
+        ensures puts { result ≡ true → sink.new ≡ record sink.old {
+          pending = sink.old.pending ++ plain_scalar (opened_in self.old) name.now note.now
+              (between_quotes 39 256 text.now);
+        } }
+        ensures behind { result ≡ true → self.new ≡ record self.old { empty = false } }
+    {
+        if !put_quoted_symbol(sink, self.kinds.as_slice(), self.empty, name, note, text) {
+            return false;
+        }
+        self.empty = false;
+        true
     }
 
     // An int.

@@ -1,24 +1,13 @@
-use Rattle.std.proofs.Common.{ℕ, length, ap, arith}
-use Rattle.std.proofs.lemmas.List.{length-append}
+use Rattle.std.proofs.Common.{◌≡◌, ℕ, List, ◌∷◌, [], ◌++◌, sym, subst}
+use Rattle.ion_text_out.specs.Escape.{between_quotes}
+use Rattle.ion_text_out.specs.Lane.{plain_scalar}
 use Rattle.ion_text_out.specs.Writing.{shown}
-use Rattle.ion_text_out.proofs.Plain.{before-short, behind-short}
 use Rattle.ion_text_out.proofs.lane.put_string.Goals as goal
 
-pub put_mark-requires-2 : goal.put_mark-requires-2
-put_mark-requires-2 g c =
-    let cs = shown c.args.kinds.now c.args.empty in
-    omega (
-      arith,
-      ap length c.before-2.ensures,
-      before-short cs,
-      ap length (c.behind.ensures c.args.empty),
-      behind-short cs,
-      c.has_room.ensures c.if-not-has_room.false,
-      ap (λ s. length s.pending) c.put_mark.ensures,
-      ap (λ s. length s.pending) c.put_name.ensures,
-      ap (λ s. length s.pending) c.put_note.ensures,
-      ap (λ s. length s.pending) c.put_byte.ensures,
-      ap (λ s. length s.pending) c.put_within.ensures,
-      ap (λ s. length s.pending) c.put_byte-2.ensures,
-      length-append {A = ℕ},
-    )
+pub returns-clause-puts : goal.returns-clause-puts
+returns-clause-puts g c e =
+    let sink = c.args.sink.now in
+    let text = c.args.text.now in
+    let as_it_stands : between_quotes 34 256 text ≡ 34 ∷ (text ++ 34 ∷ []) = c.stands_in_string.ensures c.if-not-stands_in_string.false in
+    subst (λ (t : List ℕ). c.put_between.new.sink ≡ record sink { pending = sink.pending ++ plain_scalar (shown c.args.kinds.now c.args.empty) c.args.name.now c.args.note.now t })
+    (sym as_it_stands) (c.put_between.ensures.puts e)

@@ -1,10 +1,10 @@
 -- What digits spell behind a number, and how great it may be.
-use Rattle.std.proofs.Common.{◌≡◌, ℕ, zero, suc, ◌+◌, ◌*◌, ◌-◌, ◌^◌, ◌<◌, ◌≤◌, true, List, [], ◌∷◌, ◌++◌, length, take, drop, get_or, refl, sym, ap, ◌∙◌, arith}
+use Rattle.std.proofs.Common.{◌≡◌, ℕ, ◌+◌, ◌*◌, ◌-◌, ◌^◌, ◌<◌, ◌≤◌, true, List, [], ◌∷◌, ◌++◌, length, take, drop, get_or, refl, sym, ap, ◌∙◌, arith}
 use Rattle.std.proofs.Math.Nat.{one-le-pow, pow-le-pow_right, pow-suc, mul-le-mul, mul-le-mul_left, mul-le-mul_right}
 use Rattle.std.proofs.lemmas.Nat.{pow-add}
 use Rattle.std.proofs.lemmas.Bool.{and_parts}
 use Rattle.std.proofs.lemmas.Bool.Decides.{nat_tests}
-use Rattle.std.proofs.lemmas.List.{length-drop, take-append-drop}
+use Rattle.std.proofs.lemmas.List.{length-drop, take-append-drop, take_all}
 use Rattle.ion_value.specs.Digits.{all_are, is_digit}
 use Rattle.ion_value.proofs.LeadingDigits.{all_are-append}
 use Rattle.ion_value.proofs.TextDigits.{tail-all}
@@ -97,53 +97,42 @@ wide-behind n k small few =
     let more : (n + 1) * 10 ^ k ≤ 2 ^ 64 * 10 ^ 19 = mul-le-mul front less in
     omega (arith, more)
 
--- ---- four digits together, and fewer
+-- ---- four digits together
 
-pub digit-at : (i : ℕ) (ds : List ℕ) → i < length ds → all_are is_digit ds ≡ true → is_digit (get_or ds i 0) ≡ true
-digit-at i [] within e = absurd (omega (arith, within))
-digit-at zero (d ∷ ds) within e = (and_parts (is_digit d) (all_are is_digit ds) e).0
-digit-at (suc i) (d ∷ ds) within e = digit-at i ds (omega (arith, within)) (and_parts (is_digit d) (all_are is_digit ds) e).1
+-- the others behind them
+four-behind : (m : ℕ) (ds : List ℕ) → length ds ≤ m → take (m - 4) (drop 4 ds) ≡ drop 4 ds
+four-behind m ds all = take_all (m - 4) (drop 4 ds) (omega (arith, length-drop 4 ds, all))
 
-pub one-digit : (n : ℕ) (ds : List ℕ) → length ds ≡ 1 → n * 10 + (get_or ds 0 0 - 48) ≡ number_after n ds
-one-digit n (a ∷ []) long = refl
-one-digit n [] long = absurd (omega (arith, long))
-one-digit n (a ∷ b ∷ ds) long = absurd (omega (arith, long))
+-- they and the others spell what all do
+pub four-number : (n front back m : ℕ) (ds : List ℕ) → 4 ≤ length ds → length ds ≤ m → front ≡ (get_or ds 0 0 - 48) * 10 + (get_or ds 1 0 - 48) → back ≡ (get_or ds 2 0 - 48) * 10 + (get_or ds 3 0 - 48)
+    → number_after (n * 10000 + (front * 100 + back)) (take (m - 4) (drop 4 ds)) ≡ number_after n ds
+four-number n front back m ds long all first second =
+    rw (four-behind m ds all, first, second) (spelled n ds long)
+  where
+    spelled : (n : ℕ) (ds : List ℕ) → 4 ≤ length ds
+        → number_after (n * 10000 + (((get_or ds 0 0 - 48) * 10 + (get_or ds 1 0 - 48)) * 100 + ((get_or ds 2 0 - 48) * 10 + (get_or ds 3 0 - 48)))) (drop 4 ds) ≡ number_after n ds
+    spelled n (a ∷ b ∷ c ∷ d ∷ ds) long = ap (λ (k : ℕ). number_after k ds) (omega arith)
+    spelled n [] long = absurd (omega (arith, long))
+    spelled n (a ∷ []) long = absurd (omega (arith, long))
+    spelled n (a ∷ b ∷ []) long = absurd (omega (arith, long))
+    spelled n (a ∷ b ∷ c ∷ []) long = absurd (omega (arith, long))
 
-pub two-digits : (n : ℕ) (ds : List ℕ) → length ds ≡ 2 → n * 100 + ((get_or ds 0 0 - 48) * 10 + (get_or ds 1 0 - 48)) ≡ number_after n ds
-two-digits n (a ∷ b ∷ []) long = omega arith
-two-digits n [] long = absurd (omega (arith, long))
-two-digits n (a ∷ []) long = absurd (omega (arith, long))
-two-digits n (a ∷ b ∷ c ∷ ds) long = absurd (omega (arith, long))
+pub four-digits : (m : ℕ) (ds : List ℕ) → length ds ≤ m → all_are is_digit ds ≡ true → all_are is_digit (take (m - 4) (drop 4 ds)) ≡ true
+four-digits m ds all e = rw (four-behind m ds all) (cut-digits 4 ds e).1
 
-pub three-digits : (n : ℕ) (ds : List ℕ) → length ds ≡ 3
-    → n * 1000 + (((get_or ds 0 0 - 48) * 10 + (get_or ds 1 0 - 48)) * 10 + (get_or ds 2 0 - 48)) ≡ number_after n ds
-three-digits n (a ∷ b ∷ c ∷ []) long = omega arith
-three-digits n [] long = absurd (omega (arith, long))
-three-digits n (a ∷ []) long = absurd (omega (arith, long))
-three-digits n (a ∷ b ∷ []) long = absurd (omega (arith, long))
-three-digits n (a ∷ b ∷ c ∷ d ∷ ds) long = absurd (omega (arith, long))
-
-pub four-digits : (n : ℕ) (ds : List ℕ) → 4 ≤ length ds
-    → number_after (n * 10000 + (((get_or ds 0 0 - 48) * 10 + (get_or ds 1 0 - 48)) * 100 + ((get_or ds 2 0 - 48) * 10 + (get_or ds 3 0 - 48)))) (drop 4 ds) ≡ number_after n ds
-four-digits n (a ∷ b ∷ c ∷ d ∷ ds) long = ap (λ (k : ℕ). number_after k ds) (omega arith)
-four-digits n [] long = absurd (omega (arith, long))
-four-digits n (a ∷ []) long = absurd (omega (arith, long))
-four-digits n (a ∷ b ∷ []) long = absurd (omega (arith, long))
-four-digits n (a ∷ b ∷ c ∷ []) long = absurd (omega (arith, long))
-
--- room for digits is room for the first few
-pub room-for : (n k most : ℕ) (ds : List ℕ) → k ≤ length ds → (n + 1) * 10 ^ length ds ≤ most → (n + 1) * 10 ^ k ≤ most
-room-for n k most ds few room =
-    let less : 10 ^ k ≤ 10 ^ length ds = pow-le-pow_right (omega arith) few in
+-- room for digits is room for the first four
+pub four-room : (n most : ℕ) (ds : List ℕ) → 4 ≤ length ds → (n + 1) * 10 ^ length ds ≤ most → n * 10000 + 10000 ≤ most
+four-room n most ds long room =
+    let less : 10 ^ 4 ≤ 10 ^ length ds = pow-le-pow_right (omega arith) long in
     let more = mul-le-mul_left (n + 1) less in
     omega (arith, more, room)
 
--- and, behind four, for the others
-pub room-after : (n v most : ℕ) (ds : List ℕ) → 4 ≤ length ds → v < 10000 → (n + 1) * 10 ^ length ds ≤ most → (n * 10000 + v + 1) * 10 ^ length (drop 4 ds) ≤ most
-room-after n v most ds few small room =
+-- and, behind them, for the others
+pub room-after : (n v m most : ℕ) (ds : List ℕ) → 4 ≤ length ds → length ds ≤ m → v < 10000 → (n + 1) * 10 ^ length ds ≤ most → (n * 10000 + v + 1) * 10 ^ length (take (m - 4) (drop 4 ds)) ≤ most
+room-after n v m most ds long all small room =
     let rest : ℕ = length (drop 4 ds) in
-    let long : length ds ≡ 4 + rest = omega (arith, length-drop 4 ds, few) in
-    let power : 10 ^ length ds ≡ 10000 * 10 ^ rest = rw long (pow-add 10 4 rest) in
+    let count : length ds ≡ 4 + rest = omega (arith, length-drop 4 ds, long) in
+    let power : 10 ^ length ds ≡ 10000 * 10 ^ rest = rw count (pow-add 10 4 rest) in
     let less : n * 10000 + v + 1 ≤ (n + 1) * 10000 = omega (arith, small) in
     let more = mul-le-mul_right (10 ^ rest) less in
-    omega (arith, more, rw power at room)
+    rw (four-behind m ds all) (omega (arith, more, rw power at room))

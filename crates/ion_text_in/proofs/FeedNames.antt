@@ -132,12 +132,18 @@ begun-simple limit n bytes begun token =
 -- it begins with no dollar sign
 pub begun-dollar : (limit n : ℕ) (bytes : List ℕ) → IsBegun limit bytes n → first_is (λ b. b == 36) (take n bytes) ≡ false
 begun-dollar limit n [] begun = absurd (let some = begun.some in omega (arith, some))
-begun-dollar limit n (b ∷ bytes) begun = subst (λ (k : ℕ). first_is (λ b. b == 36) (take k (b ∷ bytes)) ≡ false) (sym begun.count ∙ refl) begun.no_dollar
+begun-dollar limit n (b ∷ bytes) begun =
+    let count = begun.count in
+    let is : n ≡ suc begun.others = omega (arith, count) in
+    subst (λ (k : ℕ). first_is (λ b. b == 36) (take k (b ∷ bytes)) ≡ false) (sym is) begun.no_dollar
 
 -- and with the byte that the slice begins with
 pub begun-first : (limit n : ℕ) (bytes : List ℕ) → IsBegun limit bytes n → may_be_keyword (take n bytes) ≡ may_be_keyword bytes
 begun-first limit n [] begun = absurd (let some = begun.some in omega (arith, some))
-begun-first limit n (b ∷ bytes) begun = subst (λ (k : ℕ). may_be_keyword (take k (b ∷ bytes)) ≡ may_be_keyword (b ∷ bytes)) (sym begun.count) refl
+begun-first limit n (b ∷ bytes) begun =
+    let count = begun.count in
+    let is : n ≡ suc begun.others = omega (arith, count) in
+    subst (λ (k : ℕ). may_be_keyword (take k (b ∷ bytes)) ≡ may_be_keyword (b ∷ bytes)) (sym is) refl
 
 -- where no type is behind it, it is all of the word
 pub begun-shown : (limit n : ℕ) (bytes : List ℕ) → IsBegun limit bytes n → (bytes_eq (codes "null") (take n bytes) && first_is (λ b. b == 46) (drop n bytes)) ≡ false → AreShown word_of bytes n

@@ -1,8 +1,9 @@
 -- A text without escapes that a slice shows.
 use Rattle.std.proofs.Common.{◌≡◌, ℕ, zero, suc, ◌+◌, ◌<◌, ◌≤◌, true, false, ◌||◌, List, [], ◌∷◌, ◌++◌, length, take, drop, ◌==◌, slice_index, Some, Ok, Err, refl, sym, ap, ◌∙◌, arith}
 use Rattle.std.proofs.lemmas.List.{take-append-le, drop-append-le, drop-drop, length-append, length-take-le}
-use Rattle.std.proofs.lemmas.Bool.{lt-ltb, le-ltb}
+use Rattle.std.proofs.lemmas.Bool.{lt-ltb, le-ltb, or_right}
 use Rattle.std.proofs.lemmas.Bool.Decides.{nat_tests}
+use Rattle.std.proofs.lemmas.Str.{is_utf8-from_IsUtf8}
 use Rattle.std.proofs.Math.Seq.{drop-cons}
 use Rattle.std.specs.Str.{is_utf8}
 use Rattle.ion_meter.specs.declared.fault.Reason.TheVariants.{BadText, ScalarLimit}
@@ -15,9 +16,10 @@ use Rattle.ion_text_in.specs.Meaning.{at}
 use Rattle.ion_text_in.specs.Quoted as quoted
 use Rattle.ion_text_in.specs.Quoted.{Quote, piece_at, text_at}
 use Rattle.ion_text_in.specs.Scanning.{is_plain_byte}
-use Rattle.ion_text_in.specs.Quotes.{quote_of, mark_of}
+use Rattle.ion_text_in.specs.Quotes.{quote_of, mark_of, IsAsciiText}
 use Rattle.ion_text_in.specs.Pieces.{piece_of}
 use Rattle.ion_text_in.specs.Gathered.{onward}
+use Rattle.ion_text_in.proofs.AsciiTexts.{front-text}
 use Rattle.ion_text_in.proofs.Quotes.{quote_of-is}
 use Rattle.ion_text_in.proofs.Gathering.{onward-plain, onward-over, onward-close}
 use Rattle.ion_text_in.proofs.Segments.{segment-err, segment-bad, segment-good}
@@ -72,6 +74,13 @@ text-shown q limit place n bytes more short plain there mark within test =
     let c : Cursor = at place (bytes ++ more) in
     sym (short-text (quote_of q) limit [] c short refl)
     ∙ segment-good (quote_of q) limit [] (take n bytes) c (at (place + (n + 1)) (drop (n + 1) bytes ++ more)) (pieces-shown q limit place n bytes more short plain there mark within) test
+
+-- a text of ASCII
+pub ascii-shown : (q : CodeQuote) (limit place n : ℕ) (bytes more : List ℕ) → IsAsciiText q bytes n → n ≤ limit
+    → text_at (quote_of q) (Some limit) (at place (bytes ++ more)) ≡ Ok (take n bytes, at (place + (n + 1)) (drop (n + 1) bytes ++ more))
+ascii-shown q limit place n bytes more so within =
+    let good : is_utf8 (take n bytes) ≡ true = is_utf8-from_IsUtf8 (take n bytes) (front-text bytes n n (omega arith) so.ascii) in
+    text-shown q limit place n bytes more so.short so.plain so.within so.closed within (or_right (quote_of q).in_clob (is_utf8 (take n bytes)) good)
 
 pub text-bad : (q : CodeQuote) (limit place n : ℕ) (bytes more : List ℕ) → (quote_of q).is_long ≡ false → all_are (is_plain_byte (quote_of q)) (take n bytes) ≡ true → n < length bytes
     → slice_index bytes n ≡ mark_of q → n ≤ limit → ((quote_of q).in_clob || is_utf8 (take n bytes)) ≡ false

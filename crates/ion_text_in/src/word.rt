@@ -1,5 +1,5 @@
 //! Words: keywords, ids and symbols without quotes (Ion specification, "Text Encoding").
-ghost use Rattle.std.specs.Prelude.{◌≡◌, ◌&&◌, ◌||◌, ◌==◌, ◌∷◌, ◌^◌, ◌≤◌, ◌<◌, ◌*◌, codes, drop, length, Some, None, Ok, Err, true, false, IfOk, IfSome, MatchOption, MatchResult, OnOk};
+ghost use Rattle.std.specs.Prelude.{◌≡◌, ◌&&◌, ◌||◌, ◌==◌, ◌^◌, ◌≤◌, ◌<◌, ◌*◌, codes, length, Some, None, Ok, Err, true, false, IfOk, IfSome, MatchResult, OnOk};
 ghost use Rattle.std.specs.Str.{bytes_eq};
 ghost use Rattle.ion_meter.specs.Windows.{lent};
 ghost use Rattle.ion_value.specs.Calls.{AnswersBy, CanRead, ReadsInto, passed_over};
@@ -7,9 +7,8 @@ ghost use Rattle.ion_value.specs.Digits.{first_is};
 ghost use Rattle.ion_text_in.specs.Runs.{CanAppend};
 ghost use Rattle.ion_value.specs.Name.{begins_with, is_identifier_start, type_named};
 ghost use Rattle.ion_text_in.specs.Scanners.{Shows};
-ghost use Rattle.ion_text_in.specs.Token.{a_word, name, token_of, word_of, word_token};
+ghost use Rattle.ion_text_in.specs.Token.{a_word, token_of, word_of, word_token};
 ghost use Rattle.ion_text_in.specs.Feeding.{IfName, IsBegun, IsSimpleWord};
-ghost use Rattle.ion_value.specs.Value.{Text};
 ghost use Rattle.ion_value.specs.Shares.{GrowsWithin};
 ghost use Rattle.ion_text_in.specs.Symbols.{prepaid_word};
 ghost use Rattle.ion_text_in.specs.Views.{AreShown, IsWithin, id_in, is_point, may_be_keyword, shown_text, spelled, with_name, text_or_container, word_token_of};
@@ -93,7 +92,7 @@ pub(crate) fn scan_simple(limit: u64, bytes: &[u8]) -> Scanned<Word>
 }
 
 // How many bytes stand at the front of a slice that are a word without a type behind it, where the
-// slice shows them, they are no more than the limit, and a symbol may begin so, but for a dollar sign.
+// slice shows them, they are no more than the limit, and begin as a symbol does, but for `$`.
 #[inline(always)]
 fn begun_word(limit: u64, bytes: &[u8]) -> Option<usize>
     ensures { IfSome result (IsBegun limit bytes.now) }

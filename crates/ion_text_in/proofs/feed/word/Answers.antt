@@ -1,12 +1,41 @@
+use Rattle.std.proofs.Common.{◌∙◌, ◌+◌, ◌-◌, ◌++◌, Some, Ok, length, take, drop, ap, arith}
+use Rattle.ion_value.specs.Value.{null, bool}
+use Rattle.ion_text_in.specs.declared.word.Word.{Word}
 use Rattle.ion_text_in.specs.Feeding.{lane}
+use Rattle.ion_text_in.specs.Meaning.{at}
+use Rattle.ion_text_in.specs.Token.{a_word}
+use Rattle.ion_text_in.specs.Views.{word_token_of}
+use Rattle.ion_text_in.proofs.FeedHeads.{head-plain}
 use Rattle.ion_text_in.proofs.FeedLanes.{moved-none}
-use Rattle.ion_text_in.proofs.FeedNoted.{start-noted}
+use Rattle.ion_text_in.proofs.ShownFurther.{shown-some}
 use Rattle.ion_text_in.proofs.feed.word.Goals as goal
 
-pub rare-requires-clause-start : goal.rare-requires-clause-start
-rare-requires-clause-start g c =
-    start-noted c.args.limits c.args.at.now c.args.end c.args.start c.in-Some-noted.start c.requires.can.within c.requires.start c.requires.bare c.in-Some-noted.ensures
+pub scalar-requires-in-Whole-Null-default-clause-found : goal.scalar-requires-in-Whole-Null-default-clause-found
+scalar-requires-in-Whole-Null-default-clause-found g c =
+    let a = c.args in
+    let w = c.in-Whole-Null-default in
+    let bytes = a.start.next.rest.now in
+    let begins = c.requires.start.begins in
+    let counts = shown-some (word_token_of (take w.count bytes)) bytes w.field-0 w.count (Some a.limits.scalar) a_word w.ensures.shows begins.some in
+    let head = head-plain a.limits (a.end - length bytes) w.count a_word (null w.ion_type) bytes c.behind.result.now tt tt c.behind.ensures (omega (arith, counts)) w.ensures.shows.0
+    (λ place more. w.ensures.shows.1 place more ∙ ap (λ (x : Word). Ok (word_token_of (take w.count bytes) x, at (place + w.count) (drop w.count bytes ++ more))) w.field-0-is) begins.bare begins.some c.requires.first in
+    record { head = head; spelled = tt }
 
-pub returns-in-None-clause-moved : goal.returns-in-None-clause-moved
-returns-in-None-clause-moved g c =
+pub scalar-requires-in-Whole-Bool-default-clause-found : goal.scalar-requires-in-Whole-Bool-default-clause-found
+scalar-requires-in-Whole-Bool-default-clause-found g c =
+    let a = c.args in
+    let w = c.in-Whole-Bool-default in
+    let bytes = a.start.next.rest.now in
+    let begins = c.requires.start.begins in
+    let counts = shown-some (word_token_of (take w.count bytes)) bytes w.field-0 w.count (Some a.limits.scalar) a_word w.ensures.shows begins.some in
+    let head = head-plain a.limits (a.end - length bytes) w.count a_word (bool w.truth) bytes c.behind-in-Whole-Bool-default.result.now tt tt c.behind-in-Whole-Bool-default.ensures (omega (arith, counts)) w.ensures.shows.0
+    (λ place more. w.ensures.shows.1 place more ∙ ap (λ (x : Word). Ok (word_token_of (take w.count bytes) x, at (place + w.count) (drop w.count bytes ++ more))) w.field-0-is) begins.bare begins.some c.requires.first in
+    record { head = head; spelled = tt }
+
+pub returns-in_default-clause-moved : goal.returns-in_default-clause-moved
+returns-in_default-clause-moved g c =
+    moved-none g.W.ValueWriter c.args.limits c.args.end (lane c.args.kinds.now c.args.at.now c.args.writer.now c.args.sink.now c.args.meter.now) c.requires.can
+
+pub returns-in_default-2-clause-moved : goal.returns-in_default-2-clause-moved
+returns-in_default-2-clause-moved g c =
     moved-none g.W.ValueWriter c.args.limits c.args.end (lane c.args.kinds.now c.args.at.now c.args.writer.now c.args.sink.now c.args.meter.now) c.requires.can

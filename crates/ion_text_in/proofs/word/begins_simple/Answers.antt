@@ -14,5 +14,6 @@ split true false z e h = absurd (cc e)
 split false y z e h = absurd (cc h)
 
 pub returns : goal.returns
+unfolding tells
 returns c = λ h.
     split (nat_lt 0 (get_or STARTS c.args.first 0)) (is_identifier_start c.args.first) (c.args.first == 36) (agree_below_at tells (λ _. true) 256 c.args.first refl (omega arith)) h

@@ -1,4 +1,4 @@
-use Rattle.std.proofs.Common.{◌<◌, ℕ, List, length, drop, refl, subst}
+use Rattle.std.proofs.Common.{◌<◌, ℕ, List, length, refl, subst}
 use Rattle.std.proofs.lemmas.Bool.{not-false}
 use Rattle.std.proofs.lemmas.List.{take_rest}
 use Rattle.ion_text_in.specs.Runs.{EndBehind}

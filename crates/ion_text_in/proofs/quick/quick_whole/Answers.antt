@@ -1,5 +1,5 @@
 use Rattle.ion_text_in.proofs.QuickNumbers.{plain-mantissa}
-use Rattle.ion_text_in.proofs.quick.quick_mantissa.Goals as goal
+use Rattle.ion_text_in.proofs.quick.quick_whole.Goals as goal
 
 pub quick_power-requires-clause-mantissa : goal.quick_power-requires-clause-mantissa
 quick_power-requires-clause-mantissa c =

@@ -1,0 +1,12 @@
+use Rattle.ion_text_in.specs.Feeding.{lane}
+use Rattle.ion_text_in.proofs.FeedLanes.{moved-none}
+use Rattle.ion_text_in.proofs.FeedNoted.{start-noted}
+use Rattle.ion_text_in.proofs.feed.note.Goals as goal
+
+pub rare-requires-clause-start : goal.rare-requires-clause-start
+rare-requires-clause-start g c =
+    start-noted c.args.limits c.args.at.now c.args.end c.args.start c.in-Some.start c.requires.can.within c.requires.start c.requires.bare c.in-Some.ensures
+
+pub returns-in-None-clause-moved : goal.returns-in-None-clause-moved
+returns-in-None-clause-moved g c =
+    moved-none g.W.ValueWriter c.args.limits c.args.end (lane c.args.kinds.now c.args.at.now c.args.writer.now c.args.sink.now c.args.meter.now) c.requires.can

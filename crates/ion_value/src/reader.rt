@@ -140,9 +140,9 @@ pub trait RawReader<A: Allocator + Copy> {
         ensures { raw_item result ≡ current self.now };
 
     /// Hands items to a writer, as many of those that lie whole in the window as both can take
-    /// without a device and without a fault: those whose symbols are simple texts, by the names that
-    /// are given. The items behind them are for `next`. No clause says how many there are, nor
-    /// whether `item` may be called before `next` is.
+    /// without a device and without a fault: those whose names and annotations are simple texts, and
+    /// whose symbols are texts, by the names that are given. The items behind them are for `next`. No
+    /// clause says how many there are, nor whether `item` may be called before `next` is.
     fn feed<N: Names, W: ValueWriter<O, A>, O: Output>(
         &mut self,
         meter: &mut Meter<A>,

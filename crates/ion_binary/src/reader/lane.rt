@@ -1,7 +1,7 @@
 //! Items that lie whole in the window, handed to a writer.
 ghost use Rattle.std.specs.Prelude.{◌≡◌, ◌+◌, ◌*◌, ◌-◌, ◌^◌, ◌<◌, ◌≤◌, get_or, length, false, true, Option, Some, None, IfSome, map};
 ghost use Rattle.ion_value.specs.Items.{named_at, named_item, raw_head};
-ghost use Rattle.ion_value.specs.PlainItems.{HasSimpleName, IsKnownHead};
+ghost use Rattle.ion_value.specs.PlainItems.{HasSimpleName, IsKnownHead, IsTextOf};
 ghost use Rattle.ion_binary.specs.Lane.{CanHand, EndsHere, GoesOn, HandsItem, HandsNothing, HandsOn, IsAround, KeepsOn, FillsTo, ShowsField, ShowsFront, frame_in, inner_region};
 ghost use Rattle.ion_value.specs.Feeding.{CanTake};
 ghost use Rattle.ion_binary.specs.Steps.{IsSized, IsSound, held_by, left_to, opened_in};
@@ -13,7 +13,7 @@ ghost use Rattle.ion_binary.specs.Shown.{Bounds, ShowsValue, far_end, shown_scal
 ghost use Rattle.ion_meter.specs.Sources.{Stands};
 ghost use Rattle.ion_meter.specs.Windows.{CanPass, IsPassed, lent};
 ghost use Rattle.ion_binary.specs.Wrappers.{as_frames, innermost};
-ghost use Rattle.ion_value.specs.Value.{map_head, whole};
+ghost use Rattle.ion_value.specs.Value.{Text, map_head, symbol, whole};
 
 use super::{BinReader, values_behind};
 use crate::body::id_of;
@@ -93,34 +93,80 @@ fn shown_field<'n, N: Names>(
     }
 }
 
-// A scalar as a head, where it is no symbol without a simple text.
+// A head, and its canonical text where it is a symbol whose text is simple.
+#[derive(Clone, Copy)]
+struct Named<'h> {
+    head: Head<'h>,
+    spelled: Option<&'h [u8]>,
+}
+
+// A head that comes without its text.
 #[inline(always)]
-fn shown_head<'h, N: Names>(scalar: ShownScalar<'h>, place: u64, names: &'h N) -> Option<(Head<'h>, Option<&'h [u8]>)>
-    ensures head { IfSome result (λ h. raw_head h ≡ map_head (named_at (N.text names.entry.now))
+fn unspelled<'h>(head: Head<'h>) -> Named<'h>
+    ensures { result ≡ record { head = head.entry; spelled = None; } }
+{
+    Named {
+        head,
+        spelled: None,
+    }
+}
+
+// A scalar as a head, where it is no symbol without a text.
+#[inline(always)]
+fn shown_head<'h, N: Names>(
+    scalar: ShownScalar<'h>,
+    place: u64,
+    names: &'h N,
+) -> Option<Named<'h>>
+    ensures head { IfSome result (λ h. raw_head h.head
+        ≡ map_head (named_at (N.text names.entry.now))
         (whole (placed_scalar place (shown_scalar scalar.entry)))) }
-    ensures simple { IfSome result (λ h. IsKnownHead (raw_head h)) }
+    ensures known { IfSome result (λ h. IsKnownHead (raw_head h.head)) }
+    ensures spelled { IfSome result
+        (λ h. IfSome h.spelled (λ text. IsTextOf text.now (raw_head h.head))) }
 {
     match scalar {
-        ShownScalar::Null(of) => Some((Head::Null(of), None)),
-        ShownScalar::Bool(truth) => Some((Head::Bool(truth), None)),
-        ShownScalar::Int(int) => Some((Head::Int(int), None)),
-        ShownScalar::Decimal(decimal) => Some((Head::Decimal(decimal), None)),
-        ShownScalar::Timestamp(moment) => Some((Head::Timestamp(moment), None)),
-        ShownScalar::String(text) => Some((Head::String(text), None)),
-        ShownScalar::Symbol(id) => {
-            let (text, spelled) = match names.simple_text(id) {
-                Some(text) => (text, Some(text)),
-                None => match names.text_of(id) {
-                    Some(text) => (text, None),
-                    None => return None,
-                },
-            };
-            Some((Head::Symbol(SymAt {
-                sym: Sym::Text(text),
-                place,
-            }), spelled))
-        }
+        ShownScalar::Null(of) => Some(unspelled(Head::Null(of))),
+        ShownScalar::Bool(truth) => Some(unspelled(Head::Bool(truth))),
+        ShownScalar::Int(int) => Some(unspelled(Head::Int(int))),
+        ShownScalar::Decimal(decimal) => Some(unspelled(Head::Decimal(decimal))),
+        ShownScalar::Timestamp(moment) => Some(unspelled(Head::Timestamp(moment))),
+        ShownScalar::String(text) => Some(unspelled(Head::String(text))),
+        ShownScalar::Symbol(id) => shown_symbol(id, place, names),
     }
+}
+
+// The symbol of this id as a head, where the id has a text.
+#[inline(always)]
+fn shown_symbol<'h, N: Names>(id: u32, place: u64, names: &'h N) -> Option<Named<'h>>
+    ensures head { IfSome result (λ h. raw_head h.head
+        ≡ map_head (named_at (N.text names.entry.now))
+        (whole (placed_scalar place (shown_scalar (ShownScalar.Symbol id))))) }
+    ensures known { IfSome result (λ h. IsKnownHead (raw_head h.head)) }
+    ensures spelled { IfSome result
+        (λ h. IfSome h.spelled (λ text. IsTextOf text.now (raw_head h.head))) }
+{
+    if let Some(text) = names.simple_text(id) {
+        return Some(Named {
+            head: symbol_head(text, place),
+            spelled: Some(text),
+        });
+    }
+    match names.text_of(id) {
+        Some(text) => Some(unspelled(symbol_head(text, place))),
+        None => None,
+    }
+}
+
+// The symbol of a text.
+#[inline(always)]
+fn symbol_head(text: &[u8], place: u64) -> Head<'_>
+    ensures { raw_head result ≡ whole (symbol (record { symbol = Text text.now; place = place; })) }
+{
+    Head::Symbol(SymAt {
+        sym: Sym::Text(text),
+        place,
+    })
 }
 
 // Whether the innermost container ends at a place.
@@ -249,12 +295,12 @@ fn fills(wrapper: Option<u64>, place: u64) -> bool
 
 // An item of what stands in front of its head, and its head.
 #[inline(always)]
-fn item_behind<'n, 'h>(front: Front<'n>, head: Head<'h>, place: u64, top: u64) -> PlainItem<'n, 'h>
+fn item_behind<'n, 'h>(front: Front<'n>, named: Named<'h>, place: u64, top: u64) -> PlainItem<'n, 'h>
     ensures { result ≡ record {
       field = front.entry.field;
       annotation = front.entry.annotation;
-      head = head.entry;
-      spelled = None;
+      head = named.entry.head;
+      spelled = named.entry.spelled;
       place = place;
       top = top;
     } }
@@ -262,8 +308,8 @@ fn item_behind<'n, 'h>(front: Front<'n>, head: Head<'h>, place: u64, top: u64) -
     PlainItem {
         field: front.field,
         annotation: front.annotation,
-        head,
-        spelled: None,
+        head: named.head,
+        spelled: named.spelled,
         place,
         top,
     }
@@ -682,11 +728,10 @@ impl<I: Input, A: Allocator + Copy> BinReader<I, A> {
         let top = top_at(*around, self.top, here);
         match found {
             Shown::Scalar(scalar) => {
-                let Some((head, spelled)) = shown_head(scalar, place, names) else {
+                let Some(named) = shown_head(scalar, place, names) else {
                     return false;
                 };
-                let mut item = item_behind(front, head, place, top);
-                item.spelled = spelled;
+                let item = item_behind(front, named, place, top);
                 if !writer.take_plain(meter, sink, item) {
                     return false;
                 }
@@ -694,7 +739,7 @@ impl<I: Input, A: Allocator + Copy> BinReader<I, A> {
                 true
             }
             Shown::Begin(kind, end) => {
-                let item = item_behind(front, Head::Begin(kind), place, top);
+                let item = item_behind(front, unspelled(Head::Begin(kind)), place, top);
                 if !self.frames.push_within(meter, Frame { kind, end }) {
                     return false;
                 }

@@ -23,10 +23,10 @@ use Rattle.ion_binary.proofs.ReaderParts.{as_frames-length}
 use Rattle.ion_binary.proofs.reader.BinReader.hand_shape.Goals as goal
 
 pub take_plain-requires-clause-spelled : goal.take_plain-requires-clause-spelled
-take_plain-requires-clause-spelled g c = rw c.item_behind-item.ensures tt
+take_plain-requires-clause-spelled g c = rw c.item_behind-item.ensures c.in-Some-shown_head.ensures.spelled
 
 pub take_plain-requires-in-Begin-clause-spelled : goal.take_plain-requires-in-Begin-clause-spelled
-take_plain-requires-in-Begin-clause-spelled g c = rw c.item_behind-item-in-Begin.ensures tt
+take_plain-requires-in-Begin-clause-spelled g c = rw (c.item_behind-item-in-Begin.ensures, c.unspelled.ensures) tt
 
 pub take_plain-requires-clause-path : goal.take_plain-requires-clause-path
 take_plain-requires-clause-path g c =
@@ -42,7 +42,7 @@ take_plain-requires-clause-path g c =
     let full = rw c.in-Scalar.is at c.in-Some.ensures.fills in
     let v = front.gives (length (as_frames r.frames)) c.in-Some.behind (shown.Scalar c.in-Scalar.scalar) shows full in
     let head = rw c.place-here.ensures at c.in-Some-shown_head.ensures.head in
-    let plain : PlainItem = record { field = c.args.front.field; annotation = c.args.front.annotation; head = c.in-Some-shown_head.head; spelled = None; place = c.place-here.result + c.args.front.head; top = c.top_at-top.result } in
+    let plain : PlainItem = record { field = c.args.front.field; annotation = c.args.front.annotation; head = c.in-Some-shown_head.named.head; spelled = c.in-Some-shown_head.named.spelled; place = c.place-here.result + c.args.front.head; top = c.top_at-top.result } in
     let fits = scalar_fits r.limits.depth r.frames f texts (r.source.place + c.args.front.head) (shown_scalar c.in-Scalar.scalar) plain inner name.there head v.may_be in
     let write = c.requires.can_hand.writer in
     rw c.item_behind-item.ensures (path_here w r.limits.depth (opened_in r) c.args.writer.now (PlainItems.placed_item plain) write.depth_of fits
@@ -65,7 +65,7 @@ take_plain-requires-in-Begin-clause-path g c =
     let few : length r.frames < r.limits.depth = subst (λ n. n < r.limits.depth) (as_frames-length r.frames) v.may_be in
     let fits = begin_fits r.limits.depth r.frames f c.in-Begin.kind plain inner name.there refl few in
     let write = c.requires.can_hand.writer in
-    rw c.item_behind-item-in-Begin.ensures (path_here w r.limits.depth (opened_in r) c.args.writer.now (PlainItems.placed_item plain) write.depth_of fits refl write.behind)
+    rw (c.item_behind-item-in-Begin.ensures, c.unspelled.ensures) (path_here w r.limits.depth (opened_in r) c.args.writer.now (PlainItems.placed_item plain) write.depth_of fits refl write.behind)
 
 pub take_plain-requires-in-Begin-clause-room : goal.take_plain-requires-in-Begin-clause-room
 take_plain-requires-in-Begin-clause-room g c = omega (arith, (c.push_within.ensures.cost c.if-not-push_within.false).held)
@@ -84,7 +84,7 @@ returns-else-not-take_plain-clause-hands g c e =
     let full = rw c.in-Scalar.is at c.in-Some.ensures.fills in
     let v = front.gives (length (as_frames r.frames)) c.in-Some.behind (shown.Scalar c.in-Scalar.scalar) shows full in
     let head = rw c.place-here.ensures at c.in-Some-shown_head.ensures.head in
-    let plain : PlainItem = record { field = c.args.front.field; annotation = c.args.front.annotation; head = c.in-Some-shown_head.head; spelled = None; place = c.place-here.result + c.args.front.head; top = c.top_at-top.result } in
+    let plain : PlainItem = record { field = c.args.front.field; annotation = c.args.front.annotation; head = c.in-Some-shown_head.named.head; spelled = c.in-Some-shown_head.named.spelled; place = c.place-here.result + c.args.front.head; top = c.top_at-top.result } in
     let fits = scalar_fits r.limits.depth r.frames f texts (r.source.place + c.args.front.head) (shown_scalar c.in-Scalar.scalar) plain inner name.there head v.may_be in
     let write = c.requires.can_hand.writer in
     let taken = rw c.item_behind-item.ensures at c.if-not-take_plain.ensures in
@@ -103,7 +103,7 @@ returns-else-not-take_plain-clause-hands g c e =
     rw c.pass.ensures.top (record {
       hands = λ values. hands_by w (named_item texts) (device.observable r.source.device) (to_come device r.limits r.frames r.top r.source) (to_come device r.limits r.frames top t)
           (opened_in r) (opened_in r) c.args.writer.now c.take_plain.new.self c.args.sink.now.pending c.take_plain.new.sink.pending values item seen is (λ _. gives)
-          (record { field = name.simple; annotations = front.simple; head = c.in-Some-shown_head.ensures.simple })
+          (record { field = name.simple; annotations = front.simple; head = c.in-Some-shown_head.ensures.known })
           (whole-opens texts (r.source.place + c.args.front.head) (shown_scalar c.in-Scalar.scalar) seen.head (opened_in r) head) deep
           (whole-value texts (r.source.place + c.args.front.head) (shown_scalar c.in-Scalar.scalar) seen.head head) taken.same.1 (taken.stands refl) (taken.puts refl);
       falls = falls_scalar r.source.limit r.source.place t.limit t.place c.args.front.at c.in-Some.behind (length r.frames) c.pass.ensures.passed.place c.pass.ensures.passed.limit v.further
@@ -130,7 +130,7 @@ returns-else-not-take_plain-2-clause-hands g c e =
     let few : length r.frames < r.limits.depth = subst (λ n. n < r.limits.depth) (as_frames-length r.frames) v.may_be in
     let fits = begin_fits r.limits.depth r.frames f c.in-Begin.kind plain inner name.there refl few in
     let write = c.requires.can_hand.writer in
-    let taken = rw c.item_behind-item-in-Begin.ensures at c.if-not-take_plain-2.ensures in
+    let taken = rw (c.item_behind-item-in-Begin.ensures, c.unspelled.ensures) at c.if-not-take_plain-2.ensures in
     let t = c.pass-in-Begin.new.self.source in
     let top = top_of (innermost f) r.top r.source.place in
     let seen = PlainItems.placed_item plain in

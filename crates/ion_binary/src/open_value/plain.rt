@@ -37,7 +37,7 @@ impl<A: Allocator + Copy> OpenValue<A> {
     }
 
     /// The same of a scalar whose body is a number of 64 bits.
-    #[inline(never)]
+    #[inline(always)]
     pub fn put_number(
         &mut self,
         meter: &mut Meter<A>,

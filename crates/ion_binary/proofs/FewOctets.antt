@@ -3,7 +3,7 @@ use Rattle.std.proofs.Common.{◌≡◌, ℕ, zero, suc, ◌+◌, ◌*◌, ◌/�
 use Rattle.std.specs.Int.{bytes_low_first}
 use Rattle.std.proofs.Math.Nat.{pow-zero, pow-suc, pow-le-pow_right, div-div-eq-div-mul}
 use Rattle.ion_value.specs.Number.{var_uint_octets}
-use Rattle.ion_binary.specs.Canonical.{header, wrapped}
+use Rattle.ion_binary.specs.Canonical.{header, headed, wrapped}
 use Rattle.ion_binary.specs.Held.{counted_ids}
 use Rattle.ion_binary.specs.LowOctets.{low_octets}
 use Rattle.ion_binary.specs.Opening.{name_octets}
@@ -48,6 +48,10 @@ block-octets k w few = let one : w / 256 ^ 0 ≡ w = rw pow-zero (omega arith) i
 
 pub header-one : (code n : ℕ) → n < 14 → (16 * code + n) ∷ [] ≡ header code n
 header-one code n h = sym (ap (λ (b : Bool). (16 * code + (if b then n else 14)) ∷ (if b then [] else var_uint_octets n)) (lt-ltb n 14 h))
+
+-- and a short body behind it
+pub few-headed : (code : ℕ) (b : List ℕ) → length b < 14 → (16 * code + length b) ∷ b ≡ headed code b
+few-headed code b few = ap (λ (os : List ℕ). os ++ b) (header-one code (length b) few)
 
 pub header-two : (code n : ℕ) → 14 ≤ n → n < 128 → (16 * code + 14) ∷ (128 + n) ∷ [] ≡ header code n
 header-two code n least h =

@@ -1,7 +1,6 @@
 -- A plain item that is added to an open value is that of the streaming definition.
-use Rattle.std.proofs.Common.{◌≡◌, ℕ, ◌+◌, ◌-◌, ◌*◌, ◌/◌, ◌<◌, ◌≤◌, ◌⊎◌, inl, subst, min, nat_lt, Bool, true, false, if◌then◌else◌, List, [], ◌∷◌, ◌++◌, length, map, take, drop, Option, Some, None, unwrap_or, option_map, Ok, refl, ap, sym, ◌∙◌, arith, append-nil, append_assoc, le-ltb, lt-ltb}
+use Rattle.std.proofs.Common.{◌≡◌, ℕ, ◌+◌, ◌-◌, ◌/◌, ◌<◌, ◌≤◌, ◌⊎◌, inl, subst, nat_lt, Bool, true, false, if◌then◌else◌, List, [], ◌∷◌, ◌++◌, length, map, take, drop, Option, Some, None, unwrap_or, option_map, Ok, refl, ap, sym, ◌∙◌, arith, append-nil, append_assoc, le-ltb}
 use Rattle.std.specs.Prelude.{IfSome}
-use Rattle.std.proofs.lemmas.List.{length-take}
 use Rattle.ion_meter.specs.Counts.{Counts}
 use Rattle.ion_meter.specs.declared.limits.Limits.{Limits}
 use Rattle.ion_meter.specs.declared.fault.Reason.{Reason}
@@ -12,7 +11,7 @@ use Rattle.ion_binary.specs.declared.headers.HeaderPlace.{HeaderPlace}
 use Rattle.ion_binary.specs.declared.open_value.OpenValue.{OpenValue}
 use Rattle.ion_binary.specs.declared.writer.BinWriter.{BinWriter}
 use Rattle.ion_value.specs.Number.{var_uint_octets}
-use Rattle.ion_binary.specs.Canonical.{annotation_octets, declaration, header, marker_if, field_octets, headed, id_in, member_octets, wrapped, with_symbol, with_symbols, with_text}
+use Rattle.ion_binary.specs.Canonical.{annotation_octets, declaration, header, marker_if, field_octets, id_in, member_octets, wrapped, with_symbol, with_symbols, with_text}
 use Rattle.ion_binary.specs.Held.{Held, closed_in, counted_ids, headed_at, headers_around, headers_with, held_forgotten, held_of, ids_place, moved_headers, moved_octets, octets_with, size_of, value_held, value_put, whole_at, with_front, with_names}
 use Rattle.ion_binary.specs.ItemOctets.{head_octets}
 use Rattle.ion_binary.specs.Opening.{IsOpen, MayAdd, MayCome, Stepped, name_octets, noted}
@@ -251,16 +250,6 @@ ended-added h item os hs none bare head eo eh =
 
 pub ended-bare : {A : Type 0} (limits : Limits) (v : OpenValue A) (item : PlacedItem) → item.head ≡ value.end → MayAdd limits v item.head item → (item.field ≡ None) × (item.annotations ≡ [])
 ended-bare {A} limits v item e may = let P : Head SymbolAt → Type 0 = λ h. MayAdd {A = A} limits v h item in subst P e may
-
--- a header of one octet, and a short body
-pub short-headed : (code k : ℕ) (xs u : List ℕ) → k ≤ 8 → take k xs ≡ u → (16 * code + length (take k xs)) ∷ take k xs ≡ headed code u
-short-headed code k xs u few e =
-    let b : List ℕ = take k xs in
-    let long : length b ≡ min k (length xs) = length-take k xs in
-    let short : nat_lt (length b) 14 ≡ true = lt-ltb (length b) 14 (omega (arith, long, few)) in
-    let here : headed code b ≡ (16 * code + length b) ∷ b =
-    ap (λ (t : Bool). ((16 * code + (if t then length b else 14)) ∷ (if t then [] else var_uint_octets (length b))) ++ b) short in
-    sym here ∙ ap (headed code) e
 
 -- ---- the value at top level ends
 

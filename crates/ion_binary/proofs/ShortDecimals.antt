@@ -12,8 +12,6 @@ use Rattle.ion_value.specs.Decimal.{decimal_body, exponent_octets, is_nothing}
 use Rattle.ion_value.proofs.DecimalOctets.{decimal_body-parts}
 use Rattle.ion_value.proofs.Fields.{byte-bytes_high_first, length-bytes_high_first, pow-256}
 use Rattle.ion_value.proofs.Octets.{Below-from, Signing, Signing-fewest, digits_in-Digits, low-same, number-same, with_sign-Signing}
-use Rattle.ion_binary.specs.Canonical.{headed}
-use Rattle.ion_binary.proofs.FewOctets.{header-one}
 use Rattle.ion_binary.proofs.ShortestHeaders.{one-digit}
 use Rattle.ion_binary.proofs.ShortInts.{byte_at-div, high-part, uint-all}
 
@@ -241,10 +239,7 @@ module _ (n z : ℕ) (negative : Bool) (some : 0 < n) (small : n < 2 ^ 63) (is :
       ∙ (ap (λ (x : ℕ). bytes_high_first (8 - z) x) down
       ∙ (ap (λ (i : ℕ). bytes_high_first i v) k8 ∙ block-coefficient j n negative some within-bits least-octets)))
 
--- ---- a body of few octets, and an exponent of one
-
-pub few-headed : (code : ℕ) (b : List ℕ) → length b < 14 → (16 * code + length b) ∷ b ≡ headed code b
-few-headed code b few = ap (λ (os : List ℕ). os ++ b) (header-one code (length b) few)
+-- ---- an exponent of one octet
 
 marked-sign : (negative : Bool) (n : ℕ) → (if negative then n + 64 else n) + 128 ≡ (if negative then 192 else 128) + n
 marked-sign true n = omega arith

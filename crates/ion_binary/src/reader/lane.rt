@@ -554,7 +554,15 @@ impl<I: Input, A: Allocator + Copy> BinReader<I, A> {
                 self.hand_shape(Shape::Null(of), around, front, meter, names, writer, sink)
             }
             Shape::Bool(truth) => {
-                self.hand_shape(Shape::Bool(truth), around, front, meter, names, writer, sink)
+                self.hand_shape(
+                    Shape::Bool(truth),
+                    around,
+                    front,
+                    meter,
+                    names,
+                    writer,
+                    sink,
+                )
             }
             Shape::Body {
                 type_code,

@@ -5,7 +5,8 @@ use Rattle.ion_value.specs.Number.{coefficient_octets}
 use Rattle.ion_value.proofs.Fields.{length-bytes_high_first}
 use Rattle.ion_binary.specs.Canonical.{headed}
 use Rattle.ion_binary.specs.Opening.{noted}
-use Rattle.ion_binary.proofs.ShortDecimals.{few-headed, one-zero, signed-block, sum-fits}
+use Rattle.ion_binary.proofs.FewOctets.{few-headed}
+use Rattle.ion_binary.proofs.ShortDecimals.{one-zero, signed-block, sum-fits}
 use Rattle.ion_binary.proofs.open_value.OpenValue.put_decimal.Goals as goal
 
 pub overflow_sub-zeros : goal.overflow_sub-zeros

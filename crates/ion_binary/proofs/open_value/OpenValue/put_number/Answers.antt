@@ -5,7 +5,7 @@ use Rattle.ion_value.specs.Number.{uint_octets}
 use Rattle.ion_value.proofs.Fields.{length-bytes_high_first}
 use Rattle.ion_binary.specs.Canonical.{headed}
 use Rattle.ion_binary.specs.Opening.{noted}
-use Rattle.ion_binary.proofs.PlainAdded.{short-headed}
+use Rattle.ion_binary.proofs.FewOctets.{few-headed}
 use Rattle.ion_binary.proofs.ShortInts.{shifted-uint}
 use Rattle.ion_binary.proofs.open_value.OpenValue.put_number.Goals as goal
 
@@ -21,5 +21,5 @@ returns-clause-octets g c is =
     shifted-uint c.args.n zeros all (omega (arith, c.ranges.n.fits)) refl (c.to_be_bytes-body.ensures ∙ ap (bytes_high_first 8) c.wrapping_shl.ensures) in
     let whole : c.one-front.result ++ body ≡ headed c.args.code (uint_octets c.args.n) =
     ap (λ (os : List ℕ). os ++ body) c.one-front.ensures
-    ∙ (ap (λ (k : ℕ). (16 * c.args.code + k) ∷ body) (sym long) ∙ short-headed c.args.code size all (uint_octets c.args.n) (omega arith) spelled) in
+    ∙ (ap (λ (k : ℕ). (16 * c.args.code + k) ∷ body) (sym long) ∙ (few-headed c.args.code body (omega (arith, long)) ∙ ap (headed c.args.code) spelled)) in
     c.put_few.ensures.octets is ∙ ap (λ (y : List ℕ). c.args.self.now.octets ++ noted c.args.name c.args.note y) whole

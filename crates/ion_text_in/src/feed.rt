@@ -1,28 +1,28 @@
 //! A lane for items that lie whole in the window: they go to the writer as they are read.
 ghost use Rattle.std.specs.Prelude.{◌≡◌, ◌≢◌, ◌+◌, ◌-◌, ◌^◌, ◌<◌, ◌≤◌, ℕ, Bool, List, [], ◌∷◌, ◌++◌, take, drop, length, reverse, true, false, None, Some, Ok, option_map, IfSome};
 ghost use Rattle.ion_value.specs.declared.ion_type.Kind as kind_of;
-ghost use Rattle.ion_text_in.specs.Expecting.{is_separated, kind_in, wanted, MayExpect};
+ghost use Rattle.ion_text_in.specs.Expecting.{kind_in, wanted, MayExpect};
 ghost use Rattle.ion_text_in.specs.Feeding.{expected_of, lane, notes, Begins, CanFeed, IsBare, IsFound, IsNamed, IsNext, IsSimpleWord, IsStart, Moved, Onward, PassesBlanks, ToColon};
 ghost use Rattle.ion_text_in.specs.Firsts.{numbered};
 ghost use Rattle.ion_text_in.specs.Reading.{top_of};
 ghost use Rattle.ion_text_in.specs.Token.{a_comma, a_run, a_short, a_word, an_end, first_at};
-ghost use Rattle.ion_value.specs.Outcome.{one_if_closed};
 ghost use Rattle.ion_text_in.specs.Positions.{innermost};
 
+mod close;
 mod comments;
 mod copies;
 mod heads;
 mod noted;
 
-use crate::expected::{is_same, is_separated, member_kind};
 use crate::first::{First, shows_colon, told_first};
 use crate::quick::scan_quick;
 use crate::scanned::Scanned;
 use crate::word::{Word, scan_simple, simple_word};
+use close::{close, pass_value};
 use comments::behind_blanks;
 use copies::{limits_for_call, spot_for_call, start_for_call};
 use heads::{
-    begin_head, begins_quoted, decimal_head, int_head, scan_head, spelled_quick, string_head, symbol_head, token,
+    begin_head, decimal_head, int_head, scan_head, spelled_quick, string_head, symbol_head, token,
 };
 use ion_meter::device::Output;
 use ion_meter::limits::Limits;
@@ -284,85 +284,12 @@ fn ended_kind(told: u64) -> Option<Kind>
     }
 }
 
-// Behind a value: where no container is open, one more has ended. It is told by a jump, since that is
-// rare.
-#[inline(always)]
-fn pass_value<'a>(at: &mut Spot<'a>, rest: &'a [u8], top: u64, inner: Option<Kind>)
-    requires few { at.old.values < 2 ^ 63 }
-    requires inside { (kind : kind_of.Kind) → inner ≡ Some kind → top ≡ at.old.top }
-    ensures { (opened : List kind_of.Kind) → innermost opened ≡ inner
-        → at.new ≡ record at.old {
-          rest = rest.entry;
-          top = top;
-          values = at.old.values + one_if_closed opened;
-          separator = is_separated at.old.kind;
-        } }
-{
-    at.rest = rest;
-    at.separator = is_separated(at.kind);
-    match inner {
-        Some(_) => {}
-        None => {
-            at.top = top;
-            at.values += 1;
-        }
-    }
-}
-
 /// The kind of the innermost open container.
 #[inline(always)]
 pub(crate) fn innermost<A: Allocator + Copy>(kinds: &Stack<Kind, A>) -> Option<Kind>
     ensures { result ≡ innermost (reverse kinds.now) }
 {
     kinds.as_slice().last().copied()
-}
-
-// Hands on the end of the innermost container, and says whether it did.
-#[inline(always)]
-fn close<'a, W: ValueWriter<O, A>, O: Output, A: Allocator + Copy>(
-    at: &mut Spot<'a>,
-    next: Next<'a>,
-    kind: Kind,
-    limits: Limits,
-    end: u64,
-    kinds: &mut Stack<Kind, A>,
-    meter: &mut Meter<A>,
-    writer: &mut W,
-    sink: &mut Sink<O, A>,
-) -> bool
-    requires can { CanFeed W.ValueWriter limits end
-        (lane kinds.old at.old writer.old sink.old meter.old) }
-    requires next { IsNext at.old.rest.now next }
-    requires told { (0 < next.told) × (numbered next.told ≡ an_end kind) }
-    ensures moved { Moved W.ValueWriter limits end
-        (lane kinds.old at.old writer.old sink.old meter.old)
-        (lane kinds.new at.new writer.new sink.new meter.new) }
-    ensures goes { length kinds.new + length at.new.rest.now
-        ≤ length kinds.old + length at.old.rest.now }
-    ensures falls { result ≡ true → length at.new.rest.now < length at.old.rest.now }
-{
-    let Some(inner) = innermost(kinds) else {
-        return false;
-    };
-    if !is_same(inner, kind) {
-        return false;
-    }
-    let item = PlainItem {
-        field: None,
-        annotation: None,
-        head: Head::End,
-        spelled: None,
-        place: end - next.rest.len() as u64,
-        top: at.top,
-    };
-    if !writer.take_plain(meter, sink, item) {
-        return false;
-    }
-    let _closed = kinds.pop(meter);
-    let outer = innermost(kinds);
-    at.kind = member_kind(outer);
-    pass_value(at, behind(1, next.rest), at.top, outer);
-    true
 }
 
 // Where the top-level value begins that an item is in whose head begins at a place.
@@ -753,7 +680,7 @@ fn value<'a, W: ValueWriter<O, A>, O: Output, A: Allocator + Copy>(
                 at, start, found, kind, limits, end, kinds, meter, writer, sink,
             )
         }
-        _ if begins_quoted(start.next.rest) => rare(at, start, limits, end, kinds, meter, writer, sink),
+        Some(First::QuotedSymbol) => rare(at, start, limits, end, kinds, meter, writer, sink),
         _ => false,
     }
 }

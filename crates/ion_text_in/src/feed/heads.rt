@@ -1,10 +1,10 @@
 //! The heads of items in a lane.
-ghost use Rattle.std.specs.Prelude.{◌≡◌, ◌≢◌, ◌<◌, ℕ, Bool, List, ◌++◌, length, None, Some, IfSome};
+ghost use Rattle.std.specs.Prelude.{◌≡◌, ◌≢◌, ◌<◌, ℕ, Bool, List, ◌++◌, length, true, None, Some, IfSome};
 ghost use Rattle.ion_value.specs.declared.ion_type.Kind as kind_of;
 ghost use Rattle.ion_text_in.specs.Feeding.{Begins, IsBare, IsFound, IsSimpleWord};
 ghost use Rattle.ion_text_in.specs.Firsts.{first_of};
 ghost use Rattle.ion_text_in.specs.Quick.{as_quick, AreSpelled};
-ghost use Rattle.ion_text_in.specs.Token.{a_begin, a_run, a_short, a_word, first_at};
+ghost use Rattle.ion_text_in.specs.Token.{a_begin, a_quoted, a_run, a_short, a_word, first_at};
 ghost use Rattle.ion_text_in.specs.Views.{as_number};
 ghost use Rattle.ion_value.specs.Items.{raw_head};
 ghost use Rattle.ion_value.specs.PlainItems.{IsTextOf};
@@ -27,13 +27,11 @@ pub(super) fn scan_head<'a>(limits: Limits, place: u64, next: Next<'a>) -> Optio
     requires begins { Begins next }
     ensures { IfSome result (IsFound limits place next.entry.rest.now) }
 {
-    if begins_quoted(next.rest) {
-        return quoted_head(limits, place, next.rest);
-    }
     match token(next) {
         Some(First::Word) => word_head(limits, place, next.rest),
         Some(First::Number) => number_head(limits, place, next.rest),
         Some(First::String) => string_head(limits, place, next.rest),
+        Some(First::QuotedSymbol) => quoted_head(limits, place, next.rest),
         Some(First::Begin(kind)) => Some(begin_head(limits, place, kind, next.rest)),
         _ => None,
     }
@@ -212,25 +210,33 @@ pub(super) fn symbol_head<'a>(
     if next.told == 0 {
         return None;
     }
+    let text = front(count, bytes);
     let name = SymAt {
-        sym: Sym::Text(front(count, bytes)),
+        sym: Sym::Text(text),
         place,
     };
     Some(Found {
         head: Head::Symbol(name),
-        spelled: Some(front(count, bytes)),
+        spelled: Some(text),
         rest,
     })
 }
 
-/// A symbol in quotes of plain bytes alone, where a token is told behind it that is no two colons.
+// A symbol in quotes of plain bytes alone, where a token is told behind it that is no two colons.
 #[inline(never)]
-pub(super) fn quoted_head<'a>(limits: Limits, place: u64, bytes: &'a [u8]) -> Option<Found<'a>> {
+fn quoted_head<'a>(limits: Limits, place: u64, bytes: &'a [u8]) -> Option<Found<'a>>
+    requires bare { IsBare bytes.now }
+    requires first { (in_sexp : Bool) (more : List ℕ)
+        → first_at in_sexp (bytes.now ++ more) ≡ a_quoted }
+    requires some { 0 < length bytes.now }
+    ensures { IfSome result (IsFound limits place bytes.now) }
+{
     let text = behind(1, bytes);
     match scan_text(Quote::Symbol, limits.scalar, text) {
         Scanned::Whole(plain, count) => {
             let rest = behind(count, text);
-            if next_told(rest).told == 0 {
+            let next = next_told(rest);
+            if next.told == 0 {
                 return None;
             }
             let name = SymAt {
@@ -261,13 +267,20 @@ pub(super) fn token(next: Next<'_>) -> Option<First>
         5 => Some(First::Begin(Kind::List)),
         6 => Some(First::Begin(Kind::Sexp)),
         10 => Some(First::Begin(Kind::Struct)),
+        _ if begins_quoted(next.rest) => Some(First::QuotedSymbol),
         _ => None,
     }
 }
 
-/// Whether a symbol in quotes begins here that has a byte.
+// Whether a symbol in quotes that has a byte begins at the front of these bytes.
+#[tactic(auto, unfolding(crate::specs::Token::first_at, crate::specs::Blanks::blanks_at))]
 #[inline(always)]
-pub(super) fn begins_quoted(bytes: &[u8]) -> bool {
+fn begins_quoted(bytes: &[u8]) -> bool
+    ensures some { result ≡ true → 0 < length bytes.now }
+    ensures bare { result ≡ true → IsBare bytes.now }
+    ensures first { result ≡ true → (in_sexp : Bool) (more : List ℕ)
+        → first_at in_sexp (bytes.now ++ more) ≡ a_quoted }
+{
     match bytes {
         [b'\'', next, ..] => *next != b'\'',
         _ => false,

@@ -1,4 +1,5 @@
-use Rattle.std.proofs.Common.{◌<◌, ℕ, List, sym, subst, arith}
+use Rattle.std.proofs.Common.{◌<◌, ℕ, List, refl, sym, ap, subst, ◌∙◌, arith}
+use Rattle.ion_value.specs.Name.{is_simple}
 use Rattle.ion_value.specs.Value.{symbol, whole, Text}
 use Rattle.ion_text_in.specs.Feeding.{IsHead}
 use Rattle.ion_text_in.specs.Positions.{at}
@@ -12,7 +13,7 @@ returns-clause-found c =
     let next = c.next_told-next.result in
     let told : 0 < next.told = omega (arith, c.if-next-eq0.false) in
     record {
-      head = subst (λ (l : List ℕ). IsHead a.limits a.place a.bytes.now (whole (symbol (at (Text l) a.place))) rest) (sym c.front.ensures)
+      head = subst (λ (l : List ℕ). IsHead a.limits a.place a.bytes.now (whole (symbol (at (Text l) a.place))) rest) (sym c.front-text.ensures)
           (head-symbol a.limits a.place a.count a.bytes.now rest next c.behind-rest.ensures c.requires.word c.next_told-next.ensures told c.requires.bare c.requires.first);
-      spelled = tt;
+      spelled = (ap is_simple c.front-text.ensures ∙ c.requires.word.simple, refl);
     }

@@ -6,7 +6,7 @@ use Rattle.ion_text_in.specs.Feeding.{lane, Moved}
 use Rattle.ion_text_in.proofs.FeedItems.{closed-cost, moved-closed, moved-declined}
 use Rattle.ion_text_in.proofs.FeedLanes.{moved-none}
 use Rattle.ion_text_in.proofs.ReaderSteps.{closed-opened}
-use Rattle.ion_text_in.proofs.feed.close.Goals as goal
+use Rattle.ion_text_in.proofs.feed.close.close.Goals as goal
 
 pub returns-in_default-clause-moved : goal.returns-in_default-clause-moved
 returns-in_default-clause-moved g c =

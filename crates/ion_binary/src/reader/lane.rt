@@ -274,7 +274,8 @@ fn noted_front<'n, N: Names>(
 // How far a value may go: to the end of the wrapper around it, or else of its container.
 #[inline(always)]
 fn inner_end(wrapper: Option<u64>, around: u64) -> u64
-    ensures { (region : Region) → Bounds region around → Bounds (inner_region wrapper region) result }
+    ensures { (region : Region) → Bounds region around
+        → Bounds (inner_region wrapper region) result }
 {
     match wrapper {
         Some(end) => end,

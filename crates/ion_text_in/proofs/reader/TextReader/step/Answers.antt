@@ -5,10 +5,9 @@ use Rattle.ion_value.proofs.Cursors.{cursor-extends}
 use Rattle.ion_value.proofs.Passing.{lent-there}
 use Rattle.ion_text_in.specs.declared.reader.StepResult.TheVariants as step_result
 use Rattle.ion_text_in.specs.Firsts.{first_of, width}
-use Rattle.ion_text_in.specs.Positions.{in_sexp, innermost}
 use Rattle.ion_text_in.specs.Reading.{part_from}
 use Rattle.ion_text_in.specs.Token.{first_at}
-use Rattle.ion_text_in.specs.Steps.{comes, ending, opened_in, state_at}
+use Rattle.ion_text_in.specs.Steps.{comes, ending, state_at}
 use Rattle.ion_text_in.proofs.ReaderSteps.{gives-same, step-ended, step-part, step-unfinished, width-some}
 use Rattle.ion_text_in.proofs.ReaderCalls.{reached-look, reached-then, stepped-behind}
 use Rattle.ion_text_in.proofs.reader.TextReader.step.Goals as goal

@@ -21,8 +21,8 @@ use ion_value::plain_item::PlainItem;
 use ion_value::writer::ValueWriter;
 use std::alloc::Allocator;
 
-/// Behind a value: where no container is open, one more has ended. It is told by a jump, since that is
-/// rare.
+/// Behind a value: where no container is open, one more has ended. It is told by a jump, since
+/// that is rare.
 #[inline(always)]
 pub(super) fn pass_value<'a>(at: &mut Spot<'a>, rest: &'a [u8], top: u64, inner: Option<Kind>)
     requires few { at.old.values < 2 ^ 63 }

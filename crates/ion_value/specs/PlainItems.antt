@@ -72,7 +72,7 @@ pub record IsSimple (item : PlacedItem) : Type 0 where
 
 -- ---- items that come with a text
 
--- a text is the canonical one of an int, a decimal or a timestamp
+-- a text is the canonical one of an int, a decimal or a timestamp: nothing else comes with one
 abbrev pub IsTextOf : List ℕ → Head SymbolAt → Type 0
 IsTextOf text (whole (int number)) = text ≡ int_text number
 IsTextOf text (whole (decimal number)) = text ≡ decimal_text number

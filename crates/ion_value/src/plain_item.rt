@@ -22,7 +22,8 @@ pub struct PlainItem<'n, 'h> {
     pub annotation: Option<TextAt<'n>>,
     /// What the item is.
     pub head: Head<'h>,
-    /// The head's canonical text, where a reader has it.
+    /// The canonical text of the head, where a reader has it: of an int, a decimal or a timestamp
+    /// alone. A writer of text puts it as it stands.
     pub spelled: Option<&'h [u8]>,
     /// The place of the head's first byte in the input.
     pub place: u64,

@@ -121,8 +121,8 @@ impl<A: Allocator + Copy> Buf<A> {
         true
     }
 
-    /// Adds the first bytes of a block at the end, so many, and more behind them, where there is room
-    /// for the whole block and the others. Else it answers false, and nothing is changed.
+    /// Adds the first bytes of a block at the end, so many, and more behind them, where there is
+    /// room for the whole block and the others. Else it answers false, and nothing is changed.
     #[inline(always)]
     pub fn extend_block_if_room(
         &mut self,
@@ -160,7 +160,8 @@ impl<A: Allocator + Copy> Buf<A> {
         requires within { count ≤ 8 }
         requires others_within { others ≤ 8 }
         requires room { meter.old.held + 16 < 2 ^ 63 }
-        ensures bytes { result ≡ true → self.new ≡ self.old ++ (take count block ++ take others other) }
+        ensures bytes { result ≡ true
+            → self.new ≡ self.old ++ (take count block ++ take others other) }
         ensures cost { result ≡ true → Grows meter.old meter.new (count + others) }
         ensures declines { result ≡ false → (self.new ≡ self.old) × (meter.new ≡ meter.old) }
     {

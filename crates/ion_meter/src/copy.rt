@@ -1,8 +1,8 @@
 //! Copies of bytes.
 ghost use Rattle.std.specs.Prelude.{◌≡◌, ◌+◌, ◌≤◌, length};
 
-/// Copies bytes: at most 32 as two moves of a size that is known here, which may overlap, so that no
-/// call is made.
+/// Copies bytes: at most 32 as two moves of a size that is known here, which may overlap, so that
+/// no call is made.
 #[inline(always)]
 pub(crate) fn copy(to: &mut [u8], from: &[u8])
     requires { length to.old ≡ length from.now }

@@ -1,5 +1,5 @@
 -- A plain item that a writer takes goes from a reader to it, and the writer can take what comes behind it.
-use Rattle.std.proofs.Common.{◌≡◌, ℕ, ◌+◌, Bool, false, List, [], ◌∷◌, ◌++◌, map, Option, Some, None, refl, sym, ap, subst, ◌∙◌}
+use Rattle.std.proofs.Common.{◌≡◌, ℕ, ◌+◌, false, List, [], ◌∷◌, ◌++◌, map, Option, Some, None, refl, sym, ap, subst, ◌∙◌}
 use Rattle.std.specs.Prelude.{option_map}
 use Rattle.ion_meter.specs.Counts.{Counts}
 use Rattle.ion_meter.specs.Windows.{Outgoing}
@@ -9,7 +9,7 @@ use Rattle.ion_value.specs.declared.writer.ValueWriter.{Ghosts as WriterOf}
 use Rattle.ion_value.specs.Feeding.{CanTake, Feeds, nothing, more, Hands, Joint, StaysWell}
 use Rattle.ion_value.specs.Items.{named, named_at, named_item}
 use Rattle.ion_value.specs.Outcome.{one_if_closed}
-use Rattle.ion_value.specs.PlainItems.{AreSimple, HasSimpleName, IsKnown, IsKnownHead, IsKnownScalar, IsSimple, IsSimpleText}
+use Rattle.ion_value.specs.PlainItems.{AreSimple, HasSimpleName, IsKnown, IsKnownHead, IsSimple, IsSimpleText}
 use Rattle.ion_value.specs.Reading.{Finished, Reading, More}
 use Rattle.ion_value.specs.Standing.{open_after, open_behind, is_marker, Continues, Fits}
 use Rattle.ion_value.specs.Value as value

@@ -1,5 +1,5 @@
 -- Items that a reader hands to a writer one after the other: where the two stand, and what each item changes.
-use Rattle.std.specs.Prelude.{◌≡◌, ℕ, ◌+◌, List, [], ◌∷◌, ◌++◌, Option, None}
+use Rattle.std.specs.Prelude.{◌≡◌, ℕ, ◌+◌, List, [], ◌∷◌, ◌++◌, None}
 use Rattle.ion_meter.specs.Counts.{Counts}
 use Rattle.ion_meter.specs.Windows.{Outgoing}
 use Rattle.ion_value.specs.declared.ion_type.Kind.{Kind}

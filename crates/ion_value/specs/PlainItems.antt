@@ -82,7 +82,7 @@ abbrev pub IsOwnText : List ℕ → Symbol → Type 0
 IsOwnText text (Text bytes) = (is_simple bytes ≡ true) × (text ≡ bytes)
 IsOwnText text (Id id) = ⊥
 
--- a text is the canonical one of an int, a decimal, a timestamp or a simple symbol
+-- a text is the canonical one of an int, a decimal, a timestamp or a simple symbol: nothing else comes with one
 abbrev pub IsTextOf : List ℕ → Head SymbolAt → Type 0
 IsTextOf text (whole (int number)) = text ≡ int_text number
 IsTextOf text (whole (decimal number)) = text ≡ decimal_text number

@@ -23,8 +23,8 @@ pub struct PlainItem<'n, 'h> {
     pub annotation: Option<TextAt<'n>>,
     /// What the item is.
     pub head: Head<'h>,
-    /// The head's canonical text, where a reader has it: that of an int, a decimal, a timestamp, or a
-    /// symbol whose text is simple.
+    /// The canonical text of the head, where a reader has it: of an int, a decimal, a timestamp or a
+    /// symbol whose text is simple. A writer of text puts it as it stands.
     pub spelled: Option<&'h [u8]>,
     /// The place of the head's first byte in the input.
     pub place: u64,

@@ -1,4 +1,4 @@
-use Rattle.std.proofs.Common.{◌≡◌, ◌+◌, ◌-◌, List, ℕ, take, drop, ap, ◌∙◌, arith}
+use Rattle.std.proofs.Common.{◌≡◌, ◌+◌, ◌-◌, ℕ, take, drop, ap, ◌∙◌, arith}
 use Rattle.ion_meter.proofs.Gaps.{gap_opened, gap_opened_by}
 use Rattle.ion_meter.proofs.roomy.open_gap.Goals as goal
 

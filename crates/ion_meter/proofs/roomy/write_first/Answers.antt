@@ -1,4 +1,4 @@
-use Rattle.std.proofs.Common.{◌≡◌, ◌≤◌, ◌++◌, List, ℕ, take, length, ap, ◌∙◌, arith}
+use Rattle.std.proofs.Common.{◌≡◌, ◌++◌, List, ℕ, take, length, ap, ◌∙◌, arith}
 use Rattle.ion_meter.proofs.Gaps.{block_put}
 use Rattle.ion_meter.proofs.roomy.write_first.Goals as goal
 

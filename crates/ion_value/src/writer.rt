@@ -146,8 +146,9 @@ pub trait ValueWriter<O: Output, A: Allocator + Copy> {
     /// Takes a plain item as `item` takes items, or declines it: then it answers false, and nothing
     /// is changed. Nothing fails, and no device is used. No clause says which items it takes.
     ///
-    /// It is called where neither the writer nor its sink has failed. Each symbol is a simple text,
-    /// and where the item comes with a text (`spelled`), that is the canonical one of its head.
+    /// It is called where neither the writer nor its sink has failed. The item's name and annotation
+    /// are simple texts, a symbol that it is has a text, and where it comes with a text (`spelled`),
+    /// that is the canonical one of its head.
     fn take_plain(
         &mut self,
         meter: &mut Meter<A>,

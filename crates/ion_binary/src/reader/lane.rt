@@ -103,7 +103,7 @@ struct Named<'h> {
 // A head that comes without its text.
 #[inline(always)]
 fn unspelled<'h>(head: Head<'h>) -> Named<'h>
-    ensures { result ≡ record { head = head.entry; spelled = None; } }
+    ensures { result ≡ record { head = head.entry; spelled = None } }
 {
     Named {
         head,
@@ -113,11 +113,7 @@ fn unspelled<'h>(head: Head<'h>) -> Named<'h>
 
 // A scalar as a head, where it is no symbol without a text.
 #[inline(always)]
-fn shown_head<'h, N: Names>(
-    scalar: ShownScalar<'h>,
-    place: u64,
-    names: &'h N,
-) -> Option<Named<'h>>
+fn shown_head<'h, N: Names>(scalar: ShownScalar<'h>, place: u64, names: &'h N) -> Option<Named<'h>>
     ensures head { IfSome result (λ h. raw_head h.head
         ≡ map_head (named_at (N.text names.entry.now))
         (whole (placed_scalar place (shown_scalar scalar.entry)))) }
@@ -161,7 +157,7 @@ fn shown_symbol<'h, N: Names>(id: u32, place: u64, names: &'h N) -> Option<Named
 // The symbol of a text.
 #[inline(always)]
 fn symbol_head(text: &[u8], place: u64) -> Head<'_>
-    ensures { raw_head result ≡ whole (symbol (record { symbol = Text text.now; place = place; })) }
+    ensures { raw_head result ≡ whole (symbol (record { symbol = Text text.now; place = place })) }
 {
     Head::Symbol(SymAt {
         sym: Sym::Text(text),
@@ -296,7 +292,12 @@ fn fills(wrapper: Option<u64>, place: u64) -> bool
 
 // An item of what stands in front of its head, and its head.
 #[inline(always)]
-fn item_behind<'n, 'h>(front: Front<'n>, named: Named<'h>, place: u64, top: u64) -> PlainItem<'n, 'h>
+fn item_behind<'n, 'h>(
+    front: Front<'n>,
+    named: Named<'h>,
+    place: u64,
+    top: u64,
+) -> PlainItem<'n, 'h>
     ensures { result ≡ record {
       field = front.entry.field;
       annotation = front.entry.annotation;

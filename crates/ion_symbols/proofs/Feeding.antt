@@ -20,6 +20,7 @@ use Rattle.ion_symbols.specs.Table.{Slot, Shared, Table, known, unknown, gap, ab
 use Rattle.ion_symbols.specs.Declaration.{word_by_id, word_in}
 use Rattle.ion_symbols.specs.Users.{fine, annotations_checked, begins_declaration, checked, declares, field_checked, head_checked, is_declaration, is_struct, level_after, plain, resolve, slot_checked, symbol_checked, users}
 use Rattle.ion_symbols.specs.User.{CheckedAs}
+use Rattle.ion_value.proofs.Handing.{simple-known}
 use Rattle.ion_symbols.proofs.UserTurns.{item_given, level_opens}
 
 -- ---- the symbols of a simple item are fine
@@ -34,12 +35,8 @@ known_fine : (t : Table) (place : ℕ) (s : Symbol) → IsKnown (named (text_at 
 known_fine t place (value.Text bytes) text = refl
 known_fine t place (value.Id id) text = slot_fine id place (slot_of t id) text
 
-simple_known : (s : Symbol) → IsSimpleText s → IsKnown s
-simple_known (value.Text bytes) simple = tt
-simple_known (value.Id id) simple = absurd simple
-
 symbol_fine : (t : Table) (place : ℕ) (s : Symbol) → IsSimpleText (named (text_at t) s) → symbol_checked t true place s ≡ fine
-symbol_fine t place s simple = known_fine t place s (simple_known (named (text_at t) s) simple)
+symbol_fine t place s simple = known_fine t place s (simple-known (named (text_at t) s) simple)
 
 field_fine : (t : Table) (field : Option SymbolAt) → HasSimpleName (option_map (named_at (text_at t)) field) → field_checked t true field ≡ fine
 field_fine t None simple = refl

@@ -22,20 +22,21 @@ symbol-kept : (texts : ℕ → Option (List ℕ)) (s : Symbol) → IsKnown s →
 symbol-kept texts (value.Text bytes) text = refl
 symbol-kept texts (value.Id id) text = absurd text
 
-simple-text : (s : Symbol) → IsSimpleText s → IsKnown s
-simple-text (value.Text bytes) simple = tt
-simple-text (value.Id id) simple = absurd simple
+-- a simple text is a text
+pub simple-known : (s : Symbol) → IsSimpleText s → IsKnown s
+simple-known (value.Text bytes) simple = tt
+simple-known (value.Id id) simple = absurd simple
 
 at-kept : (texts : ℕ → Option (List ℕ)) (s : SymbolAt) → IsKnown s.symbol → named_at texts s ≡ s
 at-kept texts s text = ap (λ (x : Symbol). record { symbol = x; place = s.place }) (symbol-kept texts s.symbol text)
 
 name-kept : (texts : ℕ → Option (List ℕ)) (field : Option SymbolAt) → HasSimpleName field → option_map (named_at texts) field ≡ field
 name-kept texts None simple = refl
-name-kept texts (Some s) simple = ap (λ (x : SymbolAt). Some x) (at-kept texts s (simple-text s.symbol simple))
+name-kept texts (Some s) simple = ap (λ (x : SymbolAt). Some x) (at-kept texts s (simple-known s.symbol simple))
 
 all-kept : (texts : ℕ → Option (List ℕ)) (ss : List SymbolAt) → AreSimple ss → map (named_at texts) ss ≡ ss
 all-kept texts [] simple = refl
-all-kept texts (s ∷ ss) simple = ap (λ (x : SymbolAt). x ∷ map (named_at texts) ss) (at-kept texts s (simple-text s.symbol simple.0)) ∙ ap (λ (l : List SymbolAt). s ∷ l) (all-kept texts ss simple.1)
+all-kept texts (s ∷ ss) simple = ap (λ (x : SymbolAt). x ∷ map (named_at texts) ss) (at-kept texts s (simple-known s.symbol simple.0)) ∙ ap (λ (l : List SymbolAt). s ∷ l) (all-kept texts ss simple.1)
 
 head-kept : (texts : ℕ → Option (List ℕ)) (head : Head SymbolAt) → IsKnownHead head → map_head (named_at texts) head ≡ head
 head-kept texts (value.whole (value.null type)) simple = refl

@@ -69,7 +69,7 @@ IsKnownHead (begin kind) = ⊤
 IsKnownHead end = ⊤
 IsKnownHead marker = ⊥
 
--- an item's name and annotations are simple texts, a symbol that it is is a text, and it is no version marker
+-- an item's name and annotations are simple texts; its head, where that is a symbol, is a text, and it is no version marker
 pub record IsSimple (item : PlacedItem) : Type 0 where
   pub field : HasSimpleName item.field
   pub annotations : AreSimple item.annotations

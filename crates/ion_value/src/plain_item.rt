@@ -13,8 +13,9 @@ pub struct TextAt<'a> {
 }
 
 /// An item of a user value that has one annotation at most. Its name and its annotation are simple
-/// texts: identifiers that mean nothing else and do not begin with a dollar sign. A symbol that it is
-/// is any text, and no id. Names have a lifetime of their own, since they may stand in a symbol table.
+/// texts: identifiers that mean nothing else and do not begin with a dollar sign. Its head, where that
+/// is a symbol, is a text, and no id. Names have a lifetime of their own, since they may stand in a
+/// symbol table.
 #[derive(Clone, Copy)]
 pub struct PlainItem<'n, 'h> {
     /// The field's name, inside a struct.

@@ -147,8 +147,8 @@ pub trait ValueWriter<O: Output, A: Allocator + Copy> {
     /// is changed. Nothing fails, and no device is used. No clause says which items it takes.
     ///
     /// It is called where neither the writer nor its sink has failed. The item's name and annotation
-    /// are simple texts, a symbol that it is has a text, and where it comes with a text (`spelled`),
-    /// that is the canonical one of its head.
+    /// are simple texts; its head, where that is a symbol, is a text; and where it comes with a text
+    /// (`spelled`), that is the canonical one of its head.
     fn take_plain(
         &mut self,
         meter: &mut Meter<A>,

@@ -95,17 +95,17 @@ fn shown_field<'n, N: Names>(
 
 // A head, and its canonical text where it is a symbol whose text is simple.
 #[derive(Clone, Copy)]
-struct Named<'h> {
+struct SpelledHead<'h> {
     head: Head<'h>,
     spelled: Option<&'h [u8]>,
 }
 
 // A head that comes without its text.
 #[inline(always)]
-fn unspelled<'h>(head: Head<'h>) -> Named<'h>
+fn unspelled<'h>(head: Head<'h>) -> SpelledHead<'h>
     ensures { result ≡ record { head = head.entry; spelled = None } }
 {
-    Named {
+    SpelledHead {
         head,
         spelled: None,
     }
@@ -113,7 +113,11 @@ fn unspelled<'h>(head: Head<'h>) -> Named<'h>
 
 // A scalar as a head, where it is no symbol without a text.
 #[inline(always)]
-fn shown_head<'h, N: Names>(scalar: ShownScalar<'h>, place: u64, names: &'h N) -> Option<Named<'h>>
+fn shown_head<'h, N: Names>(
+    scalar: ShownScalar<'h>,
+    place: u64,
+    names: &'h N,
+) -> Option<SpelledHead<'h>>
     ensures head { IfSome result (λ h. raw_head h.head
         ≡ map_head (named_at (N.text names.entry.now))
         (whole (placed_scalar place (shown_scalar scalar.entry)))) }
@@ -134,7 +138,7 @@ fn shown_head<'h, N: Names>(scalar: ShownScalar<'h>, place: u64, names: &'h N) -
 
 // The symbol of this id as a head, where the id has a text.
 #[inline(always)]
-fn shown_symbol<'h, N: Names>(id: u32, place: u64, names: &'h N) -> Option<Named<'h>>
+fn shown_symbol<'h, N: Names>(id: u32, place: u64, names: &'h N) -> Option<SpelledHead<'h>>
     ensures head { IfSome result (λ h. raw_head h.head
         ≡ map_head (named_at (N.text names.entry.now))
         (whole (placed_scalar place (shown_scalar (ShownScalar.Symbol id))))) }
@@ -143,7 +147,7 @@ fn shown_symbol<'h, N: Names>(id: u32, place: u64, names: &'h N) -> Option<Named
         (λ h. IfSome h.spelled (λ text. IsTextOf text.now (raw_head h.head))) }
 {
     if let Some(text) = names.simple_text(id) {
-        return Some(Named {
+        return Some(SpelledHead {
             head: symbol_head(text, place),
             spelled: Some(text),
         });
@@ -294,15 +298,15 @@ fn fills(wrapper: Option<u64>, place: u64) -> bool
 #[inline(always)]
 fn item_behind<'n, 'h>(
     front: Front<'n>,
-    named: Named<'h>,
+    shown: SpelledHead<'h>,
     place: u64,
     top: u64,
 ) -> PlainItem<'n, 'h>
     ensures { result ≡ record {
       field = front.entry.field;
       annotation = front.entry.annotation;
-      head = named.entry.head;
-      spelled = named.entry.spelled;
+      head = shown.entry.head;
+      spelled = shown.entry.spelled;
       place = place;
       top = top;
     } }
@@ -310,8 +314,8 @@ fn item_behind<'n, 'h>(
     PlainItem {
         field: front.field,
         annotation: front.annotation,
-        head: named.head,
-        spelled: named.spelled,
+        head: shown.head,
+        spelled: shown.spelled,
         place,
         top,
     }
@@ -738,10 +742,10 @@ impl<I: Input, A: Allocator + Copy> BinReader<I, A> {
         let top = top_at(*around, self.top, here);
         match found {
             Shown::Scalar(scalar) => {
-                let Some(named) = shown_head(scalar, place, names) else {
+                let Some(shown) = shown_head(scalar, place, names) else {
                     return false;
                 };
-                let item = item_behind(front, named, place, top);
+                let item = item_behind(front, shown, place, top);
                 if !writer.take_plain(meter, sink, item) {
                     return false;
                 }

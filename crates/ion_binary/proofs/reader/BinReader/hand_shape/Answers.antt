@@ -42,7 +42,7 @@ take_plain-requires-clause-path g c =
     let full = rw c.in-Scalar.is at c.in-Some.ensures.fills in
     let v = front.gives (length (as_frames r.frames)) c.in-Some.behind (shown.Scalar c.in-Scalar.scalar) shows full in
     let head = rw c.place-here.ensures at c.in-Some-shown_head.ensures.head in
-    let plain : PlainItem = record { field = c.args.front.field; annotation = c.args.front.annotation; head = c.in-Some-shown_head.named.head; spelled = c.in-Some-shown_head.named.spelled; place = c.place-here.result + c.args.front.head; top = c.top_at-top.result } in
+    let plain : PlainItem = record { field = c.args.front.field; annotation = c.args.front.annotation; head = c.in-Some-shown_head.shown.head; spelled = c.in-Some-shown_head.shown.spelled; place = c.place-here.result + c.args.front.head; top = c.top_at-top.result } in
     let fits = scalar_fits r.limits.depth r.frames f texts (r.source.place + c.args.front.head) (shown_scalar c.in-Scalar.scalar) plain inner name.there head v.may_be in
     let write = c.requires.can_hand.writer in
     rw c.item_behind-item.ensures (path_here w r.limits.depth (opened_in r) c.args.writer.now (PlainItems.placed_item plain) write.depth_of fits
@@ -84,7 +84,7 @@ returns-else-not-take_plain-clause-hands g c e =
     let full = rw c.in-Scalar.is at c.in-Some.ensures.fills in
     let v = front.gives (length (as_frames r.frames)) c.in-Some.behind (shown.Scalar c.in-Scalar.scalar) shows full in
     let head = rw c.place-here.ensures at c.in-Some-shown_head.ensures.head in
-    let plain : PlainItem = record { field = c.args.front.field; annotation = c.args.front.annotation; head = c.in-Some-shown_head.named.head; spelled = c.in-Some-shown_head.named.spelled; place = c.place-here.result + c.args.front.head; top = c.top_at-top.result } in
+    let plain : PlainItem = record { field = c.args.front.field; annotation = c.args.front.annotation; head = c.in-Some-shown_head.shown.head; spelled = c.in-Some-shown_head.shown.spelled; place = c.place-here.result + c.args.front.head; top = c.top_at-top.result } in
     let fits = scalar_fits r.limits.depth r.frames f texts (r.source.place + c.args.front.head) (shown_scalar c.in-Scalar.scalar) plain inner name.there head v.may_be in
     let write = c.requires.can_hand.writer in
     let taken = rw c.item_behind-item.ensures at c.if-not-take_plain.ensures in

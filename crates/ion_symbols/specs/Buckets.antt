@@ -1,5 +1,5 @@
 -- The bucket of a text, and the texts that stand in it.
-use Rattle.std.specs.Prelude.{◌≡◌, ℕ, ◌+◌, ◌-◌, ◌*◌, ◌/◌, ◌%◌, ◌^◌, ◌<◌, ◌≤◌, ◌==◌, nat_le, nat_lt, if◌then◌else◌, List, [], ◌∷◌, length, slice_index, slice_index_or, None}
+use Rattle.std.specs.Prelude.{◌≡◌, ℕ, zero, suc, ◌+◌, ◌-◌, ◌*◌, ◌/◌, ◌%◌, ◌^◌, ◌<◌, ◌≤◌, ◌==◌, nat_le, nat_lt, if◌then◌else◌, List, [], ◌∷◌, length, slice_index, slice_index_or, slice_set, None}
 use Rattle.std.specs.Int.{w32, w64, from_le_bytes}
 use Rattle.ion_symbols.specs.declared.ordered.Place.{Place}
 use Rattle.ion_symbols.specs.Output.{system_id}
@@ -41,21 +41,58 @@ sum_of t =
 unfoldable pub bucket_of : List ℕ → ℕ
 bucket_of t = (sum_of t + sum_of t / 2 ^ 32) % 2 ^ 64 * 11400714819323198485 % 2 ^ 64 / 2 ^ 55
 
--- of the first n texts none from a place on stands in a bucket, and the one before that place does
-pub record IsLatest (texts : List (List ℕ)) (bucket n next : ℕ) : Type 0 where
+-- of the first n texts, but for one, none from a place on stands in a bucket, and the one before that place does; the one that is left out is given, as
+-- the place is, by one more than where it stands
+pub record IsLatest (texts : List (List ℕ)) (bucket but n next : ℕ) : Type 0 where
   pub within : next ≤ n
-  pub none_behind : (i : ℕ) → next ≤ i → i < n → bucket_of (slice_index_or texts i []) ≡ bucket → ⊥
+  pub none_behind : (i : ℕ) → next ≤ i → i < n → (i + 1 ≡ but → ⊥) → bucket_of (slice_index_or texts i []) ≡ bucket → ⊥
   pub there : 0 < next → bucket_of (slice_index_or texts (next - 1) []) ≡ bucket
+  pub another : 0 < next → next ≡ but → ⊥
 
--- each bucket has the place of its last text, and each text that of the one before it in its bucket; none is a system text
+-- the text in front of a bucket, by one more than where it stands, or 0, and then no text stands in the bucket
+pub record IsFront (texts : List (List ℕ)) (bucket front : ℕ) : Type 0 where
+  pub within : front ≤ length texts
+  pub none : front ≡ 0 → (i : ℕ) → i < length texts → bucket_of (slice_index_or texts i []) ≡ bucket → ⊥
+  pub there : 0 < front → bucket_of (slice_index_or texts (front - 1) []) ≡ bucket
+
+-- each bucket has the place of the text in front; that one has the place of the last of the others, and each of these that of the one before it; none is a
+-- system text
 pub record Chained (texts : List (List ℕ)) (places : List Place) (buckets : List ℕ) : Type 0 where
   pub many : length buckets ≡ 512
-  pub heads : (b : ℕ) → b < 512 → IsLatest texts b (length texts) (slice_index buckets b)
-  pub links : (i : ℕ) (d : Place) → i < length texts → IsLatest texts (bucket_of (slice_index_or texts i [])) i (slice_index_or places i d).next
+  pub fronts : (b : ℕ) → b < 512 → IsFront texts b (slice_index buckets b)
+  pub lasts : (b : ℕ) (d : Place) → b < 512 → 0 < slice_index buckets b
+      → IsLatest texts b (slice_index buckets b) (length texts) (slice_index_or places (slice_index buckets b - 1) d).next
+  pub links : (i : ℕ) (d : Place) → i < length texts → (i + 1 ≡ slice_index buckets (bucket_of (slice_index_or texts i [])) → ⊥)
+      → IsLatest texts (bucket_of (slice_index_or texts i [])) (slice_index buckets (bucket_of (slice_index_or texts i []))) i (slice_index_or places i d).next
   pub no_system : (i : ℕ) → i < length texts → system_id (slice_index_or texts i []) ≡ None
 
--- none from a place on is the text that is looked for, and the one before that place stands in its bucket
-pub record Looks (texts : List (List ℕ)) (t : List ℕ) (at : ℕ) : Type 0 where
+-- neither the text in front nor one from a place on is the text that is looked for, and the one before that place stands in its bucket, and not in front
+pub record Looks (texts : List (List ℕ)) (front : ℕ) (t : List ℕ) (at : ℕ) : Type 0 where
   pub within : at ≤ length texts
   pub none_behind : (i : ℕ) → at ≤ i → i < length texts → slice_index_or texts i [] ≡ t → ⊥
   pub there : 0 < at → bucket_of (slice_index_or texts (at - 1) []) ≡ bucket_of t
+  pub another : 0 < at → at ≡ front → ⊥
+  pub not_front : 0 < front → slice_index_or texts (front - 1) [] ≡ t → ⊥
+
+-- ---- a text that is put into its bucket
+
+-- what the text in front links to
+abbrev pub link_behind : List Place → ℕ → ℕ
+link_behind places zero = 0
+link_behind places (suc front) = (slice_index_or places front (record { from = 0; to = 0; next = 0 })).next
+
+-- the places, of which one links to another text
+abbrev pub relinked : List Place → ℕ → ℕ → List Place
+relinked [] at next = []
+relinked (p ∷ ps) zero next = record { from = p.from; to = p.to; next = next } ∷ ps
+relinked (p ∷ ps) (suc at) next = p ∷ relinked ps at next
+
+-- behind the text in front, where there is one
+abbrev pub put_behind : List Place → ℕ → ℕ → List Place
+put_behind places zero next = places
+put_behind places (suc front) next = relinked places front next
+
+-- or in front
+abbrev pub put_in_front : List ℕ → ℕ → ℕ → ℕ → List ℕ
+put_in_front buckets of zero next = slice_set buckets of next
+put_in_front buckets of (suc front) next = buckets

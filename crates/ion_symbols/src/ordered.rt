@@ -7,14 +7,15 @@ ghost use Rattle.ion_symbols.specs.Ordered.{Ordered, ordered_texts};
 use std::cmp::Ordering;
 use std::marker::Model;
 
-/// Where a text stands among bytes, and which text came before it in its bucket.
+/// Where a text stands among bytes, and another text of its bucket.
 #[derive(Clone, Copy)]
 pub(crate) struct Place {
     /// Where its first byte stands.
     pub(crate) from: u32,
     /// Where the byte behind its last one stands.
     pub(crate) to: u32,
-    /// One more than the place of the text that came last before it in its bucket, or 0.
+    /// One more than the place of another text of its bucket, or 0: for the one in front the last that
+    /// came, for another the last that came before it and is not in front.
     pub(crate) next: u32,
 }
 

@@ -1,12 +1,12 @@
 //! The symbol table of an output.
-ghost use Rattle.std.specs.Prelude.{◌≡◌, ℕ, ◌+◌, ◌-◌, ◌*◌, ◌^◌, ◌<◌, ◌≤◌, [], List, length, drop, slice_get, Option, Some, None, MatchOption, IfOk, IfErr, OnErr, OnOk};
+ghost use Rattle.std.specs.Prelude.{◌≡◌, ℕ, ◌+◌, ◌-◌, ◌*◌, ◌^◌, ◌<◌, ◌≤◌, [], List, length, drop, slice_get, Option, Some, None, MatchOption, IfOk, IfErr, OnErr, OnOk, slice_index};
 ghost use Rattle.ion_meter.specs.declared.fault.Fault.TheVariants.{Memory};
 ghost use Rattle.ion_meter.specs.Limits.{AreChecked};
 ghost use Rattle.ion_meter.specs.Counts.{Shrinks};
 ghost use Rattle.ion_value.specs.Shares.{Charges};
 ghost use Rattle.std.specs.Str.{bytes_eq};
 ghost use Rattle.ion_symbols.specs.Output.{Belongs, CanAdd, IsSorted, binary_digits, id_given, known_id, probes_for, system_id, texts_cost};
-ghost use Rattle.ion_symbols.specs.Buckets.{Looks};
+ghost use Rattle.ion_symbols.specs.Buckets.{Looks, bucket_of, link_behind, put_behind, put_in_front};
 ghost use Rattle.ion_value.specs.Items.{is_none_left};
 
 use crate::hash::{BUCKETS, bucket, eight, few, four, no_buckets};
@@ -49,7 +49,7 @@ pub struct OutSymbols<A: Allocator + Copy> {
     bytes: Buf<A>,
     places: Table<Place, A>,
     order: Table<u32, A>,
-    // One more than the place of the last text of each bucket, or 0. They do not grow.
+    // One more than the place of the text in front of each bucket, or 0. They do not grow.
     buckets: [u32; BUCKETS],
     limit: u64,
     probes: u32,
@@ -146,37 +146,46 @@ impl<A: Allocator + Copy> OutSymbols<A> {
         }
     }
 
-    /// The id of a text, as `id_of` gives it, where it has one. It compares the text with the last few
-    /// of its bucket, and looks for it by halving only where there are more, or where buckets are
-    /// long. Nothing is changed.
+    /// The id of a text, as `id_of` gives it, where it has one. It compares the text with the first of
+    /// its bucket and with the last few, and looks for it by halving only where there are more, or where
+    /// buckets are long. Nothing is changed.
     #[inline]
     pub fn known(&self, text: &[u8]) -> Option<u32>
         ensures { result ≡ known_id self.now.texts text.now }
     {
-        let bytes = self.bytes.as_slice();
-        let places = self.places.as_slice();
-        if places.len() > MOST_IN_BUCKETS {
-            return self.known_by_halving(text);
-        }
-        let last = self.buckets[bucket(text)];
-        if last > 0 && text.len() <= SHORT {
-            let place = places[last as usize - 1];
+        let of = bucket(text);
+        let front = self.buckets[of];
+        if front > 0 && text.len() <= SHORT {
+            let place = self.places.as_slice()[front as usize - 1];
+            let bytes = self.bytes.as_slice();
             if is_same_short(&bytes[place.from as usize..place.to as usize], text) {
-                return Some(FIRST_ID + last - 1);
+                return Some(FIRST_ID + front - 1);
             }
         }
-        self.known_in_bucket(text, last)
+        self.known_in_bucket(text, of)
     }
 
-    // The id of a text, among those of its bucket, of which the last is given.
+    // The id of a text of this bucket: of the text in front of it, or of one of the last of the others.
     #[inline(never)]
-    fn known_in_bucket(&self, text: &[u8], last: u32) -> Option<u32>
-        requires { Looks self.now.texts text.now last }
+    fn known_in_bucket(&self, text: &[u8], of: usize) -> Option<u32>
+        requires of { of ≡ bucket_of text.now }
+        requires within { of < BUCKETS }
         ensures { result ≡ known_id self.now.texts text.now }
     {
         let bytes = self.bytes.as_slice();
         let places = self.places.as_slice();
-        let mut at = last;
+        let front = self.buckets[of];
+        if front == 0 {
+            return system_id(text);
+        }
+        let first = places[front as usize - 1];
+        if is_same(&bytes[first.from as usize..first.to as usize], text) {
+            return Some(FIRST_ID + front - 1);
+        }
+        if places.len() > MOST_IN_BUCKETS {
+            return self.known_by_halving(text);
+        }
+        let mut at = first.next;
         let mut left = MOST_COMPARED;
         while at > 0 {
             if left == 0 {
@@ -287,7 +296,7 @@ impl<A: Allocator + Copy> OutSymbols<A> {
         let stands = Place {
             from: from as u32,
             to: (from + text.len()) as u32,
-            next: self.buckets[of],
+            next: last_behind(self.places.as_slice(), self.buckets[of]),
         };
         if let Err(failed) = self.places.push(meter, stands) {
             self.bytes.truncate(meter, from);
@@ -298,7 +307,7 @@ impl<A: Allocator + Copy> OutSymbols<A> {
             self.bytes.truncate(meter, from);
             return Err(failed.1);
         }
-        self.buckets[of] = id as u32 + 1;
+        put_in_bucket(&mut self.places, &mut self.buckets, of, id as u32 + 1);
         Ok(Some(FIRST_ID + id as u32))
     }
 
@@ -395,6 +404,49 @@ impl<'a> Texts<'a> {
         let place = self.places.get(index)?;
         Some(&self.bytes[place.from as usize..place.to as usize])
     }
+}
+
+// What the text in front of a bucket links to, or 0 where there is none.
+#[inline]
+fn last_behind(places: &[Place], front: u32) -> u32
+    requires { front ≤ length places.now }
+    ensures { result ≡ link_behind places.now front }
+{
+    if front == 0 {
+        0
+    } else {
+        places[front as usize - 1].next
+    }
+}
+
+// Puts the last text into its bucket: behind the one in front, where there is one, or else in front.
+// It is given by one more than its place.
+#[inline]
+fn put_in_bucket<A: Allocator + Copy>(
+    places: &mut Table<Place, A>,
+    buckets: &mut [u32; BUCKETS],
+    of: usize,
+    last: u32,
+)
+    requires of { of < BUCKETS }
+    requires front { slice_index buckets.old of ≤ length places.old.items }
+    ensures places { places.new.items
+        ≡ put_behind places.old.items (slice_index buckets.old of) last }
+    ensures cost { places.new.cost ≡ places.old.cost }
+    ensures buckets { buckets.new ≡ put_in_front buckets.old of (slice_index buckets.old of) last }
+{
+    let front = buckets[of] as usize;
+    if front == 0 {
+        buckets[of] = last;
+        return;
+    }
+    let first = places.as_slice()[front - 1];
+    let linked = Place {
+        from: first.from,
+        to: first.to,
+        next: last,
+    };
+    places.set(front - 1, linked);
 }
 
 // Whether two texts are the same; most that are not differ in their lengths.

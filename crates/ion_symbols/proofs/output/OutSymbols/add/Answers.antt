@@ -1,10 +1,11 @@
-use Rattle.std.proofs.Common.{◌+◌, length, refl, ap, ◌∙◌, sym, arith}
+use Rattle.std.proofs.Common.{◌+◌, ◌*◌, ◌≤◌, length, get_or, refl, ap, ◌∙◌, sym, subst, arith}
 use Rattle.std.proofs.lemmas.Grind.{common_steps}
 use Rattle.std.proofs.lemmas.List.{length-map}
 use Rattle.ion_symbols.specs.Output.{Output}
 use Rattle.ion_symbols.proofs.Adding.{nothing_charged, share_kept, belongs_kept, place_within, ordered_push, share_push, few_push, texts_pushed, given_push, charges_push, held_push}
+use Rattle.ion_symbols.specs.Buckets.{link_behind}
 use Rattle.ion_symbols.specs.Ordered.{place_text}
-use Rattle.ion_symbols.proofs.InBuckets.{chained_push, not_of_system}
+use Rattle.ion_symbols.proofs.InBuckets.{chained_push, front_within, length-behind, not_of_system, ordered-behind, texts-behind}
 use Rattle.ion_symbols.proofs.output.OutSymbols.add.Goals as goal
 
 pub returns-then-length-self-clause-charges : goal.returns-then-length-self-clause-charges
@@ -33,18 +34,23 @@ invariant_of-self-2 g c =
     let from = ap length c.as_slice-from.ensures in
     let n = ap length c.as_slice-id.ensures in
     let long = length-map c.self.inside.places.items (place_text c.self.inside.bytes) in (
-      ordered_push c.self.inside.bytes c.extend.new.self c.args.text.now c.self.inside.places.items c.push.new.self.items _ c.self.inside.order.items c.insert.new.self.items c.args.place (length c.as_slice-id.result.now)
-          c.self.invariant.0 b c.in_ok-extend.ensures.ok c.in_default.ensures.ok c.in_default-insert.ensures.ok n from (ap (λ k. k + length c.args.text.now) from) few,
+      ordered-behind c.extend.new.self c.push.new.self.items _ c.insert.new.self.items (get_or c.self.inside.buckets c.bucket-of.result 0) (length c.as_slice-id.result.now + 1)
+          (ordered_push c.self.inside.bytes c.extend.new.self c.args.text.now c.self.inside.places.items c.push.new.self.items _ c.self.inside.order.items c.insert.new.self.items c.args.place (length c.as_slice-id.result.now)
+          c.self.invariant.0 b c.in_ok-extend.ensures.ok c.in_default.ensures.ok c.in_default-insert.ensures.ok n from (ap (λ k. k + length c.args.text.now) from) few) c.put_in_bucket.ensures.places,
       record {
-        place_cost = c.push.ensures.same_cost ∙ c.self.invariant.1.place_cost;
+        place_cost = c.put_in_bucket.ensures.cost ∙ (c.push.ensures.same_cost ∙ c.self.invariant.1.place_cost);
         id_cost = c.insert.ensures.same_cost ∙ c.self.invariant.1.id_cost;
-        share = share;
+        share = subst (λ k. 16 * k + length c.extend.new.self ≤ c.self.inside.limit)
+            (sym (length-behind c.push.new.self.items _ (get_or c.self.inside.buckets c.bucket-of.result 0) (length c.as_slice-id.result.now + 1) c.put_in_bucket.ensures.places)) share;
         most = c.self.invariant.1.most;
       },
-      chained_push _ _ c.self.inside.places.items c.push.new.self.items c.self.inside.buckets _ c.args.text.now _ c.bucket-of.result (length c.as_slice-id.result.now + 1)
-          c.self.invariant.2 (sym long) (texts_pushed c.self.inside.bytes c.extend.new.self c.args.text.now c.self.inside.places.items c.push.new.self.items _ c.self.inside.order.items _
+      chained_push _ _ c.self.inside.places.items c.push.new.self.items _ c.self.inside.buckets _ c.args.text.now _ c.bucket-of.result (length c.as_slice-id.result.now + 1)
+          c.self.invariant.2 (sym long)
+          (texts-behind c.extend.new.self c.push.new.self.items _ (get_or c.self.inside.buckets c.bucket-of.result 0) (length c.as_slice-id.result.now + 1) c.put_in_bucket.ensures.places
+          ∙ texts_pushed c.self.inside.bytes c.extend.new.self c.args.text.now c.self.inside.places.items c.push.new.self.items _ c.self.inside.order.items _
           c.self.invariant.0 refl c.in_ok-extend.ensures.ok c.in_default.ensures.ok from (ap (λ k. k + length c.args.text.now) from))
-          c.in_default.ensures.ok refl (ap (λ m. m + 1) (n ∙ sym long)) c.bucket-of.ensures.of c.bucket-of.ensures.within refl (not_of_system c.args.self.now.texts c.args.text.now c.requires.new),
+          c.in_default.ensures.ok c.put_in_bucket.ensures.places c.put_in_bucket.ensures.buckets (ap (λ m. m + 1) (n ∙ sym long)) c.bucket-of.ensures.of c.bucket-of.ensures.within
+          (c.last_behind.ensures ∙ ap (λ ps. link_behind ps (get_or c.self.inside.buckets c.bucket-of.result 0)) c.as_slice.ensures) (not_of_system c.args.self.now.texts c.args.text.now c.requires.new),
     )
 
 pub returns-clause-gives : goal.returns-clause-gives
@@ -52,7 +58,8 @@ returns-clause-gives g c =
     let t = ap (λ (s : Output). s.texts) c.self.view_is in
     let from = ap length c.as_slice-from.ensures in
     let n = ap length c.as_slice-id.ensures in
-    let more = texts_pushed c.self.inside.bytes c.extend.new.self c.args.text.now c.self.inside.places.items c.push.new.self.items _ c.self.inside.order.items c.args.self.now.texts
+    let more = texts-behind c.extend.new.self c.push.new.self.items _ (get_or c.self.inside.buckets c.bucket-of.result 0) (length c.as_slice-id.result.now + 1) c.put_in_bucket.ensures.places
+    ∙ texts_pushed c.self.inside.bytes c.extend.new.self c.args.text.now c.self.inside.places.items c.push.new.self.items _ c.self.inside.order.items c.args.self.now.texts
     c.self.invariant.0 t c.in_ok-extend.ensures.ok c.in_default.ensures.ok from (ap (λ k. k + length c.args.text.now) from) in
     given_push c.self.inside.limit c.args.self.now.limit c.args.self.now.texts _ c.args.text.now (length c.as_slice-id.result.now) c.cost.result
     c.requires.new (ap (λ (s : Output). s.limit) c.self.view_is) c.cost.ensures c.if-cost-length.false (n ∙ (sym (length-map c.self.inside.places.items _) ∙ ap length t)) more
@@ -61,7 +68,8 @@ pub returns-clause-charges : goal.returns-clause-charges
 returns-clause-charges g c =
     let t = ap (λ (s : Output). s.texts) c.self.view_is in
     let from = ap length c.as_slice-from.ensures in
-    let more = texts_pushed c.self.inside.bytes c.extend.new.self c.args.text.now c.self.inside.places.items c.push.new.self.items _ c.self.inside.order.items c.args.self.now.texts
+    let more = texts-behind c.extend.new.self c.push.new.self.items _ (get_or c.self.inside.buckets c.bucket-of.result 0) (length c.as_slice-id.result.now + 1) c.put_in_bucket.ensures.places
+    ∙ texts_pushed c.self.inside.bytes c.extend.new.self c.args.text.now c.self.inside.places.items c.push.new.self.items _ c.self.inside.order.items c.args.self.now.texts
     c.self.invariant.0 t c.in_ok-extend.ensures.ok c.in_default.ensures.ok from (ap (λ k. k + length c.args.text.now) from) in
     charges_push c.args.meter.now c.extend.new.meter c.push.new.meter c.insert.new.meter c.self.inside.limit c.args.self.now.limit c.args.self.now.texts _ c.args.text.now c.self.inside.places.cost c.self.inside.order.cost c.cost.result
     c.in_ok-extend.ensures.cost c.in_default.ensures.cost c.in_default-insert.ensures.cost c.self.invariant.1.place_cost c.self.invariant.1.id_cost c.requires.can_add.held (ap (λ (s : Output). s.limit) c.self.view_is) c.cost.ensures c.if-cost-length.false more

@@ -1,9 +1,9 @@
 -- Texts that are the same by the bytes at their ends.
-use Rattle.std.proofs.Common.{◌≡◌, ℕ, zero, suc, ◌+◌, ◌-◌, ◌<◌, ◌≤◌, nat_eq, Bool, true, false, inl, inr, List, [], ◌∷◌, length, get_or, refl, sym, ap, subst, ◌∙◌, arith}
+use Rattle.std.proofs.Common.{◌≡◌, ℕ, zero, suc, ◌+◌, ◌-◌, ◌<◌, ◌≤◌, nat_eq, Bool, true, false, inl, inr, List, [], ◌∷◌, ◌++◌, length, take, drop, get_or, refl, sym, ap, ap₂, subst, ◌∙◌, arith}
 use Rattle.std.specs.Int.{w32, w64, to_le_bytes}
 use Rattle.std.specs.Str.{bytes_eq}
 use Rattle.std.proofs.lemmas.Bool.{cases_lt, eq-eqb}
-use Rattle.std.proofs.lemmas.List.{ext_get_or}
+use Rattle.std.proofs.lemmas.List.{drop-drop, ext_get_or, take-append-drop}
 use Rattle.std.proofs.lemmas.Nat.{le_bytes_4, le_bytes_8}
 use Rattle.std.proofs.lemmas.Slice.Eq.{bytes_eq-Decides}
 use Rattle.ion_symbols.specs.Buckets.{eight_at, four_at, few_of}
@@ -133,3 +133,12 @@ tells t o b f g = by b (bytes_eq t o) refl refl
     by true y p q = p ∙ sym ((bytes_eq-Decides t o).1 (f p))
     by false true p q = absurd (Prim.cc (sym p ∙ g ((bytes_eq-Decides t o).0 q)))
     by false false p q = p ∙ sym q
+
+-- ---- up to 32 bytes
+
+pub same-sixteens : (t o : List ℕ) → 16 ≤ length t → length t ≤ 32 → take 16 t ≡ take 16 o → drop (length t - 16) t ≡ drop (length t - 16) o → t ≡ o
+same-sixteens t o least most front back =
+    let n : length t - 16 + (32 - length t) ≡ 16 = omega (arith, least, most) in
+    let rest : drop 16 t ≡ drop 16 o =
+    ap (λ k. drop k t) (sym n) ∙ (sym (drop-drop (32 - length t) (length t - 16) t) ∙ (ap (drop (32 - length t)) back ∙ (drop-drop (32 - length t) (length t - 16) o ∙ ap (λ k. drop k o) n))) in
+    sym (take-append-drop 16 t) ∙ (ap₂ (λ a b. a ++ b) front rest ∙ take-append-drop 16 o)

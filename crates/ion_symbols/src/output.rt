@@ -27,7 +27,7 @@ const PLACE_COST: u64 = 12;
 const ID_COST: u64 = 4;
 
 /// The most bytes of a text that is compared at once.
-const SHORT: usize = 16;
+const SHORT: usize = 32;
 
 /// The most texts of a bucket that are compared before the search by halving.
 const MOST_COMPARED: u32 = 8;
@@ -468,6 +468,8 @@ fn is_same_short(text: &[u8], other: &[u8]) -> bool
 {
     if text.len() != other.len() {
         false
+    } else if text.len() > 16 {
+        are_same_sixteens(text, other)
     } else if text.len() >= 8 {
         are_same_eights(text, other)
     } else if text.len() >= 4 {
@@ -490,6 +492,22 @@ fn are_same_eights(text: &[u8], other: &[u8]) -> bool
         return false;
     }
     eight(text, last) == eight(other, last)
+}
+
+// The same of texts of 17 to 32 bytes: by the first sixteen and the last.
+#[inline(always)]
+fn are_same_sixteens(text: &[u8], other: &[u8]) -> bool
+    requires same { length text.now ≡ length other.now }
+    requires least { 16 ≤ length text.now }
+    requires most { length text.now ≤ 32 }
+    ensures { result ≡ bytes_eq text.now other.now }
+{
+    let last = text.len() - 16;
+    if are_same_eights(&text[..16], &other[..16]) {
+        are_same_eights(&text[last..], &other[last..])
+    } else {
+        false
+    }
 }
 
 // The same of texts of 4 to 8 bytes: by the first four and the last.

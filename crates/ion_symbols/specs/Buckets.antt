@@ -55,8 +55,8 @@ pub record IsFront (texts : List (List ℕ)) (bucket front : ℕ) : Type 0 where
   pub none : front ≡ 0 → (i : ℕ) → i < length texts → bucket_of (slice_index_or texts i []) ≡ bucket → ⊥
   pub there : 0 < front → bucket_of (slice_index_or texts (front - 1) []) ≡ bucket
 
--- each bucket has the place of the text in front; that one has the place of the last of the others, and each of these that of the one before it; none is a
--- system text
+-- each bucket has the text in front, by one more than its place, or 0; that one has the last of the others, and each of these the one before it; none is
+-- a system text
 pub record Chained (texts : List (List ℕ)) (places : List Place) (buckets : List ℕ) : Type 0 where
   pub many : length buckets ≡ 512
   pub fronts : (b : ℕ) → b < 512 → IsFront texts b (slice_index buckets b)

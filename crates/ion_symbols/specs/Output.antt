@@ -46,7 +46,7 @@ id_or_new limit texts t None =
 abbrev pub id_given : ℕ → List (List ℕ) → List ℕ → Option ℕ × List (List ℕ)
 id_given limit texts t = id_or_new limit texts t (known_id texts t)
 
--- the texts in order of id, the limit of their cost, and the probes of the last search
+-- the texts in order of id, the limit of their cost, and the probes of the last search of id_of
 pub record Output : Type 0 where
   pub texts : List (List ℕ)
   pub limit : ℕ

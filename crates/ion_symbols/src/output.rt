@@ -6,7 +6,7 @@ ghost use Rattle.ion_meter.specs.Counts.{Shrinks};
 ghost use Rattle.ion_value.specs.Shares.{Charges};
 ghost use Rattle.std.specs.Str.{bytes_eq};
 ghost use Rattle.ion_symbols.specs.Output.{Belongs, CanAdd, IsSorted, binary_digits, id_given, known_id, probes_for, system_id, texts_cost};
-ghost use Rattle.ion_symbols.specs.Buckets.{Looks, bucket_of, link_behind, put_behind, put_in_front};
+ghost use Rattle.ion_symbols.specs.Buckets.{bucket_of, link_behind, put_behind, put_in_front};
 ghost use Rattle.ion_value.specs.Items.{is_none_left};
 
 use crate::hash::{BUCKETS, bucket, eight, few, four, no_buckets};
@@ -29,10 +29,11 @@ const ID_COST: u64 = 4;
 /// The most bytes of a text that is compared at once.
 const SHORT: usize = 32;
 
-/// The most texts of a bucket that are compared before the search by halving.
+/// The most texts of a bucket that are compared behind the one in front, before the search by halving.
 const MOST_COMPARED: u32 = 8;
 
-/// The most texts that are looked for in buckets: where there are more, halving compares fewer.
+/// The most texts of a table in which those behind the front of a bucket are compared: where there are
+/// more, halving compares fewer.
 const MOST_IN_BUCKETS: usize = 4_096;
 
 /// The first id behind the system table's.
@@ -146,9 +147,9 @@ impl<A: Allocator + Copy> OutSymbols<A> {
         }
     }
 
-    /// The id of a text, as `id_of` gives it, where it has one. It compares the text with the first of
-    /// its bucket and with the last few, and looks for it by halving only where there are more, or where
-    /// buckets are long. Nothing is changed.
+    /// The id of a text, as `id_of` gives it, where it has one. It compares the text with the one in front
+    /// of its bucket, and then, where there are at most 4,096 texts, with the last few of the others. It
+    /// looks for the text by halving only where there are more. Nothing is changed.
     #[inline]
     pub fn known(&self, text: &[u8]) -> Option<u32>
         ensures { result ≡ known_id self.now.texts text.now }
@@ -221,8 +222,8 @@ impl<A: Allocator + Copy> OutSymbols<A> {
         }
     }
 
-    /// As `id_of`, but a text that has an id is found as by `known`. What `last_probes` says is left,
-    /// or is that of `id_of`.
+    /// As `id_of`, but where there are at most 4,096 texts, one that has an id is found as by `known`. What
+    /// `last_probes` says is left, or is that of `id_of`.
     #[inline]
     pub fn give_id(&mut self, meter: &mut Meter<A>, text: &[u8]) -> Result<Option<u32>, Fault>
         requires room { meter.old.held ≤ 2 ^ 62 + 2 ^ 31 }

@@ -1,16 +1,15 @@
 -- What a raw reader hands to a writer are items of user values.
 use Rattle.std.proofs.Common.{◌≡◌, ℕ, ◌+◌, ◌*◌, ◌≤◌, Bool, true, false, List, [], ◌∷◌, map, length, Option, None, Some, Ok, refl, ap, sym, subst, ◌∙◌, arith, if◌then◌else◌}
-use Rattle.std.specs.Prelude.{option_map, codes, ◌&&◌, ◌==◌, not}
+use Rattle.std.specs.Prelude.{option_map, codes, ◌&&◌, ◌==◌}
 use Rattle.std.specs.Str.{bytes_eq}
 use Rattle.ion_meter.specs.Counts.{Counts}
 use Rattle.ion_value.specs.declared.ion_type.Kind.{Kind}
 use Rattle.ion_value.specs.declared.writer.ValueWriter.{Ghosts as WriterOf}
 use Rattle.ion_value.specs.Digits.{first_is}
-use Rattle.ion_value.specs.Name.{is_plain, is_simple}
 use Rattle.ion_value.specs.Value as value
 use Rattle.ion_value.specs.Value.{Symbol, SymbolAt, Scalar, Head, PlacedItem, map_head, map_scalar}
 use Rattle.ion_value.specs.Items.{named, named_at, named_item, text_or_id}
-use Rattle.ion_value.specs.PlainItems.{AreSimple, HasSimpleName, IsKnown, IsKnownHead, IsSimple, IsSimpleText}
+use Rattle.ion_value.specs.PlainItems.{HasKnownName, HasNoDollar, HaveNoDollar, IsKnown, IsKnownHead, IsPlainItem}
 use Rattle.ion_value.specs.Feeding.{Joint, Hands, Feeds, nothing, more}
 use Rattle.ion_value.specs.Reading.{More}
 use Rattle.ion_value.specs.Shares.{Charges}
@@ -20,10 +19,10 @@ use Rattle.ion_symbols.specs.Table.{Slot, Shared, Table, known, unknown, gap, ab
 use Rattle.ion_symbols.specs.Declaration.{word_by_id, word_in}
 use Rattle.ion_symbols.specs.Users.{fine, annotations_checked, begins_declaration, checked, declares, field_checked, head_checked, is_declaration, is_struct, level_after, plain, resolve, slot_checked, symbol_checked, users}
 use Rattle.ion_symbols.specs.User.{CheckedAs}
-use Rattle.ion_value.proofs.Handing.{simple-known}
+use Rattle.ion_value.proofs.Handing.{no_dollar-known}
 use Rattle.ion_symbols.proofs.UserTurns.{item_given, level_opens}
 
--- ---- the symbols of a simple item are fine
+-- ---- the symbols of a plain item are fine
 
 slot_fine : (id place : ℕ) (s : Slot) → IsKnown (text_or_id id (text_of_slot s)) → slot_checked true place s ≡ fine
 slot_fine id place (known t) text = refl
@@ -35,47 +34,40 @@ known_fine : (t : Table) (place : ℕ) (s : Symbol) → IsKnown (named (text_at 
 known_fine t place (value.Text bytes) text = refl
 known_fine t place (value.Id id) text = slot_fine id place (slot_of t id) text
 
-symbol_fine : (t : Table) (place : ℕ) (s : Symbol) → IsSimpleText (named (text_at t) s) → symbol_checked t true place s ≡ fine
-symbol_fine t place s simple = known_fine t place s (simple-known (named (text_at t) s) simple)
+field_fine : (t : Table) (field : Option SymbolAt) → HasKnownName (option_map (named_at (text_at t)) field) → field_checked t true field ≡ fine
+field_fine t None known = refl
+field_fine t (Some s) known = known_fine t s.place s.symbol known
 
-field_fine : (t : Table) (field : Option SymbolAt) → HasSimpleName (option_map (named_at (text_at t)) field) → field_checked t true field ≡ fine
-field_fine t None simple = refl
-field_fine t (Some s) simple = symbol_fine t s.place s.symbol simple
-
-all_fine : (t : Table) (ss : List SymbolAt) → AreSimple (map (named_at (text_at t)) ss) → annotations_checked t true ss ≡ fine
-all_fine t [] simple = refl
-all_fine t (s ∷ ss) simple = rw (symbol_fine t s.place s.symbol simple.0) (all_fine t ss simple.1)
+all_fine : (t : Table) (ss : List SymbolAt) → HaveNoDollar (map (named_at (text_at t)) ss) → annotations_checked t true ss ≡ fine
+all_fine t [] free = refl
+all_fine t (s ∷ ss) free = rw (known_fine t s.place s.symbol (no_dollar-known (named (text_at t) s.symbol) free.0)) (all_fine t ss free.1)
 
 head_fine : (t : Table) (head : Head SymbolAt) → IsKnownHead (map_head (named_at (text_at t)) head) → head_checked t true head ≡ fine
-head_fine t (value.whole (value.null type)) simple = refl
-head_fine t (value.whole (value.bool truth)) simple = refl
-head_fine t (value.whole (value.int number)) simple = refl
-head_fine t (value.whole (value.decimal number)) simple = refl
-head_fine t (value.whole (value.timestamp moment)) simple = refl
-head_fine t (value.whole (value.symbol s)) simple = known_fine t s.place s.symbol simple
-head_fine t (value.whole (value.string bytes)) simple = refl
-head_fine t (value.whole (value.clob bytes)) simple = refl
-head_fine t (value.whole (value.blob bytes)) simple = refl
-head_fine t (value.begin kind) simple = refl
-head_fine t value.end simple = refl
-head_fine t value.marker simple = absurd simple
+head_fine t (value.whole (value.null type)) known = refl
+head_fine t (value.whole (value.bool truth)) known = refl
+head_fine t (value.whole (value.int number)) known = refl
+head_fine t (value.whole (value.decimal number)) known = refl
+head_fine t (value.whole (value.timestamp moment)) known = refl
+head_fine t (value.whole (value.symbol s)) known = known_fine t s.place s.symbol known
+head_fine t (value.whole (value.string bytes)) known = refl
+head_fine t (value.whole (value.clob bytes)) known = refl
+head_fine t (value.whole (value.blob bytes)) known = refl
+head_fine t (value.begin kind) known = refl
+head_fine t value.end known = refl
+head_fine t value.marker known = absurd known
 
-item_fine : (t : Table) (i : PlacedItem) → IsSimple (named_item (text_at t) i) → CheckedAs (checked t true i) (Ok tt)
-item_fine t i simple =
-    let all : checked t true i ≡ fine = rw (field_fine t i.field simple.field, all_fine t i.annotations simple.annotations) (head_fine t i.head simple.head) in
+item_fine : (t : Table) (i : PlacedItem) → IsPlainItem (named_item (text_at t) i) → CheckedAs (checked t true i) (Ok tt)
+item_fine t i plain =
+    let all : checked t true i ≡ fine = rw (field_fine t i.field plain.field, all_fine t i.annotations plain.annotations) (head_fine t i.head plain.head) in
     rw all refl
 
 -- ---- and it is no marker and begins no declaration
 
 no_marker : (f : SymbolAt → SymbolAt) (head : Head SymbolAt) → IsKnownHead (map_head f head) → is_marker head ≡ false
-no_marker f (value.whole body) simple = refl
-no_marker f (value.begin kind) simple = refl
-no_marker f value.end simple = refl
-no_marker f value.marker simple = absurd simple
-
-both-right : (a b : Bool) → (a && b) ≡ true → b ≡ true
-both-right true b e = e
-both-right false b e = absurd (cc e)
+no_marker f (value.whole body) known = refl
+no_marker f (value.begin kind) known = refl
+no_marker f value.end known = refl
+no_marker f value.marker known = absurd known
 
 other_word : (a b c d e f : Bool) → f ≡ false
     → is_declaration (if a then word.Name else if b then word.Version else if c then word.MaxId else if d then word.Imports else if e then word.Symbols else if f then word.Declaration else word.Other) ≡ false
@@ -87,37 +79,32 @@ other_word false false false false true f h = refl
 other_word false false false false false true h = absurd (cc h)
 other_word false false false false false false h = refl
 
-not_true : (a : Bool) → not a ≡ true → a ≡ false
-not_true true h = absurd (cc h)
-not_true false h = refl
-
 no_dollar : (bytes : List ℕ) → first_is (λ b. b == 36) bytes ≡ false → bytes_eq bytes (codes "$ion_symbol_table") ≡ false
 no_dollar [] h = refl
 no_dollar (b ∷ bytes) h = rw h refl
 
-simple_word : (bytes : List ℕ) → is_simple bytes ≡ true → is_declaration (word_of bytes) ≡ false
-simple_word bytes simple =
-    other_word _ _ _ _ _ _ (no_dollar bytes (not_true (first_is (λ b. b == 36) bytes) (both-right (is_plain bytes) (not (first_is (λ b. b == 36) bytes)) simple)))
+free_word : (bytes : List ℕ) → first_is (λ b. b == 36) bytes ≡ false → is_declaration (word_of bytes) ≡ false
+free_word bytes free = other_word _ _ _ _ _ _ (no_dollar bytes free)
 
-simple_symbol : (texts : ℕ → Option (List ℕ)) (s : Symbol) → IsSimpleText (named texts s) → is_declaration (word_in texts s) ≡ false
-simple_symbol texts (value.Text bytes) simple = simple_word bytes simple
-simple_symbol texts (value.Id id) simple = by_text (texts id) simple
+free_symbol : (texts : ℕ → Option (List ℕ)) (s : Symbol) → HasNoDollar (named texts s) → is_declaration (word_in texts s) ≡ false
+free_symbol texts (value.Text bytes) free = free_word bytes free
+free_symbol texts (value.Id id) free = by_text (texts id) free
   where
-    by_text : (o : Option (List ℕ)) → IsSimpleText (text_or_id id o) → is_declaration (word_by_id o) ≡ false
+    by_text : (o : Option (List ℕ)) → HasNoDollar (text_or_id id o) → is_declaration (word_by_id o) ≡ false
     by_text None h = absurd h
-    by_text (Some bytes) h = simple_word bytes h
+    by_text (Some bytes) h = free_word bytes h
 
-none_declares : (t : Table) (ss : List SymbolAt) → AreSimple (map (named_at (text_at t)) ss) → declares t ss ≡ false
-none_declares t [] simple = refl
-none_declares t (s ∷ ss) simple = simple_symbol (text_at t) s.symbol simple.0
+none_declares : (t : Table) (ss : List SymbolAt) → HaveNoDollar (map (named_at (text_at t)) ss) → declares t ss ≡ false
+none_declares t [] free = refl
+none_declares t (s ∷ ss) free = free_symbol (text_at t) s.symbol free.0
 
 and_false : (a b c : Bool) → c ≡ false → (a && (b && c)) ≡ false
 and_false true true c e = e
 and_false true false c e = refl
 and_false false b c e = refl
 
-no_declaration : (t : Table) (n : ℕ) (i : PlacedItem) → IsSimple (named_item (text_at t) i) → begins_declaration t n i ≡ false
-no_declaration t n i simple = and_false (n == 0) (is_struct i.head) (declares t i.annotations) (none_declares t i.annotations simple.annotations)
+no_declaration : (t : Table) (n : ℕ) (i : PlacedItem) → IsPlainItem (named_item (text_at t) i) → begins_declaration t n i ≡ false
+no_declaration t n i plain = and_false (n == 0) (is_struct i.head) (declares t i.annotations) (none_declares t i.annotations plain.annotations)
 
 -- ---- so it is an item of a user value
 
@@ -149,9 +136,10 @@ user_hands w catalog limit t reads old new h =
     let level : level_after (length old.opened) i.head ≡ length new.opened = level_opens (level_after (length old.opened) i.head) (length old.opened) old.opened new.opened i.head refl refl raw_opens in
     record {
       item = resolve t i;
-      simple = h.simple;
-      gives = λ r. item_given catalog limit t (length old.opened) i old.coming new.coming (h.gives r) (no_marker (named_at (text_at t)) i.head h.simple.head)
-          (no_declaration t (length old.opened) i h.simple) (item_fine t i h.simple)
+      plain = h.plain;
+      fits = h.fits;
+      gives = λ r. item_given catalog limit t (length old.opened) i old.coming new.coming (h.gives r) (no_marker (named_at (text_at t)) i.head h.plain.head)
+          (no_declaration t (length old.opened) i h.plain) (item_fine t i h.plain)
           ∙ ap (λ n. More (resolve t i) (users catalog limit (record { table = t; mode = plain n }) new.coming)) level;
       opens = h.opens;
       counts = h.counts;

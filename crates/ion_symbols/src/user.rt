@@ -324,6 +324,7 @@ impl<'c, R: RawReader<A>, A: Allocator + Copy> UserReader<'c, R, A> {
         ensures kept { (R.depth (raw_of self.new) ≡ R.depth (raw_of self.old))
             × (R.most (raw_of self.new) ≡ R.most (raw_of self.old))
             × (R.failures (raw_of self.new) ≡ R.failures (raw_of self.old)) }
+        ensures ended { R.ended (raw_of self.old) → R.ended (raw_of self.new) }
         ensures exceeds { R.exceeds (raw_of self.new) ↔ R.exceeds (raw_of self.old) }
         ensures bytes_left { R.bytes_left (raw_of self.new) → R.bytes_left (raw_of self.old) }
         ensures writer { StaysWell W.ValueWriter writer.old writer.new sink.old sink.new

@@ -9,7 +9,7 @@ use Rattle.ion_value.specs.declared.writer.ValueWriter.{Ghosts as WriterOf}
 use Rattle.ion_value.specs.Feeding.{CanTake, Feeds, nothing, more, Hands, Joint, StaysWell}
 use Rattle.ion_value.specs.Items.{named, named_at, named_item}
 use Rattle.ion_value.specs.Outcome.{one_if_closed}
-use Rattle.ion_value.specs.PlainItems.{AreSimple, HasSimpleName, IsKnown, IsKnownHead, IsSimple, IsSimpleText}
+use Rattle.ion_value.specs.PlainItems.{HasKnownName, HasNoDollar, HaveNoDollar, IsKnown, IsKnownHead, IsPlainItem}
 use Rattle.ion_value.specs.Reading.{Finished, Reading, More}
 use Rattle.ion_value.specs.Standing.{open_after, open_behind, is_marker, Continues, Fits}
 use Rattle.ion_value.specs.Value as value
@@ -22,43 +22,43 @@ symbol-kept : (texts : ℕ → Option (List ℕ)) (s : Symbol) → IsKnown s →
 symbol-kept texts (value.Text bytes) text = refl
 symbol-kept texts (value.Id id) text = absurd text
 
--- a simple text is a text
-pub simple-known : (s : Symbol) → IsSimpleText s → IsKnown s
-simple-known (value.Text bytes) simple = tt
-simple-known (value.Id id) simple = absurd simple
+-- one without a dollar sign in front is a text
+pub no_dollar-known : (s : Symbol) → HasNoDollar s → IsKnown s
+no_dollar-known (value.Text bytes) free = tt
+no_dollar-known (value.Id id) free = absurd free
 
 at-kept : (texts : ℕ → Option (List ℕ)) (s : SymbolAt) → IsKnown s.symbol → named_at texts s ≡ s
 at-kept texts s text = ap (λ (x : Symbol). record { symbol = x; place = s.place }) (symbol-kept texts s.symbol text)
 
-name-kept : (texts : ℕ → Option (List ℕ)) (field : Option SymbolAt) → HasSimpleName field → option_map (named_at texts) field ≡ field
-name-kept texts None simple = refl
-name-kept texts (Some s) simple = ap (λ (x : SymbolAt). Some x) (at-kept texts s (simple-known s.symbol simple))
+name-kept : (texts : ℕ → Option (List ℕ)) (field : Option SymbolAt) → HasKnownName field → option_map (named_at texts) field ≡ field
+name-kept texts None known = refl
+name-kept texts (Some s) known = ap (λ (x : SymbolAt). Some x) (at-kept texts s known)
 
-all-kept : (texts : ℕ → Option (List ℕ)) (ss : List SymbolAt) → AreSimple ss → map (named_at texts) ss ≡ ss
-all-kept texts [] simple = refl
-all-kept texts (s ∷ ss) simple = ap (λ (x : SymbolAt). x ∷ map (named_at texts) ss) (at-kept texts s (simple-known s.symbol simple.0)) ∙ ap (λ (l : List SymbolAt). s ∷ l) (all-kept texts ss simple.1)
+all-kept : (texts : ℕ → Option (List ℕ)) (ss : List SymbolAt) → HaveNoDollar ss → map (named_at texts) ss ≡ ss
+all-kept texts [] free = refl
+all-kept texts (s ∷ ss) free = ap (λ (x : SymbolAt). x ∷ map (named_at texts) ss) (at-kept texts s (no_dollar-known s.symbol free.0)) ∙ ap (λ (l : List SymbolAt). s ∷ l) (all-kept texts ss free.1)
 
 head-kept : (texts : ℕ → Option (List ℕ)) (head : Head SymbolAt) → IsKnownHead head → map_head (named_at texts) head ≡ head
-head-kept texts (value.whole (value.null type)) simple = refl
-head-kept texts (value.whole (value.bool truth)) simple = refl
-head-kept texts (value.whole (value.int number)) simple = refl
-head-kept texts (value.whole (value.decimal number)) simple = refl
-head-kept texts (value.whole (value.timestamp moment)) simple = refl
-head-kept texts (value.whole (value.symbol s)) simple = ap (λ (x : SymbolAt). value.whole (value.symbol x)) (at-kept texts s simple)
-head-kept texts (value.whole (value.string bytes)) simple = refl
-head-kept texts (value.whole (value.clob bytes)) simple = refl
-head-kept texts (value.whole (value.blob bytes)) simple = refl
-head-kept texts (value.begin kind) simple = refl
-head-kept texts value.end simple = refl
-head-kept texts value.marker simple = absurd simple
+head-kept texts (value.whole (value.null type)) known = refl
+head-kept texts (value.whole (value.bool truth)) known = refl
+head-kept texts (value.whole (value.int number)) known = refl
+head-kept texts (value.whole (value.decimal number)) known = refl
+head-kept texts (value.whole (value.timestamp moment)) known = refl
+head-kept texts (value.whole (value.symbol s)) known = ap (λ (x : SymbolAt). value.whole (value.symbol x)) (at-kept texts s known)
+head-kept texts (value.whole (value.string bytes)) known = refl
+head-kept texts (value.whole (value.clob bytes)) known = refl
+head-kept texts (value.whole (value.blob bytes)) known = refl
+head-kept texts (value.begin kind) known = refl
+head-kept texts value.end known = refl
+head-kept texts value.marker known = absurd known
 
-pub item-kept : (texts : ℕ → Option (List ℕ)) (item : PlacedItem) → IsSimple item → named_item texts item ≡ item
-item-kept texts item simple =
+pub item-kept : (texts : ℕ → Option (List ℕ)) (item : PlacedItem) → IsPlainItem item → named_item texts item ≡ item
+item-kept texts item plain =
     ap (λ (f : Option SymbolAt). record { field = f; annotations = map (named_at texts) item.annotations; head = map_head (named_at texts) item.head; place = item.place; top = item.top })
-    (name-kept texts item.field simple.field)
+    (name-kept texts item.field plain.field)
     ∙ (ap (λ (l : List SymbolAt). record { field = item.field; annotations = l; head = map_head (named_at texts) item.head; place = item.place; top = item.top })
-    (all-kept texts item.annotations simple.annotations)
-    ∙ ap (λ (h : Head SymbolAt). record { field = item.field; annotations = item.annotations; head = h; place = item.place; top = item.top }) (head-kept texts item.head simple.head))
+    (all-kept texts item.annotations plain.annotations)
+    ∙ ap (λ (h : Head SymbolAt). record { field = item.field; annotations = item.annotations; head = h; place = item.place; top = item.top }) (head-kept texts item.head plain.head))
 
 -- ---- what a writer did that took an item
 
@@ -77,13 +77,14 @@ pub record Took {W O A : Type 0} (w : WriterOf W O A) (item : PlacedItem) (old n
 pub record Stands (depth : ℕ) (opened : List Kind) (item : PlacedItem) : Type 0 where
   pub fits : Fits depth opened item
   pub value : is_marker item.head ≡ false
-  pub simple : IsSimple item
+  pub plain : IsPlainItem item
 
 -- the same where the reader is observable for another reason
 pub hands-same : {W O A : Type 0} {w : WriterOf W O A} {see : PlacedItem → PlacedItem} {reads now : Type 0} {old new : Joint W} → (now → reads) → Hands w see reads old new → Hands w see now old new
 hands-same f h = record {
   item = h.item;
-  simple = h.simple;
+  plain = h.plain;
+  fits = h.fits;
   gives = λ n. h.gives (f n);
   opens = h.opens;
   counts = h.counts;
@@ -154,10 +155,11 @@ module _ {W O A : Type 0} (w : WriterOf W O A) where
       → (reads → old.coming ≡ More item new.coming) → new.opened ≡ open_after old.opened item.head → new.values ≡ old.values + one_if_closed new.opened
       → Hands w (named_item texts) reads old new
   hands-took texts reads depth old new before behind m k item can s took p q gives opens counts =
-      let kept = item-kept texts item s.simple in
+      let kept = item-kept texts item s.plain in
       record {
         item = item;
-        simple = subst IsSimple (sym kept) s.simple;
+        plain = subst IsPlainItem (sym kept) s.plain;
+        fits = subst (λ (i : PlacedItem). Fits (w.limits old.writer).depth old.opened i) (sym kept) (subst (λ (n : ℕ). Fits n old.opened item) (sym can.depth_of) s.fits);
         gives = gives;
         opens = opens ∙ ap (λ (i : PlacedItem). open_after old.opened i.head) (sym kept);
         counts = counts;

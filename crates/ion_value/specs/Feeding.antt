@@ -5,10 +5,10 @@ use Rattle.ion_meter.specs.Windows.{Outgoing}
 use Rattle.ion_value.specs.declared.ion_type.Kind.{Kind}
 use Rattle.ion_value.specs.declared.writer.ValueWriter.{Ghosts as WriterOf}
 use Rattle.ion_value.specs.Value.{PlacedItem}
-use Rattle.ion_value.specs.PlainItems.{IsSimple}
+use Rattle.ion_value.specs.PlainItems.{IsPlainItem}
 use Rattle.ion_value.specs.Reading.{Reading, More}
 use Rattle.ion_value.specs.Outcome.{one_if_closed}
-use Rattle.ion_value.specs.Standing.{open_after, open_behind}
+use Rattle.ion_value.specs.Standing.{Fits, open_after, open_behind}
 
 -- where a reader and a writer stand: the items to come, the open containers, the writer, what its sink has not written, and how many values at
 -- top level have ended
@@ -22,7 +22,8 @@ pub record Joint (W : Type 0) : Type 0 where
 -- one item goes from the reader to the writer, which has it by `see`: behind whatever path the writer stands it is put, and not refused
 pub record Hands {W O A : Type 0} (w : WriterOf W O A) (see : PlacedItem → PlacedItem) (reads : Type 0) (old new : Joint W) : Type 0 where
   pub item : PlacedItem
-  pub simple : IsSimple (see item)
+  pub plain : IsPlainItem (see item)
+  pub fits : Fits (w.limits old.writer).depth old.opened (see item)
   -- the reader
   pub gives : reads → old.coming ≡ More item new.coming
   pub opens : new.opened ≡ open_after old.opened (see item).head

@@ -1,8 +1,9 @@
--- What is seen of plain items: those whose names and annotations are simple texts.
-use Rattle.std.specs.Prelude.{◌≡◌, ℕ, true, List, [], ◌∷◌, Option, Some, None, option_map, IfSome, ⊤}
+-- What is seen of plain items: those whose symbols are texts, with one annotation at most.
+use Rattle.std.specs.Prelude.{◌≡◌, ◌==◌, ℕ, true, false, List, [], ◌∷◌, Option, Some, None, option_map, IfSome, ⊤}
 use Rattle.ion_value.specs.declared.plain_item.TextAt.{TextAt}
 use Rattle.ion_value.specs.declared.plain_item.PlainItem.{PlainItem}
 use Rattle.ion_value.specs.Decimal.{decimal_text}
+use Rattle.ion_value.specs.Digits.{first_is}
 use Rattle.ion_value.specs.Int.{int_text}
 use Rattle.ion_value.specs.Name.{is_simple}
 use Rattle.ion_value.specs.Items.{raw_head}
@@ -28,29 +29,29 @@ placed_item item = record {
   top = item.top;
 }
 
--- ---- items whose names and annotations are simple texts
-
--- a symbol is a simple text
-abbrev pub IsSimpleText : Symbol → Type 0
-IsSimpleText (Text bytes) = is_simple bytes ≡ true
-IsSimpleText (Id id) = ⊥
-
--- so is a field's name, if there is one
-abbrev pub HasSimpleName : Option SymbolAt → Type 0
-HasSimpleName None = ⊤
-HasSimpleName (Some s) = IsSimpleText s.symbol
-
--- so is each annotation
-abbrev pub AreSimple : List SymbolAt → Type 0
-AreSimple [] = ⊤
-AreSimple (s ∷ ss) = IsSimpleText s.symbol × AreSimple ss
+-- ---- items whose symbols are texts
 
 -- a symbol is a text
 abbrev pub IsKnown : Symbol → Type 0
 IsKnown (Text bytes) = ⊤
 IsKnown (Id id) = ⊥
 
--- so is a scalar that is a symbol
+-- so is a field's name, if there is one
+abbrev pub HasKnownName : Option SymbolAt → Type 0
+HasKnownName None = ⊤
+HasKnownName (Some s) = IsKnown s.symbol
+
+-- a symbol is a text that does not begin with a dollar sign, as all texts do that mean something to symbol tables
+abbrev pub HasNoDollar : Symbol → Type 0
+HasNoDollar (Text bytes) = first_is (λ b. b == 36) bytes ≡ false
+HasNoDollar (Id id) = ⊥
+
+-- so is each annotation
+abbrev pub HaveNoDollar : List SymbolAt → Type 0
+HaveNoDollar [] = ⊤
+HaveNoDollar (s ∷ ss) = HasNoDollar s.symbol × HaveNoDollar ss
+
+-- a scalar that is a symbol is a text
 abbrev pub IsKnownScalar : Scalar SymbolAt → Type 0
 IsKnownScalar (null type) = ⊤
 IsKnownScalar (bool truth) = ⊤
@@ -69,11 +70,22 @@ IsKnownHead (begin kind) = ⊤
 IsKnownHead end = ⊤
 IsKnownHead marker = ⊥
 
--- an item's name and annotations are simple texts; its head, where that is a symbol, is a text, and it is no version marker
-pub record IsSimple (item : PlacedItem) : Type 0 where
-  pub field : HasSimpleName item.field
-  pub annotations : AreSimple item.annotations
+-- an item's symbols are texts, its annotations without a dollar sign in front, and it is no version marker
+pub record IsPlainItem (item : PlacedItem) : Type 0 where
+  pub field : HasKnownName item.field
+  pub annotations : HaveNoDollar item.annotations
   pub head : IsKnownHead item.head
+
+-- ---- what is said of a name or an annotation
+
+-- a text that is said to be simple is
+abbrev pub IsRightlySimple : TextAt → Type 0
+IsRightlySimple t = t.simple ≡ true → is_simple t.text.now ≡ true
+
+-- so are an item's name and its annotation
+pub record SaysRightly (item : PlainItem) : Type 0 where
+  pub field : IfSome item.field IsRightlySimple
+  pub annotation : IfSome item.annotation IsRightlySimple
 
 -- ---- items that come with a text
 

@@ -1,5 +1,5 @@
-//! Items whose names and annotations are simple texts: what most items are, and what is copied with the
-//! fewest steps.
+//! Items whose symbols are texts, with one annotation at most: what most items are, and what is copied
+//! with the fewest steps.
 
 use crate::item::Head;
 
@@ -8,14 +8,17 @@ use crate::item::Head;
 pub struct TextAt<'a> {
     /// The bytes of the text in UTF-8.
     pub text: &'a [u8],
+    /// Whether it is known to be simple: an identifier that means nothing else and does not begin with
+    /// a dollar sign. Where it is false, nothing is known.
+    pub simple: bool,
     /// The place of its first byte.
     pub place: u64,
 }
 
-/// An item of a user value that has one annotation at most. Its name and its annotation are simple
-/// texts: identifiers that mean nothing else and do not begin with a dollar sign. Its head, where that
-/// is a symbol, is a text, and no id. Names have a lifetime of their own, since they may stand in a
-/// symbol table.
+/// An item of a user value that has one annotation at most. Its name, its annotation and its head,
+/// where that is a symbol, are texts, and no ids. The annotation does not begin with a dollar sign, so
+/// that no such item begins a declaration. Names have a lifetime of their own, since they may stand in
+/// a symbol table.
 #[derive(Clone, Copy)]
 pub struct PlainItem<'n, 'h> {
     /// The field's name, inside a struct.

@@ -140,9 +140,9 @@ pub trait RawReader<A: Allocator + Copy> {
         ensures { raw_item result ≡ current self.now };
 
     /// Hands items to a writer, as many of those that lie whole in the window as both can take
-    /// without a device and without a fault: those whose names and annotations are simple texts, and
-    /// whose symbols are texts, by the names that are given. The items behind them are for `next`. No
-    /// clause says how many there are, nor whether `item` may be called before `next` is.
+    /// without a device and without a fault: plain items, by the names that are given
+    /// (`PlainItem`). The items behind them are for `next`. No clause says how many there are, nor
+    /// whether `item` may be called before `next` is.
     fn feed<N: Names, W: ValueWriter<O, A>, O: Output>(
         &mut self,
         meter: &mut Meter<A>,
@@ -182,6 +182,7 @@ pub trait RawReader<A: Allocator + Copy> {
         // What stays, and memory.
         ensures same { (failed self.new ≡ failed self.old) × (depth self.new ≡ depth self.old)
             × (most self.new ≡ most self.old) × (failures self.new ≡ failures self.old) }
+        ensures ended { ended self.old → ended self.new }
         ensures exceeds { exceeds self.new ↔ exceeds self.old }
         ensures bytes_left { bytes_left self.new → bytes_left self.old }
         ensures writer { StaysWell W.ValueWriter writer.old writer.new sink.old sink.new

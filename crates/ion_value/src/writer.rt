@@ -7,7 +7,7 @@ ghost use Rattle.ion_meter.specs.declared.limits.Limits.{Limits};
 ghost use Rattle.ion_meter.specs.Windows.{so_far, Puts, PutsPart};
 ghost use Rattle.ion_value.specs.Value.{PlacedItem};
 ghost use Rattle.ion_value.specs.Items.{item_of};
-ghost use Rattle.ion_value.specs.PlainItems.{IsSimple, IsSpelled, placed_item};
+ghost use Rattle.ion_value.specs.PlainItems.{IsPlainItem, IsSpelled, SaysRightly, placed_item};
 ghost use Rattle.ion_value.specs.Shares.{Charges, MemoryCauses, WriteCauses, fault_of};
 ghost use Rattle.ion_value.specs.Standing.{Continues, WritesWithin};
 
@@ -146,9 +146,9 @@ pub trait ValueWriter<O: Output, A: Allocator + Copy> {
     /// Takes a plain item as `item` takes items, or declines it: then it answers false, and nothing
     /// is changed. Nothing fails, and no device is used. No clause says which items it takes.
     ///
-    /// It is called where neither the writer nor its sink has failed. The item's name and annotation
-    /// are simple texts; its head, where that is a symbol, is a text; and where it comes with a text
-    /// (`spelled`), that is the canonical one of its head.
+    /// It is called where neither the writer nor its sink has failed. What the item says of its parts
+    /// is so: a name or an annotation that is said to be simple is, and a text that it comes with
+    /// (`spelled`) is the canonical one of its head.
     fn take_plain(
         &mut self,
         meter: &mut Meter<A>,
@@ -161,7 +161,8 @@ pub trait ValueWriter<O: Output, A: Allocator + Copy> {
         requires sound { sound self.old }
         requires fresh { failed self.old ≡ None }
         requires well { sink.old.fault ≡ None }
-        requires simple { IsSimple (placed_item item) }
+        requires plain { IsPlainItem (placed_item item) }
+        requires simple { SaysRightly item }
         requires spelled { IsSpelled item }
         requires path { (path : List PlacedItem) × stands self.old path
             × Continues (limits self.old) path (placed_item item) }

@@ -1,73 +1,123 @@
 -- What is put of a plain item is its text.
-use Rattle.std.proofs.Common.{◌≡◌, ℕ, ◌≤◌, Bool, true, false, ◌&&◌, List, [], ◌∷◌, ◌++◌, length, Option, Some, None, refl, sym, ap, ◌∙◌, append-nil, arith}
-use Rattle.std.specs.Prelude.{map, option_map, codes}
+use Rattle.std.proofs.Common.{◌≡◌, ℕ, ◌≤◌, Bool, true, false, not, ◌&&◌, ◌||◌, List, [], ◌∷◌, ◌++◌, length, Option, Some, None, refl, sym, subst, ap, ◌∙◌, append-nil, arith, if◌then◌else◌}
+use Rattle.std.specs.Prelude.{map, option_map, codes, IfSome}
 use Rattle.std.specs.List.{flat_map}
+use Rattle.ion_meter.specs.Windows.{Outgoing}
 use Rattle.ion_value.specs.Name.{is_plain, is_simple}
 use Rattle.ion_value.specs.Value as v
 use Rattle.ion_value.specs.Value.{PlacedItem, SymbolAt, Symbol, map_head, map_scalar, user_symbol, user_symbol_at, user_item}
 use Rattle.ion_value.specs.Items.{raw_head}
-use Rattle.ion_value.specs.PlainItems.{AreSimple, HasSimpleName, IsSimple, IsOwnText, IsTextOf, listed, placed_item, placed_text}
+use Rattle.ion_value.specs.PlainItems.{IsOwnText, IsRightlySimple, IsTextOf, listed, placed_item, placed_text}
 use Rattle.ion_value.specs.declared.ion_type.Kind.{Kind}
 use Rattle.ion_value.specs.declared.ion_type.Kind.TheVariants as kind
 use Rattle.ion_value.specs.declared.plain_item.TextAt.{TextAt}
 use Rattle.ion_value.specs.declared.plain_item.PlainItem.{PlainItem}
-use Rattle.ion_text_out.specs.Escape.{between_quotes}
-use Rattle.ion_text_out.specs.Text.{Open, annotation_text, before_item, behind_value, field_text, item_text, opener, scalar_text, symbol_text}
+use Rattle.ion_text_out.specs.Escape.{between_quotes, byte_text}
+use Rattle.ion_text_out.specs.Text.{Open, annotation_text, before_item, behind_value, field_text, head_text, item_text, opener, scalar_text, symbol_text}
 use Rattle.ion_meter.specs.declared.limits.Limits.{Limits}
 use Rattle.ion_text_out.specs.Writing.{behind_end, closing, shown, text_adds, Shows}
-use Rattle.ion_text_out.specs.Lane.{plain_begin, plain_front, plain_name, plain_note, plain_scalar, text_in}
+use Rattle.ion_text_out.specs.Lane.{needs_quotes, plain_begin, plain_front, plain_name, plain_note, plain_scalar, symbol_in, text_in}
 
 both-left : (a b : Bool) → (a && b) ≡ true → a ≡ true
 both-left true b e = refl
 both-left false b e = absurd (cc e)
 
--- a simple text stands without quotes
-pub simple_text : (bytes : List ℕ) → is_simple bytes ≡ true → symbol_text (v.Known bytes) ≡ bytes
-simple_text bytes simple = let plain : is_plain bytes ≡ true = both-left (is_plain bytes) _ simple in rw plain refl
+-- a simple text is plain
+simple_plain : (bytes : List ℕ) → is_simple bytes ≡ true → is_plain bytes ≡ true
+simple_plain bytes simple = both-left (is_plain bytes) _ simple
 
--- so does the text of a symbol that is a plain one
+-- a plain one is put as it stands
+pub plain_text : (bytes : List ℕ) → is_plain bytes ≡ true → symbol_text (v.Known bytes) ≡ bytes
+plain_text bytes plain = rw plain refl
+
+-- and any other between quotes
+pub quoted_text : (bytes : List ℕ) → is_plain bytes ≡ false → symbol_text (v.Known bytes) ≡ between_quotes 39 256 bytes
+quoted_text bytes plain = rw plain refl
+
+-- so is that of a symbol
 pub plain_symbol : (s : Symbol) (bytes : List ℕ) → s ≡ v.Text bytes → is_plain bytes ≡ true → symbol_text (user_symbol s) ≡ bytes
 plain_symbol s bytes is plain = rw (is, plain) refl
 
--- and any other between quotes
 pub quoted_symbol : (s : Symbol) (bytes : List ℕ) → s ≡ v.Text bytes → is_plain bytes ≡ false → symbol_text (user_symbol s) ≡ between_quotes 39 256 bytes
 quoted_symbol s bytes is plain = rw (is, plain) refl
 
 -- a symbol's own text is what is put of it
 own_text : (text : List ℕ) (s : Symbol) → IsOwnText text s → text ≡ symbol_text (user_symbol s)
-own_text text (v.Text bytes) is = is.1 ∙ sym (simple_text bytes is.0)
+own_text text (v.Text bytes) is = is.1 ∙ sym (plain_text bytes (simple_plain bytes is.0))
 own_text text (v.Id id) is = absurd is
 
--- and it has a byte
-named : (bytes : List ℕ) → is_simple bytes ≡ true → bytes ++ codes ":" ≡ plain_name bytes
-named [] simple = absurd (cc simple)
-named (b ∷ bs) simple = refl
+-- ---- names and annotations
 
-noted : (bytes : List ℕ) → is_simple bytes ≡ true → bytes ++ codes "::" ≡ plain_note bytes
-noted [] simple = absurd (cc simple)
-noted (b ∷ bs) simple = refl
+either : (a b : Bool) → (a || b) ≡ false → (a ≡ false) × (b ≡ false)
+either true b e = absurd (cc e)
+either false b e = (refl, e)
 
-name_is : (field : Option TextAt) → HasSimpleName (option_map placed_text field) → field_text (option_map user_symbol_at (option_map placed_text field)) ≡ plain_name (text_in field)
-name_is None simple = refl
-name_is (Some t) simple = ap (λ (l : List ℕ). l ++ codes ":") (simple_text t.text.now simple) ∙ named t.text.now simple
+was_true : (b : Bool) → not b ≡ false → b ≡ true
+was_true true e = refl
+was_true false e = absurd (cc e)
 
-note_is : (annotation : Option TextAt) → AreSimple (listed (option_map placed_text annotation))
-    → flat_map annotation_text (map user_symbol_at (listed (option_map placed_text annotation))) ≡ plain_note (text_in annotation)
-note_is None simple = refl
-note_is (Some t) simple =
-    append-nil (symbol_text (v.Known t.text.now) ++ codes "::") ∙ (ap (λ (l : List ℕ). l ++ codes "::") (simple_text t.text.now simple.0) ∙ noted t.text.now simple.0)
+-- a symbol that is said to be simple needs no quotes
+pub none_needed : (symbol : Option TextAt) (t : TextAt) → symbol ≡ Some t → IfSome symbol IsRightlySimple → t.simple ≡ true → false ≡ needs_quotes symbol
+none_needed symbol t is right said =
+    let simple : IsRightlySimple t = subst (λ (s : Option TextAt). IfSome s IsRightlySimple) is right in
+    rw (is, simple_plain t.text.now (simple said)) refl
+
+-- what needs none is put as it stands
+as_it_stands : (symbol : Option TextAt) → needs_quotes symbol ≡ false → text_in symbol ≡ symbol_in symbol
+as_it_stands None none = refl
+as_it_stands (Some t) none = sym (plain_text t.text.now (was_true (is_plain t.text.now) none))
+
+-- both of an item
+pub both_stand : (field annotation : Option TextAt) → (needs_quotes field || needs_quotes annotation) ≡ false → (text_in field ≡ symbol_in field) × (text_in annotation ≡ symbol_in annotation)
+both_stand field annotation none =
+    let both = either (needs_quotes field) (needs_quotes annotation) none in
+    (as_it_stands field both.0, as_it_stands annotation both.1)
+
+-- the text of a symbol has a byte, by which it is told from one that is not there
+named_by : (plain : Bool) (b : ℕ) (bytes inside : List ℕ) → (if plain then b ∷ bytes else 39 ∷ inside) ++ codes ":" ≡ plain_name (if plain then b ∷ bytes else 39 ∷ inside)
+named_by true b bytes inside = refl
+named_by false b bytes inside = refl
+
+named : (bytes : List ℕ) → symbol_text (v.Known bytes) ++ codes ":" ≡ plain_name (symbol_text (v.Known bytes))
+named [] = refl
+named (b ∷ bytes) = named_by (is_plain (b ∷ bytes)) b bytes (flat_map (byte_text 39 256) (b ∷ bytes) ++ 39 ∷ [])
+
+noted_by : (plain : Bool) (b : ℕ) (bytes inside : List ℕ) → (if plain then b ∷ bytes else 39 ∷ inside) ++ codes "::" ≡ plain_note (if plain then b ∷ bytes else 39 ∷ inside)
+noted_by true b bytes inside = refl
+noted_by false b bytes inside = refl
+
+noted : (bytes : List ℕ) → symbol_text (v.Known bytes) ++ codes "::" ≡ plain_note (symbol_text (v.Known bytes))
+noted [] = refl
+noted (b ∷ bytes) = noted_by (is_plain (b ∷ bytes)) b bytes (flat_map (byte_text 39 256) (b ∷ bytes) ++ 39 ∷ [])
+
+name_is : (field : Option TextAt) → field_text (option_map user_symbol_at (option_map placed_text field)) ≡ plain_name (symbol_in field)
+name_is None = refl
+name_is (Some t) = named t.text.now
+
+note_is : (annotation : Option TextAt)
+    → flat_map annotation_text (map user_symbol_at (listed (option_map placed_text annotation))) ≡ plain_note (symbol_in annotation)
+note_is None = refl
+note_is (Some t) = append-nil (symbol_text (v.Known t.text.now) ++ codes "::") ∙ noted t.text.now
 
 -- what stands in front of its head
-front_is : (item : PlainItem) → IsSimple (placed_item item)
-    → field_text (user_item (placed_item item)).field ++ flat_map annotation_text (user_item (placed_item item)).annotations ≡ plain_front (text_in item.field) (text_in item.annotation)
-front_is item simple = rw (name_is item.field simple.field, note_is item.annotation simple.annotations) refl
+front_is : (item : PlainItem)
+    → field_text (user_item (placed_item item)).field ++ flat_map annotation_text (user_item (placed_item item)).annotations ≡ plain_front (symbol_in item.field) (symbol_in item.annotation)
+front_is item = rw (name_is item.field, note_is item.annotation) refl
 
-pub scalar_put : (cs : Open) (item : PlainItem) (name note : List ℕ) (body : v.Scalar SymbolAt) (text : List ℕ) → IsSimple (placed_item item) → name ≡ text_in item.field → note ≡ text_in item.annotation
-    → raw_head item.head ≡ v.whole body → text ≡ scalar_text (map_scalar user_symbol_at body) → plain_scalar cs name note text ≡ item_text cs (user_item (placed_item item))
-scalar_put cs item name note body text simple named noted head is = rw (head, front_is item simple, is, named, noted) refl
+-- its head behind these texts is the item
+pub item_put : (cs : Open) (item : PlainItem) (name note : List ℕ) → name ≡ symbol_in item.field → note ≡ symbol_in item.annotation
+    → head_text cs (plain_front name note) (map_head user_symbol_at (raw_head item.head)) ≡ item_text cs (user_item (placed_item item))
+item_put cs item name note named noted =
+    rw (named, noted) (ap (λ (l : List ℕ). head_text cs l (map_head user_symbol_at (raw_head item.head))) (sym (front_is item)))
 
--- an item that comes with a text is a scalar, of which that text is put
-pub spelled_body : (text : List ℕ) (head : v.Head SymbolAt) → IsTextOf text head → (body : v.Scalar SymbolAt) × (head ≡ v.whole body) × (text ≡ scalar_text (map_scalar user_symbol_at body))
+-- ---- heads behind the texts of a name and an annotation
+
+pub scalar_put : (cs : Open) (name note : List ℕ) (head : v.Head SymbolAt) (body : v.Scalar SymbolAt) (text : List ℕ) → head ≡ v.whole body → text ≡ scalar_text (map_scalar user_symbol_at body)
+    → plain_scalar cs name note text ≡ head_text cs (plain_front name note) (map_head user_symbol_at head)
+scalar_put cs name note head body text is spelled = rw (is, spelled) refl
+
+-- a head that comes with a text is a scalar, of which that text is put
+spelled_body : (text : List ℕ) (head : v.Head SymbolAt) → IsTextOf text head → (body : v.Scalar SymbolAt) × (head ≡ v.whole body) × (text ≡ scalar_text (map_scalar user_symbol_at body))
 spelled_body text (v.whole (v.int number)) is = (v.int number, refl, is)
 spelled_body text (v.whole (v.decimal number)) is = (v.decimal number, refl, is)
 spelled_body text (v.whole (v.timestamp moment)) is = (v.timestamp moment, refl, is)
@@ -81,15 +131,18 @@ spelled_body text (v.begin kind) is = absurd is
 spelled_body text v.end is = absurd is
 spelled_body text v.marker is = absurd is
 
-pub spelled_put : (cs : Open) (item : PlainItem) (name note text : List ℕ) → IsSimple (placed_item item) → name ≡ text_in item.field → note ≡ text_in item.annotation
-    → IsTextOf text (raw_head item.head) → plain_scalar cs name note text ≡ item_text cs (user_item (placed_item item))
-spelled_put cs item name note text simple named noted is =
-    let b = spelled_body text (raw_head item.head) is in
-    scalar_put cs item name note b.0 text simple named noted b.1 b.2
+pub spelled_put : (cs : Open) (name note text : List ℕ) (head : v.Head SymbolAt) → IsTextOf text head → plain_scalar cs name note text ≡ head_text cs (plain_front name note) (map_head user_symbol_at head)
+spelled_put cs name note text head is =
+    let b = spelled_body text head is in
+    scalar_put cs name note head b.0 text b.1 b.2
 
-pub begin_put : (cs : Open) (item : PlainItem) (name note : List ℕ) (kind : Kind) → IsSimple (placed_item item) → name ≡ text_in item.field → note ≡ text_in item.annotation → raw_head item.head ≡ v.begin kind
-    → plain_begin cs name note (opener kind) ≡ item_text cs (user_item (placed_item item))
-begin_put cs item name note kind simple named noted head = rw (head, front_is item simple, named, noted) refl
+pub begin_put : (cs : Open) (name note : List ℕ) (head : v.Head SymbolAt) (kind : Kind) → head ≡ v.begin kind
+    → plain_begin cs name note (opener kind) ≡ head_text cs (plain_front name note) (map_head user_symbol_at head)
+begin_put cs name note head kind is = rw is refl
+
+-- what was put is a text that is the same
+pub puts_same : {O : Type 0} (old new : Outgoing O) (put text : List ℕ) → new ≡ record old { pending = old.pending ++ put } → put ≡ text → new ≡ record old { pending = old.pending ++ text }
+puts_same old new put text is same = is ∙ ap (λ (l : List ℕ). record old { pending = old.pending ++ l }) same
 
 -- ---- marks are short
 

@@ -6,7 +6,7 @@ use Rattle.std.proofs.lemmas.Grind.{flat_map-append}
 use Rattle.std.proofs.lemmas.List.{take-append-drop, nil_from_length}
 use Rattle.std.proofs.Math.Seq.{take-add}
 use Rattle.ion_value.specs.Digits.{first_is, all_are}
-use Rattle.ion_text_out.specs.Escape.{is_shown, escaped, byte_text}
+use Rattle.ion_text_out.specs.Escape.{is_shown, escaped, byte_text, between_quotes}
 
 -- ---- which bytes stand for themselves
 
@@ -29,6 +29,10 @@ shown_text quote top (b ∷ bytes) all =
           rw e (ap (λ xs. b ∷ xs) (shown_text quote top bytes rest))
       | inr e ↦ let f = rw e at all in absurd (cc)
     ]
+
+-- where all stand for themselves, they stand between two quotes
+pub shown_between : (quote top : ℕ) (bytes : List ℕ) → all_are (is_shown quote top) bytes ≡ true → between_quotes quote top bytes ≡ quote ∷ (bytes ++ quote ∷ [])
+shown_between quote top bytes all = ap (λ (l : List ℕ). quote ∷ (l ++ quote ∷ [])) (shown_text quote top bytes all)
 
 -- a run, and what stands behind it
 pub run_then : (quote top : ℕ) (bytes : List ℕ) (n : ℕ) {run others : List ℕ} → all_are (is_shown quote top) (take n bytes) ≡ true → run ≡ take n bytes → others ≡ drop n bytes

@@ -194,3 +194,42 @@ pub over_last : (quote most : ℕ) (bytes : List ℕ) (at last found : ℕ) → 
 over_last quote most bytes at last found same none whole le before =
     subst (λ (l : List ℕ). all_are (is_shown quote most) l ≡ true) (take_all (last + 16) bytes (omega (arith, whole)))
     (over_block quote most bytes last found same (all_prefix (is_shown quote most) last at bytes le before) none)
+
+-- ---- where one does not pass, not all do
+
+all_taken : (p : ℕ → Bool) (n : ℕ) (xs : List ℕ) → all_are p xs ≡ true → all_are p (take n xs) ≡ true
+all_taken p zero xs e = refl
+all_taken p (suc n) [] e = refl
+all_taken p (suc n) (x ∷ xs) e = let both = and_parts (p x) (all_are p xs) e in ap₂ (λ y z. y && z) both.0 (all_taken p n xs both.1)
+
+all_dropped : (p : ℕ → Bool) (n : ℕ) (xs : List ℕ) → all_are p xs ≡ true → all_are p (drop n xs) ≡ true
+all_dropped p zero xs e = e
+all_dropped p (suc n) [] e = refl
+all_dropped p (suc n) (x ∷ xs) e = let both = and_parts (p x) (all_are p xs) e in all_dropped p n xs both.1
+
+-- where all pass, no bit is set
+no_bits : (p : ℕ → Bool) (xs : List ℕ) → all_are p xs ≡ true → mask_l (map (λ x. not (p x)) xs) ≡ 0
+no_bits p [] e = refl
+no_bits p (x ∷ xs) e =
+    let both = and_parts (p x) (all_are p xs) e in
+    let rest = no_bits p xs both.1 in
+    rw both.0 (omega (arith, rest))
+
+-- so where one is set in some block, not all do
+pub some_hidden : (quote most : ℕ) (bytes : List ℕ) (at found : ℕ) → found ≡ mask_l (map (λ b. not (is_shown quote most b)) (chunk at 16 bytes)) → found ≢ 0 → all_are (is_shown quote most) bytes ≡ false
+some_hidden quote most bytes at found same some =
+    let p = is_shown quote most in
+    elim (cases_Bool (all_are p bytes)) [
+      | inl e ↦ absurd (some (same ∙ no_bits p (chunk at 16 bytes) (all_taken p 16 (drop at bytes) (all_dropped p at bytes e))))
+      | inr e ↦ e
+    ]
+
+-- nor do they where one stands behind a run
+and_false : (a b : Bool) → b ≡ false → (a && b) ≡ false
+and_false true b e = e
+and_false false b e = refl
+
+pub ends_before : (p : ℕ → Bool) (bytes : List ℕ) (n : ℕ) → n < length bytes → first_is p (drop n bytes) ≡ false → all_are p bytes ≡ false
+ends_before p [] n lt ends = absurd (omega (arith, lt))
+ends_before p (b ∷ bytes) zero lt ends = let none : p b ≡ false = ends in rw none refl
+ends_before p (b ∷ bytes) (suc n) lt ends = and_false (p b) (all_are p bytes) (ends_before p bytes n (omega (arith, lt)) ends)

@@ -7,7 +7,7 @@ use Rattle.ion_value.specs.declared.ion_type.Kind.{Kind}
 use Rattle.ion_value.specs.Value as v
 use Rattle.ion_value.specs.Value.{PlacedItem, SymbolAt, map_head}
 use Rattle.ion_value.specs.Standing as standing
-use Rattle.ion_value.specs.Standing.{Continues, HasPlace}
+use Rattle.ion_value.specs.Standing.{Continues, HasPlace, HeadInRange}
 use Rattle.ion_text_out.specs.Text.{Open, open_after, open_behind, with_member}
 use Rattle.ion_text_out.specs.Writing.{shown_in, HasRoom, Shows}
 use Rattle.ion_value.specs.Value.{user_symbol_at, user_items}
@@ -50,3 +50,13 @@ room depth n kinds v.marker e p = tt
 
 pub has_room : (limits : Limits) (kinds : List Kind) (empty : Bool) (path : List PlacedItem) (item : PlacedItem) → Shows kinds empty path → Continues limits path item → HasRoom limits.depth (length kinds) item.head
 has_room limits kinds empty path item at next = room limits.depth (length kinds) (standing.open_behind [] path) item.head (level kinds empty path at) next.fits.place
+
+range : (depth : ℕ) (kinds : List Kind) (h : v.Head SymbolAt) → HasPlace depth kinds h → HeadInRange h
+range depth kinds (v.whole body) p = p
+range depth kinds (v.begin kind) p = tt
+range depth kinds v.end p = tt
+range depth kinds v.marker p = tt
+
+-- what may come is within its range
+pub in_range : (limits : Limits) (path : List PlacedItem) (item : PlacedItem) → Continues limits path item → HeadInRange item.head
+in_range limits path item next = range limits.depth (standing.open_behind [] path) item.head next.fits.place

@@ -1,12 +1,24 @@
--- What is put of a plain item, whose symbols stand without quotes.
-use Rattle.std.specs.Prelude.{ℕ, List, [], ◌∷◌, ◌++◌, Option, Some, None, codes}
+-- What is put of a plain item.
+use Rattle.std.specs.Prelude.{ℕ, Bool, false, not, List, [], ◌∷◌, ◌++◌, Option, Some, None, codes}
+use Rattle.ion_value.specs.Name.{is_plain}
+use Rattle.ion_value.specs.Value.{Known}
 use Rattle.ion_value.specs.declared.plain_item.TextAt.{TextAt}
-use Rattle.ion_text_out.specs.Text.{Open, before_item, behind_value}
+use Rattle.ion_text_out.specs.Text.{Open, before_item, behind_value, symbol_text}
 
 -- the text of a symbol that may be there, empty where there is none
 abbrev pub text_in : Option TextAt → List ℕ
 text_in None = []
 text_in (Some t) = t.text.now
+
+-- its canonical text, empty where there is none, as that of no symbol is
+abbrev pub symbol_in : Option TextAt → List ℕ
+symbol_in None = []
+symbol_in (Some t) = symbol_text (Known t.text.now)
+
+-- whether there is one that stands between quotes
+abbrev pub needs_quotes : Option TextAt → Bool
+needs_quotes None = false
+needs_quotes (Some t) = not (is_plain t.text.now)
 
 -- a field's name and a colon, and nothing where there is no name
 abbrev pub plain_name : List ℕ → List ℕ

@@ -1,16 +1,19 @@
 //! Plain items, put in one go where the window on the output has room for them.
-ghost use Rattle.std.specs.Prelude.{◌≡◌, ◌+◌, ◌^◌, ◌≤◌, ◌<◌, ◌++◌, ◌∷◌, [], length, true, false, if◌then◌else◌};
+ghost use Rattle.std.specs.Prelude.{◌≡◌, ◌+◌, ◌^◌, ◌≤◌, ◌<◌, ◌++◌, ◌∷◌, ◌||◌, [], length, not, true, false, if◌then◌else◌, IfSome};
 ghost use Rattle.ion_value.specs.Int.{int_text};
+ghost use Rattle.ion_value.specs.Name.{is_plain};
+ghost use Rattle.ion_value.specs.PlainItems.{IsRightlySimple};
 ghost use Rattle.ion_text_out.specs.Writing.{behind_end, closing, shown};
 ghost use Rattle.ion_text_out.specs.Escape.{between_quotes};
 ghost use Rattle.ion_text_out.specs.Text.{end_text, opener};
-ghost use Rattle.ion_text_out.specs.Lane.{plain_front, plain_name, plain_note, plain_scalar, text_in};
+ghost use Rattle.ion_text_out.specs.Lane.{needs_quotes, plain_front, plain_name, plain_note, plain_scalar, text_in};
 
 use crate::between::{before, behind, behind_end, closing, opener};
 use crate::quote::{stands_in_string, stands_in_symbol};
 use ion_meter::device::Output;
 use ion_meter::sink::Sink;
 use ion_value::ion_type::Kind;
+use ion_value::name::is_plain;
 use ion_value::plain_item::TextAt;
 use itoa::Buffer;
 use std::alloc::Allocator;
@@ -24,6 +27,39 @@ pub fn text_in(at: Option<TextAt<'_>>) -> &[u8]
         Some(at) => at.text,
         None => b"",
     }
+}
+
+/// Whether a field's name or an annotation, of which each may be there, stands between quotes.
+#[inline(always)]
+pub fn need_quotes(field: Option<TextAt<'_>>, annotation: Option<TextAt<'_>>) -> bool
+    requires field { IfSome field IsRightlySimple }
+    requires annotation { IfSome annotation IsRightlySimple }
+    ensures { result ≡ (needs_quotes field.entry || needs_quotes annotation.entry) }
+{
+    needs_quotes(field) || needs_quotes(annotation)
+}
+
+// Whether a symbol that may be there does.
+#[inline(always)]
+fn needs_quotes(at: Option<TextAt<'_>>) -> bool
+    requires { IfSome at IsRightlySimple }
+    ensures { result ≡ needs_quotes at.entry }
+{
+    let Some(symbol) = at else {
+        return false;
+    };
+    if symbol.simple {
+        return false;
+    }
+    is_quoted(symbol.text)
+}
+
+// Whether a symbol of this text does.
+#[inline(never)]
+fn is_quoted(text: &[u8]) -> bool
+    ensures { result ≡ not (is_plain text.now) }
+{
+    !is_plain(text)
 }
 
 /// Whether there is room for a field's name, an annotation, so many bytes, and two marks of a byte.

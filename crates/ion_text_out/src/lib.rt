@@ -10,4 +10,5 @@ pub mod laws;
 mod put;
 mod quote;
 mod scalar;
+mod symbol;
 pub mod writer;

@@ -1,5 +1,5 @@
 //! Bytes between quotes.
-ghost use Rattle.std.specs.Prelude.{◌≡◌, ◌<◌, ◌≤◌, ◌++◌, ◌∷◌, [], not, true, false, None, map, length, take, drop};
+ghost use Rattle.std.specs.Prelude.{◌≡◌, ◌<◌, ◌≤◌, not, true, false, None, map, length, take, drop};
 ghost use Rattle.std.specs.List.{flat_map};
 ghost use Rattle.std.specs.Simd.Lanes.{mask_l};
 ghost use Rattle.ion_text_out.specs.Escape.{hex_digit, letter, is_shown, escaped, byte_text, between_quotes};
@@ -101,7 +101,7 @@ fn hidden(quote: u8, top: u16, bytes: u8x16) -> u64
 /// Whether the bytes of a string stand for themselves: it has no escape.
 #[inline]
 pub fn stands_in_string(bytes: &[u8]) -> bool
-    ensures { result ≡ true → between_quotes 34 256 bytes.now ≡ 34 ∷ (bytes.now ++ 34 ∷ []) }
+    ensures { result ≡ all_are (is_shown 34 256) bytes.now }
 {
     if bytes.len() < BLOCK {
         return few_in_string(bytes);
@@ -124,7 +124,7 @@ pub fn stands_in_string(bytes: &[u8]) -> bool
 /// Whether those of a symbol between quotes do.
 #[inline]
 pub fn stands_in_symbol(bytes: &[u8]) -> bool
-    ensures { result ≡ true → between_quotes 39 256 bytes.now ≡ 39 ∷ (bytes.now ++ 39 ∷ []) }
+    ensures { result ≡ all_are (is_shown 39 256) bytes.now }
 {
     let shown = shown_run(b'\'', 256, bytes);
     if shown < bytes.len() {

@@ -1,5 +1,5 @@
 //! The writer of text.
-ghost use Rattle.std.specs.Prelude.{◌≡◌, ◌*◌, ◌≤◌, ◌<◌, ◌-◌, ◌++◌, ◌∷◌, ℕ, [], length, drop, true, false, None, Err, OnOk, OnErr, IfErr};
+ghost use Rattle.std.specs.Prelude.{◌≡◌, ◌*◌, ◌≤◌, ◌<◌, ◌-◌, ◌++◌, ◌∷◌, ℕ, [], length, drop, true, false, None, Err, OnOk, OnErr, IfErr, IfSome};
 ghost use Rattle.ion_meter.specs.declared.fault.Reason.{Reason};
 ghost use Rattle.ion_meter.specs.declared.fault.Fault.TheVariants.{Refused};
 ghost use Rattle.ion_meter.specs.Limits.{AreChecked};
@@ -9,10 +9,11 @@ ghost use Rattle.ion_value.specs.Decimal.{IsDecimal, decimal_text};
 ghost use Rattle.ion_value.specs.Timestamp.{IsTimestamp, timestamp_text};
 ghost use Rattle.ion_value.specs.Int.{int_text};
 ghost use Rattle.ion_value.specs.Items.{raw_head, item_of, symbol_of};
+ghost use Rattle.ion_value.specs.PlainItems.{IsSpelled, IsTextOf, placed_item};
 ghost use Rattle.ion_value.specs.Shares.{MemoryCauses, WriteCauses, fault_of};
 ghost use Rattle.ion_text_out.specs.Escape.{between_quotes};
-ghost use Rattle.ion_text_out.specs.Text.{end_text, open_after, opener, symbol_text, with_member};
-ghost use Rattle.ion_text_out.specs.Lane.{plain_begin, plain_scalar};
+ghost use Rattle.ion_text_out.specs.Text.{end_text, head_text, open_after, opener, symbol_text, with_member};
+ghost use Rattle.ion_text_out.specs.Lane.{plain_begin, plain_front, plain_scalar};
 ghost use Rattle.ion_text_out.specs.Writing.{text_puts, text_adds, text_refusal, IsReady, Shows};
 ghost use Rattle.ion_value.specs.Value.{user_symbol, user_symbol_at};
 ghost use Rattle.ion_value.specs.Standing.{HeadInRange};
@@ -22,9 +23,12 @@ ghost use Rattle.ion_text_out.specs.Written.{text_grows, text-within};
 use crate::between::before;
 use crate::item::put_item;
 use crate::lane::{
-    has_room, put_begin, put_end, put_int, put_quoted_symbol, put_scalar, put_string, text_in,
+    has_room, need_quotes, put_begin, put_end, put_int, put_quoted_symbol, put_scalar, put_string,
+    text_in,
 };
 use crate::scalar::{bool_text, null};
+use crate::symbol::spell;
+use arrayvec::ArrayVec;
 use ion_meter::device::Output;
 use ion_meter::fault::Fault;
 use ion_meter::limits::Limits;
@@ -144,8 +148,8 @@ impl<A: Allocator + Copy> TextWriter<A> {
 }
 
 // The calls of `take_plain`, by what the item is: each puts all of the item and moves behind it, or
-// answers false and changes nothing. They are calls of their own that take few words: the item's name
-// and annotation as texts, which are empty where there is none, as no symbol's text here is.
+// answers false and changes nothing. They are calls of their own that take few words: the canonical
+// texts of the item's name and annotation, which are empty where there is none, as no symbol's is.
 impl<A: Allocator + Copy> TextWriter<A> {
     // A scalar of this text.
     #[inline(never)]
@@ -393,6 +397,87 @@ impl<A: Allocator + Copy> TextWriter<A> {
         self.empty = false;
         true
     }
+
+    // A head, which may come with its text.
+    #[inline(always)]
+    fn take_head<O: Output>(
+        &mut self,
+        meter: &mut Meter<A>,
+        sink: &mut Sink<O, A>,
+        name: &[u8],
+        note: &[u8],
+        head: Head<'_>,
+        spelled: Option<&[u8]>,
+    ) -> bool
+        requires can_step { CanStep self.old meter.old }
+        requires comes { MayCome self.old (raw_head head) }
+        requires spelled { IfSome spelled (λ text. IsTextOf text.now (raw_head head)) }
+        ensures declines { result ≡ false
+            → (self.new ≡ self.old) × (sink.new ≡ sink.old) × (meter.new ≡ meter.old) }
+        ensures puts { result ≡ true → sink.new ≡ record sink.old {
+          pending = sink.old.pending ++ head_text (opened_in self.old)
+              (plain_front name.now note.now) (map_head user_symbol_at (raw_head head.entry));
+        } }
+        ensures opens { result ≡ true → opened_in self.new
+            ≡ open_after (opened_in self.old) (map_head user_symbol_at (raw_head head.entry)) }
+        ensures counted { meter.new.refused ≡ meter.old.refused }
+        ensures stepped { Stepped self.old self.new meter.old meter.new }
+    {
+        if let Some(text) = spelled {
+            return self.take_text(sink, name, note, text);
+        }
+        match head {
+            Head::Null(of) => self.take_text(sink, name, note, null(of)),
+            Head::Bool(truth) => self.take_text(sink, name, note, bool_text(truth)),
+            Head::Int(int) => self.take_int(sink, name, note, int),
+            Head::Decimal(decimal) => self.take_decimal(sink, name, note, decimal),
+            Head::Timestamp(moment) => self.take_timestamp(sink, name, note, moment),
+            Head::Symbol(at) => self.take_symbol(sink, name, note, at.sym),
+            Head::String(text) => self.take_string(sink, name, note, text),
+            Head::Begin(kind) => self.take_begin(meter, sink, name, note, kind),
+            Head::End => self.take_end(meter, sink),
+            _ => false,
+        }
+    }
+
+    // An item whose name or annotation stands between quotes: the texts of both are spelled first.
+    #[inline(never)]
+    fn take_quoted_names<O: Output>(
+        &mut self,
+        meter: &mut Meter<A>,
+        sink: &mut Sink<O, A>,
+        item: PlainItem<'_, '_>,
+    ) -> bool
+        requires can_step { CanStep self.old meter.old }
+        requires comes { MayCome self.old (raw_head item.head) }
+        requires spelled { IsSpelled item }
+        ensures declines { result ≡ false
+            → (self.new ≡ self.old) × (sink.new ≡ sink.old) × (meter.new ≡ meter.old) }
+        ensures puts { result ≡ true → sink.new ≡ record sink.old {
+          pending = sink.old.pending ++ text_of self.old (placed_item item.entry);
+        } }
+        ensures opens { result ≡ true → opened_in self.new
+            ≡ open_after (opened_in self.old) (map_head user_symbol_at (raw_head item.entry.head)) }
+        ensures counted { meter.new.refused ≡ meter.old.refused }
+        ensures stepped { Stepped self.old self.new meter.old meter.new }
+    {
+        let mut name = ArrayVec::new();
+        if !spell(&mut name, item.field) {
+            return false;
+        }
+        let mut note = ArrayVec::new();
+        if !spell(&mut note, item.annotation) {
+            return false;
+        }
+        self.take_head(
+            meter,
+            sink,
+            name.as_slice(),
+            note.as_slice(),
+            item.head,
+            item.spelled,
+        )
+    }
 }
 
 impl<O: Output, A: Allocator + Copy> ValueWriter<O, A> for TextWriter<A> {
@@ -450,23 +535,12 @@ impl<O: Output, A: Allocator + Copy> ValueWriter<O, A> for TextWriter<A> {
         sink: &mut Sink<O, A>,
         item: PlainItem<'_, '_>,
     ) -> bool {
+        if need_quotes(item.field, item.annotation) {
+            return self.take_quoted_names(meter, sink, item);
+        }
         let name = text_in(item.field);
         let note = text_in(item.annotation);
-        if let Some(text) = item.spelled {
-            return self.take_text(sink, name, note, text);
-        }
-        match item.head {
-            Head::Null(of) => self.take_text(sink, name, note, null(of)),
-            Head::Bool(truth) => self.take_text(sink, name, note, bool_text(truth)),
-            Head::Int(int) => self.take_int(sink, name, note, int),
-            Head::Decimal(decimal) => self.take_decimal(sink, name, note, decimal),
-            Head::Timestamp(moment) => self.take_timestamp(sink, name, note, moment),
-            Head::Symbol(at) => self.take_symbol(sink, name, note, at.sym),
-            Head::String(text) => self.take_string(sink, name, note, text),
-            Head::Begin(kind) => self.take_begin(meter, sink, name, note, kind),
-            Head::End => self.take_end(meter, sink),
-            _ => false,
-        }
+        self.take_head(meter, sink, name, note, item.head, item.spelled)
     }
 
     ghost grows = { text_grows };

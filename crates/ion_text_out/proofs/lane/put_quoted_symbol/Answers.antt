@@ -1,13 +1,12 @@
-use Rattle.std.proofs.Common.{◌≡◌, ℕ, List, ◌∷◌, [], ◌++◌, sym, subst}
-use Rattle.ion_text_out.specs.Escape.{between_quotes}
+use Rattle.std.proofs.Common.{◌≡◌, ℕ, List, ◌++◌, sym, ◌∙◌, subst}
 use Rattle.ion_text_out.specs.Lane.{plain_scalar}
 use Rattle.ion_text_out.specs.Writing.{shown}
+use Rattle.ion_text_out.proofs.Quoted.{shown_between}
 use Rattle.ion_text_out.proofs.lane.put_quoted_symbol.Goals as goal
 
 pub returns-clause-puts : goal.returns-clause-puts
 returns-clause-puts g c e =
     let sink = c.args.sink.now in
-    let text = c.args.text.now in
-    let as_it_stands : between_quotes 39 256 text ≡ 39 ∷ (text ++ 39 ∷ []) = c.stands_in_symbol.ensures c.if-not-stands_in_symbol.false in
+    let as_it_stands = shown_between 39 256 c.args.text.now (sym c.stands_in_symbol.ensures ∙ c.if-not-stands_in_symbol.false) in
     subst (λ (t : List ℕ). c.put_between.new.sink ≡ record sink { pending = sink.pending ++ plain_scalar (shown c.args.kinds.now c.args.empty) c.args.name.now c.args.note.now t })
     (sym as_it_stands) (c.put_between.ensures.puts e)

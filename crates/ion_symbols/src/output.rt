@@ -1,5 +1,5 @@
 //! The symbol table of an output.
-ghost use Rattle.std.specs.Prelude.{◌≡◌, ℕ, ◌+◌, ◌-◌, ◌*◌, ◌^◌, ◌<◌, ◌≤◌, [], List, length, drop, slice_get, Option, Some, None, MatchOption, IfOk, IfErr, OnErr, OnOk, slice_index};
+ghost use Rattle.std.specs.Prelude.{◌≡◌, ℕ, ◌+◌, ◌-◌, ◌*◌, ◌^◌, ◌<◌, ◌≤◌, ◌++◌, ◌∷◌, [], List, length, drop, slice_get, Option, Some, None, Ok, MatchOption, IfOk, IfErr, OnErr, OnOk, slice_index};
 ghost use Rattle.ion_meter.specs.declared.fault.Fault.TheVariants.{Memory};
 ghost use Rattle.ion_meter.specs.Limits.{AreChecked};
 ghost use Rattle.ion_meter.specs.Counts.{Shrinks};
@@ -112,13 +112,17 @@ impl<A: Allocator + Copy> OutSymbols<A> {
     /// given one. A text that is new is added; where its cost would pass the limit, it is not, and
     /// there is no id.
     ///
-    /// Where memory is refused, it answers `Memory` and the texts stay as they were.
+    /// Where memory is refused, it answers `Memory` and the texts stay as they were. A text that has an
+    /// id asks for none.
     pub fn id_of(&mut self, meter: &mut Meter<A>, text: &[u8]) -> Result<Option<u32>, Fault>
         requires room { meter.old.held ≤ 2 ^ 62 + 2 ^ 31 }
         requires held { texts_cost self.old.texts ≤ meter.old.held }
         requires countable { meter.old.refused < 2 ^ 64 - 1 }
         ensures gives { IfOk result
             (λ id. (id, self.new.texts) ≡ id_given self.old.limit self.old.texts text.now) }
+        ensures found { (id : ℕ) → known_id self.old.texts text.now ≡ Some id
+            → (result ≡ Ok (Some id)) × (self.new.texts ≡ self.old.texts)
+            × (meter.new ≡ meter.old) }
         ensures limit { self.new.limit ≡ self.old.limit }
         ensures probes { self.new.probes ≤ binary_digits (length self.old.texts) }
         ensures system { (id : ℕ) → system_id text.now ≡ Some id → self.new.probes ≡ 0 }
@@ -222,8 +226,8 @@ impl<A: Allocator + Copy> OutSymbols<A> {
         }
     }
 
-    /// As `id_of`, but where there are at most 4,096 texts, one that has an id is found as by `known`. What
-    /// `last_probes` says is left, or is that of `id_of`.
+    /// As `id_of`, but where there are at most 4,096 texts, one that has an id is found as by `known`, and
+    /// what `last_probes` says is left as it was.
     #[inline]
     pub fn give_id(&mut self, meter: &mut Meter<A>, text: &[u8]) -> Result<Option<u32>, Fault>
         requires room { meter.old.held ≤ 2 ^ 62 + 2 ^ 31 }
@@ -231,7 +235,15 @@ impl<A: Allocator + Copy> OutSymbols<A> {
         requires countable { meter.old.refused < 2 ^ 64 - 1 }
         ensures gives { IfOk result
             (λ id. (id, self.new.texts) ≡ id_given self.old.limit self.old.texts text.now) }
+        ensures found { (id : ℕ) → known_id self.old.texts text.now ≡ Some id
+            → (result ≡ Ok (Some id)) × (self.new.texts ≡ self.old.texts)
+            × (meter.new ≡ meter.old) }
         ensures limit { self.new.limit ≡ self.old.limit }
+        ensures left { length self.old.texts ≤ 4096 → self.new.probes ≡ self.old.probes }
+        ensures probes { 4096 < length self.old.texts
+            → self.new.probes ≤ binary_digits (length self.old.texts) }
+        ensures system { 4096 < length self.old.texts
+            → (id : ℕ) → system_id text.now ≡ Some id → self.new.probes ≡ 0 }
         ensures memory { IfErr result (λ fault. (fault ≡ Memory)
             × (self.new.texts ≡ self.old.texts) × (meter.new.refused ≡ meter.old.refused + 1)) }
         ensures counted { OnOk result (meter.new.refused ≡ meter.old.refused) }

@@ -1,8 +1,9 @@
 -- The id of a text that is looked for among the texts of an output.
-use Rattle.std.proofs.Common.{◌≡◌, ℕ, ◌+◌, ◌<◌, List, length, get_or, slice_get, Option, Some, None, option_map, ap, ap₂, sym, subst, ◌∙◌, arith}
+use Rattle.std.proofs.Common.{◌≡◌, ℕ, ◌+◌, ◌<◌, List, length, get_or, slice_get, Option, Some, None, Result, Ok, option_map, ap, ap₂, sym, subst, ◌∙◌, arith}
 use Rattle.std.proofs.lemmas.List.{length-map}
 use Rattle.std.proofs.lemmas.Option.{slice_get_within}
 use Rattle.ion_meter.specs.Counts.{Counts}
+use Rattle.ion_meter.specs.declared.fault.Fault.{Fault}
 use Rattle.ion_value.specs.Shares.{Charges}
 use Rattle.ion_symbols.specs.declared.ordered.Place.{Place}
 use Rattle.ion_symbols.specs.Output.{Belongs, IsSorted, probes_for, texts_cost, position, system_id, or_given, known_id, id_or_new, id_given}
@@ -27,6 +28,14 @@ known_by texts t place h e = ap₂ or_given (sym h) e
 -- a text that is known is given its id, and nothing is added
 pub known_given : (limit : ℕ) (texts by_id : List (List ℕ)) (t : List ℕ) (id : ℕ) → texts ≡ by_id → Some id ≡ known_id by_id t → ◌≡◌ {A = Option ℕ × List (List ℕ)} (Some id, texts) (id_given limit by_id t)
 known_given limit texts by_id t id i k = ap (λ (ts : List (List ℕ)). (Some id, ts)) i ∙ ap (id_or_new limit by_id t) k
+
+-- the id that was found is the one that the text has
+pub id_answered : (texts : List (List ℕ)) (t : List ℕ) (found : Option ℕ) (id : ℕ) → found ≡ known_id texts t → known_id texts t ≡ Some id → ◌≡◌ {A = Result (Option ℕ) Fault} (Ok found) (Ok (Some id))
+id_answered texts t found id f k = ap (λ (o : Option ℕ). Ok o) (f ∙ k)
+
+-- that of a text of the system table is its id there
+pub system_known : (texts : List (List ℕ)) (t : List ℕ) (id : ℕ) → Some id ≡ system_id t → ◌≡◌ {A = Option ℕ} (Some id) (known_id texts t)
+system_known texts t id s = ap (λ (o : Option ℕ). or_given o (position texts t)) s
 
 -- a text that was not found is not known
 pub not_known : (bytes : List ℕ) (places : List Place) (order : List ℕ) (texts : List (List ℕ)) (t : List ℕ) (place : ℕ) → Ordered bytes places order → ordered_texts bytes places order ≡ texts → None ≡ system_id t → Belongs texts t place → known_id (texts_in bytes places) t ≡ None

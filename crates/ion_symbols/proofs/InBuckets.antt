@@ -1,14 +1,15 @@
 -- Texts that are found by their buckets.
-use Rattle.std.proofs.Common.{◌≡◌, inl, inr, ℕ, zero, suc, ◌+◌, ◌-◌, ◌^◌, ◌<◌, ◌≤◌, Bool, true, false, List, [], ◌∷◌, ◌++◌, length, get_or, set, replicate, Option, Some, None, refl, ap, ap₂, sym, subst, subst₂, ◌∙◌, arith, below_more}
+use Rattle.std.proofs.Common.{◌≡◌, inl, inr, ℕ, zero, suc, ◌+◌, ◌-◌, ◌^◌, ◌<◌, ◌≤◌, Bool, true, false, List, [], ◌∷◌, ◌++◌, length, take, drop, map, get_or, set, replicate, Option, Some, None, refl, ap, ap₂, sym, subst, subst₂, ◌∙◌, arith, below_more}
 use Rattle.std.proofs.lemmas.Bool.Decides.{eqb_tells, leb_tells}
 use Rattle.std.proofs.lemmas.List.{get_or_append_left, get_or_push, get_or-set_same, get_or-set_other, length_push, length-map, length-set, get_or-map, length-replicate, get_or-replicate}
 use Rattle.std.proofs.lemmas.Bool.{true≢false}
+use Rattle.std.proofs.lemmas.Simd.{map-map}
 use Rattle.std.proofs.lemmas.Slice.Eq.{bytes_eq-Decides}
 use Rattle.std.specs.Str.{bytes_eq}
 use Rattle.ion_symbols.specs.declared.ordered.Place.{Place}
 use Rattle.ion_symbols.specs.Output.{position, system_id, or_given, known_id}
 use Rattle.ion_symbols.specs.Ordered.{place_text, texts_in, Follow, Orders, Ordered, IsWithin}
-use Rattle.ion_symbols.specs.Buckets.{bucket_of, IsLatest, IsFront, Chained, Looks, relinked, link_behind, put_behind, put_in_front}
+use Rattle.ion_symbols.specs.Buckets.{bucket_of, IsLatest, IsFront, Chained, Looks, IsUnlinked, spans}
 use Rattle.ion_symbols.proofs.Orders.{there_position, absent_position}
 use Rattle.ion_symbols.proofs.OutputTexts.{follow_from}
 
@@ -18,7 +19,7 @@ no_texts buckets many none = record {
   many = many;
   fronts = λ b l.
       let z : get_or buckets b 0 ≡ 0 = none b l in
-      record { within = omega (arith, z); none = λ h i m e. absurd (omega (arith, m)); there = λ p. absurd (omega (arith, p, z)) };
+      record { within = omega (arith, z); none = λ h i m e. absurd (omega (arith, m)); there = λ p. absurd (omega (arith, p, z)); first = λ i m e. absurd (omega (arith, m, z)) };
   lasts = λ b d l p. let z : get_or buckets b 0 ≡ 0 = none b l in absurd (omega (arith, p, z));
   links = λ i d l other. absurd (omega (arith, l));
   no_system = λ i l. absurd (omega (arith, l));
@@ -39,71 +40,54 @@ nothing_kept bytes places order buckets of_place of_id limit a b c d e f l = rw 
 
 -- ---- places of which one links to another text
 
--- as many
-length-relinked : (ps : List Place) (at next : ℕ) → length (relinked ps at next) ≡ length ps
-length-relinked [] at next = refl
-length-relinked (p ∷ ps) zero next = refl
-length-relinked (p ∷ ps) (suc at) next = ap suc (length-relinked ps at next)
+-- where a text begins and ends
+abbrev span : Place → ℕ × ℕ
+span p = (p.from, p.to)
 
--- the texts stand where they stood
-texts-relinked : (bytes : List ℕ) (ps : List Place) (at next : ℕ) → texts_in bytes (relinked ps at next) ≡ texts_in bytes ps
-texts-relinked bytes [] at next = refl
-texts-relinked bytes (p ∷ ps) zero next = refl
-texts-relinked bytes (p ∷ ps) (suc at) next = ap (λ ts. place_text bytes p ∷ ts) (texts-relinked bytes ps at next)
+-- the text between
+abbrev spanned : List ℕ → ℕ × ℕ → List ℕ
+spanned bytes s = take (s.1 - s.0) (drop s.0 bytes)
+
+-- they are as many
+pub length-spans : (ps qs : List Place) → spans qs ≡ spans ps → length qs ≡ length ps
+length-spans ps qs e = sym (length-map qs span) ∙ (ap length e ∙ length-map ps span)
+
+-- of the same texts
+pub texts-spans : (bytes : List ℕ) (ps qs : List Place) → spans qs ≡ spans ps → texts_in bytes qs ≡ texts_in bytes ps
+texts-spans bytes ps qs e = sym (map-map (spanned bytes) span qs) ∙ (ap (map (spanned bytes)) e ∙ map-map (spanned bytes) span ps)
 
 -- behind one another
-follow-relinked : (from : ℕ) (ps : List Place) (end at next : ℕ) → Follow from ps end → Follow from (relinked ps at next) end
-follow-relinked from [] end at next h = h
-follow-relinked from (p ∷ ps) end zero next h = h
-follow-relinked from (p ∷ ps) end (suc at) next h = (h.0, (h.1.0, follow-relinked p.to ps end at next h.1.1))
-
--- the link is the one that was set
-link-there : (ps : List Place) (at next : ℕ) (d : Place) → at < length ps → (get_or (relinked ps at next) at d).next ≡ next
-link-there [] at next d l = absurd (omega (arith, l))
-link-there (p ∷ ps) zero next d l = refl
-link-there (p ∷ ps) (suc at) next d l = link-there ps at next d (omega (arith, l))
-
--- and all others are as they were
-link-elsewhere : (ps : List Place) (at i next : ℕ) (d : Place) → (i ≡ at → ⊥) → get_or (relinked ps at next) i d ≡ get_or ps i d
-link-elsewhere [] at i next d other = refl
-link-elsewhere (p ∷ ps) zero zero next d other = absurd (other refl)
-link-elsewhere (p ∷ ps) zero (suc i) next d other = refl
-link-elsewhere (p ∷ ps) (suc at) zero next d other = refl
-link-elsewhere (p ∷ ps) (suc at) (suc i) next d other = link-elsewhere ps at i next d (λ e. other (ap suc e))
-
--- a place that is set to itself with another link
-pub set-relinked : (ps : List Place) (at next : ℕ) (d : Place) → at < length ps → set ps at (record { from = (get_or ps at d).from; to = (get_or ps at d).to; next = next }) ≡ relinked ps at next
-set-relinked [] at next d l = absurd (omega (arith, l))
-set-relinked (p ∷ ps) zero next d l = refl
-set-relinked (p ∷ ps) (suc at) next d l = ap (λ qs. p ∷ qs) (set-relinked ps at next d (omega (arith, l)))
-
--- behind the text in front, where there is one
-pub put_there : (ps ps2 ps3 : List Place) (front last : ℕ) (d : Place) → 0 < front → front ≤ length ps → ps2 ≡ ps → ps3 ≡ set ps (front - 1) (record { from = (get_or ps2 (front - 1) d).from; to = (get_or ps2 (front - 1) d).to; next = last })
-    → ps3 ≡ put_behind ps front last
-put_there ps ps2 ps3 zero last d p l e f = absurd (omega (arith, p))
-put_there ps ps2 ps3 (suc front) last d p l e f =
-    let back : front ≡ suc front - 1 = omega arith in
-    f ∙ (ap (λ (qs : List Place). set ps (suc front - 1) (record { from = (get_or qs (suc front - 1) d).from; to = (get_or qs (suc front - 1) d).to; next = last })) e
-    ∙ (ap (λ i. set ps i (record { from = (get_or ps i d).from; to = (get_or ps i d).to; next = last })) (sym back) ∙ set-relinked ps front last d (omega (arith, l))))
+follow-spans : (from : ℕ) (ps qs : List Place) (end : ℕ) → spans qs ≡ spans ps → Follow from ps end → Follow from qs end
+follow-spans from [] [] end e h = h
+follow-spans from [] (q ∷ qs) end e h = absurd (cc e)
+follow-spans from (p ∷ ps) [] end e h = absurd (cc e)
+follow-spans from (p ∷ ps) (q ∷ qs) end e h =
+    let begins : q.from ≡ p.from = ap (λ (l : List (ℕ × ℕ)). (get_or l 0 (0, 0)).0) e in
+    let ends : q.to ≡ p.to = ap (λ (l : List (ℕ × ℕ)). (get_or l 0 (0, 0)).1) e in
+    let rest : spans qs ≡ spans ps = ap (λ (l : List (ℕ × ℕ)). drop 1 l) e in
+    (begins ∙ h.0, (subst (λ n. from ≤ n) (sym ends) h.1.0, subst (λ n. Follow n qs end) (sym ends) (follow-spans p.to ps qs end rest h.1.1)))
 
 -- texts that are kept stay kept
-pub ordered-behind : (bytes : List ℕ) (places places2 : List Place) (order : List ℕ) (front next : ℕ) → Ordered bytes places order → places2 ≡ put_behind places front next → Ordered bytes places2 order
-ordered-behind bytes places places2 order zero next h e = subst (λ ps. Ordered bytes ps order) (sym e) h
-ordered-behind bytes places places2 order (suc front) next h e = rw e (record {
-  follow = follow-relinked 0 places (length bytes) front next h.follow;
-  orders = subst (λ ts. Orders ts order) (sym (texts-relinked bytes places front next)) h.orders;
-  few = subst (λ n. n < 2 ^ 31) (sym (length-relinked places front next)) h.few;
-})
+pub ordered-spans : (bytes : List ℕ) (ps qs : List Place) (order : List ℕ) → spans qs ≡ spans ps → Ordered bytes ps order → Ordered bytes qs order
+ordered-spans bytes ps qs order e h = record {
+  follow = follow-spans 0 ps qs (length bytes) e h.follow;
+  orders = subst (λ ts. Orders ts order) (sym (texts-spans bytes ps qs e)) h.orders;
+  few = subst (λ n. n < 2 ^ 31) (sym (length-spans ps qs e)) h.few;
+}
 
--- as many
-pub length-behind : (places places2 : List Place) (front next : ℕ) → places2 ≡ put_behind places front next → length places2 ≡ length places
-length-behind places places2 zero next e = ap length e
-length-behind places places2 (suc front) next e = ap length e ∙ length-relinked places front next
+-- a place that is set to itself with another link
+spans-set : (ps : List Place) (at next : ℕ) (d : Place) → at < length ps → spans (set ps at (record { from = (get_or ps at d).from; to = (get_or ps at d).to; next = next })) ≡ spans ps
+spans-set [] at next d l = absurd (omega (arith, l))
+spans-set (p ∷ ps) zero next d l = refl
+spans-set (p ∷ ps) (suc at) next d l = ap (λ ss. span p ∷ ss) (spans-set ps at next d (omega (arith, l)))
 
--- the same ones
-pub texts-behind : (bytes : List ℕ) (places places2 : List Place) (front next : ℕ) → places2 ≡ put_behind places front next → texts_in bytes places2 ≡ texts_in bytes places
-texts-behind bytes places places2 zero next e = ap (texts_in bytes) e
-texts-behind bytes places places2 (suc front) next e = ap (texts_in bytes) e ∙ texts-relinked bytes places front next
+-- so is the one in front
+pub spans_linked : (ps ps2 ps3 : List Place) (front next : ℕ) (d : Place) → 0 < front → front ≤ length ps → ps2 ≡ ps → ps3 ≡ set ps (front - 1) (record { from = (get_or ps2 (front - 1) d).from; to = (get_or ps2 (front - 1) d).to; next = next })
+    → spans ps3 ≡ spans ps
+spans_linked ps ps2 ps3 front next d p l e f =
+    ap spans f
+    ∙ (ap (λ (qs : List Place). spans (set ps (front - 1) (record { from = (get_or qs (front - 1) d).from; to = (get_or qs (front - 1) d).to; next = next }))) e
+    ∙ spans-set ps (front - 1) next d (omega (arith, p, l)))
 
 -- ---- a text more
 
@@ -159,15 +143,39 @@ front_more texts t b front other h = record {
   none = λ z i l. below_more (λ i. bucket_of (get_or (texts ++ t ∷ []) i []) ≡ b → ⊥) (length texts)
       (λ i l e. h.none z i l (sym (same_bucket texts t i l) ∙ e)) (λ e. other z (sym (new_bucket texts t (length texts) refl) ∙ e)) i (omega (arith, l, length_push texts t));
   there = λ p. same_bucket texts t (front - 1) (omega (arith, p, h.within)) ∙ h.there p;
+  first = λ i m e. h.first i m (sym (same_bucket texts t i (omega (arith, m, h.within))) ∙ e);
 }
 
--- the new text stands in front
-front_new : (texts : List (List ℕ)) (t : List ℕ) (b n : ℕ) → n ≡ length texts + 1 → bucket_of t ≡ b → IsFront (texts ++ t ∷ []) b n
-front_new texts t b n k e = record {
+-- the new text stands in front of a bucket that had none
+front_new : (texts : List (List ℕ)) (t : List ℕ) (b n : ℕ) → n ≡ length texts + 1 → bucket_of t ≡ b → ((i : ℕ) → i < length texts → bucket_of (get_or texts i []) ≡ b → ⊥) → IsFront (texts ++ t ∷ []) b n
+front_new texts t b n k e none = record {
   within = omega (arith, length_push texts t, k);
   none = λ z. absurd (omega (arith, z, k));
   there = λ p. new_bucket texts t (n - 1) (omega (arith, k)) ∙ e;
+  first = λ i m f. let s : i < length texts = omega (arith, m, k) in none i s (sym (same_bucket texts t i s) ∙ f);
 }
+
+-- in an empty bucket there is none to link to
+no_link : (texts : List (List ℕ)) (b but next : ℕ) → IsFront texts b 0 → IsLatest texts b but (length texts) next → next ≡ 0
+no_link texts b but zero h k = refl
+no_link texts b but (suc next) h k = absurd (h.none refl (suc next - 1) (omega (arith, k.within)) (k.there (omega arith)))
+
+-- where no text stands in front of a bucket there is no other
+pub link_none : (texts : List (List ℕ)) (places : List Place) (buckets : List ℕ) (b front last : ℕ) → b < 512 → Chained texts places buckets → front ≡ get_or buckets b 0 → front ≡ 0 → last ≡ 0 → IsLatest texts b front (length texts) last
+link_none texts places buckets b front last l h f z e =
+    let empty : IsFront texts b 0 = subst (IsFront texts b) (sym f ∙ z) (h.fronts b l) in
+    rw (z, e) (record {
+      within = omega arith;
+      none_behind = λ i a m o. empty.none refl i m;
+      there = λ p. absurd (omega (arith, p));
+      another = λ p. absurd (omega (arith, p));
+    })
+
+-- and the one in front links to the last of the others
+pub link_last : (texts : List (List ℕ)) (places : List Place) (buckets : List ℕ) (b front last : ℕ) (d : Place) → b < 512 → Chained texts places buckets → front ≡ get_or buckets b 0 → 0 < front → last ≡ (get_or places (front - 1) d).next
+    → IsLatest texts b front (length texts) last
+link_last texts places buckets b front last d l h f p e =
+    subst₂ (λ f n. IsLatest texts b f (length texts) n) (sym f) (ap (λ f. (get_or places (f - 1) d).next) (sym f) ∙ sym e) (h.lasts b d l (omega (arith, f, p)))
 
 -- none is a system text
 no_system_more : (texts : List (List ℕ)) (t : List ℕ) → ((i : ℕ) → i < length texts → system_id (get_or texts i []) ≡ None) → None ≡ system_id t → (i : ℕ) → i < length (texts ++ t ∷ []) → system_id (get_or (texts ++ t ∷ []) i []) ≡ None
@@ -181,7 +189,7 @@ chained_first : (texts : List (List ℕ)) (places : List Place) (buckets : List 
 chained_first texts places buckets t p of n h long z k o l next none = record {
   many = length-set buckets of n ∙ h.many;
   fronts = λ b m. elim (eqb_tells b of) as (λ _. IsFront (texts ++ t ∷ []) b (get_or (set buckets of n) b 0)) [
-    | inl y ↦ subst (IsFront (texts ++ t ∷ []) b) (sym (set_here b y.1)) (front_new texts t b n k (sym o ∙ sym y.1))
+    | inl y ↦ subst (IsFront (texts ++ t ∷ []) b) (sym (set_here b y.1)) (front_new texts t b n k (sym o ∙ sym y.1) (λ i j e. (h.fronts of l).none z i j (e ∙ y.1)))
     | inr y ↦ subst (IsFront (texts ++ t ∷ []) b) (sym (get_or-set_other buckets of b n 0 y.1)) (front_more texts t b (get_or buckets b 0) (λ _ e. y.1 (sym (o ∙ e))) (h.fronts b m))
   ];
   lasts = λ b d m. elim (eqb_tells b of) as (λ _. 0 < get_or (set buckets of n) b 0
@@ -216,37 +224,37 @@ chained_first texts places buckets t p of n h long z k o l next none = record {
     before = omega (arith, k)
 
 -- or behind the one in front
-chained_behind : (texts : List (List ℕ)) (places : List Place) (buckets : List ℕ) (t : List ℕ) (p d0 : Place) (of front n : ℕ) → Chained texts places buckets → length places ≡ length texts
-    → get_or buckets of 0 ≡ suc front → n ≡ length texts + 1 → of ≡ bucket_of t → of < 512 → p.next ≡ (get_or places front d0).next → None ≡ system_id t
-    → Chained (texts ++ t ∷ []) (relinked (places ++ p ∷ []) front n) buckets
-chained_behind texts places buckets t p d0 of front n h long z k o l next none = record {
+chained_behind : (texts : List (List ℕ)) (places : List Place) (buckets : List ℕ) (t : List ℕ) (p q : Place) (of front n : ℕ) → Chained texts places buckets → length places ≡ length texts
+    → get_or buckets of 0 ≡ suc front → n ≡ length texts + 1 → of ≡ bucket_of t → of < 512 → q.next ≡ n → IsLatest texts of (get_or buckets of 0) (length texts) p.next → None ≡ system_id t
+    → Chained (texts ++ t ∷ []) (set (places ++ p ∷ []) front q) buckets
+chained_behind texts places buckets t p q of front n h long z k o l new link none = record {
   many = h.many;
   fronts = λ b m. front_more texts t b (get_or buckets b 0) (λ y e. let f : get_or buckets of 0 ≡ 0 = ap (λ i. get_or buckets i 0) (o ∙ e) ∙ y in omega (arith, f, z)) (h.fronts b m);
-  lasts = λ b d m q. elim (eqb_tells b of) as (λ _.
-      IsLatest (texts ++ t ∷ []) b (get_or buckets b 0) (length (texts ++ t ∷ [])) (get_or (relinked (places ++ p ∷ []) front n) (get_or buckets b 0 - 1) d).next) [
+  lasts = λ b d m w. elim (eqb_tells b of) as (λ _.
+      IsLatest (texts ++ t ∷ []) b (get_or buckets b 0) (length (texts ++ t ∷ [])) (get_or (set (places ++ p ∷ []) front q) (get_or buckets b 0 - 1) d).next) [
         | inl y ↦
             let is : get_or buckets b 0 ≡ suc front = ap (λ i. get_or buckets i 0) y.1 ∙ z in
-            subst (λ f. IsLatest (texts ++ t ∷ []) b f (length (texts ++ t ∷ [])) (get_or (relinked (places ++ p ∷ []) front n) (f - 1) d).next) (sym is)
-            (subst₂ (IsLatest (texts ++ t ∷ []) b (suc front)) (k ∙ sym (length_push texts t)) (sym (link-there (places ++ p ∷ []) front n d (omega (arith, in_front, long, length_push places p))) ∙ ap (λ i. (get_or (relinked (places ++ p ∷ []) front n) i d).next) back)
+            subst (λ f. IsLatest (texts ++ t ∷ []) b f (length (texts ++ t ∷ [])) (get_or (set (places ++ p ∷ []) front q) (f - 1) d).next) (sym is)
+            (subst₂ (IsLatest (texts ++ t ∷ []) b (suc front)) (k ∙ sym (length_push texts t)) (sym (link_there d) ∙ ap (λ i. (get_or (set (places ++ p ∷ []) front q) i d).next) back)
             (latest_new texts t b (suc front) n k (sym o ∙ sym y.1) (omega (arith, in_front, k))))
         | inr y ↦
             subst (λ (r : Place). IsLatest (texts ++ t ∷ []) b (get_or buckets b 0) (length (texts ++ t ∷ [])) r.next)
-            (sym (link-elsewhere (places ++ p ∷ []) front (get_or buckets b 0 - 1) n d (λ e. y.1 (sym ((h.fronts b m).there q) ∙ (ap (λ i. bucket_of (get_or texts i [])) e ∙ of_front)))
-            ∙ get_or_append_left places (p ∷ []) d (get_or buckets b 0 - 1) (omega (arith, q, (h.fronts b m).within, long))))
-            (latest_other texts t b (get_or buckets b 0) (get_or places (get_or buckets b 0 - 1) d).next (λ e. y.1 (sym (o ∙ e))) (h.lasts b d m q))
+            (sym (get_or-set_other (places ++ p ∷ []) front (get_or buckets b 0 - 1) q d (λ e. y.1 (sym ((h.fronts b m).there w) ∙ (ap (λ i. bucket_of (get_or texts i [])) e ∙ of_front)))
+            ∙ get_or_append_left places (p ∷ []) d (get_or buckets b 0 - 1) (omega (arith, w, (h.fronts b m).within, long))))
+            (latest_other texts t b (get_or buckets b 0) (get_or places (get_or buckets b 0 - 1) d).next (λ e. y.1 (sym (o ∙ e))) (h.lasts b d m w))
       ];
   links = λ i d m. below_more (λ i. (i + 1 ≡ get_or buckets (bucket_of (get_or (texts ++ t ∷ []) i [])) 0 → ⊥)
-      → IsLatest (texts ++ t ∷ []) (bucket_of (get_or (texts ++ t ∷ []) i [])) (get_or buckets (bucket_of (get_or (texts ++ t ∷ []) i [])) 0) i (get_or (relinked (places ++ p ∷ []) front n) i d).next) (length texts)
+      → IsLatest (texts ++ t ∷ []) (bucket_of (get_or (texts ++ t ∷ []) i [])) (get_or buckets (bucket_of (get_or (texts ++ t ∷ []) i [])) 0) i (get_or (set (places ++ p ∷ []) front q) i d).next) (length texts)
       (λ i m.
-      subst (λ b. (i + 1 ≡ get_or buckets b 0 → ⊥) → IsLatest (texts ++ t ∷ []) b (get_or buckets b 0) i (get_or (relinked (places ++ p ∷ []) front n) i d).next) (sym (same_bucket texts t i m)) (λ other.
+      subst (λ b. (i + 1 ≡ get_or buckets b 0 → ⊥) → IsLatest (texts ++ t ∷ []) b (get_or buckets b 0) i (get_or (set (places ++ p ∷ []) front q) i d).next) (sym (same_bucket texts t i m)) (λ other.
       subst (λ (r : Place). IsLatest (texts ++ t ∷ []) (bucket_of (get_or texts i [])) (get_or buckets (bucket_of (get_or texts i [])) 0) i r.next)
-      (sym (link-elsewhere (places ++ p ∷ []) front i n d (λ e. other (in_place i e)) ∙ get_or_append_left places (p ∷ []) d i (omega (arith, m, long))))
+      (sym (get_or-set_other (places ++ p ∷ []) front i q d (λ e. other (in_place i e)) ∙ get_or_append_left places (p ∷ []) d i (omega (arith, m, long))))
       (latest_more texts t (bucket_of (get_or texts i [])) (get_or buckets (bucket_of (get_or texts i [])) 0) i (get_or places i d).next (omega (arith, m)) (h.links i d m other))))
       (λ _.
-      subst (λ b. IsLatest (texts ++ t ∷ []) b (get_or buckets b 0) (length texts) (get_or (relinked (places ++ p ∷ []) front n) (length texts) d).next) (o ∙ sym (new_bucket texts t (length texts) refl))
-      (subst (IsLatest (texts ++ t ∷ []) of (get_or buckets of 0) (length texts))
-      (ap (λ i. (get_or places i d0).next) (sym place) ∙ (sym next ∙ ap (λ (r : Place). r.next) (sym (link-elsewhere (places ++ p ∷ []) front (length texts) n d (λ e. omega (arith, e, in_front)) ∙ get_or_push places p d (length texts) long))))
-      (latest_more texts t of (get_or buckets of 0) (length texts) (get_or places (get_or buckets of 0 - 1) d0).next (omega arith) (h.lasts of d0 l (omega (arith, z))))))
+      subst (λ b. IsLatest (texts ++ t ∷ []) b (get_or buckets b 0) (length texts) (get_or (set (places ++ p ∷ []) front q) (length texts) d).next) (o ∙ sym (new_bucket texts t (length texts) refl))
+      (subst (λ (r : Place). IsLatest (texts ++ t ∷ []) of (get_or buckets of 0) (length texts) r.next)
+      (sym (get_or-set_other (places ++ p ∷ []) front (length texts) q d (λ e. omega (arith, e, in_front)) ∙ get_or_push places p d (length texts) long))
+      (latest_more texts t of (get_or buckets of 0) (length texts) p.next (omega arith) link)))
       i (omega (arith, m, length_push texts t));
   no_system = no_system_more texts t (h.no_system) none;
 }
@@ -254,31 +262,39 @@ chained_behind texts places buckets t p d0 of front n h long z k o l next none =
     in_front : front < length texts
     in_front = omega (arith, z, (h.fronts of l).within)
 
-    place : front ≡ get_or buckets of 0 - 1
-    place = omega (arith, z)
+    link_there : (d : Place) → (get_or (set (places ++ p ∷ []) front q) front d).next ≡ n
+    link_there d = ap (λ (r : Place). r.next) (get_or-set_same (places ++ p ∷ []) front q d (omega (arith, in_front, long, length_push places p))) ∙ new
 
     back : front ≡ suc front - 1
     back = omega arith
 
     of_front : bucket_of (get_or texts front []) ≡ of
-    of_front = ap (λ i. bucket_of (get_or texts i [])) place ∙ (h.fronts of l).there (omega (arith, z))
+    of_front = let place : front ≡ get_or buckets of 0 - 1 = omega (arith, z) in ap (λ i. bucket_of (get_or texts i [])) place ∙ (h.fronts of l).there (omega (arith, z))
 
     in_place : (i : ℕ) → i ≡ front → i + 1 ≡ get_or buckets (bucket_of (get_or texts i [])) 0
     in_place i e =
         let same : bucket_of (get_or texts i []) ≡ of = ap (λ j. bucket_of (get_or texts j [])) e ∙ of_front in
         omega (arith, e, z, ap (λ b. get_or buckets b 0) same)
 
--- a text that is put into its bucket
-pub chained_push : (texts texts2 : List (List ℕ)) (places places2 places3 : List Place) (buckets buckets2 : List ℕ) (t : List ℕ) (p : Place) (of n : ℕ) → Chained texts places buckets → length places ≡ length texts
-    → texts2 ≡ texts ++ t ∷ [] → places2 ≡ places ++ p ∷ [] → places3 ≡ put_behind places2 (get_or buckets of 0) n → buckets2 ≡ put_in_front buckets of (get_or buckets of 0) n → n ≡ length texts + 1
-    → of ≡ bucket_of t → of < 512 → p.next ≡ link_behind places (get_or buckets of 0) → None ≡ system_id t → Chained texts2 places3 buckets2
-chained_push texts texts2 places places2 places3 buckets buckets2 t p of n h long a c g e k o l next none =
-    by_front (get_or buckets of 0) refl (g ∙ ap (λ ps. put_behind ps (get_or buckets of 0) n) c) e next
-  where
-    by_front : (front : ℕ) → get_or buckets of 0 ≡ front → places3 ≡ put_behind (places ++ p ∷ []) front n → buckets2 ≡ put_in_front buckets of front n → p.next ≡ link_behind places front
-        → Chained texts2 places3 buckets2
-    by_front zero z g e next = rw (a, g, e) (chained_first texts places buckets t p of n h long z k o l next none)
-    by_front (suc front) z g e next = rw (a, g, e) (chained_behind texts places buckets t p (record { from = 0; to = 0; next = 0 }) of front n h long z k o l next none)
+-- a text that does not stand in its bucket yet
+pub unlinked : (texts : List (List ℕ)) (t : List ℕ) (before places : List Place) (p : Place) (buckets : List ℕ) (of : ℕ) → Chained texts before buckets → length before ≡ length texts → places ≡ before ++ p ∷ [] → of ≡ bucket_of t
+    → IsLatest texts of (get_or buckets of 0) (length texts) p.next → None ≡ system_id t → IsUnlinked texts t places buckets of
+unlinked texts t before places p buckets of h long e o link none =
+    record { before = before; last = p; places_are = e; long = long; chained = h; of = o; link = link; no_system = sym none }
+
+-- it is put in front of its bucket, where that is empty
+pub put_in_front : (texts : List (List ℕ)) (t : List ℕ) (places : List Place) (buckets : List ℕ) (of n : ℕ) → IsUnlinked texts t places buckets of → get_or buckets of 0 ≡ 0 → n ≡ length texts + 1 → of < 512
+    → Chained (texts ++ t ∷ []) places (set buckets of n)
+put_in_front texts t places buckets of n u z k l =
+    let next : u.last.next ≡ 0 = no_link texts of (get_or buckets of 0) u.last.next (subst (IsFront texts of) z (u.chained.fronts of l)) u.link in
+    subst (λ ps. Chained (texts ++ t ∷ []) ps (set buckets of n)) (sym u.places_are) (chained_first texts u.before buckets t u.last of n u.chained u.long z k u.of l next (sym u.no_system))
+
+-- or behind the one in front
+pub put_behind : (texts : List (List ℕ)) (t : List ℕ) (places places2 : List Place) (buckets : List ℕ) (q : Place) (of n : ℕ) → IsUnlinked texts t places buckets of → 0 < get_or buckets of 0 → n ≡ length texts + 1 → of < 512
+    → places2 ≡ set places (get_or buckets of 0 - 1) q → q.next ≡ n → Chained (texts ++ t ∷ []) places2 buckets
+put_behind texts t places places2 buckets q of n u p k l e new =
+    subst (λ ps. Chained (texts ++ t ∷ []) ps buckets) (sym (e ∙ ap (λ ps. set ps (get_or buckets of 0 - 1) q) u.places_are))
+    (chained_behind texts u.before buckets t u.last q of (get_or buckets of 0 - 1) n u.chained u.long (omega (arith, p)) k u.of l new u.link (sym u.no_system))
 
 -- a text that is not known is none of the system table
 pub not_of_system : (texts : List (List ℕ)) (t : List ℕ) → known_id texts t ≡ None → None ≡ system_id t
@@ -290,17 +306,42 @@ not_of_system texts t h = by_id (system_id t) (position texts t) h
 
 -- ---- a text that is looked for
 
+-- each bucket is one of 512
+bucket_within : (t : List ℕ) → bucket_of t < 512
+unfolding bucket_of
+bucket_within t = omega arith
+
+-- one text stands in front of a bucket
+not_before : (texts : List (List ℕ)) (b f g : ℕ) → IsFront texts b f → IsFront texts b g → f < g → ⊥
+not_before texts b zero g h k l = h.none refl (g - 1) (omega (arith, l, k.within)) (k.there (omega (arith, l)))
+not_before texts b (suc f) g h k l =
+    let back : f ≡ suc f - 1 = omega arith in
+    k.first f (omega (arith, l)) (ap (λ i. bucket_of (get_or texts i [])) back ∙ h.there (omega arith))
+
+one_front : (texts : List (List ℕ)) (b f g : ℕ) → IsFront texts b f → IsFront texts b g → f ≡ g
+one_front texts b f g h k = elim (leb_tells f g) as (λ _. f ≡ g) [
+  | inl y ↦ elim (leb_tells g f) as (λ _. f ≡ g) [
+    | inl z ↦ omega (arith, y.1, z.1)
+    | inr z ↦ absurd (not_before texts b f g h k z.1)
+  ]
+  | inr y ↦ absurd (not_before texts b g f k h y.1)
+]
+
 -- a text that is not the one before the place is not found from the one before it in its bucket on
-pub goes_on : (texts : List (List ℕ)) (places : List Place) (buckets : List ℕ) (t : List ℕ) (front at at2 : ℕ) (d : Place) → Chained texts places buckets → Looks texts front t at → 0 < at
-    → front ≡ get_or buckets (bucket_of t) 0 → (get_or texts (at - 1) [] ≡ t → ⊥) → at2 ≡ (get_or places (at - 1) d).next → (at2 < at) × Looks texts front t at2
-goes_on texts places buckets t front at at2 d h k p f other a =
+pub goes_on : (texts : List (List ℕ)) (places : List Place) (buckets : List ℕ) (t : List ℕ) (at at2 : ℕ) (d : Place) → Chained texts places buckets → Looks texts t at → 0 < at
+    → (get_or texts (at - 1) [] ≡ t → ⊥) → at2 ≡ (get_or places (at - 1) d).next → (at2 < at) × Looks texts t at2
+goes_on texts places buckets t at at2 d h k p other a =
     let b = bucket_of (get_or texts (at - 1) []) in
-    let same : get_or buckets b 0 ≡ front = ap (λ i. get_or buckets i 0) (k.there p) ∙ sym f in
-    let link : IsLatest texts b front (at - 1) at2 =
+    let front : get_or buckets (bucket_of t) 0 ≡ k.front = one_front texts (bucket_of t) (get_or buckets (bucket_of t) 0) k.front (h.fronts (bucket_of t) (bucket_within t)) k.in_front in
+    let same : get_or buckets b 0 ≡ k.front = ap (λ i. get_or buckets i 0) (k.there p) ∙ front in
+    let link : IsLatest texts b k.front (at - 1) at2 =
     subst₂ (λ f n. IsLatest texts b f (at - 1) n) same (sym a) (h.links (at - 1) d (omega (arith, p, k.within)) (λ e. k.another p (omega (arith, e, same, p)))) in
     let less : at2 < at = omega (arith, p, link.within) in (
       less,
       record {
+        front = k.front;
+        in_front = k.in_front;
+        not_front = k.not_front;
         within = omega (arith, less, k.within);
         none_behind = λ i c m e. elim (leb_tells at i) as (λ _. ⊥) [
           | inl y ↦ k.none_behind i y.1 m e
@@ -312,22 +353,22 @@ goes_on texts places buckets t front at at2 d h k p f other a =
         ];
         there = λ q. link.there q ∙ k.there p;
         another = link.another;
-        not_front = k.not_front;
       },
     )
 
 -- a text that does not stand in front of its bucket is looked for from the last of the others on
 pub looks_from : (texts : List (List ℕ)) (places : List Place) (buckets : List ℕ) (t : List ℕ) (b front at : ℕ) (d : Place) → Chained texts places buckets → b ≡ bucket_of t → b < 512
-    → front ≡ get_or buckets b 0 → 0 < front → (get_or texts (front - 1) [] ≡ t → ⊥) → at ≡ (get_or places (front - 1) d).next → Looks texts front t at
+    → front ≡ get_or buckets b 0 → 0 < front → (get_or texts (front - 1) [] ≡ t → ⊥) → at ≡ (get_or places (front - 1) d).next → Looks texts t at
 looks_from texts places buckets t b front at d h is l f p other a =
-    let k : IsLatest texts b front (length texts) at =
-    subst₂ (λ f n. IsLatest texts b f (length texts) n) (sym f) (ap (λ f. (get_or places (f - 1) d).next) (sym f) ∙ sym a) (h.lasts b d l (omega (arith, f, p))) in
+    let k : IsLatest texts b front (length texts) at = link_last texts places buckets b front at d l h f p a in
     record {
+      front = front;
+      in_front = subst₂ (IsFront texts) is (sym f) (h.fronts b l);
+      not_front = λ _. other;
       within = k.within;
       none_behind = λ i c m e. k.none_behind i c m (λ w. other (ap (λ j. get_or texts j []) (omega (arith, w)) ∙ e)) (ap bucket_of e ∙ sym is);
       there = λ q. k.there q ∙ is;
       another = k.another;
-      not_front = λ _. other;
     }
 
 -- an id of the system table, or none
@@ -336,8 +377,8 @@ system_alone None = refl
 system_alone (Some id) = refl
 
 -- where none is left the text has the id of the system table, or none
-pub known_system : (texts : List (List ℕ)) (t : List ℕ) (front at : ℕ) → Looks texts front t at → at ≡ 0 → system_id t ≡ known_id texts t
-known_system texts t front at k z =
+pub known_system : (texts : List (List ℕ)) (t : List ℕ) (at : ℕ) → Looks texts t at → at ≡ 0 → system_id t ≡ known_id texts t
+known_system texts t at k z =
     sym (ap (or_given (system_id t)) (absent_position texts t (λ i l e. k.none_behind i (omega (arith, z)) l e)) ∙ system_alone (system_id t))
 
 -- and where the text stands before the place, the id there
@@ -394,16 +435,16 @@ known_alone bytes places buckets texts t b k e is l z =
 -- where another text stands in front
 pub behind_front : (bytes bytes2 : List ℕ) (places places2 : List Place) (buckets : List ℕ) (texts : List (List ℕ)) (t : List ℕ) (b front : ℕ) (d : Place) (same : Bool)
     → Chained (texts_in bytes places) places buckets → texts_in bytes places ≡ texts → bytes2 ≡ bytes → places2 ≡ places → b ≡ bucket_of t → b < 512 → front ≡ get_or buckets b 0 → 0 < front
-    → same ≡ bytes_eq (place_text bytes2 (get_or places2 (front - 1) d)) t → same ≡ false → Looks texts front t (get_or places2 (front - 1) d).next
+    → same ≡ bytes_eq (place_text bytes2 (get_or places2 (front - 1) d)) t → same ≡ false → Looks texts t (get_or places2 (front - 1) d).next
 behind_front bytes bytes2 places places2 buckets texts t b front d same k e a c is l f p s n =
     let w : front ≤ length texts = subst (λ n. n ≤ length texts) (sym f) (front_within bytes places buckets texts b k e l) in
     looks_from texts places buckets t b front (get_or places2 (front - 1) d).next d (subst (λ ts. Chained ts places buckets) e k) is l f p
     (another_text bytes bytes2 places places2 texts t front d same e a c w p s n) (ap (λ ps. (get_or ps (front - 1) d).next) c)
 
 -- where another stands before the place
-pub next_place : (bytes bytes2 : List ℕ) (places places2 : List Place) (buckets : List ℕ) (texts : List (List ℕ)) (t : List ℕ) (b front at : ℕ) (d : Place) (same : Bool)
-    → Chained (texts_in bytes places) places buckets → texts_in bytes places ≡ texts → bytes2 ≡ bytes → places2 ≡ places → b ≡ bucket_of t → front ≡ get_or buckets b 0 → Looks texts front t at → 0 < at
-    → same ≡ bytes_eq (place_text bytes2 (get_or places2 (at - 1) d)) t → same ≡ false → ((get_or places2 (at - 1) d).next < at) × Looks texts front t (get_or places2 (at - 1) d).next
-next_place bytes bytes2 places places2 buckets texts t b front at d same k e a c is f l p s n =
-    goes_on texts places buckets t front at (get_or places2 (at - 1) d).next d (subst (λ ts. Chained ts places buckets) e k) l p (f ∙ ap (λ i. get_or buckets i 0) is)
+pub next_place : (bytes bytes2 : List ℕ) (places places2 : List Place) (buckets : List ℕ) (texts : List (List ℕ)) (t : List ℕ) (at : ℕ) (d : Place) (same : Bool)
+    → Chained (texts_in bytes places) places buckets → texts_in bytes places ≡ texts → bytes2 ≡ bytes → places2 ≡ places → Looks texts t at → 0 < at
+    → same ≡ bytes_eq (place_text bytes2 (get_or places2 (at - 1) d)) t → same ≡ false → ((get_or places2 (at - 1) d).next < at) × Looks texts t (get_or places2 (at - 1) d).next
+next_place bytes bytes2 places places2 buckets texts t at d same k e a c l p s n =
+    goes_on texts places buckets t at (get_or places2 (at - 1) d).next d (subst (λ ts. Chained ts places buckets) e k) l p
     (another_text bytes bytes2 places places2 texts t at d same e a c l.within p s n) (ap (λ ps. (get_or ps (at - 1) d).next) c)

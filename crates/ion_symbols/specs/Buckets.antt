@@ -1,5 +1,5 @@
 -- The bucket of a text, and the texts that stand in it.
-use Rattle.std.specs.Prelude.{◌≡◌, ℕ, zero, suc, ◌+◌, ◌-◌, ◌*◌, ◌/◌, ◌%◌, ◌^◌, ◌<◌, ◌≤◌, ◌==◌, nat_le, nat_lt, if◌then◌else◌, List, [], ◌∷◌, length, slice_index, slice_index_or, slice_set, None}
+use Rattle.std.specs.Prelude.{◌≡◌, ℕ, ◌+◌, ◌-◌, ◌*◌, ◌/◌, ◌%◌, ◌^◌, ◌<◌, ◌≤◌, ◌==◌, nat_le, nat_lt, if◌then◌else◌, List, [], ◌∷◌, ◌++◌, length, map, slice_index, slice_index_or, None}
 use Rattle.std.specs.Int.{w32, w64, from_le_bytes}
 use Rattle.ion_symbols.specs.declared.ordered.Place.{Place}
 use Rattle.ion_symbols.specs.Output.{system_id}
@@ -49,11 +49,12 @@ pub record IsLatest (texts : List (List ℕ)) (bucket but n next : ℕ) : Type 0
   pub there : 0 < next → bucket_of (slice_index_or texts (next - 1) []) ≡ bucket
   pub another : 0 < next → next ≡ but → ⊥
 
--- the text in front of a bucket, by one more than where it stands, or 0, and then no text stands in the bucket
+-- the first text of a bucket, which stands in front of it, by one more than where it stands, or 0, and then no text stands in the bucket
 pub record IsFront (texts : List (List ℕ)) (bucket front : ℕ) : Type 0 where
   pub within : front ≤ length texts
   pub none : front ≡ 0 → (i : ℕ) → i < length texts → bucket_of (slice_index_or texts i []) ≡ bucket → ⊥
   pub there : 0 < front → bucket_of (slice_index_or texts (front - 1) []) ≡ bucket
+  pub first : (i : ℕ) → i + 1 < front → bucket_of (slice_index_or texts i []) ≡ bucket → ⊥
 
 -- each bucket has the text in front, by one more than its place, or 0; that one has the last of the others, and each of these the one before it; none is
 -- a system text
@@ -67,32 +68,28 @@ pub record Chained (texts : List (List ℕ)) (places : List Place) (buckets : Li
   pub no_system : (i : ℕ) → i < length texts → system_id (slice_index_or texts i []) ≡ None
 
 -- neither the text in front nor one from a place on is the text that is looked for, and the one before that place stands in its bucket, and not in front
-pub record Looks (texts : List (List ℕ)) (front : ℕ) (t : List ℕ) (at : ℕ) : Type 0 where
+pub record Looks (texts : List (List ℕ)) (t : List ℕ) (at : ℕ) : Type 0 where
+  pub front : ℕ
+  pub in_front : IsFront texts (bucket_of t) front
+  pub not_front : 0 < front → slice_index_or texts (front - 1) [] ≡ t → ⊥
   pub within : at ≤ length texts
   pub none_behind : (i : ℕ) → at ≤ i → i < length texts → slice_index_or texts i [] ≡ t → ⊥
   pub there : 0 < at → bucket_of (slice_index_or texts (at - 1) []) ≡ bucket_of t
   pub another : 0 < at → at ≡ front → ⊥
-  pub not_front : 0 < front → slice_index_or texts (front - 1) [] ≡ t → ⊥
 
 -- ---- a text that is put into its bucket
 
--- what the text in front links to
-abbrev pub link_behind : List Place → ℕ → ℕ
-link_behind places zero = 0
-link_behind places (suc front) = (slice_index_or places front (record { from = 0; to = 0; next = 0 })).next
+-- where texts begin and end
+abbrev pub spans : List Place → List (ℕ × ℕ)
+spans places = map (λ p. (p.from, p.to)) places
 
--- the places, of which one links to another text
-abbrev pub relinked : List Place → ℕ → ℕ → List Place
-relinked [] at next = []
-relinked (p ∷ ps) zero next = record { from = p.from; to = p.to; next = next } ∷ ps
-relinked (p ∷ ps) (suc at) next = p ∷ relinked ps at next
-
--- behind the text in front, where there is one
-abbrev pub put_behind : List Place → ℕ → ℕ → List Place
-put_behind places zero next = places
-put_behind places (suc front) next = relinked places front next
-
--- or in front
-abbrev pub put_in_front : List ℕ → ℕ → ℕ → ℕ → List ℕ
-put_in_front buckets of zero next = slice_set buckets of next
-put_in_front buckets of (suc front) next = buckets
+-- the last text does not stand in its bucket yet, and links to the last of the texts that stand there behind the one in front
+pub record IsUnlinked (texts : List (List ℕ)) (text : List ℕ) (places : List Place) (buckets : List ℕ) (bucket : ℕ) : Type 0 where
+  pub before : List Place
+  pub last : Place
+  pub places_are : places ≡ before ++ last ∷ []
+  pub long : length before ≡ length texts
+  pub chained : Chained texts before buckets
+  pub of : bucket ≡ bucket_of text
+  pub link : IsLatest texts bucket (slice_index buckets bucket) (length texts) last.next
+  pub no_system : system_id text ≡ None

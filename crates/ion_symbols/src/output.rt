@@ -1,12 +1,12 @@
 //! The symbol table of an output.
-ghost use Rattle.std.specs.Prelude.{◌≡◌, ℕ, ◌+◌, ◌-◌, ◌*◌, ◌^◌, ◌<◌, ◌≤◌, [], List, length, drop, slice_get, Option, Some, None, MatchOption, IfOk, IfErr, OnErr, OnOk, slice_index};
+ghost use Rattle.std.specs.Prelude.{◌≡◌, ℕ, ◌+◌, ◌-◌, ◌*◌, ◌^◌, ◌<◌, ◌≤◌, ◌++◌, ◌∷◌, [], List, length, drop, slice_get, Option, Some, None, Ok, MatchOption, IfOk, IfErr, OnErr, OnOk, slice_index};
 ghost use Rattle.ion_meter.specs.declared.fault.Fault.TheVariants.{Memory};
 ghost use Rattle.ion_meter.specs.Limits.{AreChecked};
 ghost use Rattle.ion_meter.specs.Counts.{Shrinks};
 ghost use Rattle.ion_value.specs.Shares.{Charges};
 ghost use Rattle.std.specs.Str.{bytes_eq};
 ghost use Rattle.ion_symbols.specs.Output.{Belongs, CanAdd, IsSorted, binary_digits, id_given, known_id, probes_for, system_id, texts_cost};
-ghost use Rattle.ion_symbols.specs.Buckets.{bucket_of, link_behind, put_behind, put_in_front};
+ghost use Rattle.ion_symbols.specs.Buckets.{Chained, IsLatest, IsUnlinked, Looks, bucket_of, spans};
 ghost use Rattle.ion_value.specs.Items.{is_none_left};
 
 use crate::hash::{BUCKETS, bucket, eight, few, four, no_buckets};
@@ -112,13 +112,17 @@ impl<A: Allocator + Copy> OutSymbols<A> {
     /// given one. A text that is new is added; where its cost would pass the limit, it is not, and
     /// there is no id.
     ///
-    /// Where memory is refused, it answers `Memory` and the texts stay as they were.
+    /// Where memory is refused, it answers `Memory` and the texts stay as they were. A text that has an
+    /// id asks for none.
     pub fn id_of(&mut self, meter: &mut Meter<A>, text: &[u8]) -> Result<Option<u32>, Fault>
         requires room { meter.old.held ≤ 2 ^ 62 + 2 ^ 31 }
         requires held { texts_cost self.old.texts ≤ meter.old.held }
         requires countable { meter.old.refused < 2 ^ 64 - 1 }
         ensures gives { IfOk result
             (λ id. (id, self.new.texts) ≡ id_given self.old.limit self.old.texts text.now) }
+        ensures found { (id : ℕ) → known_id self.old.texts text.now ≡ Some id
+            → (result ≡ Ok (Some id)) × (self.new.texts ≡ self.old.texts)
+            × (meter.new ≡ meter.old) }
         ensures limit { self.new.limit ≡ self.old.limit }
         ensures probes { self.new.probes ≤ binary_digits (length self.old.texts) }
         ensures system { (id : ℕ) → system_id text.now ≡ Some id → self.new.probes ≡ 0 }
@@ -162,31 +166,43 @@ impl<A: Allocator + Copy> OutSymbols<A> {
             if is_same_short(&bytes[place.from as usize..place.to as usize], text) {
                 return Some(FIRST_ID + front - 1);
             }
+            return self.known_behind(text, place.next);
         }
         self.known_in_bucket(text, of)
     }
 
-    // The id of a text of this bucket: of the text in front of it, or of one of the last of the others.
+    // The id of a text of this bucket, which may stand in front of it.
     #[inline(never)]
     fn known_in_bucket(&self, text: &[u8], of: usize) -> Option<u32>
         requires of { of ≡ bucket_of text.now }
         requires within { of < BUCKETS }
         ensures { result ≡ known_id self.now.texts text.now }
     {
-        let bytes = self.bytes.as_slice();
-        let places = self.places.as_slice();
         let front = self.buckets[of];
         if front == 0 {
             return system_id(text);
         }
-        let first = places[front as usize - 1];
+        let bytes = self.bytes.as_slice();
+        let first = self.places.as_slice()[front as usize - 1];
         if is_same(&bytes[first.from as usize..first.to as usize], text) {
             return Some(FIRST_ID + front - 1);
         }
+        self.known_behind(text, first.next)
+    }
+
+    // The id of a text that does not stand in front of its bucket: that of one of the last of the others
+    // there. The last of them is given, by one more than its place, or 0 where there is none.
+    #[inline(never)]
+    fn known_behind(&self, text: &[u8], last: u32) -> Option<u32>
+        requires { Looks self.now.texts text.now last }
+        ensures { result ≡ known_id self.now.texts text.now }
+    {
+        let bytes = self.bytes.as_slice();
+        let places = self.places.as_slice();
         if places.len() > MOST_IN_BUCKETS {
             return self.known_by_halving(text);
         }
-        let mut at = first.next;
+        let mut at = last;
         let mut left = MOST_COMPARED;
         while at > 0 {
             if left == 0 {
@@ -222,8 +238,8 @@ impl<A: Allocator + Copy> OutSymbols<A> {
         }
     }
 
-    /// As `id_of`, but where there are at most 4,096 texts, one that has an id is found as by `known`. What
-    /// `last_probes` says is left, or is that of `id_of`.
+    /// As `id_of`, but where there are at most 4,096 texts, one that has an id is found as by `known`, and
+    /// what `last_probes` says is left as it was.
     #[inline]
     pub fn give_id(&mut self, meter: &mut Meter<A>, text: &[u8]) -> Result<Option<u32>, Fault>
         requires room { meter.old.held ≤ 2 ^ 62 + 2 ^ 31 }
@@ -231,7 +247,15 @@ impl<A: Allocator + Copy> OutSymbols<A> {
         requires countable { meter.old.refused < 2 ^ 64 - 1 }
         ensures gives { IfOk result
             (λ id. (id, self.new.texts) ≡ id_given self.old.limit self.old.texts text.now) }
+        ensures found { (id : ℕ) → known_id self.old.texts text.now ≡ Some id
+            → (result ≡ Ok (Some id)) × (self.new.texts ≡ self.old.texts)
+            × (meter.new ≡ meter.old) }
         ensures limit { self.new.limit ≡ self.old.limit }
+        ensures left { length self.old.texts ≤ 4096 → self.new.probes ≡ self.old.probes }
+        ensures probes { 4096 < length self.old.texts
+            → self.new.probes ≤ binary_digits (length self.old.texts) }
+        ensures system { 4096 < length self.old.texts
+            → (id : ℕ) → system_id text.now ≡ Some id → self.new.probes ≡ 0 }
         ensures memory { IfErr result (λ fault. (fault ≡ Memory)
             × (self.new.texts ≡ self.old.texts) × (meter.new.refused ≡ meter.old.refused + 1)) }
         ensures counted { OnOk result (meter.new.refused ≡ meter.old.refused) }
@@ -407,11 +431,13 @@ impl<'a> Texts<'a> {
     }
 }
 
-// What the text in front of a bucket links to, or 0 where there is none.
+// The last text of a bucket behind the one in front, or 0 where there is none.
 #[inline]
 fn last_behind(places: &[Place], front: u32) -> u32
     requires { front ≤ length places.now }
-    ensures { result ≡ link_behind places.now front }
+    ensures { (texts : List (List ℕ)) (buckets : List ℕ) (bucket : ℕ) → bucket < BUCKETS
+        → Chained texts places.now buckets → front ≡ slice_index buckets bucket
+        → IsLatest texts bucket front (length texts) result }
 {
     if front == 0 {
         0
@@ -431,10 +457,11 @@ fn put_in_bucket<A: Allocator + Copy>(
 )
     requires of { of < BUCKETS }
     requires front { slice_index buckets.old of ≤ length places.old.items }
-    ensures places { places.new.items
-        ≡ put_behind places.old.items (slice_index buckets.old of) last }
+    ensures chained { (texts : List (List ℕ)) (text : List ℕ) → last ≡ length texts + 1
+        → IsUnlinked texts text places.old.items buckets.old of
+        → Chained (texts ++ text ∷ []) places.new.items buckets.new }
+    ensures spans { spans places.new.items ≡ spans places.old.items }
     ensures cost { places.new.cost ≡ places.old.cost }
-    ensures buckets { buckets.new ≡ put_in_front buckets.old of (slice_index buckets.old of) last }
 {
     let front = buckets[of] as usize;
     if front == 0 {

@@ -1,4 +1,4 @@
-use Rattle.std.proofs.Common.{◌≡◌, ◌-◌, ◌≤◌, ℕ, List, length, take, drop, min, ap, sym, ◌∙◌, arith, length-take}
+use Rattle.std.proofs.Common.{◌≡◌, ◌-◌, ℕ, List, length, take, drop, min, ap, sym, ◌∙◌, length-take}
 use Rattle.std.proofs.lemmas.List.{take_rest}
 use Rattle.std.proofs.lemmas.Slice.Eq.{bytes_eq-Decides}
 use Rattle.ion_symbols.proofs.SameEnds.{same-sixteens, tells}

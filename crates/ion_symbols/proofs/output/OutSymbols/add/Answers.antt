@@ -1,11 +1,11 @@
-use Rattle.std.proofs.Common.{◌+◌, ◌*◌, ◌≤◌, length, get_or, refl, ap, ◌∙◌, sym, subst, arith}
+use Rattle.std.proofs.Common.{◌+◌, ◌*◌, ◌≤◌, length, refl, ap, ◌∙◌, sym, subst, arith}
 use Rattle.std.proofs.lemmas.Grind.{common_steps}
 use Rattle.std.proofs.lemmas.List.{length-map}
 use Rattle.ion_symbols.specs.Output.{Output}
 use Rattle.ion_symbols.proofs.Adding.{nothing_charged, share_kept, belongs_kept, place_within, ordered_push, share_push, few_push, texts_pushed, given_push, charges_push, held_push}
-use Rattle.ion_symbols.specs.Buckets.{link_behind}
-use Rattle.ion_symbols.specs.Ordered.{place_text}
-use Rattle.ion_symbols.proofs.InBuckets.{chained_push, front_within, length-behind, not_of_system, ordered-behind, texts-behind}
+use Rattle.ion_symbols.specs.Buckets.{Chained}
+use Rattle.ion_symbols.specs.Ordered.{place_text, texts_in}
+use Rattle.ion_symbols.proofs.InBuckets.{length-spans, not_of_system, ordered-spans, texts-spans, unlinked}
 use Rattle.ion_symbols.proofs.output.OutSymbols.add.Goals as goal
 
 pub returns-then-length-self-clause-charges : goal.returns-then-length-self-clause-charges
@@ -33,24 +33,25 @@ invariant_of-self-2 g c =
     let few = few_push c.extend.new.self c.self.inside.places.items c.push.new.self.items _ c.self.inside.limit c.in_default.ensures.ok share c.self.invariant.1.most in
     let from = ap length c.as_slice-from.ensures in
     let n = ap length c.as_slice-id.ensures in
-    let long = length-map c.self.inside.places.items (place_text c.self.inside.bytes) in (
-      ordered-behind c.extend.new.self c.push.new.self.items _ c.insert.new.self.items (get_or c.self.inside.buckets c.bucket-of.result 0) (length c.as_slice-id.result.now + 1)
+    let long = length-map c.self.inside.places.items (place_text c.self.inside.bytes) in
+    let texts = texts_in c.self.inside.bytes c.self.inside.places.items in
+    let link = c.last_behind.ensures texts c.self.inside.buckets c.bucket-of.result c.bucket-of.ensures.within (subst (λ ps. Chained texts ps c.self.inside.buckets) (sym c.as_slice.ensures) c.self.invariant.2) refl in (
+      ordered-spans c.extend.new.self c.push.new.self.items c.put_in_bucket.new.places.items c.insert.new.self.items c.put_in_bucket.ensures.spans
           (ordered_push c.self.inside.bytes c.extend.new.self c.args.text.now c.self.inside.places.items c.push.new.self.items _ c.self.inside.order.items c.insert.new.self.items c.args.place (length c.as_slice-id.result.now)
-          c.self.invariant.0 b c.in_ok-extend.ensures.ok c.in_default.ensures.ok c.in_default-insert.ensures.ok n from (ap (λ k. k + length c.args.text.now) from) few) c.put_in_bucket.ensures.places,
+          c.self.invariant.0 b c.in_ok-extend.ensures.ok c.in_default.ensures.ok c.in_default-insert.ensures.ok n from (ap (λ k. k + length c.args.text.now) from) few),
       record {
         place_cost = c.put_in_bucket.ensures.cost ∙ (c.push.ensures.same_cost ∙ c.self.invariant.1.place_cost);
         id_cost = c.insert.ensures.same_cost ∙ c.self.invariant.1.id_cost;
-        share = subst (λ k. 16 * k + length c.extend.new.self ≤ c.self.inside.limit)
-            (sym (length-behind c.push.new.self.items _ (get_or c.self.inside.buckets c.bucket-of.result 0) (length c.as_slice-id.result.now + 1) c.put_in_bucket.ensures.places)) share;
+        share = subst (λ k. 16 * k + length c.extend.new.self ≤ c.self.inside.limit) (sym (length-spans c.push.new.self.items c.put_in_bucket.new.places.items c.put_in_bucket.ensures.spans)) share;
         most = c.self.invariant.1.most;
       },
-      chained_push _ _ c.self.inside.places.items c.push.new.self.items _ c.self.inside.buckets _ c.args.text.now _ c.bucket-of.result (length c.as_slice-id.result.now + 1)
-          c.self.invariant.2 (sym long)
-          (texts-behind c.extend.new.self c.push.new.self.items _ (get_or c.self.inside.buckets c.bucket-of.result 0) (length c.as_slice-id.result.now + 1) c.put_in_bucket.ensures.places
+      subst (λ ts. Chained ts c.put_in_bucket.new.places.items c.put_in_bucket.new.buckets)
+          (sym (texts-spans c.extend.new.self c.push.new.self.items c.put_in_bucket.new.places.items c.put_in_bucket.ensures.spans
           ∙ texts_pushed c.self.inside.bytes c.extend.new.self c.args.text.now c.self.inside.places.items c.push.new.self.items _ c.self.inside.order.items _
-          c.self.invariant.0 refl c.in_ok-extend.ensures.ok c.in_default.ensures.ok from (ap (λ k. k + length c.args.text.now) from))
-          c.in_default.ensures.ok c.put_in_bucket.ensures.places c.put_in_bucket.ensures.buckets (ap (λ m. m + 1) (n ∙ sym long)) c.bucket-of.ensures.of c.bucket-of.ensures.within
-          (c.last_behind.ensures ∙ ap (λ ps. link_behind ps (get_or c.self.inside.buckets c.bucket-of.result 0)) c.as_slice.ensures) (not_of_system c.args.self.now.texts c.args.text.now c.requires.new),
+          c.self.invariant.0 refl c.in_ok-extend.ensures.ok c.in_default.ensures.ok from (ap (λ k. k + length c.args.text.now) from)))
+          (c.put_in_bucket.ensures.chained texts c.args.text.now (ap (λ m. m + 1) (n ∙ sym long))
+          (unlinked texts c.args.text.now c.self.inside.places.items c.push.new.self.items _ c.self.inside.buckets c.bucket-of.result c.self.invariant.2 (sym long) c.in_default.ensures.ok c.bucket-of.ensures.of
+          link (not_of_system c.args.self.now.texts c.args.text.now c.requires.new))),
     )
 
 pub returns-clause-gives : goal.returns-clause-gives
@@ -58,7 +59,7 @@ returns-clause-gives g c =
     let t = ap (λ (s : Output). s.texts) c.self.view_is in
     let from = ap length c.as_slice-from.ensures in
     let n = ap length c.as_slice-id.ensures in
-    let more = texts-behind c.extend.new.self c.push.new.self.items _ (get_or c.self.inside.buckets c.bucket-of.result 0) (length c.as_slice-id.result.now + 1) c.put_in_bucket.ensures.places
+    let more = texts-spans c.extend.new.self c.push.new.self.items c.put_in_bucket.new.places.items c.put_in_bucket.ensures.spans
     ∙ texts_pushed c.self.inside.bytes c.extend.new.self c.args.text.now c.self.inside.places.items c.push.new.self.items _ c.self.inside.order.items c.args.self.now.texts
     c.self.invariant.0 t c.in_ok-extend.ensures.ok c.in_default.ensures.ok from (ap (λ k. k + length c.args.text.now) from) in
     given_push c.self.inside.limit c.args.self.now.limit c.args.self.now.texts _ c.args.text.now (length c.as_slice-id.result.now) c.cost.result
@@ -68,7 +69,7 @@ pub returns-clause-charges : goal.returns-clause-charges
 returns-clause-charges g c =
     let t = ap (λ (s : Output). s.texts) c.self.view_is in
     let from = ap length c.as_slice-from.ensures in
-    let more = texts-behind c.extend.new.self c.push.new.self.items _ (get_or c.self.inside.buckets c.bucket-of.result 0) (length c.as_slice-id.result.now + 1) c.put_in_bucket.ensures.places
+    let more = texts-spans c.extend.new.self c.push.new.self.items c.put_in_bucket.new.places.items c.put_in_bucket.ensures.spans
     ∙ texts_pushed c.self.inside.bytes c.extend.new.self c.args.text.now c.self.inside.places.items c.push.new.self.items _ c.self.inside.order.items c.args.self.now.texts
     c.self.invariant.0 t c.in_ok-extend.ensures.ok c.in_default.ensures.ok from (ap (λ k. k + length c.args.text.now) from) in
     charges_push c.args.meter.now c.extend.new.meter c.push.new.meter c.insert.new.meter c.self.inside.limit c.args.self.now.limit c.args.self.now.texts _ c.args.text.now c.self.inside.places.cost c.self.inside.order.cost c.cost.result

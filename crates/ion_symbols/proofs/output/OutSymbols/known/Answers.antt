@@ -1,6 +1,6 @@
-use Rattle.std.proofs.Common.{get_or, ap, arith}
+use Rattle.std.proofs.Common.{get_or, refl, ap, arith}
 use Rattle.ion_symbols.specs.Output.{Output}
-use Rattle.ion_symbols.proofs.InBuckets.{front_within, place_bounds, known_found}
+use Rattle.ion_symbols.proofs.InBuckets.{behind_front, front_within, place_bounds, known_found}
 use Rattle.ion_symbols.proofs.output.OutSymbols.known.Goals as goal
 
 pub slice_bounds-is_same_short-count : goal.slice_bounds-is_same_short-count
@@ -29,3 +29,9 @@ returns-then-is_same_short g c =
     let w = front_within _ _ c.self.inside.buckets _ c.bucket-of.result c.self.invariant.2 e c.bucket-of.ensures.within in
     known_found _ _ _ _ _ _ _ _ _ (record { from = 0; to = 0; next = 0 }) _ c.self.invariant.0 c.self.invariant.2 e c.as_slice-bytes.ensures c.as_slice.ensures
     w c.if-front-gt0.true c.is_same_short.ensures c.if-is_same_short.true
+
+pub known_behind-requires : goal.known_behind-requires
+known_behind-requires g c =
+    let e = ap (λ (s : Output). s.texts) c.self.view_is in
+    behind_front _ _ _ _ _ _ _ c.bucket-of.result (get_or c.self.inside.buckets c.bucket-of.result 0) (record { from = 0; to = 0; next = 0 }) _ c.self.invariant.2 e c.as_slice-bytes.ensures c.as_slice.ensures
+    c.bucket-of.ensures.of c.bucket-of.ensures.within refl c.if-front-gt0.true c.is_same_short.ensures c.if-is_same_short.false

@@ -360,11 +360,8 @@ impl<A: Allocator + Copy> OutSymbols<A> {
         ensures texts { IsSorted result.texts self.now.texts }
         ensures probes { result.probes ≡ 0 }
     {
-        Search::new(
-            self.bytes.as_slice(),
-            self.places.as_slice(),
-            self.order.as_slice(),
-        )
+        let order = self.order.as_slice();
+        Search::new(self.bytes.as_slice(), self.places.as_slice(), order)
     }
 
     /// The probes of the last search of `id_of`, 0 before any; a system text is found without one.

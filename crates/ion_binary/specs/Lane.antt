@@ -1,5 +1,5 @@
 -- What a call that hands one item to a writer asks for, gives, keeps and moves.
-use Rattle.std.specs.Prelude.{◌≡◌, ℕ, ◌+◌, ◌*◌, ◌-◌, ◌^◌, ◌<◌, ◌≤◌, List, length, map, Option, Some, None, option_map, is_some, Ok, ⊤}
+use Rattle.std.specs.Prelude.{◌≡◌, ℕ, ◌+◌, ◌*◌, ◌-◌, ◌^◌, ◌<◌, ◌≤◌, List, length, map, Option, Some, None, option_map, is_some, IfSome, Ok, ⊤}
 use Rattle.ion_meter.specs.Counts.{Counts}
 use Rattle.ion_meter.specs.Windows.{Outgoing, left}
 use Rattle.ion_meter.specs.Sources.{BytesAreLeft, Stands, skip}
@@ -10,7 +10,7 @@ use Rattle.ion_value.specs.Outcome.{one_if_closed}
 use Rattle.ion_value.specs.Shares.{Charges}
 use Rattle.ion_value.specs.declared.plain_item.TextAt.{TextAt}
 use Rattle.ion_value.specs.Items.{named_at}
-use Rattle.ion_value.specs.PlainItems.{AreSimple, HasSimpleName, listed, placed_text}
+use Rattle.ion_value.specs.PlainItems.{HaveNoDollar, IsRightlySimple, listed, placed_text}
 use Rattle.ion_value.specs.Standing.{in_struct}
 use Rattle.ion_value.specs.Value.{PlacedItem, SymbolAt}
 use Rattle.ion_binary.specs.declared.wrapper.Frame as frame
@@ -89,7 +89,7 @@ pub record ShowsField (texts : ℕ → Option (List ℕ)) (octets : List ℕ) (h
   pub raw : Option SymbolAt
   pub within : behind ≤ length octets
   pub named : option_map (named_at texts) raw ≡ option_map placed_text field
-  pub simple : HasSimpleName (option_map placed_text field)
+  pub simple : IfSome field IsRightlySimple
   pub there : is_some field ≡ in_struct (map (λ f. f.kind) frames)
   pub gives : (more : List ℕ) → Reaches (region_of frames) (here + behind) → field_at frames (window here octets more) ≡ Ok (raw, skip behind (window here octets more))
 
@@ -108,7 +108,8 @@ pub record ShowsFront (texts : ℕ → Option (List ℕ)) (limits : Limits) (oct
   pub name : ShowsField texts octets here frames field at
   pub raws : List SymbolAt
   pub named : map (named_at texts) raws ≡ listed (option_map placed_text annotation)
-  pub simple : AreSimple (listed (option_map placed_text annotation))
+  pub free : HaveNoDollar (listed (option_map placed_text annotation))
+  pub simple : IfSome annotation IsRightlySimple
   pub within : head ≤ length octets
   pub gives : (depth behind : ℕ) (found : Shown) → ShowsValue limits octets here (inner_region wrapper (region_of frames)) depth head behind found
       → FillsTo wrapper (far_end here behind found) → ShowsItem limits octets here (region_of frames) depth at head behind raws found

@@ -1,7 +1,7 @@
 //! Items that lie whole in the window, handed to a writer.
 ghost use Rattle.std.specs.Prelude.{◌≡◌, ◌+◌, ◌*◌, ◌-◌, ◌^◌, ◌<◌, ◌≤◌, get_or, length, false, true, Option, Some, None, IfSome, map};
 ghost use Rattle.ion_value.specs.Items.{named_at, named_item, raw_head};
-ghost use Rattle.ion_value.specs.PlainItems.{HasSimpleName, IsKnownHead, IsTextOf};
+ghost use Rattle.ion_value.specs.PlainItems.{IsKnownHead, IsTextOf};
 ghost use Rattle.ion_binary.specs.Lane.{CanHand, EndsHere, GoesOn, HandsItem, HandsNothing, HandsOn, IsAround, KeepsOn, FillsTo, ShowsField, ShowsFront, frame_in, inner_region};
 ghost use Rattle.ion_value.specs.Feeding.{CanTake};
 ghost use Rattle.ion_binary.specs.Steps.{IsSized, IsSound, held_by, left_to, opened_in};
@@ -15,6 +15,7 @@ ghost use Rattle.ion_meter.specs.Windows.{CanPass, IsPassed, lent};
 ghost use Rattle.ion_binary.specs.Wrappers.{as_frames, innermost};
 ghost use Rattle.ion_value.specs.Value.{Text, map_head, symbol, whole};
 
+use super::texts::{begins_with_dollar, shown_text};
 use super::{BinReader, values_behind};
 use crate::body::id_of;
 use crate::descriptor::Shape;
@@ -65,7 +66,7 @@ fn inside(frame: Frame) -> Around
 }
 
 // The name of a field that stands before a member, and how many octets its id has; none outside
-// structs. It answers none where the window does not show an id of a simple text.
+// structs. It answers none where the window does not show an id that has a text.
 #[inline(always)]
 fn shown_field<'n, N: Names>(
     octets: &[u8],
@@ -85,10 +86,10 @@ fn shown_field<'n, N: Names>(
             let Some((id, behind)) = shown_var(octets, 0) else {
                 return None;
             };
-            let Some(text) = names.simple_text(id_of(id)) else {
+            let Some(name) = shown_text(id_of(id), here, names) else {
                 return None;
             };
-            Some((Some(TextAt { text, place: here }), behind))
+            Some((Some(name), behind))
         }
     }
 }
@@ -235,7 +236,7 @@ fn bare_front<'n>(field: Option<TextAt<'n>>, at: usize) -> Front<'n>
 }
 
 // The front of an item in the annotation wrapper that begins at a place behind a field. It answers none where
-// the window does not show one that has one annotation, of a simple text.
+// the window does not show one that has one annotation, of a text that does not begin with a dollar sign.
 #[inline(always)]
 fn noted_front<'n, N: Names>(
     octets: &[u8],
@@ -258,13 +259,16 @@ fn noted_front<'n, N: Names>(
     let Some(note) = shown_note(octets, here, at, around.end, limits) else {
         return None;
     };
-    let Some(text) = names.simple_text(id_of(note.id)) else {
+    let place = here + note.from as u64;
+    let Some(text) = shown_text(id_of(note.id), place, names) else {
         return None;
     };
-    let place = here + note.from as u64;
+    if begins_with_dollar(text) {
+        return None;
+    }
     Some(Front {
         field,
-        annotation: Some(TextAt { text, place }),
+        annotation: Some(text),
         at,
         head: note.inner,
         wrapper: Some(note.end),

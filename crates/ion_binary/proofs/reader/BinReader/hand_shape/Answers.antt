@@ -18,9 +18,24 @@ use Rattle.ion_binary.specs.Reader.{kinds_of, to_come}
 use Rattle.ion_binary.specs.Shown.{shown_scalar}
 use Rattle.ion_binary.specs.Steps.{opened_in}
 use Rattle.ion_binary.specs.Wrappers.{as_frames, innermost}
-use Rattle.ion_binary.proofs.Handing.{around_pushed, as_frames-push, begin_fits, falls_begin, falls_scalar, hands_by, kinds_of-push, path_here, plain_seen, scalar_fits, step_shown, to_come-gives, whole-opens, whole-value}
+use Rattle.ion_binary.proofs.Handing.{around_pushed, as_frames-push, begin_fits, falls_begin, falls_scalar, hands_by, kinds_of-push, path_here, plain_seen, scalar_fits, shown-known, step_shown, to_come-gives, whole-opens, whole-value}
 use Rattle.ion_binary.proofs.ReaderParts.{as_frames-length}
 use Rattle.ion_binary.proofs.reader.BinReader.hand_shape.Goals as goal
+
+pub take_plain-requires-clause-plain : goal.take_plain-requires-clause-plain
+take_plain-requires-clause-plain g c =
+    rw c.item_behind-item.ensures (record { field = shown-known c.args.front.field; annotations = c.requires.front.free; head = c.in-Some-shown_head.ensures.known })
+
+pub take_plain-requires-in-Begin-clause-plain : goal.take_plain-requires-in-Begin-clause-plain
+take_plain-requires-in-Begin-clause-plain g c =
+    rw (c.item_behind-item-in-Begin.ensures, c.unspelled.ensures) (record { field = shown-known c.args.front.field; annotations = c.requires.front.free; head = tt })
+
+pub take_plain-requires-clause-simple : goal.take_plain-requires-clause-simple
+take_plain-requires-clause-simple g c = rw c.item_behind-item.ensures (record { field = c.requires.front.name.simple; annotation = c.requires.front.simple })
+
+pub take_plain-requires-in-Begin-clause-simple : goal.take_plain-requires-in-Begin-clause-simple
+take_plain-requires-in-Begin-clause-simple g c =
+    rw (c.item_behind-item-in-Begin.ensures, c.unspelled.ensures) (record { field = c.requires.front.name.simple; annotation = c.requires.front.simple })
 
 pub take_plain-requires-clause-spelled : goal.take_plain-requires-clause-spelled
 take_plain-requires-clause-spelled g c = rw c.item_behind-item.ensures c.in-Some-shown_head.ensures.spelled
@@ -103,7 +118,7 @@ returns-else-not-take_plain-clause-hands g c e =
     rw c.pass.ensures.top (record {
       hands = λ values. hands_by w (named_item texts) (device.observable r.source.device) (to_come device r.limits r.frames r.top r.source) (to_come device r.limits r.frames top t)
           (opened_in r) (opened_in r) c.args.writer.now c.take_plain.new.self c.args.sink.now.pending c.take_plain.new.sink.pending values item seen is (λ _. gives)
-          (record { field = name.simple; annotations = front.simple; head = c.in-Some-shown_head.ensures.known })
+          (record { field = shown-known c.args.front.field; annotations = front.free; head = c.in-Some-shown_head.ensures.known })
           (whole-opens texts (r.source.place + c.args.front.head) (shown_scalar c.in-Scalar.scalar) seen.head (opened_in r) head) deep
           (whole-value texts (r.source.place + c.args.front.head) (shown_scalar c.in-Scalar.scalar) seen.head head) taken.same.1 (taken.stands refl) (taken.puts refl);
       falls = falls_scalar r.source.limit r.source.place t.limit t.place c.args.front.at c.in-Some.behind (length r.frames) c.pass.ensures.passed.place c.pass.ensures.passed.limit v.further
@@ -148,7 +163,7 @@ returns-else-not-take_plain-2-clause-hands g c e =
     rw (c.pass-in-Begin.ensures.top, pushed) (record {
       hands = λ values. hands_by w (named_item texts) (device.observable r.source.device) (to_come device r.limits r.frames r.top r.source) (to_come device r.limits (r.frames ++ frame ∷ []) top t)
           (opened_in r) (kinds_of (r.frames ++ frame ∷ [])) c.args.writer.now c.take_plain-in-Begin.new.self c.args.sink.now.pending c.take_plain-in-Begin.new.sink.pending values item seen is (λ _. gives)
-          (record { field = name.simple; annotations = front.simple; head = tt }) (kinds_of-push r.frames frame) deep refl taken.same.1 (taken.stands refl) (taken.puts refl);
+          (record { field = shown-known c.args.front.field; annotations = front.free; head = tt }) (kinds_of-push r.frames frame) deep refl taken.same.1 (taken.stands refl) (taken.puts refl);
       falls = falls_begin r.source.limit r.source.place t.limit t.place c.args.front.at c.in-Some.behind (length r.frames) (length (r.frames ++ frame ∷ [])) c.pass-in-Begin.ensures.passed.place
           c.pass-in-Begin.ensures.passed.limit v.further (lent-CanPass r.source c.in-Some.behind v.within).1 (length_push r.frames frame);
       further = omega (arith, c.pass-in-Begin.ensures.passed.place);

@@ -166,6 +166,20 @@ returns-clause-same g c =
     c.hand_all-values.new.meter c.hand_next_noted.new.meter c.hand_all-values.result c.hand_all-values.ensures.takes (c.hand_next_noted.ensures.nothing c.if-not-hand_next_noted.true) c.hand_next_noted.ensures.keeps) in
     (h.failed, ap (λ (l : Limits). l.depth) h.limits, ap most_of h.limits, ap input.failure_count h.same_device)
 
+pub returns-clause-ended : goal.returns-clause-ended
+returns-clause-ended g c over =
+    let input = g.I.Input in
+    let w = g.W.ValueWriter in
+    let see = named_item (g.N.Names.text c.args.names.now) in
+    let r = c.args.self.now in
+    let run = hands_on-then input w see r c.runs.self c.hand_all-values.new.self c.args.writer.now c.runs.writer c.hand_all-values.new.writer c.args.sink.now c.runs.sink c.hand_all-values.new.sink c.args.meter.now
+    c.runs.meter c.hand_all-values.new.meter 0 c.runs.values c.hand_all-values.result c.requires.held c.runs.invariant c.hand_all-values.ensures in
+    let h = hands_on-then input w see r c.hand_all-values.new.self c.hand_next_noted.new.self c.args.writer.now c.hand_all-values.new.writer c.hand_next_noted.new.writer c.args.sink.now c.hand_all-values.new.sink
+    c.hand_next_noted.new.sink c.args.meter.now c.hand_all-values.new.meter c.hand_next_noted.new.meter 0 c.hand_all-values.result c.hand_all-values.result c.requires.held run
+    (hands_on-nothing input w see c.hand_all-values.new.self c.hand_next_noted.new.self c.hand_all-values.new.writer c.hand_next_noted.new.writer c.hand_all-values.new.sink c.hand_next_noted.new.sink
+    c.hand_all-values.new.meter c.hand_next_noted.new.meter c.hand_all-values.result c.hand_all-values.ensures.takes (c.hand_next_noted.ensures.nothing c.if-not-hand_next_noted.true) c.hand_next_noted.ensures.keeps) in
+    h.done ∙ over
+
 pub returns-clause-exceeds : goal.returns-clause-exceeds
 returns-clause-exceeds g c =
     let input = g.I.Input in

@@ -66,23 +66,15 @@ pub record KeepsOn {I A W O : Type 0} (w : WriterOf W O A) (old new : BinReader 
 
 -- items were handed on, one after the other, behind so many values: where the two stand then, what stays, and memory
 pub record HandsOn {I A W O : Type 0} (device : InputOf I) (w : WriterOf W O A) (see : PlacedItem → PlacedItem) (old new : BinReader I A) (pen then : W) (from to : Outgoing O) (before after : Counts) (had values : ℕ) : Type 0 where
-  pub sized : IsSized new
-  pub stands : Stands new.source
-  pub limits : new.limits ≡ old.limits
-  pub failed : new.failed ≡ old.failed
-  pub done : new.done ≡ old.done
-  pub same_device : new.source.device ≡ old.source.device
-  pub limit : new.source.limit ≡ old.source.limit
+  pub keeps : KeepsOn w old new pen then from to before after
   pub further : old.source.place ≤ new.source.place
   pub total : new.source.place + length (left device.rest new.source) ≡ old.source.place + length (left device.rest old.source)
   pub bytes_left : BytesAreLeft device new.source → BytesAreLeft device old.source
   pub feeds : Feeds w see (device.observable old.source.device) (joint device old pen from had) (joint device new then to values)
   pub takes : CanTake w new.limits.depth (opened_in new) then to
-  pub stays : StaysWell w pen then from to before after
   pub goes : held_by new ≤ held_by old + 16 * (left_to old - left_to new)
   pub grows : had ≤ values
   pub falls : values + left_to new ≤ had + left_to old
-  pub charges : Charges before after (held_by old + w.own pen) (held_by new + w.own then) (share_of old + w.most pen)
 
 -- octets show what stands before a member: its field's name, which its id has, and how many octets the id has; or nothing outside structs
 pub record ShowsField (texts : ℕ → Option (List ℕ)) (octets : List ℕ) (here : ℕ) (frames : List Frame) (field : Option TextAt) (behind : ℕ) : Type 0 where

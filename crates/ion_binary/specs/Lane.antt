@@ -1,5 +1,5 @@
 -- What a call that hands one item to a writer asks for, gives, keeps and moves.
-use Rattle.std.specs.Prelude.{◌≡◌, ℕ, ◌+◌, ◌*◌, ◌-◌, ◌^◌, ◌<◌, ◌≤◌, List, length, map, Option, Some, None, option_map, is_some, IfSome, Ok, ⊤}
+use Rattle.std.specs.Prelude.{◌≡◌, ℕ, ◌+◌, ◌*◌, ◌-◌, ◌^◌, ◌<◌, ◌≤◌, Bool, true, false, List, length, map, Option, Some, None, option_map, is_some, IfSome, Ok, ⊤}
 use Rattle.ion_meter.specs.Counts.{Counts}
 use Rattle.ion_meter.specs.Windows.{Outgoing, left}
 use Rattle.ion_meter.specs.Sources.{BytesAreLeft, Stands, skip}
@@ -63,6 +63,13 @@ pub record KeepsOn {I A W O : Type 0} (w : WriterOf W O A) (old new : BinReader 
   pub limit : new.source.limit ≡ old.source.limit
   pub writer : StaysWell w pen then from to before after
   pub charges : Charges before after (held_by old + w.own pen) (held_by new + w.own then) (share_of old + w.most pen)
+
+-- a call handed the next item on, or none, as it answers
+pub record Handed {I A W O : Type 0} (device : InputOf I) (w : WriterOf W O A) (see : PlacedItem → PlacedItem) (old new : BinReader I A) (pen then : W) (from to : Outgoing O) (before after : Counts) (done : Bool) : Type 0 where
+  pub hands : done ≡ true → HandsItem device w see old new pen then from to
+  pub nothing : done ≡ false → HandsNothing old new pen then from to
+  pub keeps : KeepsOn w old new pen then from to before after
+  pub goes : held_by new ≤ held_by old + 16 * (left_to old - left_to new)
 
 -- items were handed on, one after the other, behind so many values: where the two stand then, what stays, and memory
 pub record HandsOn {I A W O : Type 0} (device : InputOf I) (w : WriterOf W O A) (see : PlacedItem → PlacedItem) (old new : BinReader I A) (pen then : W) (from to : Outgoing O) (before after : Counts) (had values : ℕ) : Type 0 where

@@ -2,7 +2,7 @@
 ghost use Rattle.std.specs.Prelude.{◌≡◌, ◌+◌, ◌*◌, ◌-◌, ◌^◌, ◌<◌, ◌≤◌, get_or, length, false, true, Option, Some, None, IfSome, map};
 ghost use Rattle.ion_value.specs.Items.{named_at, named_item, raw_head};
 ghost use Rattle.ion_value.specs.PlainItems.{IsKnownHead, IsTextOf};
-ghost use Rattle.ion_binary.specs.Lane.{CanHand, EndsHere, GoesOn, HandsItem, HandsNothing, HandsOn, IsAround, KeepsOn, FillsTo, ShowsField, ShowsFront, frame_in, inner_region};
+ghost use Rattle.ion_binary.specs.Lane.{CanHand, EndsHere, GoesOn, Handed, HandsOn, IsAround, FillsTo, ShowsField, ShowsFront, frame_in, inner_region};
 ghost use Rattle.ion_value.specs.Feeding.{CanTake};
 ghost use Rattle.ion_binary.specs.Steps.{IsSized, IsSound, held_by, left_to, opened_in};
 ghost use Rattle.ion_binary.specs.Positions.{placed_scalar};
@@ -368,15 +368,9 @@ impl<I: Input, A: Allocator + Copy> BinReader<I, A> {
     ) -> bool
         requires can_hand { CanHand W.ValueWriter self.old writer.old sink.old meter.old }
         requires around { IsAround (as_frames self.old.frames) around.old }
-        ensures hands { result ≡ true → HandsItem I.Input W.ValueWriter
-            (named_item (N.text names.now)) self.old self.new writer.old writer.new
-            sink.old sink.new }
-        ensures nothing { result ≡ false
-            → HandsNothing self.old self.new writer.old writer.new sink.old sink.new }
-        ensures keeps { KeepsOn W.ValueWriter self.old self.new writer.old writer.new
-            sink.old sink.new meter.old meter.new }
-        ensures goes { held_by self.new
-            ≤ held_by self.old + 16 * (left_to self.old - left_to self.new) }
+        ensures handed { Handed I.Input W.ValueWriter (named_item (N.text names.now))
+            self.old self.new writer.old writer.new sink.old sink.new
+            meter.old meter.new result }
         ensures around { result ≡ true → IsAround (as_frames self.new.frames) around.new }
     {
         if ends_here(*around, self.source.place()) {
@@ -396,15 +390,9 @@ impl<I: Input, A: Allocator + Copy> BinReader<I, A> {
         sink: &mut Sink<O, A>,
     ) -> bool
         requires { CanHand W.ValueWriter self.old writer.old sink.old meter.old }
-        ensures hands { result ≡ true → HandsItem I.Input W.ValueWriter
-            (named_item (N.text names.now)) self.old self.new writer.old writer.new
-            sink.old sink.new }
-        ensures nothing { result ≡ false
-            → HandsNothing self.old self.new writer.old writer.new sink.old sink.new }
-        ensures keeps { KeepsOn W.ValueWriter self.old self.new writer.old writer.new
-            sink.old sink.new meter.old meter.new }
-        ensures goes { held_by self.new
-            ≤ held_by self.old + 16 * (left_to self.old - left_to self.new) }
+        ensures { Handed I.Input W.ValueWriter (named_item (N.text names.now))
+            self.old self.new writer.old writer.new sink.old sink.new
+            meter.old meter.new result }
     {
         let mut around = around_in(self.frames.as_slice());
         if ends_here(around, self.source.place()) {
@@ -426,15 +414,9 @@ impl<I: Input, A: Allocator + Copy> BinReader<I, A> {
         requires can_hand { CanHand W.ValueWriter self.old writer.old sink.old meter.old }
         requires around { IsAround (as_frames self.old.frames) around.old }
         requires ends { EndsHere (frame_in around.old) self.old.source.place }
-        ensures hands { result ≡ true → HandsItem I.Input W.ValueWriter
-            (named_item (N.text _names.now)) self.old self.new writer.old writer.new
-            sink.old sink.new }
-        ensures nothing { result ≡ false
-            → HandsNothing self.old self.new writer.old writer.new sink.old sink.new }
-        ensures keeps { KeepsOn W.ValueWriter self.old self.new writer.old writer.new
-            sink.old sink.new meter.old meter.new }
-        ensures goes { held_by self.new
-            ≤ held_by self.old + 16 * (left_to self.old - left_to self.new) }
+        ensures handed { Handed I.Input W.ValueWriter (named_item (N.text _names.now))
+            self.old self.new writer.old writer.new sink.old sink.new
+            meter.old meter.new result }
         ensures around { result ≡ true → IsAround (as_frames self.new.frames) around.new }
     {
         let item = PlainItem {
@@ -466,15 +448,9 @@ impl<I: Input, A: Allocator + Copy> BinReader<I, A> {
         requires can_hand { CanHand W.ValueWriter self.old writer.old sink.old meter.old }
         requires around { IsAround (as_frames self.old.frames) around.old }
         requires goes_on { GoesOn (frame_in around.old) self.old.source.place }
-        ensures hands { result ≡ true → HandsItem I.Input W.ValueWriter
-            (named_item (N.text names.now)) self.old self.new writer.old writer.new
-            sink.old sink.new }
-        ensures nothing { result ≡ false
-            → HandsNothing self.old self.new writer.old writer.new sink.old sink.new }
-        ensures keeps { KeepsOn W.ValueWriter self.old self.new writer.old writer.new
-            sink.old sink.new meter.old meter.new }
-        ensures goes { held_by self.new
-            ≤ held_by self.old + 16 * (left_to self.old - left_to self.new) }
+        ensures handed { Handed I.Input W.ValueWriter (named_item (N.text names.now))
+            self.old self.new writer.old writer.new sink.old sink.new
+            meter.old meter.new result }
         ensures around { result ≡ true → IsAround (as_frames self.new.frames) around.new }
     {
         let here = self.source.place();
@@ -499,15 +475,9 @@ impl<I: Input, A: Allocator + Copy> BinReader<I, A> {
         requires can_hand { CanHand W.ValueWriter self.old writer.old sink.old meter.old }
         requires around { IsAround (as_frames self.old.frames) around.old }
         requires goes_on { GoesOn (frame_in around.old) self.old.source.place }
-        ensures hands { result ≡ true → HandsItem I.Input W.ValueWriter
-            (named_item (N.text names.now)) self.old self.new writer.old writer.new
-            sink.old sink.new }
-        ensures nothing { result ≡ false
-            → HandsNothing self.old self.new writer.old writer.new sink.old sink.new }
-        ensures keeps { KeepsOn W.ValueWriter self.old self.new writer.old writer.new
-            sink.old sink.new meter.old meter.new }
-        ensures goes { held_by self.new
-            ≤ held_by self.old + 16 * (left_to self.old - left_to self.new) }
+        ensures handed { Handed I.Input W.ValueWriter (named_item (N.text names.now))
+            self.old self.new writer.old writer.new sink.old sink.new
+            meter.old meter.new result }
         ensures around { result ≡ true → IsAround (as_frames self.new.frames) around.new }
     {
         let here = self.source.place();
@@ -544,15 +514,9 @@ impl<I: Input, A: Allocator + Copy> BinReader<I, A> {
         requires front { ShowsFront (N.text names.now) self.old.limits (lent self.old.source)
             self.old.source.place (innermost (frame_in around.old))
             front.field front.annotation front.at front.head front.wrapper }
-        ensures hands { result ≡ true → HandsItem I.Input W.ValueWriter
-            (named_item (N.text names.now)) self.old self.new writer.old writer.new
-            sink.old sink.new }
-        ensures nothing { result ≡ false
-            → HandsNothing self.old self.new writer.old writer.new sink.old sink.new }
-        ensures keeps { KeepsOn W.ValueWriter self.old self.new writer.old writer.new
-            sink.old sink.new meter.old meter.new }
-        ensures goes { held_by self.new
-            ≤ held_by self.old + 16 * (left_to self.old - left_to self.new) }
+        ensures handed { Handed I.Input W.ValueWriter (named_item (N.text names.now))
+            self.old self.new writer.old writer.new sink.old sink.new
+            meter.old meter.new result }
         ensures around { result ≡ true → IsAround (as_frames self.new.frames) around.new }
     {
         let octets = self.source.buffer();
@@ -617,15 +581,9 @@ impl<I: Input, A: Allocator + Copy> BinReader<I, A> {
         requires within { front.head < length (lent self.old.source) }
         requires shape { body type_code length_code
             ≡ shape_of (get_or (lent self.old.source) front.head 0) }
-        ensures hands { result ≡ true → HandsItem I.Input W.ValueWriter
-            (named_item (N.text names.now)) self.old self.new writer.old writer.new
-            sink.old sink.new }
-        ensures nothing { result ≡ false
-            → HandsNothing self.old self.new writer.old writer.new sink.old sink.new }
-        ensures keeps { KeepsOn W.ValueWriter self.old self.new writer.old writer.new
-            sink.old sink.new meter.old meter.new }
-        ensures goes { held_by self.new
-            ≤ held_by self.old + 16 * (left_to self.old - left_to self.new) }
+        ensures handed { Handed I.Input W.ValueWriter (named_item (N.text names.now))
+            self.old self.new writer.old writer.new sink.old sink.new
+            meter.old meter.new result }
         ensures around { result ≡ true → IsAround (as_frames self.new.frames) around.new }
     {
         match type_code {
@@ -727,15 +685,9 @@ impl<I: Input, A: Allocator + Copy> BinReader<I, A> {
             front.field front.annotation front.at front.head front.wrapper }
         requires within { front.head < length (lent self.old.source) }
         requires shape { as_shape shape ≡ shape_of (get_or (lent self.old.source) front.head 0) }
-        ensures hands { result ≡ true → HandsItem I.Input W.ValueWriter
-            (named_item (N.text names.now)) self.old self.new writer.old writer.new
-            sink.old sink.new }
-        ensures nothing { result ≡ false
-            → HandsNothing self.old self.new writer.old writer.new sink.old sink.new }
-        ensures keeps { KeepsOn W.ValueWriter self.old self.new writer.old writer.new
-            sink.old sink.new meter.old meter.new }
-        ensures goes { held_by self.new
-            ≤ held_by self.old + 16 * (left_to self.old - left_to self.new) }
+        ensures handed { Handed I.Input W.ValueWriter (named_item (N.text names.now))
+            self.old self.new writer.old writer.new sink.old sink.new
+            meter.old meter.new result }
         ensures around { result ≡ true → IsAround (as_frames self.new.frames) around.new }
     {
         let Some((found, behind)) = self.shown_behind(shape, *around, front) else {

@@ -85,8 +85,8 @@ take_plain-requires-in-Begin-clause-path g c =
 pub take_plain-requires-in-Begin-clause-room : goal.take_plain-requires-in-Begin-clause-room
 take_plain-requires-in-Begin-clause-room g c = omega (arith, (c.push_within.ensures.cost c.if-not-push_within.false).held)
 
-pub returns-else-not-take_plain-clause-hands : goal.returns-else-not-take_plain-clause-hands
-returns-else-not-take_plain-clause-hands g c e =
+pub returns-else-not-take_plain-clause-handed : goal.returns-else-not-take_plain-clause-handed
+returns-else-not-take_plain-clause-handed g c =
     let device = g.I.Input in
     let w = g.W.ValueWriter in
     let r = c.args.self.now in
@@ -115,21 +115,26 @@ returns-else-not-take_plain-clause-hands g c e =
     to_come-gives device r.limits r.frames r.frames r.top top r.source t item
     (step_shown device r.limits (as_frames r.frames) f r.top c.in-Some.behind c.args.front.at c.args.front.head front.raws r.source t texts c.args.front.field (shown.Scalar c.in-Scalar.scalar) inner c.requires.goes_on name v c.pass.ensures.passed) in
     let deep : Fits (w.limits c.args.writer.now).depth (opened_in r) seen = subst (λ n. Fits n (opened_in r) seen) (sym write.depth_of) fits in
-    rw c.pass.ensures.top (record {
-      hands = λ values. hands_by w (named_item texts) (device.observable r.source.device) (to_come device r.limits r.frames r.top r.source) (to_come device r.limits r.frames top t)
-          (opened_in r) (opened_in r) c.args.writer.now c.take_plain.new.self c.args.sink.now.pending c.take_plain.new.sink.pending values item seen is (λ _. gives)
-          (record { field = shown-known c.args.front.field; annotations = front.free; head = c.in-Some-shown_head.ensures.known })
-          (whole-opens texts (r.source.place + c.args.front.head) (shown_scalar c.in-Scalar.scalar) seen.head (opened_in r) head) deep
-          (whole-value texts (r.source.place + c.args.front.head) (shown_scalar c.in-Scalar.scalar) seen.head head) taken.same.1 (taken.stands refl) (taken.puts refl);
-      falls = falls_scalar r.source.limit r.source.place t.limit t.place c.args.front.at c.in-Some.behind (length r.frames) c.pass.ensures.passed.place c.pass.ensures.passed.limit v.further
-          (lent-CanPass r.source c.in-Some.behind v.within).1;
-      further = omega (arith, c.pass.ensures.passed.place);
-      total = IsPassed-total device.rest r.source t c.in-Some.behind (lent-CanPass r.source c.in-Some.behind v.within).0 c.pass.ensures.passed;
-      bytes = (IsPassed-moves device r.source t c.in-Some.behind v.within c.pass.ensures.passed).bytes;
-    })
+    record {
+      hands = λ _. rw c.pass.ensures.top (record {
+          hands = λ values. hands_by w (named_item texts) (device.observable r.source.device) (to_come device r.limits r.frames r.top r.source) (to_come device r.limits r.frames top t)
+              (opened_in r) (opened_in r) c.args.writer.now c.take_plain.new.self c.args.sink.now.pending c.take_plain.new.sink.pending values item seen is (λ _. gives)
+              (record { field = shown-known c.args.front.field; annotations = front.free; head = c.in-Some-shown_head.ensures.known })
+              (whole-opens texts (r.source.place + c.args.front.head) (shown_scalar c.in-Scalar.scalar) seen.head (opened_in r) head) deep
+              (whole-value texts (r.source.place + c.args.front.head) (shown_scalar c.in-Scalar.scalar) seen.head head) taken.same.1 (taken.stands refl) (taken.puts refl);
+          falls = falls_scalar r.source.limit r.source.place t.limit t.place c.args.front.at c.in-Some.behind (length r.frames) c.pass.ensures.passed.place c.pass.ensures.passed.limit v.further
+              (lent-CanPass r.source c.in-Some.behind v.within).1;
+          further = omega (arith, c.pass.ensures.passed.place);
+          total = IsPassed-total device.rest r.source t c.in-Some.behind (lent-CanPass r.source c.in-Some.behind v.within).0 c.pass.ensures.passed;
+          bytes = (IsPassed-moves device r.source t c.in-Some.behind v.within c.pass.ensures.passed).bytes;
+      });
+      nothing = λ e. absurd (cc e);
+      keeps = search rules;
+      goes = search rules;
+    }
 
-pub returns-else-not-take_plain-2-clause-hands : goal.returns-else-not-take_plain-2-clause-hands
-returns-else-not-take_plain-2-clause-hands g c e =
+pub returns-else-not-take_plain-2-clause-handed : goal.returns-else-not-take_plain-2-clause-handed
+returns-else-not-take_plain-2-clause-handed g c =
     let device = g.I.Input in
     let w = g.W.ValueWriter in
     let r = c.args.self.now in
@@ -160,16 +165,21 @@ returns-else-not-take_plain-2-clause-hands g c e =
     let gives : to_come device r.limits r.frames r.top r.source ≡ More item (to_come device r.limits (r.frames ++ frame ∷ []) top t) =
     to_come-gives device r.limits r.frames (r.frames ++ frame ∷ []) r.top top r.source t item (rw opened step) in
     let deep : Fits (w.limits c.args.writer.now).depth (opened_in r) seen = subst (λ n. Fits n (opened_in r) seen) (sym write.depth_of) fits in
-    rw (c.pass-in-Begin.ensures.top, pushed) (record {
-      hands = λ values. hands_by w (named_item texts) (device.observable r.source.device) (to_come device r.limits r.frames r.top r.source) (to_come device r.limits (r.frames ++ frame ∷ []) top t)
-          (opened_in r) (kinds_of (r.frames ++ frame ∷ [])) c.args.writer.now c.take_plain-in-Begin.new.self c.args.sink.now.pending c.take_plain-in-Begin.new.sink.pending values item seen is (λ _. gives)
-          (record { field = shown-known c.args.front.field; annotations = front.free; head = tt }) (kinds_of-push r.frames frame) deep refl taken.same.1 (taken.stands refl) (taken.puts refl);
-      falls = falls_begin r.source.limit r.source.place t.limit t.place c.args.front.at c.in-Some.behind (length r.frames) (length (r.frames ++ frame ∷ [])) c.pass-in-Begin.ensures.passed.place
-          c.pass-in-Begin.ensures.passed.limit v.further (lent-CanPass r.source c.in-Some.behind v.within).1 (length_push r.frames frame);
-      further = omega (arith, c.pass-in-Begin.ensures.passed.place);
-      total = IsPassed-total device.rest r.source t c.in-Some.behind (lent-CanPass r.source c.in-Some.behind v.within).0 c.pass-in-Begin.ensures.passed;
-      bytes = (IsPassed-moves device r.source t c.in-Some.behind v.within c.pass-in-Begin.ensures.passed).bytes;
-    })
+    record {
+      hands = λ _. rw (c.pass-in-Begin.ensures.top, pushed) (record {
+          hands = λ values. hands_by w (named_item texts) (device.observable r.source.device) (to_come device r.limits r.frames r.top r.source) (to_come device r.limits (r.frames ++ frame ∷ []) top t)
+              (opened_in r) (kinds_of (r.frames ++ frame ∷ [])) c.args.writer.now c.take_plain-in-Begin.new.self c.args.sink.now.pending c.take_plain-in-Begin.new.sink.pending values item seen is (λ _. gives)
+              (record { field = shown-known c.args.front.field; annotations = front.free; head = tt }) (kinds_of-push r.frames frame) deep refl taken.same.1 (taken.stands refl) (taken.puts refl);
+          falls = falls_begin r.source.limit r.source.place t.limit t.place c.args.front.at c.in-Some.behind (length r.frames) (length (r.frames ++ frame ∷ [])) c.pass-in-Begin.ensures.passed.place
+              c.pass-in-Begin.ensures.passed.limit v.further (lent-CanPass r.source c.in-Some.behind v.within).1 (length_push r.frames frame);
+          further = omega (arith, c.pass-in-Begin.ensures.passed.place);
+          total = IsPassed-total device.rest r.source t c.in-Some.behind (lent-CanPass r.source c.in-Some.behind v.within).0 c.pass-in-Begin.ensures.passed;
+          bytes = (IsPassed-moves device r.source t c.in-Some.behind v.within c.pass-in-Begin.ensures.passed).bytes;
+      });
+      nothing = λ e. absurd (cc e);
+      keeps = search rules;
+      goes = search rules;
+    }
 
 pub returns-else-not-take_plain-clause-around : goal.returns-else-not-take_plain-clause-around
 returns-else-not-take_plain-clause-around g c e = rw c.pass.ensures.top c.requires.around

@@ -35,39 +35,39 @@ known_fine t place (value.Text bytes) text = refl
 known_fine t place (value.Id id) text = slot_fine id place (slot_of t id) text
 
 field_fine : (t : Table) (field : Option SymbolAt) → HasKnownName (option_map (named_at (text_at t)) field) → field_checked t true field ≡ fine
-field_fine t None known = refl
-field_fine t (Some s) known = known_fine t s.place s.symbol known
+field_fine t None text = refl
+field_fine t (Some s) text = known_fine t s.place s.symbol text
 
 all_fine : (t : Table) (ss : List SymbolAt) → HaveNoDollar (map (named_at (text_at t)) ss) → annotations_checked t true ss ≡ fine
 all_fine t [] free = refl
 all_fine t (s ∷ ss) free = rw (known_fine t s.place s.symbol (no_dollar-known (named (text_at t) s.symbol) free.0)) (all_fine t ss free.1)
 
 head_fine : (t : Table) (head : Head SymbolAt) → IsKnownHead (map_head (named_at (text_at t)) head) → head_checked t true head ≡ fine
-head_fine t (value.whole (value.null type)) known = refl
-head_fine t (value.whole (value.bool truth)) known = refl
-head_fine t (value.whole (value.int number)) known = refl
-head_fine t (value.whole (value.decimal number)) known = refl
-head_fine t (value.whole (value.timestamp moment)) known = refl
-head_fine t (value.whole (value.symbol s)) known = known_fine t s.place s.symbol known
-head_fine t (value.whole (value.string bytes)) known = refl
-head_fine t (value.whole (value.clob bytes)) known = refl
-head_fine t (value.whole (value.blob bytes)) known = refl
-head_fine t (value.begin kind) known = refl
-head_fine t value.end known = refl
-head_fine t value.marker known = absurd known
+head_fine t (value.whole (value.null type)) text = refl
+head_fine t (value.whole (value.bool truth)) text = refl
+head_fine t (value.whole (value.int number)) text = refl
+head_fine t (value.whole (value.decimal number)) text = refl
+head_fine t (value.whole (value.timestamp moment)) text = refl
+head_fine t (value.whole (value.symbol s)) text = known_fine t s.place s.symbol text
+head_fine t (value.whole (value.string bytes)) text = refl
+head_fine t (value.whole (value.clob bytes)) text = refl
+head_fine t (value.whole (value.blob bytes)) text = refl
+head_fine t (value.begin kind) text = refl
+head_fine t value.end text = refl
+head_fine t value.marker text = absurd text
 
 item_fine : (t : Table) (i : PlacedItem) → IsPlainItem (named_item (text_at t) i) → CheckedAs (checked t true i) (Ok tt)
-item_fine t i plain =
-    let all : checked t true i ≡ fine = rw (field_fine t i.field plain.field, all_fine t i.annotations plain.annotations) (head_fine t i.head plain.head) in
+item_fine t i given =
+    let all : checked t true i ≡ fine = rw (field_fine t i.field given.field, all_fine t i.annotations given.annotations) (head_fine t i.head given.head) in
     rw all refl
 
 -- ---- and it is no marker and begins no declaration
 
 no_marker : (f : SymbolAt → SymbolAt) (head : Head SymbolAt) → IsKnownHead (map_head f head) → is_marker head ≡ false
-no_marker f (value.whole body) known = refl
-no_marker f (value.begin kind) known = refl
-no_marker f value.end known = refl
-no_marker f value.marker known = absurd known
+no_marker f (value.whole body) text = refl
+no_marker f (value.begin kind) text = refl
+no_marker f value.end text = refl
+no_marker f value.marker text = absurd text
 
 other_word : (a b c d e f : Bool) → f ≡ false
     → is_declaration (if a then word.Name else if b then word.Version else if c then word.MaxId else if d then word.Imports else if e then word.Symbols else if f then word.Declaration else word.Other) ≡ false
@@ -104,7 +104,7 @@ and_false true false c e = refl
 and_false false b c e = refl
 
 no_declaration : (t : Table) (n : ℕ) (i : PlacedItem) → IsPlainItem (named_item (text_at t) i) → begins_declaration t n i ≡ false
-no_declaration t n i plain = and_false (n == 0) (is_struct i.head) (declares t i.annotations) (none_declares t i.annotations plain.annotations)
+no_declaration t n i given = and_false (n == 0) (is_struct i.head) (declares t i.annotations) (none_declares t i.annotations given.annotations)
 
 -- ---- so it is an item of a user value
 

@@ -14,7 +14,7 @@ use Rattle.ion_value.specs.declared.writer.ValueWriter.{Ghosts as WriterOf}
 use Rattle.ion_value.specs.Feeding.{CanTake, Feeds, Hands, Joint, nothing, more}
 use Rattle.ion_value.specs.Standing.{WritesWithin}
 use Rattle.ion_value.specs.Value.{PlacedItem}
-use Rattle.ion_value.proofs.Handing.{hands-same, stays-then, takes-more}
+use Rattle.ion_value.proofs.Handing.{feeds-then, feeds-under, stays-then, takes-more}
 use Rattle.ion_binary.specs.declared.reader.BinReader.{BinReader}
 use Rattle.ion_binary.specs.Lane.{CanHand, HandsItem, HandsNothing, HandsOn, KeepsOn, joint}
 use Rattle.ion_binary.specs.Reader.{most_of}
@@ -67,64 +67,63 @@ nothing-left device s t further total none =
 
 -- ---- items that are handed on
 
-module _ {W O A : Type 0} {w : WriterOf W O A} {see : PlacedItem → PlacedItem} where
-  feeds-same : {reads now : Type 0} {old new : Joint W} → (now → reads) → Feeds w see reads old new → Feeds w see now old new
-  feeds-same f nothing = nothing
-  feeds-same f (more between new feeds hands) = more between new (feeds-same f feeds) (hands-same f hands)
-
-  feeds-then : {reads : Type 0} {old between new : Joint W} → Feeds w see reads old between → Feeds w see reads between new → Feeds w see reads old new
-  feeds-then first nothing = first
-  feeds-then first (more now new feeds hands) = more now new (feeds-then first feeds) hands
-
 module _ {I A W O : Type 0} (device : InputOf I) (w : WriterOf W O A) (see : PlacedItem → PlacedItem) where
   -- none so far
   pub hands_on-none : (r : BinReader I A) (pen : W) (sink : Outgoing O) (m : Counts) (values : ℕ) → IsSound r → r.failed ≡ None → CanTake w r.limits.depth (opened_in r) pen sink
       → WritesWithin (w.own pen) (w.most pen) → held_by r + w.own pen ≤ m.held → HandsOn device w see r r pen pen sink sink m m values values
   hands_on-none r pen sink m values sound fresh takes writer held = record {
-    sized = sound.sized;
-    stands = sound.stands fresh;
-    limits = refl;
-    failed = refl;
-    done = refl;
-    same_device = refl;
-    limit = refl;
+    keeps = record {
+      sized = sound.sized;
+      stands = sound.stands fresh;
+      limits = refl;
+      failed = refl;
+      done = refl;
+      device = refl;
+      limit = refl;
+      writer = record { sound = takes.sound; failed = refl; limits = refl; most = refl; device = refl; fault = refl; refused = refl };
+      charges = charges-none m 0 (held_by r) (w.own pen) (share_of r) (w.most pen) (sound-within r sound).share writer.share held;
+    };
     further = omega arith;
     total = refl;
     bytes_left = λ b. b;
     feeds = nothing;
     takes = takes;
-    stays = record { sound = takes.sound; failed = refl; limits = refl; most = refl; device = refl; fault = refl; refused = refl };
     goes = omega arith;
     grows = omega arith;
     falls = omega arith;
-    charges = charges-none m 0 (held_by r) (w.own pen) (share_of r) (w.most pen) (sound-within r sound).share writer.share held;
   }
 
-  -- some, and then some more
-  pub hands_on-then : (a b c : BinReader I A) (p q t : W) (x y z : Outgoing O) (m n k : Counts) (few some many : ℕ) → held_by a + w.own p ≤ m.held
-      → HandsOn device w see a b p q x y m n few some → HandsOn device w see b c q t y z n k some many → HandsOn device w see a c p t x z m k few many
-  hands_on-then a b c p q t x y z m n k few some many held f g =
-      let most : share_of b + w.most q ≡ share_of a + w.most p = ap (λ (l : Limits). most_of l + w.most q) f.limits ∙ ap (λ s. share_of a + s) f.stays.most in
+  -- what two calls keep, one after the other
+  keeps_on-then : (a b c : BinReader I A) (p q t : W) (x y z : Outgoing O) (m n k : Counts) → held_by a + w.own p ≤ m.held → KeepsOn w a b p q x y m n → KeepsOn w b c q t y z n k → KeepsOn w a c p t x z m k
+  keeps_on-then a b c p q t x y z m n k held f g =
+      let most : share_of b + w.most q ≡ share_of a + w.most p = ap (λ (l : Limits). most_of l + w.most q) f.limits ∙ ap (λ s. share_of a + s) f.writer.most in
       record {
         sized = g.sized;
         stands = g.stands;
         limits = g.limits ∙ f.limits;
         failed = g.failed ∙ f.failed;
         done = g.done ∙ f.done;
-        same_device = g.same_device ∙ f.same_device;
+        device = g.device ∙ f.device;
         limit = g.limit ∙ f.limit;
-        further = omega (arith, f.further, g.further);
-        total = g.total ∙ f.total;
-        bytes_left = λ e. f.bytes_left (g.bytes_left e);
-        feeds = feeds-then f.feeds (feeds-same (λ o. subst device.observable (sym f.same_device) o) g.feeds);
-        takes = g.takes;
-        stays = stays-then w f.stays g.stays;
-        goes = omega (arith, f.goes, g.goes, f.grows, g.grows, f.falls, g.falls);
-        grows = omega (arith, f.grows, g.grows);
-        falls = omega (arith, f.falls, g.falls);
+        writer = stays-then w f.writer g.writer;
         charges = charges-then m n k (held_by a + w.own p) (held_by b + w.own q) (held_by c + w.own t) (share_of a + w.most p) held f.charges
             (subst (λ s. Charges n k (held_by b + w.own q) (held_by c + w.own t) s) most g.charges);
       }
+
+  -- some, and then some more
+  pub hands_on-then : (a b c : BinReader I A) (p q t : W) (x y z : Outgoing O) (m n k : Counts) (few some many : ℕ) → held_by a + w.own p ≤ m.held
+      → HandsOn device w see a b p q x y m n few some → HandsOn device w see b c q t y z n k some many → HandsOn device w see a c p t x z m k few many
+  hands_on-then a b c p q t x y z m n k few some many held f g = record {
+    keeps = keeps_on-then a b c p q t x y z m n k held f.keeps g.keeps;
+    further = omega (arith, f.further, g.further);
+    total = g.total ∙ f.total;
+    bytes_left = λ e. f.bytes_left (g.bytes_left e);
+    feeds = feeds-then w f.feeds (feeds-under w (λ o. subst device.observable (sym f.keeps.device) o) g.feeds);
+    takes = g.takes;
+    goes = omega (arith, f.goes, g.goes, f.grows, g.grows, f.falls, g.falls);
+    grows = omega (arith, f.grows, g.grows);
+    falls = omega (arith, f.falls, g.falls);
+  }
 
   -- one
   pub hands_on-item : (b c : BinReader I A) (q t : W) (y z : Outgoing O) (n k : Counts) (some many : ℕ) → CanTake w b.limits.depth (opened_in b) q y → HandsItem device w see b c q t y z
@@ -134,23 +133,15 @@ module _ {I A W O : Type 0} (device : InputOf I) (w : WriterOf W O A) (see : Pla
       let new = joint device c t z many in
       let one : Hands w see (device.observable b.source.device) old new = subst (λ v. Hands w see (device.observable b.source.device) old (joint device c t z v)) (sym e) (h.hands some) in
       record {
-        sized = s.sized;
-        stands = s.stands;
-        limits = s.limits;
-        failed = s.failed;
-        done = s.done;
-        same_device = s.device;
-        limit = s.limit;
+        keeps = s;
         further = h.further;
         total = h.total;
         bytes_left = h.bytes;
         feeds = more old new nothing one;
         takes = takes-more w see (device.observable b.source.device) old new b.limits.depth c.limits.depth y z n k takes one s.writer (ap (λ (l : Limits). l.depth) s.limits);
-        stays = s.writer;
         goes = goes;
         grows = omega (arith, e);
         falls = falls-more (opened_in c) some many (left_to b) (left_to c) (some + left_to b) (omega arith) e h.falls;
-        charges = s.charges;
       }
 
   -- none, and the meter may have peaked
@@ -162,13 +153,7 @@ module _ {I A W O : Type 0} (device : InputOf I) (w : WriterOf W O A) (see : Pla
       let own : held_by c ≡ held_by b = ap held_by h.reader in
       let here : c.source.place ≡ b.source.place = ap (λ (r : BinReader I A). r.source.place) h.reader in
       record {
-        sized = s.sized;
-        stands = s.stands;
-        limits = s.limits;
-        failed = s.failed;
-        done = s.done;
-        same_device = s.device;
-        limit = s.limit;
+        keeps = s;
         further = omega (arith, here);
         total = ap (λ (r : BinReader I A). r.source.place + length (left device.rest r.source)) h.reader;
         bytes_left = λ e. subst (λ (r : BinReader I A). BytesAreLeft device r.source) h.reader e;
@@ -177,21 +162,19 @@ module _ {I A W O : Type 0} (device : InputOf I) (w : WriterOf W O A) (see : Pla
             (subst (λ o. Feeds w see (device.observable b.source.device) first (joint device b q o some)) (sym h.sink) nothing));
         takes = subst (λ (r : BinReader I A). CanTake w r.limits.depth (opened_in r) t z) (sym h.reader)
             (subst (λ p. CanTake w b.limits.depth (opened_in b) p z) (sym h.writer) (subst (λ o. CanTake w b.limits.depth (opened_in b) q o) (sym h.sink) takes));
-        stays = s.writer;
         goes = omega (arith, own);
         grows = omega arith;
         falls = omega (arith, same);
-        charges = s.charges;
       }
 
   -- another item may be handed on then
   pub can_hand-then : (a b : BinReader I A) (p q : W) (x y : Outgoing O) (m n : Counts) (few some : ℕ) → IsSound a → WritesWithin (w.own p) (w.most p) → m.held ≤ 2 ^ 61 + (held_by a + w.own p)
       → held_by a + w.own p ≤ m.held → m.refused < 2 ^ 64 - 1 → HandsOn device w see a b p q x y m n few some → CanHand w b q y n
   can_hand-then a b p q x y m n few some sound writer room held countable h = record {
-    room = room-here (held_by a + w.own p) (held_by b + w.own q) (share_of a) (w.most p) h.charges room (sound-within a sound).small writer.small;
-    held = held-again (held_by a + w.own p) (held_by b + w.own q) (share_of a + w.most p) h.charges held;
-    countable = subst (λ r. r < 18446744073709551615) (sym h.stays.refused) countable;
-    sized = h.sized;
-    stands = h.stands;
+    room = room-here (held_by a + w.own p) (held_by b + w.own q) (share_of a) (w.most p) h.keeps.charges room (sound-within a sound).small writer.small;
+    held = held-again (held_by a + w.own p) (held_by b + w.own q) (share_of a + w.most p) h.keeps.charges held;
+    countable = subst (λ r. r < 18446744073709551615) (sym h.keeps.writer.refused) countable;
+    sized = h.keeps.sized;
+    stands = h.keeps.stands;
     writer = h.takes;
   }

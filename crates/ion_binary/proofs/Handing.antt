@@ -1,6 +1,6 @@
 -- An item that a window shows whole is the next one of the reading.
-use Rattle.std.proofs.Common.{◌≡◌, ℕ, ◌+◌, ◌-◌, ◌*◌, ◌<◌, ◌≤◌, true, false, List, [], ◌∷◌, ◌++◌, length, take, drop, map, Option, Some, None, Ok, refl, ap, ap₂, sym, subst, ◌∙◌, arith}
-use Rattle.std.specs.Prelude.{option_map, is_some, slice_get}
+use Rattle.std.proofs.Common.{◌≡◌, ℕ, ◌+◌, ◌-◌, ◌*◌, ◌<◌, ◌≤◌, Bool, true, false, List, [], ◌∷◌, ◌++◌, length, take, drop, map, Option, Some, None, Ok, refl, ap, ap₂, sym, subst, ◌∙◌, arith}
+use Rattle.std.specs.Prelude.{option_map, is_some, slice_get, ◌==◌, ◌&&◌, not}
 use Rattle.std.proofs.lemmas.Option.{slice_get-get_or}
 use Rattle.std.proofs.lemmas.Grind.{common_steps}
 use Rattle.std.proofs.lemmas.List.{take-append-drop, take_all}
@@ -11,7 +11,8 @@ use Rattle.ion_meter.specs.declared.limits.Limits.{Limits}
 use Rattle.ion_meter.proofs.Lent.{lent-take}
 use Rattle.ion_value.specs.declared.ion_type.Kind.{Kind}
 use Rattle.ion_value.specs.declared.ion_type.Kind.TheVariants as kind
-use Rattle.ion_value.specs.Name.{is_simple, raw_id}
+use Rattle.ion_value.specs.Digits.{first_is}
+use Rattle.ion_value.specs.Name.{is_plain, is_simple, raw_id}
 use Rattle.ion_value.specs.Reading.{Gives, More}
 use Rattle.ion_value.specs.Standing.{Fits, in_struct}
 use Rattle.ion_value.specs.Value as value
@@ -33,7 +34,7 @@ use Rattle.ion_value.specs.Feeding.{Hands}
 use Rattle.ion_value.specs.Items.{named_at, named_item, raw_head}
 use Rattle.ion_value.specs.Outcome.{one_if_closed}
 use Rattle.ion_value.specs.PlainItems as PlainItems
-use Rattle.ion_value.specs.PlainItems.{IsSimple, placed_text}
+use Rattle.ion_value.specs.PlainItems.{HasKnownName, IsPlainItem, IsRightlySimple, placed_text}
 use Rattle.ion_value.specs.Reading.{Reading}
 use Rattle.ion_value.specs.Standing.{Continues, HasAnnotations, HasPlace, InRange, has_field, is_marker, open_after, open_behind}
 use Rattle.ion_value.specs.Value.{Head, Scalar, Symbol, map_head, map_scalar}
@@ -89,9 +90,23 @@ skip-none here octets more = let same : here + 0 ≡ here = omega arith in rw sa
 named_field : (f : frame.Frame) (c d : Cursor) {id : ℕ} → f.kind ≡ kind.Struct → var_uint_at (Some f.end) c ≡ Ok (id, d) → field_at (innermost (Some f)) c ≡ Ok (Some (symbol_id id c.place), d)
 named_field f c d struct v = rw (struct, v) refl
 
--- a field whose id has a simple text
+second-false : (a b : Bool) → (a && not b) ≡ true → b ≡ false
+second-false true true e = absurd (cc e)
+second-false false true e = absurd (cc e)
+second-false a false e = refl
+
+-- a simple text does not begin with a dollar sign
+pub simple-no_dollar : (bytes : List ℕ) → is_simple bytes ≡ true → first_is (λ b. b == 36) bytes ≡ false
+simple-no_dollar bytes simple = second-false (is_plain bytes) (first_is (λ b. b == 36) bytes) simple
+
+-- a name that is shown is a text
+pub shown-known : (field : Option TextAt) → HasKnownName (option_map placed_text field)
+shown-known None = tt
+shown-known (Some t) = tt
+
+-- a field whose id has a text
 pub shows_named : (texts : ℕ → Option (List ℕ)) (octets : List ℕ) (here : ℕ) (f : frame.Frame) (id behind : ℕ) (t : TextAt) → f.kind ≡ kind.Struct → ShowsVar octets 0 behind id
-    → texts (raw_id id) ≡ Some t.text.now → is_simple t.text.now ≡ true → t.place ≡ here → ShowsField texts octets here (innermost (Some f)) (Some t) behind
+    → texts (raw_id id) ≡ Some t.text.now → IsRightlySimple t → t.place ≡ here → ShowsField texts octets here (innermost (Some f)) (Some t) behind
 shows_named texts octets here f id behind t struct v has simple at = record {
   raw = Some (symbol_id id here);
   within = v.within;
@@ -109,20 +124,23 @@ front_bare texts limits octets here frames field at name = record {
   name = name;
   raws = [];
   named = refl;
+  free = tt;
   simple = tt;
   within = name.within;
   gives = λ depth behind found v full. shows_plain limits octets here (region_of frames) depth at behind found v;
 }
 
--- a wrapper whose one id has a simple text
+-- a wrapper whose one id has a text without a dollar sign in front
 pub front_noted : (texts : ℕ → Option (List ℕ)) (limits : Limits) (octets : List ℕ) (here : ℕ) (frames : List Frame) (field : Option TextAt) (at from inner end id : ℕ) (t : TextAt)
-    → ShowsField texts octets here frames field at → ShowsNote limits octets here (region_of frames) at from inner end id → texts (raw_id id) ≡ Some t.text.now → is_simple t.text.now ≡ true → t.place ≡ here + from
+    → ShowsField texts octets here frames field at → ShowsNote limits octets here (region_of frames) at from inner end id → texts (raw_id id) ≡ Some t.text.now
+    → first_is (λ b. b == 36) t.text.now ≡ false → IsRightlySimple t → t.place ≡ here + from
     → ShowsFront texts limits octets here frames field (Some t) at inner (Some end)
-front_noted texts limits octets here frames field at from inner end id t name n has simple place = record {
+front_noted texts limits octets here frames field at from inner end id t name n has free simple place = record {
   name = name;
   raws = symbol_id id (here + from) ∷ [];
   named = rw (has, place) refl;
-  simple = (simple, tt);
+  free = (free, tt);
+  simple = simple;
   within = n.within;
   gives = λ depth behind found v full. shows_noted limits octets here (region_of frames) depth at from inner behind end id found n v full;
 }
@@ -196,19 +214,20 @@ plain_seen texts top place raw raws head item named notes head_is at first = rw 
 
 -- one item goes on, as the writer's contract has it
 pub hands_by : {W O A : Type 0} (w : WriterOf W O A) (see : PlacedItem → PlacedItem) (reads : Type 0) (coming then : Reading) (kinds kinds_then : List Kind) (pen pen_then : W) (from to : List ℕ) (values : ℕ)
-    (item seen : PlacedItem) → see item ≡ seen → (reads → coming ≡ More item then) → IsSimple seen → kinds_then ≡ open_after kinds seen.head → Fits (w.limits pen).depth kinds seen → is_marker seen.head ≡ false
+    (item seen : PlacedItem) → see item ≡ seen → (reads → coming ≡ More item then) → IsPlainItem seen → kinds_then ≡ open_after kinds seen.head → Fits (w.limits pen).depth kinds seen → is_marker seen.head ≡ false
     → w.limits pen_then ≡ w.limits pen
     → ((path : List PlacedItem) → w.stands pen path → Continues (w.limits pen) path seen → w.stands pen_then (path ++ seen ∷ []) × (w.refusal (w.limits pen) path seen ≡ None))
     → ((path : List PlacedItem) → w.stands pen path → Continues (w.limits pen) path seen → to ≡ from ++ w.adds (w.limits pen) path seen)
     → Hands w see reads (record { coming = coming; opened = kinds; writer = pen; pending = from; values = values })
     (record { coming = then; opened = kinds_then; writer = pen_then; pending = to; values = values + one_if_closed kinds_then })
-hands_by w see reads coming then kinds kinds_then pen pen_then from to values item seen e gives simple opens fits value limits stands puts =
+hands_by w see reads coming then kinds kinds_then pen pen_then from to values item seen e gives plain opens fits value limits stands puts =
     let back : seen ≡ see item = sym e in
     let continues : (path : List PlacedItem) → open_behind [] path ≡ kinds → Continues (w.limits pen) path seen =
     λ path at. record { fits = subst (λ (k : List Kind). Fits (w.limits pen).depth k seen) (sym at) fits; value = value } in
     record {
       item = item;
-      simple = subst (λ (i : PlacedItem). IsSimple i) back simple;
+      plain = subst (λ (i : PlacedItem). IsPlainItem i) back plain;
+      fits = subst (λ (i : PlacedItem). Fits (w.limits pen).depth kinds i) back fits;
       gives = gives;
       opens = opens ∙ ap (λ (i : PlacedItem). open_after kinds i.head) back;
       counts = refl;

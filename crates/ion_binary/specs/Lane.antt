@@ -1,5 +1,5 @@
 -- What a call that hands one item to a writer asks for, gives, keeps and moves.
-use Rattle.std.specs.Prelude.{◌≡◌, ℕ, ◌+◌, ◌*◌, ◌-◌, ◌^◌, ◌<◌, ◌≤◌, List, length, map, Option, Some, None, option_map, is_some, Ok, ⊤}
+use Rattle.std.specs.Prelude.{◌≡◌, ℕ, ◌+◌, ◌*◌, ◌-◌, ◌^◌, ◌<◌, ◌≤◌, Bool, true, false, List, length, map, Option, Some, None, option_map, is_some, IfSome, Ok, ⊤}
 use Rattle.ion_meter.specs.Counts.{Counts}
 use Rattle.ion_meter.specs.Windows.{Outgoing, left}
 use Rattle.ion_meter.specs.Sources.{BytesAreLeft, Stands, skip}
@@ -10,7 +10,7 @@ use Rattle.ion_value.specs.Outcome.{one_if_closed}
 use Rattle.ion_value.specs.Shares.{Charges}
 use Rattle.ion_value.specs.declared.plain_item.TextAt.{TextAt}
 use Rattle.ion_value.specs.Items.{named_at}
-use Rattle.ion_value.specs.PlainItems.{AreSimple, HasSimpleName, listed, placed_text}
+use Rattle.ion_value.specs.PlainItems.{HaveNoDollar, IsRightlySimple, listed, placed_text}
 use Rattle.ion_value.specs.Standing.{in_struct}
 use Rattle.ion_value.specs.Value.{PlacedItem, SymbolAt}
 use Rattle.ion_binary.specs.declared.wrapper.Frame as frame
@@ -64,32 +64,31 @@ pub record KeepsOn {I A W O : Type 0} (w : WriterOf W O A) (old new : BinReader 
   pub writer : StaysWell w pen then from to before after
   pub charges : Charges before after (held_by old + w.own pen) (held_by new + w.own then) (share_of old + w.most pen)
 
+-- a call handed the next item on, or none, as it answers
+pub record Handed {I A W O : Type 0} (device : InputOf I) (w : WriterOf W O A) (see : PlacedItem → PlacedItem) (old new : BinReader I A) (pen then : W) (from to : Outgoing O) (before after : Counts) (done : Bool) : Type 0 where
+  pub hands : done ≡ true → HandsItem device w see old new pen then from to
+  pub nothing : done ≡ false → HandsNothing old new pen then from to
+  pub keeps : KeepsOn w old new pen then from to before after
+  pub goes : held_by new ≤ held_by old + 16 * (left_to old - left_to new)
+
 -- items were handed on, one after the other, behind so many values: where the two stand then, what stays, and memory
 pub record HandsOn {I A W O : Type 0} (device : InputOf I) (w : WriterOf W O A) (see : PlacedItem → PlacedItem) (old new : BinReader I A) (pen then : W) (from to : Outgoing O) (before after : Counts) (had values : ℕ) : Type 0 where
-  pub sized : IsSized new
-  pub stands : Stands new.source
-  pub limits : new.limits ≡ old.limits
-  pub failed : new.failed ≡ old.failed
-  pub done : new.done ≡ old.done
-  pub same_device : new.source.device ≡ old.source.device
-  pub limit : new.source.limit ≡ old.source.limit
+  pub keeps : KeepsOn w old new pen then from to before after
   pub further : old.source.place ≤ new.source.place
   pub total : new.source.place + length (left device.rest new.source) ≡ old.source.place + length (left device.rest old.source)
   pub bytes_left : BytesAreLeft device new.source → BytesAreLeft device old.source
   pub feeds : Feeds w see (device.observable old.source.device) (joint device old pen from had) (joint device new then to values)
   pub takes : CanTake w new.limits.depth (opened_in new) then to
-  pub stays : StaysWell w pen then from to before after
   pub goes : held_by new ≤ held_by old + 16 * (left_to old - left_to new)
   pub grows : had ≤ values
   pub falls : values + left_to new ≤ had + left_to old
-  pub charges : Charges before after (held_by old + w.own pen) (held_by new + w.own then) (share_of old + w.most pen)
 
 -- octets show what stands before a member: its field's name, which its id has, and how many octets the id has; or nothing outside structs
 pub record ShowsField (texts : ℕ → Option (List ℕ)) (octets : List ℕ) (here : ℕ) (frames : List Frame) (field : Option TextAt) (behind : ℕ) : Type 0 where
   pub raw : Option SymbolAt
   pub within : behind ≤ length octets
   pub named : option_map (named_at texts) raw ≡ option_map placed_text field
-  pub simple : HasSimpleName (option_map placed_text field)
+  pub simple : IfSome field IsRightlySimple
   pub there : is_some field ≡ in_struct (map (λ f. f.kind) frames)
   pub gives : (more : List ℕ) → Reaches (region_of frames) (here + behind) → field_at frames (window here octets more) ≡ Ok (raw, skip behind (window here octets more))
 
@@ -108,7 +107,8 @@ pub record ShowsFront (texts : ℕ → Option (List ℕ)) (limits : Limits) (oct
   pub name : ShowsField texts octets here frames field at
   pub raws : List SymbolAt
   pub named : map (named_at texts) raws ≡ listed (option_map placed_text annotation)
-  pub simple : AreSimple (listed (option_map placed_text annotation))
+  pub free : HaveNoDollar (listed (option_map placed_text annotation))
+  pub simple : IfSome annotation IsRightlySimple
   pub within : head ≤ length octets
   pub gives : (depth behind : ℕ) (found : Shown) → ShowsValue limits octets here (inner_region wrapper (region_of frames)) depth head behind found
       → FillsTo wrapper (far_end here behind found) → ShowsItem limits octets here (region_of frames) depth at head behind raws found

@@ -1,8 +1,8 @@
 //! Items that lie whole in the window, handed to a writer.
 ghost use Rattle.std.specs.Prelude.{◌≡◌, ◌+◌, ◌*◌, ◌-◌, ◌^◌, ◌<◌, ◌≤◌, get_or, length, false, true, Option, Some, None, IfSome, map};
 ghost use Rattle.ion_value.specs.Items.{named_at, named_item, raw_head};
-ghost use Rattle.ion_value.specs.PlainItems.{HasSimpleName, IsKnownHead, IsTextOf};
-ghost use Rattle.ion_binary.specs.Lane.{CanHand, EndsHere, GoesOn, HandsItem, HandsNothing, HandsOn, IsAround, KeepsOn, FillsTo, ShowsField, ShowsFront, frame_in, inner_region};
+ghost use Rattle.ion_value.specs.PlainItems.{IsKnownHead, IsTextOf};
+ghost use Rattle.ion_binary.specs.Lane.{CanHand, EndsHere, GoesOn, Handed, HandsOn, IsAround, FillsTo, ShowsField, ShowsFront, frame_in, inner_region};
 ghost use Rattle.ion_value.specs.Feeding.{CanTake};
 ghost use Rattle.ion_binary.specs.Steps.{IsSized, IsSound, held_by, left_to, opened_in};
 ghost use Rattle.ion_binary.specs.Positions.{placed_scalar};
@@ -15,6 +15,7 @@ ghost use Rattle.ion_meter.specs.Windows.{CanPass, IsPassed, lent};
 ghost use Rattle.ion_binary.specs.Wrappers.{as_frames, innermost};
 ghost use Rattle.ion_value.specs.Value.{Text, map_head, symbol, whole};
 
+use super::texts::{begins_with_dollar, shown_text};
 use super::{BinReader, values_behind};
 use crate::body::id_of;
 use crate::descriptor::Shape;
@@ -65,7 +66,7 @@ fn inside(frame: Frame) -> Around
 }
 
 // The name of a field that stands before a member, and how many octets its id has; none outside
-// structs. It answers none where the window does not show an id of a simple text.
+// structs. It answers none where the window does not show an id that has a text.
 #[inline(always)]
 fn shown_field<'n, N: Names>(
     octets: &[u8],
@@ -85,10 +86,10 @@ fn shown_field<'n, N: Names>(
             let Some((id, behind)) = shown_var(octets, 0) else {
                 return None;
             };
-            let Some(text) = names.simple_text(id_of(id)) else {
+            let Some(name) = shown_text(id_of(id), here, names) else {
                 return None;
             };
-            Some((Some(TextAt { text, place: here }), behind))
+            Some((Some(name), behind))
         }
     }
 }
@@ -235,7 +236,7 @@ fn bare_front<'n>(field: Option<TextAt<'n>>, at: usize) -> Front<'n>
 }
 
 // The front of an item in the annotation wrapper that begins at a place behind a field. It answers none where
-// the window does not show one that has one annotation, of a simple text.
+// the window does not show one that has one annotation, of a text that does not begin with a dollar sign.
 #[inline(always)]
 fn noted_front<'n, N: Names>(
     octets: &[u8],
@@ -258,13 +259,16 @@ fn noted_front<'n, N: Names>(
     let Some(note) = shown_note(octets, here, at, around.end, limits) else {
         return None;
     };
-    let Some(text) = names.simple_text(id_of(note.id)) else {
+    let place = here + note.from as u64;
+    let Some(text) = shown_text(id_of(note.id), place, names) else {
         return None;
     };
-    let place = here + note.from as u64;
+    if begins_with_dollar(text) {
+        return None;
+    }
     Some(Front {
         field,
-        annotation: Some(TextAt { text, place }),
+        annotation: Some(text),
         at,
         head: note.inner,
         wrapper: Some(note.end),
@@ -364,15 +368,9 @@ impl<I: Input, A: Allocator + Copy> BinReader<I, A> {
     ) -> bool
         requires can_hand { CanHand W.ValueWriter self.old writer.old sink.old meter.old }
         requires around { IsAround (as_frames self.old.frames) around.old }
-        ensures hands { result ≡ true → HandsItem I.Input W.ValueWriter
-            (named_item (N.text names.now)) self.old self.new writer.old writer.new
-            sink.old sink.new }
-        ensures nothing { result ≡ false
-            → HandsNothing self.old self.new writer.old writer.new sink.old sink.new }
-        ensures keeps { KeepsOn W.ValueWriter self.old self.new writer.old writer.new
-            sink.old sink.new meter.old meter.new }
-        ensures goes { held_by self.new
-            ≤ held_by self.old + 16 * (left_to self.old - left_to self.new) }
+        ensures handed { Handed I.Input W.ValueWriter (named_item (N.text names.now))
+            self.old self.new writer.old writer.new sink.old sink.new
+            meter.old meter.new result }
         ensures around { result ≡ true → IsAround (as_frames self.new.frames) around.new }
     {
         if ends_here(*around, self.source.place()) {
@@ -392,15 +390,9 @@ impl<I: Input, A: Allocator + Copy> BinReader<I, A> {
         sink: &mut Sink<O, A>,
     ) -> bool
         requires { CanHand W.ValueWriter self.old writer.old sink.old meter.old }
-        ensures hands { result ≡ true → HandsItem I.Input W.ValueWriter
-            (named_item (N.text names.now)) self.old self.new writer.old writer.new
-            sink.old sink.new }
-        ensures nothing { result ≡ false
-            → HandsNothing self.old self.new writer.old writer.new sink.old sink.new }
-        ensures keeps { KeepsOn W.ValueWriter self.old self.new writer.old writer.new
-            sink.old sink.new meter.old meter.new }
-        ensures goes { held_by self.new
-            ≤ held_by self.old + 16 * (left_to self.old - left_to self.new) }
+        ensures { Handed I.Input W.ValueWriter (named_item (N.text names.now))
+            self.old self.new writer.old writer.new sink.old sink.new
+            meter.old meter.new result }
     {
         let mut around = around_in(self.frames.as_slice());
         if ends_here(around, self.source.place()) {
@@ -422,15 +414,9 @@ impl<I: Input, A: Allocator + Copy> BinReader<I, A> {
         requires can_hand { CanHand W.ValueWriter self.old writer.old sink.old meter.old }
         requires around { IsAround (as_frames self.old.frames) around.old }
         requires ends { EndsHere (frame_in around.old) self.old.source.place }
-        ensures hands { result ≡ true → HandsItem I.Input W.ValueWriter
-            (named_item (N.text _names.now)) self.old self.new writer.old writer.new
-            sink.old sink.new }
-        ensures nothing { result ≡ false
-            → HandsNothing self.old self.new writer.old writer.new sink.old sink.new }
-        ensures keeps { KeepsOn W.ValueWriter self.old self.new writer.old writer.new
-            sink.old sink.new meter.old meter.new }
-        ensures goes { held_by self.new
-            ≤ held_by self.old + 16 * (left_to self.old - left_to self.new) }
+        ensures handed { Handed I.Input W.ValueWriter (named_item (N.text _names.now))
+            self.old self.new writer.old writer.new sink.old sink.new
+            meter.old meter.new result }
         ensures around { result ≡ true → IsAround (as_frames self.new.frames) around.new }
     {
         let item = PlainItem {
@@ -462,15 +448,9 @@ impl<I: Input, A: Allocator + Copy> BinReader<I, A> {
         requires can_hand { CanHand W.ValueWriter self.old writer.old sink.old meter.old }
         requires around { IsAround (as_frames self.old.frames) around.old }
         requires goes_on { GoesOn (frame_in around.old) self.old.source.place }
-        ensures hands { result ≡ true → HandsItem I.Input W.ValueWriter
-            (named_item (N.text names.now)) self.old self.new writer.old writer.new
-            sink.old sink.new }
-        ensures nothing { result ≡ false
-            → HandsNothing self.old self.new writer.old writer.new sink.old sink.new }
-        ensures keeps { KeepsOn W.ValueWriter self.old self.new writer.old writer.new
-            sink.old sink.new meter.old meter.new }
-        ensures goes { held_by self.new
-            ≤ held_by self.old + 16 * (left_to self.old - left_to self.new) }
+        ensures handed { Handed I.Input W.ValueWriter (named_item (N.text names.now))
+            self.old self.new writer.old writer.new sink.old sink.new
+            meter.old meter.new result }
         ensures around { result ≡ true → IsAround (as_frames self.new.frames) around.new }
     {
         let here = self.source.place();
@@ -495,15 +475,9 @@ impl<I: Input, A: Allocator + Copy> BinReader<I, A> {
         requires can_hand { CanHand W.ValueWriter self.old writer.old sink.old meter.old }
         requires around { IsAround (as_frames self.old.frames) around.old }
         requires goes_on { GoesOn (frame_in around.old) self.old.source.place }
-        ensures hands { result ≡ true → HandsItem I.Input W.ValueWriter
-            (named_item (N.text names.now)) self.old self.new writer.old writer.new
-            sink.old sink.new }
-        ensures nothing { result ≡ false
-            → HandsNothing self.old self.new writer.old writer.new sink.old sink.new }
-        ensures keeps { KeepsOn W.ValueWriter self.old self.new writer.old writer.new
-            sink.old sink.new meter.old meter.new }
-        ensures goes { held_by self.new
-            ≤ held_by self.old + 16 * (left_to self.old - left_to self.new) }
+        ensures handed { Handed I.Input W.ValueWriter (named_item (N.text names.now))
+            self.old self.new writer.old writer.new sink.old sink.new
+            meter.old meter.new result }
         ensures around { result ≡ true → IsAround (as_frames self.new.frames) around.new }
     {
         let here = self.source.place();
@@ -540,15 +514,9 @@ impl<I: Input, A: Allocator + Copy> BinReader<I, A> {
         requires front { ShowsFront (N.text names.now) self.old.limits (lent self.old.source)
             self.old.source.place (innermost (frame_in around.old))
             front.field front.annotation front.at front.head front.wrapper }
-        ensures hands { result ≡ true → HandsItem I.Input W.ValueWriter
-            (named_item (N.text names.now)) self.old self.new writer.old writer.new
-            sink.old sink.new }
-        ensures nothing { result ≡ false
-            → HandsNothing self.old self.new writer.old writer.new sink.old sink.new }
-        ensures keeps { KeepsOn W.ValueWriter self.old self.new writer.old writer.new
-            sink.old sink.new meter.old meter.new }
-        ensures goes { held_by self.new
-            ≤ held_by self.old + 16 * (left_to self.old - left_to self.new) }
+        ensures handed { Handed I.Input W.ValueWriter (named_item (N.text names.now))
+            self.old self.new writer.old writer.new sink.old sink.new
+            meter.old meter.new result }
         ensures around { result ≡ true → IsAround (as_frames self.new.frames) around.new }
     {
         let octets = self.source.buffer();
@@ -613,15 +581,9 @@ impl<I: Input, A: Allocator + Copy> BinReader<I, A> {
         requires within { front.head < length (lent self.old.source) }
         requires shape { body type_code length_code
             ≡ shape_of (get_or (lent self.old.source) front.head 0) }
-        ensures hands { result ≡ true → HandsItem I.Input W.ValueWriter
-            (named_item (N.text names.now)) self.old self.new writer.old writer.new
-            sink.old sink.new }
-        ensures nothing { result ≡ false
-            → HandsNothing self.old self.new writer.old writer.new sink.old sink.new }
-        ensures keeps { KeepsOn W.ValueWriter self.old self.new writer.old writer.new
-            sink.old sink.new meter.old meter.new }
-        ensures goes { held_by self.new
-            ≤ held_by self.old + 16 * (left_to self.old - left_to self.new) }
+        ensures handed { Handed I.Input W.ValueWriter (named_item (N.text names.now))
+            self.old self.new writer.old writer.new sink.old sink.new
+            meter.old meter.new result }
         ensures around { result ≡ true → IsAround (as_frames self.new.frames) around.new }
     {
         match type_code {
@@ -723,15 +685,9 @@ impl<I: Input, A: Allocator + Copy> BinReader<I, A> {
             front.field front.annotation front.at front.head front.wrapper }
         requires within { front.head < length (lent self.old.source) }
         requires shape { as_shape shape ≡ shape_of (get_or (lent self.old.source) front.head 0) }
-        ensures hands { result ≡ true → HandsItem I.Input W.ValueWriter
-            (named_item (N.text names.now)) self.old self.new writer.old writer.new
-            sink.old sink.new }
-        ensures nothing { result ≡ false
-            → HandsNothing self.old self.new writer.old writer.new sink.old sink.new }
-        ensures keeps { KeepsOn W.ValueWriter self.old self.new writer.old writer.new
-            sink.old sink.new meter.old meter.new }
-        ensures goes { held_by self.new
-            ≤ held_by self.old + 16 * (left_to self.old - left_to self.new) }
+        ensures handed { Handed I.Input W.ValueWriter (named_item (N.text names.now))
+            self.old self.new writer.old writer.new sink.old sink.new
+            meter.old meter.new result }
         ensures around { result ≡ true → IsAround (as_frames self.new.frames) around.new }
     {
         let Some((found, behind)) = self.shown_behind(shape, *around, front) else {

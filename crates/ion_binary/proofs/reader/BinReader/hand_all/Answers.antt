@@ -22,7 +22,7 @@ pub values_behind-count-requires : goal.values_behind-count-requires
 values_behind-count-requires g c = omega (arith, c.items.invariant.hands.falls, c.requires.few)
 
 pub items-smaller : goal.items-smaller
-items-smaller g c = (c.hand.ensures.hands c.items-test.true).falls
+items-smaller g c = (c.hand.ensures.handed.hands c.items-test.true).falls
 
 pub items-preserved : goal.items-preserved
 items-preserved g c =
@@ -35,7 +35,7 @@ items-preserved g c =
       hands = hands_on-then input w see c.args.self.now c.items.self c.hand.new.self c.args.writer.now c.items.writer c.hand.new.writer c.args.sink.now c.items.sink c.hand.new.sink c.args.meter.now c.items.meter c.hand.new.meter c.args.values
           c.items.count c.values_behind-count.result c.requires.held c.items.invariant.hands
           (hands_on-item input w see c.items.self c.hand.new.self c.items.writer c.hand.new.writer c.items.sink c.hand.new.sink c.items.meter c.hand.new.meter c.items.count c.values_behind-count.result c.items.invariant.hands.takes
-          (c.hand.ensures.hands c.items-test.true) c.hand.ensures.keeps c.hand.ensures.goes counts);
+          (c.hand.ensures.handed.hands c.items-test.true) c.hand.ensures.handed.keeps c.hand.ensures.handed.goes counts);
       around = c.hand.ensures.around c.items-test.true;
     }
 
@@ -47,4 +47,4 @@ returns g c =
     hands_on-then input w see c.args.self.now c.items.self c.hand.new.self c.args.writer.now c.items.writer c.hand.new.writer c.args.sink.now c.items.sink c.hand.new.sink c.args.meter.now c.items.meter c.hand.new.meter c.args.values
     c.items.count c.items.count c.requires.held c.items.invariant.hands
     (hands_on-nothing input w see c.items.self c.hand.new.self c.items.writer c.hand.new.writer c.items.sink c.hand.new.sink c.items.meter c.hand.new.meter c.items.count c.items.invariant.hands.takes
-    (c.hand.ensures.nothing c.items-test.false) c.hand.ensures.keeps)
+    (c.hand.ensures.handed.nothing c.items-test.false) c.hand.ensures.handed.keeps)

@@ -1,4 +1,4 @@
-use Rattle.std.proofs.Common.{◌≡◌, ◌<◌, [], None, List, length, refl, ap, sym, subst, ◌∙◌, arith}
+use Rattle.std.proofs.Common.{◌≡◌, ◌<◌, [], None, List, length, refl, ap, sym, subst, ◌∙◌, arith, rules}
 use Rattle.ion_meter.specs.Sources.{cursor}
 use Rattle.ion_value.specs.Reading.{Gives, More}
 use Rattle.ion_value.specs.Items.{named_item}
@@ -13,8 +13,8 @@ use Rattle.ion_binary.proofs.Handing.{end_fits, ends-some, hands_by, open_one, p
 use Rattle.ion_binary.proofs.ReaderParts.{inside-ends, kinds_of-length}
 use Rattle.ion_binary.proofs.reader.BinReader.hand_end.Goals as goal
 
-pub returns-clause-hands : goal.returns-clause-hands
-returns-clause-hands g c e =
+pub returns-clause-handed : goal.returns-clause-handed
+returns-clause-handed g c =
     let device = g.I.Input in
     let w = g.W.ValueWriter in
     let r = c.args.self.now in
@@ -29,17 +29,22 @@ returns-clause-hands g c e =
     let gives : to_come device r.limits r.frames r.top r.source ≡ More item (to_come device r.limits new.frames r.top r.source) =
     to_come-gives device r.limits r.frames new.frames r.top r.top r.source r.source item (ends ∙ (closed ∙ here)) in
     let less : length new.frames < length r.frames = omega (arith, c.close.ensures.fewer) in
-    rw c.close.ensures.end (record {
-      hands = λ values. hands_by w (named_item (g.N.Names.text c.args._names.now)) (device.observable r.source.device) (to_come device r.limits r.frames r.top r.source)
-          (to_come device r.limits new.frames r.top r.source) (opened_in r) (opened_in new) c.args.writer.now c.take_plain.new.self c.args.sink.now.pending c.take_plain.new.sink.pending values
-          item item refl (λ _. gives) (record { field = tt; annotations = tt; head = tt }) c.close.ensures.kinds
-          (end_fits (w.limits c.args.writer.now).depth (opened_in r) c.place.result r.top (open_one r.frames some.0 inner)) refl taken.same.1
-          (taken.stands refl) (taken.puts refl);
-      falls = omega (arith, less);
-      further = omega arith;
-      total = refl;
-      bytes = λ b. b;
-    })
+    record {
+      hands = λ _. rw c.close.ensures.end (record {
+          hands = λ values. hands_by w (named_item (g.N.Names.text c.args._names.now)) (device.observable r.source.device) (to_come device r.limits r.frames r.top r.source)
+              (to_come device r.limits new.frames r.top r.source) (opened_in r) (opened_in new) c.args.writer.now c.take_plain.new.self c.args.sink.now.pending c.take_plain.new.sink.pending values
+              item item refl (λ _. gives) (record { field = tt; annotations = tt; head = tt }) c.close.ensures.kinds
+              (end_fits (w.limits c.args.writer.now).depth (opened_in r) c.place.result r.top (open_one r.frames some.0 inner)) refl taken.same.1
+              (taken.stands refl) (taken.puts refl);
+          falls = omega (arith, less);
+          further = omega arith;
+          total = refl;
+          bytes = λ b. b;
+      });
+      nothing = λ e. absurd (cc e);
+      keeps = search rules;
+      goes = search rules;
+    }
 
 pub close-requires-clause-open : goal.close-requires-clause-open
 close-requires-clause-open g c =

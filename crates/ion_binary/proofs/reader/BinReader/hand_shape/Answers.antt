@@ -1,4 +1,5 @@
-use Rattle.std.proofs.Common.{◌≡◌, ◌+◌, ◌<◌, None, [], ◌∷◌, ◌++◌, length, refl, ap, sym, subst, ◌∙◌, arith}
+use Rattle.std.proofs.Common.{◌≡◌, ◌+◌, ◌<◌, None, [], ◌∷◌, ◌++◌, length, refl, ap, sym, subst, ◌∙◌, arith, rules}
+use Rattle.std.proofs.lemmas.Grind.{common_steps}
 use Rattle.std.proofs.lemmas.List.{length_push}
 use Rattle.ion_meter.proofs.Lent.{IsPassed-total, lent-CanPass}
 use Rattle.ion_value.proofs.Passing.{IsPassed-moves}
@@ -18,9 +19,24 @@ use Rattle.ion_binary.specs.Reader.{kinds_of, to_come}
 use Rattle.ion_binary.specs.Shown.{shown_scalar}
 use Rattle.ion_binary.specs.Steps.{opened_in}
 use Rattle.ion_binary.specs.Wrappers.{as_frames, innermost}
-use Rattle.ion_binary.proofs.Handing.{around_pushed, as_frames-push, begin_fits, falls_begin, falls_scalar, hands_by, kinds_of-push, path_here, plain_seen, scalar_fits, step_shown, to_come-gives, whole-opens, whole-value}
+use Rattle.ion_binary.proofs.Handing.{around_pushed, as_frames-push, begin_fits, falls_begin, falls_scalar, hands_by, kinds_of-push, path_here, plain_seen, scalar_fits, shown-known, step_shown, to_come-gives, whole-opens, whole-value}
 use Rattle.ion_binary.proofs.ReaderParts.{as_frames-length}
 use Rattle.ion_binary.proofs.reader.BinReader.hand_shape.Goals as goal
+
+pub take_plain-requires-clause-plain : goal.take_plain-requires-clause-plain
+take_plain-requires-clause-plain g c =
+    rw c.item_behind-item.ensures (record { field = shown-known c.args.front.field; annotations = c.requires.front.free; head = c.in-Some-shown_head.ensures.known })
+
+pub take_plain-requires-in-Begin-clause-plain : goal.take_plain-requires-in-Begin-clause-plain
+take_plain-requires-in-Begin-clause-plain g c =
+    rw (c.item_behind-item-in-Begin.ensures, c.unspelled.ensures) (record { field = shown-known c.args.front.field; annotations = c.requires.front.free; head = tt })
+
+pub take_plain-requires-clause-simple : goal.take_plain-requires-clause-simple
+take_plain-requires-clause-simple g c = rw c.item_behind-item.ensures (record { field = c.requires.front.name.simple; annotation = c.requires.front.simple })
+
+pub take_plain-requires-in-Begin-clause-simple : goal.take_plain-requires-in-Begin-clause-simple
+take_plain-requires-in-Begin-clause-simple g c =
+    rw (c.item_behind-item-in-Begin.ensures, c.unspelled.ensures) (record { field = c.requires.front.name.simple; annotation = c.requires.front.simple })
 
 pub take_plain-requires-clause-spelled : goal.take_plain-requires-clause-spelled
 take_plain-requires-clause-spelled g c = rw c.item_behind-item.ensures c.in-Some-shown_head.ensures.spelled
@@ -70,91 +86,119 @@ take_plain-requires-in-Begin-clause-path g c =
 pub take_plain-requires-in-Begin-clause-room : goal.take_plain-requires-in-Begin-clause-room
 take_plain-requires-in-Begin-clause-room g c = omega (arith, (c.push_within.ensures.cost c.if-not-push_within.false).held)
 
-pub returns-else-not-take_plain-clause-hands : goal.returns-else-not-take_plain-clause-hands
-returns-else-not-take_plain-clause-hands g c e =
-    let device = g.I.Input in
-    let w = g.W.ValueWriter in
-    let r = c.args.self.now in
-    let f = frame_in c.args.around.now in
-    let texts = g.N.Names.text c.args.names.now in
-    let inner = c.requires.around.innermost in
-    let front = c.requires.front in
-    let name = front.name in
-    let shows = rw c.in-Scalar.is at c.in-Some.ensures.shows in
-    let full = rw c.in-Scalar.is at c.in-Some.ensures.fills in
-    let v = front.gives (length (as_frames r.frames)) c.in-Some.behind (shown.Scalar c.in-Scalar.scalar) shows full in
-    let head = rw c.place-here.ensures at c.in-Some-shown_head.ensures.head in
-    let plain : PlainItem = record { field = c.args.front.field; annotation = c.args.front.annotation; head = c.in-Some-shown_head.shown.head; spelled = c.in-Some-shown_head.shown.spelled; place = c.place-here.result + c.args.front.head; top = c.top_at-top.result } in
-    let fits = scalar_fits r.limits.depth r.frames f texts (r.source.place + c.args.front.head) (shown_scalar c.in-Scalar.scalar) plain inner name.there head v.may_be in
-    let write = c.requires.can_hand.writer in
-    let taken = rw c.item_behind-item.ensures at c.if-not-take_plain.ensures in
-    let t = c.pass.new.self.source in
-    let top = top_of (innermost f) r.top r.source.place in
-    let seen = PlainItems.placed_item plain in
-    let item = placed_item top name.raw front.raws (r.source.place + c.args.front.head) (value.whole (placed_scalar (r.source.place + c.args.front.head) (shown_scalar c.in-Scalar.scalar))) in
-    let top_is : c.top_at-top.result ≡ top = c.top_at-top.ensures ∙ ap (top_of (innermost f) r.top) c.place-here.ensures in
-    let is : named_item texts item ≡ seen =
-    plain_seen texts top (r.source.place + c.args.front.head) name.raw front.raws (value.whole (placed_scalar (r.source.place + c.args.front.head) (shown_scalar c.in-Scalar.scalar))) plain name.named front.named head
-    (ap (λ n. n + c.args.front.head) c.place-here.ensures) top_is in
-    let gives : to_come device r.limits r.frames r.top r.source ≡ More item (to_come device r.limits r.frames top t) =
-    to_come-gives device r.limits r.frames r.frames r.top top r.source t item
-    (step_shown device r.limits (as_frames r.frames) f r.top c.in-Some.behind c.args.front.at c.args.front.head front.raws r.source t texts c.args.front.field (shown.Scalar c.in-Scalar.scalar) inner c.requires.goes_on name v c.pass.ensures.passed) in
-    let deep : Fits (w.limits c.args.writer.now).depth (opened_in r) seen = subst (λ n. Fits n (opened_in r) seen) (sym write.depth_of) fits in
-    rw c.pass.ensures.top (record {
-      hands = λ values. hands_by w (named_item texts) (device.observable r.source.device) (to_come device r.limits r.frames r.top r.source) (to_come device r.limits r.frames top t)
-          (opened_in r) (opened_in r) c.args.writer.now c.take_plain.new.self c.args.sink.now.pending c.take_plain.new.sink.pending values item seen is (λ _. gives)
-          (record { field = name.simple; annotations = front.simple; head = c.in-Some-shown_head.ensures.known })
-          (whole-opens texts (r.source.place + c.args.front.head) (shown_scalar c.in-Scalar.scalar) seen.head (opened_in r) head) deep
-          (whole-value texts (r.source.place + c.args.front.head) (shown_scalar c.in-Scalar.scalar) seen.head head) taken.same.1 (taken.stands refl) (taken.puts refl);
-      falls = falls_scalar r.source.limit r.source.place t.limit t.place c.args.front.at c.in-Some.behind (length r.frames) c.pass.ensures.passed.place c.pass.ensures.passed.limit v.further
-          (lent-CanPass r.source c.in-Some.behind v.within).1;
-      further = omega (arith, c.pass.ensures.passed.place);
-      total = IsPassed-total device.rest r.source t c.in-Some.behind (lent-CanPass r.source c.in-Some.behind v.within).0 c.pass.ensures.passed;
-      bytes = (IsPassed-moves device r.source t c.in-Some.behind v.within c.pass.ensures.passed).bytes;
-    })
+pub returns-else-not-take_plain-clause-handed : goal.returns-else-not-take_plain-clause-handed
+returns-else-not-take_plain-clause-handed g c = record {
+  hands = λ _.
+      let device = g.I.Input in
+      let w = g.W.ValueWriter in
+      let r = c.args.self.now in
+      let f = frame_in c.args.around.now in
+      let texts = g.N.Names.text c.args.names.now in
+      let inner = c.requires.around.innermost in
+      let front = c.requires.front in
+      let name = front.name in
+      let shows = rw c.in-Scalar.is at c.in-Some.ensures.shows in
+      let full = rw c.in-Scalar.is at c.in-Some.ensures.fills in
+      let v = front.gives (length (as_frames r.frames)) c.in-Some.behind (shown.Scalar c.in-Scalar.scalar) shows full in
+      let head = rw c.place-here.ensures at c.in-Some-shown_head.ensures.head in
+      let plain : PlainItem = record { field = c.args.front.field; annotation = c.args.front.annotation; head = c.in-Some-shown_head.shown.head; spelled = c.in-Some-shown_head.shown.spelled; place = c.place-here.result + c.args.front.head; top = c.top_at-top.result } in
+      let fits = scalar_fits r.limits.depth r.frames f texts (r.source.place + c.args.front.head) (shown_scalar c.in-Scalar.scalar) plain inner name.there head v.may_be in
+      let write = c.requires.can_hand.writer in
+      let taken = rw c.item_behind-item.ensures at c.if-not-take_plain.ensures in
+      let t = c.pass.new.self.source in
+      let top = top_of (innermost f) r.top r.source.place in
+      let seen = PlainItems.placed_item plain in
+      let item = placed_item top name.raw front.raws (r.source.place + c.args.front.head) (value.whole (placed_scalar (r.source.place + c.args.front.head) (shown_scalar c.in-Scalar.scalar))) in
+      let top_is : c.top_at-top.result ≡ top = c.top_at-top.ensures ∙ ap (top_of (innermost f) r.top) c.place-here.ensures in
+      let is : named_item texts item ≡ seen =
+      plain_seen texts top (r.source.place + c.args.front.head) name.raw front.raws (value.whole (placed_scalar (r.source.place + c.args.front.head) (shown_scalar c.in-Scalar.scalar))) plain name.named front.named head
+      (ap (λ n. n + c.args.front.head) c.place-here.ensures) top_is in
+      let gives : to_come device r.limits r.frames r.top r.source ≡ More item (to_come device r.limits r.frames top t) =
+      to_come-gives device r.limits r.frames r.frames r.top top r.source t item
+      (step_shown device r.limits (as_frames r.frames) f r.top c.in-Some.behind c.args.front.at c.args.front.head front.raws r.source t texts c.args.front.field (shown.Scalar c.in-Scalar.scalar) inner c.requires.goes_on name v c.pass.ensures.passed) in
+      let deep : Fits (w.limits c.args.writer.now).depth (opened_in r) seen = subst (λ n. Fits n (opened_in r) seen) (sym write.depth_of) fits in
+      rw c.pass.ensures.top (record {
+        hands = λ values. hands_by w (named_item texts) (device.observable r.source.device) (to_come device r.limits r.frames r.top r.source) (to_come device r.limits r.frames top t)
+            (opened_in r) (opened_in r) c.args.writer.now c.take_plain.new.self c.args.sink.now.pending c.take_plain.new.sink.pending values item seen is (λ _. gives)
+            (record { field = shown-known c.args.front.field; annotations = front.free; head = c.in-Some-shown_head.ensures.known })
+            (whole-opens texts (r.source.place + c.args.front.head) (shown_scalar c.in-Scalar.scalar) seen.head (opened_in r) head) deep
+            (whole-value texts (r.source.place + c.args.front.head) (shown_scalar c.in-Scalar.scalar) seen.head head) taken.same.1 (taken.stands refl) (taken.puts refl);
+        falls = falls_scalar r.source.limit r.source.place t.limit t.place c.args.front.at c.in-Some.behind (length r.frames) c.pass.ensures.passed.place c.pass.ensures.passed.limit v.further
+            (lent-CanPass r.source c.in-Some.behind v.within).1;
+        further = omega (arith, c.pass.ensures.passed.place);
+        total = IsPassed-total device.rest r.source t c.in-Some.behind (lent-CanPass r.source c.in-Some.behind v.within).0 c.pass.ensures.passed;
+        bytes = (IsPassed-moves device r.source t c.in-Some.behind v.within c.pass.ensures.passed).bytes;
+      });
+  nothing = λ e. absurd (cc e);
+  keeps = grind (arith, common_steps);
+  goes = search rules;
+}
 
-pub returns-else-not-take_plain-2-clause-hands : goal.returns-else-not-take_plain-2-clause-hands
-returns-else-not-take_plain-2-clause-hands g c e =
-    let device = g.I.Input in
-    let w = g.W.ValueWriter in
-    let r = c.args.self.now in
-    let f = frame_in c.args.around.now in
-    let texts = g.N.Names.text c.args.names.now in
-    let inner = c.requires.around.innermost in
-    let front = c.requires.front in
-    let name = front.name in
-    let shows = rw c.in-Begin.is at c.in-Some.ensures.shows in
-    let full = rw c.in-Begin.is at c.in-Some.ensures.fills in
-    let v = front.gives (length (as_frames r.frames)) c.in-Some.behind (shown.Begin c.in-Begin.kind c.in-Begin.end) shows full in
-    let plain : PlainItem = record { field = c.args.front.field; annotation = c.args.front.annotation; head = code.Begin c.in-Begin.kind; spelled = None; place = c.place-here.result + c.args.front.head; top = c.top_at-top.result } in
-    let few : length r.frames < r.limits.depth = subst (λ n. n < r.limits.depth) (as_frames-length r.frames) v.may_be in
-    let fits = begin_fits r.limits.depth r.frames f c.in-Begin.kind plain inner name.there refl few in
-    let write = c.requires.can_hand.writer in
-    let taken = rw (c.item_behind-item-in-Begin.ensures, c.unspelled.ensures) at c.if-not-take_plain-2.ensures in
-    let t = c.pass-in-Begin.new.self.source in
-    let top = top_of (innermost f) r.top r.source.place in
-    let seen = PlainItems.placed_item plain in
-    let item = placed_item top name.raw front.raws (r.source.place + c.args.front.head) (value.begin c.in-Begin.kind) in
-    let top_is : c.top_at-top.result ≡ top = c.top_at-top.ensures ∙ ap (top_of (innermost f) r.top) c.place-here.ensures in
-    let is : named_item texts item ≡ seen =
-    plain_seen texts top (r.source.place + c.args.front.head) name.raw front.raws (value.begin c.in-Begin.kind) plain name.named front.named refl (ap (λ n. n + c.args.front.head) c.place-here.ensures) top_is in
-    let frame : Frame = record { kind = c.in-Begin.kind; end = c.in-Begin.end } in
-    let pushed : c.push_within.new.self ≡ r.frames ++ frame ∷ [] = c.push_within.ensures.ok c.if-not-push_within.false in
-    let step = step_shown device r.limits (as_frames r.frames) f r.top c.in-Some.behind c.args.front.at c.args.front.head front.raws r.source t texts c.args.front.field (shown.Begin c.in-Begin.kind c.in-Begin.end) inner c.requires.goes_on name v c.pass-in-Begin.ensures.passed in
-    let opened : as_frames (r.frames ++ frame ∷ []) ≡ _ = as_frames-push r.frames frame in
-    let gives : to_come device r.limits r.frames r.top r.source ≡ More item (to_come device r.limits (r.frames ++ frame ∷ []) top t) =
-    to_come-gives device r.limits r.frames (r.frames ++ frame ∷ []) r.top top r.source t item (rw opened step) in
-    let deep : Fits (w.limits c.args.writer.now).depth (opened_in r) seen = subst (λ n. Fits n (opened_in r) seen) (sym write.depth_of) fits in
-    rw (c.pass-in-Begin.ensures.top, pushed) (record {
-      hands = λ values. hands_by w (named_item texts) (device.observable r.source.device) (to_come device r.limits r.frames r.top r.source) (to_come device r.limits (r.frames ++ frame ∷ []) top t)
-          (opened_in r) (kinds_of (r.frames ++ frame ∷ [])) c.args.writer.now c.take_plain-in-Begin.new.self c.args.sink.now.pending c.take_plain-in-Begin.new.sink.pending values item seen is (λ _. gives)
-          (record { field = name.simple; annotations = front.simple; head = tt }) (kinds_of-push r.frames frame) deep refl taken.same.1 (taken.stands refl) (taken.puts refl);
-      falls = falls_begin r.source.limit r.source.place t.limit t.place c.args.front.at c.in-Some.behind (length r.frames) (length (r.frames ++ frame ∷ [])) c.pass-in-Begin.ensures.passed.place
-          c.pass-in-Begin.ensures.passed.limit v.further (lent-CanPass r.source c.in-Some.behind v.within).1 (length_push r.frames frame);
-      further = omega (arith, c.pass-in-Begin.ensures.passed.place);
-      total = IsPassed-total device.rest r.source t c.in-Some.behind (lent-CanPass r.source c.in-Some.behind v.within).0 c.pass-in-Begin.ensures.passed;
-      bytes = (IsPassed-moves device r.source t c.in-Some.behind v.within c.pass-in-Begin.ensures.passed).bytes;
-    })
+pub returns-else-not-take_plain-2-clause-handed : goal.returns-else-not-take_plain-2-clause-handed
+returns-else-not-take_plain-2-clause-handed g c = record {
+  hands = λ _.
+      let device = g.I.Input in
+      let w = g.W.ValueWriter in
+      let r = c.args.self.now in
+      let f = frame_in c.args.around.now in
+      let texts = g.N.Names.text c.args.names.now in
+      let inner = c.requires.around.innermost in
+      let front = c.requires.front in
+      let name = front.name in
+      let shows = rw c.in-Begin.is at c.in-Some.ensures.shows in
+      let full = rw c.in-Begin.is at c.in-Some.ensures.fills in
+      let v = front.gives (length (as_frames r.frames)) c.in-Some.behind (shown.Begin c.in-Begin.kind c.in-Begin.end) shows full in
+      let plain : PlainItem = record { field = c.args.front.field; annotation = c.args.front.annotation; head = code.Begin c.in-Begin.kind; spelled = None; place = c.place-here.result + c.args.front.head; top = c.top_at-top.result } in
+      let few : length r.frames < r.limits.depth = subst (λ n. n < r.limits.depth) (as_frames-length r.frames) v.may_be in
+      let fits = begin_fits r.limits.depth r.frames f c.in-Begin.kind plain inner name.there refl few in
+      let write = c.requires.can_hand.writer in
+      let taken = rw (c.item_behind-item-in-Begin.ensures, c.unspelled.ensures) at c.if-not-take_plain-2.ensures in
+      let t = c.pass-in-Begin.new.self.source in
+      let top = top_of (innermost f) r.top r.source.place in
+      let seen = PlainItems.placed_item plain in
+      let item = placed_item top name.raw front.raws (r.source.place + c.args.front.head) (value.begin c.in-Begin.kind) in
+      let top_is : c.top_at-top.result ≡ top = c.top_at-top.ensures ∙ ap (top_of (innermost f) r.top) c.place-here.ensures in
+      let is : named_item texts item ≡ seen =
+      plain_seen texts top (r.source.place + c.args.front.head) name.raw front.raws (value.begin c.in-Begin.kind) plain name.named front.named refl (ap (λ n. n + c.args.front.head) c.place-here.ensures) top_is in
+      let frame : Frame = record { kind = c.in-Begin.kind; end = c.in-Begin.end } in
+      let pushed : c.push_within.new.self ≡ r.frames ++ frame ∷ [] = c.push_within.ensures.ok c.if-not-push_within.false in
+      let step = step_shown device r.limits (as_frames r.frames) f r.top c.in-Some.behind c.args.front.at c.args.front.head front.raws r.source t texts c.args.front.field (shown.Begin c.in-Begin.kind c.in-Begin.end) inner c.requires.goes_on name v c.pass-in-Begin.ensures.passed in
+      let opened : as_frames (r.frames ++ frame ∷ []) ≡ _ = as_frames-push r.frames frame in
+      let gives : to_come device r.limits r.frames r.top r.source ≡ More item (to_come device r.limits (r.frames ++ frame ∷ []) top t) =
+      to_come-gives device r.limits r.frames (r.frames ++ frame ∷ []) r.top top r.source t item (rw opened step) in
+      let deep : Fits (w.limits c.args.writer.now).depth (opened_in r) seen = subst (λ n. Fits n (opened_in r) seen) (sym write.depth_of) fits in
+      rw (c.pass-in-Begin.ensures.top, pushed) (record {
+        hands = λ values. hands_by w (named_item texts) (device.observable r.source.device) (to_come device r.limits r.frames r.top r.source) (to_come device r.limits (r.frames ++ frame ∷ []) top t)
+            (opened_in r) (kinds_of (r.frames ++ frame ∷ [])) c.args.writer.now c.take_plain-in-Begin.new.self c.args.sink.now.pending c.take_plain-in-Begin.new.sink.pending values item seen is (λ _. gives)
+            (record { field = shown-known c.args.front.field; annotations = front.free; head = tt }) (kinds_of-push r.frames frame) deep refl taken.same.1 (taken.stands refl) (taken.puts refl);
+        falls = falls_begin r.source.limit r.source.place t.limit t.place c.args.front.at c.in-Some.behind (length r.frames) (length (r.frames ++ frame ∷ [])) c.pass-in-Begin.ensures.passed.place
+            c.pass-in-Begin.ensures.passed.limit v.further (lent-CanPass r.source c.in-Some.behind v.within).1 (length_push r.frames frame);
+        further = omega (arith, c.pass-in-Begin.ensures.passed.place);
+        total = IsPassed-total device.rest r.source t c.in-Some.behind (lent-CanPass r.source c.in-Some.behind v.within).0 c.pass-in-Begin.ensures.passed;
+        bytes = (IsPassed-moves device r.source t c.in-Some.behind v.within c.pass-in-Begin.ensures.passed).bytes;
+      });
+  nothing = λ e. absurd (cc e);
+  keeps = record {
+    sized = grind (arith, common_steps);
+    stands = grind (arith, common_steps);
+    limits = grind (arith, common_steps);
+    failed = grind (arith, common_steps);
+    done = grind (arith, common_steps);
+    device = grind (arith, common_steps);
+    limit = grind (arith, common_steps);
+    writer = grind (arith, common_steps);
+    charges = record { held = grind (arith, common_steps); share = grind (arith, common_steps); peak = grind (arith, common_steps); rises = grind (arith, common_steps) };
+  };
+  goes = grind (arith, common_steps);
+}
+
+pub returns-then-not-take_plain-2-clause-handed : goal.returns-then-not-take_plain-2-clause-handed
+returns-then-not-take_plain-2-clause-handed g c = record {
+  hands = λ e. absurd (cc e);
+  nothing = λ _. grind (arith, common_steps);
+  keeps = grind (arith, common_steps);
+  goes = grind (arith, common_steps);
+}
 
 pub returns-else-not-take_plain-clause-around : goal.returns-else-not-take_plain-clause-around
 returns-else-not-take_plain-clause-around g c e = rw c.pass.ensures.top c.requires.around

@@ -1,4 +1,5 @@
 use Rattle.std.proofs.Common.{◌≡◌, ◌+◌, ◌<◌, ap, sym, subst, ◌∙◌, arith}
+use Rattle.std.proofs.lemmas.Grind.{common_steps}
 use Rattle.ion_meter.specs.declared.limits.Limits.{Limits}
 use Rattle.ion_value.specs.Items.{named_item}
 use Rattle.ion_value.specs.Outcome.{one_if_closed}
@@ -15,23 +16,23 @@ runs-init g c =
     (g.met.W.ValueWriter.within c.args.writer.now c.requires.writer.sound) c.requires.held
 
 pub hand_all-values-requires-clause-room : goal.hand_all-values-requires-clause-room
-hand_all-values-requires-clause-room g c = omega (arith, c.runs.invariant.charges.held, c.requires.room)
+hand_all-values-requires-clause-room g c = omega (arith, c.runs.invariant.keeps.charges.held, c.requires.room)
 
 pub hand_all-values-requires-clause-held : goal.hand_all-values-requires-clause-held
 hand_all-values-requires-clause-held g c =
     let w = g.W.ValueWriter in
-    held-again (held_by c.args.self.now + w.own c.args.writer.now) (held_by c.runs.self + w.own c.runs.writer) (share_of c.args.self.now + w.most c.args.writer.now) c.runs.invariant.charges c.requires.held
+    held-again (held_by c.args.self.now + w.own c.args.writer.now) (held_by c.runs.self + w.own c.runs.writer) (share_of c.args.self.now + w.most c.args.writer.now) c.runs.invariant.keeps.charges c.requires.held
 
 pub hand_all-values-requires-clause-countable : goal.hand_all-values-requires-clause-countable
-hand_all-values-requires-clause-countable g c = subst (λ n. n < 18446744073709551615) (sym c.runs.invariant.stays.refused) c.requires.countable
+hand_all-values-requires-clause-countable g c = subst (λ n. n < 18446744073709551615) (sym c.runs.invariant.keeps.writer.refused) c.requires.countable
 
 pub hand_all-values-requires-clause-sound : goal.hand_all-values-requires-clause-sound
 hand_all-values-requires-clause-sound g c =
-    let i = c.runs.invariant in
+    let i = c.runs.invariant.keeps in
     record { sized = i.sized; small = i.stands.small; stands = λ _. i.stands; one_ending = λ _. i.failed ∙ c.requires.fresh }
 
 pub hand_all-values-requires-clause-fresh : goal.hand_all-values-requires-clause-fresh
-hand_all-values-requires-clause-fresh g c = c.runs.invariant.failed ∙ c.requires.fresh
+hand_all-values-requires-clause-fresh g c = c.runs.invariant.keeps.failed ∙ c.requires.fresh
 
 pub hand_all-values-requires-clause-writer : goal.hand_all-values-requires-clause-writer
 hand_all-values-requires-clause-writer g c = c.runs.invariant.takes
@@ -74,30 +75,8 @@ runs-preserved g c =
     c.hand_all-values.new.meter c.hand_next_noted.new.meter c.hand_all-values.result c.values_behind-values.result c.hand_all-values.ensures.takes
     (c.hand_next_noted.ensures.hands c.if-not-hand_next_noted.false) c.hand_next_noted.ensures.keeps c.hand_next_noted.ensures.goes counts)
 
-pub returns-clause-sound : goal.returns-clause-sound
-returns-clause-sound g c =
-    let input = g.I.Input in
-    let w = g.W.ValueWriter in
-    let see = named_item (g.N.Names.text c.args.names.now) in
-    let r = c.args.self.now in
-    let run = hands_on-then input w see r c.runs.self c.hand_all-values.new.self c.args.writer.now c.runs.writer c.hand_all-values.new.writer c.args.sink.now c.runs.sink c.hand_all-values.new.sink c.args.meter.now
-    c.runs.meter c.hand_all-values.new.meter 0 c.runs.values c.hand_all-values.result c.requires.held c.runs.invariant c.hand_all-values.ensures in
-    let h = hands_on-then input w see r c.hand_all-values.new.self c.hand_next_noted.new.self c.args.writer.now c.hand_all-values.new.writer c.hand_next_noted.new.writer c.args.sink.now c.hand_all-values.new.sink
-    c.hand_next_noted.new.sink c.args.meter.now c.hand_all-values.new.meter c.hand_next_noted.new.meter 0 c.hand_all-values.result c.hand_all-values.result c.requires.held run
-    (hands_on-nothing input w see c.hand_all-values.new.self c.hand_next_noted.new.self c.hand_all-values.new.writer c.hand_next_noted.new.writer c.hand_all-values.new.sink c.hand_next_noted.new.sink
-    c.hand_all-values.new.meter c.hand_next_noted.new.meter c.hand_all-values.result c.hand_all-values.ensures.takes (c.hand_next_noted.ensures.nothing c.if-not-hand_next_noted.true) c.hand_next_noted.ensures.keeps) in (
-      record { sized = h.sized; small = h.stands.small; stands = λ _. h.stands; one_ending = λ _. h.failed ∙ c.requires.fresh },
-      λ d o.
-          let observable = subst input.observable h.same_device o in
-          let over = c.requires.sound.1 (sym h.done ∙ d) observable in (
-            finished-feeds w see (input.observable r.source.device) (joint input r c.args.writer.now c.args.sink.now 0)
-                (joint input c.hand_next_noted.new.self c.hand_next_noted.new.writer c.hand_next_noted.new.sink c.hand_all-values.result) h.feeds observable over.0,
-            nothing-left input r.source c.hand_next_noted.new.self.source h.further h.total over.1,
-          ),
-    )
-
-pub returns-clause-observable : goal.returns-clause-observable
-returns-clause-observable g c =
+pub returns : goal.returns
+returns g c =
     let input = g.I.Input in
     let w = g.W.ValueWriter in
     let see = named_item (g.N.Names.text c.args.names.now) in
@@ -108,116 +87,26 @@ returns-clause-observable g c =
     c.hand_next_noted.new.sink c.args.meter.now c.hand_all-values.new.meter c.hand_next_noted.new.meter 0 c.hand_all-values.result c.hand_all-values.result c.requires.held run
     (hands_on-nothing input w see c.hand_all-values.new.self c.hand_next_noted.new.self c.hand_all-values.new.writer c.hand_next_noted.new.writer c.hand_all-values.new.sink c.hand_next_noted.new.sink
     c.hand_all-values.new.meter c.hand_next_noted.new.meter c.hand_all-values.result c.hand_all-values.ensures.takes (c.hand_next_noted.ensures.nothing c.if-not-hand_next_noted.true) c.hand_next_noted.ensures.keeps) in
-    (λ o. subst input.observable h.same_device o, λ o. subst input.observable (sym h.same_device) o)
-
-pub returns-clause-feeds : goal.returns-clause-feeds
-returns-clause-feeds g c =
-    let input = g.I.Input in
-    let w = g.W.ValueWriter in
-    let see = named_item (g.N.Names.text c.args.names.now) in
-    let r = c.args.self.now in
-    let run = hands_on-then input w see r c.runs.self c.hand_all-values.new.self c.args.writer.now c.runs.writer c.hand_all-values.new.writer c.args.sink.now c.runs.sink c.hand_all-values.new.sink c.args.meter.now
-    c.runs.meter c.hand_all-values.new.meter 0 c.runs.values c.hand_all-values.result c.requires.held c.runs.invariant c.hand_all-values.ensures in
-    let h = hands_on-then input w see r c.hand_all-values.new.self c.hand_next_noted.new.self c.args.writer.now c.hand_all-values.new.writer c.hand_next_noted.new.writer c.args.sink.now c.hand_all-values.new.sink
-    c.hand_next_noted.new.sink c.args.meter.now c.hand_all-values.new.meter c.hand_next_noted.new.meter 0 c.hand_all-values.result c.hand_all-values.result c.requires.held run
-    (hands_on-nothing input w see c.hand_all-values.new.self c.hand_next_noted.new.self c.hand_all-values.new.writer c.hand_next_noted.new.writer c.hand_all-values.new.sink c.hand_next_noted.new.sink
-    c.hand_all-values.new.meter c.hand_next_noted.new.meter c.hand_all-values.result c.hand_all-values.ensures.takes (c.hand_next_noted.ensures.nothing c.if-not-hand_next_noted.true) c.hand_next_noted.ensures.keeps) in
-    h.feeds
-
-pub returns-clause-falls : goal.returns-clause-falls
-returns-clause-falls g c =
-    let input = g.I.Input in
-    let w = g.W.ValueWriter in
-    let see = named_item (g.N.Names.text c.args.names.now) in
-    let r = c.args.self.now in
-    let run = hands_on-then input w see r c.runs.self c.hand_all-values.new.self c.args.writer.now c.runs.writer c.hand_all-values.new.writer c.args.sink.now c.runs.sink c.hand_all-values.new.sink c.args.meter.now
-    c.runs.meter c.hand_all-values.new.meter 0 c.runs.values c.hand_all-values.result c.requires.held c.runs.invariant c.hand_all-values.ensures in
-    let h = hands_on-then input w see r c.hand_all-values.new.self c.hand_next_noted.new.self c.args.writer.now c.hand_all-values.new.writer c.hand_next_noted.new.writer c.args.sink.now c.hand_all-values.new.sink
-    c.hand_next_noted.new.sink c.args.meter.now c.hand_all-values.new.meter c.hand_next_noted.new.meter 0 c.hand_all-values.result c.hand_all-values.result c.requires.held run
-    (hands_on-nothing input w see c.hand_all-values.new.self c.hand_next_noted.new.self c.hand_all-values.new.writer c.hand_next_noted.new.writer c.hand_all-values.new.sink c.hand_next_noted.new.sink
-    c.hand_all-values.new.meter c.hand_next_noted.new.meter c.hand_all-values.result c.hand_all-values.ensures.takes (c.hand_next_noted.ensures.nothing c.if-not-hand_next_noted.true) c.hand_next_noted.ensures.keeps) in
-    omega (arith, h.falls)
-
-pub returns-clause-goes : goal.returns-clause-goes
-returns-clause-goes g c =
-    let input = g.I.Input in
-    let w = g.W.ValueWriter in
-    let see = named_item (g.N.Names.text c.args.names.now) in
-    let r = c.args.self.now in
-    let run = hands_on-then input w see r c.runs.self c.hand_all-values.new.self c.args.writer.now c.runs.writer c.hand_all-values.new.writer c.args.sink.now c.runs.sink c.hand_all-values.new.sink c.args.meter.now
-    c.runs.meter c.hand_all-values.new.meter 0 c.runs.values c.hand_all-values.result c.requires.held c.runs.invariant c.hand_all-values.ensures in
-    let h = hands_on-then input w see r c.hand_all-values.new.self c.hand_next_noted.new.self c.args.writer.now c.hand_all-values.new.writer c.hand_next_noted.new.writer c.args.sink.now c.hand_all-values.new.sink
-    c.hand_next_noted.new.sink c.args.meter.now c.hand_all-values.new.meter c.hand_next_noted.new.meter 0 c.hand_all-values.result c.hand_all-values.result c.requires.held run
-    (hands_on-nothing input w see c.hand_all-values.new.self c.hand_next_noted.new.self c.hand_all-values.new.writer c.hand_next_noted.new.writer c.hand_all-values.new.sink c.hand_next_noted.new.sink
-    c.hand_all-values.new.meter c.hand_next_noted.new.meter c.hand_all-values.result c.hand_all-values.ensures.takes (c.hand_next_noted.ensures.nothing c.if-not-hand_next_noted.true) c.hand_next_noted.ensures.keeps) in
-    h.goes
-
-pub returns-clause-same : goal.returns-clause-same
-returns-clause-same g c =
-    let input = g.I.Input in
-    let w = g.W.ValueWriter in
-    let see = named_item (g.N.Names.text c.args.names.now) in
-    let r = c.args.self.now in
-    let run = hands_on-then input w see r c.runs.self c.hand_all-values.new.self c.args.writer.now c.runs.writer c.hand_all-values.new.writer c.args.sink.now c.runs.sink c.hand_all-values.new.sink c.args.meter.now
-    c.runs.meter c.hand_all-values.new.meter 0 c.runs.values c.hand_all-values.result c.requires.held c.runs.invariant c.hand_all-values.ensures in
-    let h = hands_on-then input w see r c.hand_all-values.new.self c.hand_next_noted.new.self c.args.writer.now c.hand_all-values.new.writer c.hand_next_noted.new.writer c.args.sink.now c.hand_all-values.new.sink
-    c.hand_next_noted.new.sink c.args.meter.now c.hand_all-values.new.meter c.hand_next_noted.new.meter 0 c.hand_all-values.result c.hand_all-values.result c.requires.held run
-    (hands_on-nothing input w see c.hand_all-values.new.self c.hand_next_noted.new.self c.hand_all-values.new.writer c.hand_next_noted.new.writer c.hand_all-values.new.sink c.hand_next_noted.new.sink
-    c.hand_all-values.new.meter c.hand_next_noted.new.meter c.hand_all-values.result c.hand_all-values.ensures.takes (c.hand_next_noted.ensures.nothing c.if-not-hand_next_noted.true) c.hand_next_noted.ensures.keeps) in
-    (h.failed, ap (λ (l : Limits). l.depth) h.limits, ap most_of h.limits, ap input.failure_count h.same_device)
-
-pub returns-clause-exceeds : goal.returns-clause-exceeds
-returns-clause-exceeds g c =
-    let input = g.I.Input in
-    let w = g.W.ValueWriter in
-    let see = named_item (g.N.Names.text c.args.names.now) in
-    let r = c.args.self.now in
-    let run = hands_on-then input w see r c.runs.self c.hand_all-values.new.self c.args.writer.now c.runs.writer c.hand_all-values.new.writer c.args.sink.now c.runs.sink c.hand_all-values.new.sink c.args.meter.now
-    c.runs.meter c.hand_all-values.new.meter 0 c.runs.values c.hand_all-values.result c.requires.held c.runs.invariant c.hand_all-values.ensures in
-    let h = hands_on-then input w see r c.hand_all-values.new.self c.hand_next_noted.new.self c.args.writer.now c.hand_all-values.new.writer c.hand_next_noted.new.writer c.args.sink.now c.hand_all-values.new.sink
-    c.hand_next_noted.new.sink c.args.meter.now c.hand_all-values.new.meter c.hand_next_noted.new.meter 0 c.hand_all-values.result c.hand_all-values.result c.requires.held run
-    (hands_on-nothing input w see c.hand_all-values.new.self c.hand_next_noted.new.self c.hand_all-values.new.writer c.hand_next_noted.new.writer c.hand_all-values.new.sink c.hand_next_noted.new.sink
-    c.hand_all-values.new.meter c.hand_next_noted.new.meter c.hand_all-values.result c.hand_all-values.ensures.takes (c.hand_next_noted.ensures.nothing c.if-not-hand_next_noted.true) c.hand_next_noted.ensures.keeps) in
-    exceeds-same input r.source c.hand_next_noted.new.self.source h.same_device h.limit h.total
-
-pub returns-clause-bytes_left : goal.returns-clause-bytes_left
-returns-clause-bytes_left g c =
-    let input = g.I.Input in
-    let w = g.W.ValueWriter in
-    let see = named_item (g.N.Names.text c.args.names.now) in
-    let r = c.args.self.now in
-    let run = hands_on-then input w see r c.runs.self c.hand_all-values.new.self c.args.writer.now c.runs.writer c.hand_all-values.new.writer c.args.sink.now c.runs.sink c.hand_all-values.new.sink c.args.meter.now
-    c.runs.meter c.hand_all-values.new.meter 0 c.runs.values c.hand_all-values.result c.requires.held c.runs.invariant c.hand_all-values.ensures in
-    let h = hands_on-then input w see r c.hand_all-values.new.self c.hand_next_noted.new.self c.args.writer.now c.hand_all-values.new.writer c.hand_next_noted.new.writer c.args.sink.now c.hand_all-values.new.sink
-    c.hand_next_noted.new.sink c.args.meter.now c.hand_all-values.new.meter c.hand_next_noted.new.meter 0 c.hand_all-values.result c.hand_all-values.result c.requires.held run
-    (hands_on-nothing input w see c.hand_all-values.new.self c.hand_next_noted.new.self c.hand_all-values.new.writer c.hand_next_noted.new.writer c.hand_all-values.new.sink c.hand_next_noted.new.sink
-    c.hand_all-values.new.meter c.hand_next_noted.new.meter c.hand_all-values.result c.hand_all-values.ensures.takes (c.hand_next_noted.ensures.nothing c.if-not-hand_next_noted.true) c.hand_next_noted.ensures.keeps) in
-    h.bytes_left
-
-pub returns-clause-writer : goal.returns-clause-writer
-returns-clause-writer g c =
-    let input = g.I.Input in
-    let w = g.W.ValueWriter in
-    let see = named_item (g.N.Names.text c.args.names.now) in
-    let r = c.args.self.now in
-    let run = hands_on-then input w see r c.runs.self c.hand_all-values.new.self c.args.writer.now c.runs.writer c.hand_all-values.new.writer c.args.sink.now c.runs.sink c.hand_all-values.new.sink c.args.meter.now
-    c.runs.meter c.hand_all-values.new.meter 0 c.runs.values c.hand_all-values.result c.requires.held c.runs.invariant c.hand_all-values.ensures in
-    let h = hands_on-then input w see r c.hand_all-values.new.self c.hand_next_noted.new.self c.args.writer.now c.hand_all-values.new.writer c.hand_next_noted.new.writer c.args.sink.now c.hand_all-values.new.sink
-    c.hand_next_noted.new.sink c.args.meter.now c.hand_all-values.new.meter c.hand_next_noted.new.meter 0 c.hand_all-values.result c.hand_all-values.result c.requires.held run
-    (hands_on-nothing input w see c.hand_all-values.new.self c.hand_next_noted.new.self c.hand_all-values.new.writer c.hand_next_noted.new.writer c.hand_all-values.new.sink c.hand_next_noted.new.sink
-    c.hand_all-values.new.meter c.hand_next_noted.new.meter c.hand_all-values.result c.hand_all-values.ensures.takes (c.hand_next_noted.ensures.nothing c.if-not-hand_next_noted.true) c.hand_next_noted.ensures.keeps) in
-    h.stays
-
-pub returns-clause-charges : goal.returns-clause-charges
-returns-clause-charges g c =
-    let input = g.I.Input in
-    let w = g.W.ValueWriter in
-    let see = named_item (g.N.Names.text c.args.names.now) in
-    let r = c.args.self.now in
-    let run = hands_on-then input w see r c.runs.self c.hand_all-values.new.self c.args.writer.now c.runs.writer c.hand_all-values.new.writer c.args.sink.now c.runs.sink c.hand_all-values.new.sink c.args.meter.now
-    c.runs.meter c.hand_all-values.new.meter 0 c.runs.values c.hand_all-values.result c.requires.held c.runs.invariant c.hand_all-values.ensures in
-    let h = hands_on-then input w see r c.hand_all-values.new.self c.hand_next_noted.new.self c.args.writer.now c.hand_all-values.new.writer c.hand_next_noted.new.writer c.args.sink.now c.hand_all-values.new.sink
-    c.hand_next_noted.new.sink c.args.meter.now c.hand_all-values.new.meter c.hand_next_noted.new.meter 0 c.hand_all-values.result c.hand_all-values.result c.requires.held run
-    (hands_on-nothing input w see c.hand_all-values.new.self c.hand_next_noted.new.self c.hand_all-values.new.writer c.hand_next_noted.new.writer c.hand_all-values.new.sink c.hand_next_noted.new.sink
-    c.hand_all-values.new.meter c.hand_next_noted.new.meter c.hand_all-values.result c.hand_all-values.ensures.takes (c.hand_next_noted.ensures.nothing c.if-not-hand_next_noted.true) c.hand_next_noted.ensures.keeps) in
-    h.charges
+    record {
+      sound = (
+        record { sized = h.keeps.sized; small = h.keeps.stands.small; stands = λ _. h.keeps.stands; one_ending = λ _. h.keeps.failed ∙ c.requires.fresh },
+        λ d o.
+            let observable = subst input.observable h.keeps.device o in
+            let over = c.requires.sound.1 (sym h.keeps.done ∙ d) observable in (
+              finished-feeds w see (input.observable r.source.device) (joint input r c.args.writer.now c.args.sink.now 0)
+                  (joint input c.hand_next_noted.new.self c.hand_next_noted.new.writer c.hand_next_noted.new.sink c.hand_all-values.result) h.feeds observable over.0,
+              nothing-left input r.source c.hand_next_noted.new.self.source h.further h.total over.1,
+            ),
+      );
+      observable = (λ o. subst input.observable h.keeps.device o, λ o. subst input.observable (sym h.keeps.device) o);
+      feeds = h.feeds;
+      level = grind (arith, common_steps);
+      falls = omega (arith, h.falls);
+      same = (h.keeps.failed, ap (λ (l : Limits). l.depth) h.keeps.limits, ap most_of h.keeps.limits, ap input.failure_count h.keeps.device);
+      ended = λ over. h.keeps.done ∙ over;
+      exceeds = exceeds-same input r.source c.hand_next_noted.new.self.source h.keeps.device h.keeps.limit h.total;
+      bytes_left = h.bytes_left;
+      writer = h.keeps.writer;
+      charges = h.keeps.charges;
+      goes = h.goes;
+    }

@@ -1,4 +1,4 @@
-use Rattle.std.proofs.Common.{◌≡◌, ◌+◌, Some, refl, subst, arith}
+use Rattle.std.proofs.Common.{◌≡◌, ◌∙◌, Some, sym, subst, arith}
 use Rattle.ion_binary.specs.Lane.{frame_in}
 use Rattle.ion_binary.specs.Reading.{region_of}
 use Rattle.ion_binary.specs.Wrappers.{innermost}
@@ -12,8 +12,10 @@ overflow_add-place g c =
 
 pub returns : goal.returns
 returns g c =
-    let text = c.in-Some-simple_text.text in
+    let text = c.in-Some-shown_text.text in
+    let shown = c.in-Some-shown_text.ensures in
     let note = c.in-Some.note in
-    let has = subst (λ n. g.N.Names.text c.args.names.now n ≡ Some text.now) c.id_of.ensures c.in-Some-simple_text.ensures.0 in
+    let has = subst (λ n. g.N.Names.text c.args.names.now n ≡ Some text.text.now) c.id_of.ensures shown.text in
+    let free = sym c.begins_with_dollar.ensures ∙ c.if-begins_with_dollar.false in
     front_noted (g.N.Names.text c.args.names.now) c.args.limits c.args.octets.now c.args.here (innermost (frame_in c.args.around)) c.args.field c.args.at note.from note.inner note.end note.id
-    (record { text = text; place = c.args.here + note.from }) c.requires.field (c.in-Some.ensures (region_of (innermost (frame_in c.args.around))) (bounds_around c.args.around)) has c.in-Some-simple_text.ensures.1 refl
+    text c.requires.field (c.in-Some.ensures (region_of (innermost (frame_in c.args.around))) (bounds_around c.args.around)) has free shown.simple shown.place

@@ -1,22 +1,21 @@
 use Rattle.std.proofs.Common.{◌≡◌, ◌∙◌, ap, sym, Option, Some, refl, subst}
 use Rattle.ion_value.specs.declared.ion_type.Kind.{Kind}
 use Rattle.ion_value.specs.declared.ion_type.Kind.TheVariants as kind
-use Rattle.ion_value.specs.declared.plain_item.TextAt.{TextAt}
 use Rattle.ion_binary.specs.Lane.{ShowsField, frame_in}
 use Rattle.ion_binary.specs.Wrappers.{innermost}
 use Rattle.ion_binary.proofs.Handing.{shows_named}
 use Rattle.ion_binary.proofs.reader.lane.shown_field.Goals as goal
 
-pub returns-in-Some-simple_text : goal.returns-in-Some-simple_text
-returns-in-Some-simple_text g c =
-    let text = c.in-Some-simple_text.text in
+pub returns-in-Some-shown_text : goal.returns-in-Some-shown_text
+returns-in-Some-shown_text g c =
+    let name = c.in-Some-shown_text.name in
+    let shown = c.in-Some-shown_text.ensures in
     let texts = g.N.Names.text c.args.names.now in
     let octets = c.args.octets.now in
     let here = c.args.here in
     let end = c.args.around.end in
-    let named : TextAt = record { text = text; place = here } in
-    let has = subst (λ n. texts n ≡ Some text.now) c.id_of.ensures c.in-Some-simple_text.ensures.0 in
+    let has = subst (λ n. texts n ≡ Some name.text.now) c.id_of.ensures shown.text in
     let is : c.args.around.kind ≡ Some kind.Struct = c.in-Some.is ∙ ap Some c.in-Struct.is in
-    subst (λ (k : Option Kind). ShowsField texts octets here (innermost (frame_in (record { kind = k; end = end }))) (Some named) c.in-Some-shown_var.behind) (sym is)
-    (shows_named texts octets here (record { kind = kind.Struct; end = end }) c.in-Some-shown_var.id c.in-Some-shown_var.behind named refl
-    c.in-Some-shown_var.ensures.shows has c.in-Some-simple_text.ensures.1 refl)
+    subst (λ (k : Option Kind). ShowsField texts octets here (innermost (frame_in (record { kind = k; end = end }))) (Some name) c.in-Some-shown_var.behind) (sym is)
+    (shows_named texts octets here (record { kind = kind.Struct; end = end }) c.in-Some-shown_var.id c.in-Some-shown_var.behind name refl
+    c.in-Some-shown_var.ensures.shows has shown.simple shown.place)

@@ -7,7 +7,7 @@ use Rattle.ion_meter.specs.declared.limits.Limits.{Limits}
 use Rattle.ion_meter.specs.declared.fault.Reason.{Reason}
 use Rattle.ion_value.specs.declared.ion_type.Kind.{Kind}
 use Rattle.ion_value.specs.Digits.{first_is}
-use Rattle.ion_value.specs.Name.{begins_with, is_plain, is_version}
+use Rattle.ion_value.specs.Name.{begins_with, is_plain, is_simple, is_version}
 use Rattle.ion_value.specs.Parts.{part, ◌>>=◌}
 use Rattle.ion_value.specs.PlainItems.{IsKnownScalar}
 use Rattle.ion_value.specs.Reading.{More}
@@ -35,12 +35,12 @@ use Rattle.ion_text_in.proofs.FirstTokens.{no-colons}
 pub head-plain : (limits : Limits) (place n : ℕ) (first : First) (body : Scalar SymbolAt) (bytes rest : List ℕ) → IsKnownScalar body → InRange body → rest ≡ drop n bytes → 0 < n → n ≤ length bytes
     → ((place : ℕ) (more : List ℕ) → token_of (Some limits.scalar) first (at place (bytes ++ more)) ≡ Ok (tokens.plain body, at (place + n) (drop n bytes ++ more)))
     → IsBare bytes → 0 < length bytes → ((in_sexp : Bool) (more : List ℕ) → first_at in_sexp (bytes ++ more) ≡ first) → IsHead limits place bytes (value.whole body) rest
-head-plain limits place n first body bytes rest simple range behind counts within shown bare some begins =
+head-plain limits place n first body bytes rest known range behind counts within shown bare some begins =
     let long = length-drop n bytes in
     subst (λ (l : List ℕ). IsHead limits place bytes (value.whole body) l) (sym behind) (record {
       part = some-behind bytes n within;
       fewer = omega (arith, long, counts, within);
-      simple = simple;
+      known = known;
       range = range;
       member = λ kinds. refl;
       value = refl;
@@ -95,7 +95,7 @@ head-string limits place plain count bytes text rest inside behind shows bare so
     record {
       part = parts.0;
       fewer = parts.1;
-      simple = tt;
+      known = tt;
       range = tt;
       member = λ kinds. refl;
       value = refl;
@@ -111,6 +111,10 @@ head-string limits place plain count bytes text rest inside behind shows bare so
 not-told : (b : Bool) → not b ≡ true → b ≡ false
 not-told true e = absurd (cc e)
 not-told false e = refl
+
+-- a simple text begins with no dollar sign
+pub simple-free : (word : List ℕ) → is_simple word ≡ true → first_is (λ b. b == 36) word ≡ false
+simple-free word simple = not-told (first_is (λ b. b == 36) word) (and_parts (is_plain word) (not (first_is (λ b. b == 36) word)) simple).1
 
 no-version : (word : List ℕ) → first_is (λ b. b == 36) word ≡ false → is_version word ≡ false
 no-version [] e = refl
@@ -156,12 +160,11 @@ head-symbol limits place n bytes rest next behind word is told bare begins =
     let rest_long : length rest ≡ length (drop n bytes) = ap (λ (l : List ℕ). length l) behind in
     let within = word.within in
     let counts = word.some in
-    let parts = and_parts (is_plain (take n bytes)) (not (first_is (λ b. b == 36) (take n bytes))) word.simple in
-    let version = no-version (take n bytes) (not-told (first_is (λ b. b == 36) (take n bytes)) parts.1) in
+    let version = no-version (take n bytes) (simple-free (take n bytes) word.simple) in
     record {
       part = subst (λ (l : List ℕ). IsBehind bytes l) (sym behind) (some-behind bytes n within);
       fewer = omega (arith, long, rest_long, counts, within);
-      simple = tt;
+      known = tt;
       range = tt;
       member = λ kinds. refl;
       value = refl;
@@ -202,7 +205,7 @@ head-quoted limits place plain count bytes text rest next inside behind shows is
     record {
       part = parts.0;
       fewer = parts.1;
-      simple = tt;
+      known = tt;
       range = tt;
       member = λ kinds. refl;
       value = refl;

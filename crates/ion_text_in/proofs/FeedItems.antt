@@ -137,7 +137,7 @@ module _ {W O A : Type 0} (w : WriterOf W O A) (limits : Limits) (end : ℕ) whe
   end-stands kinds j outer top place opened = record {
     fits = record { place = rw opened (omega arith); field = refl; annotations = refl };
     value = refl;
-    simple = record { field = tt; annotations = tt; head = tt };
+    plain = record { field = tt; annotations = tt; head = tt };
   }
 
   pub moved-closed : (kinds left : List Kind) (j k : Kind) (spot new : Spot) (next : Next) (place : ℕ) (writer after : W) (sink behind : Outgoing O) (m x y : Counts)
@@ -199,7 +199,7 @@ module _ {W O A : Type 0} (w : WriterOf W O A) (limits : Limits) (end : ℕ) whe
       annotations = may-note head (notes start.note) head_is.value head_is.member;
     };
     value = head_is.value;
-    simple = record { field = start_is.simple; annotations = start_is.noted; head = head_is.simple };
+    plain = record { field = start_is.known; annotations = start_is.free; head = head_is.known };
   }
 
   pub moved-head : (kinds left : List Kind) (spot new : Spot) (start : Start) (head : Head SymbolAt) (writer after : W) (sink behind : Outgoing O) (m y : Counts)

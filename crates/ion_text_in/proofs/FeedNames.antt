@@ -214,7 +214,7 @@ named-start limits place n next start text colon is bare here bytes begins told 
       text = text;
       is = is;
       bare = bare;
-      simple = ap (λ (l : List ℕ). is_simple l) bytes ∙ word.simple;
+      simple = λ _. ap (λ (l : List ℕ). is_simple l) bytes ∙ word.simple;
       some = told;
       onward = λ kinds top.
           subst (λ (s : SymbolAt). Onward limits kinds top place a_field next.rest.now (a_value (Some s) []) start.next.rest.now) name
@@ -229,8 +229,10 @@ start-field limits spot place named next (Some s) field is here h =
     let passes = is.passes (is.some h.some) in
     let fewer = passes.fewer in
     record {
-      simple = rw h.is h.simple;
-      noted = rw h.bare tt;
+      known = rw h.is tt;
+      free = rw h.bare tt;
+      field = rw h.is h.simple;
+      note = rw h.bare tt;
       onward = λ kinds may.
           rw (h.is, h.bare, field) (onward-then limits kinds spot.top place named a_field a_field (a_value (Some (placed_text h.text)) []) spot.rest.now next.rest.now s.next.rest.now (omega (arith, here, fewer))
           (onward-blanks limits kinds spot.top place a_field spot.rest.now next.rest.now passes) (h.onward kinds spot.top));

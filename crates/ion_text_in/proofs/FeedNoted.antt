@@ -1,5 +1,5 @@
 -- An annotation in a lane.
-use Rattle.std.proofs.Common.{◌≡◌, ℕ, ◌+◌, ◌-◌, ◌<◌, ◌≤◌, Bool, true, false, nat_lt, List, [], ◌∷◌, ◌++◌, length, take, drop, get_or, Option, Some, None, Ok, refl, sym, ap, subst, ◌∙◌, arith}
+use Rattle.std.proofs.Common.{◌≡◌, ℕ, ◌+◌, ◌-◌, ◌<◌, ◌≤◌, Bool, true, false, ◌==◌, nat_lt, List, [], ◌∷◌, ◌++◌, length, take, drop, get_or, Option, Some, None, Ok, refl, sym, ap, subst, ◌∙◌, arith}
 use Rattle.std.specs.Prelude.{option_map, sum_by}
 use Rattle.std.proofs.lemmas.List.{length-drop, length-take-le}
 use Rattle.ion_meter.specs.Sources.{Cursor, skip}
@@ -7,6 +7,7 @@ use Rattle.ion_meter.specs.declared.limits.Limits.{Limits}
 use Rattle.ion_meter.specs.declared.fault.Reason.TheVariants.{AnnotationLimit}
 use Rattle.ion_value.specs.declared.ion_type.Kind.{Kind}
 use Rattle.ion_value.specs.declared.plain_item.TextAt.{TextAt}
+use Rattle.ion_value.specs.Digits.{first_is}
 use Rattle.ion_value.specs.Name.{is_simple}
 use Rattle.ion_value.specs.Parts.{part, refuse, ◌>>◌}
 use Rattle.ion_value.specs.PlainItems.{placed_text}
@@ -25,6 +26,7 @@ use Rattle.ion_text_in.specs.Steps.{comes, later}
 use Rattle.ion_text_in.specs.Token as tokens
 use Rattle.ion_text_in.specs.Token.{First, first_at}
 use Rattle.ion_text_in.proofs.BlankTurns.{no-slash}
+use Rattle.ion_text_in.proofs.FeedHeads.{simple-free}
 use Rattle.ion_text_in.proofs.FeedReading.{behind-then, later-token, may-value, onward-blanks, onward-then, some-behind}
 
 not-less : (n m : ℕ) → m ≤ n → nat_lt n m ≡ false
@@ -105,7 +107,8 @@ note-behind limits place n start noted text is same here bytes begins first word
       text = text;
       is = is;
       same = same;
-      simple = ap (λ (l : List ℕ). is_simple l) bytes ∙ word.simple;
+      simple = λ _. ap (λ (l : List ℕ). is_simple l) bytes ∙ word.simple;
+      free = ap (λ (l : List ℕ). first_is (λ b. b == 36) l) bytes ∙ simple-free (take n start.next.rest.now) word.simple;
       onward = λ kinds top field.
           subst (λ (s : SymbolAt). Onward limits kinds top place (a_value field []) start.next.rest.now (a_value field (s ∷ [])) noted.next.rest.now) name
           (onward-note limits kinds top place field n start.next.rest.now noted.next.rest.now begins.bare first word two bare colons costs passes);
@@ -119,8 +122,10 @@ start-noted limits spot end start noted within is bare h =
     let at_spot : ℕ = end - length spot.rest.now in
     let at_start : ℕ = end - length start.next.rest.now in
     record {
-      simple = rw h.same is.simple;
-      noted = rw h.is (h.simple, tt);
+      known = rw h.same is.known;
+      free = rw h.is (h.free, tt);
+      field = rw h.same is.field;
+      note = rw h.is h.simple;
       onward = λ kinds may.
           let before = is.onward kinds may in
           let fewer = before.fewer in

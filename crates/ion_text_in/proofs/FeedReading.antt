@@ -248,7 +248,7 @@ head-begin limits place k bytes rest behind bare some begins =
     subst (λ (l : List ℕ). IsHead limits place bytes (value.begin k) l) (sym behind) (record {
       part = some-behind bytes 1 (omega (arith, some));
       fewer = omega (arith, long, some);
-      simple = tt;
+      known = tt;
       range = tt;
       member = λ kinds. refl;
       value = refl;
@@ -270,7 +270,7 @@ head-number limits place x bytes rest head is behind counts shows range bare som
     (subst (λ (l : List ℕ). IsHead limits place bytes (value.whole (as_number (as_quick x))) l) (sym behind) (record {
       part = some-behind bytes x.count n;
       fewer = omega (arith, long, counts, n);
-      simple = number-simple (as_quick x);
+      known = number-simple (as_quick x);
       range = range;
       member = λ kinds. refl;
       value = refl;
@@ -299,8 +299,10 @@ start-value limits spot place next (Some s) value is none bare same some =
     let at_next : Begins next = record { some = some; tells = is.tells; bare = passes.bare } in
     let begins : Begins s.next = subst (λ (n : Next). Begins n) (sym same) at_next in
     record {
-      simple = rw none tt;
-      noted = rw bare tt;
+      known = rw none tt;
+      free = rw bare tt;
+      field = rw none tt;
+      note = rw bare tt;
       onward = λ kinds may. rw (none, bare, same, value) (onward-blanks limits kinds spot.top place (a_value None []) spot.rest.now next.rest.now passes);
       named = λ kinds may. rw none (subst (λ (e : Expected). MayExpect e kinds None []) value may);
       begins = begins;

@@ -11,7 +11,7 @@ use Rattle.ion_value.specs.declared.writer.ValueWriter.{Ghosts as WriterOf}
 use Rattle.ion_value.specs.Feeding.{CanTake, Feeds, Joint, StaysWell}
 use Rattle.ion_value.specs.Items.{named_item, raw_head}
 use Rattle.ion_value.specs.Parts.{Placed}
-use Rattle.ion_value.specs.PlainItems.{listed, placed_text, AreSimple, HasSimpleName, IsKnownHead, IsTextOf}
+use Rattle.ion_value.specs.PlainItems.{listed, placed_text, HasKnownName, HasNoDollar, HaveNoDollar, IsKnownHead, IsRightlySimple, IsTextOf}
 use Rattle.ion_value.specs.Reading.{More}
 use Rattle.ion_value.specs.Shares.{Charges}
 use Rattle.ion_value.specs.Standing.{open_after, in_struct, has_field, is_marker, HasPlace, HeadInRange, WritesWithin}
@@ -145,7 +145,7 @@ pub record IsNamed (limits : Limits) (place : ℕ) (next : Next) (start : Start)
   pub text : TextAt
   pub is : start.field ≡ Some text
   pub bare : start.note ≡ None
-  pub simple : is_simple text.text.now ≡ true
+  pub simple : IsRightlySimple text
   pub some : 0 < next.told
   pub onward : (kinds : List Kind) (top : ℕ) → Onward limits kinds top place a_field next.rest.now (a_value (Some (placed_text text)) []) start.next.rest.now
   pub begins : Begins start.next
@@ -155,7 +155,8 @@ pub record IsNoted (limits : Limits) (place : ℕ) (start noted : Start) : Type 
   pub text : TextAt
   pub is : noted.note ≡ Some text
   pub same : noted.field ≡ start.field
-  pub simple : is_simple text.text.now ≡ true
+  pub simple : IsRightlySimple text
+  pub free : HasNoDollar (value.Text text.text.now)
   pub onward : (kinds : List Kind) (top : ℕ) (field : Option SymbolAt)
       → Onward limits kinds top place (a_value field []) start.next.rest.now (a_value field (placed_text text ∷ [])) noted.next.rest.now
   pub begins : Begins noted.next
@@ -166,8 +167,10 @@ expected_of spot = expected_in spot.separator spot.kind
 
 -- a value begins here, behind the name of a field where one must come, and behind an annotation if it has one
 pub record IsStart (limits : Limits) (spot : Spot) (place : ℕ) (start : Start) : Type 0 where
-  pub simple : HasSimpleName (option_map placed_text start.field)
-  pub noted : AreSimple (notes start.note)
+  pub known : HasKnownName (option_map placed_text start.field)
+  pub free : HaveNoDollar (notes start.note)
+  pub field : IfSome start.field IsRightlySimple
+  pub note : IfSome start.note IsRightlySimple
   pub onward : (kinds : List Kind) → MayExpect (expected_of spot) kinds None []
       → Onward limits kinds spot.top place (wanted (expected_of spot) None []) spot.rest.now (a_value (option_map placed_text start.field) (notes start.note)) start.next.rest.now
   pub named : (kinds : List Kind) → MayExpect (expected_of spot) kinds None [] → is_some start.field ≡ in_struct kinds
@@ -177,7 +180,7 @@ pub record IsStart (limits : Limits) (spot : Spot) (place : ℕ) (start : Start)
 pub record IsHead (limits : Limits) (place : ℕ) (bytes : List ℕ) (head : Head SymbolAt) (rest : List ℕ) : Type 0 where
   pub part : IsBehind bytes rest
   pub fewer : length rest < length bytes
-  pub simple : IsKnownHead head
+  pub known : IsKnownHead head
   pub range : HeadInRange head
   pub member : (kinds : List Kind) → has_field kinds head ≡ in_struct kinds
   pub value : is_marker head ≡ false

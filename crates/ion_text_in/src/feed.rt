@@ -247,6 +247,7 @@ fn field_start<'a>(next: Next<'a>, limits: Limits, place: u64) -> Option<Start<'
     }
     let name = TextAt {
         text: front(count, next.rest),
+        simple: true,
         place,
     };
     Some(Start {

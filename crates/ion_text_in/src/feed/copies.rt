@@ -56,6 +56,7 @@ fn text_for_call<'a>(text: Option<TextAt<'a>>) -> Option<TextAt<'a>>
     match text {
         Some(text) => Some(TextAt {
             text: text.text,
+            simple: text.simple,
             place: text.place,
         }),
         None => None,

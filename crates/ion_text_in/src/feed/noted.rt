@@ -32,6 +32,7 @@ pub(super) fn noted<'a>(
     }
     let text = TextAt {
         text: front(count, start.next.rest),
+        simple: true,
         place,
     };
     Some(Start {

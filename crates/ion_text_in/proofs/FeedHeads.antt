@@ -57,12 +57,12 @@ text-taken : (limits : Limits) (kinds : List Kind) (top place : ℕ) (field : Op
 unfolding taken
 text-taken limits kinds top place field annotations bytes c = refl
 
-short-token : (limit : Option ℕ) (c d : Cursor) (bytes : List ℕ) → text_at (short_quote false) limit (skip 1 c) ≡ Ok (bytes, d) → token_of limit tokens.a_short c ≡ Ok (tokens.text bytes, d)
+pub short-token : (limit : Option ℕ) (c d : Cursor) (bytes : List ℕ) → text_at (short_quote false) limit (skip 1 c) ≡ Ok (bytes, d) → token_of limit tokens.a_short c ≡ Ok (tokens.text bytes, d)
 unfolding token_of
 short-token limit c d bytes e = ap (λ (o : Result (List ℕ × Cursor) Reason). o >>= (λ t. Ok (tokens.text t.0, t.1))) e
 
 -- the text between such quotes, behind the first of them
-text-inside : (quote : Quote) (limit : Option ℕ) (place q plain count : ℕ) (bytes text rest more : List ℕ) → text ≡ drop 1 bytes → rest ≡ drop count text
+pub text-inside : (quote : Quote) (limit : Option ℕ) (place q plain count : ℕ) (bytes text rest more : List ℕ) → text ≡ drop 1 bytes → rest ≡ drop count text
     → Shows (λ n. take n text) text (Whole plain count) (λ c. text_at quote limit c) → 0 < length bytes → place + length bytes ≡ q + length rest
     → text_at quote limit (skip 1 (at place (bytes ++ more))) ≡ Ok (take plain text, at q (rest ++ more))
 text-inside quote limit place q plain count bytes text rest more inside behind shows some e =
@@ -77,7 +77,7 @@ text-inside quote limit place q plain count bytes text rest more inside behind s
     ∙ (ap (λ (k : ℕ). Ok (take plain text, at k (drop count text ++ more))) q_is ∙ ap (λ (l : List ℕ). Ok (take plain text, at q (l ++ more))) (sym behind)))
 
 -- what stands behind the closing quote
-behind-inside : (count : ℕ) (bytes text rest : List ℕ) → text ≡ drop 1 bytes → rest ≡ drop count text → count ≤ length text → 0 < length bytes → IsBehind bytes rest × (length rest < length bytes)
+pub behind-inside : (count : ℕ) (bytes text rest : List ℕ) → text ≡ drop 1 bytes → rest ≡ drop count text → count ≤ length text → 0 < length bytes → IsBehind bytes rest × (length rest < length bytes)
 behind-inside count bytes text rest inside behind within some =
     let one = length-drop 1 bytes in
     let text_long : length text ≡ length (drop 1 bytes) = ap (λ (l : List ℕ). length l) inside in
@@ -192,7 +192,7 @@ quote-first (a ∷ []) two first other sexp more = absurd (omega (arith, two))
 quote-first (a ∷ b ∷ bytes) two first other sexp more =
     ap (λ (x : ℕ). first_at sexp (x ∷ b ∷ (bytes ++ more))) first ∙ one-quote sexp b (bytes ++ more) (other-quote b (not-told (b == 39) other))
 
-quoted-token : (limit : Option ℕ) (c d : Cursor) (bytes : List ℕ) → text_at symbol_quote limit (skip 1 c) ≡ Ok (bytes, d) → token_of limit tokens.a_quoted c ≡ Ok (tokens.name true (value.Text bytes), d)
+pub quoted-token : (limit : Option ℕ) (c d : Cursor) (bytes : List ℕ) → text_at symbol_quote limit (skip 1 c) ≡ Ok (bytes, d) → token_of limit tokens.a_quoted c ≡ Ok (tokens.name true (value.Text bytes), d)
 unfolding token_of
 quoted-token limit c d bytes e = ap (λ (o : Result (List ℕ × Cursor) Reason). o >>= (λ t. Ok (tokens.name true (value.Text t.0), t.1))) e
 

@@ -10,10 +10,10 @@ use Rattle.ion_value.specs.declared.plain_item.TextAt.{TextAt}
 use Rattle.ion_value.specs.Digits.{all_are, first_is}
 use Rattle.ion_value.specs.Name.{Keyword, a_null, a_bool, a_nan, is_id, is_identifier_byte, is_identifier_start, is_simple, is_version, keyword}
 use Rattle.ion_value.specs.Parts.{Placed, ◌>>=◌}
-use Rattle.ion_value.specs.PlainItems.{placed_text}
+use Rattle.ion_value.specs.PlainItems.{placed_text, IsRightlySimple}
 use Rattle.ion_value.specs.Value as value
 use Rattle.ion_value.specs.Value.{SymbolAt, Symbol}
-use Rattle.ion_text_in.specs.Feeding.{expected_of, Begins, IfName, IsBare, IsBegun, IsNamed, IsNext, IsSimpleWord, IsStart, Onward, PassesBlanks, ToColon}
+use Rattle.ion_text_in.specs.Feeding.{expected_of, state, Begins, IfName, IsBare, IsBegun, IsBehind, IsBehindName, IsNamed, IsNext, IsSimpleWord, IsStart, Onward, PassesBlanks, ToColon}
 use Rattle.ion_text_in.specs.declared.expected.Expected.{Expected}
 use Rattle.ion_text_in.specs.declared.expected.Expected.TheVariants as codes_of
 use Rattle.ion_text_in.specs.declared.feed.Next.{Next}
@@ -23,7 +23,6 @@ use Rattle.ion_text_in.specs.declared.scanned.Scanned.TheVariants.{Whole}
 use Rattle.ion_text_in.specs.declared.word.Word.{Word}
 use Rattle.ion_text_in.specs.declared.word.Word.TheVariants as word
 use Rattle.ion_text_in.specs.Expecting.{MayExpect}
-use Rattle.ion_text_in.specs.Firsts.{numbered}
 use Rattle.ion_text_in.specs.Meaning.{at}
 use Rattle.ion_text_in.specs.Places.{run_of}
 use Rattle.ion_text_in.specs.Positions.{Wants, a_field, a_value}
@@ -32,7 +31,7 @@ use Rattle.ion_text_in.specs.Reading.{take as taken, may_come, colon_from, colon
 use Rattle.ion_text_in.specs.Runs.{EndBehind}
 use Rattle.ion_text_in.specs.Steps.{comes, later}
 use Rattle.ion_text_in.specs.Token as tokens
-use Rattle.ion_text_in.specs.Token.{Token, by_keyword, first_at, in_word, token_of, word_of, word_token}
+use Rattle.ion_text_in.specs.Token.{First, Token, by_keyword, first_at, in_word, token_of, word_of, word_token}
 use Rattle.ion_text_in.specs.Views.{AreShown, may_be_keyword, word_token_of}
 use Rattle.ion_text_in.proofs.FeedReading.{behind-then, some-behind, later-token, mark-behind, onward-blanks, onward-then}
 use Rattle.ion_text_in.proofs.ShownTokens.{word-shown}
@@ -160,73 +159,103 @@ begun-name limit n bytes word.Name begun token = begun-simple limit n bytes begu
 
 -- ---- names of fields
 
-may-name : may_come a_field tokens.a_word ≡ true
-unfolding may_come
-may-name = refl
+-- a name stands at the front of some bytes, and these behind it
+pub record IsName (limits : Limits) (place : ℕ) (bytes : List ℕ) (name : TextAt) (rest : List ℕ) : Type 0 where
+  pub behind : IsBehind bytes rest
+  pub fewer : length rest ≤ length bytes
+  pub same : (kinds : List Kind) (top q : ℕ) (more : List ℕ) → place + length bytes ≡ q + length rest
+      → later limits (state kinds top a_field place (bytes ++ more)) ≡ comes limits (field_step kinds top (placed_text name) (at q (rest ++ more)))
 
-field-taken : (limits : Limits) (kinds : List Kind) (top place : ℕ) (name : List ℕ) (c : Cursor)
-    → comes limits (taken limits kinds top a_field place (tokens.name false (value.Text name)) c) ≡ comes limits (field_step kinds top (positions.at (value.Text name) place) c)
+-- a symbol by the text that was read of it
+pub read-text : (text : TextAt) (place : ℕ) (word : List ℕ) → text.place ≡ place → text.text.now ≡ word → positions.at (value.Text word) place ≡ placed_text text
+read-text text place word here is =
+    ap (λ (l : List ℕ). positions.at (value.Text l) place) (sym is) ∙ ap (λ (p : ℕ). positions.at (value.Text text.text.now) p) (sym here)
+
+-- a token that names a field
+pub name-token : (limits : Limits) (place : ℕ) (first : First) (token : Token) (name : TextAt) (bytes rest : List ℕ) → IsBehind bytes rest → length rest ≤ length bytes
+    → IsBare bytes → 0 < length bytes → ((in_sexp : Bool) (more : List ℕ) → first_at in_sexp (bytes ++ more) ≡ first) → may_come a_field first ≡ true
+    → ((q : ℕ) (more : List ℕ) → place + length bytes ≡ q + length rest → token_of (Some limits.scalar) first (at place (bytes ++ more)) ≡ Ok (token, at q (rest ++ more)))
+    → ((kinds : List Kind) (top : ℕ) (c : Cursor) → comes limits (taken limits kinds top a_field place token c) ≡ comes limits (field_step kinds top (placed_text name) c))
+    → IsName limits place bytes name rest
+name-token limits place first token name bytes rest behind fewer bare some begins may shown names = record {
+  behind = behind;
+  fewer = fewer;
+  same = λ kinds top q more e. later-token limits kinds top place q a_field bytes rest more first token bare some begins may (shown q more e) ∙ names kinds top (at q (rest ++ more));
+}
+
+-- a symbol names one
+pub symbol-names : (limits : Limits) (place : ℕ) (quoted : Bool) (name : TextAt) (word : List ℕ) → name.place ≡ place → name.text.now ≡ word → (kinds : List Kind) (top : ℕ) (c : Cursor)
+    → comes limits (taken limits kinds top a_field place (tokens.name quoted (value.Text word)) c) ≡ comes limits (field_step kinds top (placed_text name) c)
 unfolding taken
-field-taken limits kinds top place name c = refl
+symbol-names limits place quoted name word here is kinds top c = ap (λ (a : SymbolAt). comes limits (field_step kinds top a c)) (read-text name place word here is)
+
+may-word : may_come a_field tokens.a_word ≡ true
+unfolding may_come
+may-word = refl
+
+pub name-word : (limits : Limits) (place n : ℕ) (name : TextAt) (bytes rest : List ℕ) → name.place ≡ place → name.text.now ≡ take n bytes → rest ≡ drop n bytes
+    → IsBare bytes → ((in_sexp : Bool) (more : List ℕ) → first_at in_sexp (bytes ++ more) ≡ tokens.a_word) → IsSimpleWord limits.scalar bytes n → IsName limits place bytes name rest
+name-word limits place n name bytes rest here is behind bare begins word =
+    let within = word.within in
+    let some = word.some in
+    let long = length-drop n bytes in
+    subst (λ (l : List ℕ). IsName limits place bytes name l) (sym behind)
+    (name-token limits place tokens.a_word (tokens.name false (value.Text (take n bytes))) name bytes (drop n bytes) (some-behind bytes n within) (omega (arith, long)) bare (omega (arith, within, some)) begins may-word
+    (λ q more e.
+    let q_is : place + n ≡ q = omega (arith, e, long, within) in
+    word.shown place more ∙ ap (λ (k : ℕ). Ok (tokens.name false (value.Text (take n bytes)), at k (drop n bytes ++ more))) q_is)
+    (symbol-names limits place false name (take n bytes) here is))
 
 colon-there : (kinds : List Kind) (top : ℕ) (a : SymbolAt) (c : Cursor) (rest more : List ℕ) → 0 < length rest → first_at false (rest ++ more) ≡ tokens.a_colon
     → colon_from kinds top a c (rest ++ more) ≡ colon_of kinds top a c tokens.a_colon
 colon-there kinds top a c [] more some first = absurd (omega (arith, some))
 colon-there kinds top a c (b ∷ rest) more some first = ap (colon_of kinds top a c) first
 
-pub onward-name : (limits : Limits) (kinds : List Kind) (top place n : ℕ) (bytes colon rest : List ℕ) → IsBare bytes → ((in_sexp : Bool) (more : List ℕ) → first_at in_sexp (bytes ++ more) ≡ tokens.a_word)
-    → IsSimpleWord limits.scalar bytes n → ToColon (drop n bytes) colon → PassesBlanks (drop 1 colon) rest
-    → Onward limits kinds top place a_field bytes (a_value (Some (positions.at (value.Text (take n bytes)) place)) []) rest
-onward-name limits kinds top place n bytes colon rest bare begins word to_colon passes =
-    let within = word.within in
-    let some = word.some in
-    let long = length-drop n bytes in
+-- the name, the colon and the blanks behind it
+onward-name : (limits : Limits) (kinds : List Kind) (top place : ℕ) (name : TextAt) (bytes behind colon rest : List ℕ) → IsName limits place bytes name behind → ToColon behind colon → PassesBlanks (drop 1 colon) rest
+    → Onward limits kinds top place a_field bytes (a_value (Some (placed_text name)) []) rest
+onward-name limits kinds top place name bytes behind colon rest is to_colon passes =
+    let first = is.fewer in
     let one = length-drop 1 colon in
     let fewer = to_colon.passes.fewer in
     let there = to_colon.some in
     let last = passes.fewer in
-    let a = positions.at (value.Text (take n bytes)) place in
+    let a = placed_text name in
     let wants : Wants = a_value (Some a) [] in
     record {
       part = behind-then bytes (drop 1 colon) rest
-          (behind-then bytes colon (drop 1 colon) (behind-then bytes (drop n bytes) colon (some-behind bytes n within) to_colon.passes.part) (some-behind colon 1 (omega (arith, there)))) passes.part;
-      fewer = omega (arith, long, one, fewer, last);
+          (behind-then bytes colon (drop 1 colon) (behind-then bytes behind colon is.behind to_colon.passes.part) (some-behind colon 1 (omega (arith, there)))) passes.part;
+      fewer = omega (arith, first, one, fewer, last);
       same = λ q more e.
-          let colon_place : ℕ = place + (length bytes - length colon) in
-          let behind_place : ℕ = colon_place + 1 in
-          later-token limits kinds top place (place + n) a_field bytes (drop n bytes) more tokens.a_word (tokens.name false (value.Text (take n bytes))) bare (omega (arith, within, some)) begins may-name (word.shown place more)
-          ∙ (field-taken limits kinds top place (take n bytes) (at (place + n) (drop n bytes ++ more))
-          ∙ (ap (λ (o : Placed Cursor). comes limits (o >>= (λ d. colon_from kinds top a d d.rest))) (to_colon.passes.blank (place + n) colon_place more (omega (arith, long, within, fewer)))
+          let behind_place : ℕ = place + (length bytes - length behind) in
+          let colon_place : ℕ = behind_place + (length behind - length colon) in
+          let value_place : ℕ = colon_place + 1 in
+          is.same kinds top behind_place more (omega (arith, first))
+          ∙ (ap (λ (o : Placed Cursor). comes limits (o >>= (λ d. colon_from kinds top a d d.rest))) (to_colon.passes.blank behind_place colon_place more (omega (arith, fewer)))
           ∙ (ap (comes limits) (colon-there kinds top a (at colon_place (colon ++ more)) colon more there (to_colon.first more))
-          ∙ (ap (λ (c : Cursor). later limits (record { kinds = kinds; top = top; wants = wants; cursor = c })) (mark-behind colon more colon_place behind_place there (omega (arith, one, there)))
-          ∙ (onward-blanks limits kinds top behind_place wants (drop 1 colon) rest passes).same q more (omega (arith, e, one, there, long, fewer))))));
+          ∙ (ap (λ (c : Cursor). later limits (record { kinds = kinds; top = top; wants = wants; cursor = c })) (mark-behind colon more colon_place value_place there (omega (arith, one, there)))
+          ∙ (onward-blanks limits kinds top value_place wants (drop 1 colon) rest passes).same q more (omega (arith, e, one, there, first, fewer)))));
     }
 
--- the name, the colon and the blanks behind it
-pub named-start : (limits : Limits) (place n : ℕ) (next : Next) (start : Start) (text : TextAt) (colon : List ℕ) → start.field ≡ Some text → start.note ≡ None → text.place ≡ place → text.text.now ≡ take n next.rest.now
-    → Begins next → 0 < next.told → numbered next.told ≡ tokens.a_word → IsSimpleWord limits.scalar next.rest.now n → ToColon (drop n next.rest.now) colon → IsNext (drop 1 colon) start.next → 0 < length start.next.rest.now
-    → IsNamed limits place next start
-named-start limits place n next start text colon is bare here bytes begins told first word to_colon behind some =
-    let passes = behind.passes some in
-    let name : positions.at (value.Text (take n next.rest.now)) place ≡ placed_text text =
-    ap (λ (l : List ℕ). positions.at (value.Text l) place) (sym bytes) ∙ ap (λ (p : ℕ). positions.at (value.Text text.text.now) p) (sym here) in
-    record {
-      text = text;
-      is = is;
-      bare = bare;
-      simple = λ _. ap (λ (l : List ℕ). is_simple l) bytes ∙ word.simple;
-      some = told;
-      onward = λ kinds top.
-          subst (λ (s : SymbolAt). Onward limits kinds top place a_field next.rest.now (a_value (Some s) []) start.next.rest.now) name
-          (onward-name limits kinds top place n next.rest.now colon start.next.rest.now begins.bare (λ sexp more. begins.tells told sexp more ∙ first) word to_colon passes);
-      begins = record { some = some; tells = behind.tells; bare = passes.bare };
-    }
+-- a value begins behind the name that was read
+pub named-start : (limits : Limits) (place : ℕ) (name : TextAt) (bytes behind : List ℕ) (start : Option Start) → IsName limits place bytes name behind → IsRightlySimple name → 0 < length bytes
+    → IfSome start (IsBehindName name behind) → IfSome start (IsNamed limits place bytes)
+named-start limits place name bytes behind None is simple some h = tt
+named-start limits place name bytes behind (Some s) is simple some h = record {
+  text = name;
+  is = h.is;
+  bare = h.bare;
+  simple = simple;
+  some = some;
+  onward = λ kinds top. onward-name limits kinds top place name bytes behind h.colon s.next.rest.now is h.to_colon h.passes;
+  begins = h.begins;
+}
 
 pub start-field : (limits : Limits) (spot : Spot) (place named : ℕ) (next : Next) (start : Option Start) → expected_of spot ≡ codes_of.Field → IsNext spot.rest.now next
-    → named ≡ place + (length spot.rest.now - length next.rest.now) → IfSome start (IsNamed limits named next) → IfSome start (IsStart limits spot place)
+    → named ≡ place + (length spot.rest.now - length next.rest.now) → IfSome start (IsNamed limits named next.rest.now) → IfSome start (IsStart limits spot place)
 start-field limits spot place named next None field is here h = tt
 start-field limits spot place named next (Some s) field is here h =
-    let passes = is.passes (is.some h.some) in
+    let passes = is.passes h.some in
     let fewer = passes.fewer in
     record {
       known = rw h.is tt;
@@ -240,15 +269,15 @@ start-field limits spot place named next (Some s) field is here h =
       begins = h.begins;
     }
 
--- what is known of the next token, where its first byte tells it
-pub next-begins : (bytes : List ℕ) (next : Next) → IsNext bytes next → 0 < next.told → Begins next
-next-begins bytes next is told = (let some = is.some told in record { some = some; tells = is.tells; bare = (is.passes some).bare })
+-- what is known of the next token, where there is one
+pub next-begins : (bytes : List ℕ) (next : Next) → IsNext bytes next → 0 < length next.rest.now → Begins next
+next-begins bytes next is some = record { some = some; tells = is.tells; bare = (is.passes some).bare }
 
 pub not-empty : (bytes : List ℕ) → (length bytes == 0) ≡ false → 0 < length bytes
 not-empty [] e = absurd (cc e)
 not-empty (b ∷ bytes) e = omega arith
 
 -- no annotation was read there
-pub named-bare : (limits : Limits) (place : ℕ) (next : Next) (start : Option Start) → IfSome start (IsNamed limits place next) → IfSome start (λ s. s.note ≡ None)
-named-bare limits place next None h = tt
-named-bare limits place next (Some s) h = h.bare
+pub named-bare : (limits : Limits) (place : ℕ) (bytes : List ℕ) (start : Option Start) → IfSome start (IsNamed limits place bytes) → IfSome start (λ s. s.note ≡ None)
+named-bare limits place bytes None h = tt
+named-bare limits place bytes (Some s) h = h.bare

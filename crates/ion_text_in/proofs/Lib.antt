@@ -86,6 +86,7 @@ pub mod FeedNames
 pub mod FeedComments
 pub mod FeedHeads
 pub mod FeedNoted
+pub mod FeedQuotes
 pub mod FeedLanes
 pub mod FeedItems
 pub mod FeedReader

@@ -35,7 +35,7 @@ use Rattle.ion_text_in.specs.Positions.{State, Wants, a_field, a_value, innermos
 use Rattle.ion_text_in.specs.Reading.{behind_member, item_of, member_of, top_of}
 use Rattle.ion_text_in.specs.Runs.{EndBehind}
 use Rattle.ion_text_in.specs.Steps.{later}
-use Rattle.ion_text_in.specs.Token.{a_colon, a_word, first_at, in_word, name, token_of}
+use Rattle.ion_text_in.specs.Token.{a_colon, a_word, first_at, in_word, name, token_of, two_colons}
 use Rattle.ion_value.specs.Name.{is_identifier_start, is_simple}
 
 -- ---- bytes
@@ -140,15 +140,35 @@ pub record Begins (next : Next) : Type 0 where
   pub tells : 0 < next.told → (in_sexp : Bool) (more : List ℕ) → first_at in_sexp (next.rest.now ++ more) ≡ numbered next.told
   pub bare : IsBare next.rest.now
 
--- behind a name that begins at a place, and a colon, a value begins
-pub record IsNamed (limits : Limits) (place : ℕ) (next : Next) (start : Start) : Type 0 where
+-- behind a name a colon stands behind blanks, and a value begins
+pub record IsBehindName (name : TextAt) (bytes : List ℕ) (start : Start) : Type 0 where
+  pub colon : List ℕ
+  pub is : start.field ≡ Some name
+  pub bare : start.note ≡ None
+  pub to_colon : ToColon bytes colon
+  pub passes : PassesBlanks (drop 1 colon) start.next.rest.now
+  pub begins : Begins start.next
+
+-- behind a name that stands at the front of some bytes, at a place, and behind a colon, a value begins
+pub record IsNamed (limits : Limits) (place : ℕ) (bytes : List ℕ) (start : Start) : Type 0 where
   pub text : TextAt
   pub is : start.field ≡ Some text
   pub bare : start.note ≡ None
   pub simple : IsRightlySimple text
-  pub some : 0 < next.told
-  pub onward : (kinds : List Kind) (top : ℕ) → Onward limits kinds top place a_field next.rest.now (a_value (Some (placed_text text)) []) start.next.rest.now
+  pub some : 0 < length bytes
+  pub onward : (kinds : List Kind) (top : ℕ) → Onward limits kinds top place a_field bytes (a_value (Some (placed_text text)) []) start.next.rest.now
   pub begins : Begins start.next
+
+-- behind an annotation two colons stand, its bytes are no more than may be, and a value begins
+pub record IsBehindNote (limits : Limits) (start : Start) (note : TextAt) (colons : List ℕ) (noted : Start) : Type 0 where
+  pub is : noted.note ≡ Some note
+  pub same : noted.field ≡ start.field
+  pub two : 2 ≤ length colons
+  pub bare : IsBare colons
+  pub first : (in_sexp : Bool) (more : List ℕ) → first_at in_sexp (colons ++ more) ≡ two_colons
+  pub costs : 16 + length note.text.now ≤ limits.scalar
+  pub passes : PassesBlanks (drop 2 colons) noted.next.rest.now
+  pub begins : Begins noted.next
 
 -- behind an annotation that begins at a place, and two colons, a value begins
 pub record IsNoted (limits : Limits) (place : ℕ) (start noted : Start) : Type 0 where

@@ -2,7 +2,7 @@
 ghost use Rattle.std.specs.Prelude.{◌≡◌, ◌≢◌, ◌+◌, ◌-◌, ◌^◌, ◌<◌, ◌≤◌, ℕ, Bool, List, [], ◌∷◌, ◌++◌, take, drop, length, reverse, true, false, None, Some, Ok, option_map, IfSome};
 ghost use Rattle.ion_value.specs.declared.ion_type.Kind as kind_of;
 ghost use Rattle.ion_text_in.specs.Expecting.{kind_in, wanted, MayExpect};
-ghost use Rattle.ion_text_in.specs.Feeding.{expected_of, lane, notes, Begins, CanFeed, IsBare, IsFound, IsNamed, IsNext, IsSimpleWord, IsStart, Moved, Onward, PassesBlanks, ToColon};
+ghost use Rattle.ion_text_in.specs.Feeding.{expected_of, lane, notes, Begins, CanFeed, IsFound, IsNext, IsSimpleWord, IsStart, Moved, Onward, PassesBlanks};
 ghost use Rattle.ion_text_in.specs.Firsts.{numbered};
 ghost use Rattle.ion_text_in.specs.Reading.{top_of};
 ghost use Rattle.ion_text_in.specs.Token.{a_comma, a_run, a_short, a_word, an_end, first_at};
@@ -12,12 +12,14 @@ mod close;
 mod comments;
 mod copies;
 mod heads;
+mod names;
 mod noted;
+mod quotes;
 
-use crate::first::{First, shows_colon, told_first};
+use crate::first::{First, told_first};
 use crate::quick::scan_quick;
 use crate::scanned::Scanned;
-use crate::word::{Word, scan_simple, simple_word};
+use crate::word::{Word, scan_simple};
 use close::{close, pass_value};
 use comments::behind_blanks;
 use copies::{limits_for_call, spot_for_call, start_for_call};
@@ -33,7 +35,9 @@ use ion_value::ion_type::Kind;
 use ion_value::item::Head;
 use ion_value::plain_item::{PlainItem, TextAt};
 use ion_value::writer::ValueWriter;
+use names::field_start;
 use noted::noted;
+use quotes::quoted_value;
 use std::alloc::Allocator;
 
 /// Where a lane stands between two items.
@@ -224,52 +228,6 @@ fn value_start<'a>(next: Next<'a>) -> Option<Start<'a>>
         note: None,
         next,
     })
-}
-
-// The same behind the name that must come, and that begins at a place.
-#[inline(always)]
-fn field_start<'a>(next: Next<'a>, limits: Limits, place: u64) -> Option<Start<'a>>
-    requires begins { 0 < next.told → Begins next }
-    ensures { IfSome result (IsNamed limits place next.entry) }
-{
-    if next.told != WORD {
-        return None;
-    }
-    let Some(count) = simple_word(limits.scalar, next.rest) else {
-        return None;
-    };
-    let Some(colon) = to_colon(behind(count, next.rest)) else {
-        return None;
-    };
-    let value = next_told(behind(1, colon));
-    if value.rest.is_empty() {
-        return None;
-    }
-    let name = TextAt {
-        text: front(count, next.rest),
-        simple: true,
-        place,
-    };
-    Some(Start {
-        field: Some(name),
-        note: None,
-        next: value,
-    })
-}
-
-// At the colon behind blanks, where it stands there.
-#[inline(always)]
-fn to_colon(bytes: &[u8]) -> Option<&[u8]>
-    ensures { IfSome result (λ rest. ToColon bytes.now rest.now) }
-{
-    if shows_colon(bytes) {
-        return Some(bytes);
-    }
-    let rest = behind_blanks(bytes);
-    if !shows_colon(rest) {
-        return None;
-    }
-    Some(rest)
 }
 
 // The kind of container that a token ends, by its number.
@@ -681,7 +639,9 @@ fn value<'a, W: ValueWriter<O, A>, O: Output, A: Allocator + Copy>(
                 at, start, found, kind, limits, end, kinds, meter, writer, sink,
             )
         }
-        Some(First::QuotedSymbol) => rare(at, start, limits, end, kinds, meter, writer, sink),
+        Some(First::QuotedSymbol) => {
+            quoted_value(at, start, limits, end, kinds, meter, writer, sink)
+        }
         _ => false,
     }
 }

@@ -41,10 +41,29 @@ pub(super) fn start_for_call<'a>(start: Start<'a>) -> Start<'a>
     Start {
         field: text_for_call(start.field),
         note: text_for_call(start.note),
-        next: Next {
-            told: start.next.told,
-            rest: start.next.rest,
-        },
+        next: next_for_call(start.next),
+    }
+}
+
+/// The same beginning of a value that a call gave, if there is one.
+#[inline(always)]
+pub(super) fn start_of_call<'a>(start: Option<Start<'a>>) -> Option<Start<'a>>
+    ensures { result ≡ start.entry }
+{
+    match start {
+        Some(start) => Some(start_for_call(start)),
+        None => None,
+    }
+}
+
+/// The same next token.
+#[inline(always)]
+pub(super) fn next_for_call<'a>(next: Next<'a>) -> Next<'a>
+    ensures { result ≡ next.entry }
+{
+    Next {
+        told: next.told,
+        rest: next.rest,
     }
 }
 

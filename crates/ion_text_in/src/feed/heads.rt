@@ -222,14 +222,15 @@ pub(super) fn symbol_head<'a>(
     })
 }
 
-// A symbol in quotes of plain bytes alone, where a token is told behind it that is no two colons.
+/// A symbol in quotes of plain bytes alone, where a token is told behind it that is no two colons.
 #[inline(never)]
-fn quoted_head<'a>(limits: Limits, place: u64, bytes: &'a [u8]) -> Option<Found<'a>>
+pub(super) fn quoted_head<'a>(limits: Limits, place: u64, bytes: &'a [u8]) -> Option<Found<'a>>
     requires bare { IsBare bytes.now }
     requires first { (in_sexp : Bool) (more : List ℕ)
         → first_at in_sexp (bytes.now ++ more) ≡ a_quoted }
     requires some { 0 < length bytes.now }
-    ensures { IfSome result (IsFound limits place bytes.now) }
+    ensures found { IfSome result (IsFound limits place bytes.now) }
+    ensures whole { IfSome result (λ f. (kind : kind_of.Kind) → f.head ≢ Head.Begin kind) }
 {
     let text = behind(1, bytes);
     match scan_text(Quote::Symbol, limits.scalar, text) {

@@ -23,7 +23,7 @@ returns-in-List c =
     }
 
 pub field_start-requires : goal.field_start-requires
-field_start-requires c = record { begins = next-begins c.args.spot.rest.now c.args.next c.requires.next }
+field_start-requires c = record { begins = next-begins c.args.spot.rest.now c.args.next c.requires.next; some = c.requires.next.some }
 
 pub returns-in-Struct-clause-start : goal.returns-in-Struct-clause-start
 returns-in-Struct-clause-start c =
@@ -32,4 +32,4 @@ returns-in-Struct-clause-start c =
     start-field c.args.limits spot c.args.place c.place_behind.result c.args.next c.field_start.result field c.requires.next c.place_behind.ensures c.field_start.ensures
 
 pub returns-in-Struct-clause-bare : goal.returns-in-Struct-clause-bare
-returns-in-Struct-clause-bare c = named-bare c.args.limits c.place_behind.result c.args.next c.field_start.result c.field_start.ensures
+returns-in-Struct-clause-bare c = named-bare c.args.limits c.place_behind.result c.args.next.rest.now c.field_start.result c.field_start.ensures

@@ -5,8 +5,8 @@ use Rattle.ion_text_in.specs.Positions.{at}
 use Rattle.ion_text_in.proofs.FeedHeads.{head-quoted}
 use Rattle.ion_text_in.proofs.feed.heads.quoted_head.Goals as goal
 
-pub returns-else-next-eq0 : goal.returns-else-next-eq0
-returns-else-next-eq0 c =
+pub returns-else-next-eq0-clause-found : goal.returns-else-next-eq0-clause-found
+returns-else-next-eq0-clause-found c =
     let a = c.args in
     let rest = c.behind-rest.result.now in
     let next = c.next_told-next.result in

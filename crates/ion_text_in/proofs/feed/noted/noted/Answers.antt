@@ -1,20 +1,17 @@
-use Rattle.std.proofs.Common.{◌≡◌, ◌∙◌, ◌+◌, ◌≤◌, ◌++◌, ℕ, Bool, List, true, drop, length, refl, sym, ap, subst, arith}
-use Rattle.ion_text_in.specs.Feeding.{IsBare, IsNext}
-use Rattle.ion_text_in.specs.Token.{first_at, two_colons}
-use Rattle.ion_text_in.proofs.FeedNames.{not-empty}
-use Rattle.ion_text_in.proofs.FeedNoted.{note-behind}
+use Rattle.std.proofs.Common.{◌∙◌, ℕ, List, true, refl, ap}
+use Rattle.ion_value.specs.declared.plain_item.TextAt.{TextAt}
+use Rattle.ion_value.specs.Name.{is_simple}
+use Rattle.ion_text_in.proofs.FeedHeads.{simple-free}
+use Rattle.ion_text_in.proofs.FeedNoted.{note-behind, symbol-word}
 use Rattle.ion_text_in.proofs.feed.noted.noted.Goals as goal
 
 pub returns : goal.returns
 returns c =
-    let start = c.args.start in
-    let colons = c.if-not-shows_colons.ensures in
-    let is = c.behind-colons.ensures in
-    let count : ℕ = c.args.count in
-    let costs : 16 + count ≤ c.args.limits.scalar = grind (arith, c.if-limits-count.false) in
-    let two : 2 ≤ length (drop count start.next.rest.now) = subst (λ (l : List ℕ). 2 ≤ length l) is (colons.some refl) in
-    let bare : IsBare (drop count start.next.rest.now) = subst (λ (l : List ℕ). IsBare l) is (colons.bare refl) in
-    let first = subst (λ (l : List ℕ). (in_sexp : Bool) (more : List ℕ) → first_at in_sexp (l ++ more) ≡ two_colons) is (colons.first refl) in
-    let behind = subst (λ (l : List ℕ). IsNext l c.next_told-value.result) (c.behind.ensures ∙ ap (λ (l : List ℕ). drop 2 l) is) c.next_told-value.ensures in
-    note-behind c.args.limits c.args.place count start _ (record { text = c.front.result; simple = true; place = c.args.place }) refl refl refl c.front.ensures c.requires.begins c.requires.first
-    c.requires.word two bare first costs behind (not-empty c.next_told-value.result.rest.now (sym c.is_empty.ensures ∙ c.if-is_empty.false))
+    let a = c.args in
+    let bytes = a.start.next.rest.now in
+    let note : TextAt = record { text = c.front.result; simple = true; place = a.place } in
+    let word = c.requires.word in
+    let simple = ap (λ (l : List ℕ). is_simple l) c.front.ensures ∙ word.simple in
+    note-behind a.limits a.place a.start note c.behind.result.now c.behind_note.result
+    (symbol-word a.limits a.place a.count note bytes c.behind.result.now refl c.front.ensures c.behind.ensures c.requires.begins.bare c.requires.first word)
+    (λ _. simple) (simple-free c.front.result.now simple) c.behind_note.ensures

@@ -1,0 +1,4 @@
+use Rattle.ion_text_in.proofs.feed.quotes.quoted_text.Goals as goal
+
+pub returns-clause-says : goal.returns-clause-says
+returns-clause-says c = λ known. absurd (cc known)

@@ -11,7 +11,7 @@ use Rattle.ion_meter.specs.Sources.{BytesAreLeft}
 use Rattle.ion_meter.specs.Windows.{Outgoing}
 use Rattle.ion_meter.specs.declared.limits.Limits.{Limits}
 use Rattle.ion_value.specs.declared.writer.ValueWriter.{Ghosts as WriterOf}
-use Rattle.ion_value.specs.Feeding.{CanTake, Feeds, Hands, Joint, nothing, more}
+use Rattle.ion_value.specs.Feeding.{CanTake, Feeds, Hands, nothing, more}
 use Rattle.ion_value.specs.Standing.{WritesWithin}
 use Rattle.ion_value.specs.Value.{PlacedItem}
 use Rattle.ion_value.proofs.Handing.{feeds-then, feeds-under, stays-then, takes-more}

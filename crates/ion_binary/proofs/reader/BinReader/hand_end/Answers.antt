@@ -31,15 +31,15 @@ returns-clause-handed g c =
     let less : length new.frames < length r.frames = omega (arith, c.close.ensures.fewer) in
     record {
       hands = λ _. rw c.close.ensures.end (record {
-          hands = λ values. hands_by w (named_item (g.N.Names.text c.args._names.now)) (device.observable r.source.device) (to_come device r.limits r.frames r.top r.source)
-              (to_come device r.limits new.frames r.top r.source) (opened_in r) (opened_in new) c.args.writer.now c.take_plain.new.self c.args.sink.now.pending c.take_plain.new.sink.pending values
-              item item refl (λ _. gives) (record { field = tt; annotations = tt; head = tt }) c.close.ensures.kinds
-              (end_fits (w.limits c.args.writer.now).depth (opened_in r) c.place.result r.top (open_one r.frames some.0 inner)) refl taken.same.1
-              (taken.stands refl) (taken.puts refl);
-          falls = omega (arith, less);
-          further = omega arith;
-          total = refl;
-          bytes = λ b. b;
+        hands = λ values. hands_by w (named_item (g.N.Names.text c.args._names.now)) (device.observable r.source.device) (to_come device r.limits r.frames r.top r.source)
+            (to_come device r.limits new.frames r.top r.source) (opened_in r) (opened_in new) c.args.writer.now c.take_plain.new.self c.args.sink.now.pending c.take_plain.new.sink.pending values
+            item item refl (λ _. gives) (record { field = tt; annotations = tt; head = tt }) c.close.ensures.kinds
+            (end_fits (w.limits c.args.writer.now).depth (opened_in r) c.place.result r.top (open_one r.frames some.0 inner)) refl taken.same.1
+            (taken.stands refl) (taken.puts refl);
+        falls = omega (arith, less);
+        further = omega arith;
+        total = refl;
+        bytes = λ b. b;
       });
       nothing = λ e. absurd (cc e);
       keeps = search rules;

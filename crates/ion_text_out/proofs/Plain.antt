@@ -1,5 +1,5 @@
 -- What is put of a plain item is its text.
-use Rattle.std.proofs.Common.{◌≡◌, ℕ, ◌≤◌, Bool, true, false, not, ◌&&◌, ◌||◌, List, [], ◌∷◌, ◌++◌, length, Option, Some, None, refl, sym, subst, ap, ◌∙◌, append-nil, arith, if◌then◌else◌}
+use Rattle.std.proofs.Common.{◌≡◌, ℕ, ◌<◌, ◌≤◌, Bool, true, false, not, ◌&&◌, ◌||◌, List, [], ◌∷◌, ◌++◌, length, Option, Some, None, refl, sym, subst, ap, ◌∙◌, append-nil, arith, if◌then◌else◌}
 use Rattle.std.specs.Prelude.{map, option_map, codes, IfSome}
 use Rattle.std.specs.List.{flat_map}
 use Rattle.ion_meter.specs.Windows.{Outgoing}
@@ -16,7 +16,7 @@ use Rattle.ion_text_out.specs.Escape.{between_quotes, byte_text}
 use Rattle.ion_text_out.specs.Text.{Open, annotation_text, before_item, behind_value, field_text, head_text, item_text, opener, scalar_text, symbol_text}
 use Rattle.ion_meter.specs.declared.limits.Limits.{Limits}
 use Rattle.ion_text_out.specs.Writing.{behind_end, closing, shown, text_adds, Shows}
-use Rattle.ion_text_out.specs.Lane.{needs_quotes, plain_begin, plain_front, plain_name, plain_note, plain_scalar, symbol_in, text_in}
+use Rattle.ion_text_out.specs.Lane.{needs_quotes, plain_begin, plain_front, plain_name, plain_note, plain_scalar, spelling, symbol_in, text_in}
 
 both-left : (a b : Bool) → (a && b) ≡ true → a ≡ true
 both-left true b e = refl
@@ -72,6 +72,14 @@ pub both_stand : (field annotation : Option TextAt) → (needs_quotes field || n
 both_stand field annotation none =
     let both = either (needs_quotes field) (needs_quotes annotation) none in
     (as_it_stands field both.0, as_it_stands annotation both.1)
+
+-- a symbol whose text has a byte, or none, is spelled by its text
+pub spelling_is : (text : List ℕ) → 0 < length text → symbol_text (v.Known text) ≡ spelling text
+spelling_is [] some = absurd (omega (arith, some))
+spelling_is (b ∷ bytes) some = refl
+
+pub spelled_in : (symbol : Option TextAt) (t : TextAt) → symbol ≡ Some t → 0 < length t.text.now → spelling (text_in symbol) ≡ symbol_in symbol
+spelled_in symbol t is some = rw is (sym (spelling_is t.text.now some))
 
 -- the text of a symbol has a byte, by which it is told from one that is not there
 named_by : (plain : Bool) (b : ℕ) (bytes inside : List ℕ) → (if plain then b ∷ bytes else 39 ∷ inside) ++ codes ":" ≡ plain_name (if plain then b ∷ bytes else 39 ∷ inside)
@@ -139,6 +147,13 @@ spelled_put cs name note text head is =
 pub begin_put : (cs : Open) (name note : List ℕ) (head : v.Head SymbolAt) (kind : Kind) → head ≡ v.begin kind
     → plain_begin cs name note (opener kind) ≡ head_text cs (plain_front name note) (map_head user_symbol_at head)
 begin_put cs name note head kind is = rw is refl
+
+-- the same texts are put alike
+pub scalar_same : (cs : Open) (a b c d text : List ℕ) → a ≡ b → c ≡ d → plain_scalar cs a c text ≡ plain_scalar cs b d text
+scalar_same cs a b c d text p q = rw (p, q) refl
+
+pub begin_same : (cs : Open) (a b c d bracket : List ℕ) → a ≡ b → c ≡ d → plain_begin cs a c bracket ≡ plain_begin cs b d bracket
+begin_same cs a b c d bracket p q = rw (p, q) refl
 
 -- what was put is a text that is the same
 pub puts_same : {O : Type 0} (old new : Outgoing O) (put text : List ℕ) → new ≡ record old { pending = old.pending ++ put } → put ≡ text → new ≡ record old { pending = old.pending ++ text }

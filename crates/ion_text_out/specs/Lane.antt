@@ -15,6 +15,11 @@ abbrev pub symbol_in : Option TextAt → List ℕ
 symbol_in None = []
 symbol_in (Some t) = symbol_text (Known t.text.now)
 
+-- the canonical text of a symbol by its text, nothing where that is empty: then there is none
+abbrev pub spelling : List ℕ → List ℕ
+spelling [] = []
+spelling (b ∷ bs) = symbol_text (Known (b ∷ bs))
+
 -- whether there is one that stands between quotes
 abbrev pub needs_quotes : Option TextAt → Bool
 needs_quotes None = false

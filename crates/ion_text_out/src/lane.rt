@@ -6,7 +6,7 @@ ghost use Rattle.ion_value.specs.PlainItems.{IsRightlySimple};
 ghost use Rattle.ion_text_out.specs.Writing.{behind_end, closing, shown};
 ghost use Rattle.ion_text_out.specs.Escape.{between_quotes};
 ghost use Rattle.ion_text_out.specs.Text.{end_text, opener};
-ghost use Rattle.ion_text_out.specs.Lane.{needs_quotes, plain_front, plain_name, plain_note, plain_scalar, text_in};
+ghost use Rattle.ion_text_out.specs.Lane.{needs_quotes, plain_front, plain_name, plain_note, plain_scalar, spelling, symbol_in, text_in};
 
 use crate::between::{before, behind, behind_end, closing, opener};
 use crate::quote::{stands_in_string, stands_in_symbol};
@@ -60,6 +60,27 @@ fn is_quoted(text: &[u8]) -> bool
     ensures { result ≡ not (is_plain text.now) }
 {
     !is_plain(text)
+}
+
+/// Whether a field's name and an annotation, each where there is one, have a byte.
+#[inline(always)]
+pub fn have_bytes(field: Option<TextAt<'_>>, annotation: Option<TextAt<'_>>) -> bool
+    ensures field { result ≡ true → spelling (text_in field.entry) ≡ symbol_in field.entry }
+    ensures annotation { result ≡ true
+        → spelling (text_in annotation.entry) ≡ symbol_in annotation.entry }
+{
+    has_byte(field) && has_byte(annotation)
+}
+
+// Whether a symbol that may be there has.
+#[inline(always)]
+fn has_byte(at: Option<TextAt<'_>>) -> bool
+    ensures { result ≡ true → spelling (text_in at.entry) ≡ symbol_in at.entry }
+{
+    match at {
+        Some(symbol) => !symbol.text.is_empty(),
+        None => true,
+    }
 }
 
 /// Whether there is room for a field's name, an annotation, so many bytes, and two marks of a byte.

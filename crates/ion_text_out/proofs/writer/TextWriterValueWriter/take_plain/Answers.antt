@@ -1,5 +1,6 @@
-use Rattle.std.proofs.Common.{refl, sym, ap, ◌∙◌}
+use Rattle.std.proofs.Common.{sym, ap, ◌∙◌}
 use Rattle.ion_value.specs.PlainItems.{placed_item}
+use Rattle.ion_text_out.specs.Lane.{spelling}
 use Rattle.ion_text_out.specs.Writing.{shown}
 use Rattle.ion_text_out.proofs.Plain.{adds_here, both_stand, item_put}
 use Rattle.ion_text_out.proofs.WriterSteps.{has_room, in_range}
@@ -28,7 +29,12 @@ take_head-requires-clause-comes g c =
 pub returns-then-need_quotes-clause-puts : goal.returns-then-need_quotes-clause-puts
 returns-then-need_quotes-clause-puts g c e path stands continues =
     let w = c.args.self.now in
-    adds_here w.limits w.kinds w.empty path c.args.item _ _ _ stands.1 (ap (λ s. s.pending) (c.take_quoted_names.ensures.puts e)) refl
+    let item = c.args.item in
+    let bytes = c.have_bytes.ensures in
+    let name = ap spelling c.text_in-name.ensures ∙ bytes.field c.if-not-have_bytes.false in
+    let note = ap spelling c.text_in-note.ensures ∙ bytes.annotation c.if-not-have_bytes.false in
+    adds_here w.limits w.kinds w.empty path item _ _ _ stands.1 (ap (λ s. s.pending) (c.take_quoted_names.ensures.puts e))
+    (item_put (shown w.kinds w.empty) item (spelling c.text_in-name.result.now) (spelling c.text_in-note.result.now) name note)
 
 pub returns-clause-puts : goal.returns-clause-puts
 returns-clause-puts g c e path stands continues =

@@ -55,6 +55,7 @@ fn needs_quotes(at: Option<TextAt<'_>>) -> bool
 }
 
 // Whether a symbol of this text does.
+#[cold]
 #[inline(never)]
 fn is_quoted(text: &[u8]) -> bool
     ensures { result ≡ not (is_plain text.now) }

@@ -483,9 +483,11 @@ impl<A: Allocator + Copy> TextWriter<A> {
 }
 
 // The calls of `take_plain` for items whose name or annotation stands between quotes: they have the
-// texts of both, and spell them first.
+// texts of both, and spell them first. They are marked as cold, so that what leads to them stands apart
+// from what is frequent, and takes no register from it.
 impl<A: Allocator + Copy> TextWriter<A> {
     // A scalar of this text.
+    #[cold]
     #[inline(never)]
     fn quoted_text<O: Output>(
         &mut self,
@@ -513,6 +515,7 @@ impl<A: Allocator + Copy> TextWriter<A> {
     }
 
     // A symbol.
+    #[cold]
     #[inline(never)]
     fn quoted_symbol<O: Output>(
         &mut self,
@@ -562,6 +565,7 @@ impl<A: Allocator + Copy> TextWriter<A> {
     }
 
     // The same of one with this sign and a magnitude that 64 bits hold.
+    #[cold]
     #[inline(never)]
     fn quoted_narrow_int<O: Output>(
         &mut self,
@@ -596,6 +600,7 @@ impl<A: Allocator + Copy> TextWriter<A> {
     }
 
     // A string.
+    #[cold]
     #[inline(never)]
     fn quoted_string<O: Output>(
         &mut self,
@@ -623,6 +628,7 @@ impl<A: Allocator + Copy> TextWriter<A> {
     }
 
     // The beginning of a container.
+    #[cold]
     #[inline(never)]
     fn quoted_begin<O: Output>(
         &mut self,

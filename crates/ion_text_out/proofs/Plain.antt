@@ -1,5 +1,6 @@
 -- What is put of a plain item is its text.
-use Rattle.std.proofs.Common.{◌≡◌, ℕ, ◌<◌, ◌≤◌, Bool, true, false, not, ◌&&◌, ◌||◌, List, [], ◌∷◌, ◌++◌, length, Option, Some, None, refl, sym, subst, ap, ◌∙◌, append-nil, arith, if◌then◌else◌}
+use Rattle.std.proofs.Common.{◌≡◌, ℕ, ◌<◌, ◌≤◌, Bool, true, false, ◌&&◌, List, [], ◌∷◌, ◌++◌, length, Option, Some, None, refl, sym, ap, ◌∙◌, append-nil, arith, if◌then◌else◌}
+use Rattle.std.proofs.lemmas.Bool.{and_parts}
 use Rattle.std.specs.Prelude.{map, option_map, codes, IfSome}
 use Rattle.std.specs.List.{flat_map}
 use Rattle.ion_meter.specs.Windows.{Outgoing}
@@ -7,7 +8,7 @@ use Rattle.ion_value.specs.Name.{is_plain, is_simple}
 use Rattle.ion_value.specs.Value as v
 use Rattle.ion_value.specs.Value.{PlacedItem, SymbolAt, Symbol, map_head, map_scalar, user_symbol, user_symbol_at, user_item}
 use Rattle.ion_value.specs.Items.{raw_head}
-use Rattle.ion_value.specs.PlainItems.{IsOwnText, IsRightlySimple, IsTextOf, listed, placed_item, placed_text}
+use Rattle.ion_value.specs.PlainItems.{IsOwnText, IsRightlySimple, IsTextOf, SaysRightly, listed, placed_item, placed_text}
 use Rattle.ion_value.specs.declared.ion_type.Kind.{Kind}
 use Rattle.ion_value.specs.declared.ion_type.Kind.TheVariants as kind
 use Rattle.ion_value.specs.declared.plain_item.TextAt.{TextAt}
@@ -16,7 +17,7 @@ use Rattle.ion_text_out.specs.Escape.{between_quotes, byte_text}
 use Rattle.ion_text_out.specs.Text.{Open, annotation_text, before_item, behind_value, field_text, head_text, item_text, opener, scalar_text, symbol_text}
 use Rattle.ion_meter.specs.declared.limits.Limits.{Limits}
 use Rattle.ion_text_out.specs.Writing.{behind_end, closing, shown, text_adds, Shows}
-use Rattle.ion_text_out.specs.Lane.{needs_quotes, plain_begin, plain_front, plain_name, plain_note, plain_scalar, spelling, symbol_in, text_in}
+use Rattle.ion_text_out.specs.Lane.{is_said_simple, plain_begin, plain_front, plain_name, plain_note, plain_scalar, spelling, symbol_in, text_in}
 
 both-left : (a b : Bool) → (a && b) ≡ true → a ≡ true
 both-left true b e = refl
@@ -48,30 +49,16 @@ own_text text (v.Id id) is = absurd is
 
 -- ---- names and annotations
 
-either : (a b : Bool) → (a || b) ≡ false → (a ≡ false) × (b ≡ false)
-either true b e = absurd (cc e)
-either false b e = (refl, e)
-
-was_true : (b : Bool) → not b ≡ false → b ≡ true
-was_true true e = refl
-was_true false e = absurd (cc e)
-
--- a symbol that is said to be simple needs no quotes
-pub none_needed : (symbol : Option TextAt) (t : TextAt) → symbol ≡ Some t → IfSome symbol IsRightlySimple → t.simple ≡ true → false ≡ needs_quotes symbol
-none_needed symbol t is right said =
-    let simple : IsRightlySimple t = subst (λ (s : Option TextAt). IfSome s IsRightlySimple) is right in
-    rw (is, simple_plain t.text.now (simple said)) refl
-
--- what needs none is put as it stands
-as_it_stands : (symbol : Option TextAt) → needs_quotes symbol ≡ false → text_in symbol ≡ symbol_in symbol
-as_it_stands None none = refl
-as_it_stands (Some t) none = sym (plain_text t.text.now (was_true (is_plain t.text.now) none))
+-- a symbol that is rightly said to be simple is put as it stands
+as_it_stands : (symbol : Option TextAt) → IfSome symbol IsRightlySimple → is_said_simple symbol ≡ true → text_in symbol ≡ symbol_in symbol
+as_it_stands None right said = refl
+as_it_stands (Some t) right said = sym (plain_text t.text.now (simple_plain t.text.now (right said)))
 
 -- both of an item
-pub both_stand : (field annotation : Option TextAt) → (needs_quotes field || needs_quotes annotation) ≡ false → (text_in field ≡ symbol_in field) × (text_in annotation ≡ symbol_in annotation)
-both_stand field annotation none =
-    let both = either (needs_quotes field) (needs_quotes annotation) none in
-    (as_it_stands field both.0, as_it_stands annotation both.1)
+pub both_stand : (item : PlainItem) → SaysRightly item → (is_said_simple item.field && is_said_simple item.annotation) ≡ true → (text_in item.field ≡ symbol_in item.field) × (text_in item.annotation ≡ symbol_in item.annotation)
+both_stand item right said =
+    let both = and_parts (is_said_simple item.field) (is_said_simple item.annotation) said in
+    (as_it_stands item.field right.field both.0, as_it_stands item.annotation right.annotation both.1)
 
 -- a symbol whose text has a byte, or none, is spelled by its text
 pub spelling_is : (text : List ℕ) → 0 < length text → symbol_text (v.Known text) ≡ spelling text

@@ -1,19 +1,16 @@
 //! Plain items, put in one go where the window on the output has room for them.
-ghost use Rattle.std.specs.Prelude.{◌≡◌, ◌+◌, ◌^◌, ◌≤◌, ◌<◌, ◌++◌, ◌∷◌, ◌||◌, [], length, not, true, false, if◌then◌else◌, IfSome};
+ghost use Rattle.std.specs.Prelude.{◌≡◌, ◌+◌, ◌^◌, ◌≤◌, ◌<◌, ◌++◌, ◌∷◌, ◌&&◌, [], length, true, false, if◌then◌else◌};
 ghost use Rattle.ion_value.specs.Int.{int_text};
-ghost use Rattle.ion_value.specs.Name.{is_plain};
-ghost use Rattle.ion_value.specs.PlainItems.{IsRightlySimple};
 ghost use Rattle.ion_text_out.specs.Writing.{behind_end, closing, shown};
 ghost use Rattle.ion_text_out.specs.Escape.{between_quotes};
 ghost use Rattle.ion_text_out.specs.Text.{end_text, opener};
-ghost use Rattle.ion_text_out.specs.Lane.{needs_quotes, plain_front, plain_name, plain_note, plain_scalar, spelling, symbol_in, text_in};
+ghost use Rattle.ion_text_out.specs.Lane.{is_said_simple, plain_front, plain_name, plain_note, plain_scalar, spelling, symbol_in, text_in};
 
 use crate::between::{before, behind, behind_end, closing, opener};
 use crate::quote::{stands_in_string, stands_in_symbol};
 use ion_meter::device::Output;
 use ion_meter::sink::Sink;
 use ion_value::ion_type::Kind;
-use ion_value::name::is_plain;
 use ion_value::plain_item::TextAt;
 use itoa::Buffer;
 use std::alloc::Allocator;
@@ -29,38 +26,23 @@ pub fn text_in(at: Option<TextAt<'_>>) -> &[u8]
     }
 }
 
-/// Whether a field's name or an annotation, of which each may be there, stands between quotes.
+/// Whether a field's name and an annotation, each where there is one, are said to be simple.
 #[inline(always)]
-pub fn need_quotes(field: Option<TextAt<'_>>, annotation: Option<TextAt<'_>>) -> bool
-    requires field { IfSome field IsRightlySimple }
-    requires annotation { IfSome annotation IsRightlySimple }
-    ensures { result ≡ (needs_quotes field.entry || needs_quotes annotation.entry) }
+pub fn are_simple(field: Option<TextAt<'_>>, annotation: Option<TextAt<'_>>) -> bool
+    ensures { result ≡ (is_said_simple field.entry && is_said_simple annotation.entry) }
 {
-    needs_quotes(field) || needs_quotes(annotation)
+    is_said_simple(field) && is_said_simple(annotation)
 }
 
-// Whether a symbol that may be there does.
+// Whether a symbol that may be there is.
 #[inline(always)]
-fn needs_quotes(at: Option<TextAt<'_>>) -> bool
-    requires { IfSome at IsRightlySimple }
-    ensures { result ≡ needs_quotes at.entry }
+fn is_said_simple(at: Option<TextAt<'_>>) -> bool
+    ensures { result ≡ is_said_simple at.entry }
 {
-    let Some(symbol) = at else {
-        return false;
-    };
-    if symbol.simple {
-        return false;
+    match at {
+        Some(symbol) => symbol.simple,
+        None => true,
     }
-    is_quoted(symbol.text)
-}
-
-// Whether a symbol of this text does.
-#[cold]
-#[inline(never)]
-fn is_quoted(text: &[u8]) -> bool
-    ensures { result ≡ not (is_plain text.now) }
-{
-    !is_plain(text)
 }
 
 /// Whether a field's name and an annotation, each where there is one, have a byte.

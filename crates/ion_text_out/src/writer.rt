@@ -23,7 +23,7 @@ ghost use Rattle.ion_text_out.specs.Written.{text_grows, text-within};
 use crate::between::before;
 use crate::item::put_item;
 use crate::lane::{
-    has_room, have_bytes, need_quotes, put_begin, put_end, put_int, put_quoted_symbol, put_scalar,
+    are_simple, has_room, have_bytes, put_begin, put_end, put_int, put_quoted_symbol, put_scalar,
     put_string, text_in,
 };
 use crate::scalar::{bool_text, null};
@@ -440,7 +440,7 @@ impl<A: Allocator + Copy> TextWriter<A> {
         }
     }
 
-    // The same of an item whose name or annotation stands between quotes, by their texts. Decimals and
+    // The same of an item whose name or annotation may stand between quotes, by their texts. Decimals and
     // timestamps are declined where they come without a text.
     #[inline(always)]
     fn take_quoted_names<O: Output>(
@@ -482,7 +482,7 @@ impl<A: Allocator + Copy> TextWriter<A> {
     }
 }
 
-// The calls of `take_plain` for items whose name or annotation stands between quotes: they have the
+// The calls of `take_plain` for items whose name or annotation may stand between quotes: they have the
 // texts of both, and spell them first. They are marked as cold, so that what leads to them stands apart
 // from what is frequent, and takes no register from it.
 impl<A: Allocator + Copy> TextWriter<A> {
@@ -726,7 +726,7 @@ impl<O: Output, A: Allocator + Copy> ValueWriter<O, A> for TextWriter<A> {
     ) -> bool {
         let name = text_in(item.field);
         let note = text_in(item.annotation);
-        if need_quotes(item.field, item.annotation) {
+        if !are_simple(item.field, item.annotation) {
             if !have_bytes(item.field, item.annotation) {
                 return false;
             }

@@ -26,8 +26,8 @@ take_head-requires-clause-comes g c =
       fits = has_room w.limits w.kinds w.empty at.0 item at.1.1 at.2;
     }
 
-pub returns-then-need_quotes-clause-puts : goal.returns-then-need_quotes-clause-puts
-returns-then-need_quotes-clause-puts g c e path stands continues =
+pub returns-then-not-are_simple-clause-puts : goal.returns-then-not-are_simple-clause-puts
+returns-then-not-are_simple-clause-puts g c e path stands continues =
     let w = c.args.self.now in
     let item = c.args.item in
     let bytes = c.have_bytes.ensures in
@@ -40,6 +40,6 @@ pub returns-clause-puts : goal.returns-clause-puts
 returns-clause-puts g c e path stands continues =
     let w = c.args.self.now in
     let item = c.args.item in
-    let stand = both_stand item.field item.annotation (sym c.need_quotes.ensures ∙ c.if-need_quotes.false) in
+    let stand = both_stand item c.requires.simple (sym c.are_simple.ensures ∙ c.if-not-are_simple.false) in
     adds_here w.limits w.kinds w.empty path item _ _ _ stands.1 (ap (λ s. s.pending) (c.take_head.ensures.puts e))
     (item_put (shown w.kinds w.empty) item c.text_in-name.result.now c.text_in-note.result.now (c.text_in-name.ensures ∙ stand.0) (c.text_in-note.ensures ∙ stand.1))

@@ -19,13 +19,9 @@ use Rattle.ion_meter.specs.declared.limits.Limits.{Limits}
 use Rattle.ion_text_out.specs.Writing.{behind_end, closing, shown, text_adds, Shows}
 use Rattle.ion_text_out.specs.Lane.{is_said_simple, plain_begin, plain_front, plain_name, plain_note, plain_scalar, spelling, symbol_in, text_in}
 
-both-left : (a b : Bool) → (a && b) ≡ true → a ≡ true
-both-left true b e = refl
-both-left false b e = absurd (cc e)
-
 -- a simple text is plain
 simple_plain : (bytes : List ℕ) → is_simple bytes ≡ true → is_plain bytes ≡ true
-simple_plain bytes simple = both-left (is_plain bytes) _ simple
+simple_plain bytes simple = (and_parts (is_plain bytes) _ simple).0
 
 -- a plain one is put as it stands
 pub plain_text : (bytes : List ℕ) → is_plain bytes ≡ true → symbol_text (v.Known bytes) ≡ bytes
@@ -35,7 +31,7 @@ plain_text bytes plain = rw plain refl
 pub quoted_text : (bytes : List ℕ) → is_plain bytes ≡ false → symbol_text (v.Known bytes) ≡ between_quotes 39 256 bytes
 quoted_text bytes plain = rw plain refl
 
--- so is that of a symbol
+-- the same of a symbol
 pub plain_symbol : (s : Symbol) (bytes : List ℕ) → s ≡ v.Text bytes → is_plain bytes ≡ true → symbol_text (user_symbol s) ≡ bytes
 plain_symbol s bytes is plain = rw (is, plain) refl
 
@@ -60,13 +56,10 @@ both_stand item right said =
     let both = and_parts (is_said_simple item.field) (is_said_simple item.annotation) said in
     (as_it_stands item.field right.field both.0, as_it_stands item.annotation right.annotation both.1)
 
--- a symbol whose text has a byte, or none, is spelled by its text
+-- a text that has a byte is that of a symbol
 pub spelling_is : (text : List ℕ) → 0 < length text → symbol_text (v.Known text) ≡ spelling text
 spelling_is [] some = absurd (omega (arith, some))
 spelling_is (b ∷ bytes) some = refl
-
-pub spelled_in : (symbol : Option TextAt) (t : TextAt) → symbol ≡ Some t → 0 < length t.text.now → spelling (text_in symbol) ≡ symbol_in symbol
-spelled_in symbol t is some = rw is (sym (spelling_is t.text.now some))
 
 -- the text of a symbol has a byte, by which it is told from one that is not there
 named_by : (plain : Bool) (b : ℕ) (bytes inside : List ℕ) → (if plain then b ∷ bytes else 39 ∷ inside) ++ codes ":" ≡ plain_name (if plain then b ∷ bytes else 39 ∷ inside)

@@ -11,8 +11,8 @@ use ion_value::name::is_plain;
 /// The most bytes that are kept of a symbol, its quotes among them.
 pub const LONGEST: usize = 130;
 
-/// Spells a symbol that may be there, by its text, in a vector that is empty: none has an empty text. It
-/// answers false where the spelling is longer or has escapes.
+/// Spells a symbol that may be there, by its text, in a vector that is empty: none has an empty text.
+/// It answers false where the spelling is longer or has escapes.
 #[inline(always)]
 pub fn spell(spelled: &mut ArrayVec<u8, LONGEST>, text: &[u8]) -> bool
     requires { spelled.old.items ≡ [] }

@@ -440,8 +440,8 @@ impl<A: Allocator + Copy> TextWriter<A> {
         }
     }
 
-    // The same of an item whose name or annotation may stand between quotes, by their texts. Decimals and
-    // timestamps are declined where they come without a text.
+    // The same of an item whose name or annotation may stand between quotes, by their texts. Decimals
+    // and timestamps are declined where they come without a text.
     #[inline(always)]
     fn take_quoted_names<O: Output>(
         &mut self,
@@ -482,9 +482,9 @@ impl<A: Allocator + Copy> TextWriter<A> {
     }
 }
 
-// The calls of `take_plain` for items whose name or annotation may stand between quotes: they have the
-// texts of both, and spell them first. They are marked as cold, so that what leads to them stands apart
-// from what is frequent, and takes no register from it.
+// The calls of `take_plain` for items whose name or annotation may stand between quotes: they have
+// the texts of both, and spell them first. They are marked as cold, so that what leads to them stands
+// apart from what is frequent, and takes no register from it.
 impl<A: Allocator + Copy> TextWriter<A> {
     // A scalar of this text.
     #[cold]
@@ -527,7 +527,8 @@ impl<A: Allocator + Copy> TextWriter<A> {
         ensures declines { result ≡ false → (self.new ≡ self.old) × (sink.new ≡ sink.old) }
         ensures puts { result ≡ true → sink.new ≡ record sink.old {
           pending = sink.old.pending ++ plain_scalar (opened_in self.old)
-              (spelling name.now) (spelling note.now) (symbol_text (user_symbol (symbol_of symbol.entry)));
+              (spelling name.now) (spelling note.now)
+              (symbol_text (user_symbol (symbol_of symbol.entry)));
         } }
         ensures behind { result ≡ true → self.new ≡ record self.old { empty = false } }
     {
@@ -578,7 +579,8 @@ impl<A: Allocator + Copy> TextWriter<A> {
         ensures declines { result ≡ false → (self.new ≡ self.old) × (sink.new ≡ sink.old) }
         ensures puts { result ≡ true → sink.new ≡ record sink.old {
           pending = sink.old.pending ++ plain_scalar (opened_in self.old)
-              (spelling name.now) (spelling note.now) (int_text (record { negative = negative; magnitude = magnitude }));
+              (spelling name.now) (spelling note.now)
+              (int_text (record { negative = negative; magnitude = magnitude }));
         } }
         ensures behind { result ≡ true → self.new ≡ record self.old { empty = false } }
     {

@@ -1,5 +1,5 @@
 -- What is put of a plain item is its text.
-use Rattle.std.proofs.Common.{◌≡◌, ℕ, ◌<◌, ◌≤◌, Bool, true, false, ◌&&◌, List, [], ◌∷◌, ◌++◌, length, Option, Some, None, refl, sym, ap, ◌∙◌, append-nil, arith, if◌then◌else◌}
+use Rattle.std.proofs.Common.{◌≡◌, ℕ, ◌<◌, ◌≤◌, Bool, true, false, List, [], ◌∷◌, ◌++◌, length, Option, Some, None, refl, sym, ap, ◌∙◌, append-nil, arith, if◌then◌else◌}
 use Rattle.std.proofs.lemmas.Bool.{and_parts}
 use Rattle.std.specs.Prelude.{map, option_map, codes, IfSome}
 use Rattle.std.specs.List.{flat_map}
@@ -8,7 +8,7 @@ use Rattle.ion_value.specs.Name.{is_plain, is_simple}
 use Rattle.ion_value.specs.Value as v
 use Rattle.ion_value.specs.Value.{PlacedItem, SymbolAt, Symbol, map_head, map_scalar, user_symbol, user_symbol_at, user_item}
 use Rattle.ion_value.specs.Items.{raw_head}
-use Rattle.ion_value.specs.PlainItems.{IsOwnText, IsRightlySimple, IsTextOf, SaysRightly, listed, placed_item, placed_text}
+use Rattle.ion_value.specs.PlainItems.{IsOwnText, IsRightlySimple, IsTextOf, listed, placed_item, placed_text}
 use Rattle.ion_value.specs.declared.ion_type.Kind.{Kind}
 use Rattle.ion_value.specs.declared.ion_type.Kind.TheVariants as kind
 use Rattle.ion_value.specs.declared.plain_item.TextAt.{TextAt}
@@ -46,20 +46,27 @@ own_text text (v.Id id) is = absurd is
 -- ---- names and annotations
 
 -- a symbol that is rightly said to be simple is put as it stands
-as_it_stands : (symbol : Option TextAt) → IfSome symbol IsRightlySimple → is_said_simple symbol ≡ true → text_in symbol ≡ symbol_in symbol
+pub as_it_stands : (symbol : Option TextAt) → IfSome symbol IsRightlySimple → is_said_simple symbol ≡ true → text_in symbol ≡ symbol_in symbol
 as_it_stands None right said = refl
 as_it_stands (Some t) right said = sym (plain_text t.text.now (simple_plain t.text.now (right said)))
-
--- both of an item
-pub both_stand : (item : PlainItem) → SaysRightly item → (is_said_simple item.field && is_said_simple item.annotation) ≡ true → (text_in item.field ≡ symbol_in item.field) × (text_in item.annotation ≡ symbol_in item.annotation)
-both_stand item right said =
-    let both = and_parts (is_said_simple item.field) (is_said_simple item.annotation) said in
-    (as_it_stands item.field right.field both.0, as_it_stands item.annotation right.annotation both.1)
 
 -- a text that has a byte is that of a symbol
 pub spelling_is : (text : List ℕ) → 0 < length text → symbol_text (v.Known text) ≡ spelling text
 spelling_is [] some = absurd (omega (arith, some))
 spelling_is (b ∷ bytes) some = refl
+
+simple_spelling : (text : List ℕ) → is_simple text ≡ true → spelling text ≡ symbol_text (v.Known text)
+simple_spelling [] simple = absurd (cc simple)
+simple_spelling (b ∷ bytes) simple = refl
+
+-- so is one that is rightly said to be simple, or that of none
+pub simple_spelled : (symbol : Option TextAt) → IfSome symbol IsRightlySimple → is_said_simple symbol ≡ true → spelling (text_in symbol) ≡ symbol_in symbol
+simple_spelled None right said = refl
+simple_spelled (Some t) right said = simple_spelling t.text.now (right said)
+
+pub some_spelled : (symbol : Option TextAt) (text : List ℕ) → text ≡ text_in symbol → 0 < length text → spelling text ≡ symbol_in symbol
+some_spelled None text is some = let none = ap length is in absurd (omega (arith, none, some))
+some_spelled (Some t) text is some = sym (spelling_is text some) ∙ ap (λ (l : List ℕ). symbol_text (v.Known l)) is
 
 -- the text of a symbol has a byte, by which it is told from one that is not there
 named_by : (plain : Bool) (b : ℕ) (bytes inside : List ℕ) → (if plain then b ∷ bytes else 39 ∷ inside) ++ codes ":" ≡ plain_name (if plain then b ∷ bytes else 39 ∷ inside)

@@ -1,6 +1,8 @@
 //! Plain items, put in one go where the window on the output has room for them.
-ghost use Rattle.std.specs.Prelude.{◌≡◌, ◌+◌, ◌^◌, ◌≤◌, ◌<◌, ◌++◌, ◌∷◌, ◌&&◌, [], length, true, false, if◌then◌else◌};
+ghost use Rattle.std.specs.Prelude.{◌≡◌, ◌+◌, ◌^◌, ◌≤◌, ◌<◌, ◌++◌, ◌∷◌, ◌&&◌, [], length, true, false, if◌then◌else◌, Option, IfSome};
 ghost use Rattle.ion_value.specs.Int.{int_text};
+ghost use Rattle.ion_value.specs.PlainItems.{IsRightlySimple};
+ghost use Rattle.ion_value.specs.declared.plain_item.TextAt.{TextAt};
 ghost use Rattle.ion_text_out.specs.Writing.{behind_end, closing, shown};
 ghost use Rattle.ion_text_out.specs.Escape.{between_quotes};
 ghost use Rattle.ion_text_out.specs.Text.{end_text, opener};
@@ -15,54 +17,41 @@ use ion_value::plain_item::TextAt;
 use itoa::Buffer;
 use std::alloc::Allocator;
 
-/// The text of a symbol that may be there, empty where there is none.
+/// The text of a symbol that may be there, empty where there is none, and whether it is said to be
+/// simple, as is said of none too. Both come of one branch.
 #[inline(always)]
-pub fn text_in(at: Option<TextAt<'_>>) -> &[u8]
-    ensures { result.now ≡ text_in at.entry }
+pub fn text_in(at: Option<TextAt<'_>>) -> (&[u8], bool)
+    ensures text { result.0.now ≡ text_in at.entry }
+    ensures simple { result.1 ≡ is_said_simple at.entry }
 {
     match at {
-        Some(at) => at.text,
-        None => b"",
+        Some(at) => (at.text, at.simple),
+        None => (b"", true),
     }
 }
 
-/// Whether a field's name and an annotation, each where there is one, are said to be simple.
+/// Whether both are so.
 #[inline(always)]
-pub fn are_simple(field: Option<TextAt<'_>>, annotation: Option<TextAt<'_>>) -> bool
-    ensures { result ≡ (is_said_simple field.entry && is_said_simple annotation.entry) }
+pub fn both(name: bool, note: bool) -> bool
+    ensures { result ≡ (name && note) }
 {
-    is_said_simple(field) && is_said_simple(annotation)
+    name && note
 }
 
-// Whether a symbol that may be there is.
+/// Whether a symbol that may be there is spelled by this text: an empty one that is not said to be
+/// simple is that of a symbol, and not of none.
 #[inline(always)]
-fn is_said_simple(at: Option<TextAt<'_>>) -> bool
-    ensures { result ≡ is_said_simple at.entry }
+pub fn has_spelling(text: &[u8], simple: bool) -> bool
+    ensures { result ≡ true → (at : Option TextAt) → text.now ≡ text_in at
+        → simple ≡ is_said_simple at → IfSome at IsRightlySimple
+        → spelling text.now ≡ symbol_in at }
 {
-    match at {
-        Some(symbol) => symbol.simple,
-        None => true,
+    if simple {
+        return true;
     }
-}
-
-/// Whether a field's name and an annotation, each where there is one, have a byte.
-#[inline(always)]
-pub fn have_bytes(field: Option<TextAt<'_>>, annotation: Option<TextAt<'_>>) -> bool
-    ensures field { result ≡ true → spelling (text_in field.entry) ≡ symbol_in field.entry }
-    ensures annotation { result ≡ true
-        → spelling (text_in annotation.entry) ≡ symbol_in annotation.entry }
-{
-    has_byte(field) && has_byte(annotation)
-}
-
-// Whether a symbol that may be there has.
-#[inline(always)]
-fn has_byte(at: Option<TextAt<'_>>) -> bool
-    ensures { result ≡ true → spelling (text_in at.entry) ≡ symbol_in at.entry }
-{
-    match at {
-        Some(symbol) => !symbol.text.is_empty(),
-        None => true,
+    match text {
+        [] => false,
+        _ => true,
     }
 }
 

@@ -1,5 +1,6 @@
 -- What is put of a plain item is its text.
-use Rattle.std.proofs.Common.{◌≡◌, ℕ, ◌≤◌, Bool, true, false, not, ◌&&◌, ◌||◌, List, [], ◌∷◌, ◌++◌, length, Option, Some, None, refl, sym, subst, ap, ◌∙◌, append-nil, arith, if◌then◌else◌}
+use Rattle.std.proofs.Common.{◌≡◌, ℕ, ◌<◌, ◌≤◌, Bool, true, false, List, [], ◌∷◌, ◌++◌, length, Option, Some, None, refl, sym, ap, ◌∙◌, append-nil, arith, if◌then◌else◌}
+use Rattle.std.proofs.lemmas.Bool.{and_parts}
 use Rattle.std.specs.Prelude.{map, option_map, codes, IfSome}
 use Rattle.std.specs.List.{flat_map}
 use Rattle.ion_meter.specs.Windows.{Outgoing}
@@ -16,15 +17,11 @@ use Rattle.ion_text_out.specs.Escape.{between_quotes, byte_text}
 use Rattle.ion_text_out.specs.Text.{Open, annotation_text, before_item, behind_value, field_text, head_text, item_text, opener, scalar_text, symbol_text}
 use Rattle.ion_meter.specs.declared.limits.Limits.{Limits}
 use Rattle.ion_text_out.specs.Writing.{behind_end, closing, shown, text_adds, Shows}
-use Rattle.ion_text_out.specs.Lane.{needs_quotes, plain_begin, plain_front, plain_name, plain_note, plain_scalar, symbol_in, text_in}
-
-both-left : (a b : Bool) → (a && b) ≡ true → a ≡ true
-both-left true b e = refl
-both-left false b e = absurd (cc e)
+use Rattle.ion_text_out.specs.Lane.{is_said_simple, plain_begin, plain_front, plain_name, plain_note, plain_scalar, spelling, symbol_in, text_in}
 
 -- a simple text is plain
 simple_plain : (bytes : List ℕ) → is_simple bytes ≡ true → is_plain bytes ≡ true
-simple_plain bytes simple = both-left (is_plain bytes) _ simple
+simple_plain bytes simple = (and_parts (is_plain bytes) _ simple).0
 
 -- a plain one is put as it stands
 pub plain_text : (bytes : List ℕ) → is_plain bytes ≡ true → symbol_text (v.Known bytes) ≡ bytes
@@ -34,7 +31,7 @@ plain_text bytes plain = rw plain refl
 pub quoted_text : (bytes : List ℕ) → is_plain bytes ≡ false → symbol_text (v.Known bytes) ≡ between_quotes 39 256 bytes
 quoted_text bytes plain = rw plain refl
 
--- so is that of a symbol
+-- the same of a symbol
 pub plain_symbol : (s : Symbol) (bytes : List ℕ) → s ≡ v.Text bytes → is_plain bytes ≡ true → symbol_text (user_symbol s) ≡ bytes
 plain_symbol s bytes is plain = rw (is, plain) refl
 
@@ -48,30 +45,28 @@ own_text text (v.Id id) is = absurd is
 
 -- ---- names and annotations
 
-either : (a b : Bool) → (a || b) ≡ false → (a ≡ false) × (b ≡ false)
-either true b e = absurd (cc e)
-either false b e = (refl, e)
+-- a symbol that is rightly said to be simple is put as it stands
+pub as_it_stands : (symbol : Option TextAt) → IfSome symbol IsRightlySimple → is_said_simple symbol ≡ true → text_in symbol ≡ symbol_in symbol
+as_it_stands None right said = refl
+as_it_stands (Some t) right said = sym (plain_text t.text.now (simple_plain t.text.now (right said)))
 
-was_true : (b : Bool) → not b ≡ false → b ≡ true
-was_true true e = refl
-was_true false e = absurd (cc e)
+-- a text that has a byte is that of a symbol
+pub spelling_is : (text : List ℕ) → 0 < length text → symbol_text (v.Known text) ≡ spelling text
+spelling_is [] some = absurd (omega (arith, some))
+spelling_is (b ∷ bytes) some = refl
 
--- a symbol that is said to be simple needs no quotes
-pub none_needed : (symbol : Option TextAt) (t : TextAt) → symbol ≡ Some t → IfSome symbol IsRightlySimple → t.simple ≡ true → false ≡ needs_quotes symbol
-none_needed symbol t is right said =
-    let simple : IsRightlySimple t = subst (λ (s : Option TextAt). IfSome s IsRightlySimple) is right in
-    rw (is, simple_plain t.text.now (simple said)) refl
+simple_spelling : (text : List ℕ) → is_simple text ≡ true → spelling text ≡ symbol_text (v.Known text)
+simple_spelling [] simple = absurd (cc simple)
+simple_spelling (b ∷ bytes) simple = refl
 
--- what needs none is put as it stands
-as_it_stands : (symbol : Option TextAt) → needs_quotes symbol ≡ false → text_in symbol ≡ symbol_in symbol
-as_it_stands None none = refl
-as_it_stands (Some t) none = sym (plain_text t.text.now (was_true (is_plain t.text.now) none))
+-- so is one that is rightly said to be simple, or that of none
+pub simple_spelled : (symbol : Option TextAt) → IfSome symbol IsRightlySimple → is_said_simple symbol ≡ true → spelling (text_in symbol) ≡ symbol_in symbol
+simple_spelled None right said = refl
+simple_spelled (Some t) right said = simple_spelling t.text.now (right said)
 
--- both of an item
-pub both_stand : (field annotation : Option TextAt) → (needs_quotes field || needs_quotes annotation) ≡ false → (text_in field ≡ symbol_in field) × (text_in annotation ≡ symbol_in annotation)
-both_stand field annotation none =
-    let both = either (needs_quotes field) (needs_quotes annotation) none in
-    (as_it_stands field both.0, as_it_stands annotation both.1)
+pub some_spelled : (symbol : Option TextAt) (text : List ℕ) → text ≡ text_in symbol → 0 < length text → spelling text ≡ symbol_in symbol
+some_spelled None text is some = let none = ap length is in absurd (omega (arith, none, some))
+some_spelled (Some t) text is some = sym (spelling_is text some) ∙ ap (λ (l : List ℕ). symbol_text (v.Known l)) is
 
 -- the text of a symbol has a byte, by which it is told from one that is not there
 named_by : (plain : Bool) (b : ℕ) (bytes inside : List ℕ) → (if plain then b ∷ bytes else 39 ∷ inside) ++ codes ":" ≡ plain_name (if plain then b ∷ bytes else 39 ∷ inside)
@@ -139,6 +134,13 @@ spelled_put cs name note text head is =
 pub begin_put : (cs : Open) (name note : List ℕ) (head : v.Head SymbolAt) (kind : Kind) → head ≡ v.begin kind
     → plain_begin cs name note (opener kind) ≡ head_text cs (plain_front name note) (map_head user_symbol_at head)
 begin_put cs name note head kind is = rw is refl
+
+-- the same texts are put alike
+pub scalar_same : (cs : Open) (a b c d text : List ℕ) → a ≡ b → c ≡ d → plain_scalar cs a c text ≡ plain_scalar cs b d text
+scalar_same cs a b c d text p q = rw (p, q) refl
+
+pub begin_same : (cs : Open) (a b c d bracket : List ℕ) → a ≡ b → c ≡ d → plain_begin cs a c bracket ≡ plain_begin cs b d bracket
+begin_same cs a b c d bracket p q = rw (p, q) refl
 
 -- what was put is a text that is the same
 pub puts_same : {O : Type 0} (old new : Outgoing O) (put text : List ℕ) → new ≡ record old { pending = old.pending ++ put } → put ≡ text → new ≡ record old { pending = old.pending ++ text }

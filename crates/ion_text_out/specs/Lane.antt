@@ -1,6 +1,5 @@
 -- What is put of a plain item.
-use Rattle.std.specs.Prelude.{ℕ, Bool, false, not, List, [], ◌∷◌, ◌++◌, Option, Some, None, codes}
-use Rattle.ion_value.specs.Name.{is_plain}
+use Rattle.std.specs.Prelude.{ℕ, Bool, true, List, [], ◌∷◌, ◌++◌, Option, Some, None, codes}
 use Rattle.ion_value.specs.Value.{Known}
 use Rattle.ion_value.specs.declared.plain_item.TextAt.{TextAt}
 use Rattle.ion_text_out.specs.Text.{Open, before_item, behind_value, symbol_text}
@@ -15,10 +14,15 @@ abbrev pub symbol_in : Option TextAt → List ℕ
 symbol_in None = []
 symbol_in (Some t) = symbol_text (Known t.text.now)
 
--- whether there is one that stands between quotes
-abbrev pub needs_quotes : Option TextAt → Bool
-needs_quotes None = false
-needs_quotes (Some t) = not (is_plain t.text.now)
+-- the canonical text of a symbol by its text, nothing where that is empty: then there is none
+abbrev pub spelling : List ℕ → List ℕ
+spelling [] = []
+spelling (b ∷ bs) = symbol_text (Known (b ∷ bs))
+
+-- whether it is said to be simple, as is said of none too
+abbrev pub is_said_simple : Option TextAt → Bool
+is_said_simple None = true
+is_said_simple (Some t) = t.simple
 
 -- a field's name and a colon, and nothing where there is no name
 abbrev pub plain_name : List ℕ → List ℕ

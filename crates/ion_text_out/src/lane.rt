@@ -1,65 +1,58 @@
 //! Plain items, put in one go where the window on the output has room for them.
-ghost use Rattle.std.specs.Prelude.{◌≡◌, ◌+◌, ◌^◌, ◌≤◌, ◌<◌, ◌++◌, ◌∷◌, ◌||◌, [], length, not, true, false, if◌then◌else◌, IfSome};
+ghost use Rattle.std.specs.Prelude.{◌≡◌, ◌+◌, ◌^◌, ◌≤◌, ◌<◌, ◌++◌, ◌∷◌, ◌&&◌, [], length, true, false, if◌then◌else◌, Option, IfSome};
 ghost use Rattle.ion_value.specs.Int.{int_text};
-ghost use Rattle.ion_value.specs.Name.{is_plain};
 ghost use Rattle.ion_value.specs.PlainItems.{IsRightlySimple};
+ghost use Rattle.ion_value.specs.declared.plain_item.TextAt.{TextAt};
 ghost use Rattle.ion_text_out.specs.Writing.{behind_end, closing, shown};
 ghost use Rattle.ion_text_out.specs.Escape.{between_quotes};
 ghost use Rattle.ion_text_out.specs.Text.{end_text, opener};
-ghost use Rattle.ion_text_out.specs.Lane.{needs_quotes, plain_front, plain_name, plain_note, plain_scalar, text_in};
+ghost use Rattle.ion_text_out.specs.Lane.{is_said_simple, plain_front, plain_name, plain_note, plain_scalar, spelling, symbol_in, text_in};
 
 use crate::between::{before, behind, behind_end, closing, opener};
 use crate::quote::{stands_in_string, stands_in_symbol};
 use ion_meter::device::Output;
 use ion_meter::sink::Sink;
 use ion_value::ion_type::Kind;
-use ion_value::name::is_plain;
 use ion_value::plain_item::TextAt;
 use itoa::Buffer;
 use std::alloc::Allocator;
 
-/// The text of a symbol that may be there, empty where there is none.
+/// The text of a symbol that may be there, empty where there is none, and whether it is said to be
+/// simple, as is said of none too. Both come of one branch.
 #[inline(always)]
-pub fn text_in(at: Option<TextAt<'_>>) -> &[u8]
-    ensures { result.now ≡ text_in at.entry }
+pub fn text_in(at: Option<TextAt<'_>>) -> (&[u8], bool)
+    ensures text { result.0.now ≡ text_in at.entry }
+    ensures simple { result.1 ≡ is_said_simple at.entry }
 {
     match at {
-        Some(at) => at.text,
-        None => b"",
+        Some(at) => (at.text, at.simple),
+        None => (b"", true),
     }
 }
 
-/// Whether a field's name or an annotation, of which each may be there, stands between quotes.
+/// Whether both are so.
 #[inline(always)]
-pub fn need_quotes(field: Option<TextAt<'_>>, annotation: Option<TextAt<'_>>) -> bool
-    requires field { IfSome field IsRightlySimple }
-    requires annotation { IfSome annotation IsRightlySimple }
-    ensures { result ≡ (needs_quotes field.entry || needs_quotes annotation.entry) }
+pub fn both(name: bool, note: bool) -> bool
+    ensures { result ≡ (name && note) }
 {
-    needs_quotes(field) || needs_quotes(annotation)
+    name && note
 }
 
-// Whether a symbol that may be there does.
+/// Whether a symbol that may be there is spelled by this text: an empty one that is not said to be
+/// simple is that of a symbol, and not of none.
 #[inline(always)]
-fn needs_quotes(at: Option<TextAt<'_>>) -> bool
-    requires { IfSome at IsRightlySimple }
-    ensures { result ≡ needs_quotes at.entry }
+pub fn has_spelling(text: &[u8], simple: bool) -> bool
+    ensures { result ≡ true → (at : Option TextAt) → text.now ≡ text_in at
+        → simple ≡ is_said_simple at → IfSome at IsRightlySimple
+        → spelling text.now ≡ symbol_in at }
 {
-    let Some(symbol) = at else {
-        return false;
-    };
-    if symbol.simple {
-        return false;
+    if simple {
+        return true;
     }
-    is_quoted(symbol.text)
-}
-
-// Whether a symbol of this text does.
-#[inline(never)]
-fn is_quoted(text: &[u8]) -> bool
-    ensures { result ≡ not (is_plain text.now) }
-{
-    !is_plain(text)
+    match text {
+        [] => false,
+        _ => true,
+    }
 }
 
 /// Whether there is room for a field's name, an annotation, so many bytes, and two marks of a byte.

@@ -1,31 +1,30 @@
 //! The canonical texts of symbols, in a few bytes.
 ghost use Rattle.std.specs.Prelude.{◌≡◌, ◌∷◌, ◌++◌, [], true};
 ghost use Rattle.ion_value.specs.Value.{Known};
-ghost use Rattle.ion_text_out.specs.Lane.{symbol_in};
+ghost use Rattle.ion_text_out.specs.Lane.{spelling};
 ghost use Rattle.ion_text_out.specs.Text.{symbol_text};
 
 use crate::quote::stands_in_symbol;
 use arrayvec::ArrayVec;
 use ion_value::name::is_plain;
-use ion_value::plain_item::TextAt;
 
 /// The most bytes that are kept of a symbol, its quotes among them.
 pub const LONGEST: usize = 130;
 
-/// Spells a symbol that may be there, in a vector that is empty. It answers false where its text is
-/// longer or has escapes.
+/// Spells a symbol that may be there, by its text, in a vector that is empty: none has an empty text.
+/// It answers false where the spelling is longer or has escapes.
 #[inline(always)]
-pub fn spell(spelled: &mut ArrayVec<u8, LONGEST>, at: Option<TextAt<'_>>) -> bool
+pub fn spell(spelled: &mut ArrayVec<u8, LONGEST>, text: &[u8]) -> bool
     requires { spelled.old.items ≡ [] }
-    ensures { result ≡ true → spelled.new.items ≡ symbol_in at.entry }
+    ensures { result ≡ true → spelled.new.items ≡ spelling text.now }
 {
-    match at {
-        Some(symbol) => spell_text(spelled, symbol.text),
-        None => true,
+    match text {
+        [] => true,
+        _ => spell_text(spelled, text),
     }
 }
 
-// The same of a symbol of this text.
+// The same of one that is there.
 #[inline(never)]
 fn spell_text(spelled: &mut ArrayVec<u8, LONGEST>, text: &[u8]) -> bool
     requires { spelled.old.items ≡ [] }

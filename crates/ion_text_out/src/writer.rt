@@ -9,11 +9,11 @@ ghost use Rattle.ion_value.specs.Decimal.{IsDecimal, decimal_text};
 ghost use Rattle.ion_value.specs.Timestamp.{IsTimestamp, timestamp_text};
 ghost use Rattle.ion_value.specs.Int.{int_text};
 ghost use Rattle.ion_value.specs.Items.{raw_head, item_of, symbol_of};
-ghost use Rattle.ion_value.specs.PlainItems.{IsSpelled, IsTextOf, placed_item};
+ghost use Rattle.ion_value.specs.PlainItems.{IsTextOf};
 ghost use Rattle.ion_value.specs.Shares.{MemoryCauses, WriteCauses, fault_of};
 ghost use Rattle.ion_text_out.specs.Escape.{between_quotes};
 ghost use Rattle.ion_text_out.specs.Text.{end_text, head_text, open_after, opener, symbol_text, with_member};
-ghost use Rattle.ion_text_out.specs.Lane.{plain_begin, plain_front, plain_scalar};
+ghost use Rattle.ion_text_out.specs.Lane.{plain_begin, plain_front, plain_scalar, spelling};
 ghost use Rattle.ion_text_out.specs.Writing.{text_puts, text_adds, text_refusal, IsReady, Shows};
 ghost use Rattle.ion_value.specs.Value.{user_symbol, user_symbol_at};
 ghost use Rattle.ion_value.specs.Standing.{HeadInRange};
@@ -23,8 +23,8 @@ ghost use Rattle.ion_text_out.specs.Written.{text_grows, text-within};
 use crate::between::before;
 use crate::item::put_item;
 use crate::lane::{
-    has_room, need_quotes, put_begin, put_end, put_int, put_quoted_symbol, put_scalar, put_string,
-    text_in,
+    both, has_room, has_spelling, put_begin, put_end, put_int, put_quoted_symbol, put_scalar,
+    put_string, text_in,
 };
 use crate::scalar::{bool_text, null};
 use crate::symbol::spell;
@@ -440,42 +440,233 @@ impl<A: Allocator + Copy> TextWriter<A> {
         }
     }
 
-    // An item whose name or annotation stands between quotes: the texts of both are spelled first.
-    #[inline(never)]
+    // The same of an item whose name or annotation may stand between quotes, by their texts. Decimals
+    // and timestamps are declined where they come without a text.
+    #[inline(always)]
     fn take_quoted_names<O: Output>(
         &mut self,
         meter: &mut Meter<A>,
         sink: &mut Sink<O, A>,
-        item: PlainItem<'_, '_>,
+        name: &[u8],
+        note: &[u8],
+        head: Head<'_>,
+        spelled: Option<&[u8]>,
     ) -> bool
         requires can_step { CanStep self.old meter.old }
-        requires comes { MayCome self.old (raw_head item.head) }
-        requires spelled { IsSpelled item }
+        requires comes { MayCome self.old (raw_head head) }
+        requires spelled { IfSome spelled (λ text. IsTextOf text.now (raw_head head)) }
         ensures declines { result ≡ false
             → (self.new ≡ self.old) × (sink.new ≡ sink.old) × (meter.new ≡ meter.old) }
         ensures puts { result ≡ true → sink.new ≡ record sink.old {
-          pending = sink.old.pending ++ text_of self.old (placed_item item.entry);
+          pending = sink.old.pending ++ head_text (opened_in self.old)
+              (plain_front (spelling name.now) (spelling note.now))
+              (map_head user_symbol_at (raw_head head.entry));
         } }
         ensures opens { result ≡ true → opened_in self.new
-            ≡ open_after (opened_in self.old) (map_head user_symbol_at (raw_head item.entry.head)) }
+            ≡ open_after (opened_in self.old) (map_head user_symbol_at (raw_head head.entry)) }
         ensures counted { meter.new.refused ≡ meter.old.refused }
         ensures stepped { Stepped self.old self.new meter.old meter.new }
     {
-        let mut name = ArrayVec::new();
-        if !spell(&mut name, item.field) {
+        if let Some(text) = spelled {
+            return self.quoted_text(sink, name, note, text);
+        }
+        match head {
+            Head::Null(of) => self.quoted_text(sink, name, note, null(of)),
+            Head::Bool(truth) => self.quoted_text(sink, name, note, bool_text(truth)),
+            Head::Int(int) => self.quoted_int(sink, name, note, int),
+            Head::Symbol(at) => self.quoted_symbol(sink, name, note, at.sym),
+            Head::String(text) => self.quoted_string(sink, name, note, text),
+            Head::Begin(kind) => self.quoted_begin(meter, sink, name, note, kind),
+            _ => false,
+        }
+    }
+}
+
+// The calls of `take_plain` for items whose name or annotation may stand between quotes: they have
+// the texts of both, and spell them first. They are marked as cold, so that what leads to them stands
+// apart from what is frequent, and takes no register from it.
+impl<A: Allocator + Copy> TextWriter<A> {
+    // A scalar of this text.
+    #[cold]
+    #[inline(never)]
+    fn quoted_text<O: Output>(
+        &mut self,
+        sink: &mut Sink<O, A>,
+        name: &[u8],
+        note: &[u8],
+        text: &[u8],
+    ) -> bool
+        ensures declines { result ≡ false → (self.new ≡ self.old) × (sink.new ≡ sink.old) }
+        ensures puts { result ≡ true → sink.new ≡ record sink.old {
+          pending = sink.old.pending ++ plain_scalar (opened_in self.old)
+              (spelling name.now) (spelling note.now) text.now;
+        } }
+        ensures behind { result ≡ true → self.new ≡ record self.old { empty = false } }
+    {
+        let mut shown_name = ArrayVec::new();
+        if !spell(&mut shown_name, name) {
             return false;
         }
-        let mut note = ArrayVec::new();
-        if !spell(&mut note, item.annotation) {
+        let mut shown_note = ArrayVec::new();
+        if !spell(&mut shown_note, note) {
             return false;
         }
-        self.take_head(
+        self.take_text(sink, shown_name.as_slice(), shown_note.as_slice(), text)
+    }
+
+    // A symbol.
+    #[cold]
+    #[inline(never)]
+    fn quoted_symbol<O: Output>(
+        &mut self,
+        sink: &mut Sink<O, A>,
+        name: &[u8],
+        note: &[u8],
+        symbol: Sym<'_>,
+    ) -> bool
+        ensures declines { result ≡ false → (self.new ≡ self.old) × (sink.new ≡ sink.old) }
+        ensures puts { result ≡ true → sink.new ≡ record sink.old {
+          pending = sink.old.pending ++ plain_scalar (opened_in self.old)
+              (spelling name.now) (spelling note.now)
+              (symbol_text (user_symbol (symbol_of symbol.entry)));
+        } }
+        ensures behind { result ≡ true → self.new ≡ record self.old { empty = false } }
+    {
+        let mut shown_name = ArrayVec::new();
+        if !spell(&mut shown_name, name) {
+            return false;
+        }
+        let mut shown_note = ArrayVec::new();
+        if !spell(&mut shown_note, note) {
+            return false;
+        }
+        self.take_symbol(sink, shown_name.as_slice(), shown_note.as_slice(), symbol)
+    }
+
+    // An int.
+    #[inline(always)]
+    fn quoted_int<O: Output>(
+        &mut self,
+        sink: &mut Sink<O, A>,
+        name: &[u8],
+        note: &[u8],
+        int: Int,
+    ) -> bool
+        ensures declines { result ≡ false → (self.new ≡ self.old) × (sink.new ≡ sink.old) }
+        ensures puts { result ≡ true → sink.new ≡ record sink.old {
+          pending = sink.old.pending ++ plain_scalar (opened_in self.old)
+              (spelling name.now) (spelling note.now) (int_text int);
+        } }
+        ensures behind { result ≡ true → self.new ≡ record self.old { empty = false } }
+    {
+        if int.magnitude > u64::MAX as u128 {
+            return false;
+        }
+        self.quoted_narrow_int(sink, name, note, int.negative, int.magnitude as u64)
+    }
+
+    // The same of one with this sign and a magnitude that 64 bits hold.
+    #[cold]
+    #[inline(never)]
+    fn quoted_narrow_int<O: Output>(
+        &mut self,
+        sink: &mut Sink<O, A>,
+        name: &[u8],
+        note: &[u8],
+        negative: bool,
+        magnitude: u64,
+    ) -> bool
+        ensures declines { result ≡ false → (self.new ≡ self.old) × (sink.new ≡ sink.old) }
+        ensures puts { result ≡ true → sink.new ≡ record sink.old {
+          pending = sink.old.pending ++ plain_scalar (opened_in self.old)
+              (spelling name.now) (spelling note.now)
+              (int_text (record { negative = negative; magnitude = magnitude }));
+        } }
+        ensures behind { result ≡ true → self.new ≡ record self.old { empty = false } }
+    {
+        let mut shown_name = ArrayVec::new();
+        if !spell(&mut shown_name, name) {
+            return false;
+        }
+        let mut shown_note = ArrayVec::new();
+        if !spell(&mut shown_note, note) {
+            return false;
+        }
+        self.take_narrow_int(
+            sink,
+            shown_name.as_slice(),
+            shown_note.as_slice(),
+            negative,
+            magnitude,
+        )
+    }
+
+    // A string.
+    #[cold]
+    #[inline(never)]
+    fn quoted_string<O: Output>(
+        &mut self,
+        sink: &mut Sink<O, A>,
+        name: &[u8],
+        note: &[u8],
+        text: &[u8],
+    ) -> bool
+        ensures declines { result ≡ false → (self.new ≡ self.old) × (sink.new ≡ sink.old) }
+        ensures puts { result ≡ true → sink.new ≡ record sink.old {
+          pending = sink.old.pending ++ plain_scalar (opened_in self.old)
+              (spelling name.now) (spelling note.now) (between_quotes 34 256 text.now);
+        } }
+        ensures behind { result ≡ true → self.new ≡ record self.old { empty = false } }
+    {
+        let mut shown_name = ArrayVec::new();
+        if !spell(&mut shown_name, name) {
+            return false;
+        }
+        let mut shown_note = ArrayVec::new();
+        if !spell(&mut shown_note, note) {
+            return false;
+        }
+        self.take_string(sink, shown_name.as_slice(), shown_note.as_slice(), text)
+    }
+
+    // The beginning of a container.
+    #[cold]
+    #[inline(never)]
+    fn quoted_begin<O: Output>(
+        &mut self,
+        meter: &mut Meter<A>,
+        sink: &mut Sink<O, A>,
+        name: &[u8],
+        note: &[u8],
+        kind: Kind,
+    ) -> bool
+        requires can_step { CanStep self.old meter.old }
+        requires deep { length self.old.kinds < self.old.limits.depth }
+        ensures declines { result ≡ false
+            → (self.new ≡ self.old) × (sink.new ≡ sink.old) × (meter.new ≡ meter.old) }
+        ensures puts { result ≡ true → sink.new ≡ record sink.old {
+          pending = sink.old.pending ++ plain_begin (opened_in self.old)
+              (spelling name.now) (spelling note.now) (opener kind);
+        } }
+        ensures opens { result ≡ true
+            → opened_in self.new ≡ (kind, true) ∷ with_member (opened_in self.old) }
+        ensures counted { meter.new.refused ≡ meter.old.refused }
+        ensures stepped { Stepped self.old self.new meter.old meter.new }
+    {
+        let mut shown_name = ArrayVec::new();
+        if !spell(&mut shown_name, name) {
+            return false;
+        }
+        let mut shown_note = ArrayVec::new();
+        if !spell(&mut shown_note, note) {
+            return false;
+        }
+        self.take_begin(
             meter,
             sink,
-            name.as_slice(),
-            note.as_slice(),
-            item.head,
-            item.spelled,
+            shown_name.as_slice(),
+            shown_note.as_slice(),
+            kind,
         )
     }
 }
@@ -535,12 +726,18 @@ impl<O: Output, A: Allocator + Copy> ValueWriter<O, A> for TextWriter<A> {
         sink: &mut Sink<O, A>,
         item: PlainItem<'_, '_>,
     ) -> bool {
-        if need_quotes(item.field, item.annotation) {
-            return self.take_quoted_names(meter, sink, item);
-        }
         let name = text_in(item.field);
         let note = text_in(item.annotation);
-        self.take_head(meter, sink, name, note, item.head, item.spelled)
+        if !both(name.1, note.1) {
+            if !has_spelling(name.0, name.1) {
+                return false;
+            }
+            if !has_spelling(note.0, note.1) {
+                return false;
+            }
+            return self.take_quoted_names(meter, sink, name.0, note.0, item.head, item.spelled);
+        }
+        self.take_head(meter, sink, name.0, note.0, item.head, item.spelled)
     }
 
     ghost grows = { text_grows };

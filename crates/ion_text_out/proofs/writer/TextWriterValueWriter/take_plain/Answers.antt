@@ -1,7 +1,9 @@
-use Rattle.std.proofs.Common.{refl, sym, ap, ◌∙◌}
+use Rattle.std.proofs.Common.{sym, ap, ◌∙◌}
+use Rattle.std.proofs.lemmas.Bool.{and_parts}
 use Rattle.ion_value.specs.PlainItems.{placed_item}
+use Rattle.ion_text_out.specs.Lane.{spelling}
 use Rattle.ion_text_out.specs.Writing.{shown}
-use Rattle.ion_text_out.proofs.Plain.{adds_here, both_stand, item_put}
+use Rattle.ion_text_out.proofs.Plain.{adds_here, as_it_stands, item_put}
 use Rattle.ion_text_out.proofs.WriterSteps.{has_room, in_range}
 use Rattle.ion_text_out.proofs.writer.TextWriterValueWriter.take_plain.Goals as goal
 
@@ -25,15 +27,21 @@ take_head-requires-clause-comes g c =
       fits = has_room w.limits w.kinds w.empty at.0 item at.1.1 at.2;
     }
 
-pub returns-then-need_quotes-clause-puts : goal.returns-then-need_quotes-clause-puts
-returns-then-need_quotes-clause-puts g c e path stands continues =
+pub returns-then-not-both-clause-puts : goal.returns-then-not-both-clause-puts
+returns-then-not-both-clause-puts g c e path stands continues =
     let w = c.args.self.now in
-    adds_here w.limits w.kinds w.empty path c.args.item _ _ _ stands.1 (ap (λ s. s.pending) (c.take_quoted_names.ensures.puts e)) refl
+    let item = c.args.item in
+    let name = c.has_spelling.ensures c.if-not-has_spelling.false item.field c.text_in-name.ensures.text c.text_in-name.ensures.simple c.requires.simple.field in
+    let note = c.has_spelling-then-not-both.ensures c.if-not-has_spelling-2.false item.annotation c.text_in-note.ensures.text c.text_in-note.ensures.simple c.requires.simple.annotation in
+    adds_here w.limits w.kinds w.empty path item _ _ _ stands.1 (ap (λ s. s.pending) (c.take_quoted_names.ensures.puts e))
+    (item_put (shown w.kinds w.empty) item (spelling c.text_in-name.result.0.now) (spelling c.text_in-note.result.0.now) name note)
 
 pub returns-clause-puts : goal.returns-clause-puts
 returns-clause-puts g c e path stands continues =
     let w = c.args.self.now in
     let item = c.args.item in
-    let stand = both_stand item.field item.annotation (sym c.need_quotes.ensures ∙ c.if-need_quotes.false) in
+    let said = and_parts c.text_in-name.result.1 c.text_in-note.result.1 (sym c.both.ensures ∙ c.if-not-both.false) in
+    let name = c.text_in-name.ensures.text ∙ as_it_stands item.field c.requires.simple.field (sym c.text_in-name.ensures.simple ∙ said.0) in
+    let note = c.text_in-note.ensures.text ∙ as_it_stands item.annotation c.requires.simple.annotation (sym c.text_in-note.ensures.simple ∙ said.1) in
     adds_here w.limits w.kinds w.empty path item _ _ _ stands.1 (ap (λ s. s.pending) (c.take_head.ensures.puts e))
-    (item_put (shown w.kinds w.empty) item c.text_in-name.result.now c.text_in-note.result.now (c.text_in-name.ensures ∙ stand.0) (c.text_in-note.ensures ∙ stand.1))
+    (item_put (shown w.kinds w.empty) item c.text_in-name.result.0.now c.text_in-note.result.0.now name note)

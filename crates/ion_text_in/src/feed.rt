@@ -37,7 +37,7 @@ use ion_value::plain_item::{PlainItem, TextAt};
 use ion_value::writer::ValueWriter;
 use names::field_start;
 use noted::noted;
-use quotes::quoted_value;
+use quotes::{quoted_member, quoted_value};
 use std::alloc::Allocator;
 
 /// Where a lane stands between two items.
@@ -186,7 +186,8 @@ fn behind_separator<'a>(at: &mut Spot<'a>, rest: &'a [u8]) -> Next<'a>
     next_told(at.rest)
 }
 
-// What the value begins with that may begin here, behind the name of its field where one must come.
+// What the value begins with that may begin here, behind the name of its field where one must come, which
+// stands without quotes.
 #[inline(always)]
 fn to_start<'a>(spot: Spot<'a>, next: Next<'a>, limits: Limits, place: u64) -> Option<Start<'a>>
     requires next { IsNext spot.rest.now next }
@@ -205,7 +206,7 @@ fn to_start<'a>(spot: Spot<'a>, next: Next<'a>, limits: Limits, place: u64) -> O
 
 // The place of the next token behind blanks.
 #[inline(always)]
-fn place_behind(place: u64, spot: Spot<'_>, next: Next<'_>) -> u64
+pub(crate) fn place_behind(place: u64, spot: Spot<'_>, next: Next<'_>) -> u64
     requires small { place + length spot.rest.now < 2 ^ 63 }
     ensures { result ≡ place + (length spot.entry.rest.now - length next.entry.rest.now) }
 {
@@ -626,7 +627,7 @@ fn value<'a, W: ValueWriter<O, A>, O: Output, A: Allocator + Copy>(
     ensures falls { result ≡ true → length at.new.rest.now < length at.old.rest.now }
 {
     let Some(start) = to_start(*at, next, limits, end - at.rest.len() as u64) else {
-        return false;
+        return quoted_member(at, next, limits, end, kinds, meter, writer, sink);
     };
     match token(start.next) {
         Some(First::Number) => number(at, start, limits, end, kinds, meter, writer, sink),

@@ -45,17 +45,6 @@ pub(super) fn start_for_call<'a>(start: Start<'a>) -> Start<'a>
     }
 }
 
-/// The same beginning of a value that a call gave, if there is one.
-#[inline(always)]
-pub(super) fn start_of_call<'a>(start: Option<Start<'a>>) -> Option<Start<'a>>
-    ensures { result ≡ start.entry }
-{
-    match start {
-        Some(start) => Some(start_for_call(start)),
-        None => None,
-    }
-}
-
 /// The same next token.
 #[inline(always)]
 pub(super) fn next_for_call<'a>(next: Next<'a>) -> Next<'a>

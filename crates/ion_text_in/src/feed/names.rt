@@ -4,7 +4,6 @@ ghost use Rattle.ion_text_in.specs.Feeding.{Begins, IsBare, IsBehindName, IsName
 ghost use Rattle.ion_text_in.specs.Token.{a_quoted, a_short, first_at};
 
 use super::comments::behind_blanks;
-use super::copies::{limits_for_call, next_for_call, start_of_call};
 use super::heads::token;
 use super::quotes::quoted_text;
 use super::{Next, Start, WORD, behind, front, next_told};
@@ -15,19 +14,15 @@ use crate::word::simple_word;
 use ion_meter::limits::Limits;
 use ion_value::plain_item::TextAt;
 
-/// What the value begins with behind the name that must come, and that begins at a place. A name
-/// between quotes is read by a call.
+/// What the value begins with behind the name that must come, and that begins at a place: none behind a
+/// name between quotes, so that of those here it is known, and asked of none, that they are simple.
 #[inline(always)]
 pub(super) fn field_start<'a>(next: Next<'a>, limits: Limits, place: u64) -> Option<Start<'a>>
-    requires begins { 0 < length next.rest.now → Begins next }
-    requires some { 0 < next.told → 0 < length next.rest.now }
+    requires begins { 0 < next.told → Begins next }
     ensures { IfSome result (IsNamed limits place next.entry.rest.now) }
 {
     if next.told != WORD {
-        if next.rest.is_empty() {
-            return None;
-        }
-        return start_of_call(quoted_start(next_for_call(next), limits_for_call(limits), place));
+        return None;
     }
     let Some(count) = simple_word(limits.scalar, next.rest) else {
         return None;
@@ -40,9 +35,9 @@ pub(super) fn field_start<'a>(next: Next<'a>, limits: Limits, place: u64) -> Opt
     behind_name(name, behind(count, next.rest))
 }
 
-// The same behind a name between quotes.
-#[inline(never)]
-fn quoted_start<'a>(next: Next<'a>, limits: Limits, place: u64) -> Option<Start<'a>>
+/// The same behind a name between quotes.
+#[inline(always)]
+pub(super) fn quoted_start<'a>(next: Next<'a>, limits: Limits, place: u64) -> Option<Start<'a>>
     requires begins { Begins next }
     ensures { IfSome result (IsNamed limits place next.entry.rest.now) }
 {

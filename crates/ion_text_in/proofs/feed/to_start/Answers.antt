@@ -23,7 +23,7 @@ returns-in-List c =
     }
 
 pub field_start-requires : goal.field_start-requires
-field_start-requires c = record { begins = next-begins c.args.spot.rest.now c.args.next c.requires.next; some = c.requires.next.some }
+field_start-requires c = record { begins = λ told. next-begins c.args.spot.rest.now c.args.next c.requires.next (c.requires.next.some told) }
 
 pub returns-in-Struct-clause-start : goal.returns-in-Struct-clause-start
 returns-in-Struct-clause-start c =

@@ -1,16 +1,9 @@
-use Rattle.std.proofs.Common.{◌∙◌, ◌<◌, ℕ, List, refl, sym, true, ap, subst, arith}
+use Rattle.std.proofs.Common.{◌∙◌, ◌<◌, ℕ, List, refl, true, ap, arith}
 use Rattle.ion_value.specs.declared.plain_item.TextAt.{TextAt}
 use Rattle.ion_value.specs.Name.{is_simple}
-use Rattle.ion_text_in.specs.declared.feed.Next.{Next}
-use Rattle.ion_text_in.specs.Feeding.{Begins}
 use Rattle.ion_text_in.specs.Firsts.{numbered}
-use Rattle.ion_text_in.proofs.FeedNames.{name-word, named-start, not-empty}
+use Rattle.ion_text_in.proofs.FeedNames.{name-word, named-start}
 use Rattle.ion_text_in.proofs.feed.names.field_start.Goals as goal
-
-pub quoted_start-requires : goal.quoted_start-requires
-quoted_start-requires c = record {
-  begins = subst (λ (n : Next). Begins n) (sym c.next_for_call.ensures) (c.requires.begins (not-empty c.args.next.rest.now (sym c.is_empty.ensures ∙ c.if-is_empty.false)));
-}
 
 pub returns : goal.returns
 returns c =
@@ -18,7 +11,7 @@ returns c =
     let bytes = next.rest.now in
     let told = c.if-next-ne-WORD.false in
     let some : 0 < next.told = omega (arith, told) in
-    let begins = c.requires.begins (c.requires.some some) in
+    let begins = c.requires.begins some in
     let word = c.in-Some.ensures in
     let name : TextAt = record { text = c.front.result; simple = true; place = c.args.place } in
     named-start c.args.limits c.args.place name bytes c.behind.result.now c.behind_name.result

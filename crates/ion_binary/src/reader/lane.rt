@@ -66,13 +66,15 @@ fn inside(frame: Frame) -> Around
 }
 
 // The name of a field that stands before a member, and how many octets its id has; none outside
-// structs. It answers none where the window does not show an id that has a text.
+// structs. It answers none where the window does not show an id that has a text that is known to be
+// simple, or any text where `any` says so.
 #[inline(always)]
 fn shown_field<'n, N: Names>(
     octets: &[u8],
     here: u64,
     around: Around,
     names: &'n N,
+    any: bool,
 ) -> Option<(Option<TextAt<'n>>, usize)>
     ensures { IfSome result (λ r. ShowsField (N.text names.entry.now) octets.now here
         (innermost (frame_in around)) r.0 r.1) }
@@ -86,7 +88,7 @@ fn shown_field<'n, N: Names>(
             let Some((id, behind)) = shown_var(octets, 0) else {
                 return None;
             };
-            let Some(name) = shown_text(id_of(id), here, names) else {
+            let Some(name) = shown_text(id_of(id), here, names, any) else {
                 return None;
             };
             Some((Some(name), behind))
@@ -260,7 +262,7 @@ fn noted_front<'n, N: Names>(
         return None;
     };
     let place = here + note.from as u64;
-    let Some(text) = shown_text(id_of(note.id), place, names) else {
+    let Some(text) = shown_text(id_of(note.id), place, names, true) else {
         return None;
     };
     if begins_with_dollar(text) {
@@ -273,6 +275,30 @@ fn noted_front<'n, N: Names>(
         head: note.inner,
         wrapper: Some(note.end),
     })
+}
+
+// The front of an item, with its annotation where `noted_front` shows one.
+#[inline(always)]
+fn any_front<'n, N: Names>(
+    octets: &[u8],
+    here: u64,
+    around: Around,
+    field: Option<TextAt<'n>>,
+    at: usize,
+    limits: Limits,
+    names: &'n N,
+) -> Front<'n>
+    requires small { here + length octets.now < 2 ^ 63 }
+    requires field { ShowsField (N.text names.now) octets.now here
+        (innermost (frame_in around)) field at }
+    ensures { ShowsFront (N.text names.entry.now) limits octets.now here
+        (innermost (frame_in around)) result.field result.annotation result.at result.head
+        result.wrapper }
+{
+    match noted_front(octets, here, around, field, at, limits, names) {
+        Some(front) => front,
+        None => bare_front(field, at),
+    }
 }
 
 // How far a value may go: to the end of the wrapper around it, or else of its container.
@@ -379,10 +405,10 @@ impl<I: Input, A: Allocator + Copy> BinReader<I, A> {
         self.hand_member(around, meter, names, writer, sink)
     }
 
-    // The same of an item that has an annotation. It is a call of its own, so that the loop over all
-    // others has none.
+    // The same of an item that has an annotation, or a name that is not known to be simple. It is a call of
+    // its own, so that the loop over all others has none.
     #[inline(never)]
-    pub(super) fn hand_next_noted<N: Names, W: ValueWriter<O, A>, O: Output>(
+    pub(super) fn hand_next_other<N: Names, W: ValueWriter<O, A>, O: Output>(
         &mut self,
         meter: &mut Meter<A>,
         names: &N,
@@ -398,7 +424,7 @@ impl<I: Input, A: Allocator + Copy> BinReader<I, A> {
         if ends_here(around, self.source.place()) {
             return false;
         }
-        self.hand_noted(&mut around, meter, names, writer, sink)
+        self.hand_other(&mut around, meter, names, writer, sink)
     }
 
     // The end of the innermost container, which stands here.
@@ -455,16 +481,16 @@ impl<I: Input, A: Allocator + Copy> BinReader<I, A> {
     {
         let here = self.source.place();
         let octets = self.source.buffer();
-        let Some((field, at)) = shown_field(octets, here, *around, names) else {
+        let Some((field, at)) = shown_field(octets, here, *around, names, false) else {
             return false;
         };
         self.hand_head(around, bare_front(field, at), meter, names, writer, sink)
     }
 
-    // The same of one with an annotation. All shapes of a head share a call here, so that `hand_head` has one
-    // caller, in which it is put in line.
+    // The same of one with an annotation or any name. All shapes of a head share a call here, so that
+    // `hand_head` has one caller, in which it is put in line.
     #[inline(always)]
-    fn hand_noted<N: Names, W: ValueWriter<O, A>, O: Output>(
+    fn hand_other<N: Names, W: ValueWriter<O, A>, O: Output>(
         &mut self,
         around: &mut Around,
         meter: &mut Meter<A>,
@@ -482,13 +508,11 @@ impl<I: Input, A: Allocator + Copy> BinReader<I, A> {
     {
         let here = self.source.place();
         let octets = self.source.buffer();
-        let Some((field, at)) = shown_field(octets, here, *around, names) else {
+        let Some((field, at)) = shown_field(octets, here, *around, names, true) else {
             return false;
         };
         let limits = self.limits;
-        let Some(front) = noted_front(octets, here, *around, field, at, limits, names) else {
-            return false;
-        };
+        let front = any_front(octets, here, *around, field, at, limits, names);
         if front.head >= octets.len() {
             return false;
         }

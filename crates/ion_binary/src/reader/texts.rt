@@ -6,9 +6,15 @@ ghost use Rattle.ion_value.specs.PlainItems.{IsRightlySimple};
 use ion_value::names::Names;
 use ion_value::plain_item::TextAt;
 
-// The text of an id that stands at a place, where it has one.
+// The text of an id that stands at a place, where it has one that is known to be simple, or any text
+// where `any` says so. Where that is a constant, so is what is said of the text, or it is one of a call.
 #[inline(always)]
-pub(super) fn shown_text<'n, N: Names>(id: u32, place: u64, names: &'n N) -> Option<TextAt<'n>>
+pub(super) fn shown_text<'n, N: Names>(
+    id: u32,
+    place: u64,
+    names: &'n N,
+    any: bool,
+) -> Option<TextAt<'n>>
     ensures text { IfSome result (λ t. N.text names.entry.now id ≡ Some t.text.now) }
     ensures place { IfSome result (λ t. t.place ≡ place) }
     ensures simple { IfSome result IsRightlySimple }
@@ -19,6 +25,9 @@ pub(super) fn shown_text<'n, N: Names>(id: u32, place: u64, names: &'n N) -> Opt
             simple: true,
             place,
         });
+    }
+    if !any {
+        return None;
     }
     match any_text(id, names) {
         Some(text) => Some(TextAt {

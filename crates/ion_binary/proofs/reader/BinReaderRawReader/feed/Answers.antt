@@ -40,8 +40,8 @@ hand_all-values-requires-clause-writer g c = c.runs.invariant.takes
 pub hand_all-values-requires-clause-few : goal.hand_all-values-requires-clause-few
 hand_all-values-requires-clause-few g c = omega (arith, c.runs.invariant.falls, (sound-within c.args.self.now c.requires.sound.0).few)
 
-pub hand_next_noted-requires : goal.hand_next_noted-requires
-hand_next_noted-requires g c =
+pub hand_next_other-requires : goal.hand_next_other-requires
+hand_next_other-requires g c =
     let input = g.I.Input in
     let w = g.W.ValueWriter in
     let see = named_item (g.N.Names.text c.args.names.now) in
@@ -57,7 +57,7 @@ values_behind-values-requires g c =
 
 pub runs-smaller : goal.runs-smaller
 runs-smaller g c =
-    omega (arith, c.hand_all-values.ensures.grows, c.hand_all-values.ensures.falls, (c.hand_next_noted.ensures.hands c.if-not-hand_next_noted.false).falls)
+    omega (arith, c.hand_all-values.ensures.grows, c.hand_all-values.ensures.falls, (c.hand_next_other.ensures.hands c.if-not-hand_next_other.false).falls)
 
 pub runs-preserved : goal.runs-preserved
 runs-preserved g c =
@@ -67,13 +67,13 @@ runs-preserved g c =
     let r = c.args.self.now in
     let run = hands_on-then input w see r c.runs.self c.hand_all-values.new.self c.args.writer.now c.runs.writer c.hand_all-values.new.writer c.args.sink.now c.runs.sink c.hand_all-values.new.sink c.args.meter.now
     c.runs.meter c.hand_all-values.new.meter 0 c.runs.values c.hand_all-values.result c.requires.held c.runs.invariant c.hand_all-values.ensures in
-    let counts : c.values_behind-values.result ≡ c.hand_all-values.result + one_if_closed (opened_in c.hand_next_noted.new.self) =
+    let counts : c.values_behind-values.result ≡ c.hand_all-values.result + one_if_closed (opened_in c.hand_next_other.new.self) =
     c.values_behind-values.ensures ∙ ap (λ fs. c.hand_all-values.result + one_if_closed (kinds_of fs)) c.as_slice.ensures in
-    hands_on-then input w see r c.hand_all-values.new.self c.hand_next_noted.new.self c.args.writer.now c.hand_all-values.new.writer c.hand_next_noted.new.writer c.args.sink.now c.hand_all-values.new.sink
-    c.hand_next_noted.new.sink c.args.meter.now c.hand_all-values.new.meter c.hand_next_noted.new.meter 0 c.hand_all-values.result c.values_behind-values.result c.requires.held run
-    (hands_on-item input w see c.hand_all-values.new.self c.hand_next_noted.new.self c.hand_all-values.new.writer c.hand_next_noted.new.writer c.hand_all-values.new.sink c.hand_next_noted.new.sink
-    c.hand_all-values.new.meter c.hand_next_noted.new.meter c.hand_all-values.result c.values_behind-values.result c.hand_all-values.ensures.takes
-    (c.hand_next_noted.ensures.hands c.if-not-hand_next_noted.false) c.hand_next_noted.ensures.keeps c.hand_next_noted.ensures.goes counts)
+    hands_on-then input w see r c.hand_all-values.new.self c.hand_next_other.new.self c.args.writer.now c.hand_all-values.new.writer c.hand_next_other.new.writer c.args.sink.now c.hand_all-values.new.sink
+    c.hand_next_other.new.sink c.args.meter.now c.hand_all-values.new.meter c.hand_next_other.new.meter 0 c.hand_all-values.result c.values_behind-values.result c.requires.held run
+    (hands_on-item input w see c.hand_all-values.new.self c.hand_next_other.new.self c.hand_all-values.new.writer c.hand_next_other.new.writer c.hand_all-values.new.sink c.hand_next_other.new.sink
+    c.hand_all-values.new.meter c.hand_next_other.new.meter c.hand_all-values.result c.values_behind-values.result c.hand_all-values.ensures.takes
+    (c.hand_next_other.ensures.hands c.if-not-hand_next_other.false) c.hand_next_other.ensures.keeps c.hand_next_other.ensures.goes counts)
 
 pub returns : goal.returns
 returns g c =
@@ -83,10 +83,10 @@ returns g c =
     let r = c.args.self.now in
     let run = hands_on-then input w see r c.runs.self c.hand_all-values.new.self c.args.writer.now c.runs.writer c.hand_all-values.new.writer c.args.sink.now c.runs.sink c.hand_all-values.new.sink c.args.meter.now
     c.runs.meter c.hand_all-values.new.meter 0 c.runs.values c.hand_all-values.result c.requires.held c.runs.invariant c.hand_all-values.ensures in
-    let h = hands_on-then input w see r c.hand_all-values.new.self c.hand_next_noted.new.self c.args.writer.now c.hand_all-values.new.writer c.hand_next_noted.new.writer c.args.sink.now c.hand_all-values.new.sink
-    c.hand_next_noted.new.sink c.args.meter.now c.hand_all-values.new.meter c.hand_next_noted.new.meter 0 c.hand_all-values.result c.hand_all-values.result c.requires.held run
-    (hands_on-nothing input w see c.hand_all-values.new.self c.hand_next_noted.new.self c.hand_all-values.new.writer c.hand_next_noted.new.writer c.hand_all-values.new.sink c.hand_next_noted.new.sink
-    c.hand_all-values.new.meter c.hand_next_noted.new.meter c.hand_all-values.result c.hand_all-values.ensures.takes (c.hand_next_noted.ensures.nothing c.if-not-hand_next_noted.true) c.hand_next_noted.ensures.keeps) in
+    let h = hands_on-then input w see r c.hand_all-values.new.self c.hand_next_other.new.self c.args.writer.now c.hand_all-values.new.writer c.hand_next_other.new.writer c.args.sink.now c.hand_all-values.new.sink
+    c.hand_next_other.new.sink c.args.meter.now c.hand_all-values.new.meter c.hand_next_other.new.meter 0 c.hand_all-values.result c.hand_all-values.result c.requires.held run
+    (hands_on-nothing input w see c.hand_all-values.new.self c.hand_next_other.new.self c.hand_all-values.new.writer c.hand_next_other.new.writer c.hand_all-values.new.sink c.hand_next_other.new.sink
+    c.hand_all-values.new.meter c.hand_next_other.new.meter c.hand_all-values.result c.hand_all-values.ensures.takes (c.hand_next_other.ensures.nothing c.if-not-hand_next_other.true) c.hand_next_other.ensures.keeps) in
     record {
       sound = (
         record { sized = h.keeps.sized; small = h.keeps.stands.small; stands = λ _. h.keeps.stands; one_ending = λ _. h.keeps.failed ∙ c.requires.fresh },
@@ -94,8 +94,8 @@ returns g c =
             let observable = subst input.observable h.keeps.device o in
             let over = c.requires.sound.1 (sym h.keeps.done ∙ d) observable in (
               finished-feeds w see (input.observable r.source.device) (joint input r c.args.writer.now c.args.sink.now 0)
-                  (joint input c.hand_next_noted.new.self c.hand_next_noted.new.writer c.hand_next_noted.new.sink c.hand_all-values.result) h.feeds observable over.0,
-              nothing-left input r.source c.hand_next_noted.new.self.source h.further h.total over.1,
+                  (joint input c.hand_next_other.new.self c.hand_next_other.new.writer c.hand_next_other.new.sink c.hand_all-values.result) h.feeds observable over.0,
+              nothing-left input r.source c.hand_next_other.new.self.source h.further h.total over.1,
             ),
       );
       observable = (λ o. subst input.observable h.keeps.device o, λ o. subst input.observable (sym h.keeps.device) o);
@@ -104,7 +104,7 @@ returns g c =
       falls = omega (arith, h.falls);
       same = (h.keeps.failed, ap (λ (l : Limits). l.depth) h.keeps.limits, ap most_of h.keeps.limits, ap input.failure_count h.keeps.device);
       ended = λ over. h.keeps.done ∙ over;
-      exceeds = exceeds-same input r.source c.hand_next_noted.new.self.source h.keeps.device h.keeps.limit h.total;
+      exceeds = exceeds-same input r.source c.hand_next_other.new.self.source h.keeps.device h.keeps.limit h.total;
       bytes_left = h.bytes_left;
       writer = h.keeps.writer;
       charges = h.keeps.charges;

@@ -37,7 +37,7 @@ use ion_value::plain_item::{PlainItem, TextAt};
 use ion_value::writer::ValueWriter;
 use names::field_start;
 use noted::noted;
-use quotes::{quoted_member, quoted_value};
+use quotes::{quoted_turn, quoted_value};
 use std::alloc::Allocator;
 
 /// Where a lane stands between two items.
@@ -627,7 +627,7 @@ fn value<'a, W: ValueWriter<O, A>, O: Output, A: Allocator + Copy>(
     ensures falls { result ≡ true → length at.new.rest.now < length at.old.rest.now }
 {
     let Some(start) = to_start(*at, next, limits, end - at.rest.len() as u64) else {
-        return quoted_member(at, next, limits, end, kinds, meter, writer, sink);
+        return false;
     };
     match token(start.next) {
         Some(First::Number) => number(at, start, limits, end, kinds, meter, writer, sink),
@@ -674,10 +674,9 @@ fn turn<'a, W: ValueWriter<O, A>, O: Output, A: Allocator + Copy>(
     }
 }
 
-/// Hands on the items at the front of the bytes of a window that ends at a place, as many as lie whole
-/// in it, are frequent ones, and are taken.
+// Hands on the items at the front, as many as are frequent ones.
 #[inline(never)]
-pub(crate) fn feed_items<'a, W: ValueWriter<O, A>, O: Output, A: Allocator + Copy>(
+fn feed_frequent<'a, W: ValueWriter<O, A>, O: Output, A: Allocator + Copy>(
     spot: Spot<'a>,
     limits: Limits,
     end: u64,
@@ -697,6 +696,36 @@ pub(crate) fn feed_items<'a, W: ValueWriter<O, A>, O: Output, A: Allocator + Cop
     let mut at = spot;
     'items: loop {
         if !turn(&mut at, limits, end, kinds, meter, writer, sink) {
+            return at;
+        }
+    }
+}
+
+/// Hands on the items at the front of the bytes of a window that ends at a place, as many as lie whole
+/// in it and are taken. A member whose name stands between quotes is handed on between two runs of the loop
+/// over all others, in which it is known that names are simple.
+#[inline(always)]
+pub(crate) fn feed_items<'a, W: ValueWriter<O, A>, O: Output, A: Allocator + Copy>(
+    spot: Spot<'a>,
+    limits: Limits,
+    end: u64,
+    kinds: &mut Stack<Kind, A>,
+    meter: &mut Meter<A>,
+    writer: &mut W,
+    sink: &mut Sink<O, A>,
+) -> Spot<'a>
+    requires can { CanFeed W.ValueWriter limits end
+        (lane kinds.old spot writer.old sink.old meter.old) }
+    ensures moved { Moved W.ValueWriter limits end
+        (lane kinds.old spot.entry writer.old sink.old meter.old)
+        (lane kinds.new result writer.new sink.new meter.new) }
+    ensures goes { length kinds.new + length result.rest.now
+        ≤ length kinds.old + length spot.entry.rest.now }
+{
+    let mut at = spot;
+    'runs: loop {
+        at = feed_frequent(at, limits, end, kinds, meter, writer, sink);
+        if !quoted_turn(&mut at, limits, end, kinds, meter, writer, sink) {
             return at;
         }
     }

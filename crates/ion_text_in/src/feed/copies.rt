@@ -41,18 +41,10 @@ pub(super) fn start_for_call<'a>(start: Start<'a>) -> Start<'a>
     Start {
         field: text_for_call(start.field),
         note: text_for_call(start.note),
-        next: next_for_call(start.next),
-    }
-}
-
-/// The same next token.
-#[inline(always)]
-pub(super) fn next_for_call<'a>(next: Next<'a>) -> Next<'a>
-    ensures { result ≡ next.entry }
-{
-    Next {
-        told: next.told,
-        rest: next.rest,
+        next: Next {
+            told: start.next.told,
+            rest: start.next.rest,
+        },
     }
 }
 

@@ -4,11 +4,11 @@ ghost use Rattle.ion_value.specs.PlainItems.{IsRightlySimple};
 ghost use Rattle.ion_text_in.specs.Feeding.{lane, CanFeed, IsNext, IsStart, Moved};
 ghost use Rattle.ion_text_in.specs.Token.{a_quoted, first_at};
 
-use super::copies::{limits_for_call, next_for_call, spot_for_call, start_for_call};
+use super::copies::{limits_for_call, spot_for_call, start_for_call};
 use super::heads::quoted_head;
 use super::names::quoted_start;
 use super::noted::quoted_noted;
-use super::{Next, Spot, Start, Turned, any_value, place_behind, scalar};
+use super::{Next, Spot, Start, Turned, any_value, place_behind, rare, scalar, to_member};
 use ion_meter::device::Output;
 use ion_meter::limits::Limits;
 use ion_meter::meter::Meter;
@@ -33,10 +33,34 @@ pub(super) fn quoted_text<'a>(text: &'a [u8], place: u64) -> TextAt<'a>
     }
 }
 
-/// Hands on the member here whose name stands between quotes, by a call, over a copy of where the lane
-/// stands.
+/// Hands on one member whose name stands between quotes, behind the comma that must come before it, and says
+/// whether it did.
+#[inline(never)]
+pub(super) fn quoted_turn<'a, W: ValueWriter<O, A>, O: Output, A: Allocator + Copy>(
+    at: &mut Spot<'a>,
+    limits: Limits,
+    end: u64,
+    kinds: &mut Stack<Kind, A>,
+    meter: &mut Meter<A>,
+    writer: &mut W,
+    sink: &mut Sink<O, A>,
+) -> bool
+    requires can { CanFeed W.ValueWriter limits end
+        (lane kinds.old at.old writer.old sink.old meter.old) }
+    ensures moved { Moved W.ValueWriter limits end
+        (lane kinds.old at.old writer.old sink.old meter.old)
+        (lane kinds.new at.new writer.new sink.new meter.new) }
+    ensures goes { length kinds.new + length at.new.rest.now
+        ≤ length kinds.old + length at.old.rest.now }
+    ensures falls { result ≡ true → length at.new.rest.now < length at.old.rest.now }
+{
+    let next = to_member(at);
+    quoted_member(at, next, limits, end, kinds, meter, writer, sink)
+}
+
+// Hands on the member here, where its name stands between quotes.
 #[inline(always)]
-pub(super) fn quoted_member<'a, W: ValueWriter<O, A>, O: Output, A: Allocator + Copy>(
+fn quoted_member<'a, W: ValueWriter<O, A>, O: Output, A: Allocator + Copy>(
     at: &mut Spot<'a>,
     next: Next<'a>,
     limits: Limits,
@@ -56,45 +80,9 @@ pub(super) fn quoted_member<'a, W: ValueWriter<O, A>, O: Output, A: Allocator + 
         ≤ length kinds.old + length at.old.rest.now }
     ensures falls { result ≡ true → length at.new.rest.now < length at.old.rest.now }
 {
-    let turned = any_member(
-        spot_for_call(*at),
-        next_for_call(next),
-        limits_for_call(limits),
-        end,
-        kinds,
-        meter,
-        writer,
-        sink,
-    );
-    *at = spot_for_call(turned.spot);
-    turned.more
-}
-
-// The same as the call does it.
-#[inline(never)]
-fn any_member<'a, W: ValueWriter<O, A>, O: Output, A: Allocator + Copy>(
-    spot: Spot<'a>,
-    next: Next<'a>,
-    limits: Limits,
-    end: u64,
-    kinds: &mut Stack<Kind, A>,
-    meter: &mut Meter<A>,
-    writer: &mut W,
-    sink: &mut Sink<O, A>,
-) -> Turned<'a>
-    requires can { CanFeed W.ValueWriter limits end
-        (lane kinds.old spot writer.old sink.old meter.old) }
-    requires next { IsNext spot.rest.now next }
-    ensures moved { Moved W.ValueWriter limits end
-        (lane kinds.old spot.entry writer.old sink.old meter.old)
-        (lane kinds.new result.spot writer.new sink.new meter.new) }
-    ensures goes { length kinds.new + length result.spot.rest.now
-        ≤ length kinds.old + length spot.entry.rest.now }
-    ensures falls { result.more ≡ true → length result.spot.rest.now < length spot.entry.rest.now }
-{
-    match to_quoted(spot, next, limits, end - spot.rest.len() as u64) {
-        Some(start) => any_value(spot, start, limits, end, kinds, meter, writer, sink),
-        None => Turned { spot, more: false },
+    match to_quoted(*at, next, limits, end - at.rest.len() as u64) {
+        Some(start) => rare(at, start, limits, end, kinds, meter, writer, sink),
+        None => false,
     }
 }
 

@@ -3,38 +3,56 @@ use Rattle.ion_text_in.specs.Feeding.{lane}
 use Rattle.ion_text_in.proofs.FeedLanes.{can-moved, moved-none, moved-then}
 use Rattle.ion_text_in.proofs.feed.feed_items.Goals as goal
 
-pub items-init : goal.items-init
-items-init g c = record {
+pub runs-init : goal.runs-init
+runs-init g c = record {
   moved = moved-none g.W.ValueWriter c.args.limits c.args.end (lane c.args.kinds.now c.args.spot c.args.writer.now c.args.sink.now c.args.meter.now) c.requires.can;
   goes = omega arith;
 }
 
-pub turn-requires : goal.turn-requires
-turn-requires g c =
+pub feed_frequent-at-requires : goal.feed_frequent-at-requires
+feed_frequent-at-requires g c =
     let a = c.args in
-    let l = c.items in
+    let l = c.runs in
     record {
       can = can-moved g.W.ValueWriter a.limits a.end (lane a.kinds.now a.spot a.writer.now a.sink.now a.meter.now) (lane l.kinds l.at l.writer l.sink l.meter) c.requires.can l.invariant.moved;
     }
 
-pub returns-then-not-turn : goal.returns-then-not-turn
-returns-then-not-turn g c =
+pub quoted_turn-requires : goal.quoted_turn-requires
+quoted_turn-requires g c =
     let a = c.args in
-    let l = c.items in
-    let t = c.turn in
+    let l = c.runs in
+    let f = c.feed_frequent-at in
+    let old = lane a.kinds.now a.spot a.writer.now a.sink.now a.meter.now in
+    let now = lane f.new.kinds f.result f.new.writer f.new.sink f.new.meter in
     record {
-      moved = moved-then g.W.ValueWriter a.limits a.end (lane a.kinds.now a.spot a.writer.now a.sink.now a.meter.now) (lane l.kinds l.at l.writer l.sink l.meter)
-          (lane t.new.kinds t.new.at t.new.writer t.new.sink t.new.meter) c.requires.can l.invariant.moved t.ensures.moved;
-      goes = let before = l.invariant.goes in let one = t.ensures.goes in omega (arith, before, one);
+      can = can-moved g.W.ValueWriter a.limits a.end old now c.requires.can
+          (moved-then g.W.ValueWriter a.limits a.end old (lane l.kinds l.at l.writer l.sink l.meter) now c.requires.can l.invariant.moved f.ensures.moved);
     }
 
-pub items-preserved : goal.items-preserved
-items-preserved g c =
+pub returns-then-not-quoted_turn : goal.returns-then-not-quoted_turn
+returns-then-not-quoted_turn g c =
     let a = c.args in
-    let l = c.items in
-    let t = c.turn in
+    let l = c.runs in
+    let f = c.feed_frequent-at in
+    let t = c.quoted_turn in
+    let old = lane a.kinds.now a.spot a.writer.now a.sink.now a.meter.now in
+    let now = lane f.new.kinds f.result f.new.writer f.new.sink f.new.meter in
     record {
-      moved = moved-then g.W.ValueWriter a.limits a.end (lane a.kinds.now a.spot a.writer.now a.sink.now a.meter.now) (lane l.kinds l.at l.writer l.sink l.meter)
-          (lane t.new.kinds t.new.at t.new.writer t.new.sink t.new.meter) c.requires.can l.invariant.moved t.ensures.moved;
-      goes = let before = l.invariant.goes in let one = t.ensures.goes in omega (arith, before, one);
+      moved = moved-then g.W.ValueWriter a.limits a.end old now (lane t.new.kinds t.new.at t.new.writer t.new.sink t.new.meter) c.requires.can
+          (moved-then g.W.ValueWriter a.limits a.end old (lane l.kinds l.at l.writer l.sink l.meter) now c.requires.can l.invariant.moved f.ensures.moved) t.ensures.moved;
+      goes = let before = l.invariant.goes in let run = f.ensures.goes in let one = t.ensures.goes in omega (arith, before, run, one);
+    }
+
+pub runs-preserved : goal.runs-preserved
+runs-preserved g c =
+    let a = c.args in
+    let l = c.runs in
+    let f = c.feed_frequent-at in
+    let t = c.quoted_turn in
+    let old = lane a.kinds.now a.spot a.writer.now a.sink.now a.meter.now in
+    let now = lane f.new.kinds f.result f.new.writer f.new.sink f.new.meter in
+    record {
+      moved = moved-then g.W.ValueWriter a.limits a.end old now (lane t.new.kinds t.new.at t.new.writer t.new.sink t.new.meter) c.requires.can
+          (moved-then g.W.ValueWriter a.limits a.end old (lane l.kinds l.at l.writer l.sink l.meter) now c.requires.can l.invariant.moved f.ensures.moved) t.ensures.moved;
+      goes = let before = l.invariant.goes in let run = f.ensures.goes in let one = t.ensures.goes in omega (arith, before, run, one);
     }

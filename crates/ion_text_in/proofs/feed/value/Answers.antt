@@ -2,6 +2,10 @@ use Rattle.ion_text_in.specs.Feeding.{lane}
 use Rattle.ion_text_in.proofs.FeedLanes.{moved-none}
 use Rattle.ion_text_in.proofs.feed.value.Goals as goal
 
+pub returns-in_default-clause-moved : goal.returns-in_default-clause-moved
+returns-in_default-clause-moved g c =
+    moved-none g.W.ValueWriter c.args.limits c.args.end (lane c.args.kinds.now c.args.at.now c.args.writer.now c.args.sink.now c.args.meter.now) c.requires.can
+
 pub returns-in_default-token-clause-moved : goal.returns-in_default-token-clause-moved
 returns-in_default-token-clause-moved g c =
     moved-none g.W.ValueWriter c.args.limits c.args.end (lane c.args.kinds.now c.args.at.now c.args.writer.now c.args.sink.now c.args.meter.now) c.requires.can

@@ -277,9 +277,10 @@ fn noted_front<'n, N: Names>(
     })
 }
 
-// The front of an item, with its annotation where `noted_front` shows one.
+// The front of an item that the loop over most leaves: one with an annotation, or with a name that is not
+// known to be simple. It answers none of others, which were declined there.
 #[inline(always)]
-fn any_front<'n, N: Names>(
+fn other_front<'n, N: Names>(
     octets: &[u8],
     here: u64,
     around: Around,
@@ -287,17 +288,28 @@ fn any_front<'n, N: Names>(
     at: usize,
     limits: Limits,
     names: &'n N,
-) -> Front<'n>
+) -> Option<Front<'n>>
     requires small { here + length octets.now < 2 ^ 63 }
     requires field { ShowsField (N.text names.now) octets.now here
         (innermost (frame_in around)) field at }
-    ensures { ShowsFront (N.text names.entry.now) limits octets.now here
-        (innermost (frame_in around)) result.field result.annotation result.at result.head
-        result.wrapper }
+    ensures { IfSome result (λ f. ShowsFront (N.text names.entry.now) limits octets.now here
+        (innermost (frame_in around)) f.field f.annotation f.at f.head f.wrapper) }
 {
-    match noted_front(octets, here, around, field, at, limits, names) {
-        Some(front) => front,
-        None => bare_front(field, at),
+    if let Some(front) = noted_front(octets, here, around, field, at, limits, names) {
+        return Some(front);
+    }
+    if is_said_simple(field) {
+        return None;
+    }
+    Some(bare_front(field, at))
+}
+
+// Whether a name, where there is one, is known to be simple.
+#[inline(always)]
+fn is_said_simple(name: Option<TextAt<'_>>) -> bool {
+    match name {
+        Some(name) => name.simple,
+        None => true,
     }
 }
 
@@ -512,7 +524,9 @@ impl<I: Input, A: Allocator + Copy> BinReader<I, A> {
             return false;
         };
         let limits = self.limits;
-        let front = any_front(octets, here, *around, field, at, limits, names);
+        let Some(front) = other_front(octets, here, *around, field, at, limits, names) else {
+            return false;
+        };
         if front.head >= octets.len() {
             return false;
         }

@@ -4,6 +4,7 @@ use crate::hex::{MARKER, octets};
 use crate::limits::LIMITS;
 use crate::pieces::{Pieces, in_pieces, whole};
 use crate::reading::{Outcome, read, read_to};
+use crate::rows::{is_row, row_octets};
 use crate::same::same;
 use crate::tables::RAW;
 use ion_meter::fault::Fault;
@@ -34,10 +35,13 @@ fn read_past_end(rt: &impl Abort, alloc: Global, limits: Limits, input: Pieces<'
 
 #[test]
 fn an_ending_is_answered_from_then_on(rt: HostRuntime) {
-    for rows in RAW {
-        for (digits, _) in rows {
-            let octets = octets(&rt, rt.alloc(), MARKER, digits);
-            let _told = read_past_end(&rt, rt.alloc(), LIMITS, in_pieces(octets.as_slice(), 1, 1));
+    for table in RAW {
+        for row in table.split('\n') {
+            if is_row(row) {
+                let octets = row_octets(&rt, rt.alloc(), MARKER, row);
+                let input = in_pieces(octets.as_slice(), 1, 1);
+                let _told = read_past_end(&rt, rt.alloc(), LIMITS, input);
+            }
         }
     }
 }

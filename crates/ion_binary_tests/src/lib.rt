@@ -36,6 +36,8 @@ mod reading;
 #[cfg(test)]
 mod refusing;
 #[cfg(test)]
+mod rows;
+#[cfg(test)]
 mod same;
 #[cfg(test)]
 mod scalars;

@@ -44,39 +44,6 @@ fn begin_struct<R: RawReader<A>, A: Allocator + Copy>(
     };
 }
 
-// Reads a declaration of the text `a`.
-fn read_declaration<R: RawReader<Global>>(rt: &impl Abort, meter: &mut Meter<Global>, raw: &mut R)
-    requires sound { R.sound raw.old }
-    requires held { R.own raw.old ≤ meter.old.held }
-    requires level { R.opened raw.old ≡ [] }
-    ensures held { R.own raw.new ≤ meter.new.held }
-{
-    let catalog = Catalog::new(meter);
-    let mut symbols = Symbols::new(meter, &catalog);
-    begin_struct(rt, meter, raw);
-    expect_little(rt, meter);
-    let read = SymbolBuffer::read(meter, LIMITS, raw, &mut symbols);
-    same(rt, read, Ok(true));
-    let slots = (symbols.text(10), symbols.text(11));
-    same(rt, slots, (Slot::Known(b"a"), Slot::Above));
-    symbols.release(meter);
-}
-
-#[test]
-fn a_declaration_is_read_by_itself(rt: HostRuntime) {
-    let octets = octets(&rt, rt.alloc(), b"", "E7 81 83 D4 87 B2 81 61");
-    assert!(rt; LIMITS.check());
-    let mut meter = Meter::new(rt.alloc());
-    let input = FromRead::new(whole(octets.as_slice()));
-    let Ok(source) = Source::new(&mut meter, LIMITS, input) else {
-        panic!(rt; "no memory for the window")
-    };
-    let mut raw = BinReader::new(&meter, LIMITS, source);
-    read_declaration(&rt, &mut meter, &mut raw);
-    let _device = raw.release(&mut meter);
-    same(&rt, meter.held(), 0);
-}
-
 // The text `a` is declared, then others are appended to it.
 const APPENDED: &str = "E7 81 83 D4 87 B2 81 61 EE 8E 81 83 DB 87 B6 81 62 81 63 81 64 86 71 03";
 
@@ -109,8 +76,51 @@ fn declare<R: RawReader<A>, A: Allocator + Copy>(
     SymbolBuffer::read(meter, LIMITS, raw, symbols)
 }
 
-// Reads a declaration of the text `a`, then another one whose nth growth is refused. Where it meets
-// that, the present table stays. Whether it met it.
+// Reads a declaration of the text `a` by itself.
+fn declare_first<R: RawReader<A>, A: Allocator + Copy>(
+    rt: &impl Abort,
+    meter: &mut Meter<A>,
+    raw: &mut R,
+    symbols: &mut Symbols<'_, A>,
+    refusing: &Refusing<Global>,
+)
+    requires sound { R.sound raw.old }
+    requires held { R.own raw.old + table_cost symbols.old.table ≤ meter.old.held }
+    requires cheap { table_cost symbols.old.table ≤ 1_048_576 }
+    requires level { R.opened raw.old ≡ [] }
+    ensures sound { R.sound raw.new }
+    ensures held { R.own raw.new + table_cost symbols.new.table ≤ meter.new.held }
+    ensures cheap { table_cost symbols.new.table ≤ 1_048_576 }
+    ensures level { R.opened raw.new ≡ [] }
+{
+    let Ok(true) = declare(rt, meter, raw, symbols, refusing, 0, false) else {
+        panic!(rt; "no declaration")
+    };
+    let slots = (symbols.text(10), symbols.text(11));
+    same(rt, slots, (Slot::Known(b"a"), Slot::Above));
+}
+
+// Asserts how the second declaration ended. Whether its nth growth was refused; the present table
+// stays then.
+fn expect_kept<A: Allocator + Copy>(
+    rt: &impl Abort,
+    meter: &Meter<A>,
+    symbols: &Symbols<'_, A>,
+    refusing: &Refusing<Global>,
+    nth: u64,
+    answer: Result<bool, Fault>,
+) -> bool {
+    let is_met = refusing.has_refused();
+    let want = if is_met { Err(Fault::Memory) } else { Ok(true) };
+    same(rt, (nth, answer), (nth, want));
+    same(rt, (nth, meter.refused() > 0), (nth, is_met));
+    let is_kept = symbols.text(10) == Slot::Known(b"a") && symbols.text(11) == Slot::Above;
+    same(rt, (nth, is_kept), (nth, is_met));
+    is_met
+}
+
+// Reads a declaration of the text `a`, then another one whose nth growth is refused. Whether it met
+// that.
 fn is_met<R: RawReader<A>, A: Allocator + Copy>(
     rt: &impl Abort,
     meter: &mut Meter<A>,
@@ -126,16 +136,9 @@ fn is_met<R: RawReader<A>, A: Allocator + Copy>(
 {
     let catalog = Catalog::new(meter);
     let mut symbols = Symbols::new(meter, &catalog);
-    let Ok(true) = declare(rt, meter, raw, &mut symbols, refusing, 0, false) else {
-        panic!(rt; "no declaration")
-    };
+    declare_first(rt, meter, raw, &mut symbols, refusing);
     let answer = declare(rt, meter, raw, &mut symbols, refusing, nth, onward);
-    let is_met = refusing.has_refused();
-    let want = if is_met { Err(Fault::Memory) } else { Ok(true) };
-    same(rt, (nth, answer), (nth, want));
-    same(rt, (nth, meter.refused() > 0), (nth, is_met));
-    let is_kept = symbols.text(10) == Slot::Known(b"a") && symbols.text(11) == Slot::Above;
-    same(rt, (nth, is_kept), (nth, is_met));
+    let is_met = expect_kept(rt, meter, &symbols, refusing, nth, answer);
     symbols.release(meter);
     is_met
 }

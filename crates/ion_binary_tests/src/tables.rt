@@ -3,50 +3,37 @@ ghost use Rattle.std.specs.Prelude.{◌≤◌};
 ghost use Rattle.ion_symbols.specs.Table.{shared_cost};
 
 use crate::hex::{MARKER, octets};
-use crate::limits::LIMITS;
 use crate::reading::{expect_little, read_each_way};
+use crate::rows::{Fields, is_row};
 use crate::{containers, declarations, imports, scalars, streams, wrappers};
-use ion_meter::limits::Limits;
 use ion_meter::meter::Meter;
 use ion_symbols::catalog::Catalog;
 use ion_symbols::shared::SharedTable;
 use std::alloc::Global;
 use std::process::Abort;
 
-/// Octets, and what is read of them.
-pub type Row = (&'static str, &'static str);
+// The octets before those of a row, the words before its words, and how many versions of a shared
+// table there are, where user values are read.
+type Form = (&'static [u8], &'static str, Option<usize>);
 
-/// The octets before those of a row, the words before its words, and how many versions of a shared
-/// table there are, where user values are read.
-pub type Form = (&'static [u8], &'static str, Option<usize>);
+// Raw items of whole streams.
+const STREAMS: Form = (b"", "", None);
 
-/// A form, the limits of depth, scalars and symbol tables, and rows.
-pub type Table = (Form, u32, u64, u64, &'static [Row]);
+// Raw items behind a version marker.
+const ITEMS: Form = (MARKER, "0/0 marker; ", None);
 
-/// Raw items of whole streams.
-pub const STREAMS: Form = (b"", "", None);
+// User values without shared tables.
+const USERS: Form = (MARKER, "", Some(0));
 
-/// Raw items behind a version marker.
-pub const ITEMS: Form = (MARKER, "0/0 marker; ", None);
+// User values where there is version 1 of the shared table x, with p and q.
+const FIRST: Form = (MARKER, "", Some(1));
 
-/// User values without shared tables.
-pub const USERS: Form = (MARKER, "", Some(0));
+// User values where there is also version 3 of it, with r, s and t.
+const BOTH: Form = (MARKER, "", Some(2));
 
-/// User values where there is version 1 of the shared table x, with p and q.
-pub const FIRST: Form = (MARKER, "", Some(1));
-
-/// User values where there is also version 3 of it, with r, s and t.
-pub const BOTH: Form = (MARKER, "", Some(2));
-
-/// The limits where nothing else is said.
-pub const DEPTH: u32 = 64;
-
-pub const SCALAR: u64 = 1_048_576;
-
-pub const SYMBOLS: u64 = 1_048_576;
-
-/// The tables of raw items behind a version marker, under the usual limits.
-pub const RAW: [&[Row]; 14] = [
+/// The tables of raw items behind a version marker, under the usual limits: octets, and the words of
+/// what is read of them.
+pub const RAW: [&str; 14] = [
     scalars::NULLS_AND_BOOLS,
     scalars::INTS,
     scalars::DECIMALS,
@@ -63,14 +50,33 @@ pub const RAW: [&[Row]; 14] = [
     wrappers::INSIDES,
 ];
 
-// All others.
-const OTHERS: [&[Table]; 6] = [
-    scalars::TABLES,
-    containers::TABLES,
-    wrappers::TABLES,
-    streams::TABLES,
-    declarations::TABLES,
-    imports::TABLES,
+// All others. Behind the words may be limits.
+const OTHERS: [(Form, &[&str]); 5] = [
+    (
+        ITEMS,
+        &[scalars::LIMITED, containers::LIMITED, wrappers::LIMITED],
+    ),
+    (STREAMS, &[streams::ROWS]),
+    (
+        USERS,
+        &[
+            declarations::DECLARED,
+            declarations::PLAIN,
+            declarations::REFUSED,
+            declarations::LIMITED,
+            imports::NOT_FOUND,
+        ],
+    ),
+    (
+        FIRST,
+        &[
+            imports::FOUND,
+            imports::IGNORED,
+            imports::DOUBLED,
+            imports::LIMITED,
+        ],
+    ),
+    (BOTH, &[imports::GREATEST]),
 ];
 
 // The versions of the shared table x, and their texts.
@@ -113,31 +119,53 @@ pub fn catalog_of(rt: &impl Abort, alloc: Global, versions: usize) -> Catalog<Gl
     catalog
 }
 
-// Asserts what is read of each row, in whatever pieces it comes.
-fn expect_rows(rt: &impl Abort, alloc: Global, table: &Table) {
-    let ((front, before, versions), depth, scalar, symbols, rows) = *table;
-    let limits = Limits {
-        depth,
-        scalar,
-        symbols,
-        ..LIMITS
-    };
+// Asserts what is read of a row, in whatever pieces it comes.
+fn expect_row(
+    rt: &impl Abort,
+    alloc: Global,
+    form: Form,
+    catalog: Option<&Catalog<Global>>,
+    row: &str,
+) {
+    let (front, before, _) = form;
+    let mut fields = Fields::of(row);
+    let octets = octets(rt, alloc, front, fields.text(rt));
+    let words = fields.text(rt);
+    let all = read_each_way(rt, alloc, fields.limits(rt), catalog, octets.as_slice());
+    all.expect(rt, alloc, before, words);
+}
+
+// Asserts what is read of each row of a table.
+fn expect_rows(
+    rt: &impl Abort,
+    alloc: Global,
+    form: Form,
+    catalog: Option<&Catalog<Global>>,
+    table: &str,
+) {
+    let mut is_met = false;
+    for row in table.split('\n') {
+        if is_row(row) {
+            expect_row(rt, alloc, form, catalog, row);
+            is_met = true;
+        }
+    }
+    assert!(rt; is_met);
+}
+
+// Asserts what is read of the rows of tables.
+fn expect_tables(rt: &impl Abort, alloc: Global, form: Form, tables: &[&str]) {
+    let (_, _, versions) = form;
     let catalog = versions.map(|n| catalog_of(rt, alloc, n));
-    for (digits, words) in rows {
-        let octets = octets(rt, alloc, front, digits);
-        let all = read_each_way(rt, alloc, limits, catalog.as_ref(), octets.as_slice());
-        all.expect(rt, alloc, before, words);
+    for table in tables {
+        expect_rows(rt, alloc, form, catalog.as_ref(), table);
     }
 }
 
 #[test]
 fn rows_are_read(rt: HostRuntime) {
-    for rows in RAW {
-        expect_rows(&rt, rt.alloc(), &(ITEMS, DEPTH, SCALAR, SYMBOLS, rows));
-    }
-    for tables in OTHERS {
-        for table in tables {
-            expect_rows(&rt, rt.alloc(), table);
-        }
+    expect_tables(&rt, rt.alloc(), ITEMS, &RAW);
+    for (form, tables) in OTHERS {
+        expect_tables(&rt, rt.alloc(), form, tables);
     }
 }

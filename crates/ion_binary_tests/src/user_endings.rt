@@ -6,8 +6,9 @@ use crate::imports::{FOUND, NOT_FOUND};
 use crate::limits::LIMITS;
 use crate::pieces::{Pieces, in_pieces, whole};
 use crate::reading::{Outcome, read, read_each_way};
+use crate::rows::{Fields, is_row, row_octets};
 use crate::same::same;
-use crate::tables::{Row, catalog_of};
+use crate::tables::catalog_of;
 use ion_meter::fault::Fault;
 use ion_meter::limits::Limits;
 use ion_symbols::catalog::Catalog;
@@ -15,7 +16,7 @@ use std::alloc::Global;
 use std::process::Abort;
 
 // Tables of rows, each with the number of shared tables that are there.
-const TABLES: [(&[Row], usize); 5] = [
+const TABLES: [(&str, usize); 5] = [
     (DECLARED, 0),
     (PLAIN, 0),
     (REFUSED, 0),
@@ -48,11 +49,13 @@ fn expect_prefixes(rt: &impl Abort, alloc: Global, catalog: &Catalog<Global>, oc
 
 #[test]
 fn a_prefix_of_a_stream_gives_a_prefix_of_its_items(rt: HostRuntime) {
-    for (rows, versions) in TABLES {
+    for (table, versions) in TABLES {
         let catalog = catalog_of(&rt, rt.alloc(), versions);
-        for (digits, _) in rows {
-            let octets = octets(&rt, rt.alloc(), MARKER, digits);
-            expect_prefixes(&rt, rt.alloc(), &catalog, octets.as_slice());
+        for row in table.split('\n') {
+            if is_row(row) {
+                let octets = row_octets(&rt, rt.alloc(), MARKER, row);
+                expect_prefixes(&rt, rt.alloc(), &catalog, octets.as_slice());
+            }
         }
     }
 }
@@ -139,39 +142,36 @@ fn expect_costs(rt: &impl Abort, told: &Outcome, raw: &Outcome, cost: u64) {
 }
 
 // Octets, what their symbol table costs, and their words.
-const COSTS: [(&str, u64, &str); 7] = [
-    ("", 0, "end"),
-    ("71 04", 0, "4/4 symbol 'name'@4; end"),
-    (
-        APPENDED,
-        34,
-        "26/26 symbol 'a'@26; 28/28 symbol 'b'@28; end",
-    ),
-    (
-        "EE 94 81 83 DE 90 86 BA D9 84 81 78 85 21 01 88 21 02 87 B2 81 61",
-        49,
-        "end",
-    ),
-    ("E7 81 83 D4 87 B2 81 61 E0 01 00 EA", 0, "end"),
-    ("E7 81 83 D4 87 B2 81 61 E3 81 83 D0", 0, "end"),
-    // What is held of a declaration that is refused is given back at once.
-    (
-        "E7 81 83 D4 87 B2 81 61 EC 81 83 D9 87 B2 81 62 87 B2 81 63 20",
-        17,
-        "BadTable at 20",
-    ),
-];
+const COSTS: &str = "
+|0|end|
+71 04|0|4/4 symbol 'name'@4; end|
+EA 81 83 D7 87 B2 81 61 86 71 03 EA 81 83 D7 87 B2 81 62 86 71 03 71 0A 71 0B|34|26/26 symbol 'a'@26; 28/28 symbol 'b'@28; end|
+EE 94 81 83 DE 90 86 BA D9 84 81 78 85 21 01 88 21 02 87 B2 81 61|49|end|
+E7 81 83 D4 87 B2 81 61 E0 01 00 EA|0|end|
+E7 81 83 D4 87 B2 81 61 E3 81 83 D0|0|end|
+# What is held of a declaration that is refused is given back at once.
+E7 81 83 D4 87 B2 81 61 EC 81 83 D9 87 B2 81 62 87 B2 81 63 20|17|BadTable at 20|
+";
 
-// The symbol table is given back, and then what the raw reader holds.
+// Asserts that the symbol table of a row is given back, and then what the raw reader holds.
+fn expect_given_back(rt: &impl Abort, alloc: Global, catalog: &Catalog<Global>, row: &str) {
+    let mut fields = Fields::of(row);
+    let octets = octets(rt, alloc, MARKER, fields.text(rt));
+    let cost = fields.number(rt);
+    let input = whole(octets.as_slice());
+    let told = read(rt, alloc, LIMITS, Some(catalog), input);
+    told.expect(rt, alloc, "", fields.text(rt));
+    fields.end(rt);
+    let raw = read(rt, alloc, LIMITS, None, input);
+    expect_costs(rt, &told, &raw, cost);
+}
+
 #[test]
 fn a_reader_gives_its_table_back(rt: HostRuntime) {
     let catalog = catalog_of(&rt, rt.alloc(), 1);
-    for (digits, cost, words) in COSTS {
-        let octets = octets(&rt, rt.alloc(), MARKER, digits);
-        let input = whole(octets.as_slice());
-        let told = read(&rt, rt.alloc(), LIMITS, Some(&catalog), input);
-        told.expect(&rt, rt.alloc(), "", words);
-        let raw = read(&rt, rt.alloc(), LIMITS, None, input);
-        expect_costs(&rt, &told, &raw, cost);
+    for row in COSTS.split('\n') {
+        if is_row(row) {
+            expect_given_back(&rt, rt.alloc(), &catalog, row);
+        }
     }
 }

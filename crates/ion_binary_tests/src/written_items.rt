@@ -3,7 +3,6 @@
 use crate::hex::{MARKER, add, octets};
 use crate::limits::LIMITS;
 use crate::same::same;
-use crate::tables::SYMBOLS;
 use crate::written::{Part, Step, put};
 use crate::written_again::FailingOnce;
 use ion_meter::fault::{Fault, Reason};
@@ -15,6 +14,9 @@ use std::process::Abort;
 
 /// The greatest length of a value where nothing else is said.
 const VALUE: u64 = 16_777_216;
+
+/// The most that a symbol table costs there.
+const SYMBOLS: u64 = 1_048_576;
 
 /// An annotation of the text `name`, and of `version`.
 const NAME: Annotation = Annotation::Text {

@@ -77,7 +77,7 @@ pub fn has_room<O: Output, A: Allocator + Copy>(
     more: usize,
 ) -> bool
     ensures { result ≡ true
-        → length sink.now.pending + length (front_text front) + more + 2 ≤ 4096 }
+        → length sink.now.pending + length (front_text front.entry) + more + 2 ≤ 4096 }
 {
     let room = sink.room();
     let texts = front.name.len() + front.note.len();

@@ -24,7 +24,8 @@ use crate::between::before;
 use crate::front::{front_of, has_room};
 use crate::item::put_item;
 use crate::lane::{
-    has_spelling, put_begin, put_end, put_int, put_quoted_symbol, put_scalar, put_string, text_in,
+    both, has_spelling, put_begin, put_end, put_int, put_quoted_symbol, put_scalar, put_string,
+    text_in,
 };
 use crate::scalar::{bool_text, null};
 use ion_meter::device::Output;
@@ -162,7 +163,7 @@ impl<A: Allocator + Copy> TextWriter<A> {
         ensures puts { result ≡ true → sink.new ≡ record sink.old {
           pending = sink.old.pending
               ++ plain_scalar (opened_in self.old)
-                  (spelled_by SPELLS name.now) (spelled_by SPELLS note.now) text.now;
+              (spelled_by SPELLS name.now) (spelled_by SPELLS note.now) text.now;
         } }
         ensures behind { result ≡ true → self.new ≡ record self.old { empty = false } }
     {
@@ -217,7 +218,14 @@ impl<A: Allocator + Copy> TextWriter<A> {
         } }
         ensures behind { result ≡ true → self.new ≡ record self.old { empty = false } }
     {
-        if !put_quoted_symbol::<O, A, SPELLS>(sink, self.kinds.as_slice(), self.empty, name, note, text) {
+        if !put_quoted_symbol::<O, A, SPELLS>(
+            sink,
+            self.kinds.as_slice(),
+            self.empty,
+            name,
+            note,
+            text,
+        ) {
             return false;
         }
         self.empty = false;
@@ -365,7 +373,7 @@ impl<A: Allocator + Copy> TextWriter<A> {
         ensures puts { result ≡ true → sink.new ≡ record sink.old {
           pending = sink.old.pending
               ++ plain_begin (opened_in self.old)
-                  (spelled_by SPELLS name.now) (spelled_by SPELLS note.now) (opener kind);
+              (spelled_by SPELLS name.now) (spelled_by SPELLS note.now) (opener kind);
         } }
         ensures opens { result ≡ true
             → opened_in self.new ≡ (kind, true) ∷ with_member (opened_in self.old) }
@@ -540,7 +548,7 @@ impl<O: Output, A: Allocator + Copy> ValueWriter<O, A> for TextWriter<A> {
     ) -> bool {
         let name = text_in(item.field);
         let note = text_in(item.annotation);
-        if !(name.1 && note.1) {
+        if !both(name.1, note.1) {
             if !has_spelling(name.0, name.1) {
                 return false;
             }

@@ -369,6 +369,7 @@ impl<I: Input, A: Allocator + Copy> BinReader<I, A> {
     pub(super) fn hand_all<N: Names, W: ValueWriter<O, A>, O: Output>(
         &mut self,
         values: u64,
+        others: bool,
         meter: &mut Meter<A>,
         names: &N,
         writer: &mut W,
@@ -387,18 +388,45 @@ impl<I: Input, A: Allocator + Copy> BinReader<I, A> {
     {
         let mut count = values;
         let mut around = around_in(self.frames.as_slice());
-        'items: while self.hand(&mut around, meter, names, writer, sink) {
+        'items: while self.hand(&mut around, others, meter, names, writer, sink) {
             count = values_behind(count, self.frames.as_slice());
         }
         count
     }
 
-    // Hands the next item on, where it has no annotation and that is possible; else it answers false, and
-    // nothing is changed.
+    // The same of items that each have an annotation, or a name that is not known to be simple. It is a
+    // loop and a call of its own, so that the loop over all others is compiled without them.
+    #[inline(never)]
+    pub(super) fn hand_others<N: Names, W: ValueWriter<O, A>, O: Output>(
+        &mut self,
+        values: u64,
+        meter: &mut Meter<A>,
+        names: &N,
+        writer: &mut W,
+        sink: &mut Sink<O, A>,
+    ) -> u64
+        requires room { meter.old.held ≤ 2 ^ 61 + (held_by self.old + W.own writer.old) }
+        requires held { held_by self.old + W.own writer.old ≤ meter.old.held }
+        requires countable { meter.old.refused < 2 ^ 64 - 1 }
+        requires sound { IsSound self.old }
+        requires fresh { self.old.failed ≡ None }
+        requires writer { CanTake W.ValueWriter self.old.limits.depth (opened_in self.old)
+            writer.old sink.old }
+        requires few { values + left_to self.old < 2 ^ 64 - 1 }
+        ensures { HandsOn I.Input W.ValueWriter (named_item (N.text names.now)) self.old self.new
+            writer.old writer.new sink.old sink.new meter.old meter.new values result }
+    {
+        self.hand_all(values, true, meter, names, writer, sink)
+    }
+
+    // Hands the next item on, where that is possible and it is one of those that `others` asks for: the
+    // members with an annotation, or with a name that is not known to be simple, or else all but these. It
+    // answers false where it is not, and nothing is changed.
     #[inline(always)]
-    pub(super) fn hand<N: Names, W: ValueWriter<O, A>, O: Output>(
+    fn hand<N: Names, W: ValueWriter<O, A>, O: Output>(
         &mut self,
         around: &mut Around,
+        others: bool,
         meter: &mut Meter<A>,
         names: &N,
         writer: &mut W,
@@ -412,31 +440,15 @@ impl<I: Input, A: Allocator + Copy> BinReader<I, A> {
         ensures around { result ≡ true → IsAround (as_frames self.new.frames) around.new }
     {
         if ends_here(*around, self.source.place()) {
+            if others {
+                return false;
+            }
             return self.hand_end(around, meter, names, writer, sink);
         }
-        self.hand_member(around, meter, names, writer, sink)
-    }
-
-    // The same of an item that has an annotation, or a name that is not known to be simple. It is a call of
-    // its own, so that the loop over all others has none.
-    #[inline(never)]
-    pub(super) fn hand_next_other<N: Names, W: ValueWriter<O, A>, O: Output>(
-        &mut self,
-        meter: &mut Meter<A>,
-        names: &N,
-        writer: &mut W,
-        sink: &mut Sink<O, A>,
-    ) -> bool
-        requires { CanHand W.ValueWriter self.old writer.old sink.old meter.old }
-        ensures { Handed I.Input W.ValueWriter (named_item (N.text names.now))
-            self.old self.new writer.old writer.new sink.old sink.new
-            meter.old meter.new result }
-    {
-        let mut around = around_in(self.frames.as_slice());
-        if ends_here(around, self.source.place()) {
-            return false;
+        if others {
+            return self.hand_other(around, meter, names, writer, sink);
         }
-        self.hand_other(&mut around, meter, names, writer, sink)
+        self.hand_member(around, meter, names, writer, sink)
     }
 
     // The end of the innermost container, which stands here.
@@ -499,8 +511,7 @@ impl<I: Input, A: Allocator + Copy> BinReader<I, A> {
         self.hand_head(around, bare_front(field, at), meter, names, writer, sink)
     }
 
-    // The same of one with an annotation or any name. All shapes of a head share a call here, so that
-    // `hand_head` has one caller, in which it is put in line.
+    // The same of one with an annotation or any name.
     #[inline(always)]
     fn hand_other<N: Names, W: ValueWriter<O, A>, O: Output>(
         &mut self,
@@ -527,11 +538,7 @@ impl<I: Input, A: Allocator + Copy> BinReader<I, A> {
         let Some(front) = other_front(octets, here, *around, field, at, limits, names) else {
             return false;
         };
-        if front.head >= octets.len() {
-            return false;
-        }
-        let shape = Shape::of(octets[front.head]);
-        self.hand_shape(shape, around, front, meter, names, writer, sink)
+        self.hand_head(around, front, meter, names, writer, sink)
     }
 
     // The same of an item with this front. Each frequent shape of a head has a call of its own, so that

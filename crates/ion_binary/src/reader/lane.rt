@@ -366,10 +366,9 @@ fn item_behind<'n, 'h>(
 impl<I: Input, A: Allocator + Copy> BinReader<I, A> {
     // Hands items on, behind so many values at top level, as long as `hand` can: how many values ended.
     #[inline(always)]
-    pub(super) fn hand_all<N: Names, W: ValueWriter<O, A>, O: Output>(
+    pub(super) fn hand_all<N: Names, W: ValueWriter<O, A>, O: Output, const OTHERS: bool>(
         &mut self,
         values: u64,
-        others: bool,
         meter: &mut Meter<A>,
         names: &N,
         writer: &mut W,
@@ -388,7 +387,7 @@ impl<I: Input, A: Allocator + Copy> BinReader<I, A> {
     {
         let mut count = values;
         let mut around = around_in(self.frames.as_slice());
-        'items: while self.hand(&mut around, others, meter, names, writer, sink) {
+        'items: while self.hand::<N, W, O, OTHERS>(&mut around, meter, names, writer, sink) {
             count = values_behind(count, self.frames.as_slice());
         }
         count
@@ -416,17 +415,16 @@ impl<I: Input, A: Allocator + Copy> BinReader<I, A> {
         ensures { HandsOn I.Input W.ValueWriter (named_item (N.text names.now)) self.old self.new
             writer.old writer.new sink.old sink.new meter.old meter.new values result }
     {
-        self.hand_all(values, true, meter, names, writer, sink)
+        self.hand_all::<N, W, O, true>(values, meter, names, writer, sink)
     }
 
-    // Hands the next item on, where that is possible and it is one of those that `others` asks for: the
+    // Hands the next item on, where that is possible and it is one of those that `OTHERS` asks for: the
     // members with an annotation, or with a name that is not known to be simple, or else all but these. It
     // answers false where it is not, and nothing is changed.
     #[inline(always)]
-    fn hand<N: Names, W: ValueWriter<O, A>, O: Output>(
+    fn hand<N: Names, W: ValueWriter<O, A>, O: Output, const OTHERS: bool>(
         &mut self,
         around: &mut Around,
-        others: bool,
         meter: &mut Meter<A>,
         names: &N,
         writer: &mut W,
@@ -440,12 +438,12 @@ impl<I: Input, A: Allocator + Copy> BinReader<I, A> {
         ensures around { result ≡ true → IsAround (as_frames self.new.frames) around.new }
     {
         if ends_here(*around, self.source.place()) {
-            if others {
+            if OTHERS {
                 return false;
             }
             return self.hand_end(around, meter, names, writer, sink);
         }
-        if others {
+        if OTHERS {
             return self.hand_other(around, meter, names, writer, sink);
         }
         self.hand_member(around, meter, names, writer, sink)
@@ -508,7 +506,8 @@ impl<I: Input, A: Allocator + Copy> BinReader<I, A> {
         let Some((field, at)) = shown_field(octets, here, *around, names, false) else {
             return false;
         };
-        self.hand_head(around, bare_front(field, at), meter, names, writer, sink)
+        let front = bare_front(field, at);
+        self.hand_head::<N, W, O, false>(around, front, meter, names, writer, sink)
     }
 
     // The same of one with an annotation or any name.
@@ -538,13 +537,14 @@ impl<I: Input, A: Allocator + Copy> BinReader<I, A> {
         let Some(front) = other_front(octets, here, *around, field, at, limits, names) else {
             return false;
         };
-        self.hand_head(around, front, meter, names, writer, sink)
+        self.hand_head::<N, W, O, true>(around, front, meter, names, writer, sink)
     }
 
     // The same of an item with this front. Each frequent shape of a head has a call of its own, so that
-    // what is read of it and written of it is compiled for it alone.
+    // what is read of it and written of it is compiled for it alone; and each of the two loops has this
+    // function for itself, by `OTHERS`, so that it has one caller, in which it is put in line.
     #[inline(always)]
-    fn hand_head<N: Names, W: ValueWriter<O, A>, O: Output>(
+    fn hand_head<N: Names, W: ValueWriter<O, A>, O: Output, const OTHERS: bool>(
         &mut self,
         around: &mut Around,
         front: Front<'_>,
@@ -586,7 +586,7 @@ impl<I: Input, A: Allocator + Copy> BinReader<I, A> {
             Shape::Body {
                 type_code,
                 length_code,
-            } => self.hand_body(
+            } => self.hand_body::<N, W, O, OTHERS>(
                 type_code,
                 length_code,
                 around,
@@ -606,7 +606,7 @@ impl<I: Input, A: Allocator + Copy> BinReader<I, A> {
 
     // The same of a scalar with a body, by its type code. Lobs are not handed on.
     #[inline(always)]
-    fn hand_body<N: Names, W: ValueWriter<O, A>, O: Output>(
+    fn hand_body<N: Names, W: ValueWriter<O, A>, O: Output, const OTHERS: bool>(
         &mut self,
         type_code: u8,
         length_code: u8,

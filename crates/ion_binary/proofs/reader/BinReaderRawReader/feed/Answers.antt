@@ -47,7 +47,7 @@ pub hand_others-values-requires-clause-held : goal.hand_others-values-requires-c
 hand_others-values-requires-clause-held g c =
     let w = g.W.ValueWriter in
     held-again (held_by c.runs.self + w.own c.runs.writer) (held_by c.hand_all-values.new.self + w.own c.hand_all-values.new.writer) (share_of c.runs.self + w.most c.runs.writer) c.hand_all-values.ensures.keeps.charges
-    (hand_all-values-requires-clause-held g c)
+    (held-again (held_by c.args.self.now + w.own c.args.writer.now) (held_by c.runs.self + w.own c.runs.writer) (share_of c.args.self.now + w.most c.args.writer.now) c.runs.invariant.keeps.charges c.requires.held)
 
 pub hand_others-values-requires-clause-countable : goal.hand_others-values-requires-clause-countable
 hand_others-values-requires-clause-countable g c =
@@ -70,7 +70,7 @@ hand_others-values-requires-clause-few g c =
 
 pub runs-smaller : goal.runs-smaller
 runs-smaller g c =
-    omega (arith, c.place-place.ensures, c.place.ensures, c.hand_all-values.ensures.total, c.hand_all-values.ensures.further, c.hand_others-values.ensures.total, c.hand_others-values.ensures.further, c.if-eq-place.false)
+    omega (arith, c.place-place.ensures, c.place.ensures, c.hand_all-values.ensures.total, c.hand_all-values.ensures.further, c.hand_others-values.ensures.total, c.hand_others-values.ensures.further, c.if-place.false)
 
 pub runs-preserved : goal.runs-preserved
 runs-preserved g c =

@@ -106,7 +106,19 @@ pub fn stands_in_string(bytes: &[u8]) -> bool
     if bytes.len() < BLOCK {
         return few_in_string(bytes);
     }
-    stand_between(b'"', bytes)
+    let last = bytes.len() - BLOCK;
+    let hidden_last = hidden(b'"', 256, u8x16::from_slice(&bytes[last..]));
+    if hidden_last != 0 {
+        return false;
+    }
+    let mut at = 0;
+    'over: while at < last {
+        if hidden(b'"', 256, u8x16::from_slice(&bytes[at..])) != 0 {
+            return false;
+        }
+        at += BLOCK;
+    }
+    true
 }
 
 /// Whether those of a symbol between quotes do.
@@ -114,30 +126,9 @@ pub fn stands_in_string(bytes: &[u8]) -> bool
 pub fn stands_in_symbol(bytes: &[u8]) -> bool
     ensures { result ≡ all_are (is_shown 39 256) bytes.now }
 {
-    if bytes.len() < BLOCK {
-        return few_in_symbol(bytes);
-    }
-    stand_between(b'\'', bytes)
-}
-
-// Whether bytes, a block of them or more, stand for themselves between these quotes. The last block is
-// looked at first, and may lie partly over the one before it.
-#[inline(always)]
-fn stand_between(quote: u8, bytes: &[u8]) -> bool
-    requires { BLOCK ≤ length bytes.now }
-    ensures { result ≡ all_are (is_shown quote 256) bytes.now }
-{
-    let last = bytes.len() - BLOCK;
-    let hidden_last = hidden(quote, 256, u8x16::from_slice(&bytes[last..]));
-    if hidden_last != 0 {
+    let shown = shown_run(b'\'', 256, bytes);
+    if shown < bytes.len() {
         return false;
-    }
-    let mut at = 0;
-    'over: while at < last {
-        if hidden(quote, 256, u8x16::from_slice(&bytes[at..])) != 0 {
-            return false;
-        }
-        at += BLOCK;
     }
     true
 }
@@ -173,27 +164,6 @@ fn is_string_byte(byte: u8) -> bool
     ensures { result ≡ is_shown 34 256 byte }
 {
     STRING_BYTES[byte as usize] > 0
-}
-
-// Whether each of a few bytes stands for itself in a symbol between quotes.
-#[inline(always)]
-fn few_in_symbol(bytes: &[u8]) -> bool
-    ensures { result ≡ all_are (is_shown 39 256) bytes.now }
-{
-    'bytes: for byte in bytes {
-        if !is_symbol_byte(*byte) {
-            return false;
-        }
-    }
-    true
-}
-
-// Whether this byte stands for itself in a symbol between quotes.
-#[inline(always)]
-fn is_symbol_byte(byte: u8) -> bool
-    ensures { result ≡ is_shown 39 256 byte }
-{
-    (is_string_byte(byte) || byte == b'"') && byte != b'\''
 }
 
 // How many bytes at the front of these stand for themselves, one after the other.

@@ -366,7 +366,7 @@ fn item_behind<'n, 'h>(
 impl<I: Input, A: Allocator + Copy> BinReader<I, A> {
     // Hands items on, behind so many values at top level, as long as `hand` can: how many values ended.
     #[inline(always)]
-    pub(super) fn hand_all<N: Names, W: ValueWriter<O, A>, O: Output, const OTHERS: bool>(
+    pub(super) fn hand_all<N: Names, W: ValueWriter<O, A>, O: Output>(
         &mut self,
         values: u64,
         meter: &mut Meter<A>,
@@ -387,42 +387,16 @@ impl<I: Input, A: Allocator + Copy> BinReader<I, A> {
     {
         let mut count = values;
         let mut around = around_in(self.frames.as_slice());
-        'items: while self.hand::<N, W, O, OTHERS>(&mut around, meter, names, writer, sink) {
+        'items: while self.hand(&mut around, meter, names, writer, sink) {
             count = values_behind(count, self.frames.as_slice());
         }
         count
     }
 
-    // The same of items that each have an annotation, or a name that is not known to be simple. It is a
-    // loop and a call of its own, so that the loop over all others is compiled without them.
-    #[inline(never)]
-    pub(super) fn hand_others<N: Names, W: ValueWriter<O, A>, O: Output>(
-        &mut self,
-        values: u64,
-        meter: &mut Meter<A>,
-        names: &N,
-        writer: &mut W,
-        sink: &mut Sink<O, A>,
-    ) -> u64
-        requires room { meter.old.held ≤ 2 ^ 61 + (held_by self.old + W.own writer.old) }
-        requires held { held_by self.old + W.own writer.old ≤ meter.old.held }
-        requires countable { meter.old.refused < 2 ^ 64 - 1 }
-        requires sound { IsSound self.old }
-        requires fresh { self.old.failed ≡ None }
-        requires writer { CanTake W.ValueWriter self.old.limits.depth (opened_in self.old)
-            writer.old sink.old }
-        requires few { values + left_to self.old < 2 ^ 64 - 1 }
-        ensures { HandsOn I.Input W.ValueWriter (named_item (N.text names.now)) self.old self.new
-            writer.old writer.new sink.old sink.new meter.old meter.new values result }
-    {
-        self.hand_all::<N, W, O, true>(values, meter, names, writer, sink)
-    }
-
-    // Hands the next item on, where that is possible and it is one of those that `OTHERS` asks for: the
-    // members with an annotation, or with a name that is not known to be simple, or else all but these. It
-    // answers false where it is not, and nothing is changed.
+    // Hands the next item on, where it has no annotation and that is possible; else it answers false, and
+    // nothing is changed.
     #[inline(always)]
-    fn hand<N: Names, W: ValueWriter<O, A>, O: Output, const OTHERS: bool>(
+    pub(super) fn hand<N: Names, W: ValueWriter<O, A>, O: Output>(
         &mut self,
         around: &mut Around,
         meter: &mut Meter<A>,
@@ -438,15 +412,31 @@ impl<I: Input, A: Allocator + Copy> BinReader<I, A> {
         ensures around { result ≡ true → IsAround (as_frames self.new.frames) around.new }
     {
         if ends_here(*around, self.source.place()) {
-            if OTHERS {
-                return false;
-            }
             return self.hand_end(around, meter, names, writer, sink);
         }
-        if OTHERS {
-            return self.hand_other(around, meter, names, writer, sink);
-        }
         self.hand_member(around, meter, names, writer, sink)
+    }
+
+    // The same of an item that has an annotation, or a name that is not known to be simple. It is a call of
+    // its own, so that the loop over all others has none.
+    #[inline(never)]
+    pub(super) fn hand_next_other<N: Names, W: ValueWriter<O, A>, O: Output>(
+        &mut self,
+        meter: &mut Meter<A>,
+        names: &N,
+        writer: &mut W,
+        sink: &mut Sink<O, A>,
+    ) -> bool
+        requires { CanHand W.ValueWriter self.old writer.old sink.old meter.old }
+        ensures { Handed I.Input W.ValueWriter (named_item (N.text names.now))
+            self.old self.new writer.old writer.new sink.old sink.new
+            meter.old meter.new result }
+    {
+        let mut around = around_in(self.frames.as_slice());
+        if ends_here(around, self.source.place()) {
+            return false;
+        }
+        self.hand_other(&mut around, meter, names, writer, sink)
     }
 
     // The end of the innermost container, which stands here.
@@ -506,11 +496,11 @@ impl<I: Input, A: Allocator + Copy> BinReader<I, A> {
         let Some((field, at)) = shown_field(octets, here, *around, names, false) else {
             return false;
         };
-        let front = bare_front(field, at);
-        self.hand_head::<N, W, O, false>(around, front, meter, names, writer, sink)
+        self.hand_head(around, bare_front(field, at), meter, names, writer, sink)
     }
 
-    // The same of one with an annotation or any name.
+    // The same of one with an annotation or any name. All shapes of a head share a call here, so that
+    // `hand_head` has one caller, in which it is put in line.
     #[inline(always)]
     fn hand_other<N: Names, W: ValueWriter<O, A>, O: Output>(
         &mut self,
@@ -537,14 +527,17 @@ impl<I: Input, A: Allocator + Copy> BinReader<I, A> {
         let Some(front) = other_front(octets, here, *around, field, at, limits, names) else {
             return false;
         };
-        self.hand_head::<N, W, O, true>(around, front, meter, names, writer, sink)
+        if front.head >= octets.len() {
+            return false;
+        }
+        let shape = Shape::of(octets[front.head]);
+        self.hand_shape(shape, around, front, meter, names, writer, sink)
     }
 
     // The same of an item with this front. Each frequent shape of a head has a call of its own, so that
-    // what is read of it and written of it is compiled for it alone; and each of the two loops has this
-    // function for itself, by `OTHERS`, so that it has one caller, in which it is put in line.
+    // what is read of it and written of it is compiled for it alone.
     #[inline(always)]
-    fn hand_head<N: Names, W: ValueWriter<O, A>, O: Output, const OTHERS: bool>(
+    fn hand_head<N: Names, W: ValueWriter<O, A>, O: Output>(
         &mut self,
         around: &mut Around,
         front: Front<'_>,
@@ -586,7 +579,7 @@ impl<I: Input, A: Allocator + Copy> BinReader<I, A> {
             Shape::Body {
                 type_code,
                 length_code,
-            } => self.hand_body::<N, W, O, OTHERS>(
+            } => self.hand_body(
                 type_code,
                 length_code,
                 around,
@@ -606,7 +599,7 @@ impl<I: Input, A: Allocator + Copy> BinReader<I, A> {
 
     // The same of a scalar with a body, by its type code. Lobs are not handed on.
     #[inline(always)]
-    fn hand_body<N: Names, W: ValueWriter<O, A>, O: Output, const OTHERS: bool>(
+    fn hand_body<N: Names, W: ValueWriter<O, A>, O: Output>(
         &mut self,
         type_code: u8,
         length_code: u8,

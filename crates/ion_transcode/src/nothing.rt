@@ -22,6 +22,7 @@ pub struct NoWriter {
 }
 
 impl NoWriter {
+    /// A writer under these limits.
     pub fn new(limits: Limits) -> NoWriter
         requires checked { AreChecked limits }
         ensures limits { result.limits ≡ limits }

@@ -1,5 +1,5 @@
 //! Plain items, put in one go where the window on the output has room for them.
-ghost use Rattle.std.specs.Prelude.{◌≡◌, ◌+◌, ◌^◌, ◌≤◌, ◌<◌, ◌++◌, ◌∷◌, ◌&&◌, [], length, true, false, if◌then◌else◌, Option, IfSome};
+ghost use Rattle.std.specs.Prelude.{◌≡◌, ◌+◌, ◌≤◌, ◌<◌, ◌++◌, ◌∷◌, ◌&&◌, [], length, true, false, if◌then◌else◌, Option, IfSome};
 ghost use Rattle.ion_value.specs.Int.{int_text};
 ghost use Rattle.ion_value.specs.PlainItems.{IsRightlySimple};
 ghost use Rattle.ion_value.specs.declared.plain_item.TextAt.{TextAt};

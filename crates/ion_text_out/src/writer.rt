@@ -16,7 +16,6 @@ ghost use Rattle.ion_text_out.specs.Text.{end_text, head_text, open_after, opene
 ghost use Rattle.ion_text_out.specs.Lane.{plain_begin, plain_front, plain_scalar, spelling};
 ghost use Rattle.ion_text_out.specs.Writing.{text_puts, text_adds, text_refusal, IsReady, Shows};
 ghost use Rattle.ion_value.specs.Value.{user_symbol, user_symbol_at};
-ghost use Rattle.ion_value.specs.Standing.{HeadInRange};
 ghost use Rattle.ion_text_out.specs.Steps.{CanStep, HasRoomFor, MayCome, PutsText, Stepped, held_by, opened_in, share_of, text_of};
 ghost use Rattle.ion_text_out.specs.Written.{text_grows, text-within};
 

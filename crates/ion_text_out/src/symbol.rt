@@ -11,10 +11,30 @@ use ion_value::name::is_plain;
 /// The most bytes that are kept of a symbol, its quotes among them.
 pub const LONGEST: usize = 130;
 
-/// Spells a symbol that may be there, by its text, in a vector that is empty: none has an empty text.
-/// It answers false where the spelling is longer or has escapes.
+/// Spells a name and an annotation that may be there, by their texts, each in a vector that is empty:
+/// none has an empty text. It answers false where a spelling is longer than a vector holds, or has
+/// escapes.
 #[inline(always)]
-pub fn spell(spelled: &mut ArrayVec<u8, LONGEST>, text: &[u8]) -> bool
+pub fn spell_both(
+    spelled_name: &mut ArrayVec<u8, LONGEST>,
+    spelled_note: &mut ArrayVec<u8, LONGEST>,
+    name: &[u8],
+    note: &[u8],
+) -> bool
+    requires name { spelled_name.old.items ≡ [] }
+    requires note { spelled_note.old.items ≡ [] }
+    ensures name { result ≡ true → spelled_name.new.items ≡ spelling name.now }
+    ensures note { result ≡ true → spelled_note.new.items ≡ spelling note.now }
+{
+    if !spell(spelled_name, name) {
+        return false;
+    }
+    spell(spelled_note, note)
+}
+
+// The same of one of them.
+#[inline(always)]
+fn spell(spelled: &mut ArrayVec<u8, LONGEST>, text: &[u8]) -> bool
     requires { spelled.old.items ≡ [] }
     ensures { result ≡ true → spelled.new.items ≡ spelling text.now }
 {

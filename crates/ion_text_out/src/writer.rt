@@ -26,7 +26,7 @@ use crate::lane::{
     put_string, text_in,
 };
 use crate::scalar::{bool_text, null};
-use crate::symbol::spell;
+use crate::symbol::spell_both;
 use arrayvec::ArrayVec;
 use ion_meter::device::Output;
 use ion_meter::fault::Fault;
@@ -503,11 +503,8 @@ impl<A: Allocator + Copy> TextWriter<A> {
         ensures behind { result ≡ true → self.new ≡ record self.old { empty = false } }
     {
         let mut shown_name = ArrayVec::new();
-        if !spell(&mut shown_name, name) {
-            return false;
-        }
         let mut shown_note = ArrayVec::new();
-        if !spell(&mut shown_note, note) {
+        if !spell_both(&mut shown_name, &mut shown_note, name, note) {
             return false;
         }
         self.take_text(sink, shown_name.as_slice(), shown_note.as_slice(), text)
@@ -532,11 +529,8 @@ impl<A: Allocator + Copy> TextWriter<A> {
         ensures behind { result ≡ true → self.new ≡ record self.old { empty = false } }
     {
         let mut shown_name = ArrayVec::new();
-        if !spell(&mut shown_name, name) {
-            return false;
-        }
         let mut shown_note = ArrayVec::new();
-        if !spell(&mut shown_note, note) {
+        if !spell_both(&mut shown_name, &mut shown_note, name, note) {
             return false;
         }
         self.take_symbol(sink, shown_name.as_slice(), shown_note.as_slice(), symbol)
@@ -584,11 +578,8 @@ impl<A: Allocator + Copy> TextWriter<A> {
         ensures behind { result ≡ true → self.new ≡ record self.old { empty = false } }
     {
         let mut shown_name = ArrayVec::new();
-        if !spell(&mut shown_name, name) {
-            return false;
-        }
         let mut shown_note = ArrayVec::new();
-        if !spell(&mut shown_note, note) {
+        if !spell_both(&mut shown_name, &mut shown_note, name, note) {
             return false;
         }
         self.take_narrow_int(
@@ -618,11 +609,8 @@ impl<A: Allocator + Copy> TextWriter<A> {
         ensures behind { result ≡ true → self.new ≡ record self.old { empty = false } }
     {
         let mut shown_name = ArrayVec::new();
-        if !spell(&mut shown_name, name) {
-            return false;
-        }
         let mut shown_note = ArrayVec::new();
-        if !spell(&mut shown_note, note) {
+        if !spell_both(&mut shown_name, &mut shown_note, name, note) {
             return false;
         }
         self.take_string(sink, shown_name.as_slice(), shown_note.as_slice(), text)
@@ -653,11 +641,8 @@ impl<A: Allocator + Copy> TextWriter<A> {
         ensures stepped { Stepped self.old self.new meter.old meter.new }
     {
         let mut shown_name = ArrayVec::new();
-        if !spell(&mut shown_name, name) {
-            return false;
-        }
         let mut shown_note = ArrayVec::new();
-        if !spell(&mut shown_note, note) {
+        if !spell_both(&mut shown_name, &mut shown_note, name, note) {
             return false;
         }
         self.take_begin(

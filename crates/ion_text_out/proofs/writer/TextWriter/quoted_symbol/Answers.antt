@@ -7,6 +7,6 @@ use Rattle.ion_text_out.proofs.writer.TextWriter.quoted_symbol.Goals as goal
 pub returns-clause-puts : goal.returns-clause-puts
 returns-clause-puts g c e =
     let a = c.args in
-    let name : c.as_slice.result.now ≡ spelling a.name.now = c.as_slice.ensures.value ∙ c.spell.ensures c.if-not-spell.false in
-    let note : c.as_slice-2.result.now ≡ spelling a.note.now = c.as_slice-2.ensures.value ∙ c.spell-2.ensures c.if-not-spell-2.false in
+    let name : c.as_slice.result.now ≡ spelling a.name.now = c.as_slice.ensures.value ∙ c.spell_both.ensures.name c.if-not-spell_both.false in
+    let note : c.as_slice-2.result.now ≡ spelling a.note.now = c.as_slice-2.ensures.value ∙ c.spell_both.ensures.note c.if-not-spell_both.false in
     puts_same a.sink.now _ _ _ (c.take_symbol.ensures.puts e) (scalar_same (shown a.self.now.kinds a.self.now.empty) _ _ _ _ _ name note)

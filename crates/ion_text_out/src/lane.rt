@@ -1,5 +1,5 @@
 //! Plain items, put in one go where the window on the output has room for them.
-ghost use Rattle.std.specs.Prelude.{◌≡◌, ◌+◌, ◌≤◌, ◌<◌, ◌++◌, ◌∷◌, ◌&&◌, [], length, true, false, if◌then◌else◌, Option, IfSome};
+ghost use Rattle.std.specs.Prelude.{◌≡◌, ◌+◌, ◌≤◌, ◌<◌, ◌++◌, ◌∷◌, [], length, true, false, if◌then◌else◌, Option, IfSome};
 ghost use Rattle.ion_value.specs.Int.{int_text};
 ghost use Rattle.ion_value.specs.PlainItems.{IsRightlySimple};
 ghost use Rattle.ion_value.specs.declared.plain_item.TextAt.{TextAt};
@@ -28,14 +28,6 @@ pub fn text_in(at: Option<TextAt<'_>>) -> (&[u8], bool)
         Some(at) => (at.text, at.simple),
         None => (b"", true),
     }
-}
-
-/// Whether both are so.
-#[inline(always)]
-pub fn both(name: bool, note: bool) -> bool
-    ensures { result ≡ (name && note) }
-{
-    name && note
 }
 
 /// Whether a symbol that may be there is spelled by this text: an empty one that is not said to be

@@ -22,8 +22,8 @@ ghost use Rattle.ion_text_out.specs.Written.{text_grows, text-within};
 use crate::between::before;
 use crate::item::put_item;
 use crate::lane::{
-    both, has_room, has_spelling, put_begin, put_end, put_int, put_quoted_symbol, put_scalar,
-    put_string, text_in,
+    has_room, has_spelling, put_begin, put_end, put_int, put_quoted_symbol, put_scalar, put_string,
+    text_in,
 };
 use crate::scalar::{bool_text, null};
 use crate::symbol::spell_both;
@@ -712,16 +712,16 @@ impl<O: Output, A: Allocator + Copy> ValueWriter<O, A> for TextWriter<A> {
     ) -> bool {
         let name = text_in(item.field);
         let note = text_in(item.annotation);
-        if !both(name.1, note.1) {
-            if !has_spelling(name.0, name.1) {
-                return false;
-            }
-            if !has_spelling(note.0, note.1) {
-                return false;
-            }
-            return self.take_quoted_names(meter, sink, name.0, note.0, item.head, item.spelled);
+        if name.1 && note.1 {
+            return self.take_head(meter, sink, name.0, note.0, item.head, item.spelled);
         }
-        self.take_head(meter, sink, name.0, note.0, item.head, item.spelled)
+        if !has_spelling(name.0, name.1) {
+            return false;
+        }
+        if !has_spelling(note.0, note.1) {
+            return false;
+        }
+        self.take_quoted_names(meter, sink, name.0, note.0, item.head, item.spelled)
     }
 
     ghost grows = { text_grows };

@@ -467,15 +467,15 @@ impl<A: Allocator + Copy> TextWriter<A> {
         ensures stepped { Stepped self.old self.new meter.old meter.new }
     {
         if let Some(text) = spelled {
-            return self.quoted_text(sink, name, note, text);
+            return self.spell_then_text(sink, name, note, text);
         }
         match head {
-            Head::Null(of) => self.quoted_text(sink, name, note, null(of)),
-            Head::Bool(truth) => self.quoted_text(sink, name, note, bool_text(truth)),
-            Head::Int(int) => self.quoted_int(sink, name, note, int),
-            Head::Symbol(at) => self.quoted_symbol(sink, name, note, at.sym),
-            Head::String(text) => self.quoted_string(sink, name, note, text),
-            Head::Begin(kind) => self.quoted_begin(meter, sink, name, note, kind),
+            Head::Null(of) => self.spell_then_text(sink, name, note, null(of)),
+            Head::Bool(truth) => self.spell_then_text(sink, name, note, bool_text(truth)),
+            Head::Int(int) => self.spell_then_int(sink, name, note, int),
+            Head::Symbol(at) => self.spell_then_symbol(sink, name, note, at.sym),
+            Head::String(text) => self.spell_then_string(sink, name, note, text),
+            Head::Begin(kind) => self.spell_then_begin(meter, sink, name, note, kind),
             _ => false,
         }
     }
@@ -488,7 +488,7 @@ impl<A: Allocator + Copy> TextWriter<A> {
     // A scalar of this text.
     #[cold]
     #[inline(never)]
-    fn quoted_text<O: Output>(
+    fn spell_then_text<O: Output>(
         &mut self,
         sink: &mut Sink<O, A>,
         name: &[u8],
@@ -513,7 +513,7 @@ impl<A: Allocator + Copy> TextWriter<A> {
     // A symbol.
     #[cold]
     #[inline(never)]
-    fn quoted_symbol<O: Output>(
+    fn spell_then_symbol<O: Output>(
         &mut self,
         sink: &mut Sink<O, A>,
         name: &[u8],
@@ -538,7 +538,7 @@ impl<A: Allocator + Copy> TextWriter<A> {
 
     // An int.
     #[inline(always)]
-    fn quoted_int<O: Output>(
+    fn spell_then_int<O: Output>(
         &mut self,
         sink: &mut Sink<O, A>,
         name: &[u8],
@@ -555,13 +555,13 @@ impl<A: Allocator + Copy> TextWriter<A> {
         if int.magnitude > u64::MAX as u128 {
             return false;
         }
-        self.quoted_narrow_int(sink, name, note, int.negative, int.magnitude as u64)
+        self.spell_then_narrow_int(sink, name, note, int.negative, int.magnitude as u64)
     }
 
     // The same of one with this sign and a magnitude that 64 bits hold.
     #[cold]
     #[inline(never)]
-    fn quoted_narrow_int<O: Output>(
+    fn spell_then_narrow_int<O: Output>(
         &mut self,
         sink: &mut Sink<O, A>,
         name: &[u8],
@@ -594,7 +594,7 @@ impl<A: Allocator + Copy> TextWriter<A> {
     // A string.
     #[cold]
     #[inline(never)]
-    fn quoted_string<O: Output>(
+    fn spell_then_string<O: Output>(
         &mut self,
         sink: &mut Sink<O, A>,
         name: &[u8],
@@ -619,7 +619,7 @@ impl<A: Allocator + Copy> TextWriter<A> {
     // The beginning of a container.
     #[cold]
     #[inline(never)]
-    fn quoted_begin<O: Output>(
+    fn spell_then_begin<O: Output>(
         &mut self,
         meter: &mut Meter<A>,
         sink: &mut Sink<O, A>,

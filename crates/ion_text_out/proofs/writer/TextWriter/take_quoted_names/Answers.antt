@@ -9,43 +9,43 @@ use Rattle.ion_text_out.specs.Writing.{shown, HasRoom}
 use Rattle.ion_text_out.proofs.Plain.{begin_put, puts_same, scalar_put, spelled_put}
 use Rattle.ion_text_out.proofs.writer.TextWriter.take_quoted_names.Goals as goal
 
-pub quoted_begin-requires-clause-deep : goal.quoted_begin-requires-clause-deep
-quoted_begin-requires-clause-deep g c =
+pub spell_then_begin-requires-clause-deep : goal.spell_then_begin-requires-clause-deep
+spell_then_begin-requires-clause-deep g c =
     let w = c.args.self.now in
     subst (λ (h : Head SymbolAt). HasRoom w.limits.depth (length w.kinds) h) (ap raw_head c.in-Begin.is) c.requires.comes.fits
 
 pub returns-in-Null-clause-puts : goal.returns-in-Null-clause-puts
 returns-in-Null-clause-puts g c e =
     let a = c.args in
-    puts_same a.sink.now _ _ _ (c.quoted_text-in-Null.ensures.puts e) (scalar_put (shown a.self.now.kinds a.self.now.empty) (spelling a.name.now) (spelling a.note.now) (raw_head a.head) (value.null c.in-Null.of) _ (ap raw_head c.in-Null.is) c.null.ensures)
+    puts_same a.sink.now _ _ _ (c.spell_then_text-in-Null.ensures.puts e) (scalar_put (shown a.self.now.kinds a.self.now.empty) (spelling a.name.now) (spelling a.note.now) (raw_head a.head) (value.null c.in-Null.of) _ (ap raw_head c.in-Null.is) c.null.ensures)
 
 pub returns-in-Bool-clause-puts : goal.returns-in-Bool-clause-puts
 returns-in-Bool-clause-puts g c e =
     let a = c.args in
-    puts_same a.sink.now _ _ _ (c.quoted_text-in-Bool.ensures.puts e) (scalar_put (shown a.self.now.kinds a.self.now.empty) (spelling a.name.now) (spelling a.note.now) (raw_head a.head) (value.bool c.in-Bool.truth) _ (ap raw_head c.in-Bool.is) c.bool_text.ensures)
+    puts_same a.sink.now _ _ _ (c.spell_then_text-in-Bool.ensures.puts e) (scalar_put (shown a.self.now.kinds a.self.now.empty) (spelling a.name.now) (spelling a.note.now) (raw_head a.head) (value.bool c.in-Bool.truth) _ (ap raw_head c.in-Bool.is) c.bool_text.ensures)
 
 pub returns-in-Int-clause-puts : goal.returns-in-Int-clause-puts
 returns-in-Int-clause-puts g c e =
     let a = c.args in
-    puts_same a.sink.now _ _ _ (c.quoted_int.ensures.puts e) (scalar_put (shown a.self.now.kinds a.self.now.empty) (spelling a.name.now) (spelling a.note.now) (raw_head a.head) (value.int c.in-Int.int) _ (ap raw_head c.in-Int.is) refl)
+    puts_same a.sink.now _ _ _ (c.spell_then_int.ensures.puts e) (scalar_put (shown a.self.now.kinds a.self.now.empty) (spelling a.name.now) (spelling a.note.now) (raw_head a.head) (value.int c.in-Int.int) _ (ap raw_head c.in-Int.is) refl)
 
 pub returns-in-Symbol-clause-puts : goal.returns-in-Symbol-clause-puts
 returns-in-Symbol-clause-puts g c e =
     let a = c.args in
-    puts_same a.sink.now _ _ _ (c.quoted_symbol.ensures.puts e) (scalar_put (shown a.self.now.kinds a.self.now.empty) (spelling a.name.now) (spelling a.note.now) (raw_head a.head) (value.symbol (symbol_at c.in-Symbol.at)) _ (ap raw_head c.in-Symbol.is) refl)
+    puts_same a.sink.now _ _ _ (c.spell_then_symbol.ensures.puts e) (scalar_put (shown a.self.now.kinds a.self.now.empty) (spelling a.name.now) (spelling a.note.now) (raw_head a.head) (value.symbol (symbol_at c.in-Symbol.at)) _ (ap raw_head c.in-Symbol.is) refl)
 
 pub returns-in-String-clause-puts : goal.returns-in-String-clause-puts
 returns-in-String-clause-puts g c e =
     let a = c.args in
-    puts_same a.sink.now _ _ _ (c.quoted_string.ensures.puts e) (scalar_put (shown a.self.now.kinds a.self.now.empty) (spelling a.name.now) (spelling a.note.now) (raw_head a.head) (value.string c.in-String.text.now) _ (ap raw_head c.in-String.is) refl)
+    puts_same a.sink.now _ _ _ (c.spell_then_string.ensures.puts e) (scalar_put (shown a.self.now.kinds a.self.now.empty) (spelling a.name.now) (spelling a.note.now) (raw_head a.head) (value.string c.in-String.text.now) _ (ap raw_head c.in-String.is) refl)
 
 pub returns-in-Begin-clause-puts : goal.returns-in-Begin-clause-puts
 returns-in-Begin-clause-puts g c e =
     let a = c.args in
-    puts_same a.sink.now _ _ _ (c.quoted_begin.ensures.puts e) (begin_put (shown a.self.now.kinds a.self.now.empty) (spelling a.name.now) (spelling a.note.now) (raw_head a.head) c.in-Begin.kind (ap raw_head c.in-Begin.is))
+    puts_same a.sink.now _ _ _ (c.spell_then_begin.ensures.puts e) (begin_put (shown a.self.now.kinds a.self.now.empty) (spelling a.name.now) (spelling a.note.now) (raw_head a.head) c.in-Begin.kind (ap raw_head c.in-Begin.is))
 
 pub returns-in-Some-clause-puts : goal.returns-in-Some-clause-puts
 returns-in-Some-clause-puts g c e =
     let a = c.args in
     let spelled : IfSome a.spelled (λ text. IsTextOf text.now (raw_head a.head)) = c.requires.spelled in
-    puts_same a.sink.now _ _ _ (c.quoted_text.ensures.puts e) (spelled_put (shown a.self.now.kinds a.self.now.empty) (spelling a.name.now) (spelling a.note.now) c.in-Some.text.now (raw_head a.head) (rw c.in-Some.is at spelled))
+    puts_same a.sink.now _ _ _ (c.spell_then_text.ensures.puts e) (spelled_put (shown a.self.now.kinds a.self.now.empty) (spelling a.name.now) (spelling a.note.now) c.in-Some.text.now (raw_head a.head) (rw c.in-Some.is at spelled))

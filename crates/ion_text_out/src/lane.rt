@@ -30,8 +30,8 @@ pub fn text_in(at: Option<TextAt<'_>>) -> (&[u8], bool)
     }
 }
 
-/// Whether a symbol that may be there is spelled by this text: an empty one that is not said to be
-/// simple is that of a symbol, and not of none.
+/// Whether `spelling` of this text is right for a symbol that may be there: it takes an empty text for
+/// that of none, and one that is not said to be simple is of a symbol.
 #[inline(always)]
 pub fn has_spelling(text: &[u8], simple: bool) -> bool
     ensures { result ≡ true → (at : Option TextAt) → text.now ≡ text_in at

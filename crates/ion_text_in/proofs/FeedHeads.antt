@@ -25,7 +25,7 @@ use Rattle.ion_text_in.specs.Reading.{take as taken, behind_colons, behind_membe
 use Rattle.ion_text_in.specs.Scanners.{Shows}
 use Rattle.ion_text_in.specs.Steps.{comes, later}
 use Rattle.ion_text_in.specs.Token as tokens
-use Rattle.ion_text_in.specs.Token.{First, Token, first_at, token_of}
+use Rattle.ion_text_in.specs.Token.{First, first_at, token_of}
 use Rattle.ion_text_in.proofs.FeedNames.{dollar-version}
 use Rattle.ion_text_in.proofs.FeedReading.{behind-then, later-token, mark-behind, may-value, plain-gives, some-behind}
 use Rattle.ion_text_in.proofs.FirstTokens.{no-colons}

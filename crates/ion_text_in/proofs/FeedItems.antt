@@ -32,7 +32,6 @@ use Rattle.ion_text_in.specs.Positions.{innermost}
 use Rattle.ion_text_in.specs.Reading.{at_member, behind_member, is_same, item_of, top_of}
 use Rattle.ion_text_in.specs.Steps.{later}
 use Rattle.ion_text_in.specs.Token as tokens
-use Rattle.ion_text_in.specs.Token.{first_at}
 use Rattle.ion_text_in.proofs.FeedReading.{behind-then, none-behind, some-behind, end-gives, onward-blanks, MayEnd, at_value, at_field, at_separator}
 use Rattle.ion_text_in.proofs.FeedLanes.{moved-item, moved-none, moved-onward}
 

@@ -12,7 +12,7 @@ use Rattle.ion_value.specs.Name.{Keyword, a_null, a_bool, a_nan, is_id, is_ident
 use Rattle.ion_value.specs.Parts.{Placed, ◌>>=◌}
 use Rattle.ion_value.specs.PlainItems.{placed_text, IsRightlySimple}
 use Rattle.ion_value.specs.Value as value
-use Rattle.ion_value.specs.Value.{SymbolAt, Symbol}
+use Rattle.ion_value.specs.Value.{SymbolAt}
 use Rattle.ion_text_in.specs.Feeding.{expected_of, state, Begins, IfName, IsBare, IsBegun, IsBehind, IsBehindName, IsNamed, IsNext, IsSimpleWord, IsStart, Onward, PassesBlanks, ToColon}
 use Rattle.ion_text_in.specs.declared.expected.Expected.{Expected}
 use Rattle.ion_text_in.specs.declared.expected.Expected.TheVariants as codes_of

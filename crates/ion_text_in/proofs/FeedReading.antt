@@ -9,7 +9,7 @@ use Rattle.ion_value.specs.Digits.{all_are, first_is}
 use Rattle.ion_value.specs.Parts.{part, refuse, ◌>>◌}
 use Rattle.ion_value.specs.Reading.{Gives, More}
 use Rattle.ion_value.specs.Value as value
-use Rattle.ion_value.specs.Value.{SymbolAt, Scalar, Head, PlacedItem}
+use Rattle.ion_value.specs.Value.{SymbolAt, Scalar, Head}
 use Rattle.ion_text_in.specs.Blanks.{blanks, is_white}
 use Rattle.ion_text_in.specs.declared.feed.Next.{Next}
 use Rattle.ion_text_in.specs.declared.feed.Spot.{Spot}

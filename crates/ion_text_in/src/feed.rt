@@ -1,8 +1,8 @@
 //! A lane for items that lie whole in the window: they go to the writer as they are read.
-ghost use Rattle.std.specs.Prelude.{◌≡◌, ◌≢◌, ◌+◌, ◌-◌, ◌^◌, ◌<◌, ◌≤◌, ℕ, Bool, List, [], ◌∷◌, ◌++◌, take, drop, length, reverse, true, false, None, Some, Ok, option_map, IfSome};
+ghost use Rattle.std.specs.Prelude.{◌≡◌, ◌≢◌, ◌+◌, ◌-◌, ◌^◌, ◌<◌, ◌≤◌, ℕ, Bool, List, [], ◌++◌, take, drop, length, reverse, true, false, None, Some, IfSome};
 ghost use Rattle.ion_value.specs.declared.ion_type.Kind as kind_of;
 ghost use Rattle.ion_text_in.specs.Expecting.{kind_in, wanted, MayExpect};
-ghost use Rattle.ion_text_in.specs.Feeding.{expected_of, lane, notes, Begins, CanFeed, IsFound, IsNext, IsSimpleWord, IsStart, Moved, Onward, PassesBlanks};
+ghost use Rattle.ion_text_in.specs.Feeding.{expected_of, lane, notes, CanFeed, IsFound, IsNext, IsSimpleWord, IsStart, Moved, Onward, PassesBlanks};
 ghost use Rattle.ion_text_in.specs.Firsts.{numbered};
 ghost use Rattle.ion_text_in.specs.Reading.{top_of};
 ghost use Rattle.ion_text_in.specs.Token.{a_comma, a_run, a_short, a_word, an_end, first_at};

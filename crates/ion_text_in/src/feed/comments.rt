@@ -1,5 +1,5 @@
 //! Blanks in a lane: white space and comments that end within the window.
-ghost use Rattle.std.specs.Prelude.{◌≡◌, ◌<◌, ℕ, length};
+ghost use Rattle.std.specs.Prelude.{◌<◌, ℕ, length};
 ghost use Rattle.ion_text_in.specs.Blanks.{blanks_at, in_block, in_line};
 ghost use Rattle.ion_text_in.specs.Feeding.{LeadsTo, PassesBlanks};
 

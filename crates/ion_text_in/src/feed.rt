@@ -16,7 +16,7 @@ mod names;
 mod noted;
 mod quotes;
 
-use crate::first::{First, told_first};
+use crate::first::{COMMA, First, LIST_END, SEXP_END, STRUCT_END, told_first};
 use crate::quick::scan_quick;
 use crate::scanned::Scanned;
 use crate::word::{Word, scan_simple};
@@ -92,12 +92,6 @@ struct Turned<'a> {
     spot: Spot<'a>,
     more: bool,
 }
-
-// The number of a word among those of tokens that a byte tells alone.
-const WORD: u64 = 1;
-
-// The number of a comma among those of tokens that a byte tells alone.
-const COMMA: u64 = 4;
 
 // What stands behind so many bytes.
 #[inline(always)]
@@ -237,9 +231,9 @@ fn ended_kind(told: u64) -> Option<Kind>
     ensures { IfSome result (λ k. (0 < told) × (numbered told ≡ an_end k)) }
 {
     match told {
-        7 => Some(Kind::Struct),
-        8 => Some(Kind::List),
-        9 => Some(Kind::Sexp),
+        STRUCT_END => Some(Kind::Struct),
+        LIST_END => Some(Kind::List),
+        SEXP_END => Some(Kind::Sexp),
         _ => None,
     }
 }

@@ -49,6 +49,36 @@ pub(crate) enum First {
     Nothing,
 }
 
+/// The number of a word, as of each kind of token that its first byte or two tell. 0 is none of them.
+pub(crate) const WORD: u64 = 1;
+
+/// The number of a number or a timestamp.
+pub(crate) const NUMBER: u64 = 2;
+
+/// The number of a string.
+pub(crate) const STRING: u64 = 3;
+
+/// The number of a comma.
+pub(crate) const COMMA: u64 = 4;
+
+/// The number of the beginning of a list.
+pub(crate) const LIST: u64 = 5;
+
+/// The number of the beginning of a sexp.
+pub(crate) const SEXP: u64 = 6;
+
+/// The number of the end of a struct.
+pub(crate) const STRUCT_END: u64 = 7;
+
+/// The number of the end of a list.
+pub(crate) const LIST_END: u64 = 8;
+
+/// The number of the end of a sexp.
+pub(crate) const SEXP_END: u64 = 9;
+
+/// The number of the beginning of a struct, which two bytes tell.
+pub(crate) const STRUCT: u64 = 10;
+
 /// Which kind of token begins at the front of a slice, where the slice shows it: it does where it
 /// has five bytes.
 #[tactic(auto, unfolding(crate::specs::Token::first_at))]
@@ -111,9 +141,9 @@ fn told_by_two(bytes: &[u8]) -> u64
             if *next == b'{' {
                 return 0;
             }
-            10
+            STRUCT
         }
-        [b'-', b'0'..=b'9', ..] => 2,
+        [b'-', b'0'..=b'9', ..] => NUMBER,
         _ => 0,
     }
 }
@@ -134,9 +164,7 @@ pub(crate) fn shows_colon(bytes: &[u8]) -> bool
     }
 }
 
-// The numbers of the kinds that bytes tell alone: 1 for a word, 2 for a number, 3 for a string, 4 for
-// a comma, 5 and 6 for the beginnings of a list and a sexp, 7 to 9 for the ends of a struct, a list
-// and a sexp. That of a struct's beginning is 10.
+// The numbers of the kinds that bytes tell alone, from `WORD` to `SEXP_END`.
 static FIRST_BYTES: [u8; 256] = [
     0, 0, 0, 0, 0, 0, 0, 0, 0, 0, 0, 0, 0, 0, 0, 0, 0, 0, 0, 0, 0, 0, 0, 0, 0, 0, 0, 0, 0, 0, 0, 0,
     0, 0, 3, 0, 1, 0, 0, 0, 6, 9, 0, 0, 4, 0, 0, 0, 2, 2, 2, 2, 2, 2, 2, 2, 2, 2, 0, 0, 0, 0, 0, 0,

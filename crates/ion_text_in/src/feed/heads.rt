@@ -11,7 +11,7 @@ ghost use Rattle.ion_value.specs.PlainItems.{IsTextOf};
 ghost use Rattle.ion_value.specs.Value.{whole};
 
 use super::{Found, Next, behind, front, next_told};
-use crate::first::First;
+use crate::first::{First, LIST, NUMBER, SEXP, STRING, STRUCT, WORD};
 use crate::number::{Number, scan_number};
 use crate::quick::{Quick, scaled, scan_quick, signed_int};
 use crate::quoted::{Quote, scan_text};
@@ -262,12 +262,12 @@ pub(super) fn token(next: Next<'_>) -> Option<First>
         → first_at in_sexp (next.entry.rest.now ++ more) ≡ first_of f) }
 {
     match next.told {
-        1 => Some(First::Word),
-        2 => Some(First::Number),
-        3 => Some(First::String),
-        5 => Some(First::Begin(Kind::List)),
-        6 => Some(First::Begin(Kind::Sexp)),
-        10 => Some(First::Begin(Kind::Struct)),
+        WORD => Some(First::Word),
+        NUMBER => Some(First::Number),
+        STRING => Some(First::String),
+        LIST => Some(First::Begin(Kind::List)),
+        SEXP => Some(First::Begin(Kind::Sexp)),
+        STRUCT => Some(First::Begin(Kind::Struct)),
         _ if begins_quoted(next.rest) => Some(First::QuotedSymbol),
         _ => None,
     }

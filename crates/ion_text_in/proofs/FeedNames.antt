@@ -244,7 +244,7 @@ named-start limits place name bytes behind None is simple some h = tt
 named-start limits place name bytes behind (Some s) is simple some h = record {
   text = name;
   is = h.is;
-  bare = h.bare;
+  no_note = h.no_note;
   simple = simple;
   some = some;
   onward = λ kinds top. onward-name limits kinds top place name bytes behind h.colon s.next.rest.now is h.to_colon h.passes;
@@ -259,11 +259,11 @@ start-field limits spot place named next (Some s) field is here h =
     let fewer = passes.fewer in
     record {
       known = rw h.is tt;
-      free = rw h.bare tt;
+      free = rw h.no_note tt;
       field = rw h.is h.simple;
-      note = rw h.bare tt;
+      note = rw h.no_note tt;
       onward = λ kinds may.
-          rw (h.is, h.bare, field) (onward-then limits kinds spot.top place named a_field a_field (a_value (Some (placed_text h.text)) []) spot.rest.now next.rest.now s.next.rest.now (omega (arith, here, fewer))
+          rw (h.is, h.no_note, field) (onward-then limits kinds spot.top place named a_field a_field (a_value (Some (placed_text h.text)) []) spot.rest.now next.rest.now s.next.rest.now (omega (arith, here, fewer))
           (onward-blanks limits kinds spot.top place a_field spot.rest.now next.rest.now passes) (h.onward kinds spot.top));
       named = λ kinds may. rw h.is (sym (subst (λ (e : Expected). MayExpect e kinds None []) field may).0);
       begins = h.begins;
@@ -278,6 +278,6 @@ not-empty [] e = absurd (cc e)
 not-empty (b ∷ bytes) e = omega arith
 
 -- no annotation was read there
-pub named-bare : (limits : Limits) (place : ℕ) (bytes : List ℕ) (start : Option Start) → IfSome start (IsNamed limits place bytes) → IfSome start (λ s. s.note ≡ None)
-named-bare limits place bytes None h = tt
-named-bare limits place bytes (Some s) h = h.bare
+pub named-no_note : (limits : Limits) (place : ℕ) (bytes : List ℕ) (start : Option Start) → IfSome start (IsNamed limits place bytes) → IfSome start (λ s. s.note ≡ None)
+named-no_note limits place bytes None h = tt
+named-no_note limits place bytes (Some s) h = h.no_note

@@ -144,7 +144,7 @@ pub record Begins (next : Next) : Type 0 where
 pub record IsBehindName (name : TextAt) (bytes : List ℕ) (start : Start) : Type 0 where
   pub colon : List ℕ
   pub is : start.field ≡ Some name
-  pub bare : start.note ≡ None
+  pub no_note : start.note ≡ None
   pub to_colon : ToColon bytes colon
   pub passes : PassesBlanks (drop 1 colon) start.next.rest.now
   pub begins : Begins start.next
@@ -153,7 +153,7 @@ pub record IsBehindName (name : TextAt) (bytes : List ℕ) (start : Start) : Typ
 pub record IsNamed (limits : Limits) (place : ℕ) (bytes : List ℕ) (start : Start) : Type 0 where
   pub text : TextAt
   pub is : start.field ≡ Some text
-  pub bare : start.note ≡ None
+  pub no_note : start.note ≡ None
   pub simple : IsRightlySimple text
   pub some : 0 < length bytes
   pub onward : (kinds : List Kind) (top : ℕ) → Onward limits kinds top place a_field bytes (a_value (Some (placed_text text)) []) start.next.rest.now

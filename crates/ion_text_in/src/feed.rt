@@ -187,7 +187,7 @@ fn to_start<'a>(spot: Spot<'a>, next: Next<'a>, limits: Limits, place: u64) -> O
     requires next { IsNext spot.rest.now next }
     requires small { place + length spot.rest.now < 2 ^ 63 }
     ensures start { IfSome result (IsStart limits spot.entry place) }
-    ensures bare { IfSome result (λ s. s.note ≡ None) }
+    ensures no_note { IfSome result (λ s. s.note ≡ None) }
 {
     if spot.separator {
         return None;
@@ -525,7 +525,7 @@ fn word<'a, W: ValueWriter<O, A>, O: Output, A: Allocator + Copy>(
     requires can { CanFeed W.ValueWriter limits end
         (lane kinds.old at.old writer.old sink.old meter.old) }
     requires start { IsStart limits at.old (end - length at.old.rest.now) start }
-    requires bare { start.note ≡ None }
+    requires no_note { start.note ≡ None }
     requires first { (in_sexp : Bool) (more : List ℕ)
         → first_at in_sexp (start.next.rest.now ++ more) ≡ a_word }
     ensures moved { Moved W.ValueWriter limits end
@@ -578,7 +578,7 @@ fn note<'a, W: ValueWriter<O, A>, O: Output, A: Allocator + Copy>(
     requires can { CanFeed W.ValueWriter limits end
         (lane kinds.old at.old writer.old sink.old meter.old) }
     requires start { IsStart limits at.old (end - length at.old.rest.now) start }
-    requires bare { start.note ≡ None }
+    requires no_note { start.note ≡ None }
     requires first { (in_sexp : Bool) (more : List ℕ)
         → first_at in_sexp (start.next.rest.now ++ more) ≡ a_word }
     requires word { IsSimpleWord limits.scalar start.next.rest.now count }

@@ -118,7 +118,7 @@ pub(super) fn quoted_value<'a, W: ValueWriter<O, A>, O: Output, A: Allocator + C
     requires can { CanFeed W.ValueWriter limits end
         (lane kinds.old at.old writer.old sink.old meter.old) }
     requires start { IsStart limits at.old (end - length at.old.rest.now) start }
-    requires bare { start.note ≡ None }
+    requires no_note { start.note ≡ None }
     requires first { (in_sexp : Bool) (more : List ℕ)
         → first_at in_sexp (start.next.rest.now ++ more) ≡ a_quoted }
     ensures moved { Moved W.ValueWriter limits end
@@ -157,7 +157,7 @@ fn any_quoted<'a, W: ValueWriter<O, A>, O: Output, A: Allocator + Copy>(
     requires can { CanFeed W.ValueWriter limits end
         (lane kinds.old spot writer.old sink.old meter.old) }
     requires start { IsStart limits spot (end - length spot.rest.now) start }
-    requires bare { start.note ≡ None }
+    requires no_note { start.note ≡ None }
     requires first { (in_sexp : Bool) (more : List ℕ)
         → first_at in_sexp (start.next.rest.now ++ more) ≡ a_quoted }
     ensures moved { Moved W.ValueWriter limits end

@@ -5,7 +5,7 @@ use Rattle.ion_text_in.proofs.feed.note.Goals as goal
 
 pub rare-requires-clause-start : goal.rare-requires-clause-start
 rare-requires-clause-start g c =
-    start-noted c.args.limits c.args.at.now c.args.end c.args.start c.in-Some.start c.requires.can.within c.requires.start c.requires.bare c.in-Some.ensures
+    start-noted c.args.limits c.args.at.now c.args.end c.args.start c.in-Some.start c.requires.can.within c.requires.start c.requires.no_note c.in-Some.ensures
 
 pub returns-in-None-clause-moved : goal.returns-in-None-clause-moved
 returns-in-None-clause-moved g c =

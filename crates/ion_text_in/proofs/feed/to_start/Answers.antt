@@ -5,7 +5,7 @@ use Rattle.ion_text_in.specs.declared.expected.Expected.TheVariants as codes
 use Rattle.ion_text_in.specs.Expecting.{expected_in}
 use Rattle.ion_text_in.specs.Feeding.{expected_of}
 use Rattle.ion_text_in.proofs.FeedReading.{start-value}
-use Rattle.ion_text_in.proofs.FeedNames.{next-begins, start-field, named-bare}
+use Rattle.ion_text_in.proofs.FeedNames.{next-begins, start-field, named-no_note}
 use Rattle.ion_text_in.proofs.feed.to_start.Goals as goal
 
 value-in : (kind : Kind) → (kind ≡ a_kind.List) ⊎ (kind ≡ a_kind.Sexp) → expected_in false kind ≡ codes.Value
@@ -19,7 +19,7 @@ returns-in-List c =
     let value : expected_of spot ≡ codes.Value = ap (λ (b : Bool). expected_in b spot.kind) c.if-spot.false ∙ value-in spot.kind c.in-List.is in
     record {
       start = start-value c.args.limits spot c.args.place c.args.next c.value_start.result value c.requires.next e.field e.note e.next e.some;
-      bare = e.note;
+      no_note = e.note;
     }
 
 pub field_start-requires : goal.field_start-requires
@@ -31,5 +31,5 @@ returns-in-Struct-clause-start c =
     let field : expected_of spot ≡ codes.Field = ap (λ (b : Bool). expected_in b spot.kind) c.if-spot.false ∙ ap (λ (k : Kind). expected_in false k) c.in-Struct.is in
     start-field c.args.limits spot c.args.place c.place_behind.result c.args.next c.field_start.result field c.requires.next c.place_behind.ensures c.field_start.ensures
 
-pub returns-in-Struct-clause-bare : goal.returns-in-Struct-clause-bare
-returns-in-Struct-clause-bare c = named-bare c.args.limits c.place_behind.result c.args.next.rest.now c.field_start.result c.field_start.ensures
+pub returns-in-Struct-clause-no_note : goal.returns-in-Struct-clause-no_note
+returns-in-Struct-clause-no_note c = named-no_note c.args.limits c.place_behind.result c.args.next.rest.now c.field_start.result c.field_start.ensures

@@ -12,7 +12,7 @@ returns c =
     record {
       colon = colon;
       is = refl;
-      bare = refl;
+      no_note = refl;
       to_colon = c.in-Some.ensures;
       passes = is.passes some;
       begins = next-begins (drop 1 colon) value is some;

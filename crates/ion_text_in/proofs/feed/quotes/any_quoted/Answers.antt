@@ -5,7 +5,7 @@ use Rattle.ion_text_in.proofs.feed.quotes.any_quoted.Goals as goal
 
 pub any_value-requires-clause-start : goal.any_value-requires-clause-start
 any_value-requires-clause-start g c =
-    start-noted c.args.limits c.args.spot c.args.end c.args.start c.in-Some-quoted_noted.start c.requires.can.within c.requires.start c.requires.bare c.in-Some-quoted_noted.ensures
+    start-noted c.args.limits c.args.spot c.args.end c.args.start c.in-Some-quoted_noted.start c.requires.can.within c.requires.start c.requires.no_note c.in-Some-quoted_noted.ensures
 
 pub returns-in-None-clause-moved : goal.returns-in-None-clause-moved
 returns-in-None-clause-moved g c =

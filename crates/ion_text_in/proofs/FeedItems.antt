@@ -18,7 +18,7 @@ use Rattle.ion_value.specs.Feeding.{nothing}
 use Rattle.ion_value.specs.declared.plain_item.TextAt.{TextAt}
 use Rattle.ion_value.specs.Value as value
 use Rattle.ion_value.specs.Value.{SymbolAt, Head, PlacedItem}
-use Rattle.ion_value.specs.PlainItems.{placed_text}
+use Rattle.ion_value.specs.PlainItems.{placed_text, HasKnownName}
 use Rattle.ion_value.proofs.Handing.{Stands, Took}
 use Rattle.ion_text_in.specs.declared.expected.Expected.{Expected}
 use Rattle.ion_text_in.specs.declared.expected.Expected.TheVariants as codes
@@ -182,6 +182,11 @@ module _ {W O A : Type 0} (w : WriterOf W O A) (limits : Limits) (end : ℕ) whe
   some-map None = refl
   some-map (Some t) = refl
 
+  -- a name is a text
+  text-known : (field : Option TextAt) → HasKnownName (option_map placed_text field)
+  text-known None = tt
+  text-known (Some t) = tt
+
   may-note : (head : Head SymbolAt) (annotations : List SymbolAt) → is_marker head ≡ false → ((l : List Kind) → has_field l head ≡ in_struct l) → HasAnnotations {S = SymbolAt} head annotations
   may-note (value.whole body) annotations value member = tt
   may-note (value.begin k) annotations value member = tt
@@ -198,7 +203,7 @@ module _ {W O A : Type 0} (w : WriterOf W O A) (limits : Limits) (end : ℕ) whe
       annotations = may-note head (notes start.note) head_is.value head_is.member;
     };
     value = head_is.value;
-    plain = record { field = start_is.known; annotations = start_is.free; head = head_is.known };
+    plain = record { field = text-known start.field; annotations = start_is.free; head = head_is.known };
   }
 
   pub moved-head : (kinds left : List Kind) (spot new : Spot) (start : Start) (head : Head SymbolAt) (writer after : W) (sink behind : Outgoing O) (m y : Counts)

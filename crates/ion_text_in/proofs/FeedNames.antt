@@ -258,7 +258,6 @@ start-field limits spot place named next (Some s) field is here h =
     let passes = is.passes h.some in
     let fewer = passes.fewer in
     record {
-      known = rw h.is tt;
       free = rw h.no_note tt;
       field = rw h.is h.simple;
       note = rw h.no_note tt;

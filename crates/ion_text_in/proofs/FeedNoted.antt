@@ -153,7 +153,6 @@ start-noted limits spot end start noted within is bare h =
     let at_spot : ℕ = end - length spot.rest.now in
     let at_start : ℕ = end - length start.next.rest.now in
     record {
-      known = rw h.same is.known;
       free = rw h.is (h.free, tt);
       field = rw h.same is.field;
       note = rw h.is h.simple;

@@ -299,7 +299,6 @@ start-value limits spot place next (Some s) value is none bare same some =
     let at_next : Begins next = record { some = some; tells = is.tells; bare = passes.bare } in
     let begins : Begins s.next = subst (λ (n : Next). Begins n) (sym same) at_next in
     record {
-      known = rw none tt;
       free = rw bare tt;
       field = rw none tt;
       note = rw bare tt;

@@ -11,7 +11,7 @@ use Rattle.ion_value.specs.declared.writer.ValueWriter.{Ghosts as WriterOf}
 use Rattle.ion_value.specs.Feeding.{CanTake, Feeds, Joint, StaysWell}
 use Rattle.ion_value.specs.Items.{named_item, raw_head}
 use Rattle.ion_value.specs.Parts.{Placed}
-use Rattle.ion_value.specs.PlainItems.{listed, placed_text, HasKnownName, HasNoDollar, HaveNoDollar, IsKnownHead, IsRightlySimple, IsTextOf}
+use Rattle.ion_value.specs.PlainItems.{listed, placed_text, HasNoDollar, HaveNoDollar, IsKnownHead, IsRightlySimple, IsTextOf}
 use Rattle.ion_value.specs.Reading.{More}
 use Rattle.ion_value.specs.Shares.{Charges}
 use Rattle.ion_value.specs.Standing.{open_after, in_struct, has_field, is_marker, HasPlace, HeadInRange, WritesWithin}
@@ -187,7 +187,6 @@ expected_of spot = expected_in spot.separator spot.kind
 
 -- a value begins here, behind the name of a field where one must come, and behind an annotation if it has one
 pub record IsStart (limits : Limits) (spot : Spot) (place : ℕ) (start : Start) : Type 0 where
-  pub known : HasKnownName (option_map placed_text start.field)
   pub free : HaveNoDollar (notes start.note)
   pub field : IfSome start.field IsRightlySimple
   pub note : IfSome start.note IsRightlySimple

@@ -668,7 +668,8 @@ fn turn<'a, W: ValueWriter<O, A>, O: Output, A: Allocator + Copy>(
     }
 }
 
-// Hands on the items at the front, as many as are frequent ones.
+// Hands on the items at the front, up to the first that is not taken or is a member whose name stands
+// between quotes.
 #[inline(never)]
 fn feed_frequent<'a, W: ValueWriter<O, A>, O: Output, A: Allocator + Copy>(
     spot: Spot<'a>,
@@ -696,8 +697,8 @@ fn feed_frequent<'a, W: ValueWriter<O, A>, O: Output, A: Allocator + Copy>(
 }
 
 /// Hands on the items at the front of the bytes of a window that ends at a place, as many as lie whole
-/// in it and are taken. A member whose name stands between quotes is handed on between two runs of the loop
-/// over all others, in which it is known that names are simple.
+/// in it and are taken. A member whose name stands between quotes is handed on between two runs of the
+/// loop over all others, in which each name is simple.
 #[inline(always)]
 pub(crate) fn feed_items<'a, W: ValueWriter<O, A>, O: Output, A: Allocator + Copy>(
     spot: Spot<'a>,

@@ -21,7 +21,8 @@ use ion_meter::limits::Limits;
 use ion_value::ion_type::Kind;
 use ion_value::item::{Head, Sym, SymAt};
 
-/// The head of the item that begins so, where it lies whole in the bytes and is a frequent one.
+/// The head of the item that begins so, where it lies whole in the bytes. It answers none of lobs, long
+/// strings, operators and words that begin with a dollar sign, and of texts with escapes.
 #[inline(always)]
 pub(super) fn scan_head<'a>(limits: Limits, place: u64, next: Next<'a>) -> Option<Found<'a>>
     requires begins { Begins next }

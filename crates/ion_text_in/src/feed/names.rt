@@ -14,8 +14,8 @@ use crate::word::simple_word;
 use ion_meter::limits::Limits;
 use ion_value::plain_item::TextAt;
 
-/// What the value begins with behind the name that must come, and that begins at a place: none behind a
-/// name between quotes, so that of those here it is known, and asked of none, that they are simple.
+/// What the value begins with behind the name that must come, and that begins at a place. It answers
+/// none behind a name between quotes, so that each name here is simple, and none is asked.
 #[inline(always)]
 pub(super) fn field_start<'a>(next: Next<'a>, limits: Limits, place: u64) -> Option<Start<'a>>
     requires begins { 0 < next.told → Begins next }

@@ -142,7 +142,7 @@ pub(super) fn quoted_value<'a, W: ValueWriter<O, A>, O: Output, A: Allocator + C
     turned.more
 }
 
-// The same as the call does it.
+// That call.
 #[inline(never)]
 fn any_quoted<'a, W: ValueWriter<O, A>, O: Output, A: Allocator + Copy>(
     spot: Spot<'a>,

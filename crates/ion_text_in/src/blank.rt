@@ -40,7 +40,7 @@ pub(crate) fn pass_blanks<I: Input, A: Allocator + Copy>(
         blanks (cursor I.Input source.old) ≡ overrun start (cursor I.Input source.new)) }
     ensures used_up { I.observable source.old.device → IfOk result (λ start.
         IfSome start (λ _. left I.rest source.new ≡ [])) }
-    ensures plain { (r : Reason) (p : ℕ) → result ≢ Err (Fault.Refused r p) }
+    ensures no_refusal { (r : Reason) (p : ℕ) → result ≢ Err (Fault.Refused r p) }
     ensures reads { Reads I.Input source.old source.new result }
 {
     let bytes = source.buffer();
@@ -62,7 +62,7 @@ fn pass_comments<I: Input, A: Allocator + Copy>(
         blanks (cursor I.Input source.old) ≡ overrun start (cursor I.Input source.new)) }
     ensures used_up { I.observable source.old.device → IfOk result (λ start.
         IfSome start (λ _. left I.rest source.new ≡ [])) }
-    ensures plain { (r : Reason) (p : ℕ) → result ≢ Err (Fault.Refused r p) }
+    ensures no_refusal { (r : Reason) (p : ℕ) → result ≢ Err (Fault.Refused r p) }
     ensures reads { Reads I.Input source.old source.new result }
 {
     'comments: loop {
@@ -95,7 +95,7 @@ pub(crate) fn pass_white<I: Input, A: Allocator + Copy>(
     requires stands { Stands source.old }
     ensures behind { I.observable source.old.device → OnOk result (cursor I.Input source.new
         ≡ behind_run (first_is is_white) (cursor I.Input source.old)) }
-    ensures plain { (r : Reason) (p : ℕ) → result ≢ Err (Fault.Refused r p) }
+    ensures no_refusal { (r : Reason) (p : ℕ) → result ≢ Err (Fault.Refused r p) }
     ensures reads { Reads I.Input source.old source.new result }
 {
     'white: loop {
@@ -123,7 +123,7 @@ fn next_comment<I: Input, A: Allocator + Copy>(source: &mut Source<I, A>) -> Res
         ≡ within comment source.old.place (cursor I.Input source.new)) }
     ensures taken { IfOk result (λ comment. comment ≢ Comment.None
         → source.new.place ≡ source.old.place + 2) }
-    ensures plain { (r : Reason) (p : ℕ) → result ≢ Err (Fault.Refused r p) }
+    ensures no_refusal { (r : Reason) (p : ℕ) → result ≢ Err (Fault.Refused r p) }
     ensures reads { Reads I.Input source.old source.new result }
 {
     match source.peek(0) {
@@ -156,7 +156,7 @@ fn pass_line<I: Input, A: Allocator + Copy>(source: &mut Source<I, A>) -> Result
     requires stands { Stands source.old }
     ensures behind { I.observable source.old.device → OnOk result
         (within Comment.Line 0 (cursor I.Input source.old) ≡ blanks (cursor I.Input source.new)) }
-    ensures plain { (r : Reason) (p : ℕ) → result ≢ Err (Fault.Refused r p) }
+    ensures no_refusal { (r : Reason) (p : ℕ) → result ≢ Err (Fault.Refused r p) }
     ensures reads { Reads I.Input source.old source.new result }
 {
     'line: loop {
@@ -186,7 +186,7 @@ fn pass_block<I: Input, A: Allocator + Copy>(source: &mut Source<I, A>) -> Resul
         ≡ overrun (Some start) (cursor I.Input source.new) }
     ensures used_up { I.observable source.old.device → result ≡ Ok false
         → left I.rest source.new ≡ [] }
-    ensures plain { (r : Reason) (p : ℕ) → result ≢ Err (Fault.Refused r p) }
+    ensures no_refusal { (r : Reason) (p : ℕ) → result ≢ Err (Fault.Refused r p) }
     ensures reads { Reads I.Input source.old source.new result }
 {
     'block: loop {
@@ -224,7 +224,7 @@ fn pass_star<I: Input, A: Allocator + Copy>(source: &mut Source<I, A>) -> Result
         → within Comment.Block start (cursor I.Input source.old)
         ≡ within Comment.Block start (cursor I.Input source.new) }
     ensures taken { OnOk result (source.old.place < source.new.place) }
-    ensures plain { (r : Reason) (p : ℕ) → result ≢ Err (Fault.Refused r p) }
+    ensures no_refusal { (r : Reason) (p : ℕ) → result ≢ Err (Fault.Refused r p) }
     ensures reads { Reads I.Input source.old source.new result }
 {
     let second = match source.peek(1) {

@@ -191,7 +191,7 @@ pub(crate) fn next_first<I: Input, A: Allocator + Copy>(
     ensures wide { IfOk result (λ found. IfSome found
         (λ f. width (first_of f) ≤ length (lent source.new))) }
     ensures kept { Extends I.rest I.observable source.old source.new }
-    ensures plain { (reason : Reason) (at : ℕ) → result ≡ Err (Fault.Refused reason at) → ⊥ }
+    ensures no_refusal { (reason : Reason) (at : ℕ) → result ≡ Err (Fault.Refused reason at) → ⊥ }
     ensures reads { Reads I.Input source.old source.new result }
 {
     if let Some(first) = scan_first(in_sexp, source.buffer()) {
@@ -215,7 +215,7 @@ fn look_ahead<I: Input, A: Allocator + Copy>(
     ensures wide { IfOk result (λ found. IfSome found
         (λ f. width (first_of f) ≤ length (lent source.new))) }
     ensures kept { Extends I.rest I.observable source.old source.new }
-    ensures plain { (reason : Reason) (at : ℕ) → result ≡ Err (Fault.Refused reason at) → ⊥ }
+    ensures no_refusal { (reason : Reason) (at : ℕ) → result ≡ Err (Fault.Refused reason at) → ⊥ }
     ensures reads { Reads I.Input source.old source.new result }
 {
     let mut ahead = 0;

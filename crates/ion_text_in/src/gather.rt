@@ -127,7 +127,7 @@ fn next_part<I: Input, A: Allocator + Copy>(
         → IfOk result (GoesOver (goes_on run) (left I.rest source.old)) }
     ensures ends { I.observable source.old.device → result ≡ Ok 0
         → run_of (goes_on run) (left I.rest source.old) ≡ ([], left I.rest source.old) }
-    ensures plain { (reason : Reason) (at : ℕ) → result ≡ Err (Fault.Refused reason at) → ⊥ }
+    ensures no_refusal { (reason : Reason) (at : ℕ) → result ≡ Err (Fault.Refused reason at) → ⊥ }
     ensures reads { Reads I.Input source.old source.new result }
 {
     match source.peek(0) {
@@ -152,7 +152,7 @@ fn slash<I: Input, A: Allocator + Copy>(source: &mut Source<I, A>, run: Run) -> 
         → IfOk result (GoesOver (goes_on run) (left I.rest source.old)) }
     ensures ends { I.observable source.old.device → result ≡ Ok 0
         → run_of (goes_on run) (left I.rest source.old) ≡ ([], left I.rest source.old) }
-    ensures plain { (reason : Reason) (at : ℕ) → result ≡ Err (Fault.Refused reason at) → ⊥ }
+    ensures no_refusal { (reason : Reason) (at : ℕ) → result ≡ Err (Fault.Refused reason at) → ⊥ }
     ensures reads { Reads I.Input source.old source.new result }
 {
     let next = match source.peek(1) {

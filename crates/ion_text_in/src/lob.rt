@@ -88,7 +88,7 @@ fn pass_opening<I: Input, A: Allocator + Copy>(source: &mut Source<I, A>) -> Res
     ensures gives { I.observable source.old.device → (limit : Option ℕ)
         → IfOk result (λ opening. lob_in limit (cursor I.Input source.old)
         ≡ opened opening limit (cursor I.Input source.new)) }
-    ensures plain { (r : Reason) (p : ℕ) → result ≢ Err (Fault.Refused r p) }
+    ensures no_refusal { (r : Reason) (p : ℕ) → result ≢ Err (Fault.Refused r p) }
     ensures reads { Reads I.Input source.old source.new result }
 {
     match source.peek(0) {
@@ -175,7 +175,7 @@ fn are_cut_quotes<I: Input, A: Allocator + Copy>(source: &mut Source<I, A>) -> R
         cut ≡ are_cut_quotes (left I.rest source.old)) }
     ensures still { I.observable source.old.device
         → cursor I.Input source.new ≡ cursor I.Input source.old }
-    ensures plain { (r : Reason) (p : ℕ) → result ≢ Err (Fault.Refused r p) }
+    ensures no_refusal { (r : Reason) (p : ℕ) → result ≢ Err (Fault.Refused r p) }
     ensures reads { Reads I.Input source.old source.new result }
 {
     match source.peek(0) {
@@ -257,7 +257,7 @@ fn take_blocks<I: Input, A: Allocator + Copy>(
     ensures gives { I.observable source.old.device → IfOk result (λ padded.
         with_groups_behind limits.scalar text.old false (cursor I.Input source.old)
         ≡ with_groups_behind limits.scalar text.new padded (cursor I.Input source.new)) }
-    ensures plain { (r : Reason) (p : ℕ) → result ≢ Err (Fault.Refused r p) }
+    ensures no_refusal { (r : Reason) (p : ℕ) → result ≢ Err (Fault.Refused r p) }
     ensures reads { ReadsInto I.Input source.old source.new meter.old meter.new
         (length text.old) (length text.new) limits.scalar result }
     ensures goes { GrowsWithin meter.old meter.new (length text.old) (length text.new)
@@ -298,7 +298,7 @@ fn take_block<I: Input, A: Allocator + Copy>(
         ≡ with_groups_behind limits.scalar text.new padded (cursor I.Input source.new))) }
     ensures none { result ≡ Ok None → (source.new ≡ source.old) × (text.new ≡ text.old)
         × (meter.new ≡ meter.old) }
-    ensures plain { (r : Reason) (p : ℕ) → result ≢ Err (Fault.Refused r p) }
+    ensures no_refusal { (r : Reason) (p : ℕ) → result ≢ Err (Fault.Refused r p) }
     ensures reads { ReadsInto I.Input source.old source.new meter.old meter.new
         (length text.old) (length text.new) limits.scalar result }
     ensures goes { GrowsWithin meter.old meter.new (length text.old) (length text.new)
@@ -328,7 +328,7 @@ fn take_groups<I: Input, A: Allocator + Copy>(
         ≡ with_groups_behind limits.scalar text.new padded (cursor I.Input source.new))) }
     ensures none { result ≡ Ok None → (source.new ≡ source.old) × (text.new ≡ text.old)
         × (meter.new ≡ meter.old) }
-    ensures plain { (r : Reason) (p : ℕ) → result ≢ Err (Fault.Refused r p) }
+    ensures no_refusal { (r : Reason) (p : ℕ) → result ≢ Err (Fault.Refused r p) }
     ensures reads { ReadsInto I.Input source.old source.new meter.old meter.new
         (length text.old) (length text.new) limits.scalar result }
     ensures goes { GrowsWithin meter.old meter.new (length text.old) (length text.new)
@@ -457,7 +457,7 @@ fn next_characters<I: Input, A: Allocator + Copy>(
         group_of 4 (left I.rest source.old) ≡ (take n group.new, left I.rest source.new)) }
     ensures few { IfOk result (λ n. n ≤ 4) }
     ensures taken { IfOk result (λ n. source.old.place + n ≤ source.new.place) }
-    ensures plain { (r : Reason) (p : ℕ) → result ≢ Err (Fault.Refused r p) }
+    ensures no_refusal { (r : Reason) (p : ℕ) → result ≢ Err (Fault.Refused r p) }
     ensures reads { Reads I.Input source.old source.new result }
 {
     for i in 0..4 {

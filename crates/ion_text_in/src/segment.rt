@@ -246,7 +246,7 @@ fn next_piece<I: Input, A: Allocator + Copy>(
     ensures place { IfOk result (λ piece.
         source.new.place ≡ source.old.place + taken_of piece) }
     ensures some { IfOk result TakesSome }
-    ensures plain { (r : Reason) (p : ℕ) → result ≢ Err (Fault.Refused r p) }
+    ensures no_refusal { (r : Reason) (p : ℕ) → result ≢ Err (Fault.Refused r p) }
     ensures reads { Reads I.Input source.old source.new result }
 {
     match show_piece(source, quote) {

@@ -198,7 +198,7 @@ fn pass_between<I: Input, A: Allocator + Copy>(
     ensures gives { I.observable source.old.device → IfOk result (λ start.
         passed (quote_of quote).in_clob (cursor I.Input source.old)
         ≡ overrun start (cursor I.Input source.new)) }
-    ensures plain { (r : Reason) (p : ℕ) → result ≢ Err (Fault.Refused r p) }
+    ensures no_refusal { (r : Reason) (p : ℕ) → result ≢ Err (Fault.Refused r p) }
     ensures reads { Reads I.Input source.old source.new result }
 {
     if quote.in_clob() {
@@ -221,7 +221,7 @@ pub(crate) fn pass_quotes<I: Input, A: Allocator + Copy>(
     ensures none { I.observable source.old.device → result ≡ Ok false
         → (begins_with (39 ∷ 39 ∷ 39 ∷ []) (left I.rest source.old) ≡ false)
         × (cursor I.Input source.new ≡ cursor I.Input source.old) }
-    ensures plain { (r : Reason) (p : ℕ) → result ≢ Err (Fault.Refused r p) }
+    ensures no_refusal { (r : Reason) (p : ℕ) → result ≢ Err (Fault.Refused r p) }
     ensures reads { Reads I.Input source.old source.new result }
 {
     match source.peek(0) {

@@ -1,5 +1,5 @@
 //! Items that lie whole in the window, handed to a writer.
-ghost use Rattle.std.specs.Prelude.{◌≡◌, ◌+◌, ◌*◌, ◌-◌, ◌^◌, ◌<◌, ◌≤◌, get_or, length, false, true, Option, Some, None, IfSome, map};
+ghost use Rattle.std.specs.Prelude.{◌≡◌, ◌+◌, ◌*◌, ◌-◌, ◌^◌, ◌<◌, ◌≤◌, get_or, length, false, true, Option, Some, None, IfSome};
 ghost use Rattle.ion_value.specs.Items.{named_at, named_item, raw_head};
 ghost use Rattle.ion_value.specs.PlainItems.{IsKnownHead, IsTextOf};
 ghost use Rattle.ion_binary.specs.Lane.{CanHand, EndsHere, GoesOn, Handed, HandsOn, IsAround, FillsTo, ShowsField, ShowsFront, frame_in, inner_region};

@@ -393,8 +393,8 @@ impl<I: Input, A: Allocator + Copy> BinReader<I, A> {
         count
     }
 
-    // Hands the next item on, where it has no annotation and that is possible; else it answers false, and
-    // nothing is changed.
+    // Hands the next item on, where it has no annotation, its name, if it has one, is known to be simple,
+    // and that is possible; else it answers false, and nothing is changed.
     #[inline(always)]
     pub(super) fn hand<N: Names, W: ValueWriter<O, A>, O: Output>(
         &mut self,

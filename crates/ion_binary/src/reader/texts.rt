@@ -7,7 +7,8 @@ use ion_value::names::Names;
 use ion_value::plain_item::TextAt;
 
 // The text of an id that stands at a place, where it has one that is known to be simple, or any text
-// where `any` says so. Where that is a constant, so is what is said of the text, or it is one of a call.
+// where `any` says so. Where `any` is false, each text that is answered is said to be simple: where that
+// is known as the program is compiled, nothing behind it asks.
 #[inline(always)]
 pub(super) fn shown_text<'n, N: Names>(
     id: u32,

@@ -298,19 +298,13 @@ fn other_front<'n, N: Names>(
     if let Some(front) = noted_front(octets, here, around, field, at, limits, names) {
         return Some(front);
     }
-    if is_said_simple(field) {
+    let Some(name) = field else {
+        return None;
+    };
+    if name.simple {
         return None;
     }
     Some(bare_front(field, at))
-}
-
-// Whether a name, where there is one, is known to be simple.
-#[inline(always)]
-fn is_said_simple(name: Option<TextAt<'_>>) -> bool {
-    match name {
-        Some(name) => name.simple,
-        None => true,
-    }
 }
 
 // How far a value may go: to the end of the wrapper around it, or else of its container.

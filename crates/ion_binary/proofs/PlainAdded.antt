@@ -5,7 +5,7 @@ use Rattle.ion_meter.specs.Counts.{Counts}
 use Rattle.ion_meter.specs.declared.limits.Limits.{Limits}
 use Rattle.ion_meter.specs.declared.fault.Reason.{Reason}
 use Rattle.ion_value.specs.Value as value
-use Rattle.ion_value.specs.Value.{Head, Item, Known, PlacedItem, SymbolAt, UserSymbol, map_head, user_item, user_symbol_at}
+use Rattle.ion_value.specs.Value.{Head, Known, PlacedItem, SymbolAt, UserSymbol, map_head, user_item, user_symbol_at}
 use Rattle.ion_symbols.specs.Output.{known_id, or_given, position, system_texts, texts_cost}
 use Rattle.ion_binary.specs.declared.headers.HeaderPlace.{HeaderPlace}
 use Rattle.ion_binary.specs.declared.open_value.OpenValue.{OpenValue}
@@ -195,15 +195,11 @@ member-plain {A} w v before after item result name note x c some whole kf ka kh 
     ∙ scalar-added (held_in w) item v.octets known whole (put e ∙ ap (λ (y : List ℕ). w.open_value.octets ++ y) octets))
     opened declines s
 
--- the id of a symbol value
+-- the id of a text
 pub name-kept : (texts : List (List ℕ)) (t : List ℕ) (place : ℕ) (o : Option ℕ) → o ≡ known_id texts t
     → IfSome o (λ n. HaveIds texts (record { symbol = value.Text t; place = place } ∷ []))
 name-kept texts t place None e = tt
 name-kept texts t place (Some id) e = (known-kept texts t id e, tt)
-
-pub name-is : (texts : List (List ℕ)) (t : List ℕ) (o : Option ℕ) → o ≡ known_id texts t → IfSome o (λ n. n ≡ id_in texts (Known t))
-name-is texts t None e = tt
-name-is texts t (Some id) e = known-is texts t id e
 
 -- its octets, as those of a field and of an annotation
 pub name-octets-are : (texts : List (List ℕ)) (t : List ℕ) (o : Option ℕ) → o ≡ known_id texts t → IfSome o (λ n. name_octets n ≡ var_uint_octets (id_in texts (Known t)))

@@ -2,7 +2,6 @@
 ghost use Rattle.std.specs.Prelude.{◌≡◌, ◌<◌, ◌∷◌, [], length, true, false, map, option_map, IfSome};
 ghost use Rattle.ion_value.specs.Items.{raw_head, symbol_at};
 ghost use Rattle.ion_value.specs.PlainItems.{listed, placed_item, placed_text};
-ghost use Rattle.ion_value.specs.Standing.{HeadInRange};
 ghost use Rattle.ion_value.specs.Writable.{field_symbols};
 ghost use Rattle.ion_value.specs.Number.{uint_octets, var_int_octets};
 ghost use Rattle.ion_value.specs.Value.{begin, decimal, end, int, string, symbol, user_symbol_at, whole};
@@ -134,19 +133,19 @@ impl<A: Allocator + Copy> BinWriter<A> {
         true
     }
 
-    // Adds a scalar.
+    // Adds a scalar that is no symbol.
     #[inline(never)]
     fn add_spelled(&mut self, meter: &mut Meter<A>, item: &PlainItem<'_, '_>) -> bool
         requires can_take { CanTake self.old meter.old }
         requires comes { MayCome self.old.limits self.old.open_value (placed_item item.now) }
         requires whole { IsWhole (raw_head item.now.head) }
+        requires known { HaveIds self.old.symbols.texts (head_symbols (raw_head item.now.head)) }
+        requires unnamed { 0
+            ≡ head_name (id_in self.old.symbols.texts) (user_head item.now.head) }
         ensures { AddsPlain self.old self.new meter.old meter.new
             (placed_item item.now) result }
     {
-        let Some(name) = self.name_of(item.head) else {
-            return false;
-        };
-        let spelled = spell(item.head, name);
+        let spelled = spell(item.head, 0);
         let octets = Octets {
             front: spelled.front.as_slice(),
             rest: spelled.lent,
@@ -383,22 +382,6 @@ impl<A: Allocator + Copy> BinWriter<A> {
             Some(at) => self.symbols.known(at.text),
             None => Some(0),
         }
-    }
-
-    // The id of a symbol value, where its text has one, and 0 of other heads.
-    fn name_of(&self, head: Head<'_>) -> Option<u32>
-        ensures known { IfSome result (λ _. HaveIds self.now.symbols.texts
-            (head_symbols (raw_head head.entry))) }
-        ensures name { IfSome result (λ name. name
-            ≡ head_name (id_in self.now.symbols.texts) (user_head head.entry)) }
-    {
-        let Head::Symbol(at) = head else {
-            return Some(0);
-        };
-        let Sym::Text(text) = at.sym else {
-            return None;
-        };
-        self.symbols.known(text)
     }
 }
 

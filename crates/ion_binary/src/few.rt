@@ -98,7 +98,7 @@ pub(crate) fn few_header(code: u8, n: usize) -> Option<Few>
 /// and the first of a value, which has so many more: where the field's id has two octets at most, and
 /// what the annotation adds four.
 #[inline(always)]
-pub(crate) fn noted_front(front: &Few, more: usize, name: u32, note: u32) -> Option<Few>
+pub(crate) fn few_noted(front: &Few, more: usize, name: u32, note: u32) -> Option<Few>
     requires few { length front.now ≤ 2 }
     ensures octets { IfSome result (λ f. (x : List ℕ) → length x ≡ more
         → f ++ x ≡ noted name note (front.now ++ x)) }

@@ -5,7 +5,7 @@ ghost use Rattle.ion_binary.specs.Canonical.{headed};
 ghost use Rattle.ion_binary.specs.Opening.{CanStep, IsOpen, Stepped, noted};
 
 use super::OpenValue;
-use crate::few::{Few, few_header, noted_front};
+use crate::few::{Few, few_header, few_noted};
 use crate::header::header;
 use crate::scalar::Octets;
 use ion_meter::limits::Limits;
@@ -117,7 +117,7 @@ impl<A: Allocator + Copy> OpenValue<A> {
         let Some(header) = few_header(8, text.len()) else {
             return self.put_long(meter, limits, name, note, text);
         };
-        let Some(front) = noted_front(&header, text.len(), name, note) else {
+        let Some(front) = few_noted(&header, text.len(), name, note) else {
             return self.put_long(meter, limits, name, note, text);
         };
         if !self.surely_fits(*limits, front.len() + text.len(), 0) {
@@ -178,7 +178,7 @@ impl<A: Allocator + Copy> OpenValue<A> {
         ensures declines { result ≡ false → (self.new ≡ self.old) × (meter.new ≡ meter.old) }
         ensures stepped { Stepped limits.now self.old self.new meter.old meter.new None }
     {
-        let Some(whole) = noted_front(front, size, name, note) else {
+        let Some(whole) = few_noted(front, size, name, note) else {
             return self.put_behind_long(meter, limits, name, note, front, body, size);
         };
         if !self.surely_fits(*limits, 16, 0) {

@@ -1,6 +1,6 @@
 use Rattle.std.proofs.Common.{◌≢◌, ◌+◌, ◌/◌, ◌%◌, ◌<◌, ◌≤◌, ◌∷◌, ◌++◌, List, ℕ, ap, ◌∙◌, arith}
 use Rattle.ion_binary.proofs.FewOctets.{named-one, named-two}
-use Rattle.ion_binary.proofs.few.noted_front.Goals as goal
+use Rattle.ion_binary.proofs.few.few_noted.Goals as goal
 
 pub returns-then-name-lt128 : goal.returns-then-name-lt128
 returns-then-name-lt128 c = record {

@@ -189,7 +189,7 @@ pub(crate) fn pass_over<I: Input, A: Allocator + Copy>(
         × (cursor I.Input source.new ≡ skip count (cursor I.Input source.old)) }
     ensures cut { I.observable source.old.device → result ≡ Ok false
         → length (left I.rest source.old) < count }
-    ensures plain { (r : Reason) (p : ℕ) → result ≢ Err (Fault.Refused r p) }
+    ensures no_refusal { (r : Reason) (p : ℕ) → result ≢ Err (Fault.Refused r p) }
     ensures reads { Reads I.Input source.old source.new result }
 {
     let mut more = count;
@@ -222,7 +222,7 @@ fn gather<I: Input, A: Allocator + Copy>(
         × (cursor I.Input source.new ≡ skip count (cursor I.Input source.old)) }
     ensures cut { I.observable source.old.device → result ≡ Ok false
         → length (left I.rest source.old) < count }
-    ensures plain { (r : Reason) (p : ℕ) → result ≢ Err (Fault.Refused r p) }
+    ensures no_refusal { (r : Reason) (p : ℕ) → result ≢ Err (Fault.Refused r p) }
     ensures reads { ReadsInto I.Input source.old source.new meter.old meter.new
         (length text.old) (length text.new) limits.scalar result }
     ensures goes { GrowsWithin meter.old meter.new (length text.old) (length text.new)

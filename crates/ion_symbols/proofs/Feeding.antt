@@ -7,7 +7,7 @@ use Rattle.ion_value.specs.declared.ion_type.Kind.{Kind}
 use Rattle.ion_value.specs.declared.writer.ValueWriter.{Ghosts as WriterOf}
 use Rattle.ion_value.specs.Digits.{first_is}
 use Rattle.ion_value.specs.Value as value
-use Rattle.ion_value.specs.Value.{Symbol, SymbolAt, Scalar, Head, PlacedItem, map_head, map_scalar}
+use Rattle.ion_value.specs.Value.{Symbol, SymbolAt, Head, PlacedItem, map_head}
 use Rattle.ion_value.specs.Items.{named, named_at, named_item, text_or_id}
 use Rattle.ion_value.specs.PlainItems.{HasKnownName, HasNoDollar, HaveNoDollar, IsKnown, IsKnownHead, IsPlainItem}
 use Rattle.ion_value.specs.Feeding.{Joint, Hands, Feeds, nothing, more}

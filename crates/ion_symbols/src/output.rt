@@ -1,5 +1,5 @@
 //! The symbol table of an output.
-ghost use Rattle.std.specs.Prelude.{◌≡◌, ℕ, ◌+◌, ◌-◌, ◌*◌, ◌^◌, ◌<◌, ◌≤◌, ◌++◌, ◌∷◌, [], List, length, drop, slice_get, Option, Some, None, Ok, MatchOption, IfOk, IfErr, OnErr, OnOk, slice_index};
+ghost use Rattle.std.specs.Prelude.{◌≡◌, ℕ, ◌+◌, ◌-◌, ◌*◌, ◌^◌, ◌<◌, ◌≤◌, ◌++◌, ◌∷◌, [], List, length, drop, slice_get, Option, Some, None, Ok, MatchOption, IfOk, IfErr, OnOk, slice_index};
 ghost use Rattle.ion_meter.specs.declared.fault.Fault.TheVariants.{Memory};
 ghost use Rattle.ion_meter.specs.Limits.{AreChecked};
 ghost use Rattle.ion_meter.specs.Counts.{Shrinks};

@@ -1,5 +1,5 @@
 //! The reader of user values.
-ghost use Rattle.std.specs.Prelude.{◌≡◌, ◌≢◌, ◌+◌, ◌*◌, ◌-◌, ◌^◌, ◌<◌, ◌≤◌, ◌↔◌, ℕ, [], length, Option, Some, None, Ok, Err, OnOk, IfOk, true, false};
+ghost use Rattle.std.specs.Prelude.{◌≡◌, ◌≢◌, ◌+◌, ◌-◌, ◌^◌, ◌<◌, ◌≤◌, ◌↔◌, ℕ, [], length, Option, Some, None, Ok, Err, IfOk, true, false};
 ghost use Rattle.ion_meter.specs.declared.fault.Reason.{Reason};
 ghost use Rattle.ion_meter.specs.declared.fault.Fault.{Fault};
 ghost use Rattle.ion_meter.specs.declared.fault.Fault.TheVariants.{Refused};
@@ -7,7 +7,7 @@ ghost use Rattle.ion_meter.specs.Limits.{AreChecked};
 ghost use Rattle.ion_meter.specs.Counts.{Shrinks};
 ghost use Rattle.ion_value.specs.Items.{item_of, raw_head, raw_item};
 ghost use Rattle.ion_value.specs.Feeding.{CanTake, Feeds, StaysWell};
-ghost use Rattle.ion_value.specs.Reading.{Reading, Finished, Stopped, More};
+ghost use Rattle.ion_value.specs.Reading.{Finished, Stopped, More};
 ghost use Rattle.ion_value.specs.Shares.{Charges, ReadCauses, fault_of};
 ghost use Rattle.ion_value.specs.Standing.{is_marker};
 ghost use Rattle.ion_symbols.specs.Table.{system, table_cost, text_at};

@@ -152,8 +152,8 @@ impl<A: Allocator + Copy> OutSymbols<A> {
     }
 
     /// The id of a text, as `id_of` gives it, where it has one. It compares the text with the one in front
-    /// of its bucket, and then, where there are at most 4,096 texts, with the last few of the others. It
-    /// looks for the text by halving only where there are more. Nothing is changed.
+    /// of its bucket, and then, where there are at most 4,096 texts, with the last few of the others there.
+    /// It looks for the text by halving where there are more texts, or more others. Nothing is changed.
     #[inline]
     pub fn known(&self, text: &[u8]) -> Option<u32>
         ensures { result ≡ known_id self.now.texts text.now }
@@ -519,7 +519,7 @@ fn are_same_eights(text: &[u8], other: &[u8]) -> bool
     eight(text, last) == eight(other, last)
 }
 
-// The same of texts of 17 to 32 bytes: by the first sixteen and the last.
+// The same of texts of 16 to 32 bytes: by the first sixteen and the last.
 #[inline(always)]
 fn are_same_sixteens(text: &[u8], other: &[u8]) -> bool
     requires same { length text.now ≡ length other.now }

@@ -13,7 +13,7 @@ use Rattle.ion_value.specs.PlainItems.{HasKnownName, HasNoDollar, HaveNoDollar, 
 use Rattle.ion_value.specs.Reading.{Finished, Reading, More}
 use Rattle.ion_value.specs.Standing.{open_after, open_behind, is_marker, Continues, Fits}
 use Rattle.ion_value.specs.Value as value
-use Rattle.ion_value.specs.Value.{Symbol, SymbolAt, Scalar, Head, PlacedItem, map_head, map_scalar}
+use Rattle.ion_value.specs.Value.{Symbol, SymbolAt, Head, PlacedItem, map_head}
 use Rattle.ion_value.proofs.Outcomes.{open_behind-append}
 
 -- ---- texts stay as they are

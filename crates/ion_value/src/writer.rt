@@ -1,5 +1,5 @@
 //! What writes items.
-ghost use Rattle.std.specs.Prelude.{◌≡◌, true, false, ℕ, ◌+◌, ◌-◌, ◌^◌, ◌<◌, ◌≤◌, ◌↔◌, ◌≢◌, ◌∷◌, ◌++◌, List, [], Option, Some, None, Err, OnErr, OnOk};
+ghost use Rattle.std.specs.Prelude.{◌≡◌, true, false, ℕ, ◌+◌, ◌-◌, ◌^◌, ◌<◌, ◌≤◌, ◌∷◌, ◌++◌, List, [], Option, Some, None, Err, OnErr, OnOk};
 ghost use Rattle.ion_meter.specs.declared.fault.Reason.{Reason};
 ghost use Rattle.ion_meter.specs.declared.fault.Fault.{Fault};
 ghost use Rattle.ion_meter.specs.declared.fault.Fault.TheVariants.{Refused, Memory, WriteFault};
@@ -36,6 +36,7 @@ pub trait ValueWriter<O: Output, A: Allocator + Copy> {
     /// The reason and the place of the refusal of an item behind them, where it is refused.
     ghost refusal: { Limits → List PlacedItem → PlacedItem → Option (Reason × ℕ) };
 
+    /// Its limits.
     ghost limits: { Self → Limits };
 
     /// `begin` was not called.

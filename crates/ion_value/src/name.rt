@@ -20,9 +20,10 @@ pub fn is_simple(name: &[u8]) -> bool
     is_plain(name) && !begins_with_dollar(name)
 }
 
-// Whether the first byte is a dollar sign.
+/// Whether a text begins with a dollar sign, as all texts do that mean something to symbol tables, and
+/// no simple one does.
 #[inline]
-fn begins_with_dollar(name: &[u8]) -> bool
+pub fn begins_with_dollar(name: &[u8]) -> bool
     ensures { result ≡ first_is (λ b. b == 36) name.now }
 {
     match name {

@@ -57,8 +57,5 @@ pub(super) fn begins_with_dollar(text: TextAt<'_>) -> bool
     if text.simple {
         return false;
     }
-    match text.text {
-        [first, ..] => *first == b'$',
-        [] => false,
-    }
+    ion_value::name::begins_with_dollar(text.text)
 }

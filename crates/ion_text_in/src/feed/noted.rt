@@ -1,6 +1,5 @@
 //! An annotation in a lane.
-ghost use Rattle.std.specs.Prelude.{◌≡◌, ◌==◌, ◌≤◌, ◌++◌, ℕ, Bool, List, true, length, IfSome};
-ghost use Rattle.ion_value.specs.Digits.{first_is};
+ghost use Rattle.std.specs.Prelude.{◌≡◌, ◌≤◌, ◌++◌, ℕ, Bool, List, true, length, IfSome};
 ghost use Rattle.ion_text_in.specs.Feeding.{Begins, IsBare, IsBehindNote, IsNoted, IsSimpleWord};
 ghost use Rattle.ion_text_in.specs.Token.{a_quoted, a_word, first_at, two_colons};
 
@@ -9,6 +8,7 @@ use super::{Start, behind, front, next_told};
 use crate::quoted::{Quote, scan_text};
 use crate::scanned::Scanned;
 use ion_meter::limits::Limits;
+use ion_value::name::begins_with_dollar;
 use ion_value::plain_item::TextAt;
 
 /// Behind the word that stands here and begins at a place, as an annotation: where two colons stand
@@ -46,7 +46,7 @@ pub(super) fn quoted_noted<'a>(start: Start<'a>, limits: Limits, place: u64) -> 
     match scan_text(Quote::Symbol, limits.scalar, text) {
         Scanned::Whole(plain, count) => {
             let word = front(plain, text);
-            if begins_dollar(word) {
+            if begins_with_dollar(word) {
                 return None;
             }
             let note = quoted_text(word, place);
@@ -93,12 +93,4 @@ fn shows_colons(bytes: &[u8]) -> bool
         return false;
     }
     true
-}
-
-// Whether these bytes begin with a dollar sign.
-#[inline(always)]
-fn begins_dollar(bytes: &[u8]) -> bool
-    ensures { result ≡ first_is (λ b. b == 36) bytes.now }
-{
-    matches!(bytes, [b'$', ..])
 }

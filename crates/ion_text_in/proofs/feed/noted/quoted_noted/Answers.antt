@@ -5,8 +5,8 @@ use Rattle.ion_text_in.proofs.FeedNoted.{note-behind}
 use Rattle.ion_text_in.proofs.FeedQuotes.{symbol-quoted}
 use Rattle.ion_text_in.proofs.feed.noted.quoted_noted.Goals as goal
 
-pub returns-else-begins_dollar : goal.returns-else-begins_dollar
-returns-else-begins_dollar c =
+pub returns-else-begins_with_dollar : goal.returns-else-begins_with_dollar
+returns-else-begins_with_dollar c =
     let a = c.args in
     let w = c.in-Whole in
     let begins = c.requires.begins in
@@ -17,4 +17,4 @@ returns-else-begins_dollar c =
     note-behind a.limits a.place a.start note rest c.behind_note.result
     (symbol-quoted a.limits a.place w.plain w.count note bytes c.behind-text.result.now rest says.place (says.text ∙ c.front-word.ensures) c.behind-text.ensures c.behind.ensures w.ensures.shows
     begins.bare begins.some c.requires.first)
-    says.says (ap (λ (l : List ℕ). first_is (λ b. b == 36) l) says.text ∙ (sym c.begins_dollar.ensures ∙ c.if-begins_dollar.false)) c.behind_note.ensures
+    says.says (ap (λ (l : List ℕ). first_is (λ b. b == 36) l) says.text ∙ (sym c.begins_with_dollar.ensures ∙ c.if-begins_with_dollar.false)) c.behind_note.ensures

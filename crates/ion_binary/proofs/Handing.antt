@@ -1,6 +1,6 @@
 -- An item that a window shows whole is the next one of the reading.
-use Rattle.std.proofs.Common.{◌≡◌, ℕ, ◌+◌, ◌-◌, ◌*◌, ◌<◌, ◌≤◌, Bool, true, false, List, [], ◌∷◌, ◌++◌, length, take, drop, map, Option, Some, None, Ok, refl, ap, ap₂, sym, subst, ◌∙◌, arith}
-use Rattle.std.specs.Prelude.{option_map, is_some, slice_get, ◌==◌, ◌&&◌, not}
+use Rattle.std.proofs.Common.{◌≡◌, ℕ, ◌+◌, ◌-◌, ◌*◌, ◌<◌, ◌≤◌, false, List, [], ◌∷◌, ◌++◌, length, take, drop, map, Option, Some, None, Ok, refl, ap, ap₂, sym, subst, ◌∙◌, arith}
+use Rattle.std.specs.Prelude.{option_map, is_some, slice_get, ◌==◌}
 use Rattle.std.proofs.lemmas.Option.{slice_get-get_or}
 use Rattle.std.proofs.lemmas.Grind.{common_steps}
 use Rattle.std.proofs.lemmas.List.{take-append-drop, take_all}
@@ -12,7 +12,7 @@ use Rattle.ion_meter.proofs.Lent.{lent-take}
 use Rattle.ion_value.specs.declared.ion_type.Kind.{Kind}
 use Rattle.ion_value.specs.declared.ion_type.Kind.TheVariants as kind
 use Rattle.ion_value.specs.Digits.{first_is}
-use Rattle.ion_value.specs.Name.{is_plain, is_simple, raw_id}
+use Rattle.ion_value.specs.Name.{raw_id}
 use Rattle.ion_value.specs.Reading.{Gives, More}
 use Rattle.ion_value.specs.Standing.{Fits, in_struct}
 use Rattle.ion_value.specs.Value as value
@@ -89,15 +89,6 @@ skip-none here octets more = let same : here + 0 ≡ here = omega arith in rw sa
 
 named_field : (f : frame.Frame) (c d : Cursor) {id : ℕ} → f.kind ≡ kind.Struct → var_uint_at (Some f.end) c ≡ Ok (id, d) → field_at (innermost (Some f)) c ≡ Ok (Some (symbol_id id c.place), d)
 named_field f c d struct v = rw (struct, v) refl
-
-second-false : (a b : Bool) → (a && not b) ≡ true → b ≡ false
-second-false true true e = absurd (cc e)
-second-false false true e = absurd (cc e)
-second-false a false e = refl
-
--- a simple text does not begin with a dollar sign
-pub simple-no_dollar : (bytes : List ℕ) → is_simple bytes ≡ true → first_is (λ b. b == 36) bytes ≡ false
-simple-no_dollar bytes simple = second-false (is_plain bytes) (first_is (λ b. b == 36) bytes) simple
 
 -- a name that is shown is a text
 pub shown-known : (field : Option TextAt) → HasKnownName (option_map placed_text field)

@@ -1,19 +1,19 @@
 -- Strings, symbols and keywords in a lane.
 use Rattle.std.proofs.Common.{◌≡◌, ℕ, ◌+◌, ◌-◌, ◌<◌, ◌≤◌, Bool, true, false, not, ◌&&◌, ◌==◌, if◌then◌else◌, List, [], ◌∷◌, ◌++◌, length, take, drop, get_or, Option, Some, None, Result, Ok, refl, sym, ap, subst, ◌∙◌, arith}
-use Rattle.std.proofs.lemmas.Bool.{and_parts}
 use Rattle.std.proofs.lemmas.List.{length-drop}
 use Rattle.ion_meter.specs.Sources.{Cursor, skip}
 use Rattle.ion_meter.specs.declared.limits.Limits.{Limits}
 use Rattle.ion_meter.specs.declared.fault.Reason.{Reason}
 use Rattle.ion_value.specs.declared.ion_type.Kind.{Kind}
 use Rattle.ion_value.specs.Digits.{first_is}
-use Rattle.ion_value.specs.Name.{begins_with, is_plain, is_simple, is_version}
+use Rattle.ion_value.specs.Name.{begins_with, is_version}
 use Rattle.ion_value.specs.Parts.{part, ◌>>=◌}
 use Rattle.ion_value.specs.PlainItems.{IsKnownScalar}
 use Rattle.ion_value.specs.Reading.{More}
 use Rattle.ion_value.specs.Standing.{InRange}
 use Rattle.ion_value.specs.Value as value
 use Rattle.ion_value.specs.Value.{Scalar, SymbolAt}
+use Rattle.ion_value.proofs.Handing.{simple-no_dollar}
 use Rattle.ion_text_in.specs.declared.feed.Next.{Next}
 use Rattle.ion_text_in.specs.declared.scanned.Scanned.TheVariants.{Whole}
 use Rattle.ion_text_in.specs.Feeding.{item_in, IsBare, IsBehind, IsHead, IsNext, IsSimpleWord}
@@ -112,10 +112,6 @@ not-told : (b : Bool) → not b ≡ true → b ≡ false
 not-told true e = absurd (cc e)
 not-told false e = refl
 
--- a simple text begins with no dollar sign
-pub simple-free : (word : List ℕ) → is_simple word ≡ true → first_is (λ b. b == 36) word ≡ false
-simple-free word simple = not-told (first_is (λ b. b == 36) word) (and_parts (is_plain word) (not (first_is (λ b. b == 36) word)) simple).1
-
 no-version : (word : List ℕ) → first_is (λ b. b == 36) word ≡ false → is_version word ≡ false
 no-version [] e = refl
 no-version (b ∷ word) e = dollar-version b word e
@@ -160,7 +156,7 @@ head-symbol limits place n bytes rest next behind word is told bare begins =
     let rest_long : length rest ≡ length (drop n bytes) = ap (λ (l : List ℕ). length l) behind in
     let within = word.within in
     let counts = word.some in
-    let version = no-version (take n bytes) (simple-free (take n bytes) word.simple) in
+    let version = no-version (take n bytes) (simple-no_dollar (take n bytes) word.simple) in
     record {
       part = subst (λ (l : List ℕ). IsBehind bytes l) (sym behind) (some-behind bytes n within);
       fewer = omega (arith, long, rest_long, counts, within);

@@ -1,13 +1,15 @@
 -- A plain item that a writer takes goes from a reader to it, and the writer can take what comes behind it.
-use Rattle.std.proofs.Common.{◌≡◌, ℕ, ◌+◌, false, List, [], ◌∷◌, ◌++◌, map, Option, Some, None, refl, sym, ap, subst, ◌∙◌}
+use Rattle.std.proofs.Common.{◌≡◌, ℕ, ◌+◌, Bool, true, false, not, ◌&&◌, ◌==◌, List, [], ◌∷◌, ◌++◌, map, Option, Some, None, refl, sym, ap, subst, ◌∙◌}
 use Rattle.std.specs.Prelude.{option_map}
 use Rattle.ion_meter.specs.Counts.{Counts}
 use Rattle.ion_meter.specs.Windows.{Outgoing}
 use Rattle.ion_meter.specs.declared.limits.Limits.{Limits}
 use Rattle.ion_value.specs.declared.ion_type.Kind.{Kind}
 use Rattle.ion_value.specs.declared.writer.ValueWriter.{Ghosts as WriterOf}
+use Rattle.ion_value.specs.Digits.{first_is}
 use Rattle.ion_value.specs.Feeding.{CanTake, Feeds, nothing, more, Hands, Joint, StaysWell}
 use Rattle.ion_value.specs.Items.{named, named_at, named_item}
+use Rattle.ion_value.specs.Name.{is_plain, is_simple}
 use Rattle.ion_value.specs.Outcome.{one_if_closed}
 use Rattle.ion_value.specs.PlainItems.{HasKnownName, HasNoDollar, HaveNoDollar, IsKnown, IsKnownHead, IsPlainItem}
 use Rattle.ion_value.specs.Reading.{Finished, Reading, More}
@@ -26,6 +28,15 @@ symbol-kept texts (value.Id id) text = absurd text
 pub no_dollar-known : (s : Symbol) → HasNoDollar s → IsKnown s
 no_dollar-known (value.Text bytes) free = tt
 no_dollar-known (value.Id id) free = absurd free
+
+second-false : (a b : Bool) → (a && not b) ≡ true → b ≡ false
+second-false true true e = absurd (cc e)
+second-false false true e = absurd (cc e)
+second-false a false e = refl
+
+-- a simple text does not begin with a dollar sign
+pub simple-no_dollar : (bytes : List ℕ) → is_simple bytes ≡ true → first_is (λ b. b == 36) bytes ≡ false
+simple-no_dollar bytes simple = second-false (is_plain bytes) (first_is (λ b. b == 36) bytes) simple
 
 at-kept : (texts : ℕ → Option (List ℕ)) (s : SymbolAt) → IsKnown s.symbol → named_at texts s ≡ s
 at-kept texts s text = ap (λ (x : Symbol). record { symbol = x; place = s.place }) (symbol-kept texts s.symbol text)

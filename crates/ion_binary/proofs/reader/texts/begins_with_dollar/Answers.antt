@@ -1,5 +1,5 @@
 use Rattle.std.proofs.Common.{sym}
-use Rattle.ion_binary.proofs.Handing.{simple-no_dollar}
+use Rattle.ion_value.proofs.Handing.{simple-no_dollar}
 use Rattle.ion_binary.proofs.reader.texts.begins_with_dollar.Goals as goal
 
 pub returns-then-text : goal.returns-then-text

@@ -1,1 +1,2 @@
+mod OneByte
 mod Shelves

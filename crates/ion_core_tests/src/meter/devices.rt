@@ -46,7 +46,7 @@ impl Input for Drip {
 
     ghost observable = { λ _. Unit {0} };
 
-    #[tactic(auto, using(ion_meter::proofs::Written::one_given))]
+    #[tactic(auto, using(crate::proofs::OneByte::one_given))]
     fn read(&mut self, into: &mut [u8]) -> Result<usize, Broken> {
         self.calls = self.calls.saturating_add(1);
         if self.calls == self.fails_at {

@@ -128,8 +128,9 @@ fn put_note<O: Output, A: Allocator + Copy>(sink: &mut Sink<O, A>, note: &[u8], 
     }
 }
 
-// Puts a text between the quotes of a symbol.
-#[inline(always)]
+// Puts a text between the quotes of a symbol. It is a call of its own, so that what puts a front stays
+// small enough to be put in line.
+#[inline(never)]
 fn put_in_quotes<O: Output, A: Allocator + Copy>(sink: &mut Sink<O, A>, text: &[u8])
     requires { length sink.old.pending + length (as_put true text.now) ≤ 4096 }
     ensures { sink.new ≡ record sink.old { pending = sink.old.pending ++ as_put true text.now } }

@@ -167,6 +167,10 @@ closing-short ((kind.List, empty) ∷ cs) = omega arith
 closing-short ((kind.Sexp, empty) ∷ cs) = omega arith
 closing-short ((kind.Struct, empty) ∷ cs) = omega arith
 
+pub minus-short : (negative : Bool) → length {A = ℕ} (if negative then 45 ∷ [] else []) ≤ 1
+minus-short true = omega arith
+minus-short false = omega arith
+
 pub behind_end-short : (cs : Open) → length (behind_end cs) ≤ 1
 behind_end-short [] = omega arith
 behind_end-short (c ∷ cs) = behind-short cs

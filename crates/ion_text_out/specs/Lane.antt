@@ -1,7 +1,8 @@
 -- What is put of a plain item.
-use Rattle.std.specs.Prelude.{ℕ, Bool, true, List, [], ◌∷◌, ◌++◌, Option, Some, None, codes}
+use Rattle.std.specs.Prelude.{ℕ, Bool, true, false, List, [], ◌∷◌, ◌++◌, Option, Some, None, codes}
 use Rattle.ion_value.specs.Value.{Known}
 use Rattle.ion_value.specs.declared.plain_item.TextAt.{TextAt}
+use Rattle.ion_text_out.specs.declared.front.Front.{Front}
 use Rattle.ion_text_out.specs.Text.{Open, before_item, behind_value, symbol_text}
 
 -- the text of a symbol that may be there, empty where there is none
@@ -18,6 +19,16 @@ symbol_in (Some t) = symbol_text (Known t.text.now)
 abbrev pub spelling : List ℕ → List ℕ
 spelling [] = []
 spelling (b ∷ bs) = symbol_text (Known (b ∷ bs))
+
+-- the canonical text of such a symbol, which is its text itself where that is known
+abbrev pub spelled_by : Bool → List ℕ → List ℕ
+spelled_by true text = spelling text
+spelled_by false text = text
+
+-- a text as it is put, between quotes or not
+abbrev pub as_put : Bool → List ℕ → List ℕ
+as_put true text = 39 ∷ (text ++ 39 ∷ [])
+as_put false text = text
 
 -- whether it is said to be simple, as is said of none too
 abbrev pub is_said_simple : Option TextAt → Bool
@@ -37,6 +48,10 @@ plain_note (b ∷ bs) = (b ∷ bs) ++ codes "::"
 -- a field's name and an annotation
 abbrev pub plain_front : List ℕ → List ℕ → List ℕ
 plain_front name note = plain_name name ++ plain_note note
+
+-- what is put of a front
+abbrev pub front_text : Front → List ℕ
+front_text f = plain_front (as_put f.name_quoted f.name.now) (as_put f.note_quoted f.note.now)
 
 -- what a scalar of a text adds behind a name and an annotation
 abbrev pub plain_scalar : Open → List ℕ → List ℕ → List ℕ → List ℕ

@@ -6,9 +6,10 @@ ghost use Rattle.ion_value.specs.declared.plain_item.TextAt.{TextAt};
 ghost use Rattle.ion_text_out.specs.Writing.{behind_end, closing, shown};
 ghost use Rattle.ion_text_out.specs.Escape.{between_quotes};
 ghost use Rattle.ion_text_out.specs.Text.{end_text, opener};
-ghost use Rattle.ion_text_out.specs.Lane.{is_said_simple, plain_front, plain_name, plain_note, plain_scalar, spelling, symbol_in, text_in};
+ghost use Rattle.ion_text_out.specs.Lane.{front_text, is_said_simple, plain_scalar, spelled_by, spelling, symbol_in, text_in};
 
 use crate::between::{before, behind, behind_end, closing, opener};
+use crate::front::{Front, front_of, has_room, put_front};
 use crate::quote::{stands_in_string, stands_in_symbol};
 use ion_meter::device::Output;
 use ion_meter::sink::Sink;
@@ -30,7 +31,7 @@ pub fn text_in(at: Option<TextAt<'_>>) -> (&[u8], bool)
     }
 }
 
-/// Whether both are so.
+/// Whether both are so, told as one, so that one way goes on where they are not.
 #[inline(always)]
 pub fn both(name: bool, note: bool) -> bool
     ensures { result ≡ (name && note) }
@@ -55,22 +56,6 @@ pub fn has_spelling(text: &[u8], simple: bool) -> bool
     }
 }
 
-/// Whether there is room for a field's name, an annotation, so many bytes, and two marks of a byte.
-#[inline(always)]
-pub fn has_room<O: Output, A: Allocator + Copy>(
-    sink: &Sink<O, A>,
-    name: &[u8],
-    note: &[u8],
-    more: usize,
-) -> bool
-    ensures { result ≡ true
-        → length sink.now.pending + length (plain_front name.now note.now) + more + 2 ≤ 4096 }
-{
-    let room = sink.room();
-    let texts = name.len() + note.len();
-    texts <= room && more <= room && texts + more + 5 <= room
-}
-
 // Puts a mark of one byte, or none.
 #[inline(always)]
 fn put_mark<O: Output, A: Allocator + Copy>(sink: &mut Sink<O, A>, mark: &[u8])
@@ -84,34 +69,10 @@ fn put_mark<O: Output, A: Allocator + Copy>(sink: &mut Sink<O, A>, mark: &[u8])
     }
 }
 
-// Puts a field's name and a colon, where there is a field.
-#[inline(always)]
-fn put_name<O: Output, A: Allocator + Copy>(sink: &mut Sink<O, A>, name: &[u8])
-    requires { length sink.old.pending + length (plain_name name.now) ≤ 4096 }
-    ensures { sink.new ≡ record sink.old { pending = sink.old.pending ++ plain_name name.now } }
-{
-    if !name.is_empty() {
-        sink.put_within(name);
-        sink.put_byte(b':');
-    }
-}
-
-// Puts an annotation and two colons, where there is one.
-#[inline(always)]
-fn put_note<O: Output, A: Allocator + Copy>(sink: &mut Sink<O, A>, note: &[u8])
-    requires { length sink.old.pending + length (plain_note note.now) ≤ 4096 }
-    ensures { sink.new ≡ record sink.old { pending = sink.old.pending ++ plain_note note.now } }
-{
-    if !note.is_empty() {
-        sink.put_within(note);
-        sink.put_within(b"::");
-    }
-}
-
 /// Puts a scalar of this text with what stands around it, where there is room; else it answers false,
 /// and nothing is changed.
 #[inline(always)]
-pub fn put_scalar<O: Output, A: Allocator + Copy>(
+pub fn put_scalar<O: Output, A: Allocator + Copy, const SPELLS: bool>(
     sink: &mut Sink<O, A>,
     kinds: &[Kind],
     empty: bool,
@@ -121,15 +82,18 @@ pub fn put_scalar<O: Output, A: Allocator + Copy>(
 ) -> bool
     ensures declines { result ≡ false → sink.new ≡ sink.old }
     ensures puts { result ≡ true → sink.new ≡ record sink.old {
-      pending = sink.old.pending ++ plain_scalar (shown kinds.now empty) name.now note.now text.now;
+      pending = sink.old.pending ++ plain_scalar (shown kinds.now empty)
+          (spelled_by SPELLS name.now) (spelled_by SPELLS note.now) text.now;
     } }
 {
-    if !has_room(sink, name, note, text.len()) {
+    let Some(front) = front_of::<SPELLS>(name, note) else {
+        return false;
+    };
+    if !has_room(sink, front, text.len()) {
         return false;
     }
     put_mark(sink, before(kinds, empty));
-    put_name(sink, name);
-    put_note(sink, note);
+    put_front(sink, front);
     sink.put_within(text);
     put_mark(sink, behind(kinds));
     true
@@ -145,7 +109,7 @@ fn minus(negative: bool) -> &'static [u8]
 
 /// Puts an int of 64 bits or fewer, as `put_scalar` does.
 #[inline(always)]
-pub fn put_int<O: Output, A: Allocator + Copy>(
+pub fn put_int<O: Output, A: Allocator + Copy, const SPELLS: bool>(
     sink: &mut Sink<O, A>,
     kinds: &[Kind],
     empty: bool,
@@ -156,18 +120,21 @@ pub fn put_int<O: Output, A: Allocator + Copy>(
 ) -> bool
     ensures declines { result ≡ false → sink.new ≡ sink.old }
     ensures puts { result ≡ true → sink.new ≡ record sink.old {
-      pending = sink.old.pending ++ plain_scalar (shown kinds.now empty) name.now note.now
+      pending = sink.old.pending ++ plain_scalar (shown kinds.now empty)
+          (spelled_by SPELLS name.now) (spelled_by SPELLS note.now)
           (int_text (record { negative = negative; magnitude = magnitude }));
     } }
 {
-    if !has_room(sink, name, note, 41) {
+    let Some(front) = front_of::<SPELLS>(name, note) else {
+        return false;
+    };
+    if !has_room(sink, front, 41) {
         return false;
     }
     let mut buffer = Buffer::new();
     let digits = buffer.format(magnitude).as_bytes();
     put_mark(sink, before(kinds, empty));
-    put_name(sink, name);
-    put_note(sink, note);
+    put_front(sink, front);
     put_mark(sink, minus(negative));
     sink.put_within(digits);
     put_mark(sink, behind(kinds));
@@ -176,7 +143,7 @@ pub fn put_int<O: Output, A: Allocator + Copy>(
 
 // Puts a text as it stands between two quotes, as `put_scalar` does.
 #[inline(always)]
-fn put_between<O: Output, A: Allocator + Copy>(
+fn put_between<O: Output, A: Allocator + Copy, const SPELLS: bool>(
     sink: &mut Sink<O, A>,
     kinds: &[Kind],
     empty: bool,
@@ -187,16 +154,19 @@ fn put_between<O: Output, A: Allocator + Copy>(
 ) -> bool
     ensures declines { result ≡ false → sink.new ≡ sink.old }
     ensures puts { result ≡ true → sink.new ≡ record sink.old {
-      pending = sink.old.pending ++ plain_scalar (shown kinds.now empty) name.now note.now
+      pending = sink.old.pending ++ plain_scalar (shown kinds.now empty)
+          (spelled_by SPELLS name.now) (spelled_by SPELLS note.now)
           (quote ∷ (text.now ++ quote ∷ []));
     } }
 {
-    if !has_room(sink, name, note, text.len() + 2) {
+    let Some(front) = front_of::<SPELLS>(name, note) else {
+        return false;
+    };
+    if !has_room(sink, front, text.len() + 2) {
         return false;
     }
     put_mark(sink, before(kinds, empty));
-    put_name(sink, name);
-    put_note(sink, note);
+    put_front(sink, front);
     sink.put_byte(quote);
     sink.put_within(text);
     sink.put_byte(quote);
@@ -206,7 +176,7 @@ fn put_between<O: Output, A: Allocator + Copy>(
 
 /// Puts a string that has no escapes, as `put_scalar` does.
 #[inline(always)]
-pub fn put_string<O: Output, A: Allocator + Copy>(
+pub fn put_string<O: Output, A: Allocator + Copy, const SPELLS: bool>(
     sink: &mut Sink<O, A>,
     kinds: &[Kind],
     empty: bool,
@@ -216,19 +186,20 @@ pub fn put_string<O: Output, A: Allocator + Copy>(
 ) -> bool
     ensures declines { result ≡ false → sink.new ≡ sink.old }
     ensures puts { result ≡ true → sink.new ≡ record sink.old {
-      pending = sink.old.pending ++ plain_scalar (shown kinds.now empty) name.now note.now
+      pending = sink.old.pending ++ plain_scalar (shown kinds.now empty)
+          (spelled_by SPELLS name.now) (spelled_by SPELLS note.now)
           (between_quotes 34 256 text.now);
     } }
 {
     if !stands_in_string(text) {
         return false;
     }
-    put_between(sink, kinds, empty, name, note, b'"', text)
+    put_between::<O, A, SPELLS>(sink, kinds, empty, name, note, b'"', text)
 }
 
 /// Puts a symbol between quotes that has no escapes, as `put_scalar` does.
 #[inline(always)]
-pub fn put_quoted_symbol<O: Output, A: Allocator + Copy>(
+pub fn put_quoted_symbol<O: Output, A: Allocator + Copy, const SPELLS: bool>(
     sink: &mut Sink<O, A>,
     kinds: &[Kind],
     empty: bool,
@@ -238,14 +209,15 @@ pub fn put_quoted_symbol<O: Output, A: Allocator + Copy>(
 ) -> bool
     ensures declines { result ≡ false → sink.new ≡ sink.old }
     ensures puts { result ≡ true → sink.new ≡ record sink.old {
-      pending = sink.old.pending ++ plain_scalar (shown kinds.now empty) name.now note.now
+      pending = sink.old.pending ++ plain_scalar (shown kinds.now empty)
+          (spelled_by SPELLS name.now) (spelled_by SPELLS note.now)
           (between_quotes 39 256 text.now);
     } }
 {
     if !stands_in_symbol(text) {
         return false;
     }
-    put_between(sink, kinds, empty, name, note, b'\'', text)
+    put_between::<O, A, SPELLS>(sink, kinds, empty, name, note, b'\'', text)
 }
 
 /// Puts the beginning of a container behind a separator or nothing, for which there is room.
@@ -253,19 +225,17 @@ pub fn put_quoted_symbol<O: Output, A: Allocator + Copy>(
 pub fn put_begin<O: Output, A: Allocator + Copy>(
     sink: &mut Sink<O, A>,
     mark: &[u8],
-    name: &[u8],
-    note: &[u8],
+    front: Front<'_>,
     kind: Kind,
 )
-    requires room { length sink.old.pending + length (plain_front name.now note.now) + 3 ≤ 4096 }
+    requires room { length sink.old.pending + length (front_text front) + 3 ≤ 4096 }
     requires mark { length mark.now ≤ 1 }
     ensures { sink.new ≡ record sink.old {
-      pending = sink.old.pending ++ (mark.now ++ (plain_front name.now note.now ++ opener kind));
+      pending = sink.old.pending ++ (mark.now ++ (front_text front.entry ++ opener kind));
     } }
 {
     put_mark(sink, mark);
-    put_name(sink, name);
-    put_note(sink, note);
+    put_front(sink, front);
     put_mark(sink, opener(kind));
 }
 

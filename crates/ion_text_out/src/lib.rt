@@ -4,11 +4,11 @@
 
 mod between;
 mod blob;
+mod front;
 mod item;
 mod lane;
 pub mod laws;
 mod put;
 mod quote;
 mod scalar;
-mod symbol;
 pub mod writer;

@@ -106,19 +106,7 @@ pub fn stands_in_string(bytes: &[u8]) -> bool
     if bytes.len() < BLOCK {
         return few_in_string(bytes);
     }
-    let last = bytes.len() - BLOCK;
-    let hidden_last = hidden(b'"', 256, u8x16::from_slice(&bytes[last..]));
-    if hidden_last != 0 {
-        return false;
-    }
-    let mut at = 0;
-    'over: while at < last {
-        if hidden(b'"', 256, u8x16::from_slice(&bytes[at..])) != 0 {
-            return false;
-        }
-        at += BLOCK;
-    }
-    true
+    stand_between(b'"', bytes)
 }
 
 /// Whether those of a symbol between quotes do.
@@ -126,9 +114,30 @@ pub fn stands_in_string(bytes: &[u8]) -> bool
 pub fn stands_in_symbol(bytes: &[u8]) -> bool
     ensures { result ≡ all_are (is_shown 39 256) bytes.now }
 {
-    let shown = shown_run(b'\'', 256, bytes);
-    if shown < bytes.len() {
+    if bytes.len() < BLOCK {
+        return few_in_symbol(bytes);
+    }
+    stand_between(b'\'', bytes)
+}
+
+// Whether bytes, a block of them or more, stand for themselves between these quotes. The last block is
+// looked at first, and may lie partly over the one before it.
+#[inline(always)]
+fn stand_between(quote: u8, bytes: &[u8]) -> bool
+    requires { BLOCK ≤ length bytes.now }
+    ensures { result ≡ all_are (is_shown quote 256) bytes.now }
+{
+    let last = bytes.len() - BLOCK;
+    let hidden_last = hidden(quote, 256, u8x16::from_slice(&bytes[last..]));
+    if hidden_last != 0 {
         return false;
+    }
+    let mut at = 0;
+    'over: while at < last {
+        if hidden(quote, 256, u8x16::from_slice(&bytes[at..])) != 0 {
+            return false;
+        }
+        at += BLOCK;
     }
     true
 }
@@ -164,6 +173,39 @@ fn is_string_byte(byte: u8) -> bool
     ensures { result ≡ is_shown 34 256 byte }
 {
     STRING_BYTES[byte as usize] > 0
+}
+
+// Whether each of a few bytes stands for itself in a symbol between quotes.
+#[inline(always)]
+fn few_in_symbol(bytes: &[u8]) -> bool
+    ensures { result ≡ all_are (is_shown 39 256) bytes.now }
+{
+    'bytes: for byte in bytes {
+        if !is_symbol_byte(*byte) {
+            return false;
+        }
+    }
+    true
+}
+
+// Which bytes stand for themselves in a symbol between quotes.
+static SYMBOL_BYTES: [u8; 256] = [
+    0, 0, 0, 0, 0, 0, 0, 0, 0, 0, 0, 0, 0, 0, 0, 0, 0, 0, 0, 0, 0, 0, 0, 0, 0, 0, 0, 0, 0, 0, 0, 0,
+    1, 1, 1, 1, 1, 1, 1, 0, 1, 1, 1, 1, 1, 1, 1, 1, 1, 1, 1, 1, 1, 1, 1, 1, 1, 1, 1, 1, 1, 1, 1, 1,
+    1, 1, 1, 1, 1, 1, 1, 1, 1, 1, 1, 1, 1, 1, 1, 1, 1, 1, 1, 1, 1, 1, 1, 1, 1, 1, 1, 1, 0, 1, 1, 1,
+    1, 1, 1, 1, 1, 1, 1, 1, 1, 1, 1, 1, 1, 1, 1, 1, 1, 1, 1, 1, 1, 1, 1, 1, 1, 1, 1, 1, 1, 1, 1, 0,
+    1, 1, 1, 1, 1, 1, 1, 1, 1, 1, 1, 1, 1, 1, 1, 1, 1, 1, 1, 1, 1, 1, 1, 1, 1, 1, 1, 1, 1, 1, 1, 1,
+    1, 1, 1, 1, 1, 1, 1, 1, 1, 1, 1, 1, 1, 1, 1, 1, 1, 1, 1, 1, 1, 1, 1, 1, 1, 1, 1, 1, 1, 1, 1, 1,
+    1, 1, 1, 1, 1, 1, 1, 1, 1, 1, 1, 1, 1, 1, 1, 1, 1, 1, 1, 1, 1, 1, 1, 1, 1, 1, 1, 1, 1, 1, 1, 1,
+    1, 1, 1, 1, 1, 1, 1, 1, 1, 1, 1, 1, 1, 1, 1, 1, 1, 1, 1, 1, 1, 1, 1, 1, 1, 1, 1, 1, 1, 1, 1, 1,
+];
+
+// Whether this byte does.
+#[inline(always)]
+fn is_symbol_byte(byte: u8) -> bool
+    ensures { result ≡ is_shown 39 256 byte }
+{
+    SYMBOL_BYTES[byte as usize] > 0
 }
 
 // How many bytes at the front of these stand for themselves, one after the other.

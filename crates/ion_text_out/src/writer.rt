@@ -13,7 +13,7 @@ ghost use Rattle.ion_value.specs.PlainItems.{IsTextOf};
 ghost use Rattle.ion_value.specs.Shares.{MemoryCauses, WriteCauses, fault_of};
 ghost use Rattle.ion_text_out.specs.Escape.{between_quotes};
 ghost use Rattle.ion_text_out.specs.Text.{end_text, head_text, open_after, opener, symbol_text, with_member};
-ghost use Rattle.ion_text_out.specs.Lane.{plain_begin, plain_front, plain_scalar, spelling};
+ghost use Rattle.ion_text_out.specs.Lane.{plain_begin, plain_front, plain_scalar, spelled_by, spelling};
 ghost use Rattle.ion_text_out.specs.Writing.{text_puts, text_adds, text_refusal, IsReady, Shows};
 ghost use Rattle.ion_value.specs.Value.{user_symbol, user_symbol_at};
 ghost use Rattle.ion_value.specs.Standing.{HeadInRange};
@@ -21,14 +21,13 @@ ghost use Rattle.ion_text_out.specs.Steps.{CanStep, HasRoomFor, MayCome, PutsTex
 ghost use Rattle.ion_text_out.specs.Written.{text_grows, text-within};
 
 use crate::between::before;
+use crate::front::{front_of, has_room};
 use crate::item::put_item;
 use crate::lane::{
-    both, has_room, has_spelling, put_begin, put_end, put_int, put_quoted_symbol, put_scalar,
-    put_string, text_in,
+    both, has_spelling, put_begin, put_end, put_int, put_quoted_symbol, put_scalar, put_string,
+    text_in,
 };
 use crate::scalar::{bool_text, null};
-use crate::symbol::spell;
-use arrayvec::ArrayVec;
 use ion_meter::device::Output;
 use ion_meter::fault::Fault;
 use ion_meter::limits::Limits;
@@ -153,7 +152,7 @@ impl<A: Allocator + Copy> TextWriter<A> {
 impl<A: Allocator + Copy> TextWriter<A> {
     // A scalar of this text.
     #[inline(never)]
-    fn take_text<O: Output>(
+    fn take_text<O: Output, const SPELLS: bool>(
         &mut self,
         sink: &mut Sink<O, A>,
         name: &[u8],
@@ -163,11 +162,12 @@ impl<A: Allocator + Copy> TextWriter<A> {
         ensures declines { result ≡ false → (self.new ≡ self.old) × (sink.new ≡ sink.old) }
         ensures puts { result ≡ true → sink.new ≡ record sink.old {
           pending = sink.old.pending
-              ++ plain_scalar (opened_in self.old) name.now note.now text.now;
+              ++ plain_scalar (opened_in self.old)
+              (spelled_by SPELLS name.now) (spelled_by SPELLS note.now) text.now;
         } }
         ensures behind { result ≡ true → self.new ≡ record self.old { empty = false } }
     {
-        if !put_scalar(sink, self.kinds.as_slice(), self.empty, name, note, text) {
+        if !put_scalar::<O, A, SPELLS>(sink, self.kinds.as_slice(), self.empty, name, note, text) {
             return false;
         }
         self.empty = false;
@@ -176,7 +176,7 @@ impl<A: Allocator + Copy> TextWriter<A> {
 
     // A symbol.
     #[inline(never)]
-    fn take_symbol<O: Output>(
+    fn take_symbol<O: Output, const SPELLS: bool>(
         &mut self,
         sink: &mut Sink<O, A>,
         name: &[u8],
@@ -185,7 +185,8 @@ impl<A: Allocator + Copy> TextWriter<A> {
     ) -> bool
         ensures declines { result ≡ false → (self.new ≡ self.old) × (sink.new ≡ sink.old) }
         ensures puts { result ≡ true → sink.new ≡ record sink.old {
-          pending = sink.old.pending ++ plain_scalar (opened_in self.old) name.now note.now
+          pending = sink.old.pending ++ plain_scalar (opened_in self.old)
+              (spelled_by SPELLS name.now) (spelled_by SPELLS note.now)
               (symbol_text (user_symbol (symbol_of symbol.entry)));
         } }
         ensures behind { result ≡ true → self.new ≡ record self.old { empty = false } }
@@ -194,15 +195,15 @@ impl<A: Allocator + Copy> TextWriter<A> {
             return false;
         };
         if is_plain(text) {
-            self.take_text(sink, name, note, text)
+            self.take_text::<O, SPELLS>(sink, name, note, text)
         } else {
-            self.take_quoted(sink, name, note, text)
+            self.take_quoted::<O, SPELLS>(sink, name, note, text)
         }
     }
 
     // A symbol between quotes that has no escapes.
     #[inline(always)]
-    fn take_quoted<O: Output>(
+    fn take_quoted<O: Output, const SPELLS: bool>(
         &mut self,
         sink: &mut Sink<O, A>,
         name: &[u8],
@@ -211,12 +212,20 @@ impl<A: Allocator + Copy> TextWriter<A> {
     ) -> bool
         ensures declines { result ≡ false → (self.new ≡ self.old) × (sink.new ≡ sink.old) }
         ensures puts { result ≡ true → sink.new ≡ record sink.old {
-          pending = sink.old.pending ++ plain_scalar (opened_in self.old) name.now note.now
+          pending = sink.old.pending ++ plain_scalar (opened_in self.old)
+              (spelled_by SPELLS name.now) (spelled_by SPELLS note.now)
               (between_quotes 39 256 text.now);
         } }
         ensures behind { result ≡ true → self.new ≡ record self.old { empty = false } }
     {
-        if !put_quoted_symbol(sink, self.kinds.as_slice(), self.empty, name, note, text) {
+        if !put_quoted_symbol::<O, A, SPELLS>(
+            sink,
+            self.kinds.as_slice(),
+            self.empty,
+            name,
+            note,
+            text,
+        ) {
             return false;
         }
         self.empty = false;
@@ -225,7 +234,7 @@ impl<A: Allocator + Copy> TextWriter<A> {
 
     // An int.
     #[inline(always)]
-    fn take_int<O: Output>(
+    fn take_int<O: Output, const SPELLS: bool>(
         &mut self,
         sink: &mut Sink<O, A>,
         name: &[u8],
@@ -234,7 +243,8 @@ impl<A: Allocator + Copy> TextWriter<A> {
     ) -> bool
         ensures declines { result ≡ false → (self.new ≡ self.old) × (sink.new ≡ sink.old) }
         ensures puts { result ≡ true → sink.new ≡ record sink.old {
-          pending = sink.old.pending ++ plain_scalar (opened_in self.old) name.now note.now
+          pending = sink.old.pending ++ plain_scalar (opened_in self.old)
+              (spelled_by SPELLS name.now) (spelled_by SPELLS note.now)
               (int_text int);
         } }
         ensures behind { result ≡ true → self.new ≡ record self.old { empty = false } }
@@ -242,12 +252,12 @@ impl<A: Allocator + Copy> TextWriter<A> {
         if int.magnitude > u64::MAX as u128 {
             return false;
         }
-        self.take_narrow_int(sink, name, note, int.negative, int.magnitude as u64)
+        self.take_narrow_int::<O, SPELLS>(sink, name, note, int.negative, int.magnitude as u64)
     }
 
     // The same of one with this sign and a magnitude that 64 bits hold.
     #[inline(never)]
-    fn take_narrow_int<O: Output>(
+    fn take_narrow_int<O: Output, const SPELLS: bool>(
         &mut self,
         sink: &mut Sink<O, A>,
         name: &[u8],
@@ -257,12 +267,13 @@ impl<A: Allocator + Copy> TextWriter<A> {
     ) -> bool
         ensures declines { result ≡ false → (self.new ≡ self.old) × (sink.new ≡ sink.old) }
         ensures puts { result ≡ true → sink.new ≡ record sink.old {
-          pending = sink.old.pending ++ plain_scalar (opened_in self.old) name.now note.now
+          pending = sink.old.pending ++ plain_scalar (opened_in self.old)
+              (spelled_by SPELLS name.now) (spelled_by SPELLS note.now)
               (int_text (record { negative = negative; magnitude = magnitude }));
         } }
         ensures behind { result ≡ true → self.new ≡ record self.old { empty = false } }
     {
-        if !put_int(
+        if !put_int::<O, A, SPELLS>(
             sink,
             self.kinds.as_slice(),
             self.empty,
@@ -279,7 +290,7 @@ impl<A: Allocator + Copy> TextWriter<A> {
 
     // A decimal.
     #[inline(never)]
-    fn take_decimal<O: Output>(
+    fn take_decimal<O: Output, const SPELLS: bool>(
         &mut self,
         sink: &mut Sink<O, A>,
         name: &[u8],
@@ -289,18 +300,19 @@ impl<A: Allocator + Copy> TextWriter<A> {
         requires { IsDecimal decimal }
         ensures declines { result ≡ false → (self.new ≡ self.old) × (sink.new ≡ sink.old) }
         ensures puts { result ≡ true → sink.new ≡ record sink.old {
-          pending = sink.old.pending ++ plain_scalar (opened_in self.old) name.now note.now
+          pending = sink.old.pending ++ plain_scalar (opened_in self.old)
+              (spelled_by SPELLS name.now) (spelled_by SPELLS note.now)
               (decimal_text decimal);
         } }
         ensures behind { result ≡ true → self.new ≡ record self.old { empty = false } }
     {
         let text = decimal_to_text(decimal);
-        self.take_text(sink, name, note, text.as_str().as_bytes())
+        self.take_text::<O, SPELLS>(sink, name, note, text.as_str().as_bytes())
     }
 
     // A timestamp.
     #[inline(never)]
-    fn take_timestamp<O: Output>(
+    fn take_timestamp<O: Output, const SPELLS: bool>(
         &mut self,
         sink: &mut Sink<O, A>,
         name: &[u8],
@@ -310,18 +322,19 @@ impl<A: Allocator + Copy> TextWriter<A> {
         requires { IsTimestamp moment }
         ensures declines { result ≡ false → (self.new ≡ self.old) × (sink.new ≡ sink.old) }
         ensures puts { result ≡ true → sink.new ≡ record sink.old {
-          pending = sink.old.pending ++ plain_scalar (opened_in self.old) name.now note.now
+          pending = sink.old.pending ++ plain_scalar (opened_in self.old)
+              (spelled_by SPELLS name.now) (spelled_by SPELLS note.now)
               (timestamp_text moment);
         } }
         ensures behind { result ≡ true → self.new ≡ record self.old { empty = false } }
     {
         let text = timestamp_to_text(moment);
-        self.take_text(sink, name, note, text.as_str().as_bytes())
+        self.take_text::<O, SPELLS>(sink, name, note, text.as_str().as_bytes())
     }
 
     // A string that has no escapes.
     #[inline(never)]
-    fn take_string<O: Output>(
+    fn take_string<O: Output, const SPELLS: bool>(
         &mut self,
         sink: &mut Sink<O, A>,
         name: &[u8],
@@ -330,12 +343,13 @@ impl<A: Allocator + Copy> TextWriter<A> {
     ) -> bool
         ensures declines { result ≡ false → (self.new ≡ self.old) × (sink.new ≡ sink.old) }
         ensures puts { result ≡ true → sink.new ≡ record sink.old {
-          pending = sink.old.pending ++ plain_scalar (opened_in self.old) name.now note.now
+          pending = sink.old.pending ++ plain_scalar (opened_in self.old)
+              (spelled_by SPELLS name.now) (spelled_by SPELLS note.now)
               (between_quotes 34 256 text.now);
         } }
         ensures behind { result ≡ true → self.new ≡ record self.old { empty = false } }
     {
-        if !put_string(sink, self.kinds.as_slice(), self.empty, name, note, text) {
+        if !put_string::<O, A, SPELLS>(sink, self.kinds.as_slice(), self.empty, name, note, text) {
             return false;
         }
         self.empty = false;
@@ -344,7 +358,7 @@ impl<A: Allocator + Copy> TextWriter<A> {
 
     // The beginning of a container.
     #[inline(never)]
-    fn take_begin<O: Output>(
+    fn take_begin<O: Output, const SPELLS: bool>(
         &mut self,
         meter: &mut Meter<A>,
         sink: &mut Sink<O, A>,
@@ -358,21 +372,25 @@ impl<A: Allocator + Copy> TextWriter<A> {
             → (self.new ≡ self.old) × (sink.new ≡ sink.old) × (meter.new ≡ meter.old) }
         ensures puts { result ≡ true → sink.new ≡ record sink.old {
           pending = sink.old.pending
-              ++ plain_begin (opened_in self.old) name.now note.now (opener kind);
+              ++ plain_begin (opened_in self.old)
+              (spelled_by SPELLS name.now) (spelled_by SPELLS note.now) (opener kind);
         } }
         ensures opens { result ≡ true
             → opened_in self.new ≡ (kind, true) ∷ with_member (opened_in self.old) }
         ensures counted { meter.new.refused ≡ meter.old.refused }
         ensures stepped { Stepped self.old self.new meter.old meter.new }
     {
-        if !has_room(sink, name, note, 1) {
+        let Some(front) = front_of::<SPELLS>(name, note) else {
+            return false;
+        };
+        if !has_room(sink, front, 1) {
             return false;
         }
         let mark = before(self.kinds.as_slice(), self.empty);
         if !self.kinds.push_within(meter, kind) {
             return false;
         }
-        put_begin(sink, mark, name, note, kind);
+        put_begin(sink, mark, front, kind);
         self.empty = true;
         true
     }
@@ -400,7 +418,7 @@ impl<A: Allocator + Copy> TextWriter<A> {
 
     // A head, which may come with its text.
     #[inline(always)]
-    fn take_head<O: Output>(
+    fn take_head<O: Output, const SPELLS: bool>(
         &mut self,
         meter: &mut Meter<A>,
         sink: &mut Sink<O, A>,
@@ -416,7 +434,8 @@ impl<A: Allocator + Copy> TextWriter<A> {
             → (self.new ≡ self.old) × (sink.new ≡ sink.old) × (meter.new ≡ meter.old) }
         ensures puts { result ≡ true → sink.new ≡ record sink.old {
           pending = sink.old.pending ++ head_text (opened_in self.old)
-              (plain_front name.now note.now) (map_head user_symbol_at (raw_head head.entry));
+              (plain_front (spelled_by SPELLS name.now) (spelled_by SPELLS note.now))
+              (map_head user_symbol_at (raw_head head.entry));
         } }
         ensures opens { result ≡ true → opened_in self.new
             ≡ open_after (opened_in self.old) (map_head user_symbol_at (raw_head head.entry)) }
@@ -424,25 +443,26 @@ impl<A: Allocator + Copy> TextWriter<A> {
         ensures stepped { Stepped self.old self.new meter.old meter.new }
     {
         if let Some(text) = spelled {
-            return self.take_text(sink, name, note, text);
+            return self.take_text::<O, SPELLS>(sink, name, note, text);
         }
         match head {
-            Head::Null(of) => self.take_text(sink, name, note, null(of)),
-            Head::Bool(truth) => self.take_text(sink, name, note, bool_text(truth)),
-            Head::Int(int) => self.take_int(sink, name, note, int),
-            Head::Decimal(decimal) => self.take_decimal(sink, name, note, decimal),
-            Head::Timestamp(moment) => self.take_timestamp(sink, name, note, moment),
-            Head::Symbol(at) => self.take_symbol(sink, name, note, at.sym),
-            Head::String(text) => self.take_string(sink, name, note, text),
-            Head::Begin(kind) => self.take_begin(meter, sink, name, note, kind),
+            Head::Null(of) => self.take_text::<O, SPELLS>(sink, name, note, null(of)),
+            Head::Bool(truth) => self.take_text::<O, SPELLS>(sink, name, note, bool_text(truth)),
+            Head::Int(int) => self.take_int::<O, SPELLS>(sink, name, note, int),
+            Head::Decimal(decimal) => self.take_decimal::<O, SPELLS>(sink, name, note, decimal),
+            Head::Timestamp(moment) => self.take_timestamp::<O, SPELLS>(sink, name, note, moment),
+            Head::Symbol(at) => self.take_symbol::<O, SPELLS>(sink, name, note, at.sym),
+            Head::String(text) => self.take_string::<O, SPELLS>(sink, name, note, text),
+            Head::Begin(kind) => self.take_begin::<O, SPELLS>(meter, sink, name, note, kind),
             Head::End => self.take_end(meter, sink),
             _ => false,
         }
     }
 
-    // The same of an item whose name or annotation may stand between quotes, by their texts. Decimals
-    // and timestamps are declined where they come without a text.
-    #[inline(always)]
+    // The same of an item whose name or annotation may stand between quotes. It is marked as cold, so that
+    // what leads to it stands apart from what is frequent, and takes no register from it.
+    #[cold]
+    #[inline(never)]
     fn take_quoted_names<O: Output>(
         &mut self,
         meter: &mut Meter<A>,
@@ -467,207 +487,7 @@ impl<A: Allocator + Copy> TextWriter<A> {
         ensures counted { meter.new.refused ≡ meter.old.refused }
         ensures stepped { Stepped self.old self.new meter.old meter.new }
     {
-        if let Some(text) = spelled {
-            return self.quoted_text(sink, name, note, text);
-        }
-        match head {
-            Head::Null(of) => self.quoted_text(sink, name, note, null(of)),
-            Head::Bool(truth) => self.quoted_text(sink, name, note, bool_text(truth)),
-            Head::Int(int) => self.quoted_int(sink, name, note, int),
-            Head::Symbol(at) => self.quoted_symbol(sink, name, note, at.sym),
-            Head::String(text) => self.quoted_string(sink, name, note, text),
-            Head::Begin(kind) => self.quoted_begin(meter, sink, name, note, kind),
-            _ => false,
-        }
-    }
-}
-
-// The calls of `take_plain` for items whose name or annotation may stand between quotes: they have
-// the texts of both, and spell them first. They are marked as cold, so that what leads to them stands
-// apart from what is frequent, and takes no register from it.
-impl<A: Allocator + Copy> TextWriter<A> {
-    // A scalar of this text.
-    #[cold]
-    #[inline(never)]
-    fn quoted_text<O: Output>(
-        &mut self,
-        sink: &mut Sink<O, A>,
-        name: &[u8],
-        note: &[u8],
-        text: &[u8],
-    ) -> bool
-        ensures declines { result ≡ false → (self.new ≡ self.old) × (sink.new ≡ sink.old) }
-        ensures puts { result ≡ true → sink.new ≡ record sink.old {
-          pending = sink.old.pending ++ plain_scalar (opened_in self.old)
-              (spelling name.now) (spelling note.now) text.now;
-        } }
-        ensures behind { result ≡ true → self.new ≡ record self.old { empty = false } }
-    {
-        let mut shown_name = ArrayVec::new();
-        if !spell(&mut shown_name, name) {
-            return false;
-        }
-        let mut shown_note = ArrayVec::new();
-        if !spell(&mut shown_note, note) {
-            return false;
-        }
-        self.take_text(sink, shown_name.as_slice(), shown_note.as_slice(), text)
-    }
-
-    // A symbol.
-    #[cold]
-    #[inline(never)]
-    fn quoted_symbol<O: Output>(
-        &mut self,
-        sink: &mut Sink<O, A>,
-        name: &[u8],
-        note: &[u8],
-        symbol: Sym<'_>,
-    ) -> bool
-        ensures declines { result ≡ false → (self.new ≡ self.old) × (sink.new ≡ sink.old) }
-        ensures puts { result ≡ true → sink.new ≡ record sink.old {
-          pending = sink.old.pending ++ plain_scalar (opened_in self.old)
-              (spelling name.now) (spelling note.now)
-              (symbol_text (user_symbol (symbol_of symbol.entry)));
-        } }
-        ensures behind { result ≡ true → self.new ≡ record self.old { empty = false } }
-    {
-        let mut shown_name = ArrayVec::new();
-        if !spell(&mut shown_name, name) {
-            return false;
-        }
-        let mut shown_note = ArrayVec::new();
-        if !spell(&mut shown_note, note) {
-            return false;
-        }
-        self.take_symbol(sink, shown_name.as_slice(), shown_note.as_slice(), symbol)
-    }
-
-    // An int.
-    #[inline(always)]
-    fn quoted_int<O: Output>(
-        &mut self,
-        sink: &mut Sink<O, A>,
-        name: &[u8],
-        note: &[u8],
-        int: Int,
-    ) -> bool
-        ensures declines { result ≡ false → (self.new ≡ self.old) × (sink.new ≡ sink.old) }
-        ensures puts { result ≡ true → sink.new ≡ record sink.old {
-          pending = sink.old.pending ++ plain_scalar (opened_in self.old)
-              (spelling name.now) (spelling note.now) (int_text int);
-        } }
-        ensures behind { result ≡ true → self.new ≡ record self.old { empty = false } }
-    {
-        if int.magnitude > u64::MAX as u128 {
-            return false;
-        }
-        self.quoted_narrow_int(sink, name, note, int.negative, int.magnitude as u64)
-    }
-
-    // The same of one with this sign and a magnitude that 64 bits hold.
-    #[cold]
-    #[inline(never)]
-    fn quoted_narrow_int<O: Output>(
-        &mut self,
-        sink: &mut Sink<O, A>,
-        name: &[u8],
-        note: &[u8],
-        negative: bool,
-        magnitude: u64,
-    ) -> bool
-        ensures declines { result ≡ false → (self.new ≡ self.old) × (sink.new ≡ sink.old) }
-        ensures puts { result ≡ true → sink.new ≡ record sink.old {
-          pending = sink.old.pending ++ plain_scalar (opened_in self.old)
-              (spelling name.now) (spelling note.now)
-              (int_text (record { negative = negative; magnitude = magnitude }));
-        } }
-        ensures behind { result ≡ true → self.new ≡ record self.old { empty = false } }
-    {
-        let mut shown_name = ArrayVec::new();
-        if !spell(&mut shown_name, name) {
-            return false;
-        }
-        let mut shown_note = ArrayVec::new();
-        if !spell(&mut shown_note, note) {
-            return false;
-        }
-        self.take_narrow_int(
-            sink,
-            shown_name.as_slice(),
-            shown_note.as_slice(),
-            negative,
-            magnitude,
-        )
-    }
-
-    // A string.
-    #[cold]
-    #[inline(never)]
-    fn quoted_string<O: Output>(
-        &mut self,
-        sink: &mut Sink<O, A>,
-        name: &[u8],
-        note: &[u8],
-        text: &[u8],
-    ) -> bool
-        ensures declines { result ≡ false → (self.new ≡ self.old) × (sink.new ≡ sink.old) }
-        ensures puts { result ≡ true → sink.new ≡ record sink.old {
-          pending = sink.old.pending ++ plain_scalar (opened_in self.old)
-              (spelling name.now) (spelling note.now) (between_quotes 34 256 text.now);
-        } }
-        ensures behind { result ≡ true → self.new ≡ record self.old { empty = false } }
-    {
-        let mut shown_name = ArrayVec::new();
-        if !spell(&mut shown_name, name) {
-            return false;
-        }
-        let mut shown_note = ArrayVec::new();
-        if !spell(&mut shown_note, note) {
-            return false;
-        }
-        self.take_string(sink, shown_name.as_slice(), shown_note.as_slice(), text)
-    }
-
-    // The beginning of a container.
-    #[cold]
-    #[inline(never)]
-    fn quoted_begin<O: Output>(
-        &mut self,
-        meter: &mut Meter<A>,
-        sink: &mut Sink<O, A>,
-        name: &[u8],
-        note: &[u8],
-        kind: Kind,
-    ) -> bool
-        requires can_step { CanStep self.old meter.old }
-        requires deep { length self.old.kinds < self.old.limits.depth }
-        ensures declines { result ≡ false
-            → (self.new ≡ self.old) × (sink.new ≡ sink.old) × (meter.new ≡ meter.old) }
-        ensures puts { result ≡ true → sink.new ≡ record sink.old {
-          pending = sink.old.pending ++ plain_begin (opened_in self.old)
-              (spelling name.now) (spelling note.now) (opener kind);
-        } }
-        ensures opens { result ≡ true
-            → opened_in self.new ≡ (kind, true) ∷ with_member (opened_in self.old) }
-        ensures counted { meter.new.refused ≡ meter.old.refused }
-        ensures stepped { Stepped self.old self.new meter.old meter.new }
-    {
-        let mut shown_name = ArrayVec::new();
-        if !spell(&mut shown_name, name) {
-            return false;
-        }
-        let mut shown_note = ArrayVec::new();
-        if !spell(&mut shown_note, note) {
-            return false;
-        }
-        self.take_begin(
-            meter,
-            sink,
-            shown_name.as_slice(),
-            shown_note.as_slice(),
-            kind,
-        )
+        self.take_head::<O, true>(meter, sink, name, note, head, spelled)
     }
 }
 
@@ -737,7 +557,7 @@ impl<O: Output, A: Allocator + Copy> ValueWriter<O, A> for TextWriter<A> {
             }
             return self.take_quoted_names(meter, sink, name.0, note.0, item.head, item.spelled);
         }
-        self.take_head(meter, sink, name.0, note.0, item.head, item.spelled)
+        self.take_head::<O, false>(meter, sink, name.0, note.0, item.head, item.spelled)
     }
 
     ghost grows = { text_grows };

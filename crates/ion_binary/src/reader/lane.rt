@@ -42,7 +42,7 @@ pub(crate) struct Around {
 
 // Where the members of the innermost container stand.
 #[inline(always)]
-fn around_in(frames: &[Frame]) -> Around
+pub(super) fn around_in(frames: &[Frame]) -> Around
     ensures { IsAround (as_frames frames.now) result }
 {
     match frames.last().copied() {
@@ -69,7 +69,7 @@ fn inside(frame: Frame) -> Around
 // structs. It answers none where the window does not show an id that has a text that is known to be
 // simple, or any text where `any` says so.
 #[inline(always)]
-fn shown_field<'n, N: Names>(
+pub(super) fn shown_field<'n, N: Names>(
     octets: &[u8],
     here: u64,
     around: Around,
@@ -174,7 +174,7 @@ fn symbol_head(text: &[u8], place: u64) -> Head<'_>
 
 // Whether the innermost container ends at a place.
 #[inline(always)]
-fn ends_here(around: Around, place: u64) -> bool
+pub(super) fn ends_here(around: Around, place: u64) -> bool
     requires top { around.kind ≡ None → place < around.end }
     ensures ends { result ≡ true → EndsHere (frame_in around) place }
     ensures goes_on { result ≡ false → GoesOn (frame_in around) place }
@@ -213,7 +213,7 @@ pub(crate) struct Front<'n> {
     field: Option<TextAt<'n>>,
     annotation: Option<TextAt<'n>>,
     at: usize,
-    head: usize,
+    pub(super) head: usize,
     wrapper: Option<u64>,
 }
 
@@ -240,7 +240,7 @@ fn bare_front<'n>(field: Option<TextAt<'n>>, at: usize) -> Front<'n>
 // The front of an item in the annotation wrapper that begins at a place behind a field. It answers none where
 // the window does not show one that has one annotation, of a text that does not begin with a dollar sign.
 #[inline(always)]
-fn noted_front<'n, N: Names>(
+pub(super) fn noted_front<'n, N: Names>(
     octets: &[u8],
     here: u64,
     around: Around,
@@ -280,7 +280,7 @@ fn noted_front<'n, N: Names>(
 // The front of an item that the loop over most leaves: one with an annotation, or with a name that is not
 // known to be simple. It answers none of others, which were declined there.
 #[inline(always)]
-fn other_front<'n, N: Names>(
+pub(super) fn other_front<'n, N: Names>(
     octets: &[u8],
     here: u64,
     around: Around,
@@ -366,7 +366,7 @@ fn item_behind<'n, 'h>(
 impl<I: Input, A: Allocator + Copy> BinReader<I, A> {
     // Hands items on, behind so many values at top level, as long as `hand` can: how many values ended.
     #[inline(always)]
-    pub(super) fn hand_all<N: Names, W: ValueWriter<O, A>, O: Output>(
+    pub(super) fn hand_all<N: Names, W: ValueWriter<O, A>, O: Output, const OTHERS: bool>(
         &mut self,
         values: u64,
         meter: &mut Meter<A>,
@@ -387,16 +387,17 @@ impl<I: Input, A: Allocator + Copy> BinReader<I, A> {
     {
         let mut count = values;
         let mut around = around_in(self.frames.as_slice());
-        'items: while self.hand(&mut around, meter, names, writer, sink) {
+        'items: while self.hand::<N, W, O, OTHERS>(&mut around, meter, names, writer, sink) {
             count = values_behind(count, self.frames.as_slice());
         }
         count
     }
 
-    // Hands the next item on, where it has no annotation and that is possible; else it answers false, and
-    // nothing is changed.
+    // Hands the next item on, where that is possible and it is one of those that `OTHERS` asks for: the
+    // members with an annotation, or with a name that is not known to be simple, or else all but these. It
+    // answers false where it is not, and nothing is changed.
     #[inline(always)]
-    pub(super) fn hand<N: Names, W: ValueWriter<O, A>, O: Output>(
+    fn hand<N: Names, W: ValueWriter<O, A>, O: Output, const OTHERS: bool>(
         &mut self,
         around: &mut Around,
         meter: &mut Meter<A>,
@@ -412,31 +413,15 @@ impl<I: Input, A: Allocator + Copy> BinReader<I, A> {
         ensures around { result ≡ true → IsAround (as_frames self.new.frames) around.new }
     {
         if ends_here(*around, self.source.place()) {
+            if OTHERS {
+                return false;
+            }
             return self.hand_end(around, meter, names, writer, sink);
         }
-        self.hand_member(around, meter, names, writer, sink)
-    }
-
-    // The same of an item that has an annotation, or a name that is not known to be simple. It is a call of
-    // its own, so that the loop over all others has none.
-    #[inline(never)]
-    pub(super) fn hand_next_other<N: Names, W: ValueWriter<O, A>, O: Output>(
-        &mut self,
-        meter: &mut Meter<A>,
-        names: &N,
-        writer: &mut W,
-        sink: &mut Sink<O, A>,
-    ) -> bool
-        requires { CanHand W.ValueWriter self.old writer.old sink.old meter.old }
-        ensures { Handed I.Input W.ValueWriter (named_item (N.text names.now))
-            self.old self.new writer.old writer.new sink.old sink.new
-            meter.old meter.new result }
-    {
-        let mut around = around_in(self.frames.as_slice());
-        if ends_here(around, self.source.place()) {
-            return false;
+        if OTHERS {
+            return self.hand_other(around, meter, names, writer, sink);
         }
-        self.hand_other(&mut around, meter, names, writer, sink)
+        self.hand_member(around, meter, names, writer, sink)
     }
 
     // The end of the innermost container, which stands here.
@@ -496,48 +481,15 @@ impl<I: Input, A: Allocator + Copy> BinReader<I, A> {
         let Some((field, at)) = shown_field(octets, here, *around, names, false) else {
             return false;
         };
-        self.hand_head(around, bare_front(field, at), meter, names, writer, sink)
-    }
-
-    // The same of one with an annotation or any name. All shapes of a head share a call here, so that
-    // `hand_head` has one caller, in which it is put in line.
-    #[inline(always)]
-    fn hand_other<N: Names, W: ValueWriter<O, A>, O: Output>(
-        &mut self,
-        around: &mut Around,
-        meter: &mut Meter<A>,
-        names: &N,
-        writer: &mut W,
-        sink: &mut Sink<O, A>,
-    ) -> bool
-        requires can_hand { CanHand W.ValueWriter self.old writer.old sink.old meter.old }
-        requires around { IsAround (as_frames self.old.frames) around.old }
-        requires goes_on { GoesOn (frame_in around.old) self.old.source.place }
-        ensures handed { Handed I.Input W.ValueWriter (named_item (N.text names.now))
-            self.old self.new writer.old writer.new sink.old sink.new
-            meter.old meter.new result }
-        ensures around { result ≡ true → IsAround (as_frames self.new.frames) around.new }
-    {
-        let here = self.source.place();
-        let octets = self.source.buffer();
-        let Some((field, at)) = shown_field(octets, here, *around, names, true) else {
-            return false;
-        };
-        let limits = self.limits;
-        let Some(front) = other_front(octets, here, *around, field, at, limits, names) else {
-            return false;
-        };
-        if front.head >= octets.len() {
-            return false;
-        }
-        let shape = Shape::of(octets[front.head]);
-        self.hand_shape(shape, around, front, meter, names, writer, sink)
+        let front = bare_front(field, at);
+        self.hand_head::<N, W, O, false>(around, front, meter, names, writer, sink)
     }
 
     // The same of an item with this front. Each frequent shape of a head has a call of its own, so that
-    // what is read of it and written of it is compiled for it alone.
+    // what is read of it and written of it is compiled for it alone; and each of the two loops has this
+    // function for itself, by `OTHERS`, so that it has one caller, in which it is put in line.
     #[inline(always)]
-    fn hand_head<N: Names, W: ValueWriter<O, A>, O: Output>(
+    pub(super) fn hand_head<N: Names, W: ValueWriter<O, A>, O: Output, const OTHERS: bool>(
         &mut self,
         around: &mut Around,
         front: Front<'_>,
@@ -579,7 +531,7 @@ impl<I: Input, A: Allocator + Copy> BinReader<I, A> {
             Shape::Body {
                 type_code,
                 length_code,
-            } => self.hand_body(
+            } => self.hand_body::<N, W, O, OTHERS>(
                 type_code,
                 length_code,
                 around,
@@ -599,7 +551,7 @@ impl<I: Input, A: Allocator + Copy> BinReader<I, A> {
 
     // The same of a scalar with a body, by its type code. Lobs are not handed on.
     #[inline(always)]
-    fn hand_body<N: Names, W: ValueWriter<O, A>, O: Output>(
+    fn hand_body<N: Names, W: ValueWriter<O, A>, O: Output, const OTHERS: bool>(
         &mut self,
         type_code: u8,
         length_code: u8,
@@ -705,7 +657,7 @@ impl<I: Input, A: Allocator + Copy> BinReader<I, A> {
 
     // The same of a head whose descriptor has this shape.
     #[inline(always)]
-    fn hand_shape<N: Names, W: ValueWriter<O, A>, O: Output>(
+    pub(super) fn hand_shape<N: Names, W: ValueWriter<O, A>, O: Output>(
         &mut self,
         shape: Shape,
         around: &mut Around,

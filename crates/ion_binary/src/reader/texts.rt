@@ -29,7 +29,7 @@ pub(super) fn shown_text<'n, N: Names>(
     if !any {
         return None;
     }
-    match any_text(id, names) {
+    match names.text_of(id) {
         Some(text) => Some(TextAt {
             text,
             simple: false,
@@ -37,14 +37,6 @@ pub(super) fn shown_text<'n, N: Names>(
         }),
         None => None,
     }
-}
-
-// The text of an id, be it simple or not. It is a call of its own, since most are known to be simple.
-#[inline(never)]
-fn any_text<N: Names>(id: u32, names: &N) -> Option<&[u8]>
-    ensures { IfSome result (λ t. N.text names.entry.now id ≡ Some t.now) }
-{
-    names.text_of(id)
 }
 
 // Whether a text begins with a dollar sign, as no simple one does.

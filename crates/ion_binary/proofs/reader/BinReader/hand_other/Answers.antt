@@ -3,8 +3,5 @@ use Rattle.ion_binary.proofs.reader.BinReader.hand_other.Goals as goal
 pub other_front-requires-clause-field : goal.other_front-requires-clause-field
 other_front-requires-clause-field g c = c.in-Some.ensures
 
-pub hand_shape-requires-clause-front : goal.hand_shape-requires-clause-front
-hand_shape-requires-clause-front g c = rw (c.buffer-octets.ensures, c.place-here.ensures) at c.in-Some-other_front.ensures
-
-pub hand_shape-requires-clause-shape : goal.hand_shape-requires-clause-shape
-hand_shape-requires-clause-shape g c = rw c.buffer-octets.ensures at c.of-shape.ensures
+pub hand_head-requires-clause-front : goal.hand_head-requires-clause-front
+hand_head-requires-clause-front g c = rw (c.buffer-octets.ensures, c.place-here.ensures) at c.in-Some-other_front.ensures

@@ -1,6 +1,7 @@
+use Rattle.std.specs.Prelude.{length}
 use Rattle.ion_value.specs.Items.{named_item}
 use Rattle.ion_binary.specs.Lane.{HandsOn}
-use Rattle.ion_binary.specs.Steps.{left_to}
+use Rattle.ion_meter.specs.Windows.{left}
 use Rattle.ion_binary.proofs.reader.BinReaderRawReader.feed.Given as goal
 
 abbrev pub invariant-runs : goal.invariant-runs
@@ -8,4 +9,4 @@ invariant-runs g l =
     HandsOn g.I.Input g.W.ValueWriter (named_item (g.N.Names.text l.names)) l.fn.self l.self l.fn.writer l.writer l.fn.sink l.sink l.fn.meter l.meter 0 l.values
 
 abbrev pub decreases-runs : goal.decreases-runs
-decreases-runs g l = left_to l.self
+decreases-runs g l = length (left g.I.Input.rest l.self.source)

@@ -1,9 +1,10 @@
-use Rattle.std.proofs.Common.{refl, ap, subst, length}
+use Rattle.std.proofs.Common.{eqb, not, refl, ap, subst, length}
 use Rattle.std.specs.Prelude.{IfSome}
 use Rattle.ion_value.specs.Items.{raw_head, symbol_at}
 use Rattle.ion_value.specs.PlainItems.{IsTextOf}
 use Rattle.ion_value.specs.Value as value
 use Rattle.ion_value.specs.Value.{Head, SymbolAt}
+use Rattle.ion_text_out.specs.Lane.{spelled_by}
 use Rattle.ion_text_out.specs.Writing.{shown, HasRoom}
 use Rattle.ion_text_out.proofs.Plain.{begin_put, puts_same, scalar_put, spelled_put}
 use Rattle.ion_text_out.proofs.writer.TextWriter.take_head.Goals as goal
@@ -16,45 +17,45 @@ take_begin-requires-clause-deep g c =
 pub returns-in-Null-clause-puts : goal.returns-in-Null-clause-puts
 returns-in-Null-clause-puts g c e =
     let a = c.args in
-    puts_same a.sink.now _ _ _ (c.take_text-in-Null.ensures.puts e) (scalar_put (shown a.self.now.kinds a.self.now.empty) a.name.now a.note.now (raw_head a.head) (value.null c.in-Null.of) _ (ap raw_head c.in-Null.is) c.null.ensures)
+    puts_same a.sink.now _ _ _ (c.take_text-in-Null.ensures.puts e) (scalar_put (shown a.self.now.kinds a.self.now.empty) (spelled_by (not (eqb g.row.SPELLS 0)) a.name.now) (spelled_by (not (eqb g.row.SPELLS 0)) a.note.now) (raw_head a.head) (value.null c.in-Null.of) _ (ap raw_head c.in-Null.is) c.null.ensures)
 
 pub returns-in-Bool-clause-puts : goal.returns-in-Bool-clause-puts
 returns-in-Bool-clause-puts g c e =
     let a = c.args in
-    puts_same a.sink.now _ _ _ (c.take_text-in-Bool.ensures.puts e) (scalar_put (shown a.self.now.kinds a.self.now.empty) a.name.now a.note.now (raw_head a.head) (value.bool c.in-Bool.truth) _ (ap raw_head c.in-Bool.is) c.bool_text.ensures)
+    puts_same a.sink.now _ _ _ (c.take_text-in-Bool.ensures.puts e) (scalar_put (shown a.self.now.kinds a.self.now.empty) (spelled_by (not (eqb g.row.SPELLS 0)) a.name.now) (spelled_by (not (eqb g.row.SPELLS 0)) a.note.now) (raw_head a.head) (value.bool c.in-Bool.truth) _ (ap raw_head c.in-Bool.is) c.bool_text.ensures)
 
 pub returns-in-Int-clause-puts : goal.returns-in-Int-clause-puts
 returns-in-Int-clause-puts g c e =
     let a = c.args in
-    puts_same a.sink.now _ _ _ (c.take_int.ensures.puts e) (scalar_put (shown a.self.now.kinds a.self.now.empty) a.name.now a.note.now (raw_head a.head) (value.int c.in-Int.int) _ (ap raw_head c.in-Int.is) refl)
+    puts_same a.sink.now _ _ _ (c.take_int.ensures.puts e) (scalar_put (shown a.self.now.kinds a.self.now.empty) (spelled_by (not (eqb g.row.SPELLS 0)) a.name.now) (spelled_by (not (eqb g.row.SPELLS 0)) a.note.now) (raw_head a.head) (value.int c.in-Int.int) _ (ap raw_head c.in-Int.is) refl)
 
 pub returns-in-Decimal-clause-puts : goal.returns-in-Decimal-clause-puts
 returns-in-Decimal-clause-puts g c e =
     let a = c.args in
-    puts_same a.sink.now _ _ _ (c.take_decimal.ensures.puts e) (scalar_put (shown a.self.now.kinds a.self.now.empty) a.name.now a.note.now (raw_head a.head) (value.decimal c.in-Decimal.decimal) _ (ap raw_head c.in-Decimal.is) refl)
+    puts_same a.sink.now _ _ _ (c.take_decimal.ensures.puts e) (scalar_put (shown a.self.now.kinds a.self.now.empty) (spelled_by (not (eqb g.row.SPELLS 0)) a.name.now) (spelled_by (not (eqb g.row.SPELLS 0)) a.note.now) (raw_head a.head) (value.decimal c.in-Decimal.decimal) _ (ap raw_head c.in-Decimal.is) refl)
 
 pub returns-in-Timestamp-clause-puts : goal.returns-in-Timestamp-clause-puts
 returns-in-Timestamp-clause-puts g c e =
     let a = c.args in
-    puts_same a.sink.now _ _ _ (c.take_timestamp.ensures.puts e) (scalar_put (shown a.self.now.kinds a.self.now.empty) a.name.now a.note.now (raw_head a.head) (value.timestamp c.in-Timestamp.moment) _ (ap raw_head c.in-Timestamp.is) refl)
+    puts_same a.sink.now _ _ _ (c.take_timestamp.ensures.puts e) (scalar_put (shown a.self.now.kinds a.self.now.empty) (spelled_by (not (eqb g.row.SPELLS 0)) a.name.now) (spelled_by (not (eqb g.row.SPELLS 0)) a.note.now) (raw_head a.head) (value.timestamp c.in-Timestamp.moment) _ (ap raw_head c.in-Timestamp.is) refl)
 
 pub returns-in-Symbol-clause-puts : goal.returns-in-Symbol-clause-puts
 returns-in-Symbol-clause-puts g c e =
     let a = c.args in
-    puts_same a.sink.now _ _ _ (c.take_symbol.ensures.puts e) (scalar_put (shown a.self.now.kinds a.self.now.empty) a.name.now a.note.now (raw_head a.head) (value.symbol (symbol_at c.in-Symbol.at)) _ (ap raw_head c.in-Symbol.is) refl)
+    puts_same a.sink.now _ _ _ (c.take_symbol.ensures.puts e) (scalar_put (shown a.self.now.kinds a.self.now.empty) (spelled_by (not (eqb g.row.SPELLS 0)) a.name.now) (spelled_by (not (eqb g.row.SPELLS 0)) a.note.now) (raw_head a.head) (value.symbol (symbol_at c.in-Symbol.at)) _ (ap raw_head c.in-Symbol.is) refl)
 
 pub returns-in-String-clause-puts : goal.returns-in-String-clause-puts
 returns-in-String-clause-puts g c e =
     let a = c.args in
-    puts_same a.sink.now _ _ _ (c.take_string.ensures.puts e) (scalar_put (shown a.self.now.kinds a.self.now.empty) a.name.now a.note.now (raw_head a.head) (value.string c.in-String.text.now) _ (ap raw_head c.in-String.is) refl)
+    puts_same a.sink.now _ _ _ (c.take_string.ensures.puts e) (scalar_put (shown a.self.now.kinds a.self.now.empty) (spelled_by (not (eqb g.row.SPELLS 0)) a.name.now) (spelled_by (not (eqb g.row.SPELLS 0)) a.note.now) (raw_head a.head) (value.string c.in-String.text.now) _ (ap raw_head c.in-String.is) refl)
 
 pub returns-in-Begin-clause-puts : goal.returns-in-Begin-clause-puts
 returns-in-Begin-clause-puts g c e =
     let a = c.args in
-    puts_same a.sink.now _ _ _ (c.take_begin.ensures.puts e) (begin_put (shown a.self.now.kinds a.self.now.empty) a.name.now a.note.now (raw_head a.head) c.in-Begin.kind (ap raw_head c.in-Begin.is))
+    puts_same a.sink.now _ _ _ (c.take_begin.ensures.puts e) (begin_put (shown a.self.now.kinds a.self.now.empty) (spelled_by (not (eqb g.row.SPELLS 0)) a.name.now) (spelled_by (not (eqb g.row.SPELLS 0)) a.note.now) (raw_head a.head) c.in-Begin.kind (ap raw_head c.in-Begin.is))
 
 pub returns-in-Some-clause-puts : goal.returns-in-Some-clause-puts
 returns-in-Some-clause-puts g c e =
     let a = c.args in
     let spelled : IfSome a.spelled (λ text. IsTextOf text.now (raw_head a.head)) = c.requires.spelled in
-    puts_same a.sink.now _ _ _ (c.take_text.ensures.puts e) (spelled_put (shown a.self.now.kinds a.self.now.empty) a.name.now a.note.now c.in-Some.text.now (raw_head a.head) (rw c.in-Some.is at spelled))
+    puts_same a.sink.now _ _ _ (c.take_text.ensures.puts e) (spelled_put (shown a.self.now.kinds a.self.now.empty) (spelled_by (not (eqb g.row.SPELLS 0)) a.name.now) (spelled_by (not (eqb g.row.SPELLS 0)) a.note.now) c.in-Some.text.now (raw_head a.head) (rw c.in-Some.is at spelled))

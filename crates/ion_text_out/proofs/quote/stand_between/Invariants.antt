@@ -1,12 +1,12 @@
 use Rattle.std.proofs.Common.{◌≡◌, ◌-◌, ◌≤◌, true, length, take}
 use Rattle.ion_value.specs.Digits.{all_are}
 use Rattle.ion_text_out.specs.Escape.{is_shown}
-use Rattle.ion_text_out.proofs.quote.stands_in_string.Given as goal
+use Rattle.ion_text_out.proofs.quote.stand_between.Given as goal
 
 abbrev pub invariant-over : goal.invariant-over
 invariant-over l = record {
   within : l.at ≤ length l.bytes;
-  shown : all_are (is_shown 34 256) (take l.at l.bytes) ≡ true;
+  shown : all_are (is_shown l.quote 256) (take l.at l.bytes) ≡ true;
 }
 
 abbrev pub decreases-over : goal.decreases-over

@@ -1,0 +1,161 @@
+//! Items that the loop over most leaves, handed to a writer.
+ghost use Rattle.std.specs.Prelude.{◌≡◌, ◌+◌, ◌-◌, ◌^◌, ◌<◌, ◌≤◌, true, false, None};
+ghost use Rattle.ion_value.specs.Items.{named_item};
+ghost use Rattle.ion_value.specs.Feeding.{CanTake};
+ghost use Rattle.ion_binary.specs.Lane.{CanHand, GoesOn, Handed, HandsOn, IsAround, frame_in};
+ghost use Rattle.ion_binary.specs.Steps.{IsSound, held_by, left_to, opened_in};
+ghost use Rattle.ion_binary.specs.Wrappers.{as_frames};
+
+use super::lane::{Around, around_in, ends_here, noted_front, other_front, shown_field};
+use super::{BinReader, values_behind};
+use crate::descriptor::Shape;
+use ion_meter::device::{Input, Output};
+use ion_meter::meter::Meter;
+use ion_meter::sink::Sink;
+use ion_value::names::Names;
+use ion_value::writer::ValueWriter;
+use std::alloc::Allocator;
+
+impl<I: Input, A: Allocator + Copy> BinReader<I, A> {
+    // Hands on items that the loop over most leaves, behind so many values at top level: one that has an annotation, or else
+    // those that each have an annotation or a name that is not known to be simple. It answers how many values
+    // ended.
+    #[inline(always)]
+    pub(super) fn hand_rare<N: Names, W: ValueWriter<O, A>, O: Output>(
+        &mut self,
+        values: u64,
+        meter: &mut Meter<A>,
+        names: &N,
+        writer: &mut W,
+        sink: &mut Sink<O, A>,
+    ) -> u64
+        requires room { meter.old.held ≤ 2 ^ 61 + (held_by self.old + W.own writer.old) }
+        requires held { held_by self.old + W.own writer.old ≤ meter.old.held }
+        requires countable { meter.old.refused < 2 ^ 64 - 1 }
+        requires sound { IsSound self.old }
+        requires fresh { self.old.failed ≡ None }
+        requires writer { CanTake W.ValueWriter self.old.limits.depth (opened_in self.old)
+            writer.old sink.old }
+        requires few { values + left_to self.old < 2 ^ 64 - 1 }
+        ensures { HandsOn I.Input W.ValueWriter (named_item (N.text names.now)) self.old self.new
+            writer.old writer.new sink.old sink.new meter.old meter.new values result }
+    {
+        if self.hand_next_noted(meter, names, writer, sink) {
+            return values_behind(values, self.frames.as_slice());
+        }
+        self.hand_others(values, meter, names, writer, sink)
+    }
+
+    // Hands the next item on where it has an annotation and that is possible; else it answers false, and
+    // nothing is changed. It is a call of its own, so that the loop over most has none.
+    #[inline(never)]
+    fn hand_next_noted<N: Names, W: ValueWriter<O, A>, O: Output>(
+        &mut self,
+        meter: &mut Meter<A>,
+        names: &N,
+        writer: &mut W,
+        sink: &mut Sink<O, A>,
+    ) -> bool
+        requires { CanHand W.ValueWriter self.old writer.old sink.old meter.old }
+        ensures { Handed I.Input W.ValueWriter (named_item (N.text names.now))
+            self.old self.new writer.old writer.new sink.old sink.new
+            meter.old meter.new result }
+    {
+        let mut around = around_in(self.frames.as_slice());
+        if ends_here(around, self.source.place()) {
+            return false;
+        }
+        self.hand_noted(&mut around, meter, names, writer, sink)
+    }
+
+    // The same of a member of the innermost container, or of a value at top level. All shapes of a head share
+    // a call here.
+    #[inline(always)]
+    fn hand_noted<N: Names, W: ValueWriter<O, A>, O: Output>(
+        &mut self,
+        around: &mut Around,
+        meter: &mut Meter<A>,
+        names: &N,
+        writer: &mut W,
+        sink: &mut Sink<O, A>,
+    ) -> bool
+        requires can_hand { CanHand W.ValueWriter self.old writer.old sink.old meter.old }
+        requires around { IsAround (as_frames self.old.frames) around.old }
+        requires goes_on { GoesOn (frame_in around.old) self.old.source.place }
+        ensures handed { Handed I.Input W.ValueWriter (named_item (N.text names.now))
+            self.old self.new writer.old writer.new sink.old sink.new
+            meter.old meter.new result }
+        ensures around { result ≡ true → IsAround (as_frames self.new.frames) around.new }
+    {
+        let here = self.source.place();
+        let octets = self.source.buffer();
+        let Some((field, at)) = shown_field(octets, here, *around, names, true) else {
+            return false;
+        };
+        let limits = self.limits;
+        let Some(front) = noted_front(octets, here, *around, field, at, limits, names) else {
+            return false;
+        };
+        if front.head >= octets.len() {
+            return false;
+        }
+        let shape = Shape::of(octets[front.head]);
+        self.hand_shape(shape, around, front, meter, names, writer, sink)
+    }
+
+    // Hands items on that each have an annotation, or a name that is not known to be simple. It is a
+    // loop and a call of its own, so that the loop over all others is compiled without them.
+    #[inline(never)]
+    fn hand_others<N: Names, W: ValueWriter<O, A>, O: Output>(
+        &mut self,
+        values: u64,
+        meter: &mut Meter<A>,
+        names: &N,
+        writer: &mut W,
+        sink: &mut Sink<O, A>,
+    ) -> u64
+        requires room { meter.old.held ≤ 2 ^ 61 + (held_by self.old + W.own writer.old) }
+        requires held { held_by self.old + W.own writer.old ≤ meter.old.held }
+        requires countable { meter.old.refused < 2 ^ 64 - 1 }
+        requires sound { IsSound self.old }
+        requires fresh { self.old.failed ≡ None }
+        requires writer { CanTake W.ValueWriter self.old.limits.depth (opened_in self.old)
+            writer.old sink.old }
+        requires few { values + left_to self.old < 2 ^ 64 - 1 }
+        ensures { HandsOn I.Input W.ValueWriter (named_item (N.text names.now)) self.old self.new
+            writer.old writer.new sink.old sink.new meter.old meter.new values result }
+    {
+        self.hand_all::<N, W, O, true>(values, meter, names, writer, sink)
+    }
+
+    // Hands the next member on, or value at top level, where it has an annotation or a name that is not known
+    // to be simple, and that is possible.
+    #[inline(always)]
+    pub(super) fn hand_other<N: Names, W: ValueWriter<O, A>, O: Output>(
+        &mut self,
+        around: &mut Around,
+        meter: &mut Meter<A>,
+        names: &N,
+        writer: &mut W,
+        sink: &mut Sink<O, A>,
+    ) -> bool
+        requires can_hand { CanHand W.ValueWriter self.old writer.old sink.old meter.old }
+        requires around { IsAround (as_frames self.old.frames) around.old }
+        requires goes_on { GoesOn (frame_in around.old) self.old.source.place }
+        ensures handed { Handed I.Input W.ValueWriter (named_item (N.text names.now))
+            self.old self.new writer.old writer.new sink.old sink.new
+            meter.old meter.new result }
+        ensures around { result ≡ true → IsAround (as_frames self.new.frames) around.new }
+    {
+        let here = self.source.place();
+        let octets = self.source.buffer();
+        let Some((field, at)) = shown_field(octets, here, *around, names, true) else {
+            return false;
+        };
+        let limits = self.limits;
+        let Some(front) = other_front(octets, here, *around, field, at, limits, names) else {
+            return false;
+        };
+        self.hand_head::<N, W, O, true>(around, front, meter, names, writer, sink)
+    }
+}

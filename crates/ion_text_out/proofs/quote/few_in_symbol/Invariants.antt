@@ -1,0 +1,7 @@
+use Rattle.std.proofs.Common.{◌≡◌, drop}
+use Rattle.ion_value.specs.Digits.{all_are}
+use Rattle.ion_text_out.specs.Escape.{is_shown}
+use Rattle.ion_text_out.proofs.quote.few_in_symbol.Given as goal
+
+abbrev pub invariant-bytes : goal.invariant-bytes
+invariant-bytes l = all_are (is_shown 39 256) l.bytes ≡ all_are (is_shown 39 256) (drop l.byte-index l.bytes)

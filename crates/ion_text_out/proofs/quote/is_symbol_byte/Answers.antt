@@ -1,0 +1,8 @@
+use Rattle.std.proofs.Common.{nat_lt, get_or, refl, sym, arith}
+use Rattle.std.proofs.lemmas.Bool.{agree_below_at}
+use Rattle.ion_text_out.specs.declared.quote.TheConstants.{SYMBOL_BYTES}
+use Rattle.ion_text_out.specs.Escape.{is_shown}
+use Rattle.ion_text_out.proofs.quote.is_symbol_byte.Goals as goal
+
+pub returns : goal.returns
+returns c = sym (agree_below_at (is_shown 39 256) (λ b. nat_lt 0 (get_or SYMBOL_BYTES b 0)) 256 c.args.byte refl (omega arith))

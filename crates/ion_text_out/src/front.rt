@@ -1,13 +1,13 @@
 //! What stands in front of a value, with quotes where they are needed.
-ghost use Rattle.std.specs.Prelude.{◌≡◌, ◌+◌, ◌≤◌, ◌++◌, true, length, IfSome};
+ghost use Rattle.std.specs.Prelude.{◌≡◌, ◌+◌, ◌≤◌, ◌++◌, ◌||◌, true, length, IfSome};
 ghost use Rattle.ion_value.specs.Value.{Known};
 ghost use Rattle.ion_text_out.specs.Lane.{as_put, front_text, plain_front, plain_name, plain_note, spelled_by};
 ghost use Rattle.ion_text_out.specs.Text.{symbol_text};
 
+use crate::bare::is_bare;
 use crate::quote::stands_in_symbol;
 use ion_meter::device::Output;
 use ion_meter::sink::Sink;
-use ion_value::name::is_plain;
 use std::alloc::Allocator;
 
 /// What stands in front of a value: the texts of a field's name and of an annotation, empty where there
@@ -60,7 +60,7 @@ fn is_quoted<const SPELLS: bool>(text: &[u8]) -> Option<bool>
 fn needs_quotes(text: &[u8]) -> Option<bool>
     ensures { IfSome result (λ quoted. as_put quoted text.now ≡ symbol_text (Known text.now)) }
 {
-    if is_plain(text) {
+    if is_bare(text) {
         return Some(false);
     }
     if !stands_in_symbol(text) {
@@ -87,6 +87,46 @@ pub fn has_room<O: Output, A: Allocator + Copy>(
 /// Puts a front.
 #[inline(always)]
 pub fn put_front<O: Output, A: Allocator + Copy>(sink: &mut Sink<O, A>, front: Front<'_>)
+    requires { length sink.old.pending + length (front_text front) ≤ 4096 }
+    ensures { sink.new ≡ record sink.old { pending = sink.old.pending ++ front_text front.entry } }
+{
+    if either(front.name_quoted, front.note_quoted) {
+        put_quoted_front(sink, front);
+    } else {
+        put_bare_front(sink, front.name, front.note);
+    }
+}
+
+// Whether one of the two is so.
+#[inline(always)]
+fn either(name: bool, note: bool) -> bool
+    ensures { result ≡ (name || note) }
+{
+    name || note
+}
+
+// Puts a name and an annotation, of which each may be there, as they are.
+#[inline(always)]
+fn put_bare_front<O: Output, A: Allocator + Copy>(sink: &mut Sink<O, A>, name: &[u8], note: &[u8])
+    requires { length sink.old.pending + length (plain_front name.now note.now) ≤ 4096 }
+    ensures { sink.new ≡ record sink.old {
+      pending = sink.old.pending ++ plain_front name.now note.now;
+    } }
+{
+    if !name.is_empty() {
+        sink.put_within(name);
+        sink.put_byte(b':');
+    }
+    if !note.is_empty() {
+        sink.put_within(note);
+        sink.put_within(b"::");
+    }
+}
+
+// Puts a front of which a part stands between quotes. It is a call of its own, so that what puts a front
+// stays small enough to be put in line.
+#[inline(never)]
+fn put_quoted_front<O: Output, A: Allocator + Copy>(sink: &mut Sink<O, A>, front: Front<'_>)
     requires { length sink.old.pending + length (front_text front) ≤ 4096 }
     ensures { sink.new ≡ record sink.old { pending = sink.old.pending ++ front_text front.entry } }
 {
@@ -128,9 +168,8 @@ fn put_note<O: Output, A: Allocator + Copy>(sink: &mut Sink<O, A>, note: &[u8], 
     }
 }
 
-// Puts a text between the quotes of a symbol. It is a call of its own, so that what puts a front stays
-// small enough to be put in line.
-#[inline(never)]
+// Puts a text between the quotes of a symbol.
+#[inline(always)]
 fn put_in_quotes<O: Output, A: Allocator + Copy>(sink: &mut Sink<O, A>, text: &[u8])
     requires { length sink.old.pending + length (as_put true text.now) ≤ 4096 }
     ensures { sink.new ≡ record sink.old { pending = sink.old.pending ++ as_put true text.now } }

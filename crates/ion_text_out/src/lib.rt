@@ -2,6 +2,7 @@
 //! they come. The laws tie the text of items to that of whole values.
 #![tactic(auto)]
 
+mod bare;
 mod between;
 mod blob;
 mod front;

@@ -20,6 +20,7 @@ ghost use Rattle.ion_value.specs.Standing.{HeadInRange};
 ghost use Rattle.ion_text_out.specs.Steps.{CanStep, HasRoomFor, MayCome, PutsText, Stepped, held_by, opened_in, share_of, text_of};
 ghost use Rattle.ion_text_out.specs.Written.{text_grows, text-within};
 
+use crate::bare::is_bare;
 use crate::between::before;
 use crate::front::{front_of, has_room};
 use crate::item::put_item;
@@ -38,7 +39,6 @@ use ion_value::decimal::{Decimal, decimal_to_text};
 use ion_value::int::Int;
 use ion_value::ion_type::Kind;
 use ion_value::item::{Head, Item, Sym};
-use ion_value::name::is_plain;
 use ion_value::names::Names;
 use ion_value::plain_item::PlainItem;
 use ion_value::timestamp::{Timestamp, timestamp_to_text};
@@ -194,7 +194,7 @@ impl<A: Allocator + Copy> TextWriter<A> {
         let Sym::Text(text) = symbol else {
             return false;
         };
-        if is_plain(text) {
+        if is_bare(text) {
             self.take_text::<O, SPELLS>(sink, name, note, text)
         } else {
             self.take_quoted::<O, SPELLS>(sink, name, note, text)

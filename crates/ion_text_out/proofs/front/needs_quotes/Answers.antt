@@ -6,4 +6,4 @@ use Rattle.ion_text_out.proofs.front.needs_quotes.Goals as goal
 pub returns : goal.returns
 returns c =
     let text = c.args.text.now in
-    sym (quoted_text text (sym c.is_plain.ensures ∙ c.if-is_plain.false) ∙ shown_between 39 256 text (sym c.stands_in_symbol.ensures ∙ c.if-not-stands_in_symbol.false))
+    sym (quoted_text text (sym c.is_bare.ensures ∙ c.if-is_bare.false) ∙ shown_between 39 256 text (sym c.stands_in_symbol.ensures ∙ c.if-not-stands_in_symbol.false))

@@ -7,7 +7,8 @@ Kinds: log ints strings blobs deep config fields nest, each as text (KIND.ion) a
 `yard convert`; bench/beside.py says how `yard` is built), and json (log.json, the records of log.ion). All of them where
 none is named; 100 MB of text each where MB is not given. A value at top level is some 100 KB at most, so the default
 limits hold. A further kind has to be named: bucket, structs over 3,000 names that no byte tells apart which `ion` reads for
-the bucket of a text, its first and last sixteen; quoted, structs whose names and symbols stand between quotes in text.
+the bucket of a text, its first and last sixteen; quoted, structs whose names and symbols stand between quotes in text; noted,
+structs whose values have two annotations; ids, structs whose names and symbols are ids in text (`$10`), of which each has one.
 """
 import base64
 import json
@@ -19,7 +20,7 @@ import sys
 HERE = os.path.dirname(os.path.abspath(__file__))
 YARD = os.environ.get('YARD') or os.path.join(HERE, 'yard', 'target', 'release', 'yard')
 KINDS = ['log', 'json', 'ints', 'strings', 'blobs', 'deep', 'config', 'fields', 'nest']
-MORE = ['bucket', 'quoted']
+MORE = ['bucket', 'quoted', 'noted', 'ids']
 
 SERV = ['auth-api', 'billing', 'catalog', 'checkout', 'gateway', 'inventory', 'mailer', 'orders', 'search', 'users']
 LEVEL = ['DEBUG', 'INFO', 'INFO', 'INFO', 'INFO', 'WARN', 'ERROR']
@@ -200,6 +201,20 @@ def quoted(r):
     return '{%s}\n' % ','.join("'%s-%s':%s" % (r.choice(TAG), r.choice(SERV), r.choice(value)()) for _ in range(12))
 
 
+def noted(r):
+    """A struct whose values have two annotations each."""
+    value = [lambda: str(r.randrange(10 ** 5)), lambda: r.choice(REGION), lambda: '"%s"' % r.choice(WORD), lambda: 'true']
+    return '{%s}\n' % ','.join('%s:%s::%s::%s' % (r.choice(SETTING), r.choice(TAG), r.choice(PART), r.choice(value)())
+                               for _ in range(12))
+
+
+def ids(r):
+    """A struct whose names are ids, as are half of its values."""
+    value = [lambda: str(r.randrange(10 ** 5)), lambda: '"%s"' % r.choice(WORD)]
+    return '{%s}\n' % ','.join('$%d:%s' % (r.randrange(10, 28), '$%d' % r.randrange(10, 28) if r.random() < .5 else r.choice(value)())
+                               for _ in range(12))
+
+
 def nest(r):
     """A value of some 20 KB below 40 to 60 containers, each with a few members of its own."""
     inside = '[' + ','.join(str(r.randrange(100000)) for _ in range(3000)) + ']'
@@ -226,11 +241,14 @@ def maker_of(kind, r):
     if kind == 'fields':
         names = ['%s_%s_%d' % (r.choice(TAG), r.choice(SERV).replace('-', '_'), i) for i in range(5000)]
         return lambda: fields(r, names)
+    if kind == 'ids':
+        first = ['$ion_symbol_table::{symbols:[%s]}\n' % ','.join('"%s"' % name for name in SETTING + PART)]
+        return lambda: first.pop() if first else ids(r)
     return {'log': lambda: log_line(log_record(r)),
             'json': lambda: json.dumps(log_record(r), separators=(',', ':')) + '\n',
             'ints': lambda: ints(r), 'strings': lambda: strings(r), 'blobs': lambda: blobs(r),
             'deep': lambda: deep(r), 'config': lambda: config(r), 'nest': lambda: nest(r), 'bucket': lambda: bucket(r),
-            'quoted': lambda: quoted(r)}[kind]
+            'quoted': lambda: quoted(r), 'noted': lambda: noted(r)}[kind]
 
 
 def main(words):

@@ -209,7 +209,7 @@ field_fits frames f field inner there = field-there field ∙ (there ∙ (sym (i
 -- the item that is shown, with the texts of its ids, is the plain one
 pub plain_seen : (texts : ℕ → Option (List ℕ)) (top place : ℕ) (raw : Option SymbolAt) (raws : List SymbolAt) (head : Head SymbolAt) (item : PlainItem)
     → option_map (named_at texts) raw ≡ option_map placed_text item.field → map (named_at texts) raws ≡ PlainItems.listed (option_map placed_text item.annotation) → raw_head item.head ≡ map_head (named_at texts) head → item.place ≡ place → item.top ≡ top
-    → named_item texts (placed_item top raw raws place head) ≡ PlainItems.placed_item item
+    → named_item texts (placed_item top raw raws place head) ≡ PlainItems.single_item item
 plain_seen texts top place raw raws head item named notes head_is at first = rw (named, notes, head_is, at, first) refl
 
 -- one item goes on, as the writer's contract has it
@@ -240,21 +240,21 @@ hands_by w see reads coming then kinds kinds_then pen pen_then from to values it
 -- a scalar may stand where it is shown
 pub scalar_fits : (depth : ℕ) (frames : List frame.Frame) (f : Option frame.Frame) (texts : ℕ → Option (List ℕ)) (place : ℕ) (v : Scalar Symbol) (item : PlainItem) → IsInnermost (as_frames frames) f
     → is_some item.field ≡ in_struct (map (λ x. x.kind) (innermost f)) → raw_head item.head ≡ map_head (named_at texts) (value.whole (placed_scalar place v)) → InRange v
-    → Fits depth (kinds_of frames) (PlainItems.placed_item item)
+    → Fits depth (kinds_of frames) (PlainItems.single_item item)
 scalar_fits depth frames f texts place v item inner there head range = record {
   place = subst (λ (h : Head SymbolAt). HasPlace depth (kinds_of frames) h) (sym head) (named-range (named_at texts) place v range);
   field = field_fits frames f item.field inner there ∙ sym (ap (has_field (kinds_of frames)) head);
-  annotations = subst (λ (h : Head SymbolAt). HasAnnotations h (PlainItems.placed_item item).annotations) (sym head) tt;
+  annotations = subst (λ (h : Head SymbolAt). HasAnnotations h (PlainItems.single_item item).annotations) (sym head) tt;
 }
 
 -- and so may a container's beginning
 pub begin_fits : (depth : ℕ) (frames : List frame.Frame) (f : Option frame.Frame) (kind : Kind) (item : PlainItem) → IsInnermost (as_frames frames) f
     → is_some item.field ≡ in_struct (map (λ x. x.kind) (innermost f)) → raw_head item.head ≡ value.begin kind → length frames < depth
-    → Fits depth (kinds_of frames) (PlainItems.placed_item item)
+    → Fits depth (kinds_of frames) (PlainItems.single_item item)
 begin_fits depth frames f kind item inner there head deep = record {
   place = subst (λ (h : Head SymbolAt). HasPlace depth (kinds_of frames) h) (sym head) (omega (arith, kinds_of-length frames));
   field = field_fits frames f item.field inner there ∙ sym (ap (has_field (kinds_of frames)) head);
-  annotations = subst (λ (h : Head SymbolAt). HasAnnotations h (PlainItems.placed_item item).annotations) (sym head) tt;
+  annotations = subst (λ (h : Head SymbolAt). HasAnnotations h (PlainItems.single_item item).annotations) (sym head) tt;
 }
 
 -- an end may stand where a container is open

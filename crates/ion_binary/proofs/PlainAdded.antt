@@ -1,9 +1,12 @@
 -- A plain item that is added to an open value is that of the streaming definition.
 use Rattle.std.proofs.Common.{◌≡◌, ℕ, ◌+◌, ◌-◌, ◌/◌, ◌<◌, ◌≤◌, ◌⊎◌, inl, subst, nat_lt, Bool, true, false, if◌then◌else◌, List, [], ◌∷◌, ◌++◌, length, map, take, drop, Option, Some, None, unwrap_or, option_map, Ok, refl, ap, sym, ◌∙◌, arith, append-nil, append_assoc, le-ltb}
-use Rattle.std.specs.Prelude.{IfSome}
+use Rattle.std.specs.Prelude.{IfSome, is_some}
 use Rattle.ion_meter.specs.Counts.{Counts}
 use Rattle.ion_meter.specs.declared.limits.Limits.{Limits}
 use Rattle.ion_meter.specs.declared.fault.Reason.{Reason}
+use Rattle.ion_value.specs.declared.plain_item.PlainItem.{PlainItem}
+use Rattle.ion_value.specs.declared.plain_item.SecondAt.{SecondAt}
+use Rattle.ion_value.specs.PlainItems.{listed, placed_item, placed_text, single_item, with_second}
 use Rattle.ion_value.specs.Value as value
 use Rattle.ion_value.specs.Value.{Head, Item, Known, PlacedItem, SymbolAt, UserSymbol, map_head, user_item, user_symbol_at}
 use Rattle.ion_symbols.specs.Output.{known_id, or_given, position, system_texts, texts_cost}
@@ -27,6 +30,15 @@ use Rattle.ion_binary.proofs.DeclarationOctets.{declaration-none}
 use Rattle.ion_binary.proofs.OpenSteps.{closed-put, put-length}
 use Rattle.ion_binary.proofs.WriterFollows.{adds-are, codes-after, follows-out, forgotten-is, held-behind, held-now, may-add, put-behind, refusal-is}
 use Rattle.ion_binary.proofs.WriterSteps.{kept, not-refused, same-held}
+
+-- an item that has no second annotation is what it is without it
+without-second : (notes : List SymbolAt) (second : Option SecondAt) → is_some second ≡ false → with_second notes second ≡ notes
+without-second notes None none = refl
+without-second notes (Some s) none = absurd (cc none)
+
+pub single-placed : (item : PlainItem) → is_some item.second ≡ false → placed_item item ≡ single_item item
+single-placed item none =
+    ap (λ (notes : List SymbolAt). record (single_item item) { annotations = notes }) (without-second (listed (option_map placed_text item.annotation)) item.second none)
 
 -- nothing is put while a container is open
 pub put-inside : (h : Held) (hs : List HeaderPlace) (octets : List ℕ) → 0 < length hs → value_put h hs octets ≡ []

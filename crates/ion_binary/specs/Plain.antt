@@ -1,14 +1,27 @@
 -- What contracts see of plain items that are added at once to a value that is open and stays so.
-use Rattle.std.specs.Prelude.{◌≡◌, ℕ, ◌/◌, ◌<◌, ◌≤◌, ◌⊎◌, Bool, true, false, List, [], ◌∷◌, ◌++◌, length, None, ⊤}
+use Rattle.std.specs.Prelude.{◌≡◌, ℕ, ◌/◌, ◌<◌, ◌≤◌, ◌⊎◌, Bool, true, false, List, [], ◌∷◌, ◌++◌, length, option_map, None, ⊤}
 use Rattle.ion_meter.specs.Counts.{Counts}
+use Rattle.ion_value.specs.Items.{raw_head}
+use Rattle.ion_value.specs.PlainItems.{listed, placed_text}
 use Rattle.ion_value.specs.Value as value
 use Rattle.ion_value.specs.Value.{SymbolAt, user_symbol_at, Head, PlacedItem}
 use Rattle.ion_binary.specs.declared.writer.BinWriter.{BinWriter}
+use Rattle.ion_binary.specs.declared.writer.plain.SingleItem.{SingleItem}
 use Rattle.ion_symbols.specs.Output.{texts_cost}
 use Rattle.ion_binary.specs.Canonical.{with_symbol}
 use Rattle.ion_binary.specs.Held.{value_held, value_put}
 use Rattle.ion_binary.specs.Opening.{IsOpen}
 use Rattle.ion_binary.specs.Writer.{Taken, added, held_in, item_refusal}
+
+-- the item
+abbrev pub as_item : SingleItem → PlacedItem
+as_item item = record {
+  field = option_map placed_text item.field;
+  annotations = listed (option_map placed_text item.annotation);
+  head = raw_head item.head;
+  place = item.place;
+  top = item.top;
+}
 
 -- a head is a scalar
 abbrev pub IsWhole : {S : Type 0} → Head S → Type 0

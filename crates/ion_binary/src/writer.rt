@@ -33,6 +33,7 @@ use ion_value::item::{Head, Item};
 use ion_value::names::Names;
 use ion_value::plain_item::PlainItem;
 use ion_value::writer::ValueWriter;
+use plain::single_of;
 use std::alloc::Allocator;
 
 /// The version marker of Ion 1.0.
@@ -401,16 +402,21 @@ impl<O: Output, A: Allocator + Copy> ValueWriter<O, A> for BinWriter<A> {
         sink: &mut Sink<O, A>,
         item: PlainItem<'_, '_>,
     ) -> bool {
-        if let Head::End = item.head {
+        let pair = item.second.is_some();
+        if pair {
+            return false;
+        }
+        let single = single_of(item);
+        if let Head::End = single.head {
             if self.open_value.headers.len() == 1 {
-                return self.end_whole(meter, sink, &item);
+                return self.end_whole(meter, sink, &single);
             }
         }
         let waits = self.ended > 0;
         if waits {
             return false;
         }
-        self.add_plain(meter, item)
+        self.add_plain(meter, single)
     }
 
     ghost grows = { binary_grows };

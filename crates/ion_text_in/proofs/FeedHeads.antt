@@ -9,14 +9,14 @@ use Rattle.ion_value.specs.declared.ion_type.Kind.{Kind}
 use Rattle.ion_value.specs.Digits.{first_is}
 use Rattle.ion_value.specs.Name.{begins_with, is_plain, is_simple, is_version}
 use Rattle.ion_value.specs.Parts.{part, ◌>>=◌}
-use Rattle.ion_value.specs.PlainItems.{IsKnownScalar}
+use Rattle.ion_value.specs.PlainItems.{IsKnown, IsKnownScalar}
 use Rattle.ion_value.specs.Reading.{More}
 use Rattle.ion_value.specs.Standing.{InRange}
 use Rattle.ion_value.specs.Value as value
-use Rattle.ion_value.specs.Value.{Scalar, SymbolAt}
+use Rattle.ion_value.specs.Value.{Scalar, Symbol, SymbolAt}
 use Rattle.ion_text_in.specs.declared.feed.Next.{Next}
 use Rattle.ion_text_in.specs.declared.scanned.Scanned.TheVariants.{Whole}
-use Rattle.ion_text_in.specs.Feeding.{item_in, IsBare, IsBehind, IsHead, IsNext, IsSimpleWord}
+use Rattle.ion_text_in.specs.Feeding.{item_in, IsBare, IsBehind, IsHead, IsHeadAs, IsNext, IsSimpleWord}
 use Rattle.ion_text_in.specs.Meaning.{at}
 use Rattle.ion_text_in.specs.Positions as positions
 use Rattle.ion_text_in.specs.Positions.{a_value, in_sexp, innermost}
@@ -133,15 +133,15 @@ quoted-marker None [] word = refl
 quoted-marker None (a ∷ annotations) word = refl
 quoted-marker (Some k) annotations word = refl
 
-name-taken : (limits : Limits) (kinds : List Kind) (top place : ℕ) (field : Option SymbolAt) (annotations : List SymbolAt) (quoted : Bool) (word : List ℕ) (c : Cursor) → behind_colons (in_sexp (innermost kinds)) c ≡ None
-    → tells_version (innermost kinds) annotations quoted (value.Text word) ≡ false
-    → comes limits (taken limits kinds top (a_value field annotations) place (tokens.name quoted (value.Text word)) c)
-    ≡ More (item_in kinds top field annotations place (value.whole (value.symbol (positions.at (value.Text word) place))))
+name-taken : (limits : Limits) (kinds : List Kind) (top place : ℕ) (field : Option SymbolAt) (annotations : List SymbolAt) (quoted : Bool) (symbol : Symbol) (c : Cursor) → behind_colons (in_sexp (innermost kinds)) c ≡ None
+    → tells_version (innermost kinds) annotations quoted symbol ≡ false
+    → comes limits (taken limits kinds top (a_value field annotations) place (tokens.name quoted symbol) c)
+    ≡ More (item_in kinds top field annotations place (value.whole (value.symbol (positions.at symbol place))))
     (later limits (record { kinds = kinds; top = top_of kinds top annotations place; wants = behind_member (innermost kinds); cursor = c }))
 unfolding taken
-name-taken limits kinds top place field annotations quoted word c none told =
-    ap (λ (o : Option Cursor). comes limits (part place (symbol_step limits kinds top field annotations quoted (positions.at (value.Text word) place) c o))) none
-    ∙ ap (λ (b : Bool). comes limits (part place (value_or_version kinds top field annotations (positions.at (value.Text word) place) c b))) told
+name-taken limits kinds top place field annotations quoted symbol c none told =
+    ap (λ (o : Option Cursor). comes limits (part place (symbol_step limits kinds top field annotations quoted (positions.at symbol place) c o))) none
+    ∙ ap (λ (b : Bool). comes limits (part place (value_or_version kinds top field annotations (positions.at symbol place) c b))) told
 
 -- a token that is told is no two colons
 told-none : (sexp : Bool) (q : ℕ) (rest more : List ℕ) (next : Next) → IsNext rest next → 0 < next.told → behind_colons sexp (at q (rest ++ more)) ≡ None
@@ -152,29 +152,37 @@ told-none sexp q rest more next is told =
     ap (colons_behind sexp) (passes.blank q next_place more (omega (arith, fewer)))
     ∙ (ap (λ (f : First). colons_at f (at next_place (next.rest.now ++ more))) (is.tells told sexp more) ∙ no-colons next.told (at next_place (next.rest.now ++ more)))
 
-pub head-symbol : (limits : Limits) (place n : ℕ) (bytes rest : List ℕ) (next : Next) → rest ≡ drop n bytes → IsSimpleWord limits.scalar bytes n → IsNext rest next → 0 < next.told
+-- a symbol without quotes, which is read as `symbol` and seen as `seen`
+pub head-word : (limits : Limits) (place n : ℕ) (symbol seen : Symbol) (bytes rest : List ℕ) (next : Next) → rest ≡ drop n bytes → 0 < n → n ≤ length bytes
+    → ((place : ℕ) (more : List ℕ) → token_of (Some limits.scalar) tokens.a_word (at place (bytes ++ more)) ≡ Ok (tokens.name false symbol, at (place + n) (drop n bytes ++ more)))
+    → IsKnown seen → ((k : Option Kind) (annotations : List SymbolAt) → tells_version k annotations false symbol ≡ false) → IsNext rest next → 0 < next.told
     → IsBare bytes → ((in_sexp : Bool) (more : List ℕ) → first_at in_sexp (bytes ++ more) ≡ tokens.a_word)
-    → IsHead limits place bytes (value.whole (value.symbol (positions.at (value.Text (take n bytes)) place))) rest
-head-symbol limits place n bytes rest next behind word is told bare begins =
+    → IsHeadAs (value.whole (value.symbol (positions.at symbol place))) limits place bytes (value.whole (value.symbol (positions.at seen place))) rest
+head-word limits place n symbol seen bytes rest next behind counts within shown known version is told bare begins =
     let long = length-drop n bytes in
     let rest_long : length rest ≡ length (drop n bytes) = ap (λ (l : List ℕ). length l) behind in
-    let within = word.within in
-    let counts = word.some in
-    let version = no-version (take n bytes) (simple-free (take n bytes) word.simple) in
     record {
       part = subst (λ (l : List ℕ). IsBehind bytes l) (sym behind) (some-behind bytes n within);
       fewer = omega (arith, long, rest_long, counts, within);
-      known = tt;
+      known = known;
       range = tt;
       member = λ kinds. refl;
       value = refl;
       gives = λ kinds top q field annotations more fits e.
           let q_is : place + n ≡ q = omega (arith, e, long, rest_long, within) in
-          later-token limits kinds top place q (a_value field annotations) bytes rest more tokens.a_word (tokens.name false (value.Text (take n bytes))) bare (omega (arith, counts, within)) begins (may-value field annotations tokens.a_word)
-          (word.shown place more ∙ (ap (λ (k : ℕ). Ok (tokens.name false (value.Text (take n bytes)), at k (drop n bytes ++ more))) q_is
-          ∙ ap (λ (l : List ℕ). Ok (tokens.name false (value.Text (take n bytes)), at q (l ++ more))) (sym behind)))
-          ∙ name-taken limits kinds top place field annotations false (take n bytes) (at q (rest ++ more)) (told-none (in_sexp (innermost kinds)) q rest more next is told) (no-marker (innermost kinds) annotations (take n bytes) version);
+          later-token limits kinds top place q (a_value field annotations) bytes rest more tokens.a_word (tokens.name false symbol) bare (omega (arith, counts, within)) begins (may-value field annotations tokens.a_word)
+          (shown place more ∙ (ap (λ (k : ℕ). Ok (tokens.name false symbol, at k (drop n bytes ++ more))) q_is
+          ∙ ap (λ (l : List ℕ). Ok (tokens.name false symbol, at q (l ++ more))) (sym behind)))
+          ∙ name-taken limits kinds top place field annotations false symbol (at q (rest ++ more)) (told-none (in_sexp (innermost kinds)) q rest more next is told) (version (innermost kinds) annotations);
     }
+
+pub head-symbol : (limits : Limits) (place n : ℕ) (bytes rest : List ℕ) (next : Next) → rest ≡ drop n bytes → IsSimpleWord limits.scalar bytes n → IsNext rest next → 0 < next.told
+    → IsBare bytes → ((in_sexp : Bool) (more : List ℕ) → first_at in_sexp (bytes ++ more) ≡ tokens.a_word)
+    → IsHead limits place bytes (value.whole (value.symbol (positions.at (value.Text (take n bytes)) place))) rest
+head-symbol limits place n bytes rest next behind word is told bare begins =
+    let text : Symbol = value.Text (take n bytes) in
+    let version = no-version (take n bytes) (simple-free (take n bytes) word.simple) in
+    head-word limits place n text text bytes rest next behind word.some word.within word.shown tt (λ k annotations. no-marker k annotations (take n bytes) version) is told bare begins
 
 -- ---- symbols in quotes
 
@@ -213,5 +221,5 @@ head-quoted limits place plain count bytes text rest next inside behind shows is
           later-token limits kinds top place q (a_value field annotations) bytes rest more tokens.a_quoted (tokens.name true (value.Text (take plain text))) bare some begins (may-value field annotations tokens.a_quoted)
           (quoted-token (Some limits.scalar) (at place (bytes ++ more)) (at q (rest ++ more)) (take plain text)
           (text-inside symbol_quote (Some limits.scalar) place q plain count bytes text rest more inside behind shows some e))
-          ∙ name-taken limits kinds top place field annotations true (take plain text) (at q (rest ++ more)) (told-none (in_sexp (innermost kinds)) q rest more next is told) (quoted-marker (innermost kinds) annotations (take plain text));
+          ∙ name-taken limits kinds top place field annotations true (value.Text (take plain text)) (at q (rest ++ more)) (told-none (in_sexp (innermost kinds)) q rest more next is told) (quoted-marker (innermost kinds) annotations (take plain text));
     }

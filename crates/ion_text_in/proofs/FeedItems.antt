@@ -1,5 +1,5 @@
 -- A lane moves over an item that is taken: a container's end, its beginning, a scalar.
-use Rattle.std.proofs.Common.{◌≡◌, ℕ, ◌+◌, ◌*◌, ◌-◌, ◌<◌, ◌≤◌, true, false, List, [], ◌∷◌, ◌++◌, length, reverse, drop, is_some, Option, Some, None, MatchOption, refl, sym, ap, subst, ◌∙◌, arith}
+use Rattle.std.proofs.Common.{◌≡◌, ℕ, ◌+◌, ◌*◌, ◌-◌, ◌<◌, ◌≤◌, true, false, List, [], ◌∷◌, ◌++◌, length, map, reverse, drop, is_some, Option, Some, None, IfSome, MatchOption, refl, sym, ap, subst, ◌∙◌, arith}
 use Rattle.std.specs.Prelude.{option_map}
 use Rattle.std.proofs.lemmas.List.{length-drop, length-reverse, reverse-append, reverse-reverse}
 use Rattle.ion_meter.specs.Counts.{Counts, Grows, Shrinks}
@@ -13,20 +13,21 @@ use Rattle.ion_value.specs.Standing.{open_after, has_field, in_struct, is_marker
 use Rattle.ion_value.specs.declared.ion_type.Kind.TheVariants as a_kind
 use Rattle.ion_value.specs.declared.item.Head as code
 use Rattle.ion_value.specs.declared.item.Head.TheVariants as heads
-use Rattle.ion_value.specs.Items.{raw_head}
+use Rattle.ion_value.specs.Items.{named_at, named_item, raw_head}
 use Rattle.ion_value.specs.Feeding.{nothing}
 use Rattle.ion_value.specs.declared.plain_item.TextAt.{TextAt}
+use Rattle.ion_value.specs.declared.plain_item.SecondAt.{SecondAt}
 use Rattle.ion_value.specs.Value as value
-use Rattle.ion_value.specs.Value.{SymbolAt, Head, PlacedItem}
-use Rattle.ion_value.specs.PlainItems.{placed_text}
-use Rattle.ion_value.proofs.Handing.{Stands, Took}
+use Rattle.ion_value.specs.Value.{SymbolAt, Head, PlacedItem, map_head}
+use Rattle.ion_value.specs.PlainItems.{placed_text, with_second, IsKnownHead, StandsBehind}
+use Rattle.ion_value.proofs.Handing.{Stands, Took, item-kept}
 use Rattle.ion_text_in.specs.declared.expected.Expected.{Expected}
 use Rattle.ion_text_in.specs.declared.expected.Expected.TheVariants as codes
 use Rattle.ion_text_in.specs.declared.feed.Next.{Next}
 use Rattle.ion_text_in.specs.declared.feed.Spot.{Spot}
 use Rattle.ion_text_in.specs.declared.feed.Start.{Start}
 use Rattle.ion_text_in.specs.Expecting.{expected_in, is_separated, kind_in, wanted, MayExpect}
-use Rattle.ion_text_in.specs.Feeding.{behind_head, expected_of, lane, notes, state, CanFeed, IsBehind, IsHead, IsNext, IsStart, Moved, Onward}
+use Rattle.ion_text_in.specs.Feeding.{behind_head, expected_of, lane, notes, state, CanFeed, IsBehind, IsHead, IsFurther, IsHeadAs, IsNext, IsStartAs, Moved, MovedFor, Onward}
 use Rattle.ion_text_in.specs.Firsts.{numbered}
 use Rattle.ion_text_in.specs.Positions.{innermost}
 use Rattle.ion_text_in.specs.Reading.{at_member, behind_member, is_same, item_of, top_of}
@@ -103,6 +104,31 @@ may-end codes.Value = at_value
 may-end codes.Field = at_field
 may-end codes.Separator = at_separator
 
+-- ---- what is seen of an item
+
+-- a name that is a text stays
+pub text-seen : (texts : ℕ → Option (List ℕ)) (field : Option TextAt) → option_map (named_at texts) (option_map placed_text field) ≡ option_map placed_text field
+text-seen texts None = refl
+text-seen texts (Some t) = refl
+
+-- so does a head that is no id
+pub head-seen : (texts : ℕ → Option (List ℕ)) (head : Head SymbolAt) → IsKnownHead head → map_head (named_at texts) head ≡ head
+head-seen texts head known = ap (λ (i : PlacedItem). i.head) (item-kept texts (item_of 0 None [] 0 head) (record { field = tt; annotations = tt; head = known }))
+
+-- and annotations that are texts
+notes-seen : (texts : ℕ → Option (List ℕ)) (note : Option TextAt) (second : Option SecondAt) → map (named_at texts) (with_second (notes note) second) ≡ with_second (notes note) second
+notes-seen texts None None = refl
+notes-seen texts (Some t) None = refl
+notes-seen texts None (Some s) = refl
+notes-seen texts (Some t) (Some s) = refl
+
+item-seen : (texts : ℕ → Option (List ℕ)) (top place : ℕ) (raw_name field : Option SymbolAt) (note : Option TextAt) (pair : Option SecondAt) (raw_value head : Head SymbolAt) → option_map (named_at texts) raw_name ≡ field
+    → map_head (named_at texts) raw_value ≡ head → named_item texts (item_of top raw_name (with_second (notes note) pair) place raw_value) ≡ item_of top field (with_second (notes note) pair) place head
+item-seen texts top place raw_name field note pair raw_value head name_is value_is =
+    ap (λ (f : Option SymbolAt). item_of top f (map (named_at texts) (with_second (notes note) pair)) place (map_head (named_at texts) raw_value)) name_is
+    ∙ (ap (λ (l : List SymbolAt). item_of top field l place (map_head (named_at texts) raw_value)) (notes-seen texts note pair)
+    ∙ ap (λ (h : Head SymbolAt). item_of top field (with_second (notes note) pair) place h) value_is)
+
 module _ {W O A : Type 0} (w : WriterOf W O A) (limits : Limits) (end : ℕ) where
   -- the lane stops where it stands
   pub moved-stopped : (kinds : List Kind) (spot now : Spot) (writer : W) (sink : Outgoing O) (m : Counts) → now ≡ spot → CanFeed w limits end (lane kinds spot writer sink m)
@@ -165,7 +191,8 @@ module _ {W O A : Type 0} (w : WriterOf W O A) (limits : Limits) (end : ℕ) whe
       let c_rises = charges.rises in
       let s_held = shrinks.held in
       let s_peak = shrinks.peak in
-      moved-item w limits end (lane kinds spot writer sink m) (lane left new after behind y) (end_item spot.top place) can (end-stands kinds j (reverse left) spot.top place opened)
+      let item : PlacedItem = end_item spot.top place in
+      moved-item w limits end (lane kinds spot writer sink m) (lane left new after behind y) item item (λ texts _. refl) can (end-stands kinds j (reverse left) spot.top place opened)
       (took-later w (end_item spot.top place) writer after sink behind m x y took shrinks.refused)
       (ap (λ (l : List Kind). drop 1 l) (sym opened)) counts
       (behind-then spot.rest.now bytes new.rest.now passes.part (subst (λ (l : List ℕ). IsBehind bytes l) (sym rest) (some-behind bytes 1 (omega (arith, some))))) (omega (arith, longer, some, fewer)) (omega (arith, lengths, few)) inner (expects-behind (reverse left) new inner separator) c_share
@@ -183,49 +210,76 @@ module _ {W O A : Type 0} (w : WriterOf W O A) (limits : Limits) (end : ℕ) whe
   some-map None = refl
   some-map (Some t) = refl
 
+  -- the first annotation alone says where a value at top level begins
+  first-top : (kinds : List Kind) (top place : ℕ) (first : Option TextAt) (second : Option SecondAt) → IfSome second (StandsBehind first) → top_of kinds top (with_second (notes first) second) place ≡ top_of kinds top (notes first) place
+  first-top kinds top place first None stands = refl
+  first-top kinds top place None (Some s) stands = absurd stands
+  first-top [] top place (Some t) (Some s) stands = refl
+  first-top (k ∷ kinds) top place (Some t) (Some s) stands = refl
+
   may-note : (head : Head SymbolAt) (annotations : List SymbolAt) → is_marker head ≡ false → ((l : List Kind) → has_field l head ≡ in_struct l) → HasAnnotations {S = SymbolAt} head annotations
   may-note (value.whole body) annotations value member = tt
   may-note (value.begin k) annotations value member = tt
   may-note value.end annotations value member = absurd (cc (member (a_kind.Struct ∷ [])))
   may-note value.marker annotations value member = absurd (cc value)
 
-  pub head-stands : (kinds : List Kind) (spot : Spot) (start : Start) (head : Head SymbolAt) (top place at_place : ℕ) (rest : List ℕ) → MayExpect (expected_of spot) (reverse kinds) None []
-      → IsStart limits spot place start → IsHead limits at_place start.next.rest.now head rest → HasPlace limits.depth (reverse kinds) head
-      → Stands limits.depth (reverse kinds) (item_of top (option_map placed_text start.field) (notes start.note) at_place head)
-  head-stands kinds spot start head top place at_place rest may start_is head_is fits = record {
+  pub head-stands : {raw_name : Option SymbolAt} {raw_value : Head SymbolAt} {pair : Option SecondAt} (kinds : List Kind) (spot : Spot) (start : Start) (head : Head SymbolAt) (top place at_place : ℕ) (rest : List ℕ) → MayExpect (expected_of spot) (reverse kinds) None []
+      → IsStartAs raw_name pair limits spot place start → IsHeadAs raw_value limits at_place start.next.rest.now head rest → HasPlace limits.depth (reverse kinds) head
+      → Stands limits.depth (reverse kinds) (item_of top (option_map placed_text start.field) (with_second (notes start.note) pair) at_place head)
+  head-stands {pair} kinds spot start head top place at_place rest may start_is head_is fits = record {
     fits = record {
       place = fits;
       field = some-map start.field ∙ (start_is.named (reverse kinds) may ∙ sym (head_is.member (reverse kinds)));
-      annotations = may-note head (notes start.note) head_is.value head_is.member;
+      annotations = may-note head (with_second (notes start.note) pair) head_is.value head_is.member;
     };
     value = head_is.value;
     plain = record { field = start_is.known; annotations = start_is.free; head = head_is.known };
   }
 
-  pub moved-head : (kinds left : List Kind) (spot new : Spot) (start : Start) (head : Head SymbolAt) (writer after : W) (sink behind : Outgoing O) (m y : Counts)
-      → CanFeed w limits end (lane kinds spot writer sink m) → IsStart limits spot (end - length spot.rest.now) start
-      → IsHead limits (end - length start.next.rest.now) start.next.rest.now head new.rest.now → HasPlace limits.depth (reverse kinds) head
+  -- its name and its head are seen by the texts that ids have
+  pub moved-seen : {sees : (ℕ → Option (List ℕ)) → Type 0} {raw_name : Option SymbolAt} {raw_value : Head SymbolAt} {pair : Option SecondAt} (kinds left : List Kind) (spot new : Spot) (start : Start) (head : Head SymbolAt)
+      (writer after : W) (sink behind : Outgoing O) (m y : Counts)
+      → ((texts : ℕ → Option (List ℕ)) → sees texts → option_map (named_at texts) raw_name ≡ option_map placed_text start.field)
+      → ((texts : ℕ → Option (List ℕ)) → sees texts → map_head (named_at texts) raw_value ≡ head)
+      → CanFeed w limits end (lane kinds spot writer sink m) → IsStartAs raw_name pair limits spot (end - length spot.rest.now) start
+      → IsHeadAs raw_value limits (end - length start.next.rest.now) start.next.rest.now head new.rest.now → HasPlace limits.depth (reverse kinds) head
       → reverse left ≡ open_after (reverse kinds) head → new.top ≡ top_of (reverse kinds) spot.top (notes start.note) (end - length start.next.rest.now)
       → kind_in (reverse left) ≡ new.kind → wanted (expected_of new) None [] ≡ behind_head (reverse kinds) head → MayExpect (expected_of new) (reverse left) None []
       → new.values ≡ spot.values + one_if_closed (reverse left) → length left ≤ limits.depth
-      → Took w (item_of new.top (option_map placed_text start.field) (notes start.note) (end - length start.next.rest.now) head) writer after sink behind m y
+      → Took w (item_of new.top (option_map placed_text start.field) (with_second (notes start.note) pair) (end - length start.next.rest.now) head) writer after sink behind m y
       → w.own after ≤ w.most writer
       → Charges m y (16 * length kinds + w.own writer) (16 * length left + w.own after) (16 * limits.depth + w.most writer)
-      → Moved w limits end (lane kinds spot writer sink m) (lane left new after behind y)
-  moved-head kinds left spot new start head writer after sink behind m y can start_is head_is fits opened top inner wants may counts few took own charges =
+      → MovedFor w limits end sees (lane kinds spot writer sink m) (lane left new after behind y)
+  moved-seen {raw_name} {raw_value} {pair} kinds left spot new start head writer after sink behind m y name_is value_is can start_is head_is fits opened top inner wants may counts few took own charges =
       let bytes = start.next.rest.now in
       let place = end - length bytes in
       let field = option_map placed_text start.field in
+      let at_top = top ∙ sym (first-top (reverse kinds) spot.top place start.note pair start_is.second) in
       let to_start = start_is.onward (reverse kinds) can.expects in
       let fewer = to_start.fewer in
       let less = head_is.fewer in
       let within = can.within in
-      moved-item w limits end (lane kinds spot writer sink m) (lane left new after behind y) (item_of new.top field (notes start.note) place head) can
+      moved-item w limits end (lane kinds spot writer sink m) (lane left new after behind y) (item_of new.top raw_name (with_second (notes start.note) pair) place raw_value) (item_of new.top field (with_second (notes start.note) pair) place head)
+      (λ texts sees. item-seen texts new.top place raw_name field start.note pair raw_value head (name_is texts sees) (value_is texts sees)) can
       (head-stands kinds spot start head new.top (end - length spot.rest.now) place new.rest.now can.expects start_is head_is fits) took opened counts (behind-then spot.rest.now bytes new.rest.now to_start.part head_is.part) (omega (arith, fewer, less)) few inner may own charges
       (λ more.
       to_start.same place more (omega (arith, fewer, within))
-      ∙ (head_is.gives (reverse kinds) spot.top (end - length new.rest.now) field (notes start.note) more fits (omega (arith, fewer, less, within))
-      ∙ rw (opened, top, wants) refl))
+      ∙ (head_is.gives (reverse kinds) spot.top (end - length new.rest.now) raw_name (with_second (notes start.note) pair) more fits (omega (arith, fewer, less, within))
+      ∙ rw (opened, at_top, wants) refl))
+
+  -- both are texts
+  pub moved-head : {pair : Option SecondAt} (kinds left : List Kind) (spot new : Spot) (start : Start) (head : Head SymbolAt) (writer after : W) (sink behind : Outgoing O) (m y : Counts)
+      → CanFeed w limits end (lane kinds spot writer sink m) → IsFurther pair limits spot (end - length spot.rest.now) start
+      → IsHead limits (end - length start.next.rest.now) start.next.rest.now head new.rest.now → HasPlace limits.depth (reverse kinds) head
+      → reverse left ≡ open_after (reverse kinds) head → new.top ≡ top_of (reverse kinds) spot.top (notes start.note) (end - length start.next.rest.now)
+      → kind_in (reverse left) ≡ new.kind → wanted (expected_of new) None [] ≡ behind_head (reverse kinds) head → MayExpect (expected_of new) (reverse left) None []
+      → new.values ≡ spot.values + one_if_closed (reverse left) → length left ≤ limits.depth
+      → Took w (item_of new.top (option_map placed_text start.field) (with_second (notes start.note) pair) (end - length start.next.rest.now) head) writer after sink behind m y
+      → w.own after ≤ w.most writer
+      → Charges m y (16 * length kinds + w.own writer) (16 * length left + w.own after) (16 * limits.depth + w.most writer)
+      → Moved w limits end (lane kinds spot writer sink m) (lane left new after behind y)
+  moved-head kinds left spot new start head writer after sink behind m y can start_is head_is =
+      moved-seen kinds left spot new start head writer after sink behind m y (λ texts _. text-seen texts start.field) (λ texts _. head-seen texts head head_is.known) can start_is head_is
 
   -- ---- memory
 
@@ -262,7 +316,7 @@ module _ {W O A : Type 0} (w : WriterOf W O A) (limits : Limits) (end : ℕ) whe
       → CanFeed w limits end (lane kinds spot writer sink m) → Moved w limits end (lane kinds spot writer sink m) (lane left now after behind z)
   moved-undone kinds left spot now writer after sink behind m x y z same writes sinks back few grows stays shrinks can =
       let l = lane kinds spot writer sink m in
-      let none = moved-none w limits end l can in
+      let none : Moved w limits end l l = moved-none w limits end l can in
       let held = can.held in
       let share = can.share.share in
       let g_held = grows.held in
@@ -273,7 +327,7 @@ module _ {W O A : Type 0} (w : WriterOf W O A) (limits : Limits) (end : ℕ) whe
       let y_peak = ap (λ (k : Counts). k.peak) stays in
       let y_refused = ap (λ (k : Counts). k.refused) stays in
       rw (same, writes, sinks, back) (record {
-        feeds = λ texts more. nothing;
+        feeds = λ texts at more. nothing;
         falls = omega arith;
         part = none-behind spot.rest.now;
         fewer = omega arith;

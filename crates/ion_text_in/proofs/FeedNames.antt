@@ -1,5 +1,6 @@
 -- Words that are simple texts, and the names of fields in a lane.
 use Rattle.std.proofs.Common.{◌≡◌, ℕ, suc, ◌+◌, ◌-◌, ◌<◌, ◌≤◌, Bool, true, false, ◌&&◌, ◌==◌, List, [], ◌∷◌, ◌++◌, length, take, drop, get_or, codes, Option, Some, None, IfSome, Ok, refl, sym, ap, subst, ◌∙◌, arith}
+use Rattle.std.specs.Prelude.{option_map}
 use Rattle.std.specs.Str.{bytes_eq}
 use Rattle.std.proofs.lemmas.List.{length-drop}
 use Rattle.ion_meter.specs.Sources.{Cursor}
@@ -13,7 +14,7 @@ use Rattle.ion_value.specs.Parts.{Placed, ◌>>=◌}
 use Rattle.ion_value.specs.PlainItems.{placed_text, IsRightlySimple}
 use Rattle.ion_value.specs.Value as value
 use Rattle.ion_value.specs.Value.{SymbolAt, Symbol}
-use Rattle.ion_text_in.specs.Feeding.{expected_of, state, Begins, IfName, IsBare, IsBegun, IsBehind, IsBehindName, IsNamed, IsNext, IsSimpleWord, IsStart, Onward, PassesBlanks, ToColon}
+use Rattle.ion_text_in.specs.Feeding.{expected_of, state, Begins, IfName, IsBare, IsBegun, IsBehind, IsBehindName, IsNamed, IsNamedAs, IsNext, IsSimpleWord, IsStart, IsStartAs, Onward, PassesBlanks, ToColon}
 use Rattle.ion_text_in.specs.declared.expected.Expected.{Expected}
 use Rattle.ion_text_in.specs.declared.expected.Expected.TheVariants as codes_of
 use Rattle.ion_text_in.specs.declared.feed.Next.{Next}
@@ -160,11 +161,11 @@ begun-name limit n bytes word.Name begun token = begun-simple limit n bytes begu
 -- ---- names of fields
 
 -- a name stands at the front of some bytes, and these behind it
-pub record IsName (limits : Limits) (place : ℕ) (bytes : List ℕ) (name : TextAt) (rest : List ℕ) : Type 0 where
+pub record IsName (limits : Limits) (place : ℕ) (bytes : List ℕ) (name : SymbolAt) (rest : List ℕ) : Type 0 where
   pub behind : IsBehind bytes rest
   pub fewer : length rest ≤ length bytes
   pub same : (kinds : List Kind) (top q : ℕ) (more : List ℕ) → place + length bytes ≡ q + length rest
-      → later limits (state kinds top a_field place (bytes ++ more)) ≡ comes limits (field_step kinds top (placed_text name) (at q (rest ++ more)))
+      → later limits (state kinds top a_field place (bytes ++ more)) ≡ comes limits (field_step kinds top name (at q (rest ++ more)))
 
 -- a symbol by the text that was read of it
 pub read-text : (text : TextAt) (place : ℕ) (word : List ℕ) → text.place ≡ place → text.text.now ≡ word → positions.at (value.Text word) place ≡ placed_text text
@@ -172,10 +173,10 @@ read-text text place word here is =
     ap (λ (l : List ℕ). positions.at (value.Text l) place) (sym is) ∙ ap (λ (p : ℕ). positions.at (value.Text text.text.now) p) (sym here)
 
 -- a token that names a field
-pub name-token : (limits : Limits) (place : ℕ) (first : First) (token : Token) (name : TextAt) (bytes rest : List ℕ) → IsBehind bytes rest → length rest ≤ length bytes
+pub name-token : (limits : Limits) (place : ℕ) (first : First) (token : Token) (name : SymbolAt) (bytes rest : List ℕ) → IsBehind bytes rest → length rest ≤ length bytes
     → IsBare bytes → 0 < length bytes → ((in_sexp : Bool) (more : List ℕ) → first_at in_sexp (bytes ++ more) ≡ first) → may_come a_field first ≡ true
     → ((q : ℕ) (more : List ℕ) → place + length bytes ≡ q + length rest → token_of (Some limits.scalar) first (at place (bytes ++ more)) ≡ Ok (token, at q (rest ++ more)))
-    → ((kinds : List Kind) (top : ℕ) (c : Cursor) → comes limits (taken limits kinds top a_field place token c) ≡ comes limits (field_step kinds top (placed_text name) c))
+    → ((kinds : List Kind) (top : ℕ) (c : Cursor) → comes limits (taken limits kinds top a_field place token c) ≡ comes limits (field_step kinds top name c))
     → IsName limits place bytes name rest
 name-token limits place first token name bytes rest behind fewer bare some begins may shown names = record {
   behind = behind;
@@ -189,18 +190,18 @@ pub symbol-names : (limits : Limits) (place : ℕ) (quoted : Bool) (name : TextA
 unfolding taken
 symbol-names limits place quoted name word here is kinds top c = ap (λ (a : SymbolAt). comes limits (field_step kinds top a c)) (read-text name place word here is)
 
-may-word : may_come a_field tokens.a_word ≡ true
+pub may-word : may_come a_field tokens.a_word ≡ true
 unfolding may_come
 may-word = refl
 
 pub name-word : (limits : Limits) (place n : ℕ) (name : TextAt) (bytes rest : List ℕ) → name.place ≡ place → name.text.now ≡ take n bytes → rest ≡ drop n bytes
-    → IsBare bytes → ((in_sexp : Bool) (more : List ℕ) → first_at in_sexp (bytes ++ more) ≡ tokens.a_word) → IsSimpleWord limits.scalar bytes n → IsName limits place bytes name rest
+    → IsBare bytes → ((in_sexp : Bool) (more : List ℕ) → first_at in_sexp (bytes ++ more) ≡ tokens.a_word) → IsSimpleWord limits.scalar bytes n → IsName limits place bytes (placed_text name) rest
 name-word limits place n name bytes rest here is behind bare begins word =
     let within = word.within in
     let some = word.some in
     let long = length-drop n bytes in
-    subst (λ (l : List ℕ). IsName limits place bytes name l) (sym behind)
-    (name-token limits place tokens.a_word (tokens.name false (value.Text (take n bytes))) name bytes (drop n bytes) (some-behind bytes n within) (omega (arith, long)) bare (omega (arith, within, some)) begins may-word
+    subst (λ (l : List ℕ). IsName limits place bytes (placed_text name) l) (sym behind)
+    (name-token limits place tokens.a_word (tokens.name false (value.Text (take n bytes))) (placed_text name) bytes (drop n bytes) (some-behind bytes n within) (omega (arith, long)) bare (omega (arith, within, some)) begins may-word
     (λ q more e.
     let q_is : place + n ≡ q = omega (arith, e, long, within) in
     word.shown place more ∙ ap (λ (k : ℕ). Ok (tokens.name false (value.Text (take n bytes)), at k (drop n bytes ++ more))) q_is)
@@ -212,16 +213,15 @@ colon-there kinds top a c [] more some first = absurd (omega (arith, some))
 colon-there kinds top a c (b ∷ rest) more some first = ap (colon_of kinds top a c) first
 
 -- the name, the colon and the blanks behind it
-onward-name : (limits : Limits) (kinds : List Kind) (top place : ℕ) (name : TextAt) (bytes behind colon rest : List ℕ) → IsName limits place bytes name behind → ToColon behind colon → PassesBlanks (drop 1 colon) rest
-    → Onward limits kinds top place a_field bytes (a_value (Some (placed_text name)) []) rest
+onward-name : (limits : Limits) (kinds : List Kind) (top place : ℕ) (name : SymbolAt) (bytes behind colon rest : List ℕ) → IsName limits place bytes name behind → ToColon behind colon → PassesBlanks (drop 1 colon) rest
+    → Onward limits kinds top place a_field bytes (a_value (Some name) []) rest
 onward-name limits kinds top place name bytes behind colon rest is to_colon passes =
     let first = is.fewer in
     let one = length-drop 1 colon in
     let fewer = to_colon.passes.fewer in
     let there = to_colon.some in
     let last = passes.fewer in
-    let a = placed_text name in
-    let wants : Wants = a_value (Some a) [] in
+    let wants : Wants = a_value (Some name) [] in
     record {
       part = behind-then bytes (drop 1 colon) rest
           (behind-then bytes colon (drop 1 colon) (behind-then bytes behind colon is.behind to_colon.passes.part) (some-behind colon 1 (omega (arith, there)))) passes.part;
@@ -231,30 +231,33 @@ onward-name limits kinds top place name bytes behind colon rest is to_colon pass
           let colon_place : ℕ = behind_place + (length behind - length colon) in
           let value_place : ℕ = colon_place + 1 in
           is.same kinds top behind_place more (omega (arith, first))
-          ∙ (ap (λ (o : Placed Cursor). comes limits (o >>= (λ d. colon_from kinds top a d d.rest))) (to_colon.passes.blank behind_place colon_place more (omega (arith, fewer)))
-          ∙ (ap (comes limits) (colon-there kinds top a (at colon_place (colon ++ more)) colon more there (to_colon.first more))
+          ∙ (ap (λ (o : Placed Cursor). comes limits (o >>= (λ d. colon_from kinds top name d d.rest))) (to_colon.passes.blank behind_place colon_place more (omega (arith, fewer)))
+          ∙ (ap (comes limits) (colon-there kinds top name (at colon_place (colon ++ more)) colon more there (to_colon.first more))
           ∙ (ap (λ (c : Cursor). later limits (record { kinds = kinds; top = top; wants = wants; cursor = c })) (mark-behind colon more colon_place value_place there (omega (arith, one, there)))
           ∙ (onward-blanks limits kinds top value_place wants (drop 1 colon) rest passes).same q more (omega (arith, e, one, there, first, fewer)))));
     }
 
 -- a value begins behind the name that was read
-pub named-start : (limits : Limits) (place : ℕ) (name : TextAt) (bytes behind : List ℕ) (start : Option Start) → IsName limits place bytes name behind → IsRightlySimple name → 0 < length bytes
-    → IfSome start (IsBehindName name behind) → IfSome start (IsNamed limits place bytes)
-named-start limits place name bytes behind None is simple some h = tt
-named-start limits place name bytes behind (Some s) is simple some h = record {
-  text = name;
+pub named-as : (limits : Limits) (place : ℕ) (name : TextAt) (raw : SymbolAt) (bytes behind : List ℕ) (start : Start) → IsName limits place bytes raw behind → IsRightlySimple name → 0 < length bytes
+    → IsBehindName name behind start → IsNamedAs name raw limits place bytes start
+named-as limits place name raw bytes behind start is simple some h = record {
   is = h.is;
   bare = h.bare;
   simple = simple;
   some = some;
-  onward = λ kinds top. onward-name limits kinds top place name bytes behind h.colon s.next.rest.now is h.to_colon h.passes;
+  onward = λ kinds top. onward-name limits kinds top place raw bytes behind h.colon start.next.rest.now is h.to_colon h.passes;
   begins = h.begins;
 }
 
-pub start-field : (limits : Limits) (spot : Spot) (place named : ℕ) (next : Next) (start : Option Start) → expected_of spot ≡ codes_of.Field → IsNext spot.rest.now next
-    → named ≡ place + (length spot.rest.now - length next.rest.now) → IfSome start (IsNamed limits named next.rest.now) → IfSome start (IsStart limits spot place)
-start-field limits spot place named next None field is here h = tt
-start-field limits spot place named next (Some s) field is here h =
+pub named-start : (limits : Limits) (place : ℕ) (name : TextAt) (bytes behind : List ℕ) (start : Option Start) → IsName limits place bytes (placed_text name) behind → IsRightlySimple name → 0 < length bytes
+    → IfSome start (IsBehindName name behind) → IfSome start (IsNamed limits place bytes)
+named-start limits place name bytes behind None is simple some h = tt
+named-start limits place name bytes behind (Some s) is simple some h = record { text = name; name = named-as limits place name (placed_text name) bytes behind s is simple some h }
+
+-- a value begins behind it, where a name must come
+pub start-as : (limits : Limits) (spot : Spot) (place named : ℕ) (next : Next) (text : TextAt) (raw : SymbolAt) (start : Start) → expected_of spot ≡ codes_of.Field → IsNext spot.rest.now next
+    → named ≡ place + (length spot.rest.now - length next.rest.now) → IsNamedAs text raw limits named next.rest.now start → IsStartAs (Some raw) None limits spot place start
+start-as limits spot place named next text raw start field is here h =
     let passes = is.passes h.some in
     let fewer = passes.fewer in
     record {
@@ -262,12 +265,20 @@ start-field limits spot place named next (Some s) field is here h =
       free = rw h.bare tt;
       field = rw h.is h.simple;
       note = rw h.bare tt;
+      second = tt;
+      stands = rw h.bare tt;
       onward = λ kinds may.
-          rw (h.is, h.bare, field) (onward-then limits kinds spot.top place named a_field a_field (a_value (Some (placed_text h.text)) []) spot.rest.now next.rest.now s.next.rest.now (omega (arith, here, fewer))
+          rw (h.bare, field) (onward-then limits kinds spot.top place named a_field a_field (a_value (Some raw) []) spot.rest.now next.rest.now start.next.rest.now (omega (arith, here, fewer))
           (onward-blanks limits kinds spot.top place a_field spot.rest.now next.rest.now passes) (h.onward kinds spot.top));
       named = λ kinds may. rw h.is (sym (subst (λ (e : Expected). MayExpect e kinds None []) field may).0);
       begins = h.begins;
     }
+
+pub start-field : (limits : Limits) (spot : Spot) (place named : ℕ) (next : Next) (start : Option Start) → expected_of spot ≡ codes_of.Field → IsNext spot.rest.now next
+    → named ≡ place + (length spot.rest.now - length next.rest.now) → IfSome start (IsNamed limits named next.rest.now) → IfSome start (IsStart limits spot place)
+start-field limits spot place named next None field is here h = tt
+start-field limits spot place named next (Some s) field is here h =
+    subst (λ (f : Option TextAt). IsStartAs (option_map placed_text f) None limits spot place s) (sym h.name.is) (start-as limits spot place named next h.text (placed_text h.text) s field is here h.name)
 
 -- what is known of the next token, where there is one
 pub next-begins : (bytes : List ℕ) (next : Next) → IsNext bytes next → 0 < length next.rest.now → Begins next
@@ -280,4 +291,4 @@ not-empty (b ∷ bytes) e = omega arith
 -- no annotation was read there
 pub named-bare : (limits : Limits) (place : ℕ) (bytes : List ℕ) (start : Option Start) → IfSome start (IsNamed limits place bytes) → IfSome start (λ s. s.note ≡ None)
 named-bare limits place bytes None h = tt
-named-bare limits place bytes (Some s) h = h.bare
+named-bare limits place bytes (Some s) h = h.name.bare

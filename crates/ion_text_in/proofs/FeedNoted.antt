@@ -1,22 +1,26 @@
 -- Annotations in a lane.
-use Rattle.std.proofs.Common.{◌≡◌, ℕ, ◌+◌, ◌-◌, ◌<◌, ◌≤◌, Bool, true, false, ◌==◌, nat_lt, List, [], ◌∷◌, ◌++◌, length, take, drop, get_or, Option, Some, None, IfSome, Ok, refl, sym, ap, subst, ◌∙◌, arith}
+use Rattle.std.proofs.Common.{◌≡◌, ℕ, ◌+◌, ◌-◌, ◌<◌, ◌≤◌, Bool, true, false, ◌==◌, nat_lt, List, [], ◌∷◌, ◌++◌, length, take, drop, get_or, codes, append_assoc, Option, Some, None, IfSome, Ok, refl, sym, ap, subst, ◌∙◌, arith}
 use Rattle.std.specs.Prelude.{option_map, sum_by}
-use Rattle.std.proofs.lemmas.List.{length-drop}
+use Rattle.std.proofs.lemmas.List.{length-append, length-drop, length-take-le, take-append-drop}
 use Rattle.ion_meter.specs.Sources.{Cursor, skip}
 use Rattle.ion_meter.specs.declared.limits.Limits.{Limits}
 use Rattle.ion_meter.specs.declared.fault.Reason.TheVariants.{AnnotationLimit}
 use Rattle.ion_value.specs.declared.ion_type.Kind.{Kind}
+use Rattle.ion_value.specs.declared.ion_type.Kind.TheVariants as a_kind
 use Rattle.ion_value.specs.declared.plain_item.TextAt.{TextAt}
 use Rattle.ion_value.specs.Digits.{first_is}
 use Rattle.ion_value.specs.Parts.{part, refuse, ◌>>◌}
 use Rattle.ion_value.specs.PlainItems.{placed_text, IsRightlySimple}
 use Rattle.ion_value.specs.Value as value
 use Rattle.ion_value.specs.Value.{SymbolAt}
+use Rattle.ion_text_in.specs.declared.expected.Expected.{Expected}
+use Rattle.ion_text_in.specs.declared.expected.Expected.TheVariants as expected
+use Rattle.ion_text_in.specs.declared.feed.Next.{Next}
 use Rattle.ion_text_in.specs.declared.feed.Spot.{Spot}
 use Rattle.ion_text_in.specs.declared.feed.Start.{Start}
 use Rattle.ion_text_in.specs.Blanks.{blanks}
-use Rattle.ion_text_in.specs.Expecting.{wanted}
-use Rattle.ion_text_in.specs.Feeding.{expected_of, notes, state, IsBare, IsBehind, IsBehindNote, IsNoted, IsSimpleWord, IsStart, Onward}
+use Rattle.ion_text_in.specs.Expecting.{wanted, MayExpect}
+use Rattle.ion_text_in.specs.Feeding.{expected_of, notes, state, IsBare, IsBehind, IsBehindColons, IsBehindNote, IsNoted, IsSimpleWord, IsStart, Onward, StandsNoted}
 use Rattle.ion_text_in.specs.Meaning.{at}
 use Rattle.ion_text_in.specs.Positions.{Wants, a_value, in_sexp, innermost}
 use Rattle.ion_text_in.specs.Reading.{take as taken, behind_colons, colons_at, colons_behind, cost, onward_step, symbol_step}
@@ -34,17 +38,16 @@ not-less n m h = grind (arith, h)
 one-costs : (note : TextAt) → sum_by cost (placed_text note ∷ []) ≡ 16 + length note.text.now
 one-costs note = omega arith
 
--- a symbol behind which two colons stand is an annotation
-note-stepped : (limits : Limits) (kinds : List Kind) (top place : ℕ) (field : Option SymbolAt) (quoted : Bool) (note : TextAt) (c d : Cursor) → behind_colons (in_sexp (innermost kinds)) c ≡ Some d
-    → 16 + length note.text.now ≤ limits.scalar
-    → comes limits (part place (symbol_step limits kinds top field [] quoted (placed_text note) c (behind_colons (in_sexp (innermost kinds)) c)))
-    ≡ later limits (record { kinds = kinds; top = top; wants = a_value field (placed_text note ∷ []); cursor = d })
-note-stepped limits kinds top place field quoted note c d colons within =
+-- a symbol behind which two colons stand is an annotation behind those before it
+note-stepped : (limits : Limits) (kinds : List Kind) (top place : ℕ) (field : Option SymbolAt) (before : List SymbolAt) (quoted : Bool) (note : TextAt) (c d : Cursor) → behind_colons (in_sexp (innermost kinds)) c ≡ Some d
+    → sum_by cost (before ++ placed_text note ∷ []) ≤ limits.scalar
+    → comes limits (part place (symbol_step limits kinds top field before quoted (placed_text note) c (behind_colons (in_sexp (innermost kinds)) c)))
+    ≡ later limits (record { kinds = kinds; top = top; wants = a_value field (before ++ placed_text note ∷ []); cursor = d })
+note-stepped limits kinds top place field before quoted note c d colons within =
     let a = placed_text note in
-    let costs = one-costs note in
-    ap (λ (o : Option Cursor). comes limits (part place (symbol_step limits kinds top field [] quoted a c o))) colons
-    ∙ ap (λ (b : Bool). comes limits (part place (refuse b AnnotationLimit >> Ok (onward_step kinds top (a_value field (a ∷ [])) d))))
-    (not-less limits.scalar (sum_by cost (a ∷ [])) (omega (arith, costs, within)))
+    ap (λ (o : Option Cursor). comes limits (part place (symbol_step limits kinds top field before quoted a c o))) colons
+    ∙ ap (λ (b : Bool). comes limits (part place (refuse b AnnotationLimit >> Ok (onward_step kinds top (a_value field (before ++ a ∷ [])) d))))
+    (not-less limits.scalar (sum_by cost (before ++ a ∷ [])) within)
 
 both-colons : (sexp : Bool) (bytes : List ℕ) → first_at sexp (58 ∷ 58 ∷ bytes) ≡ tokens.two_colons
 unfolding first_at
@@ -58,6 +61,11 @@ colons-first (a ∷ []) two first second sexp more = absurd (omega (arith, two))
 colons-first (a ∷ b ∷ bytes) two first second sexp more =
     ap (λ (x : ℕ). first_at sexp (x ∷ b ∷ (bytes ++ more))) first ∙ (ap (λ (x : ℕ). first_at sexp (58 ∷ x ∷ (bytes ++ more))) second ∙ both-colons sexp (bytes ++ more))
 
+pub colons-same : (bytes : List ℕ) → 2 ≤ length bytes → get_or bytes 0 0 ≡ 58 → get_or bytes 1 0 ≡ 58 → take 2 bytes ≡ codes "::"
+colons-same [] two first second = absurd (omega (arith, two))
+colons-same (a ∷ []) two first second = absurd (omega (arith, two))
+colons-same (a ∷ b ∷ bytes) two first second = ap (λ (x : ℕ). x ∷ b ∷ []) first ∙ ap (λ (x : ℕ). 58 ∷ x ∷ []) second
+
 pub colons-bare : (bytes : List ℕ) → 2 ≤ length bytes → get_or bytes 0 0 ≡ 58 → IsBare bytes
 colons-bare [] two first = absurd (omega (arith, two))
 colons-bare (a ∷ bytes) two first = λ p more. ap (λ (x : ℕ). blanks (at p (x ∷ (bytes ++ more)))) first ∙ (no-slash p 58 (bytes ++ more) refl refl ∙ ap (λ (x : ℕ). Ok (at p (x ∷ (bytes ++ more)))) (sym first))
@@ -67,21 +75,21 @@ two-behind [] more p two = absurd (omega (arith, two))
 two-behind (a ∷ []) more p two = absurd (omega (arith, two))
 two-behind (a ∷ b ∷ bytes) more p two = refl
 
--- a symbol stands at the front of some bytes where a value may begin, and these behind it
+-- a symbol stands at the front of some bytes where a value may begin, behind any annotations, and these behind it
 pub record IsSymbol (limits : Limits) (place : ℕ) (bytes : List ℕ) (text : TextAt) (rest : List ℕ) : Type 0 where
   pub behind : IsBehind bytes rest
   pub fewer : length rest ≤ length bytes
   pub quoted : Bool
-  pub same : (kinds : List Kind) (top q : ℕ) (field : Option SymbolAt) (more : List ℕ) → place + length bytes ≡ q + length rest
-      → later limits (state kinds top (a_value field []) place (bytes ++ more))
-      ≡ comes limits (part place (symbol_step limits kinds top field [] quoted (placed_text text) (at q (rest ++ more)) (behind_colons (in_sexp (innermost kinds)) (at q (rest ++ more)))))
+  pub same : (kinds : List Kind) (top q : ℕ) (field : Option SymbolAt) (before : List SymbolAt) (more : List ℕ) → place + length bytes ≡ q + length rest
+      → later limits (state kinds top (a_value field before) place (bytes ++ more))
+      ≡ comes limits (part place (symbol_step limits kinds top field before quoted (placed_text text) (at q (rest ++ more)) (behind_colons (in_sexp (innermost kinds)) (at q (rest ++ more)))))
 
-symbol-taken : (limits : Limits) (place : ℕ) (quoted : Bool) (text : TextAt) (word : List ℕ) → text.place ≡ place → text.text.now ≡ word → (kinds : List Kind) (top : ℕ) (field : Option SymbolAt) (c : Cursor)
-    → comes limits (taken limits kinds top (a_value field []) place (tokens.name quoted (value.Text word)) c)
-    ≡ comes limits (part place (symbol_step limits kinds top field [] quoted (placed_text text) c (behind_colons (in_sexp (innermost kinds)) c)))
+symbol-taken : (limits : Limits) (place : ℕ) (quoted : Bool) (text : TextAt) (word : List ℕ) → text.place ≡ place → text.text.now ≡ word → (kinds : List Kind) (top : ℕ) (field : Option SymbolAt) (before : List SymbolAt) (c : Cursor)
+    → comes limits (taken limits kinds top (a_value field before) place (tokens.name quoted (value.Text word)) c)
+    ≡ comes limits (part place (symbol_step limits kinds top field before quoted (placed_text text) c (behind_colons (in_sexp (innermost kinds)) c)))
 unfolding taken
-symbol-taken limits place quoted text word here is kinds top field c =
-    ap (λ (a : SymbolAt). comes limits (part place (symbol_step limits kinds top field [] quoted a c (behind_colons (in_sexp (innermost kinds)) c)))) (read-text text place word here is)
+symbol-taken limits place quoted text word here is kinds top field before c =
+    ap (λ (a : SymbolAt). comes limits (part place (symbol_step limits kinds top field before quoted a c (behind_colons (in_sexp (innermost kinds)) c)))) (read-text text place word here is)
 
 pub symbol-token : (limits : Limits) (place : ℕ) (first : First) (quoted : Bool) (text : TextAt) (word bytes rest : List ℕ) → text.place ≡ place → text.text.now ≡ word → IsBehind bytes rest → length rest ≤ length bytes
     → IsBare bytes → 0 < length bytes → ((in_sexp : Bool) (more : List ℕ) → first_at in_sexp (bytes ++ more) ≡ first)
@@ -91,9 +99,9 @@ symbol-token limits place first quoted text word bytes rest here is behind fewer
   behind = behind;
   fewer = fewer;
   quoted = quoted;
-  same = λ kinds top q field more e.
-      later-token limits kinds top place q (a_value field []) bytes rest more first (tokens.name quoted (value.Text word)) bare some begins (may-value field [] first) (shown q more e)
-      ∙ symbol-taken limits place quoted text word here is kinds top field (at q (rest ++ more));
+  same = λ kinds top q field before more e.
+      later-token limits kinds top place q (a_value field before) bytes rest more first (tokens.name quoted (value.Text word)) bare some begins (may-value field before first) (shown q more e)
+      ∙ symbol-taken limits place quoted text word here is kinds top field before (at q (rest ++ more));
 }
 
 pub symbol-word : (limits : Limits) (place n : ℕ) (text : TextAt) (bytes rest : List ℕ) → text.place ≡ place → text.text.now ≡ take n bytes → rest ≡ drop n bytes
@@ -108,16 +116,17 @@ symbol-word limits place n text bytes rest here is behind bare begins word =
     let q_is : place + n ≡ q = omega (arith, e, long, within) in
     word.shown place more ∙ ap (λ (k : ℕ). Ok (tokens.name false (value.Text (take n bytes)), at k (drop n bytes ++ more))) q_is))
 
--- the annotation, the two colons and the blanks behind them
-onward-note : (limits : Limits) (kinds : List Kind) (top place : ℕ) (field : Option SymbolAt) (note : TextAt) (bytes colon : List ℕ) (start noted : Start) → IsSymbol limits place bytes note colon
-    → IsBehindNote limits start note colon noted → Onward limits kinds top place (a_value field []) bytes (a_value field (placed_text note ∷ [])) noted.next.rest.now
-onward-note limits kinds top place field note bytes colon start noted is h =
-    let rest = noted.next.rest.now in
+-- an annotation behind others, the two colons and the blanks behind them
+pub onward-note : (limits : Limits) (kinds : List Kind) (top place : ℕ) (field : Option SymbolAt) (before : List SymbolAt) (note : TextAt) (bytes colon : List ℕ) (next : Next) → IsSymbol limits place bytes note colon
+    → sum_by cost (before ++ placed_text note ∷ []) ≤ limits.scalar → IsBehindColons colon next
+    → Onward limits kinds top place (a_value field before) bytes (a_value field (before ++ placed_text note ∷ [])) next.rest.now
+onward-note limits kinds top place field before note bytes colon next is costs h =
+    let rest = next.rest.now in
     let first = is.fewer in
     let two = h.two in
     let behind_long = length-drop 2 colon in
     let last = h.passes.fewer in
-    let wants : Wants = a_value field (placed_text note ∷ []) in
+    let wants : Wants = a_value field (before ++ placed_text note ∷ []) in
     record {
       part = behind-then bytes (drop 2 colon) rest (behind-then bytes colon (drop 2 colon) is.behind (some-behind colon 2 two)) h.passes.part;
       fewer = omega (arith, first, behind_long, last);
@@ -127,24 +136,75 @@ onward-note limits kinds top place field note bytes colon start noted is h =
           let there : behind_colons sexp (at colons_place (colon ++ more)) ≡ Some (at (colons_place + 2) (drop 2 colon ++ more)) =
           ap (colons_behind sexp) (h.bare colons_place more)
           ∙ (ap (λ (f : First). colons_at f (at colons_place (colon ++ more))) (h.first sexp more) ∙ ap (λ (c : Cursor). Some c) (two-behind colon more colons_place two)) in
-          is.same kinds top colons_place field more (omega (arith, first))
-          ∙ (note-stepped limits kinds top place field is.quoted note (at colons_place (colon ++ more)) (at (colons_place + 2) (drop 2 colon ++ more)) there h.costs
+          is.same kinds top colons_place field before more (omega (arith, first))
+          ∙ (note-stepped limits kinds top place field before is.quoted note (at colons_place (colon ++ more)) (at (colons_place + 2) (drop 2 colon ++ more)) there costs
           ∙ (onward-blanks limits kinds top (colons_place + 2) wants (drop 2 colon) rest h.passes).same q more (omega (arith, e, two, behind_long, first)));
     }
 
+-- ---- where an annotation stands
+
+-- a word at the front of some bytes
+pub stands-word : (place n : ℕ) (note : TextAt) (bytes colon : List ℕ) → note.place ≡ place → note.text.now ≡ take n bytes → colon ≡ drop n bytes → take 2 colon ≡ codes "::" → StandsNoted place bytes note
+stands-word place n note bytes colon here is behind two = record {
+  before = [];
+  after = drop 2 colon;
+  same = sym (take-append-drop n bytes)
+      ∙ (ap (λ (l : List ℕ). take n bytes ++ l) (sym behind ∙ (sym (take-append-drop 2 colon) ∙ ap (λ (l : List ℕ). l ++ drop 2 colon) two))
+      ∙ ap (λ (l : List ℕ). l ++ (codes "::" ++ drop 2 colon)) (sym is));
+  here = omega (arith, here);
+}
+
+-- the same seen from further ahead
+stands-further : (p q : ℕ) (bytes rest : List ℕ) (note : TextAt) → IsBehind bytes rest → p + length bytes ≡ q + length rest → StandsNoted q rest note → StandsNoted p bytes note
+stands-further p q bytes rest note part e h =
+    let k = part.count in
+    let ahead = take k bytes in
+    let within = part.within in
+    let here = h.here in
+    let long = length-take-le k bytes within in
+    let dropped = length-drop k bytes in
+    let rest_long = ap (λ (l : List ℕ). length l) part.same in
+    record {
+      before = ahead ++ h.before;
+      after = h.after;
+      same = sym (take-append-drop k bytes)
+          ∙ (ap (λ (l : List ℕ). ahead ++ l) (sym part.same ∙ h.same) ∙ sym (append_assoc ahead h.before (note.text.now ++ (codes "::" ++ h.after))));
+      here = omega (arith, here, long, dropped, rest_long, within, e, length-append ahead h.before);
+    }
+
+-- ---- where the value begins
+
+-- what may come, whatever must
+some-opened : (e : Expected) → (kinds : List Kind) × MayExpect e kinds None []
+some-opened expected.Value = ([], refl)
+some-opened expected.Field = (a_kind.Struct ∷ [], (refl, refl, refl))
+some-opened expected.Separator = ([], (refl, refl))
+
+-- it begins in what is to come
+pub start-part : (limits : Limits) (spot : Spot) (place : ℕ) (start : Start) → IsStart limits spot place start → IsBehind spot.rest.now start.next.rest.now
+start-part limits spot place start is = let opened = some-opened (expected_of spot) in (is.onward opened.0 opened.1).part
+
+pub start-fewer : (limits : Limits) (spot : Spot) (place : ℕ) (start : Start) → IsStart limits spot place start → length start.next.rest.now ≤ length spot.rest.now
+start-fewer limits spot place start is = let opened = some-opened (expected_of spot) in (is.onward opened.0 opened.1).fewer
+
 -- a value begins behind the annotation that was read
 pub note-behind : (limits : Limits) (place : ℕ) (start : Start) (note : TextAt) (colon : List ℕ) (noted : Option Start) → IsSymbol limits place start.next.rest.now note colon → IsRightlySimple note
+    → (take 2 colon ≡ codes "::" → note.simple ≡ true → StandsNoted place start.next.rest.now note)
     → first_is (λ b. b == 36) note.text.now ≡ false → IfSome noted (IsBehindNote limits start note colon) → IfSome noted (IsNoted limits place start)
-note-behind limits place start note colon None is simple free h = tt
-note-behind limits place start note colon (Some s) is simple free h = record {
-  text = note;
-  is = h.is;
-  same = h.same;
-  simple = simple;
-  free = free;
-  onward = λ kinds top field. onward-note limits kinds top place field note start.next.rest.now colon start s is h;
-  begins = h.begins;
-}
+note-behind limits place start note colon None is simple stands free h = tt
+note-behind limits place start note colon (Some s) is simple stands free h =
+    let costs = one-costs note in
+    let within = h.costs in
+    record {
+      text = note;
+      is = h.is;
+      same = h.same;
+      simple = simple;
+      stands = stands h.behind.same;
+      free = free;
+      onward = λ kinds top field. onward-note limits kinds top place field [] note start.next.rest.now colon s.next is (omega (arith, costs, within)) h.behind;
+      begins = h.behind.begins;
+    }
 
 pub start-noted : (limits : Limits) (spot : Spot) (end : ℕ) (start noted : Start) → length spot.rest.now ≤ end → IsStart limits spot (end - length spot.rest.now) start → start.note ≡ None
     → IsNoted limits (end - length start.next.rest.now) start noted → IsStart limits spot (end - length spot.rest.now) noted
@@ -152,16 +212,20 @@ start-noted limits spot end start noted within is bare h =
     let field = option_map placed_text start.field in
     let at_spot : ℕ = end - length spot.rest.now in
     let at_start : ℕ = end - length start.next.rest.now in
+    let ahead = start-fewer limits spot at_spot start is in
     record {
       known = rw h.same is.known;
       free = rw h.is (h.free, tt);
       field = rw h.same is.field;
       note = rw h.is h.simple;
+      second = tt;
+      stands = rw h.is (λ simple. stands-further at_spot at_start spot.rest.now start.next.rest.now h.text (start-part limits spot at_spot start is) (omega (arith, ahead, within)) (h.stands simple));
       onward = λ kinds may.
           let before = is.onward kinds may in
           let fewer = before.fewer in
-          let plain = subst (λ (n : Option TextAt). Onward limits kinds spot.top at_spot (wanted (expected_of spot) None []) spot.rest.now (a_value field (notes n)) start.next.rest.now) bare before in
-          rw (h.is, h.same) (onward-then limits kinds spot.top at_spot at_start (wanted (expected_of spot) None []) (a_value field []) (a_value field (placed_text h.text ∷ [])) spot.rest.now start.next.rest.now noted.next.rest.now
+          let wants = wanted (expected_of spot) None [] in
+          let plain = subst (λ (n : Option TextAt). Onward limits kinds spot.top at_spot wants spot.rest.now (a_value field (notes n)) start.next.rest.now) bare before in
+          rw (h.is, h.same) (onward-then limits kinds spot.top at_spot at_start wants (a_value field []) (a_value field (placed_text h.text ∷ [])) spot.rest.now start.next.rest.now noted.next.rest.now
           (omega (arith, fewer, within)) plain (h.onward kinds spot.top field));
       named = λ kinds may. rw h.same (is.named kinds may);
       begins = h.begins;

@@ -29,11 +29,11 @@ may-quoted = refl
 
 pub name-quoted : (limits : Limits) (place plain count : ℕ) (name : TextAt) (bytes text rest : List ℕ) → name.place ≡ place → name.text.now ≡ take plain text → text ≡ drop 1 bytes → rest ≡ drop count text
     → Shows (λ n. take n text) text (Whole plain count) (λ c. text_at symbol_quote (Some limits.scalar) c)
-    → IsBare bytes → 0 < length bytes → ((in_sexp : Bool) (more : List ℕ) → first_at in_sexp (bytes ++ more) ≡ tokens.a_quoted) → IsName limits place bytes name rest
+    → IsBare bytes → 0 < length bytes → ((in_sexp : Bool) (more : List ℕ) → first_at in_sexp (bytes ++ more) ≡ tokens.a_quoted) → IsName limits place bytes (placed_text name) rest
 name-quoted limits place plain count name bytes text rest here is inside behind shows bare some begins =
     let parts = behind-inside count bytes text rest inside behind shows.0 some in
     let less = parts.1 in
-    name-token limits place tokens.a_quoted (tokens.name true (value.Text (take plain text))) name bytes rest parts.0 (omega (arith, less)) bare some begins may-quoted
+    name-token limits place tokens.a_quoted (tokens.name true (value.Text (take plain text))) (placed_text name) bytes rest parts.0 (omega (arith, less)) bare some begins may-quoted
     (λ q more e.
     quoted-token (Some limits.scalar) (at place (bytes ++ more)) (at q (rest ++ more)) (take plain text)
     (text-inside symbol_quote (Some limits.scalar) place q plain count bytes text rest more inside behind shows some e))
@@ -51,11 +51,11 @@ may-string = refl
 
 pub name-string : (limits : Limits) (place plain count : ℕ) (name : TextAt) (bytes text rest : List ℕ) → name.place ≡ place → name.text.now ≡ take plain text → text ≡ drop 1 bytes → rest ≡ drop count text
     → Shows (λ n. take n text) text (Whole plain count) (λ c. text_at (short_quote false) (Some limits.scalar) c)
-    → IsBare bytes → 0 < length bytes → ((in_sexp : Bool) (more : List ℕ) → first_at in_sexp (bytes ++ more) ≡ tokens.a_short) → IsName limits place bytes name rest
+    → IsBare bytes → 0 < length bytes → ((in_sexp : Bool) (more : List ℕ) → first_at in_sexp (bytes ++ more) ≡ tokens.a_short) → IsName limits place bytes (placed_text name) rest
 name-string limits place plain count name bytes text rest here is inside behind shows bare some begins =
     let parts = behind-inside count bytes text rest inside behind shows.0 some in
     let less = parts.1 in
-    name-token limits place tokens.a_short (tokens.text (take plain text)) name bytes rest parts.0 (omega (arith, less)) bare some begins may-string
+    name-token limits place tokens.a_short (tokens.text (take plain text)) (placed_text name) bytes rest parts.0 (omega (arith, less)) bare some begins may-string
     (λ q more e.
     short-token (Some limits.scalar) (at place (bytes ++ more)) (at q (rest ++ more)) (take plain text)
     (text-inside (short_quote false) (Some limits.scalar) place q plain count bytes text rest more inside behind shows some e))

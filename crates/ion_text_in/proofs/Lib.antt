@@ -86,7 +86,9 @@ pub mod FeedNames
 pub mod FeedComments
 pub mod FeedHeads
 pub mod FeedNoted
+pub mod FeedSecond
 pub mod FeedQuotes
 pub mod FeedLanes
 pub mod FeedItems
+pub mod FeedIds
 pub mod FeedReader

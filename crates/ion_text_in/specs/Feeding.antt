@@ -1,5 +1,5 @@
 -- A lane over the bytes of a window: where it stands, what it reads of them, and what it moves.
-use Rattle.std.specs.Prelude.{◌≡◌, ℕ, ◌+◌, ◌*◌, ◌-◌, ◌^◌, ◌<◌, ◌≤◌, ◌==◌, Bool, get_or, true, false, List, [], ◌∷◌, ◌++◌, take, drop, length, reverse, is_some, Option, Some, None, Ok, option_map, IfSome}
+use Rattle.std.specs.Prelude.{◌≡◌, ℕ, ◌+◌, ◌*◌, ◌-◌, ◌^◌, ◌<◌, ◌≤◌, ◌==◌, Bool, get_or, true, false, List, [], ◌∷◌, ◌++◌, take, drop, length, reverse, is_some, codes, Option, Some, None, Ok, option_map, IfSome}
 use Rattle.ion_meter.specs.Counts.{Counts}
 use Rattle.ion_meter.specs.declared.limits.Limits.{Limits}
 use Rattle.ion_meter.specs.Limits.{AreChecked}
@@ -7,21 +7,23 @@ use Rattle.ion_meter.specs.Sources.{Cursor}
 use Rattle.ion_meter.specs.Windows.{Incoming, lent, Outgoing, IsPassed}
 use Rattle.ion_value.specs.declared.ion_type.Kind.{Kind}
 use Rattle.ion_value.specs.declared.plain_item.TextAt.{TextAt}
+use Rattle.ion_value.specs.declared.plain_item.SecondAt.{SecondAt}
 use Rattle.ion_value.specs.declared.writer.ValueWriter.{Ghosts as WriterOf}
 use Rattle.ion_value.specs.Feeding.{CanTake, Feeds, Joint, StaysWell}
-use Rattle.ion_value.specs.Items.{named_item, raw_head}
+use Rattle.ion_value.specs.Items.{named_at, named_item, raw_head}
 use Rattle.ion_value.specs.Parts.{Placed}
-use Rattle.ion_value.specs.PlainItems.{listed, placed_text, HasKnownName, HasNoDollar, HaveNoDollar, IsKnownHead, IsRightlySimple, IsTextOf}
+use Rattle.ion_value.specs.PlainItems.{listed, placed_text, with_second, StandsBehind, HasKnownName, HasNoDollar, HaveNoDollar, IsKnownHead, IsRightlySimple, IsTextOf}
 use Rattle.ion_value.specs.Reading.{More}
 use Rattle.ion_value.specs.Shares.{Charges}
 use Rattle.ion_value.specs.Standing.{open_after, in_struct, has_field, is_marker, HasPlace, HeadInRange, WritesWithin}
 use Rattle.ion_value.specs.Value as value
-use Rattle.ion_value.specs.Value.{SymbolAt, Head, PlacedItem}
+use Rattle.ion_value.specs.Value.{SymbolAt, Head, PlacedItem, map_head}
 use Rattle.ion_text_in.specs.declared.expected.Expected.{Expected}
 use Rattle.ion_text_in.specs.declared.reader.TextReader.{TextReader}
 use Rattle.ion_text_in.specs.declared.feed.Spot.{Spot}
 use Rattle.ion_text_in.specs.declared.feed.Next.{Next}
 use Rattle.ion_text_in.specs.declared.feed.Start.{Start}
+use Rattle.ion_text_in.specs.declared.feed.Further.{Further}
 use Rattle.ion_text_in.specs.declared.feed.Found.{Found}
 use Rattle.ion_text_in.specs.declared.scanned.Scanned.{Scanned}
 use Rattle.ion_text_in.specs.declared.scanned.Scanned.TheVariants.{Whole, Fault, Cut}
@@ -76,6 +78,16 @@ pub record IsSimpleWord (limit : ℕ) (bytes : List ℕ) (n : ℕ) : Type 0 wher
   pub simple : is_simple (take n bytes) ≡ true
   pub shown : (place : ℕ) (more : List ℕ)
       → token_of (Some limit) a_word (at place (bytes ++ more)) ≡ Ok (name false (value.Text (take n bytes)), at (place + n) (drop n bytes ++ more))
+
+-- so many bytes in front are an id, within a limit, that has this text, which is simple
+pub record IsIdOf (texts : ℕ → Option (List ℕ)) (limit : ℕ) (bytes text : List ℕ) (n : ℕ) : Type 0 where
+  pub id : ℕ
+  pub has : texts id ≡ Some text
+  pub simple : is_simple text ≡ true
+  pub some : 0 < n
+  pub within : n ≤ length bytes
+  pub shown : (place : ℕ) (more : List ℕ)
+      → token_of (Some limit) a_word (at place (bytes ++ more)) ≡ Ok (name false (value.Id id), at (place + n) (drop n bytes ++ more))
 
 -- so many bytes in front are a word without a type behind it, within a limit, and begin as a symbol does, but with no dollar sign
 pub record IsBegun (limit : ℕ) (bytes : List ℕ) (n : ℕ) : Type 0 where
@@ -149,26 +161,57 @@ pub record IsBehindName (name : TextAt) (bytes : List ℕ) (start : Start) : Typ
   pub passes : PassesBlanks (drop 1 colon) start.next.rest.now
   pub begins : Begins start.next
 
--- behind a name that stands at the front of some bytes, at a place, and behind a colon, a value begins
-pub record IsNamed (limits : Limits) (place : ℕ) (bytes : List ℕ) (start : Start) : Type 0 where
-  pub text : TextAt
+-- behind a name that stands at the front of some bytes, at a place, and is read as `raw`, and behind a colon, a value begins
+pub record IsNamedAs (text : TextAt) (raw : SymbolAt) (limits : Limits) (place : ℕ) (bytes : List ℕ) (start : Start) : Type 0 where
   pub is : start.field ≡ Some text
   pub bare : start.note ≡ None
   pub simple : IsRightlySimple text
   pub some : 0 < length bytes
-  pub onward : (kinds : List Kind) (top : ℕ) → Onward limits kinds top place a_field bytes (a_value (Some (placed_text text)) []) start.next.rest.now
+  pub onward : (kinds : List Kind) (top : ℕ) → Onward limits kinds top place a_field bytes (a_value (Some raw) []) start.next.rest.now
   pub begins : Begins start.next
+
+-- the name is a text
+pub record IsNamed (limits : Limits) (place : ℕ) (bytes : List ℕ) (start : Start) : Type 0 where
+  pub text : TextAt
+  pub name : IsNamedAs text (placed_text text) limits place bytes start
+
+-- the name is a text, or an id of this text
+pub record IsNamedBy (texts : ℕ → Option (List ℕ)) (limits : Limits) (place : ℕ) (bytes : List ℕ) (start : Start) : Type 0 where
+  pub text : TextAt
+  pub raw : SymbolAt
+  pub seen : named_at texts raw ≡ placed_text text
+  pub name : IsNamedAs text raw limits place bytes start
+
+-- two colons stand here, and a value begins behind them
+pub record IsBehindColons (colons : List ℕ) (next : Next) : Type 0 where
+  pub two : 2 ≤ length colons
+  pub bare : IsBare colons
+  pub same : take 2 colons ≡ codes "::"
+  pub first : (in_sexp : Bool) (more : List ℕ) → first_at in_sexp (colons ++ more) ≡ two_colons
+  pub passes : PassesBlanks (drop 2 colons) next.rest.now
+  pub begins : Begins next
 
 -- behind an annotation two colons stand, its bytes are no more than may be, and a value begins
 pub record IsBehindNote (limits : Limits) (start : Start) (note : TextAt) (colons : List ℕ) (noted : Start) : Type 0 where
   pub is : noted.note ≡ Some note
   pub same : noted.field ≡ start.field
-  pub two : 2 ≤ length colons
-  pub bare : IsBare colons
-  pub first : (in_sexp : Bool) (more : List ℕ) → first_at in_sexp (colons ++ more) ≡ two_colons
   pub costs : 16 + length note.text.now ≤ limits.scalar
-  pub passes : PassesBlanks (drop 2 colons) noted.next.rest.now
-  pub begins : Begins noted.next
+  pub behind : IsBehindColons colons noted.next
+
+-- the same behind a second annotation, where the bytes of both are counted
+pub record IsBehindSecond (limits : Limits) (start : Start) (note : TextAt) (second : SecondAt) (colons : List ℕ) (further : Further) : Type 0 where
+  pub is : further.second ≡ Some second
+  pub kept : further.start.note ≡ start.note
+  pub same : further.start.field ≡ start.field
+  pub costs : 32 + (length note.text.now + length second.text.now) ≤ limits.scalar
+  pub behind : IsBehindColons colons further.start.next
+
+-- a text and two colons right behind it stand in some bytes that begin at a place
+pub record StandsNoted (place : ℕ) (bytes : List ℕ) (note : TextAt) : Type 0 where
+  pub before : List ℕ
+  pub after : List ℕ
+  pub same : bytes ≡ before ++ (note.text.now ++ (codes "::" ++ after))
+  pub here : note.place ≡ place + length before
 
 -- behind an annotation that begins at a place, and two colons, a value begins
 pub record IsNoted (limits : Limits) (place : ℕ) (start noted : Start) : Type 0 where
@@ -176,6 +219,7 @@ pub record IsNoted (limits : Limits) (place : ℕ) (start noted : Start) : Type 
   pub is : noted.note ≡ Some text
   pub same : noted.field ≡ start.field
   pub simple : IsRightlySimple text
+  pub stands : text.simple ≡ true → StandsNoted place start.next.rest.now text
   pub free : HasNoDollar (value.Text text.text.now)
   pub onward : (kinds : List Kind) (top : ℕ) (field : Option SymbolAt)
       → Onward limits kinds top place (a_value field []) start.next.rest.now (a_value field (placed_text text ∷ [])) noted.next.rest.now
@@ -185,19 +229,36 @@ pub record IsNoted (limits : Limits) (place : ℕ) (start noted : Start) : Type 
 abbrev pub expected_of : Spot → Expected
 expected_of spot = expected_in spot.separator spot.kind
 
--- a value begins here, behind the name of a field where one must come, and behind an annotation if it has one
-pub record IsStart (limits : Limits) (spot : Spot) (place : ℕ) (start : Start) : Type 0 where
+-- a value begins here, behind the name of a field where one must come, which is read as `raw`, and behind its annotations, two at most; a first one that is said to be simple
+-- stands in the bytes with its two colons
+pub record IsStartAs (raw : Option SymbolAt) (pair : Option SecondAt) (limits : Limits) (spot : Spot) (place : ℕ) (start : Start) : Type 0 where
   pub known : HasKnownName (option_map placed_text start.field)
-  pub free : HaveNoDollar (notes start.note)
+  pub free : HaveNoDollar (with_second (notes start.note) pair)
   pub field : IfSome start.field IsRightlySimple
   pub note : IfSome start.note IsRightlySimple
+  pub second : IfSome pair (StandsBehind start.note)
+  pub stands : IfSome start.note (λ t. t.simple ≡ true → StandsNoted place spot.rest.now t)
   pub onward : (kinds : List Kind) → MayExpect (expected_of spot) kinds None []
-      → Onward limits kinds spot.top place (wanted (expected_of spot) None []) spot.rest.now (a_value (option_map placed_text start.field) (notes start.note)) start.next.rest.now
+      → Onward limits kinds spot.top place (wanted (expected_of spot) None []) spot.rest.now (a_value raw (with_second (notes start.note) pair)) start.next.rest.now
   pub named : (kinds : List Kind) → MayExpect (expected_of spot) kinds None [] → is_some start.field ≡ in_struct kinds
   pub begins : Begins start.next
 
--- a head stands at the front of some bytes, and these behind it
-pub record IsHead (limits : Limits) (place : ℕ) (bytes : List ℕ) (head : Head SymbolAt) (rest : List ℕ) : Type 0 where
+-- the name is a text, and behind the annotation another may stand
+abbrev pub IsFurther : Option SecondAt → Limits → Spot → ℕ → Start → Type 0
+IsFurther pair limits spot place start = IsStartAs (option_map placed_text start.field) pair limits spot place start
+
+-- the same of one annotation at most
+abbrev pub IsStart : Limits → Spot → ℕ → Start → Type 0
+IsStart limits spot place start = IsFurther None limits spot place start
+
+-- the name is a text, or an id of this text
+pub record IsStartBy (texts : ℕ → Option (List ℕ)) (limits : Limits) (spot : Spot) (place : ℕ) (start : Start) : Type 0 where
+  pub raw : Option SymbolAt
+  pub seen : option_map (named_at texts) raw ≡ option_map placed_text start.field
+  pub read : IsStartAs raw None limits spot place start
+
+-- a head stands at the front of some bytes, and these behind it; it is read as `raw`
+pub record IsHeadAs (raw : Head SymbolAt) (limits : Limits) (place : ℕ) (bytes : List ℕ) (head : Head SymbolAt) (rest : List ℕ) : Type 0 where
   pub part : IsBehind bytes rest
   pub fewer : length rest < length bytes
   pub known : IsKnownHead head
@@ -206,11 +267,22 @@ pub record IsHead (limits : Limits) (place : ℕ) (bytes : List ℕ) (head : Hea
   pub value : is_marker head ≡ false
   pub gives : (kinds : List Kind) (top q : ℕ) (field : Option SymbolAt) (annotations : List SymbolAt) (more : List ℕ) → HasPlace limits.depth kinds head → place + length bytes ≡ q + length rest
       → later limits (state kinds top (a_value field annotations) place (bytes ++ more))
-      ≡ More (item_in kinds top field annotations place head) (later limits (state (open_after kinds head) (top_of kinds top annotations place) (behind_head kinds head) q (rest ++ more)))
+      ≡ More (item_in kinds top field annotations place raw) (later limits (state (open_after kinds head) (top_of kinds top annotations place) (behind_head kinds head) q (rest ++ more)))
+
+-- it is read as it is
+abbrev pub IsHead : Limits → ℕ → List ℕ → Head SymbolAt → List ℕ → Type 0
+IsHead limits place bytes head rest = IsHeadAs head limits place bytes head rest
 
 -- the same of what the code found, with the head's canonical text where it has that
 pub record IsFound (limits : Limits) (place : ℕ) (bytes : List ℕ) (found : Found) : Type 0 where
   pub head : IsHead limits place bytes (raw_head found.head) found.rest.now
+  pub spelled : IfSome found.spelled (λ text. IsTextOf text.now (raw_head found.head))
+
+-- the same where a symbol may be read as an id of its text
+pub record IsFoundBy (texts : ℕ → Option (List ℕ)) (limits : Limits) (place : ℕ) (bytes : List ℕ) (found : Found) : Type 0 where
+  pub raw : Head SymbolAt
+  pub seen : map_head (named_at texts) raw ≡ raw_head found.head
+  pub head : IsHeadAs raw limits place bytes (raw_head found.head) found.rest.now
   pub spelled : IfSome found.spelled (λ text. IsTextOf text.now (raw_head found.head))
 
 -- ---- a lane
@@ -274,9 +346,10 @@ pub record CanFeed {W O A : Type 0} (w : WriterOf W O A) (limits : Limits) (end 
   pub takes : CanTake w limits.depth (reverse l.kinds) l.writer l.sink
   pub share : WritesWithin (w.own l.writer) (w.most l.writer)
 
--- what it does: items go from the bytes to the writer, nothing fails, and the device is not used
-pub record Moved {W O A : Type 0} (w : WriterOf W O A) (limits : Limits) (end : ℕ) (old new : Lane W O) : Type 0 where
-  pub feeds : (texts : ℕ → Option (List ℕ)) (more : List ℕ) → Feeds w (named_item texts) (Unit {0}) (joint limits end more old) (joint limits end more new)
+-- what it does: items go from the bytes to the writer, nothing fails, and the device is not used. The writer has them by the texts that ids have, where
+-- `sees` holds of these texts
+pub record MovedFor {W O A : Type 0} (w : WriterOf W O A) (limits : Limits) (end : ℕ) (sees : (ℕ → Option (List ℕ)) → Type 0) (old new : Lane W O) : Type 0 where
+  pub feeds : (texts : ℕ → Option (List ℕ)) → sees texts → (more : List ℕ) → Feeds w (named_item texts) (Unit {0}) (joint limits end more old) (joint limits end more new)
   pub falls : new.values + length new.rest ≤ old.values + length old.rest
   pub part : IsBehind old.rest new.rest
   pub fewer : length new.rest ≤ length old.rest
@@ -287,6 +360,14 @@ pub record Moved {W O A : Type 0} (w : WriterOf W O A) (limits : Limits) (end : 
   pub share : WritesWithin (w.own new.writer) (w.most new.writer)
   pub stays : StaysWell w old.writer new.writer old.sink new.sink old.meter new.meter
   pub charges : Charges old.meter new.meter (lane_held w old) (lane_held w new) (lane_share w limits old)
+
+-- whatever texts ids have
+abbrev pub Moved : {W O A : Type 0} → WriterOf W O A → Limits → ℕ → Lane W O → Lane W O → Type 0
+Moved w limits end old new = MovedFor w limits end (λ _. Unit {0}) old new
+
+-- by the texts that ids have
+abbrev pub MovedBy : {W O A : Type 0} → WriterOf W O A → Limits → ℕ → (ℕ → Option (List ℕ)) → Lane W O → Lane W O → Type 0
+MovedBy w limits end texts old new = MovedFor w limits end (λ t. t ≡ texts) old new
 
 -- ---- the lane of a reader
 

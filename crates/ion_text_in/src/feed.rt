@@ -2,7 +2,7 @@
 ghost use Rattle.std.specs.Prelude.{◌≡◌, ◌≢◌, ◌+◌, ◌-◌, ◌^◌, ◌<◌, ◌≤◌, ℕ, Bool, List, [], ◌∷◌, ◌++◌, take, drop, length, reverse, true, false, None, Some, Ok, option_map, IfSome};
 ghost use Rattle.ion_value.specs.declared.ion_type.Kind as kind_of;
 ghost use Rattle.ion_text_in.specs.Expecting.{kind_in, wanted, MayExpect};
-ghost use Rattle.ion_text_in.specs.Feeding.{expected_of, lane, notes, Begins, CanFeed, IsFound, IsNext, IsSimpleWord, IsStart, Moved, Onward, PassesBlanks};
+ghost use Rattle.ion_text_in.specs.Feeding.{expected_of, lane, notes, Begins, CanFeed, IsFound, IsFurther, IsNext, IsSimpleWord, IsStart, Moved, MovedBy, Onward, PassesBlanks};
 ghost use Rattle.ion_text_in.specs.Firsts.{numbered};
 ghost use Rattle.ion_text_in.specs.Reading.{top_of};
 ghost use Rattle.ion_text_in.specs.Token.{a_comma, a_run, a_short, a_word, an_end, first_at};
@@ -12,6 +12,7 @@ mod close;
 mod comments;
 mod copies;
 mod heads;
+mod ids;
 mod names;
 mod noted;
 mod quotes;
@@ -26,6 +27,7 @@ use copies::{limits_for_call, spot_for_call, start_for_call};
 use heads::{
     begin_head, decimal_head, int_head, scan_head, spelled_quick, string_head, symbol_head, token,
 };
+use ids::{id_turns, is_dollar_near};
 use ion_meter::device::Output;
 use ion_meter::limits::Limits;
 use ion_meter::meter::Meter;
@@ -33,10 +35,11 @@ use ion_meter::sink::Sink;
 use ion_meter::stack::Stack;
 use ion_value::ion_type::Kind;
 use ion_value::item::Head;
-use ion_value::plain_item::{PlainItem, TextAt};
+use ion_value::names::Names;
+use ion_value::plain_item::{PlainItem, SecondAt, TextAt};
 use ion_value::writer::ValueWriter;
 use names::field_start;
-use noted::noted;
+use noted::{noted, with_second};
 use quotes::{quoted_turn, quoted_value};
 use std::alloc::Allocator;
 
@@ -69,10 +72,20 @@ pub(crate) struct Next<'a> {
 pub(crate) struct Start<'a> {
     /// The name.
     field: Option<TextAt<'a>>,
-    /// The annotation, if there is one.
+    /// The annotation, if there is one, or the first of two.
     note: Option<TextAt<'a>>,
     /// What the value begins with.
     next: Next<'a>,
+}
+
+/// Where a value begins that may have two annotations. The second stands apart, since it is none in the
+/// frequent loop.
+#[derive(Clone, Copy)]
+pub(crate) struct Further<'a> {
+    /// The beginning behind both.
+    start: Start<'a>,
+    /// The second annotation, if there are two.
+    second: Option<SecondAt<'a>>,
 }
 
 /// The head of an item.
@@ -271,6 +284,7 @@ fn top_at(top: u64, inner: Option<Kind>, note: Option<TextAt<'_>>, place: u64) -
 fn begin<'a, W: ValueWriter<O, A>, O: Output, A: Allocator + Copy>(
     at: &mut Spot<'a>,
     start: Start<'a>,
+    second: Option<SecondAt<'a>>,
     found: Found<'a>,
     kind: Kind,
     limits: Limits,
@@ -282,7 +296,7 @@ fn begin<'a, W: ValueWriter<O, A>, O: Output, A: Allocator + Copy>(
 ) -> bool
     requires can { CanFeed W.ValueWriter limits end
         (lane kinds.old at.old writer.old sink.old meter.old) }
-    requires start { IsStart limits at.old (end - length at.old.rest.now) start }
+    requires start { IsFurther second limits at.old (end - length at.old.rest.now) start }
     requires found { IsFound limits (end - length start.next.rest.now) start.next.rest.now found }
     requires begins { found.head ≡ Head.Begin kind }
     ensures moved { Moved W.ValueWriter limits end
@@ -303,6 +317,7 @@ fn begin<'a, W: ValueWriter<O, A>, O: Output, A: Allocator + Copy>(
     let item = PlainItem {
         field: start.field,
         annotation: start.note,
+        second,
         head: found.head,
         spelled: found.spelled,
         place,
@@ -324,6 +339,7 @@ fn begin<'a, W: ValueWriter<O, A>, O: Output, A: Allocator + Copy>(
 fn scalar<'a, W: ValueWriter<O, A>, O: Output, A: Allocator + Copy>(
     at: &mut Spot<'a>,
     start: Start<'a>,
+    second: Option<SecondAt<'a>>,
     found: Found<'a>,
     limits: Limits,
     end: u64,
@@ -334,7 +350,7 @@ fn scalar<'a, W: ValueWriter<O, A>, O: Output, A: Allocator + Copy>(
 ) -> bool
     requires can { CanFeed W.ValueWriter limits end
         (lane kinds.now at.old writer.old sink.old meter.old) }
-    requires start { IsStart limits at.old (end - length at.old.rest.now) start }
+    requires start { IsFurther second limits at.old (end - length at.old.rest.now) start }
     requires found { IsFound limits (end - length start.next.rest.now) start.next.rest.now found }
     requires whole { (kind : kind_of.Kind) → found.head ≢ Head.Begin kind }
     ensures moved { Moved W.ValueWriter limits end
@@ -348,6 +364,7 @@ fn scalar<'a, W: ValueWriter<O, A>, O: Output, A: Allocator + Copy>(
     let item = PlainItem {
         field: start.field,
         annotation: start.note,
+        second,
         head: found.head,
         spelled: found.spelled,
         place,
@@ -361,6 +378,7 @@ fn scalar<'a, W: ValueWriter<O, A>, O: Output, A: Allocator + Copy>(
 }
 
 // Hands on the value that begins here, whatever it is, behind its field's name and its annotation.
+// A second annotation may stand here first.
 #[inline(never)]
 fn any_value<'a, W: ValueWriter<O, A>, O: Output, A: Allocator + Copy>(
     spot: Spot<'a>,
@@ -383,19 +401,20 @@ fn any_value<'a, W: ValueWriter<O, A>, O: Output, A: Allocator + Copy>(
     ensures falls { result.more ≡ true → length result.spot.rest.now < length spot.entry.rest.now }
 {
     let mut at = spot;
+    let Further { start, second } = with_second(spot, start, limits, end);
     let Some(found) = scan_head(limits, end - start.next.rest.len() as u64, start.next) else {
         return Turned { spot, more: false };
     };
     match found.head {
         Head::Begin(kind) => {
             let more = begin(
-                &mut at, start, found, kind, limits, end, kinds, meter, writer, sink,
+                &mut at, start, second, found, kind, limits, end, kinds, meter, writer, sink,
             );
             Turned { spot: at, more }
         }
         _ => {
             let more = scalar(
-                &mut at, start, found, limits, end, kinds, meter, writer, sink,
+                &mut at, start, second, found, limits, end, kinds, meter, writer, sink,
             );
             Turned { spot: at, more }
         }
@@ -474,7 +493,9 @@ fn number<'a, W: ValueWriter<O, A>, O: Output, A: Allocator + Copy>(
                 spelled: Some(text),
                 rest,
             };
-            scalar(at, start, found, limits, end, kinds, meter, writer, sink)
+            scalar(
+                at, start, None, found, limits, end, kinds, meter, writer, sink,
+            )
         }
         Some(exponent) => {
             let found = Found {
@@ -482,7 +503,9 @@ fn number<'a, W: ValueWriter<O, A>, O: Output, A: Allocator + Copy>(
                 spelled: spelled_quick(quick, text),
                 rest,
             };
-            scalar(at, start, found, limits, end, kinds, meter, writer, sink)
+            scalar(
+                at, start, None, found, limits, end, kinds, meter, writer, sink,
+            )
         }
     }
 }
@@ -511,7 +534,9 @@ fn string<'a, W: ValueWriter<O, A>, O: Output, A: Allocator + Copy>(
 {
     let place = end - start.next.rest.len() as u64;
     match string_head(limits, place, start.next.rest) {
-        Some(found) => scalar(at, start, found, limits, end, kinds, meter, writer, sink),
+        Some(found) => scalar(
+            at, start, None, found, limits, end, kinds, meter, writer, sink,
+        ),
         None => false,
     }
 }
@@ -545,7 +570,9 @@ fn word<'a, W: ValueWriter<O, A>, O: Output, A: Allocator + Copy>(
     let place = end - bytes.len() as u64;
     match scan_simple(limits.scalar, bytes) {
         Scanned::Whole(Word::Name, count) => match symbol_head(limits, place, count, bytes) {
-            Some(found) => scalar(at, start, found, limits, end, kinds, meter, writer, sink),
+            Some(found) => scalar(
+                at, start, None, found, limits, end, kinds, meter, writer, sink,
+            ),
             None => note(at, start, count, limits, end, kinds, meter, writer, sink),
         },
         Scanned::Whole(Word::Null(ion_type), count) => {
@@ -554,7 +581,9 @@ fn word<'a, W: ValueWriter<O, A>, O: Output, A: Allocator + Copy>(
                 spelled: None,
                 rest: behind(count, bytes),
             };
-            scalar(at, start, found, limits, end, kinds, meter, writer, sink)
+            scalar(
+                at, start, None, found, limits, end, kinds, meter, writer, sink,
+            )
         }
         Scanned::Whole(Word::Bool(truth), count) => {
             let found = Found {
@@ -562,7 +591,9 @@ fn word<'a, W: ValueWriter<O, A>, O: Output, A: Allocator + Copy>(
                 spelled: None,
                 rest: behind(count, bytes),
             };
-            scalar(at, start, found, limits, end, kinds, meter, writer, sink)
+            scalar(
+                at, start, None, found, limits, end, kinds, meter, writer, sink,
+            )
         }
         _ => false,
     }
@@ -637,7 +668,7 @@ fn value<'a, W: ValueWriter<O, A>, O: Output, A: Allocator + Copy>(
             let place = end - start.next.rest.len() as u64;
             let found = begin_head(limits, place, kind, start.next.rest);
             begin(
-                at, start, found, kind, limits, end, kinds, meter, writer, sink,
+                at, start, None, found, kind, limits, end, kinds, meter, writer, sink,
             )
         }
         Some(First::QuotedSymbol) => {
@@ -701,12 +732,46 @@ fn feed_frequent<'a, W: ValueWriter<O, A>, O: Output, A: Allocator + Copy>(
     }
 }
 
-/// Hands on the items at the front of the bytes of a window that ends at a place, as many as lie whole
-/// in it and are taken. A member whose name stands between quotes is handed on between two runs of the loop
-/// over all others, in which it is known that names are simple.
+// Hands on a member whose name stands between quotes, or else members that have ids, and says whether it
+// did.
 #[inline(always)]
-pub(crate) fn feed_items<'a, W: ValueWriter<O, A>, O: Output, A: Allocator + Copy>(
+fn other_turns<'a, N: Names, W: ValueWriter<O, A>, O: Output, A: Allocator + Copy>(
+    at: &mut Spot<'a>,
+    names: &'a N,
+    limits: Limits,
+    end: u64,
+    kinds: &mut Stack<Kind, A>,
+    meter: &mut Meter<A>,
+    writer: &mut W,
+    sink: &mut Sink<O, A>,
+) -> bool
+    requires can { CanFeed W.ValueWriter limits end
+        (lane kinds.old at.old writer.old sink.old meter.old) }
+    ensures moved { MovedBy W.ValueWriter limits end (N.text names.now)
+        (lane kinds.old at.old writer.old sink.old meter.old)
+        (lane kinds.new at.new writer.new sink.new meter.new) }
+    ensures goes { length kinds.new + length at.new.rest.now
+        ≤ length kinds.old + length at.old.rest.now }
+    ensures falls { result ≡ true → length at.new.rest.now < length at.old.rest.now }
+{
+    if quoted_turn(at, limits, end, kinds, meter, writer, sink) {
+        return true;
+    }
+    if !is_dollar_near(at.rest) {
+        return false;
+    }
+    let left = at.rest.len();
+    *at = id_turns(*at, names, limits, end, kinds, meter, writer, sink);
+    at.rest.len() < left
+}
+
+/// Hands on the items at the front of the bytes of a window that ends at a place, as many as lie whole
+/// in it and are taken. A member whose name stands between quotes, and members that have ids, are handed
+/// on between two runs of the loop over all others, in which it is known that names are simple.
+#[inline(always)]
+pub(crate) fn feed_items<'a, N: Names, W: ValueWriter<O, A>, O: Output, A: Allocator + Copy>(
     spot: Spot<'a>,
+    names: &'a N,
     limits: Limits,
     end: u64,
     kinds: &mut Stack<Kind, A>,
@@ -716,7 +781,7 @@ pub(crate) fn feed_items<'a, W: ValueWriter<O, A>, O: Output, A: Allocator + Cop
 ) -> Spot<'a>
     requires can { CanFeed W.ValueWriter limits end
         (lane kinds.old spot writer.old sink.old meter.old) }
-    ensures moved { Moved W.ValueWriter limits end
+    ensures moved { MovedBy W.ValueWriter limits end (N.text names.now)
         (lane kinds.old spot.entry writer.old sink.old meter.old)
         (lane kinds.new result writer.new sink.new meter.new) }
     ensures goes { length kinds.new + length result.rest.now
@@ -725,7 +790,7 @@ pub(crate) fn feed_items<'a, W: ValueWriter<O, A>, O: Output, A: Allocator + Cop
     let mut at = spot;
     'runs: loop {
         at = feed_frequent(at, limits, end, kinds, meter, writer, sink);
-        if !quoted_turn(&mut at, limits, end, kinds, meter, writer, sink) {
+        if !other_turns(&mut at, names, limits, end, kinds, meter, writer, sink) {
             return at;
         }
     }

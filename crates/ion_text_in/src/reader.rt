@@ -687,7 +687,7 @@ impl<I: Input, A: Allocator + Copy> RawReader<A> for TextReader<I, A> {
     fn feed<N: Names, W: ValueWriter<O, A>, O: Output>(
         &mut self,
         meter: &mut Meter<A>,
-        _names: &N,
+        names: &N,
         writer: &mut W,
         sink: &mut Sink<O, A>,
     ) -> Fed {
@@ -698,7 +698,7 @@ impl<I: Input, A: Allocator + Copy> RawReader<A> for TextReader<I, A> {
             };
         }
         self.forget(meter);
-        let values = self.feed_window(meter, writer, sink);
+        let values = self.feed_window(meter, names, writer, sink);
         Fed {
             values,
             level: self.kinds.as_slice().len() as u32,

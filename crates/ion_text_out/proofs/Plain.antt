@@ -1,23 +1,24 @@
 -- What is put of a plain item is its text.
-use Rattle.std.proofs.Common.{◌≡◌, ℕ, ◌<◌, ◌≤◌, Bool, true, false, List, [], ◌∷◌, ◌++◌, length, Option, Some, None, refl, sym, ap, ◌∙◌, append-nil, arith, if◌then◌else◌}
+use Rattle.std.proofs.Common.{◌≡◌, ℕ, ◌<◌, ◌≤◌, Bool, true, false, List, [], ◌∷◌, ◌++◌, length, Option, Some, None, refl, sym, ap, ◌∙◌, append_assoc, append-nil, arith, if◌then◌else◌}
 use Rattle.std.proofs.lemmas.Bool.{and_parts}
-use Rattle.std.specs.Prelude.{map, option_map, codes, IfSome}
+use Rattle.std.specs.Prelude.{map, option_map, codes, is_some, IfSome}
 use Rattle.std.specs.List.{flat_map}
 use Rattle.ion_meter.specs.Windows.{Outgoing}
 use Rattle.ion_value.specs.Name.{is_plain, is_simple}
 use Rattle.ion_value.specs.Value as v
 use Rattle.ion_value.specs.Value.{PlacedItem, SymbolAt, Symbol, map_head, map_scalar, user_symbol, user_symbol_at, user_item}
 use Rattle.ion_value.specs.Items.{raw_head}
-use Rattle.ion_value.specs.PlainItems.{IsOwnText, IsRightlySimple, IsTextOf, listed, placed_item, placed_text}
+use Rattle.ion_value.specs.PlainItems.{IsOwnText, IsRightlySimple, IsTextOf, StandsBehind, listed, placed_item, placed_text, with_second}
 use Rattle.ion_value.specs.declared.ion_type.Kind.{Kind}
 use Rattle.ion_value.specs.declared.ion_type.Kind.TheVariants as kind
 use Rattle.ion_value.specs.declared.plain_item.TextAt.{TextAt}
+use Rattle.ion_value.specs.declared.plain_item.SecondAt.{SecondAt}
 use Rattle.ion_value.specs.declared.plain_item.PlainItem.{PlainItem}
 use Rattle.ion_text_out.specs.Escape.{between_quotes, byte_text}
 use Rattle.ion_text_out.specs.Text.{Open, annotation_text, before_item, behind_value, field_text, head_text, item_text, opener, scalar_text, symbol_text}
 use Rattle.ion_meter.specs.declared.limits.Limits.{Limits}
 use Rattle.ion_text_out.specs.Writing.{behind_end, closing, shown, text_adds, Shows}
-use Rattle.ion_text_out.specs.Lane.{is_said_simple, plain_begin, plain_front, plain_name, plain_note, plain_scalar, spelling, symbol_in, text_in}
+use Rattle.ion_text_out.specs.Lane.{are_said_simple, is_said_simple, notes_in, plain_begin, plain_front, plain_name, plain_note, plain_scalar, spelling, symbol_in, symbols_in, text_in}
 
 -- a simple text is plain
 simple_plain : (bytes : List ℕ) → is_simple bytes ≡ true → is_plain bytes ≡ true
@@ -26,6 +27,10 @@ simple_plain bytes simple = (and_parts (is_plain bytes) _ simple).0
 -- a plain one is put as it stands
 pub plain_text : (bytes : List ℕ) → is_plain bytes ≡ true → symbol_text (v.Known bytes) ≡ bytes
 plain_text bytes plain = rw plain refl
+
+-- so is a simple one
+simple_text : (bytes : List ℕ) → is_simple bytes ≡ true → symbol_text (v.Known bytes) ≡ bytes
+simple_text bytes simple = plain_text bytes (simple_plain bytes simple)
 
 -- and any other between quotes
 pub quoted_text : (bytes : List ℕ) → is_plain bytes ≡ false → symbol_text (v.Known bytes) ≡ between_quotes 39 256 bytes
@@ -40,7 +45,7 @@ quoted_symbol s bytes is plain = rw (is, plain) refl
 
 -- a symbol's own text is what is put of it
 own_text : (text : List ℕ) (s : Symbol) → IsOwnText text s → text ≡ symbol_text (user_symbol s)
-own_text text (v.Text bytes) is = is.1 ∙ sym (plain_text bytes (simple_plain bytes is.0))
+own_text text (v.Text bytes) is = is.1 ∙ sym (simple_text bytes is.0)
 own_text text (v.Id id) is = absurd is
 
 -- ---- names and annotations
@@ -48,7 +53,20 @@ own_text text (v.Id id) is = absurd is
 -- a symbol that is rightly said to be simple is put as it stands
 pub as_it_stands : (symbol : Option TextAt) → IfSome symbol IsRightlySimple → is_said_simple symbol ≡ true → text_in symbol ≡ symbol_in symbol
 as_it_stands None right said = refl
-as_it_stands (Some t) right said = sym (plain_text t.text.now (simple_plain t.text.now (right said)))
+as_it_stands (Some t) right said = sym (simple_text t.text.now (right said))
+
+-- two annotations are put as they stand, and so is one that is rightly said to be simple
+pub as_they_stand : (annotation : Option TextAt) (second : Option SecondAt) → IfSome annotation IsRightlySimple → IfSome second (StandsBehind annotation)
+    → are_said_simple annotation second ≡ true → notes_in annotation second ≡ symbols_in annotation second
+as_they_stand annotation None right behind said = as_it_stands annotation right said
+as_they_stand None (Some s) right behind said = absurd behind
+as_they_stand (Some t) (Some s) right behind said =
+    behind.pair ∙ sym (rw (simple_text t.text.now behind.first, simple_text s.text.now behind.second) refl)
+
+-- where there is no second annotation
+pub no_second : (second : Option SecondAt) → is_some second ≡ false → second ≡ None
+no_second None alone = refl
+no_second (Some s) alone = absurd (cc alone)
 
 -- a text that has a byte is that of a symbol
 pub spelling_is : (text : List ℕ) → 0 < length text → symbol_text (v.Known text) ≡ spelling text
@@ -94,16 +112,29 @@ note_is : (annotation : Option TextAt)
 note_is None = refl
 note_is (Some t) = append-nil (symbol_text (v.Known t.text.now) ++ codes "::") ∙ noted t.text.now
 
+-- two annotations, of which the first has a byte, are one text and the last two colons
+paired : (first second : List ℕ) → is_simple first ≡ true → (first ++ codes "::") ++ ((second ++ codes "::") ++ []) ≡ plain_note (first ++ (codes "::" ++ second))
+paired [] second simple = absurd (cc simple)
+paired (b ∷ bytes) second simple =
+    rw (append-nil (second ++ codes "::"), append_assoc (b ∷ bytes) (codes "::") (second ++ codes "::"), append_assoc (b ∷ bytes) (codes "::" ++ second) (codes "::")) refl
+
+notes_are : (annotation : Option TextAt) (second : Option SecondAt) → IfSome second (StandsBehind annotation)
+    → flat_map annotation_text (map user_symbol_at (with_second (listed (option_map placed_text annotation)) second)) ≡ plain_note (symbols_in annotation second)
+notes_are annotation None behind = note_is annotation
+notes_are None (Some s) behind = absurd behind
+notes_are (Some t) (Some s) behind =
+    rw (simple_text t.text.now behind.first) (paired t.text.now (symbol_text (v.Known s.text.now)) behind.first)
+
 -- what stands in front of its head
-front_is : (item : PlainItem)
-    → field_text (user_item (placed_item item)).field ++ flat_map annotation_text (user_item (placed_item item)).annotations ≡ plain_front (symbol_in item.field) (symbol_in item.annotation)
-front_is item = rw (name_is item.field, note_is item.annotation) refl
+front_is : (item : PlainItem) → IfSome item.second (StandsBehind item.annotation)
+    → field_text (user_item (placed_item item)).field ++ flat_map annotation_text (user_item (placed_item item)).annotations ≡ plain_front (symbol_in item.field) (symbols_in item.annotation item.second)
+front_is item behind = rw (name_is item.field, notes_are item.annotation item.second behind) refl
 
 -- its head behind these texts is the item
-pub item_put : (cs : Open) (item : PlainItem) (name note : List ℕ) → name ≡ symbol_in item.field → note ≡ symbol_in item.annotation
-    → head_text cs (plain_front name note) (map_head user_symbol_at (raw_head item.head)) ≡ item_text cs (user_item (placed_item item))
-item_put cs item name note named noted =
-    rw (named, noted) (ap (λ (l : List ℕ). head_text cs l (map_head user_symbol_at (raw_head item.head))) (sym (front_is item)))
+pub item_put : (cs : Open) (item : PlainItem) (name notes : List ℕ) → IfSome item.second (StandsBehind item.annotation) → name ≡ symbol_in item.field → notes ≡ symbols_in item.annotation item.second
+    → head_text cs (plain_front name notes) (map_head user_symbol_at (raw_head item.head)) ≡ item_text cs (user_item (placed_item item))
+item_put cs item name notes behind named noted =
+    rw (named, noted) (ap (λ (l : List ℕ). head_text cs l (map_head user_symbol_at (raw_head item.head))) (sym (front_is item behind)))
 
 -- ---- heads behind the texts of a name and an annotation
 

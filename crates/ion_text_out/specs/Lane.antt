@@ -2,6 +2,7 @@
 use Rattle.std.specs.Prelude.{ℕ, Bool, true, false, List, [], ◌∷◌, ◌++◌, Option, Some, None, codes}
 use Rattle.ion_value.specs.Value.{Known}
 use Rattle.ion_value.specs.declared.plain_item.TextAt.{TextAt}
+use Rattle.ion_value.specs.declared.plain_item.SecondAt.{SecondAt}
 use Rattle.ion_text_out.specs.declared.front.Front.{Front}
 use Rattle.ion_text_out.specs.Text.{Open, before_item, behind_value, symbol_text}
 
@@ -14,6 +15,16 @@ text_in (Some t) = t.text.now
 abbrev pub symbol_in : Option TextAt → List ℕ
 symbol_in None = []
 symbol_in (Some t) = symbol_text (Known t.text.now)
+
+-- the text of annotations, without the last two colons: of two, that of both as they stand
+abbrev pub notes_in : Option TextAt → Option SecondAt → List ℕ
+notes_in annotation None = text_in annotation
+notes_in annotation (Some s) = s.pair.now
+
+-- their canonical text, without the last two colons
+abbrev pub symbols_in : Option TextAt → Option SecondAt → List ℕ
+symbols_in annotation None = symbol_in annotation
+symbols_in annotation (Some s) = symbol_in annotation ++ (codes "::" ++ symbol_text (Known s.text.now))
 
 -- the canonical text of a symbol by its text, nothing where that is empty: then there is none
 abbrev pub spelling : List ℕ → List ℕ
@@ -35,17 +46,22 @@ abbrev pub is_said_simple : Option TextAt → Bool
 is_said_simple None = true
 is_said_simple (Some t) = t.simple
 
+-- the same of annotations: two are
+abbrev pub are_said_simple : Option TextAt → Option SecondAt → Bool
+are_said_simple annotation None = is_said_simple annotation
+are_said_simple annotation (Some s) = true
+
 -- a field's name and a colon, and nothing where there is no name
 abbrev pub plain_name : List ℕ → List ℕ
 plain_name [] = []
 plain_name (b ∷ bs) = (b ∷ bs) ++ codes ":"
 
--- an annotation and its two colons, and nothing where there is none
+-- annotations and their last two colons, and nothing where there is none
 abbrev pub plain_note : List ℕ → List ℕ
 plain_note [] = []
 plain_note (b ∷ bs) = (b ∷ bs) ++ codes "::"
 
--- a field's name and an annotation
+-- a field's name and annotations
 abbrev pub plain_front : List ℕ → List ℕ → List ℕ
 plain_front name note = plain_name name ++ plain_note note
 

@@ -10,8 +10,8 @@ use ion_meter::device::Output;
 use ion_meter::sink::Sink;
 use std::alloc::Allocator;
 
-/// What stands in front of a value: the texts of a field's name and of an annotation, empty where there
-/// is none, and whether each stands between quotes.
+/// What stands in front of a value: the texts of a field's name and of an annotation, or of two and
+/// the colons between them, empty where there is none, and whether each stands between quotes.
 #[derive(Clone, Copy)]
 pub struct Front<'t> {
     name: &'t [u8],

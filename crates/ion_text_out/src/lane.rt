@@ -6,7 +6,7 @@ ghost use Rattle.ion_value.specs.declared.plain_item.TextAt.{TextAt};
 ghost use Rattle.ion_text_out.specs.Writing.{behind_end, closing, shown};
 ghost use Rattle.ion_text_out.specs.Escape.{between_quotes};
 ghost use Rattle.ion_text_out.specs.Text.{end_text, opener};
-ghost use Rattle.ion_text_out.specs.Lane.{front_text, is_said_simple, plain_scalar, spelled_by, spelling, symbol_in, text_in};
+ghost use Rattle.ion_text_out.specs.Lane.{are_said_simple, front_text, is_said_simple, notes_in, plain_scalar, spelled_by, spelling, symbol_in, text_in};
 
 use crate::between::{before, behind, behind_end, closing, opener};
 use crate::front::{Front, front_of, has_room, put_front};
@@ -14,7 +14,7 @@ use crate::quote::{stands_in_string, stands_in_symbol};
 use ion_meter::device::Output;
 use ion_meter::sink::Sink;
 use ion_value::ion_type::Kind;
-use ion_value::plain_item::TextAt;
+use ion_value::plain_item::{SecondAt, TextAt};
 use itoa::Buffer;
 use std::alloc::Allocator;
 
@@ -28,6 +28,21 @@ pub fn text_in(at: Option<TextAt<'_>>) -> (&[u8], bool)
     match at {
         Some(at) => (at.text, at.simple),
         None => (b"", true),
+    }
+}
+
+/// The same of annotations: of two it is that of both as they stand, which are known to be simple.
+#[inline(always)]
+pub fn notes_in<'a>(
+    annotation: Option<TextAt<'a>>,
+    second: Option<SecondAt<'a>>,
+) -> (&'a [u8], bool)
+    ensures text { result.0.now ≡ notes_in annotation.entry second.entry }
+    ensures simple { result.1 ≡ are_said_simple annotation.entry second.entry }
+{
+    match second {
+        Some(second) => (second.pair, true),
+        None => text_in(annotation),
     }
 }
 

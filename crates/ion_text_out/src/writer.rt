@@ -25,8 +25,8 @@ use crate::between::before;
 use crate::front::{front_of, has_room};
 use crate::item::put_item;
 use crate::lane::{
-    both, has_spelling, put_begin, put_end, put_int, put_quoted_symbol, put_scalar, put_string,
-    text_in,
+    both, has_spelling, notes_in, put_begin, put_end, put_int, put_quoted_symbol, put_scalar,
+    put_string, text_in,
 };
 use crate::scalar::{bool_text, null};
 use ion_meter::device::Output;
@@ -148,7 +148,7 @@ impl<A: Allocator + Copy> TextWriter<A> {
 
 // The calls of `take_plain`, by what the item is: each puts all of the item and moves behind it, or
 // answers false and changes nothing. They are calls of their own that take few words: the canonical
-// texts of the item's name and annotation, which are empty where there is none, as no symbol's is.
+// texts of the item's name and annotations, which are empty where there is none, as no symbol's is.
 impl<A: Allocator + Copy> TextWriter<A> {
     // A scalar of this text.
     #[inline(never)]
@@ -547,8 +547,12 @@ impl<O: Output, A: Allocator + Copy> ValueWriter<O, A> for TextWriter<A> {
         item: PlainItem<'_, '_>,
     ) -> bool {
         let name = text_in(item.field);
-        let note = text_in(item.annotation);
+        let note = notes_in(item.annotation, item.second);
         if !both(name.1, note.1) {
+            // The text of two annotations would be spelled as that of one.
+            if item.second.is_some() {
+                return false;
+            }
             if !has_spelling(name.0, name.1) {
                 return false;
             }

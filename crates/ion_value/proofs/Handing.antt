@@ -149,30 +149,36 @@ module _ {W O A : Type 0} (w : WriterOf W O A) where
         behind = (b.0 ++ item ∷ [], stood.0, open_behind-append [] b.0 item ∙ (ap (λ (l : List Kind). open_after l item.head) b.2 ∙ sym opens));
       }
 
-  -- the item goes to the writer
+  -- an item goes to the writer, which has it as it is seen
+  pub hands-seen : (see : PlacedItem → PlacedItem) (reads : Type 0) (depth : ℕ) (old new : Joint W) (before behind : Outgoing O) (m k : Counts) (item seen : PlacedItem) → see item ≡ seen
+      → CanTake w depth old.opened old.writer before → Stands depth old.opened seen → Took w seen old.writer new.writer before behind m k → old.pending ≡ before.pending → new.pending ≡ behind.pending
+      → (reads → old.coming ≡ More item new.coming) → new.opened ≡ open_after old.opened seen.head → new.values ≡ old.values + one_if_closed new.opened
+      → Hands w see reads old new
+  hands-seen see reads depth old new before behind m k item seen is can s took p q gives opens counts = record {
+    item = item;
+    plain = subst IsPlainItem (sym is) s.plain;
+    fits = subst (λ (i : PlacedItem). Fits (w.limits old.writer).depth old.opened i) (sym is) (subst (λ (n : ℕ). Fits n old.opened seen) (sym can.depth_of) s.fits);
+    gives = gives;
+    opens = opens ∙ ap (λ (i : PlacedItem). open_after old.opened i.head) (sym is);
+    counts = counts;
+    limits = took.limits;
+    stands = λ path at kinds.
+        subst (λ (i : PlacedItem). w.stands new.writer (path ++ i ∷ [])) (sym is) (took.stands path at (continues (w.limits old.writer) depth old.opened path seen can.depth_of s kinds)).0;
+    taken = λ path at kinds.
+        subst (λ (i : PlacedItem). w.refusal (w.limits old.writer) path i ≡ None) (sym is) (took.stands path at (continues (w.limits old.writer) depth old.opened path seen can.depth_of s kinds)).1;
+    puts = λ path at kinds.
+        subst (λ (i : PlacedItem). new.pending ≡ old.pending ++ w.adds (w.limits old.writer) path i) (sym is)
+        (q ∙ (took.puts path at (continues (w.limits old.writer) depth old.opened path seen can.depth_of s kinds)
+        ∙ ap (λ (l : List ℕ). l ++ w.adds (w.limits old.writer) path seen) (sym p)));
+  }
+
+  -- the same of an item whose symbols are texts
   pub hands-took : (texts : ℕ → Option (List ℕ)) (reads : Type 0) (depth : ℕ) (old new : Joint W) (before behind : Outgoing O) (m k : Counts) (item : PlacedItem) → CanTake w depth old.opened old.writer before
       → Stands depth old.opened item → Took w item old.writer new.writer before behind m k → old.pending ≡ before.pending → new.pending ≡ behind.pending
       → (reads → old.coming ≡ More item new.coming) → new.opened ≡ open_after old.opened item.head → new.values ≡ old.values + one_if_closed new.opened
       → Hands w (named_item texts) reads old new
   hands-took texts reads depth old new before behind m k item can s took p q gives opens counts =
-      let kept = item-kept texts item s.plain in
-      record {
-        item = item;
-        plain = subst IsPlainItem (sym kept) s.plain;
-        fits = subst (λ (i : PlacedItem). Fits (w.limits old.writer).depth old.opened i) (sym kept) (subst (λ (n : ℕ). Fits n old.opened item) (sym can.depth_of) s.fits);
-        gives = gives;
-        opens = opens ∙ ap (λ (i : PlacedItem). open_after old.opened i.head) (sym kept);
-        counts = counts;
-        limits = took.limits;
-        stands = λ path at kinds.
-            subst (λ (i : PlacedItem). w.stands new.writer (path ++ i ∷ [])) (sym kept) (took.stands path at (continues (w.limits old.writer) depth old.opened path item can.depth_of s kinds)).0;
-        taken = λ path at kinds.
-            subst (λ (i : PlacedItem). w.refusal (w.limits old.writer) path i ≡ None) (sym kept) (took.stands path at (continues (w.limits old.writer) depth old.opened path item can.depth_of s kinds)).1;
-        puts = λ path at kinds.
-            subst (λ (i : PlacedItem). new.pending ≡ old.pending ++ w.adds (w.limits old.writer) path i) (sym kept)
-            (q ∙ (took.puts path at (continues (w.limits old.writer) depth old.opened path item can.depth_of s kinds)
-            ∙ ap (λ (l : List ℕ). l ++ w.adds (w.limits old.writer) path item) (sym p)));
-      }
+      hands-seen (named_item texts) reads depth old new before behind m k item item (item-kept texts item s.plain) can s took p q gives opens counts
 
   -- one after the other
   pub feeds-then : {see : PlacedItem → PlacedItem} {reads : Type 0} {a b c : Joint W} → Feeds w see reads a b → Feeds w see reads b c → Feeds w see reads a c

@@ -1,6 +1,7 @@
--- What is seen of plain items: those whose symbols are texts, with one annotation at most.
-use Rattle.std.specs.Prelude.{◌≡◌, ◌==◌, ℕ, true, false, List, [], ◌∷◌, Option, Some, None, option_map, IfSome, ⊤}
+-- What is seen of plain items: those whose symbols are texts, with two annotations at most.
+use Rattle.std.specs.Prelude.{◌≡◌, ◌==◌, ℕ, true, false, List, [], ◌∷◌, ◌++◌, Option, Some, None, option_map, IfSome, ⊤, codes}
 use Rattle.ion_value.specs.declared.plain_item.TextAt.{TextAt}
+use Rattle.ion_value.specs.declared.plain_item.SecondAt.{SecondAt}
 use Rattle.ion_value.specs.declared.plain_item.PlainItem.{PlainItem}
 use Rattle.ion_value.specs.Decimal.{decimal_text}
 use Rattle.ion_value.specs.Digits.{first_is}
@@ -19,11 +20,30 @@ abbrev pub listed : Option SymbolAt → List SymbolAt
 listed None = []
 listed (Some s) = s ∷ []
 
+-- a second annotation, as a symbol
+abbrev pub second_text : SecondAt → SymbolAt
+second_text s = record { symbol = Text s.text.now; place = s.place }
+
+-- the annotations with a second one behind the first, if there is one
+abbrev pub with_second : List SymbolAt → Option SecondAt → List SymbolAt
+with_second notes None = notes
+with_second notes (Some s) = notes ++ second_text s ∷ []
+
+-- the item without its second annotation
+abbrev pub single_item : PlainItem → PlacedItem
+single_item item = record {
+  field = option_map placed_text item.field;
+  annotations = listed (option_map placed_text item.annotation);
+  head = raw_head item.head;
+  place = item.place;
+  top = item.top;
+}
+
 -- the item
 abbrev pub placed_item : PlainItem → PlacedItem
 placed_item item = record {
   field = option_map placed_text item.field;
-  annotations = listed (option_map placed_text item.annotation);
+  annotations = with_second (listed (option_map placed_text item.annotation)) item.second;
   head = raw_head item.head;
   place = item.place;
   top = item.top;
@@ -41,7 +61,7 @@ abbrev pub HasKnownName : Option SymbolAt → Type 0
 HasKnownName None = ⊤
 HasKnownName (Some s) = IsKnown s.symbol
 
--- a symbol is a text that does not begin with a dollar sign, as all texts do that mean something to symbol tables
+-- a symbol is a text that does not begin with a dollar sign, as all do that mean something to symbol tables as annotations
 abbrev pub HasNoDollar : Symbol → Type 0
 HasNoDollar (Text bytes) = first_is (λ b. b == 36) bytes ≡ false
 HasNoDollar (Id id) = ⊥
@@ -82,10 +102,22 @@ pub record IsPlainItem (item : PlacedItem) : Type 0 where
 abbrev pub IsRightlySimple : TextAt → Type 0
 IsRightlySimple t = t.simple ≡ true → is_simple t.text.now ≡ true
 
--- so are an item's name and its annotation
+-- a second annotation stands right behind the two colons of the first, and both are simple
+pub record IsPair (one : TextAt) (other : SecondAt) : Type 0 where
+  pub first : is_simple one.text.now ≡ true
+  pub second : is_simple other.text.now ≡ true
+  pub pair : other.pair.now ≡ one.text.now ++ (codes "::" ++ other.text.now)
+
+-- the same where the first may not be there: then there is no second one
+abbrev pub StandsBehind : Option TextAt → SecondAt → Type 0
+StandsBehind None second = ⊥
+StandsBehind (Some first) second = IsPair first second
+
+-- so are an item's name and its annotations
 pub record SaysRightly (item : PlainItem) : Type 0 where
   pub field : IfSome item.field IsRightlySimple
   pub annotation : IfSome item.annotation IsRightlySimple
+  pub second : IfSome item.second (StandsBehind item.annotation)
 
 -- ---- items that come with a text
 

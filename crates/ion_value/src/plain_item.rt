@@ -1,4 +1,4 @@
-//! Items whose symbols are texts, with one annotation at most: what most items are, and what is copied
+//! Items whose symbols are texts, with two annotations at most: what most items are, and what is copied
 //! with the fewest steps.
 
 use crate::item::Head;
@@ -15,16 +15,29 @@ pub struct TextAt<'a> {
     pub place: u64,
 }
 
-/// An item of a user value that has one annotation at most. Its name, its annotation and its head,
-/// where that is a symbol, are texts, and no ids. The annotation does not begin with a dollar sign, so
-/// that no such item begins a declaration. Names have a lifetime of their own, since they may stand in
-/// a symbol table.
+/// A second annotation, right behind the two colons of the first. Both are known to be simple.
+#[derive(Clone, Copy, Debug, PartialEq, Eq)]
+pub struct SecondAt<'a> {
+    /// The bytes of the text in UTF-8.
+    pub text: &'a [u8],
+    /// The place of its first byte.
+    pub place: u64,
+    /// The bytes of both, with the two colons between them: `a::b`.
+    pub pair: &'a [u8],
+}
+
+/// An item of a user value that has two annotations at most. Its name, its annotations and its head,
+/// where that is a symbol, are texts, and no ids. No annotation begins with a dollar sign, so that no
+/// such item begins a declaration. Names have a lifetime of their own, since they may stand in a symbol
+/// table.
 #[derive(Clone, Copy)]
 pub struct PlainItem<'n, 'h> {
     /// The field's name, inside a struct.
     pub field: Option<TextAt<'n>>,
-    /// The annotation, if there is one.
+    /// The annotation, if there is one, or the first of two.
     pub annotation: Option<TextAt<'n>>,
+    /// The second annotation, if there are two.
+    pub second: Option<SecondAt<'n>>,
     /// What the item is.
     pub head: Head<'h>,
     /// The canonical text of the head, where a reader has it: of an int, a decimal, a timestamp or a

@@ -347,6 +347,7 @@ fn item_behind<'n, 'h>(
     ensures { result ≡ record {
       field = front.entry.field;
       annotation = front.entry.annotation;
+      second = None;
       head = shown.entry.head;
       spelled = shown.entry.spelled;
       place = place;
@@ -356,6 +357,7 @@ fn item_behind<'n, 'h>(
     PlainItem {
         field: front.field,
         annotation: front.annotation,
+        second: None,
         head: shown.head,
         spelled: shown.spelled,
         place,
@@ -445,6 +447,7 @@ impl<I: Input, A: Allocator + Copy> BinReader<I, A> {
         let item = PlainItem {
             field: None,
             annotation: None,
+            second: None,
             head: Head::End,
             spelled: None,
             place: self.source.place(),

@@ -1,7 +1,7 @@
 //! Plain items, added at once to a value that is open.
 ghost use Rattle.std.specs.Prelude.{◌≡◌, ◌<◌, ◌∷◌, [], length, true, false, map, option_map, IfSome};
 ghost use Rattle.ion_value.specs.Items.{raw_head, symbol_at};
-ghost use Rattle.ion_value.specs.PlainItems.{listed, placed_item, placed_text};
+ghost use Rattle.ion_value.specs.PlainItems.{listed, placed_text};
 ghost use Rattle.ion_value.specs.Standing.{HeadInRange};
 ghost use Rattle.ion_value.specs.Writable.{field_symbols};
 ghost use Rattle.ion_value.specs.Number.{uint_octets, var_int_octets};
@@ -10,7 +10,7 @@ ghost use Rattle.ion_binary.specs.Canonical.{annotation_octets, field_octets, he
 ghost use Rattle.ion_binary.specs.Held.{counted_ids};
 ghost use Rattle.ion_binary.specs.ItemOctets.{head_name, head_octets, user_head};
 ghost use Rattle.ion_binary.specs.Opening.{MayCome, both_octets, name_octets};
-ghost use Rattle.ion_binary.specs.Plain.{AddsPlain, EndsPlain, HaveIds, IsWhole};
+ghost use Rattle.ion_binary.specs.Plain.{AddsPlain, EndsPlain, HaveIds, IsWhole, as_item};
 ghost use Rattle.ion_binary.specs.Writer.{CanTake};
 ghost use Rattle.ion_binary.specs.Writing.{head_symbols};
 
@@ -27,6 +27,37 @@ use ion_value::item::{Head, Sym, SymAt};
 use ion_value::plain_item::{PlainItem, TextAt};
 use std::alloc::Allocator;
 
+/// A plain item that has one annotation at most. It goes to calls by memory, and a second annotation
+/// with it would be copied for each item.
+#[derive(Clone, Copy)]
+pub(super) struct SingleItem<'n, 'h> {
+    pub(super) field: Option<TextAt<'n>>,
+    pub(super) annotation: Option<TextAt<'n>>,
+    pub(super) head: Head<'h>,
+    pub(super) place: u64,
+    pub(super) top: u64,
+}
+
+/// The item without its second annotation.
+#[inline(always)]
+pub(super) fn single_of<'n, 'h>(item: PlainItem<'n, 'h>) -> SingleItem<'n, 'h>
+    ensures { result ≡ record {
+      field = item.entry.field;
+      annotation = item.entry.annotation;
+      head = item.entry.head;
+      place = item.entry.place;
+      top = item.entry.top;
+    } }
+{
+    SingleItem {
+        field: item.field,
+        annotation: item.annotation,
+        head: item.head,
+        place: item.place,
+        top: item.top,
+    }
+}
+
 // The ids of an item's field and of its annotation, each 0 where there is none.
 #[derive(Drop)]
 struct Ids {
@@ -38,11 +69,11 @@ impl<A: Allocator + Copy> BinWriter<A> {
     // Adds an item behind which a value is open, where all is there that it needs: ids of its texts,
     // and room. Else it answers false.
     #[inline(always)]
-    pub(super) fn add_plain(&mut self, meter: &mut Meter<A>, item: PlainItem<'_, '_>) -> bool
+    pub(super) fn add_plain(&mut self, meter: &mut Meter<A>, item: SingleItem<'_, '_>) -> bool
         requires can_take { CanTake self.old meter.old }
-        requires comes { MayCome self.old.limits self.old.open_value (placed_item item) }
+        requires comes { MayCome self.old.limits self.old.open_value (as_item item) }
         ensures { AddsPlain self.old self.new meter.old meter.new
-            (placed_item item.entry) result }
+            (as_item item.entry) result }
     {
         match item.head {
             Head::Begin(kind) => self.begin_plain(meter, &item, kind),
@@ -60,12 +91,12 @@ impl<A: Allocator + Copy> BinWriter<A> {
 
     // Begins a container that has no annotation, in another or at top level where no text is forgotten.
     #[inline(always)]
-    fn begin_plain(&mut self, meter: &mut Meter<A>, item: &PlainItem<'_, '_>, kind: Kind) -> bool
+    fn begin_plain(&mut self, meter: &mut Meter<A>, item: &SingleItem<'_, '_>, kind: Kind) -> bool
         requires can_take { CanTake self.old meter.old }
-        requires comes { MayCome self.old.limits self.old.open_value (placed_item item.now) }
+        requires comes { MayCome self.old.limits self.old.open_value (as_item item.now) }
         requires head { raw_head item.now.head ≡ begin kind }
         ensures { AddsPlain self.old self.new meter.old meter.new
-            (placed_item item.now) result }
+            (as_item item.now) result }
     {
         let begins = self.open_value.headers.len() == 0;
         if begins && self.symbols.cost() > self.limits.symbols / 2 {
@@ -83,12 +114,12 @@ impl<A: Allocator + Copy> BinWriter<A> {
 
     // Ends a container that stands in another.
     #[inline(always)]
-    fn end_plain(&mut self, meter: &mut Meter<A>, item: &PlainItem<'_, '_>) -> bool
+    fn end_plain(&mut self, meter: &mut Meter<A>, item: &SingleItem<'_, '_>) -> bool
         requires can_take { CanTake self.old meter.old }
-        requires comes { MayCome self.old.limits self.old.open_value (placed_item item.now) }
+        requires comes { MayCome self.old.limits self.old.open_value (as_item item.now) }
         requires head { raw_head item.now.head ≡ end }
         ensures { AddsPlain self.old self.new meter.old meter.new
-            (placed_item item.now) result }
+            (as_item item.now) result }
     {
         let _item = item;
         self.open_value.end_if_room(meter, self.limits)
@@ -102,13 +133,13 @@ impl<A: Allocator + Copy> BinWriter<A> {
         &mut self,
         meter: &mut Meter<A>,
         sink: &mut Sink<O, A>,
-        item: &PlainItem<'_, '_>,
+        item: &SingleItem<'_, '_>,
     ) -> bool
         requires can_take { CanTake self.old meter.old }
-        requires comes { MayCome self.old.limits self.old.open_value (placed_item item.now) }
+        requires comes { MayCome self.old.limits self.old.open_value (as_item item.now) }
         requires head { raw_head item.now.head ≡ end }
         ensures ends { EndsPlain self.old self.new meter.old meter.new
-            (placed_item item.now) sink.old.pending sink.new.pending result }
+            (as_item item.now) sink.old.pending sink.new.pending result }
         ensures declines { result ≡ false → sink.new ≡ sink.old }
         ensures device { sink.new.device ≡ sink.old.device }
         ensures fault { sink.new.fault ≡ sink.old.fault }
@@ -136,12 +167,12 @@ impl<A: Allocator + Copy> BinWriter<A> {
 
     // Adds a scalar.
     #[inline(never)]
-    fn add_spelled(&mut self, meter: &mut Meter<A>, item: &PlainItem<'_, '_>) -> bool
+    fn add_spelled(&mut self, meter: &mut Meter<A>, item: &SingleItem<'_, '_>) -> bool
         requires can_take { CanTake self.old meter.old }
-        requires comes { MayCome self.old.limits self.old.open_value (placed_item item.now) }
+        requires comes { MayCome self.old.limits self.old.open_value (as_item item.now) }
         requires whole { IsWhole (raw_head item.now.head) }
         ensures { AddsPlain self.old self.new meter.old meter.new
-            (placed_item item.now) result }
+            (as_item item.now) result }
     {
         let Some(name) = self.name_of(item.head) else {
             return false;
@@ -156,12 +187,12 @@ impl<A: Allocator + Copy> BinWriter<A> {
 
     // Adds an int: one that 64 bits hold without an `ArrayVec` of its octets.
     #[inline(always)]
-    fn add_int(&mut self, meter: &mut Meter<A>, item: &PlainItem<'_, '_>, number: Int) -> bool
+    fn add_int(&mut self, meter: &mut Meter<A>, item: &SingleItem<'_, '_>, number: Int) -> bool
         requires can_take { CanTake self.old meter.old }
-        requires comes { MayCome self.old.limits self.old.open_value (placed_item item.now) }
+        requires comes { MayCome self.old.limits self.old.open_value (as_item item.now) }
         requires head { raw_head item.now.head ≡ whole (int number) }
         ensures { AddsPlain self.old self.new meter.old meter.new
-            (placed_item item.now) result }
+            (as_item item.now) result }
     {
         let code = if number.negative { 3 } else { 2 };
         match u64::try_from(number.magnitude) {
@@ -172,12 +203,12 @@ impl<A: Allocator + Copy> BinWriter<A> {
 
     // Adds an int that 64 bits do not hold.
     #[inline(always)]
-    fn add_wide(&mut self, meter: &mut Meter<A>, item: &PlainItem<'_, '_>, number: Int) -> bool
+    fn add_wide(&mut self, meter: &mut Meter<A>, item: &SingleItem<'_, '_>, number: Int) -> bool
         requires can_take { CanTake self.old meter.old }
-        requires comes { MayCome self.old.limits self.old.open_value (placed_item item.now) }
+        requires comes { MayCome self.old.limits self.old.open_value (as_item item.now) }
         requires head { raw_head item.now.head ≡ whole (int number) }
         ensures { AddsPlain self.old self.new meter.old meter.new
-            (placed_item item.now) result }
+            (as_item item.now) result }
     {
         let spelled = spell_int(number);
         let octets = Octets {
@@ -189,12 +220,12 @@ impl<A: Allocator + Copy> BinWriter<A> {
 
     // Adds a symbol.
     #[inline(always)]
-    fn add_symbol(&mut self, meter: &mut Meter<A>, item: &PlainItem<'_, '_>, at: SymAt<'_>) -> bool
+    fn add_symbol(&mut self, meter: &mut Meter<A>, item: &SingleItem<'_, '_>, at: SymAt<'_>) -> bool
         requires can_take { CanTake self.old meter.old }
-        requires comes { MayCome self.old.limits self.old.open_value (placed_item item.now) }
+        requires comes { MayCome self.old.limits self.old.open_value (as_item item.now) }
         requires head { raw_head item.now.head ≡ whole (symbol (symbol_at at)) }
         ensures { AddsPlain self.old self.new meter.old meter.new
-            (placed_item item.now) result }
+            (as_item item.now) result }
     {
         let Sym::Text(text) = at.sym else {
             return false;
@@ -207,12 +238,12 @@ impl<A: Allocator + Copy> BinWriter<A> {
 
     // Adds a string.
     #[inline(always)]
-    fn add_string(&mut self, meter: &mut Meter<A>, item: &PlainItem<'_, '_>, text: &[u8]) -> bool
+    fn add_string(&mut self, meter: &mut Meter<A>, item: &SingleItem<'_, '_>, text: &[u8]) -> bool
         requires can_take { CanTake self.old meter.old }
-        requires comes { MayCome self.old.limits self.old.open_value (placed_item item.now) }
+        requires comes { MayCome self.old.limits self.old.open_value (as_item item.now) }
         requires head { raw_head item.now.head ≡ whole (string text.now) }
         ensures { AddsPlain self.old self.new meter.old meter.new
-            (placed_item item.now) result }
+            (as_item item.now) result }
     {
         let Some(ids) = self.ids_of(item) else {
             return false;
@@ -227,14 +258,14 @@ impl<A: Allocator + Copy> BinWriter<A> {
     fn add_decimal(
         &mut self,
         meter: &mut Meter<A>,
-        item: &PlainItem<'_, '_>,
+        item: &SingleItem<'_, '_>,
         number: Decimal,
     ) -> bool
         requires can_take { CanTake self.old meter.old }
-        requires comes { MayCome self.old.limits self.old.open_value (placed_item item.now) }
+        requires comes { MayCome self.old.limits self.old.open_value (as_item item.now) }
         requires head { raw_head item.now.head ≡ whole (decimal number) }
         ensures { AddsPlain self.old self.new meter.old meter.new
-            (placed_item item.now) result }
+            (as_item item.now) result }
     {
         let magnitude = number.coefficient;
         if magnitude == 0 || magnitude >= 1 << 63 {
@@ -263,19 +294,19 @@ impl<A: Allocator + Copy> BinWriter<A> {
     fn add_number(
         &mut self,
         meter: &mut Meter<A>,
-        item: &PlainItem<'_, '_>,
+        item: &SingleItem<'_, '_>,
         code: u8,
         n: u64,
     ) -> bool
         requires can_take { CanTake self.old meter.old }
-        requires comes { MayCome self.old.limits self.old.open_value (placed_item item.now) }
+        requires comes { MayCome self.old.limits self.old.open_value (as_item item.now) }
         requires whole { IsWhole (raw_head item.now.head) }
         requires known { HaveIds self.old.symbols.texts (head_symbols (raw_head item.now.head)) }
         requires code { code < 16 }
         requires octets { headed code (uint_octets n)
             ≡ head_octets (id_in self.old.symbols.texts) (user_head item.now.head) }
         ensures { AddsPlain self.old self.new meter.old meter.new
-            (placed_item item.now) result }
+            (as_item item.now) result }
     {
         let Some(ids) = self.ids_of(item) else {
             return false;
@@ -286,15 +317,15 @@ impl<A: Allocator + Copy> BinWriter<A> {
 
     // Adds a scalar of one octet.
     #[inline(always)]
-    fn add_octet(&mut self, meter: &mut Meter<A>, item: &PlainItem<'_, '_>, octet: u8) -> bool
+    fn add_octet(&mut self, meter: &mut Meter<A>, item: &SingleItem<'_, '_>, octet: u8) -> bool
         requires can_take { CanTake self.old meter.old }
-        requires comes { MayCome self.old.limits self.old.open_value (placed_item item.now) }
+        requires comes { MayCome self.old.limits self.old.open_value (as_item item.now) }
         requires whole { IsWhole (raw_head item.now.head) }
         requires known { HaveIds self.old.symbols.texts (head_symbols (raw_head item.now.head)) }
         requires octets { octet ∷ []
             ≡ head_octets (id_in self.old.symbols.texts) (user_head item.now.head) }
         ensures { AddsPlain self.old self.new meter.old meter.new
-            (placed_item item.now) result }
+            (as_item item.now) result }
     {
         let Some(ids) = self.ids_of(item) else {
             return false;
@@ -308,17 +339,17 @@ impl<A: Allocator + Copy> BinWriter<A> {
     fn add_scalar(
         &mut self,
         meter: &mut Meter<A>,
-        item: &PlainItem<'_, '_>,
+        item: &SingleItem<'_, '_>,
         scalar: &Octets<'_>,
     ) -> bool
         requires can_take { CanTake self.old meter.old }
-        requires comes { MayCome self.old.limits self.old.open_value (placed_item item.now) }
+        requires comes { MayCome self.old.limits self.old.open_value (as_item item.now) }
         requires whole { IsWhole (raw_head item.now.head) }
         requires known { HaveIds self.old.symbols.texts (head_symbols (raw_head item.now.head)) }
         requires octets { both_octets scalar.now
             ≡ head_octets (id_in self.old.symbols.texts) (user_head item.now.head) }
         ensures { AddsPlain self.old self.new meter.old meter.new
-            (placed_item item.now) result }
+            (as_item item.now) result }
     {
         let Some(ids) = self.ids_of(item) else {
             return false;
@@ -330,7 +361,7 @@ impl<A: Allocator + Copy> BinWriter<A> {
     // The ids of an item's field and of its annotation, where a container is open and their texts have
     // ids.
     #[inline(always)]
-    fn ids_of(&self, item: &PlainItem<'_, '_>) -> Option<Ids>
+    fn ids_of(&self, item: &SingleItem<'_, '_>) -> Option<Ids>
         ensures open { IfSome result (λ _. 0 < length self.now.open_value.headers) }
         ensures field_known { IfSome result (λ _. HaveIds self.now.symbols.texts
             (field_symbols (option_map placed_text item.now.field))) }

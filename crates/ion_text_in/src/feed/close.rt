@@ -79,6 +79,7 @@ pub(super) fn close<'a, W: ValueWriter<O, A>, O: Output, A: Allocator + Copy>(
     let item = PlainItem {
         field: None,
         annotation: None,
+        second: None,
         head: Head::End,
         spelled: None,
         place: end - next.rest.len() as u64,

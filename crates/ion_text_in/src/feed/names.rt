@@ -88,9 +88,9 @@ fn string_start<'a>(limits: Limits, place: u64, bytes: &'a [u8]) -> Option<Start
     }
 }
 
-// What the value begins with behind a name, where a colon stands behind that.
+/// What the value begins with behind a name, where a colon stands behind that.
 #[inline(always)]
-fn behind_name<'a>(name: TextAt<'a>, bytes: &'a [u8]) -> Option<Start<'a>>
+pub(super) fn behind_name<'a>(name: TextAt<'a>, bytes: &'a [u8]) -> Option<Start<'a>>
     ensures { IfSome result (IsBehindName name.entry bytes.now) }
 {
     let Some(colon) = to_colon(bytes) else {

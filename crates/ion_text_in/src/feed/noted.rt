@@ -1,15 +1,16 @@
-//! An annotation in a lane.
-ghost use Rattle.std.specs.Prelude.{◌≡◌, ◌==◌, ◌≤◌, ◌++◌, ℕ, Bool, List, true, length, IfSome};
+//! Annotations in a lane.
+ghost use Rattle.std.specs.Prelude.{◌≡◌, ◌==◌, ◌+◌, ◌-◌, ◌^◌, ◌<◌, ◌≤◌, ◌++◌, ℕ, Bool, List, true, take, length, codes, IfSome};
 ghost use Rattle.ion_value.specs.Digits.{first_is};
-ghost use Rattle.ion_text_in.specs.Feeding.{Begins, IsBare, IsBehindNote, IsNoted, IsSimpleWord};
+ghost use Rattle.ion_text_in.specs.Feeding.{Begins, IsBare, IsBehind, IsBehindColons, IsBehindNote, IsBehindSecond, IsFurther, IsNoted, IsSimpleWord, IsStart, StandsNoted};
 ghost use Rattle.ion_text_in.specs.Token.{a_quoted, a_word, first_at, two_colons};
 
 use super::quotes::quoted_text;
-use super::{Start, behind, front, next_told};
+use super::{Further, Next, Spot, Start, WORD, behind, front, next_told};
 use crate::quoted::{Quote, scan_text};
 use crate::scanned::Scanned;
+use crate::word::simple_word;
 use ion_meter::limits::Limits;
-use ion_value::plain_item::TextAt;
+use ion_value::plain_item::{SecondAt, TextAt};
 
 /// Behind the word that stands here and begins at a place, as an annotation: where two colons stand
 /// behind it, and a value begins behind them.
@@ -67,17 +68,134 @@ fn behind_note<'a>(
 ) -> Option<Start<'a>>
     ensures { IfSome result (IsBehindNote limits start.entry note.entry colons.now) }
 {
-    if !shows_colons(colons) || limits.scalar < 16 + note.text.len() as u64 {
+    if limits.scalar < 16 + note.text.len() as u64 {
+        return None;
+    }
+    let Some(value) = behind_colons(colons) else {
+        return None;
+    };
+    Some(Start {
+        field: start.field,
+        note: Some(note),
+        next: value,
+    })
+}
+
+// What a value begins with behind two colons, where these stand here.
+#[inline(always)]
+fn behind_colons(colons: &[u8]) -> Option<Next<'_>>
+    ensures { IfSome result (IsBehindColons colons.now) }
+{
+    if !shows_colons(colons) {
         return None;
     }
     let value = next_told(behind(2, colons));
     if value.rest.is_empty() {
         return None;
     }
-    Some(Start {
-        field: start.field,
-        note: Some(note),
-        next: value,
+    Some(value)
+}
+
+/// Behind the second annotation, where one stands right behind the two colons of the first and both
+/// are simple. Else the value begins where it did.
+#[inline(always)]
+pub(super) fn with_second<'a>(
+    spot: Spot<'a>,
+    start: Start<'a>,
+    limits: Limits,
+    end: u64,
+) -> Further<'a>
+    requires within { length spot.rest.now ≤ end }
+    requires start { IsStart limits spot (end - length spot.rest.now) start }
+    ensures { IsFurther result.second limits spot.entry
+        (end - length spot.entry.rest.now) result.start }
+{
+    match second_start(spot, start, limits, end) {
+        Some(further) => further,
+        None => Further {
+            start,
+            second: None,
+        },
+    }
+}
+
+// The same where there is such a second annotation.
+#[inline(always)]
+fn second_start<'a>(
+    spot: Spot<'a>,
+    start: Start<'a>,
+    limits: Limits,
+    end: u64,
+) -> Option<Further<'a>>
+    requires within { length spot.rest.now ≤ end }
+    requires start { IsStart limits spot (end - length spot.rest.now) start }
+    ensures { IfSome result (λ f. IsFurther f.second limits spot.entry
+        (end - length spot.entry.rest.now) f.start) }
+{
+    let Some(note) = start.note else {
+        return None;
+    };
+    if start.next.told != WORD || !note.simple {
+        return None;
+    }
+    let Some(bytes) = from_note(spot, note, start.next.rest, end) else {
+        return None;
+    };
+    let Some(count) = simple_word(limits.scalar, start.next.rest) else {
+        return None;
+    };
+    let text = front(count, start.next.rest);
+    let pair = front(note.text.len() + 2 + count, bytes);
+    let place = end - start.next.rest.len() as u64;
+    let second = SecondAt { text, place, pair };
+    behind_second(start, note, second, behind(count, start.next.rest), limits)
+}
+
+// The bytes from an annotation on, where nothing but its two colons stands between it and a rest
+// of them.
+#[inline(always)]
+fn from_note<'a>(spot: Spot<'a>, note: TextAt<'a>, rest: &[u8], end: u64) -> Option<&'a [u8]>
+    requires within { length spot.rest.now ≤ end }
+    requires part { IsBehind spot.rest.now rest.now }
+    requires stands { StandsNoted (end - length spot.rest.now) spot.rest.now note }
+    ensures { IfSome result (λ bytes.
+        bytes.now ≡ note.entry.text.now ++ (codes "::" ++ rest.now)) }
+{
+    let from = (note.place - (end - spot.rest.len() as u64)) as usize;
+    let bytes = behind(from, spot.rest);
+    if bytes.len() != note.text.len() + 2 + rest.len() {
+        return None;
+    }
+    Some(bytes)
+}
+
+// Behind a second annotation: where the bytes of both are no more than may be, two colons stand
+// here, and a value begins behind them.
+#[inline(always)]
+fn behind_second<'a>(
+    start: Start<'a>,
+    note: TextAt<'a>,
+    second: SecondAt<'a>,
+    colons: &'a [u8],
+    limits: Limits,
+) -> Option<Further<'a>>
+    requires small { length note.text.now + length second.text.now < 2 ^ 63 }
+    ensures { IfSome result
+        (IsBehindSecond limits start.entry note.entry second.entry colons.now) }
+{
+    if limits.scalar < 32 + (note.text.len() + second.text.len()) as u64 {
+        return None;
+    }
+    let Some(value) = behind_colons(colons) else {
+        return None;
+    };
+    Some(Further {
+        start: Start {
+            field: start.field,
+            note: start.note,
+            next: value,
+        },
+        second: Some(second),
     })
 }
 
@@ -86,6 +204,7 @@ fn behind_note<'a>(
 fn shows_colons(bytes: &[u8]) -> bool
     ensures some { result ≡ true → 2 ≤ length bytes.now }
     ensures bare { result ≡ true → IsBare bytes.now }
+    ensures same { result ≡ true → take 2 bytes.now ≡ codes "::" }
     ensures first { result ≡ true → (in_sexp : Bool) (more : List ℕ)
         → first_at in_sexp (bytes.now ++ more) ≡ two_colons }
 {
@@ -95,9 +214,9 @@ fn shows_colons(bytes: &[u8]) -> bool
     true
 }
 
-// Whether these bytes begin with a dollar sign.
+/// Whether these bytes begin with a dollar sign.
 #[inline(always)]
-fn begins_dollar(bytes: &[u8]) -> bool
+pub(super) fn begins_dollar(bytes: &[u8]) -> bool
     ensures { result ≡ first_is (λ b. b == 36) bytes.now }
 {
     matches!(bytes, [b'$', ..])

@@ -1,5 +1,5 @@
 //! What stands between quotes in a lane: texts, and symbols as values and as annotations.
-ghost use Rattle.std.specs.Prelude.{◌≡◌, ◌+◌, ◌-◌, ◌^◌, ◌<◌, ◌≤◌, ◌++◌, ℕ, Bool, List, true, None, length, IfSome};
+ghost use Rattle.std.specs.Prelude.{◌≡◌, ◌+◌, ◌-◌, ◌^◌, ◌<◌, ◌≤◌, ◌++◌, ℕ, Bool, List, true, false, None, length, IfSome};
 ghost use Rattle.ion_value.specs.PlainItems.{IsRightlySimple};
 ghost use Rattle.ion_text_in.specs.Feeding.{lane, CanFeed, IsNext, IsStart, Moved};
 ghost use Rattle.ion_text_in.specs.Token.{a_quoted, first_at};
@@ -24,6 +24,7 @@ use std::alloc::Allocator;
 pub(super) fn quoted_text<'a>(text: &'a [u8], place: u64) -> TextAt<'a>
     ensures text { result.text.now ≡ text.now }
     ensures place { result.place ≡ place }
+    ensures plain { result.simple ≡ false }
     ensures says { IsRightlySimple result }
 {
     TextAt {
@@ -171,7 +172,7 @@ fn any_quoted<'a, W: ValueWriter<O, A>, O: Output, A: Allocator + Copy>(
     if let Some(found) = quoted_head(limits, place, start.next.rest) {
         let mut at = spot;
         let more = scalar(
-            &mut at, start, found, limits, end, kinds, meter, writer, sink,
+            &mut at, start, None, found, limits, end, kinds, meter, writer, sink,
         );
         return Turned { spot: at, more };
     }

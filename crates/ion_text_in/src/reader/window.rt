@@ -1,7 +1,7 @@
 //! What lies whole in the window, handed to a writer.
 ghost use Rattle.std.specs.Prelude.{◌≡◌, ◌+◌, ◌*◌, ◌-◌, ◌≤◌};
 ghost use Rattle.ion_meter.specs.Sources.{Stands};
-ghost use Rattle.ion_text_in.specs.Feeding.{reader_lane, window_end, CanFeed, Moved, PassedLent};
+ghost use Rattle.ion_text_in.specs.Feeding.{reader_lane, window_end, CanFeed, MovedBy, PassedLent};
 ghost use Rattle.ion_text_in.specs.Steps.{held_by, left_to};
 
 use super::TextReader;
@@ -10,22 +10,25 @@ use crate::feed::{Spot, feed_items, innermost};
 use ion_meter::device::{Input, Output};
 use ion_meter::meter::Meter;
 use ion_meter::sink::Sink;
+use ion_value::names::Names;
 use ion_value::writer::ValueWriter;
 use std::alloc::Allocator;
 
 impl<I: Input, A: Allocator + Copy> TextReader<I, A> {
     // Hands on what lies whole in the window, between two items: how many values at top level end.
     #[inline(never)]
-    pub(super) fn feed_window<W: ValueWriter<O, A>, O: Output>(
+    pub(super) fn feed_window<N: Names, W: ValueWriter<O, A>, O: Output>(
         &mut self,
         meter: &mut Meter<A>,
+        names: &N,
         writer: &mut W,
         sink: &mut Sink<O, A>,
     ) -> u64
         requires stands { Stands self.old.source }
         requires can { CanFeed W.ValueWriter self.old.limits (window_end self.old.source)
             (reader_lane self.old 0 writer.old sink.old meter.old) }
-        ensures moved { Moved W.ValueWriter self.old.limits (window_end self.old.source)
+        ensures moved { MovedBy W.ValueWriter self.old.limits (window_end self.old.source)
+            (N.text names.now)
             (reader_lane self.old 0 writer.old sink.old meter.old)
             (reader_lane self.new result writer.new sink.new meter.new) }
         ensures passed { PassedLent self.old.source self.new.source }
@@ -48,7 +51,16 @@ impl<I: Input, A: Allocator + Copy> TextReader<I, A> {
             kind: member_kind(innermost(&self.kinds)),
         };
         let end = self.source.place() + count as u64;
-        let last = feed_items(spot, self.limits, end, &mut self.kinds, meter, writer, sink);
+        let last = feed_items(
+            spot,
+            names,
+            self.limits,
+            end,
+            &mut self.kinds,
+            meter,
+            writer,
+            sink,
+        );
         let taken = count - last.rest.len();
         self.expected = expected_in(last.separator, last.kind);
         self.top = last.top;

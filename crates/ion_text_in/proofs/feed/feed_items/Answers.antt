@@ -1,6 +1,6 @@
 use Rattle.std.proofs.Common.{arith}
 use Rattle.ion_text_in.specs.Feeding.{lane}
-use Rattle.ion_text_in.proofs.FeedLanes.{can-moved, moved-none, moved-then}
+use Rattle.ion_text_in.proofs.FeedLanes.{can-moved, moved-by, moved-none, moved-then}
 use Rattle.ion_text_in.proofs.feed.feed_items.Goals as goal
 
 pub runs-init : goal.runs-init
@@ -17,42 +17,46 @@ feed_frequent-at-requires g c =
       can = can-moved g.W.ValueWriter a.limits a.end (lane a.kinds.now a.spot a.writer.now a.sink.now a.meter.now) (lane l.kinds l.at l.writer l.sink l.meter) c.requires.can l.invariant.moved;
     }
 
-pub quoted_turn-requires : goal.quoted_turn-requires
-quoted_turn-requires g c =
+pub other_turns-requires : goal.other_turns-requires
+other_turns-requires g c =
     let a = c.args in
     let l = c.runs in
     let f = c.feed_frequent-at in
     let old = lane a.kinds.now a.spot a.writer.now a.sink.now a.meter.now in
+    let then = lane l.kinds l.at l.writer l.sink l.meter in
     let now = lane f.new.kinds f.result f.new.writer f.new.sink f.new.meter in
     record {
-      can = can-moved g.W.ValueWriter a.limits a.end old now c.requires.can
-          (moved-then g.W.ValueWriter a.limits a.end old (lane l.kinds l.at l.writer l.sink l.meter) now c.requires.can l.invariant.moved f.ensures.moved);
+      can = can-moved g.W.ValueWriter a.limits a.end then now (can-moved g.W.ValueWriter a.limits a.end old then c.requires.can l.invariant.moved) f.ensures.moved;
     }
 
-pub returns-then-not-quoted_turn : goal.returns-then-not-quoted_turn
-returns-then-not-quoted_turn g c =
+pub returns-then-not-other_turns : goal.returns-then-not-other_turns
+returns-then-not-other_turns g c =
+    let w = g.W.ValueWriter in
     let a = c.args in
     let l = c.runs in
     let f = c.feed_frequent-at in
-    let t = c.quoted_turn in
+    let t = c.other_turns in
     let old = lane a.kinds.now a.spot a.writer.now a.sink.now a.meter.now in
+    let then = lane l.kinds l.at l.writer l.sink l.meter in
     let now = lane f.new.kinds f.result f.new.writer f.new.sink f.new.meter in
     record {
-      moved = moved-then g.W.ValueWriter a.limits a.end old now (lane t.new.kinds t.new.at t.new.writer t.new.sink t.new.meter) c.requires.can
-          (moved-then g.W.ValueWriter a.limits a.end old (lane l.kinds l.at l.writer l.sink l.meter) now c.requires.can l.invariant.moved f.ensures.moved) t.ensures.moved;
-      goes = let before = l.invariant.goes in let run = f.ensures.goes in let one = t.ensures.goes in omega (arith, before, run, one);
+      moved = moved-then w a.limits a.end old now (lane t.new.kinds t.new.at t.new.writer t.new.sink t.new.meter) c.requires.can
+          (moved-then w a.limits a.end old then now c.requires.can l.invariant.moved (moved-by w a.limits a.end (g.N.Names.text a.names.now) then now f.ensures.moved)) t.ensures.moved;
+      goes = let before = l.invariant.goes in let run = f.ensures.goes in let others = t.ensures.goes in omega (arith, before, run, others);
     }
 
 pub runs-preserved : goal.runs-preserved
 runs-preserved g c =
+    let w = g.W.ValueWriter in
     let a = c.args in
     let l = c.runs in
     let f = c.feed_frequent-at in
-    let t = c.quoted_turn in
+    let t = c.other_turns in
     let old = lane a.kinds.now a.spot a.writer.now a.sink.now a.meter.now in
+    let then = lane l.kinds l.at l.writer l.sink l.meter in
     let now = lane f.new.kinds f.result f.new.writer f.new.sink f.new.meter in
     record {
-      moved = moved-then g.W.ValueWriter a.limits a.end old now (lane t.new.kinds t.new.at t.new.writer t.new.sink t.new.meter) c.requires.can
-          (moved-then g.W.ValueWriter a.limits a.end old (lane l.kinds l.at l.writer l.sink l.meter) now c.requires.can l.invariant.moved f.ensures.moved) t.ensures.moved;
-      goes = let before = l.invariant.goes in let run = f.ensures.goes in let one = t.ensures.goes in omega (arith, before, run, one);
+      moved = moved-then w a.limits a.end old now (lane t.new.kinds t.new.at t.new.writer t.new.sink t.new.meter) c.requires.can
+          (moved-then w a.limits a.end old then now c.requires.can l.invariant.moved (moved-by w a.limits a.end (g.N.Names.text a.names.now) then now f.ensures.moved)) t.ensures.moved;
+      goes = let before = l.invariant.goes in let run = f.ensures.goes in let others = t.ensures.goes in omega (arith, before, run, others);
     }

@@ -1,11 +1,10 @@
 use Rattle.std.proofs.Common.{rules, ◌≡◌, ◌<◌, ◌∷◌, [], ℕ, List, subst, sym, ap}
 use Rattle.ion_value.specs.Decimal.{decimal_body, exponent_octets}
 use Rattle.ion_value.specs.Number.{coefficient_octets}
-use Rattle.ion_value.specs.PlainItems.{placed_item}
 use Rattle.ion_value.specs.Value.{Head, PlacedItem, SymbolAt, map_head, user_symbol_at}
 use Rattle.ion_binary.specs.Canonical.{headed, id_in}
 use Rattle.ion_binary.specs.ItemOctets.{head_octets}
-use Rattle.ion_binary.specs.Plain.{HaveIds, IsWhole}
+use Rattle.ion_binary.specs.Plain.{HaveIds, IsWhole, as_item}
 use Rattle.ion_binary.specs.Writing.{head_symbols}
 use Rattle.ion_binary.proofs.PlainAdded.{member-plain}
 use Rattle.ion_binary.proofs.ShortDecimals.{some-decimal}
@@ -15,7 +14,7 @@ pub returns : goal.returns
 returns g c =
     let w = c.args.self.now in
     let d = c.args.number in
-    let item : PlacedItem = placed_item c.args.item.now in
+    let item : PlacedItem = as_item c.args.item.now in
     let k = c.in-Some-ids_of.ensures in
     let texts : List (List ℕ) = w.symbols.texts in
     let octet : ℕ = c.in-Some.exponent in

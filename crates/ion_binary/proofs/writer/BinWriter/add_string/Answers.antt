@@ -1,9 +1,8 @@
 use Rattle.std.proofs.Common.{◌≡◌, ℕ, List, refl, subst, sym}
-use Rattle.ion_value.specs.PlainItems.{placed_item}
 use Rattle.ion_value.specs.Value.{Head, PlacedItem, SymbolAt, map_head, user_symbol_at}
 use Rattle.ion_binary.specs.Canonical.{headed, id_in}
 use Rattle.ion_binary.specs.ItemOctets.{head_octets}
-use Rattle.ion_binary.specs.Plain.{HaveIds, IsWhole}
+use Rattle.ion_binary.specs.Plain.{HaveIds, IsWhole, as_item}
 use Rattle.ion_binary.specs.Writing.{head_symbols}
 use Rattle.ion_binary.proofs.PlainAdded.{member-plain}
 use Rattle.ion_binary.proofs.writer.BinWriter.add_string.Goals as goal
@@ -11,7 +10,7 @@ use Rattle.ion_binary.proofs.writer.BinWriter.add_string.Goals as goal
 pub returns : goal.returns
 returns g c =
     let w = c.args.self.now in
-    let item : PlacedItem = placed_item c.args.item.now in
+    let item : PlacedItem = as_item c.args.item.now in
     let k = c.in-Some.ensures in
     let texts : List (List ℕ) = w.symbols.texts in
     let W : Head SymbolAt → Type 0 = λ h. IsWhole h in

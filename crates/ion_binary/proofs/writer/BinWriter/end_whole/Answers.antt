@@ -1,6 +1,6 @@
 use Rattle.std.proofs.Common.{◌≡◌, ◌++◌, List, ℕ, length, ap, ◌∙◌, arith}
-use Rattle.ion_value.specs.PlainItems.{placed_item}
 use Rattle.ion_binary.specs.Canonical.{header}
+use Rattle.ion_binary.specs.Plain.{as_item}
 use Rattle.ion_binary.proofs.PlainAdded.{plain-ended}
 use Rattle.ion_binary.proofs.writer.BinWriter.end_whole.Goals as goal
 
@@ -16,6 +16,6 @@ returns-clause-ends g c =
     let put : c.put_within-2.new.self.pending ≡ (c.args.sink.now.pending ++ x) ++ w.open_value.octets =
     ap (λ s. s.pending) c.put_within-2.ensures
     ∙ (ap (λ (y : List ℕ). y ++ c.as_slice-octets.result.now) first ∙ ap (λ (y : List ℕ). (c.args.sink.now.pending ++ x) ++ y) c.as_slice-octets.ensures) in
-    plain-ended w c.clear.new.self o c.args.meter.now c.clear.new.meter (placed_item c.args.item.now) c.args.sink.now.pending c.put_within-2.new.self.pending x
+    plain-ended w c.clear.new.self o c.args.meter.now c.clear.new.meter (as_item c.args.item.now) c.args.sink.now.pending c.put_within-2.new.self.pending x
     c.requires.can_take c.requires.comes.counted c.requires.comes.follows c.requires.head c.in-Some.ensures c.if-outermost-ne0.false c.if-self.false all is put
     c.clear.ensures.nothing.0 c.clear.ensures.nothing.1 c.clear.ensures.open c.clear.ensures.stepped

@@ -1,26 +1,43 @@
-use Rattle.std.proofs.Common.{◌≡◌, arith, ◌∙◌, List, ℕ, Bool, ◌++◌, ap, sym, subst, append-nil}
+use Rattle.std.proofs.Common.{◌≡◌, true, false, arith, ◌∙◌, List, ℕ, Bool, ◌++◌, ap, sym, subst, append-nil, rules}
+use Rattle.std.specs.Prelude.{is_some}
 use Rattle.ion_value.specs.PlainItems.{placed_item}
 use Rattle.ion_value.specs.Value.{PlacedItem}
-use Rattle.ion_binary.specs.Plain.{AddsPlain, EndsPlain}
+use Rattle.ion_binary.specs.Opening.{MayCome}
+use Rattle.ion_binary.specs.Plain.{AddsPlain, EndsPlain, as_item}
 use Rattle.ion_binary.specs.Writing.{written_behind}
-use Rattle.ion_binary.proofs.PlainAdded.{ends-follows, ends-puts, plain-adds, plain-comes, plain-follows}
+use Rattle.ion_binary.proofs.PlainAdded.{ends-follows, ends-puts, plain-adds, plain-comes, plain-follows, single-placed}
 use Rattle.ion_binary.proofs.WriterFollows.{may-come, stands-behind}
 use Rattle.ion_binary.proofs.writer.BinWriterValueWriter.take_plain.Goals as goal
+
+pub end_whole-requires-clause-comes : goal.end_whole-requires-clause-comes
+end_whole-requires-clause-comes g c =
+    let w = c.args.self.now in
+    let at = c.requires.path in
+    let none : w.ended ≡ 0 = let e = at.1.holds.ended in let l = c.len.ensures in let t = c.if-len-eq1.true in omega (arith, e, l, t) in
+    let alone : is_some c.args.item.second ≡ false = search rules in
+    let single : placed_item c.args.item ≡ as_item c.single_of-single.result = single-placed c.args.item alone ∙ ap as_item (sym c.single_of-single.ensures) in
+    subst (λ (i : PlacedItem). MayCome w.limits w.open_value i) single
+    (plain-comes w (written_behind w.limits at.0) (placed_item c.args.item) (at.1.holds, may-come w.limits at.0 (placed_item c.args.item) at.2) none)
 
 pub add_plain-requires-clause-comes : goal.add_plain-requires-clause-comes
 add_plain-requires-clause-comes g c =
     let w = c.args.self.now in
     let at = c.requires.path in
     let none : w.ended ≡ 0 = let t = c.if-waits.false in omega (arith, t) in
-    plain-comes w (written_behind w.limits at.0) (placed_item c.args.item) (at.1.holds, may-come w.limits at.0 (placed_item c.args.item) at.2) none
+    let alone : is_some c.args.item.second ≡ false = search rules in
+    let single : placed_item c.args.item ≡ as_item c.single_of-single.result = single-placed c.args.item alone ∙ ap as_item (sym c.single_of-single.ensures) in
+    subst (λ (i : PlacedItem). MayCome w.limits w.open_value i) single
+    (plain-comes w (written_behind w.limits at.0) (placed_item c.args.item) (at.1.holds, may-come w.limits at.0 (placed_item c.args.item) at.2) none)
 
 pub returns-clause-stands : goal.returns-clause-stands
 returns-clause-stands g c is path stands next =
     let w = c.args.self.now in
     let none : w.ended ≡ 0 = let t = c.if-waits.false in omega (arith, t) in
     let item : PlacedItem = placed_item c.args.item in
-    let P : Bool → Type 0 = λ b. AddsPlain w c.add_plain.new.self c.args.meter.now c.add_plain.new.meter item b in
-    let p = subst P is c.add_plain.ensures in
+    let alone : is_some c.args.item.second ≡ false = search rules in
+    let single : item ≡ as_item c.single_of-single.result = single-placed c.args.item alone ∙ ap as_item (sym c.single_of-single.ensures) in
+    let P : PlacedItem → Bool → Type 0 = λ i b. AddsPlain w c.add_plain.new.self c.args.meter.now c.add_plain.new.meter i b in
+    let p = subst (λ (i : PlacedItem). P i true) (sym single) (subst (P (as_item c.single_of-single.result)) is c.add_plain.ensures) in
     let f = plain-follows w c.add_plain.new.self c.args.meter.now c.add_plain.new.meter (written_behind w.limits path) item p (stands.holds, may-come w.limits path item next) none in
     (stands-behind w.limits c.add_plain.new.self path item p.taken.limits (p.taken.failed ∙ stands.well) f.holds, f.passes)
 
@@ -29,8 +46,10 @@ returns-clause-puts g c is path stands next =
     let w = c.args.self.now in
     let none : w.ended ≡ 0 = let t = c.if-waits.false in omega (arith, t) in
     let item : PlacedItem = placed_item c.args.item in
-    let P : Bool → Type 0 = λ b. AddsPlain w c.add_plain.new.self c.args.meter.now c.add_plain.new.meter item b in
-    let p = subst P is c.add_plain.ensures in
+    let alone : is_some c.args.item.second ≡ false = search rules in
+    let single : item ≡ as_item c.single_of-single.result = single-placed c.args.item alone ∙ ap as_item (sym c.single_of-single.ensures) in
+    let P : PlacedItem → Bool → Type 0 = λ i b. AddsPlain w c.add_plain.new.self c.args.meter.now c.add_plain.new.meter i b in
+    let p = subst (λ (i : PlacedItem). P i true) (sym single) (subst (P (as_item c.single_of-single.result)) is c.add_plain.ensures) in
     let adds = plain-adds w c.add_plain.new.self c.args.meter.now c.add_plain.new.meter (written_behind w.limits path) item p (stands.holds, may-come w.limits path item next) none in
     sym (append-nil c.args.sink.now.pending) ∙ ap (λ (x : List ℕ). c.args.sink.now.pending ++ x) (sym adds)
 
@@ -39,8 +58,10 @@ returns-then-len-eq1-clause-stands g c is path stands next =
     let w = c.args.self.now in
     let none : w.ended ≡ 0 = let e = stands.holds.ended in let l = c.len.ensures in let t = c.if-len-eq1.true in omega (arith, e, l, t) in
     let item : PlacedItem = placed_item c.args.item in
-    let P : Bool → Type 0 = λ b. EndsPlain w c.end_whole.new.self c.args.meter.now c.end_whole.new.meter item c.args.sink.now.pending c.end_whole.new.sink.pending b in
-    let p = subst P is c.end_whole.ensures.ends in
+    let alone : is_some c.args.item.second ≡ false = search rules in
+    let single : item ≡ as_item c.single_of-single.result = single-placed c.args.item alone ∙ ap as_item (sym c.single_of-single.ensures) in
+    let P : PlacedItem → Bool → Type 0 = λ i b. EndsPlain w c.end_whole.new.self c.args.meter.now c.end_whole.new.meter i c.args.sink.now.pending c.end_whole.new.sink.pending b in
+    let p = subst (λ (i : PlacedItem). P i true) (sym single) (subst (P (as_item c.single_of-single.result)) is c.end_whole.ensures.ends) in
     let f = ends-follows w c.end_whole.new.self c.args.meter.now c.end_whole.new.meter (written_behind w.limits path) item c.args.sink.now.pending c.end_whole.new.sink.pending p (stands.holds, may-come w.limits path item next) none in
     (stands-behind w.limits c.end_whole.new.self path item p.taken.limits (p.taken.failed ∙ stands.well) f.holds, f.passes)
 
@@ -49,6 +70,8 @@ returns-then-len-eq1-clause-puts g c is path stands next =
     let w = c.args.self.now in
     let none : w.ended ≡ 0 = let e = stands.holds.ended in let l = c.len.ensures in let t = c.if-len-eq1.true in omega (arith, e, l, t) in
     let item : PlacedItem = placed_item c.args.item in
-    let P : Bool → Type 0 = λ b. EndsPlain w c.end_whole.new.self c.args.meter.now c.end_whole.new.meter item c.args.sink.now.pending c.end_whole.new.sink.pending b in
-    let p = subst P is c.end_whole.ensures.ends in
+    let alone : is_some c.args.item.second ≡ false = search rules in
+    let single : item ≡ as_item c.single_of-single.result = single-placed c.args.item alone ∙ ap as_item (sym c.single_of-single.ensures) in
+    let P : PlacedItem → Bool → Type 0 = λ i b. EndsPlain w c.end_whole.new.self c.args.meter.now c.end_whole.new.meter i c.args.sink.now.pending c.end_whole.new.sink.pending b in
+    let p = subst (λ (i : PlacedItem). P i true) (sym single) (subst (P (as_item c.single_of-single.result)) is c.end_whole.ensures.ends) in
     ends-puts w c.end_whole.new.self c.args.meter.now c.end_whole.new.meter (written_behind w.limits path) item c.args.sink.now.pending c.end_whole.new.sink.pending p (stands.holds, may-come w.limits path item next) none

@@ -1,22 +1,10 @@
-use Rattle.std.proofs.Common.{◌∙◌, ℕ, List, drop, refl, sym, subst, arith}
-use Rattle.ion_text_in.specs.Feeding.{IsNext}
-use Rattle.ion_text_in.proofs.FeedNames.{next-begins, not-empty}
+use Rattle.std.proofs.Common.{refl, arith}
 use Rattle.ion_text_in.proofs.feed.noted.behind_note.Goals as goal
 
 pub returns : goal.returns
-returns c =
-    let a = c.args in
-    let colons = c.if-not-shows_colons.ensures in
-    let value = c.next_told-value.result in
-    let is = subst (λ (l : List ℕ). IsNext l value) c.behind.ensures c.next_told-value.ensures in
-    let some = not-empty value.rest.now (sym c.is_empty.ensures ∙ c.if-is_empty.false) in
-    record {
-      is = refl;
-      same = refl;
-      two = colons.some refl;
-      bare = colons.bare refl;
-      first = colons.first refl;
-      costs = grind (arith, c.if-limits-note.false);
-      passes = is.passes some;
-      begins = next-begins (drop 2 a.colons.now) value is some;
-    }
+returns c = record {
+  is = refl;
+  same = refl;
+  costs = grind (arith, c.if-limits-note.false);
+  behind = c.in-Some.ensures;
+}

@@ -3,7 +3,7 @@ use Rattle.ion_value.specs.declared.ion_type.Kind.{Kind}
 use Rattle.ion_text_in.specs.declared.expected.Expected.{Expected}
 use Rattle.ion_text_in.specs.declared.feed.Spot.{Spot}
 use Rattle.ion_text_in.specs.Expecting.{expected_in}
-use Rattle.ion_text_in.specs.Feeding.{lane, reader_lane, window_end, CanFeed, Lane, Moved}
+use Rattle.ion_text_in.specs.Feeding.{lane, reader_lane, window_end, CanFeed, Lane, MovedBy}
 use Rattle.ion_meter.specs.Windows.{lent, IsPassed}
 use Rattle.ion_text_in.proofs.FeedReader.{lane-of, moved-window}
 use Rattle.ion_text_in.proofs.reader.TextReader.feed_window.Goals as goal
@@ -39,10 +39,11 @@ returns-clause-moved g c =
     let spot : Spot = record { rest = bytes; top = r.top; values = 0; separator = c.is_separator.result; kind = c.member_kind.result } in
     let start = lane-of r spot 0 a.writer.now a.sink.now a.meter.now c.buffer-bytes.ensures refl refl expected kind in
     let first = reader_lane r 0 a.writer.now a.sink.now a.meter.now in
+    let texts = g.N.Names.text a.names.now in
     let last = lane f.new.kinds f.result f.new.writer f.new.sink f.new.meter in
     let end = c.place.result + length bytes.now in
     let passed = subst (λ (l : List ℕ). IsPassed r.source t (length l - length f.result.rest.now)) c.buffer-bytes.ensures c.consume.ensures in
-    let moved : Moved w r.limits end first last = subst (λ (l : Lane g.row.W.Denot g.row.O.Denot). Moved w r.limits end l last) start f.ensures.moved in
-    subst (λ (k : Kind). Moved w r.limits (window_end r.source) first (record last { rest = lent t; expected = c.expected_in-self.result; kind = k })) (sym moved.kind)
-    (subst (λ (e : Expected). Moved w r.limits (window_end r.source) first (record last { rest = lent t; expected = e })) (sym c.expected_in-self.ensures)
+    let moved : MovedBy w r.limits end texts first last = subst (λ (l : Lane g.row.W.Denot g.row.O.Denot). MovedBy w r.limits end texts l last) start f.ensures.moved in
+    subst (λ (k : Kind). MovedBy w r.limits (window_end r.source) texts first (record last { rest = lent t; expected = c.expected_in-self.result; kind = k })) (sym moved.kind)
+    (subst (λ (e : Expected). MovedBy w r.limits (window_end r.source) texts first (record last { rest = lent t; expected = e })) (sym c.expected_in-self.ensures)
     (moved-window w r.limits r.source t end first last c.requires.stands refl (omega (arith, c.place.ensures, long)) moved passed))

@@ -33,9 +33,9 @@ returns-clause-feeds g c =
       pending = c.feed_window-values.new.sink.pending;
       values = c.feed_window-values.result;
     } in
-    subst (λ (x : TextReader g.row.I.Denot g.row.A.Denot). Feeds w (named_item (g.N.Names.text c.args._names.now)) (g.I.Input.observable r.source.device)
+    subst (λ (x : TextReader g.row.I.Denot g.row.A.Denot). Feeds w (named_item (g.N.Names.text c.args.names.now)) (g.I.Input.observable r.source.device)
     (record { coming = to_come_by g.I.Input x; opened = opened_in x; writer = c.args.writer.now; pending = c.args.sink.now.pending; values = 0 }) new) cleared
-    (feeds-reader w g.I.Input f n (g.N.Names.text c.args._names.now) (g.I.Input.observable r.source.device) c.feed_window-values.result c.args.writer.now c.feed_window-values.new.writer
+    (feeds-reader w g.I.Input f n (g.N.Names.text c.args.names.now) (g.I.Input.observable r.source.device) c.feed_window-values.result c.args.writer.now c.feed_window-values.new.writer
     c.args.sink.now c.feed_window-values.new.sink c.forget.new.meter c.feed_window-values.new.meter finished still same e.passed stands e.moved)
 
 pub returns-clause-bytes_left : goal.returns-clause-bytes_left

@@ -1,9 +1,9 @@
 use Rattle.std.proofs.Common.{sym, ap, ◌∙◌}
 use Rattle.std.proofs.lemmas.Bool.{and_parts}
 use Rattle.ion_value.specs.PlainItems.{placed_item}
-use Rattle.ion_text_out.specs.Lane.{spelling}
+use Rattle.ion_text_out.specs.Lane.{are_said_simple, notes_in, spelling, symbols_in}
 use Rattle.ion_text_out.specs.Writing.{shown}
-use Rattle.ion_text_out.proofs.Plain.{adds_here, as_it_stands, item_put}
+use Rattle.ion_text_out.proofs.Plain.{adds_here, as_it_stands, as_they_stand, item_put, no_second}
 use Rattle.ion_text_out.proofs.WriterSteps.{has_room, in_range}
 use Rattle.ion_text_out.proofs.writer.TextWriterValueWriter.take_plain.Goals as goal
 
@@ -32,16 +32,20 @@ returns-then-not-both-clause-puts g c e path stands continues =
     let w = c.args.self.now in
     let item = c.args.item in
     let name = c.has_spelling.ensures c.if-not-has_spelling.false item.field c.text_in-name.ensures.text c.text_in-name.ensures.simple c.requires.simple.field in
-    let note = c.has_spelling-then-not-both.ensures c.if-not-has_spelling-2.false item.annotation c.text_in-note.ensures.text c.text_in-note.ensures.simple c.requires.simple.annotation in
+    let alone = no_second item.second (sym c.is_some.ensures ∙ c.if-is_some.false) in
+    let text = c.notes_in-note.ensures.text ∙ ap (notes_in item.annotation) alone in
+    let simple = c.notes_in-note.ensures.simple ∙ ap (are_said_simple item.annotation) alone in
+    let note = c.has_spelling-then-not-both.ensures c.if-not-has_spelling-2.false item.annotation text simple c.requires.simple.annotation in
+    let notes = note ∙ sym (ap (symbols_in item.annotation) alone) in
     adds_here w.limits w.kinds w.empty path item _ _ _ stands.1 (ap (λ s. s.pending) (c.take_quoted_names.ensures.puts e))
-    (item_put (shown w.kinds w.empty) item (spelling c.text_in-name.result.0.now) (spelling c.text_in-note.result.0.now) name note)
+    (item_put (shown w.kinds w.empty) item (spelling c.text_in-name.result.0.now) (spelling c.notes_in-note.result.0.now) c.requires.simple.second name notes)
 
 pub returns-clause-puts : goal.returns-clause-puts
 returns-clause-puts g c e path stands continues =
     let w = c.args.self.now in
     let item = c.args.item in
-    let said = and_parts c.text_in-name.result.1 c.text_in-note.result.1 (sym c.both.ensures ∙ c.if-not-both.false) in
+    let said = and_parts c.text_in-name.result.1 c.notes_in-note.result.1 (sym c.both.ensures ∙ c.if-not-both.false) in
     let name = c.text_in-name.ensures.text ∙ as_it_stands item.field c.requires.simple.field (sym c.text_in-name.ensures.simple ∙ said.0) in
-    let note = c.text_in-note.ensures.text ∙ as_it_stands item.annotation c.requires.simple.annotation (sym c.text_in-note.ensures.simple ∙ said.1) in
+    let notes = c.notes_in-note.ensures.text ∙ as_they_stand item.annotation item.second c.requires.simple.annotation c.requires.simple.second (sym c.notes_in-note.ensures.simple ∙ said.1) in
     adds_here w.limits w.kinds w.empty path item _ _ _ stands.1 (ap (λ s. s.pending) (c.take_head.ensures.puts e))
-    (item_put (shown w.kinds w.empty) item c.text_in-name.result.0.now c.text_in-note.result.0.now name note)
+    (item_put (shown w.kinds w.empty) item c.text_in-name.result.0.now c.notes_in-note.result.0.now c.requires.simple.second name notes)

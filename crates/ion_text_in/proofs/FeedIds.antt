@@ -1,0 +1,165 @@
+-- Ids in a lane: as the name of a field, and as a value.
+use Rattle.std.proofs.Common.{◌≡◌, ℕ, ◌+◌, ◌-◌, ◌<◌, Bool, true, false, ◌==◌, List, [], ◌∷◌, ◌++◌, length, take, drop, Option, Some, None, IfSome, Ok, refl, sym, ap, subst, ◌∙◌, arith}
+use Rattle.std.specs.Prelude.{option_map}
+use Rattle.std.proofs.lemmas.List.{length-drop}
+use Rattle.ion_meter.specs.Sources.{Cursor}
+use Rattle.ion_meter.specs.declared.limits.Limits.{Limits}
+use Rattle.ion_value.specs.declared.ion_type.Kind.{Kind}
+use Rattle.ion_value.specs.declared.plain_item.TextAt.{TextAt}
+use Rattle.ion_value.specs.Digits.{first_is}
+use Rattle.ion_value.specs.Items.{named_at, raw_head, text_or_id}
+use Rattle.ion_value.specs.Name.{is_simple}
+use Rattle.ion_value.specs.PlainItems.{placed_text}
+use Rattle.ion_value.specs.Value as value
+use Rattle.ion_value.specs.Value.{Head, Symbol, SymbolAt, map_head}
+use Rattle.ion_text_in.specs.Blanks.{blanks}
+use Rattle.ion_text_in.specs.declared.expected.Expected.TheVariants as codes_of
+use Rattle.ion_text_in.specs.declared.feed.Found.{Found}
+use Rattle.ion_text_in.specs.declared.feed.Next.{Next}
+use Rattle.ion_text_in.specs.declared.feed.Spot.{Spot}
+use Rattle.ion_text_in.specs.declared.feed.Start.{Start}
+use Rattle.ion_text_in.specs.declared.scanned.Scanned.TheVariants.{Whole}
+use Rattle.ion_text_in.specs.declared.word.Word.{Word}
+use Rattle.ion_text_in.specs.declared.word.Word.TheVariants as word
+use Rattle.ion_text_in.specs.Feeding.{expected_of, IsBare, IsBehindName, IsFound, IsFoundBy, IsHeadAs, IsIdOf, IsNamed, IsNamedBy, IsNext, IsStart, IsStartBy}
+use Rattle.ion_text_in.specs.Meaning.{at}
+use Rattle.ion_text_in.specs.Positions as positions
+use Rattle.ion_text_in.specs.Positions.{a_field}
+use Rattle.ion_text_in.specs.Reading.{take as taken, field_step, tells_version}
+use Rattle.ion_text_in.specs.Scanners.{Shows}
+use Rattle.ion_text_in.specs.Steps.{comes}
+use Rattle.ion_text_in.specs.Token as tokens
+use Rattle.ion_text_in.specs.Token.{first_at, token_of}
+use Rattle.ion_text_in.specs.Views.{word_token_of}
+use Rattle.ion_text_in.proofs.BlankTurns.{no-slash}
+use Rattle.ion_text_in.proofs.FeedHeads.{head-word}
+use Rattle.ion_text_in.proofs.FeedItems.{head-seen, text-seen}
+use Rattle.ion_text_in.proofs.FeedNames.{named-as, name-token, may-word, start-as, IsName}
+use Rattle.ion_text_in.proofs.FeedReading.{some-behind}
+use Rattle.ion_text_in.proofs.ShownFurther.{shown-some}
+
+-- ---- a dollar sign
+
+dollar-is : (b : ℕ) → (b == 36) ≡ true → b ≡ 36
+dollar-is b e = grind (arith, e)
+
+dollar-word : (sexp : Bool) (bytes : List ℕ) → first_at sexp (36 ∷ bytes) ≡ tokens.a_word
+unfolding first_at
+dollar-word sexp bytes = refl
+
+-- it begins a word
+pub dollar-first : (bytes : List ℕ) → first_is (λ b. b == 36) bytes ≡ true → (in_sexp : Bool) (more : List ℕ) → first_at in_sexp (bytes ++ more) ≡ tokens.a_word
+dollar-first [] e sexp more = absurd (cc e)
+dollar-first (b ∷ bytes) e sexp more = ap (λ (x : ℕ). first_at sexp (x ∷ (bytes ++ more))) (dollar-is b e) ∙ dollar-word sexp (bytes ++ more)
+
+pub dollar-bare : (bytes : List ℕ) → first_is (λ b. b == 36) bytes ≡ true → IsBare bytes
+dollar-bare [] e = absurd (cc e)
+dollar-bare (b ∷ bytes) e = λ p more.
+    ap (λ (x : ℕ). blanks (at p (x ∷ (bytes ++ more)))) (dollar-is b e) ∙ (no-slash p 36 (bytes ++ more) refl refl ∙ ap (λ (x : ℕ). Ok (at p (x ∷ (bytes ++ more)))) (sym (dollar-is b e)))
+
+pub dollar-some : (bytes : List ℕ) → first_is (λ b. b == 36) bytes ≡ true → 0 < length bytes
+dollar-some [] e = absurd (cc e)
+dollar-some (b ∷ bytes) e = omega arith
+
+-- ---- an id by its text
+
+-- a word that is one
+pub id-shown : (texts : ℕ → Option (List ℕ)) (limit : ℕ) (bytes text : List ℕ) (x : Word) (id n : ℕ) → 0 < length bytes
+    → Shows (word_token_of (take n bytes)) bytes (Whole x n) (token_of (Some limit) tokens.a_word) → x ≡ word.Id id → texts id ≡ Some text → is_simple text ≡ true → IsIdOf texts limit bytes text n
+id-shown texts limit bytes text x id n some shows is has simple = record {
+  id = id;
+  has = has;
+  simple = simple;
+  some = shown-some (word_token_of (take n bytes)) bytes x n (Some limit) tokens.a_word shows some;
+  within = shows.0;
+  shown = λ place more. shows.1 place more ∙ ap (λ (w : Word). Ok (word_token_of (take n bytes) w, at (place + n) (drop n bytes ++ more))) is;
+}
+
+-- it is seen as its text
+id-seen : (texts : ℕ → Option (List ℕ)) (id place : ℕ) (text : List ℕ) → texts id ≡ Some text → named_at texts (positions.at (value.Id id) place) ≡ positions.at (value.Text text) place
+id-seen texts id place text has = ap (λ (o : Option (List ℕ)). positions.at (text_or_id id o) place) has
+
+-- ---- the name of a field
+
+id-names : (limits : Limits) (place id : ℕ) (kinds : List Kind) (top : ℕ) (c : Cursor)
+    → comes limits (taken limits kinds top a_field place (tokens.name false (value.Id id)) c) ≡ comes limits (field_step kinds top (positions.at (value.Id id) place) c)
+unfolding taken
+id-names limits place id kinds top c = refl
+
+name-id : (texts : ℕ → Option (List ℕ)) (limits : Limits) (place n : ℕ) (bytes text rest : List ℕ) (is : IsIdOf texts limits.scalar bytes text n) → rest ≡ drop n bytes → first_is (λ b. b == 36) bytes ≡ true
+    → IsName limits place bytes (positions.at (value.Id is.id) place) rest
+name-id texts limits place n bytes text rest is behind dollar =
+    let within = is.within in
+    let long = length-drop n bytes in
+    let name = positions.at (value.Id is.id) place in
+    subst (λ (l : List ℕ). IsName limits place bytes name l) (sym behind)
+    (name-token limits place tokens.a_word (tokens.name false (value.Id is.id)) name bytes (drop n bytes) (some-behind bytes n within) (omega (arith, long)) (dollar-bare bytes dollar) (dollar-some bytes dollar)
+    (dollar-first bytes dollar) may-word
+    (λ q more e.
+    let q_is : place + n ≡ q = omega (arith, e, long, within) in
+    is.shown place more ∙ ap (λ (k : ℕ). Ok (tokens.name false (value.Id is.id), at k (drop n bytes ++ more))) q_is)
+    (id-names limits place is.id))
+
+-- a value begins behind an id that is its name
+pub named-id : (texts : ℕ → Option (List ℕ)) (limits : Limits) (place n : ℕ) (name : TextAt) (bytes rest : List ℕ) (start : Option Start) → name.place ≡ place → IsIdOf texts limits.scalar bytes name.text.now n
+    → rest ≡ drop n bytes → first_is (λ b. b == 36) bytes ≡ true → IfSome start (IsBehindName name rest) → IfSome start (IsNamedBy texts limits place bytes)
+named-id texts limits place n name bytes rest None here is behind dollar h = tt
+named-id texts limits place n name bytes rest (Some s) here is behind dollar h =
+    let raw = positions.at (value.Id is.id) place in
+    record {
+      text = name;
+      raw = raw;
+      seen = id-seen texts is.id place name.text.now is.has ∙ ap (λ (p : ℕ). positions.at (value.Text name.text.now) p) (sym here);
+      name = named-as limits place name raw bytes rest s (name-id texts limits place n bytes name.text.now rest is behind dollar) (λ _. is.simple) (dollar-some bytes dollar) h;
+    }
+
+-- the same of a name that is a text
+pub named-text : (texts : ℕ → Option (List ℕ)) (limits : Limits) (place : ℕ) (bytes : List ℕ) (start : Option Start) → IfSome start (IsNamed limits place bytes) → IfSome start (IsNamedBy texts limits place bytes)
+named-text texts limits place bytes None h = tt
+named-text texts limits place bytes (Some s) h = record { text = h.text; raw = placed_text h.text; seen = refl; name = h.name }
+
+pub start-named : (texts : ℕ → Option (List ℕ)) (limits : Limits) (spot : Spot) (place named : ℕ) (next : Next) (start : Option Start) → expected_of spot ≡ codes_of.Field → IsNext spot.rest.now next
+    → named ≡ place + (length spot.rest.now - length next.rest.now) → IfSome start (IsNamedBy texts limits named next.rest.now) → IfSome start (IsStartBy texts limits spot place)
+start-named texts limits spot place named next None field is here h = tt
+start-named texts limits spot place named next (Some s) field is here h = record {
+  raw = Some h.raw;
+  seen = ap (λ (a : SymbolAt). Some a) h.seen ∙ ap (λ (f : Option TextAt). option_map placed_text f) (sym h.name.is);
+  read = start-as limits spot place named next h.text h.raw s field is here h.name;
+}
+
+-- the same where the name is a text, if there is one
+pub start-text : (texts : ℕ → Option (List ℕ)) (limits : Limits) (spot : Spot) (place : ℕ) (start : Option Start) → IfSome start (IsStart limits spot place) → IfSome start (IsStartBy texts limits spot place)
+start-text texts limits spot place None h = tt
+start-text texts limits spot place (Some s) h = record { raw = option_map placed_text s.field; seen = text-seen texts s.field; read = h }
+
+-- ---- a value
+
+id-marker : (id : ℕ) (k : Option Kind) (annotations : List SymbolAt) → tells_version k annotations false (value.Id id) ≡ false
+unfolding tells_version
+id-marker id None [] = refl
+id-marker id None (a ∷ annotations) = refl
+id-marker id (Some k) annotations = refl
+
+-- an id behind which a token is told that is no two colons
+pub head-id : (texts : ℕ → Option (List ℕ)) (limits : Limits) (place n : ℕ) (bytes text rest : List ℕ) (next : Next) (is : IsIdOf texts limits.scalar bytes text n) → rest ≡ drop n bytes → IsNext rest next → 0 < next.told
+    → first_is (λ b. b == 36) bytes ≡ true → IsHeadAs (value.whole (value.symbol (positions.at (value.Id is.id) place))) limits place bytes (value.whole (value.symbol (positions.at (value.Text text) place))) rest
+head-id texts limits place n bytes text rest next is behind told_next told dollar =
+    head-word limits place n (value.Id is.id) (value.Text text) bytes rest next behind is.some is.within is.shown tt (id-marker is.id) told_next told (dollar-bare bytes dollar) (dollar-first bytes dollar)
+
+pub head-id-seen : (texts : ℕ → Option (List ℕ)) (id place : ℕ) (text : List ℕ) → texts id ≡ Some text
+    → map_head (named_at texts) (value.whole (value.symbol (positions.at (value.Id id) place))) ≡ value.whole (value.symbol (positions.at (value.Text text) place))
+head-id-seen texts id place text has = ap (λ (a : SymbolAt). value.whole (value.symbol a)) (id-seen texts id place text has)
+
+-- a head that is no id
+pub found-text : (texts : ℕ → Option (List ℕ)) (limits : Limits) (place : ℕ) (bytes : List ℕ) (found : Found) → IsFound limits place bytes found → IsFoundBy texts limits place bytes found
+found-text texts limits place bytes found h = record { raw = raw_head found.head; seen = head-seen texts (raw_head found.head) h.head.known; head = h.head; spelled = h.spelled }
+
+-- ---- by the texts that ids have
+
+pub start-seen : {texts : ℕ → Option (List ℕ)} {limits : Limits} {spot : Spot} {place : ℕ} {start : Start} (s : IsStartBy texts limits spot place start) (t : ℕ → Option (List ℕ)) → t ≡ texts
+    → option_map (named_at t) s.raw ≡ option_map placed_text start.field
+start-seen {start} s t is = subst (λ (x : ℕ → Option (List ℕ)). option_map (named_at x) s.raw ≡ option_map placed_text start.field) (sym is) s.seen
+
+pub found-seen : {texts : ℕ → Option (List ℕ)} {limits : Limits} {place : ℕ} {bytes : List ℕ} {found : Found} (f : IsFoundBy texts limits place bytes found) (t : ℕ → Option (List ℕ)) → t ≡ texts
+    → map_head (named_at t) f.raw ≡ raw_head found.head
+found-seen {found} f t is = subst (λ (x : ℕ → Option (List ℕ)). map_head (named_at x) f.raw ≡ raw_head found.head) (sym is) f.seen

@@ -1,0 +1,7 @@
+use Rattle.ion_text_in.specs.Feeding.{lane}
+use Rattle.ion_text_in.proofs.FeedLanes.{moved-none}
+use Rattle.ion_text_in.proofs.feed.ids.id_value.Goals as goal
+
+pub returns-clause-moved : goal.returns-clause-moved
+returns-clause-moved g c =
+    moved-none g.W.ValueWriter c.args.limits c.args.end (lane c.args.kinds.now c.args.at.now c.args.writer.now c.args.sink.now c.args.meter.now) c.requires.can

@@ -1,0 +1,19 @@
+use Rattle.std.proofs.Common.{◌-◌, length}
+use Rattle.ion_text_in.specs.Feeding.{lane}
+use Rattle.ion_text_in.proofs.FeedIds.{found-text}
+use Rattle.ion_text_in.proofs.FeedLanes.{moved-none}
+use Rattle.ion_text_in.proofs.feed.ids.other_value.Goals as goal
+
+pub id_begin-requires-clause-found : goal.id_begin-requires-clause-found
+id_begin-requires-clause-found g c =
+    let bytes = c.args.start.next.rest.now in
+    found-text (g.N.Names.text c.args.names.now) c.args.limits (c.args.end - length bytes) bytes c.in-Some.found c.in-Some.ensures
+
+pub id_scalar-requires-clause-found : goal.id_scalar-requires-clause-found
+id_scalar-requires-clause-found g c =
+    let bytes = c.args.start.next.rest.now in
+    found-text (g.N.Names.text c.args.names.now) c.args.limits (c.args.end - length bytes) bytes c.in-Some.found c.in-Some.ensures
+
+pub returns-in_default-clause-moved : goal.returns-in_default-clause-moved
+returns-in_default-clause-moved g c =
+    moved-none g.W.ValueWriter c.args.limits c.args.end (lane c.args.kinds.now c.args.at.now c.args.writer.now c.args.sink.now c.args.meter.now) c.requires.can

@@ -1,0 +1,445 @@
+//! Members in a lane that have an id: their name is one, or they are one.
+ghost use Rattle.std.specs.Prelude.{◌≡◌, ◌≢◌, ◌+◌, ◌-◌, ◌^◌, ◌<◌, ◌≤◌, ◌==◌, true, length, IfSome};
+ghost use Rattle.ion_value.specs.declared.ion_type.Kind as kind_of;
+ghost use Rattle.ion_value.specs.Digits.{first_is};
+ghost use Rattle.ion_text_in.specs.Feeding.{lane, Begins, CanFeed, IsFoundBy, IsIdOf, IsNamedBy, IsNext, IsStartBy, MovedBy};
+
+use super::close::pass_value;
+use super::heads::scan_head;
+use super::names::{behind_name, field_start};
+use super::noted::begins_dollar;
+use super::{
+    Found, Next, Spot, Start, behind, innermost, next_told, place_behind, to_member, top_at,
+    value_start,
+};
+use crate::blank::run_without;
+use crate::scanned::Scanned;
+use crate::word::{Word, scan_word};
+use ion_meter::device::Output;
+use ion_meter::limits::Limits;
+use ion_meter::meter::Meter;
+use ion_meter::sink::Sink;
+use ion_meter::stack::Stack;
+use ion_value::ion_type::Kind;
+use ion_value::item::{Head, Sym, SymAt};
+use ion_value::names::Names;
+use ion_value::plain_item::{PlainItem, TextAt};
+use ion_value::writer::ValueWriter;
+use std::alloc::Allocator;
+
+// An id at the front of some bytes: its text, which is simple, and how many bytes it has.
+#[derive(Clone, Copy)]
+struct IdText<'a> {
+    text: &'a [u8],
+    count: usize,
+}
+
+// How many bytes are looked at for a dollar sign: most names have fewer.
+const NEAR: usize = 64;
+
+/// Whether a dollar sign stands near the front of these bytes: it tells with no call that most members
+/// have no id, and one that stands further behind is left to `next`.
+#[inline(always)]
+pub(super) fn is_dollar_near(bytes: &[u8]) -> bool {
+    let near = &bytes[..bytes.len().min(NEAR)];
+    run_without(b'$', b'$', near) < near.len()
+}
+
+/// Hands on members that have an id each, as many as come one after the other.
+#[inline(never)]
+pub(super) fn id_turns<'a, N: Names, W: ValueWriter<O, A>, O: Output, A: Allocator + Copy>(
+    spot: Spot<'a>,
+    names: &'a N,
+    limits: Limits,
+    end: u64,
+    kinds: &mut Stack<Kind, A>,
+    meter: &mut Meter<A>,
+    writer: &mut W,
+    sink: &mut Sink<O, A>,
+) -> Spot<'a>
+    requires can { CanFeed W.ValueWriter limits end
+        (lane kinds.old spot writer.old sink.old meter.old) }
+    ensures moved { MovedBy W.ValueWriter limits end (N.text names.now)
+        (lane kinds.old spot.entry writer.old sink.old meter.old)
+        (lane kinds.new result writer.new sink.new meter.new) }
+    ensures goes { length kinds.new + length result.rest.now
+        ≤ length kinds.old + length spot.entry.rest.now }
+{
+    let mut at = spot;
+    'items: loop {
+        if !id_turn(&mut at, names, limits, end, kinds, meter, writer, sink) {
+            return at;
+        }
+    }
+}
+
+// Hands on one, behind the comma that must come before it, and says whether it did.
+#[inline(always)]
+fn id_turn<'a, N: Names, W: ValueWriter<O, A>, O: Output, A: Allocator + Copy>(
+    at: &mut Spot<'a>,
+    names: &'a N,
+    limits: Limits,
+    end: u64,
+    kinds: &mut Stack<Kind, A>,
+    meter: &mut Meter<A>,
+    writer: &mut W,
+    sink: &mut Sink<O, A>,
+) -> bool
+    requires can { CanFeed W.ValueWriter limits end
+        (lane kinds.old at.old writer.old sink.old meter.old) }
+    ensures moved { MovedBy W.ValueWriter limits end (N.text names.now)
+        (lane kinds.old at.old writer.old sink.old meter.old)
+        (lane kinds.new at.new writer.new sink.new meter.new) }
+    ensures goes { length kinds.new + length at.new.rest.now
+        ≤ length kinds.old + length at.old.rest.now }
+    ensures falls { result ≡ true → length at.new.rest.now < length at.old.rest.now }
+{
+    let next = to_member(at);
+    id_member(at, next, names, limits, end, kinds, meter, writer, sink)
+}
+
+// Hands on the member here, where it has an id.
+#[inline(always)]
+fn id_member<'a, N: Names, W: ValueWriter<O, A>, O: Output, A: Allocator + Copy>(
+    at: &mut Spot<'a>,
+    next: Next<'a>,
+    names: &'a N,
+    limits: Limits,
+    end: u64,
+    kinds: &mut Stack<Kind, A>,
+    meter: &mut Meter<A>,
+    writer: &mut W,
+    sink: &mut Sink<O, A>,
+) -> bool
+    requires can { CanFeed W.ValueWriter limits end
+        (lane kinds.old at.old writer.old sink.old meter.old) }
+    requires next { IsNext at.old.rest.now next }
+    ensures moved { MovedBy W.ValueWriter limits end (N.text names.now)
+        (lane kinds.old at.old writer.old sink.old meter.old)
+        (lane kinds.new at.new writer.new sink.new meter.new) }
+    ensures goes { length kinds.new + length at.new.rest.now
+        ≤ length kinds.old + length at.old.rest.now }
+    ensures falls { result ≡ true → length at.new.rest.now < length at.old.rest.now }
+{
+    match id_start(*at, next, names, limits, end - at.rest.len() as u64) {
+        Some(start) => id_value(
+            at, next.rest, start, names, limits, end, kinds, meter, writer, sink,
+        ),
+        None => false,
+    }
+}
+
+// What the value begins with that may begin here, behind the name of its field where one must come.
+#[inline(always)]
+fn id_start<'a, N: Names>(
+    spot: Spot<'a>,
+    next: Next<'a>,
+    names: &'a N,
+    limits: Limits,
+    place: u64,
+) -> Option<Start<'a>>
+    requires next { IsNext spot.rest.now next }
+    requires small { place + length spot.rest.now < 2 ^ 63 }
+    ensures { IfSome result (IsStartBy (N.text names.now) limits spot.entry place) }
+{
+    if spot.separator || next.rest.is_empty() {
+        return None;
+    }
+    match spot.kind {
+        Kind::Struct => id_field(next, names, limits, place_behind(place, spot, next)),
+        Kind::List | Kind::Sexp => value_start(next),
+    }
+}
+
+// What the value begins with behind the name that must come, and that begins at a place: an id or a simple
+// word.
+#[inline(always)]
+fn id_field<'a, N: Names>(
+    next: Next<'a>,
+    names: &'a N,
+    limits: Limits,
+    place: u64,
+) -> Option<Start<'a>>
+    requires begins { Begins next }
+    ensures { IfSome result (IsNamedBy (N.text names.now) limits place next.entry.rest.now) }
+{
+    if begins_dollar(next.rest) {
+        return id_name(next.rest, names, limits, place);
+    }
+    field_start(next, limits, place)
+}
+
+// The same behind an id.
+#[inline(always)]
+fn id_name<'a, N: Names>(
+    bytes: &'a [u8],
+    names: &'a N,
+    limits: Limits,
+    place: u64,
+) -> Option<Start<'a>>
+    requires dollar { first_is (λ b. b == 36) bytes.now ≡ true }
+    ensures { IfSome result (IsNamedBy (N.text names.now) limits place bytes.now) }
+{
+    let Some(id) = id_text(bytes, names, limits.scalar) else {
+        return None;
+    };
+    let name = TextAt {
+        text: id.text,
+        simple: true,
+        place,
+    };
+    behind_name(name, behind(id.count, bytes))
+}
+
+// The id at the front of these bytes, where it has a simple text.
+#[inline(always)]
+fn id_text<'a, N: Names>(bytes: &[u8], names: &'a N, limit: u64) -> Option<IdText<'a>>
+    requires some { 0 < length bytes.now }
+    ensures { IfSome result
+        (λ id. IsIdOf (N.text names.now) limit bytes.now id.text.now id.count) }
+{
+    match scan_word(limit, bytes) {
+        Scanned::Whole(Word::Id(id), count) => match names.simple_text(id) {
+            Some(text) => Some(IdText { text, count }),
+            None => None,
+        },
+        _ => None,
+    }
+}
+
+// Hands on the value here, where it is an id, or the name before it, at the front of these bytes, is one.
+#[inline(always)]
+fn id_value<'a, N: Names, W: ValueWriter<O, A>, O: Output, A: Allocator + Copy>(
+    at: &mut Spot<'a>,
+    name: &[u8],
+    start: Start<'a>,
+    names: &'a N,
+    limits: Limits,
+    end: u64,
+    kinds: &mut Stack<Kind, A>,
+    meter: &mut Meter<A>,
+    writer: &mut W,
+    sink: &mut Sink<O, A>,
+) -> bool
+    requires can { CanFeed W.ValueWriter limits end
+        (lane kinds.old at.old writer.old sink.old meter.old) }
+    requires start { IsStartBy (N.text names.now) limits at.old
+        (end - length at.old.rest.now) start }
+    ensures moved { MovedBy W.ValueWriter limits end (N.text names.now)
+        (lane kinds.old at.old writer.old sink.old meter.old)
+        (lane kinds.new at.new writer.new sink.new meter.new) }
+    ensures goes { length kinds.new + length at.new.rest.now
+        ≤ length kinds.old + length at.old.rest.now }
+    ensures falls { result ≡ true → length at.new.rest.now < length at.old.rest.now }
+{
+    if begins_dollar(start.next.rest) {
+        return id_symbol(at, start, names, limits, end, kinds, meter, writer, sink);
+    }
+    if begins_dollar(name) {
+        return other_value(at, start, names, limits, end, kinds, meter, writer, sink);
+    }
+    false
+}
+
+// Hands on the id that stands here as a symbol.
+#[inline(always)]
+fn id_symbol<'a, N: Names, W: ValueWriter<O, A>, O: Output, A: Allocator + Copy>(
+    at: &mut Spot<'a>,
+    start: Start<'a>,
+    names: &'a N,
+    limits: Limits,
+    end: u64,
+    kinds: &Stack<Kind, A>,
+    meter: &mut Meter<A>,
+    writer: &mut W,
+    sink: &mut Sink<O, A>,
+) -> bool
+    requires can { CanFeed W.ValueWriter limits end
+        (lane kinds.now at.old writer.old sink.old meter.old) }
+    requires start { IsStartBy (N.text names.now) limits at.old
+        (end - length at.old.rest.now) start }
+    requires dollar { first_is (λ b. b == 36) start.next.rest.now ≡ true }
+    ensures moved { MovedBy W.ValueWriter limits end (N.text names.now)
+        (lane kinds.now at.old writer.old sink.old meter.old)
+        (lane kinds.now at.new writer.new sink.new meter.new) }
+    ensures falls { result ≡ true → length at.new.rest.now < length at.old.rest.now }
+{
+    let place = end - start.next.rest.len() as u64;
+    match id_head(start.next.rest, names, limits, place) {
+        Some(found) => id_scalar(
+            at, start, found, names, limits, end, kinds, meter, writer, sink,
+        ),
+        None => false,
+    }
+}
+
+// Hands on the value that begins here and is no id.
+#[inline(always)]
+fn other_value<'a, N: Names, W: ValueWriter<O, A>, O: Output, A: Allocator + Copy>(
+    at: &mut Spot<'a>,
+    start: Start<'a>,
+    names: &'a N,
+    limits: Limits,
+    end: u64,
+    kinds: &mut Stack<Kind, A>,
+    meter: &mut Meter<A>,
+    writer: &mut W,
+    sink: &mut Sink<O, A>,
+) -> bool
+    requires can { CanFeed W.ValueWriter limits end
+        (lane kinds.old at.old writer.old sink.old meter.old) }
+    requires start { IsStartBy (N.text names.now) limits at.old
+        (end - length at.old.rest.now) start }
+    ensures moved { MovedBy W.ValueWriter limits end (N.text names.now)
+        (lane kinds.old at.old writer.old sink.old meter.old)
+        (lane kinds.new at.new writer.new sink.new meter.new) }
+    ensures goes { length kinds.new + length at.new.rest.now
+        ≤ length kinds.old + length at.old.rest.now }
+    ensures falls { result ≡ true → length at.new.rest.now < length at.old.rest.now }
+{
+    let place = end - start.next.rest.len() as u64;
+    let Some(found) = scan_head(limits, place, start.next) else {
+        return false;
+    };
+    match found.head {
+        Head::Begin(kind) => id_begin(
+            at, start, found, kind, names, limits, end, kinds, meter, writer, sink,
+        ),
+        _ => id_scalar(
+            at, start, found, names, limits, end, kinds, meter, writer, sink,
+        ),
+    }
+}
+
+// A symbol that is an id, where a token is told behind it that is no two colons.
+#[inline(always)]
+fn id_head<'a, N: Names>(
+    bytes: &'a [u8],
+    names: &'a N,
+    limits: Limits,
+    place: u64,
+) -> Option<Found<'a>>
+    requires dollar { first_is (λ b. b == 36) bytes.now ≡ true }
+    ensures found { IfSome result (IsFoundBy (N.text names.now) limits place bytes.now) }
+    ensures whole { IfSome result (λ f. (kind : kind_of.Kind) → f.head ≢ Head.Begin kind) }
+{
+    let Some(id) = id_text(bytes, names, limits.scalar) else {
+        return None;
+    };
+    let rest = behind(id.count, bytes);
+    let next = next_told(rest);
+    if next.told == 0 {
+        return None;
+    }
+    let name = SymAt {
+        sym: Sym::Text(id.text),
+        place,
+    };
+    Some(Found {
+        head: Head::Symbol(name),
+        spelled: Some(id.text),
+        rest,
+    })
+}
+
+// Hands on a container's beginning, by the texts that ids have, and says whether it did.
+#[inline(always)]
+fn id_begin<'a, N: Names, W: ValueWriter<O, A>, O: Output, A: Allocator + Copy>(
+    at: &mut Spot<'a>,
+    start: Start<'a>,
+    found: Found<'a>,
+    kind: Kind,
+    _names: &'a N,
+    limits: Limits,
+    end: u64,
+    kinds: &mut Stack<Kind, A>,
+    meter: &mut Meter<A>,
+    writer: &mut W,
+    sink: &mut Sink<O, A>,
+) -> bool
+    requires can { CanFeed W.ValueWriter limits end
+        (lane kinds.old at.old writer.old sink.old meter.old) }
+    requires start { IsStartBy (N.text _names.now) limits at.old
+        (end - length at.old.rest.now) start }
+    requires found { IsFoundBy (N.text _names.now) limits (end - length start.next.rest.now)
+        start.next.rest.now found }
+    requires begins { found.head ≡ Head.Begin kind }
+    ensures moved { MovedBy W.ValueWriter limits end (N.text _names.now)
+        (lane kinds.old at.old writer.old sink.old meter.old)
+        (lane kinds.new at.new writer.new sink.new meter.new) }
+    ensures goes { length kinds.new + length at.new.rest.now
+        ≤ length kinds.old + length at.old.rest.now }
+    ensures falls { result ≡ true → length at.new.rest.now < length at.old.rest.now }
+{
+    if u64::from(limits.depth) <= kinds.as_slice().len() as u64 {
+        return false;
+    }
+    let place = end - start.next.rest.len() as u64;
+    let top = top_at(at.top, innermost(kinds), start.note, place);
+    if !kinds.push_within(meter, kind) {
+        return false;
+    }
+    let item = PlainItem {
+        field: start.field,
+        annotation: start.note,
+        second: None,
+        head: found.head,
+        spelled: found.spelled,
+        place,
+        top,
+    };
+    if !writer.take_plain(meter, sink, item) {
+        let _opened = kinds.pop(meter);
+        return false;
+    }
+    at.rest = found.rest;
+    at.top = top;
+    at.separator = false;
+    at.kind = kind;
+    true
+}
+
+// Hands on a scalar, by the texts that ids have, and says whether it did.
+#[inline(always)]
+fn id_scalar<'a, N: Names, W: ValueWriter<O, A>, O: Output, A: Allocator + Copy>(
+    at: &mut Spot<'a>,
+    start: Start<'a>,
+    found: Found<'a>,
+    _names: &'a N,
+    limits: Limits,
+    end: u64,
+    kinds: &Stack<Kind, A>,
+    meter: &mut Meter<A>,
+    writer: &mut W,
+    sink: &mut Sink<O, A>,
+) -> bool
+    requires can { CanFeed W.ValueWriter limits end
+        (lane kinds.now at.old writer.old sink.old meter.old) }
+    requires start { IsStartBy (N.text _names.now) limits at.old
+        (end - length at.old.rest.now) start }
+    requires found { IsFoundBy (N.text _names.now) limits (end - length start.next.rest.now)
+        start.next.rest.now found }
+    requires whole { (kind : kind_of.Kind) → found.head ≢ Head.Begin kind }
+    ensures moved { MovedBy W.ValueWriter limits end (N.text _names.now)
+        (lane kinds.now at.old writer.old sink.old meter.old)
+        (lane kinds.now at.new writer.new sink.new meter.new) }
+    ensures falls { result ≡ true → length at.new.rest.now < length at.old.rest.now }
+{
+    let inner = innermost(kinds);
+    let place = end - start.next.rest.len() as u64;
+    let top = top_at(at.top, inner, start.note, place);
+    let item = PlainItem {
+        field: start.field,
+        annotation: start.note,
+        second: None,
+        head: found.head,
+        spelled: found.spelled,
+        place,
+        top,
+    };
+    if !writer.take_plain(meter, sink, item) {
+        return false;
+    }
+    pass_value(at, found.rest, top, inner);
+    true
+}

@@ -17,9 +17,9 @@ use ion_value::writer::ValueWriter;
 use std::alloc::Allocator;
 
 impl<I: Input, A: Allocator + Copy> BinReader<I, A> {
-    // Hands on items that the loop over most leaves, behind so many values at top level: one that has an annotation, or else
-    // those that each have an annotation or a name that is not known to be simple. It answers how many values
-    // ended.
+    // Hands on items that the loop over most leaves, behind so many values at top level: one that has an
+    // annotation, or else those that each have an annotation or a name that is not known to be simple. It
+    // answers how many values ended.
     #[inline(always)]
     pub(super) fn hand_rare<N: Names, W: ValueWriter<O, A>, O: Output>(
         &mut self,

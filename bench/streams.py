@@ -8,7 +8,8 @@ Kinds: log ints strings blobs deep config fields nest, each as text (KIND.ion) a
 none is named; 100 MB of text each where MB is not given. A value at top level is some 100 KB at most, so the default
 limits hold. A further kind has to be named: bucket, structs over 3,000 names that no byte tells apart which `ion` reads for
 the bucket of a text, its first and last sixteen; quoted, structs whose names and symbols stand between quotes in text; noted,
-structs whose values have two annotations; ids, structs whose names and symbols are ids in text (`$10`), of which each has one.
+structs whose values have two annotations; ids, structs whose names and symbols are ids in text (`$10`), of which each has one;
+names, structs of names that come once, some 18 bytes each.
 """
 import base64
 import json
@@ -20,7 +21,7 @@ import sys
 HERE = os.path.dirname(os.path.abspath(__file__))
 YARD = os.environ.get('YARD') or os.path.join(HERE, 'yard', 'target', 'release', 'yard')
 KINDS = ['log', 'json', 'ints', 'strings', 'blobs', 'deep', 'config', 'fields', 'nest']
-MORE = ['bucket', 'quoted', 'noted', 'ids']
+MORE = ['bucket', 'quoted', 'noted', 'ids', 'names']
 
 SERV = ['auth-api', 'billing', 'catalog', 'checkout', 'gateway', 'inventory', 'mailer', 'orders', 'search', 'users']
 LEVEL = ['DEBUG', 'INFO', 'INFO', 'INFO', 'INFO', 'WARN', 'ERROR']
@@ -195,6 +196,11 @@ def bucket(r):
     return '{' + ','.join('%s:%d' % (name, r.randrange(100)) for name in names) + '}\n'
 
 
+def names_once(r):
+    """A struct of ten names, each of which comes once in the stream but for chance."""
+    return '{' + ','.join('name_%x:%d' % (r.getrandbits(32), r.randrange(1000)) for _ in range(10)) + '}\n'
+
+
 def quoted(r):
     """A struct whose names and symbols are no identifiers."""
     value = [lambda: str(r.randrange(10 ** 5)), lambda: "'%s'" % r.choice(REGION).replace('_', '-')]
@@ -248,7 +254,7 @@ def maker_of(kind, r):
             'json': lambda: json.dumps(log_record(r), separators=(',', ':')) + '\n',
             'ints': lambda: ints(r), 'strings': lambda: strings(r), 'blobs': lambda: blobs(r),
             'deep': lambda: deep(r), 'config': lambda: config(r), 'nest': lambda: nest(r), 'bucket': lambda: bucket(r),
-            'quoted': lambda: quoted(r), 'noted': lambda: noted(r)}[kind]
+            'quoted': lambda: quoted(r), 'noted': lambda: noted(r), 'names': lambda: names_once(r)}[kind]
 
 
 def main(words):

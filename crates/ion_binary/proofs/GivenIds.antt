@@ -7,7 +7,7 @@ use Rattle.ion_symbols.specs.Output.{position, system_id, or_given, known_id, te
 use Rattle.ion_binary.specs.Canonical.{id_in, with_symbol, with_text}
 use Rattle.ion_binary.specs.WritingLaws.{IdsAreGiven, IsGiven}
 
-cost-push : (texts : List (List ℕ)) (t : List ℕ) → texts_cost (texts ++ t ∷ []) ≡ texts_cost texts + (16 + length t)
+pub cost-push : (texts : List (List ℕ)) (t : List ℕ) → texts_cost (texts ++ t ∷ []) ≡ texts_cost texts + (16 + length t)
 cost-push [] t = omega arith
 cost-push (s ∷ ss) t = let r = cost-push ss t in omega (arith, r)
 
@@ -29,7 +29,7 @@ none-given (Some k) p q n f h = absurd (cc h)
 none-given None (Some k) q n f h = absurd (cc h)
 none-given None None q n f h = ap (or_given None) (f refl)
 
-known-new : (texts : List (List ℕ)) (t : List ℕ) → known_id texts t ≡ None → known_id (texts ++ t ∷ []) t ≡ Some (length texts + 10)
+pub known-new : (texts : List (List ℕ)) (t : List ℕ) → known_id texts t ≡ None → known_id (texts ++ t ∷ []) t ≡ Some (length texts + 10)
 known-new texts t h = none-given (system_id t) (position texts t) (position (texts ++ t ∷ []) t) (length texts) (λ e. position-new texts t e) h
 
 with-known : (texts : List (List ℕ)) (t : List ℕ) (id : Option ℕ) → known_id texts t ≡ id → with_symbol texts (Known t) ≡ with_text texts t id

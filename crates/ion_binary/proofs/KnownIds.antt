@@ -96,7 +96,7 @@ unfolding with_symbol
 known_with texts (Known t) = text_there texts t (known_id texts t) refl
 known_with texts Unknown = tt
 
-known_ext : (t u : List (List ℕ)) (s : UserSymbol) → Extends t u → IsKnown t s → IsKnown u s
+pub known_ext : (t u : List (List ℕ)) (s : UserSymbol) → Extends t u → IsKnown t s → IsKnown u s
 known_ext t u (Known x) e h = (h.0, ap (λ w. known_id w x) e.is ∙ known_more t e.more x h.0 h.1)
 known_ext t u Unknown e h = tt
 

@@ -58,10 +58,12 @@ mod NumbersFit
 mod ShortNumbers
 mod ShownParts
 mod Handing
+mod HandingKeeps
 mod Feeding
 mod FewOctets
 mod PutInRoom
 mod ShortDecimals
 mod NotedOctets
 mod PlainAdded
+mod FreshAdded
 mod EndsLater

@@ -97,7 +97,7 @@ pub have-append : (texts : List (List ℕ)) (ss ts : List SymbolAt) → HaveIds 
 have-append texts [] ts h k = k
 have-append texts (s ∷ ss) ts h k = (h.0, have-append texts ss ts h.1 k)
 
-have-same : (texts : List (List ℕ)) (ss : List SymbolAt) → HaveIds texts ss → with_symbols texts (map user_symbol_at ss) ≡ texts
+pub have-same : (texts : List (List ℕ)) (ss : List SymbolAt) → HaveIds texts ss → with_symbols texts (map user_symbol_at ss) ≡ texts
 have-same texts [] h = refl
 have-same texts (s ∷ ss) h = ap (λ (ts : List (List ℕ)). with_symbols ts (map user_symbol_at ss)) h.0 ∙ have-same texts ss h.1
 

@@ -144,7 +144,7 @@ over-to limit t (s ∷ ss) h e =
     let u : List (List ℕ) = with_symbol t (user_symbol_at s) in
     over-by limit u s ss (nat_lt limit (texts_cost u)) refl (λ k f. over-to limit u ss k f) e
 
-over-from : (limit : ℕ) (t : List (List ℕ)) (ss : List SymbolAt) → texts_cost (with_symbols t (users_of ss)) ≤ limit → first_over limit t ss ≡ None
+pub over-from : (limit : ℕ) (t : List (List ℕ)) (ss : List SymbolAt) → texts_cost (with_symbols t (users_of ss)) ≤ limit → first_over limit t ss ≡ None
 over-from limit t [] h = refl
 over-from limit t (s ∷ ss) h =
     let u : List (List ℕ) = with_symbol t (user_symbol_at s) in

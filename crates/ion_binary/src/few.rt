@@ -1,6 +1,7 @@
 //! A few octets, in a word.
 ghost use Rattle.std.specs.Prelude.{◌≡◌, ◌+◌, ◌<◌, ◌≤◌, ◌∷◌, ◌++◌, [], List, ℕ, length, take, IfSome};
-ghost use Rattle.ion_binary.specs.Canonical.{header, wrapped};
+ghost use Rattle.ion_value.specs.Number.{uint_octets};
+ghost use Rattle.ion_binary.specs.Canonical.{headed, header, wrapped};
 ghost use Rattle.ion_binary.specs.Held.{counted_ids};
 ghost use Rattle.ion_binary.specs.Opening.{name_octets, noted};
 
@@ -92,6 +93,31 @@ pub(crate) fn few_header(code: u8, n: usize) -> Option<Few>
         return Some(Few::one(128 + n as u8).behind(16 * code + 14));
     }
     None
+}
+
+/// A number of 64 bits as a scalar: its header of one octet, and a block that begins with its body.
+#[derive(Drop)]
+pub(crate) struct FewNumber {
+    pub(crate) first: Few,
+    pub(crate) body: [u8; 8],
+    pub(crate) size: usize,
+}
+
+/// The octets of a scalar whose body is a number of 64 bits.
+#[inline(always)]
+pub(crate) fn few_number(code: u8, n: u64) -> FewNumber
+    requires code { code < 16 }
+    ensures octets { result.first ++ take result.size result.body ≡ headed code (uint_octets n) }
+    ensures few { length result.first ≤ 2 }
+    ensures size { result.size ≤ 8 }
+{
+    let zeros = n.leading_zeros() / 8;
+    let size = 8 - zeros as usize;
+    FewNumber {
+        first: Few::one(16 * code + size as u8),
+        body: n.wrapping_shl(8 * zeros).to_be_bytes(),
+        size,
+    }
 }
 
 /// The octets of a field's id, those of an annotation's in its wrapper, each 0 where there is none,

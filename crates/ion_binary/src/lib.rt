@@ -13,6 +13,7 @@ mod front;
 mod header;
 mod headers;
 pub mod laws;
+mod noted;
 mod octets;
 mod open_value;
 mod opening;

@@ -8,9 +8,9 @@ ghost use Rattle.ion_value.specs.Value.{UserSymbol};
 ghost use Rattle.ion_binary.specs.Counting.{IsCounted, IsCountedTo, AreReached, content_around, counted_length, cut, sizes_from};
 ghost use Rattle.ion_value.specs.Int.{IsInt};
 ghost use Rattle.ion_value.specs.Number.{uint_octets};
-ghost use Rattle.ion_binary.specs.Canonical.{headed, header, wrapped};
+ghost use Rattle.ion_binary.specs.Canonical.{headed, header};
 ghost use Rattle.ion_binary.specs.Grammar.{type_code};
-ghost use Rattle.ion_binary.specs.Held.{begun_at, begun_headers, closed_in, counted_ids, headers_around, innermost_in, moved_headers, moved_octets, size_of, whole_at, wrapper_headers, header_at};
+ghost use Rattle.ion_binary.specs.Held.{begun_at, begun_headers, closed_in, headers_around, innermost_in, moved_headers, moved_octets, size_of, whole_at, wrapper_headers, header_at};
 ghost use Rattle.ion_binary.specs.ItemOctets.{head_name, user_head};
 ghost use Rattle.ion_meter.specs.Limits.{AreChecked};
 ghost use Rattle.ion_binary.specs.Opening.{CanStep, IsOpen, IsOpenTo, IsWithin, MayFollow, PutsScalar, Raises, Stepped, both_octets, name_octets, noted, open_cost, spelled_octets, wrapper_octets};
@@ -21,6 +21,7 @@ mod plain;
 use crate::front::Front;
 use crate::header::header;
 use crate::headers::{HeaderPlace, Headers};
+use crate::noted::noted_scalar;
 use crate::opening::{LONGEST, opening};
 use crate::scalar::{Octets, Spelled, spell, spell_int, with_lent};
 use arrayvec::ArrayVec;
@@ -39,10 +40,6 @@ const THRESHOLDS: [u64; 5] = [14, 128, 16_384, 2_097_152, 268_435_456];
 
 /// From so many octets on a container's header waits where it ends, and goes in with others.
 pub(crate) const LONG: usize = 4096;
-
-/// The most octets of a field, of what stands before a value in a wrapper, and of a header with a
-/// short body.
-const FRONT: usize = 80;
 
 /// The type code of annotations.
 pub(crate) const WRAPPER: u8 = 14;
@@ -314,10 +311,10 @@ impl<A: Allocator + Copy> OpenValue<A> {
         }
     }
 
-    // Whether so many octets and headers more surely keep the value within its limit: a header has six
-    // octets at most.
+    /// Whether so many octets and headers more surely keep the value within its limit: a header has six
+    /// octets at most.
     #[inline(always)]
-    fn surely_fits(&self, limits: Limits, octets: usize, headers: usize) -> bool
+    pub fn surely_fits(&self, limits: Limits, octets: usize, headers: usize) -> bool
         requires checked { AreChecked limits }
         requires within { IsWithin limits self.now }
         requires more { headers ≤ 2 }
@@ -375,12 +372,9 @@ impl<A: Allocator + Copy> OpenValue<A> {
         ensures declines { result ≡ false → (self.new ≡ self.old) × (meter.new ≡ meter.old) }
         ensures stepped { Stepped limits.now self.old self.new meter.old meter.new None }
     {
-        if scalar.front.len() > LONGEST || scalar.len() > limits.value {
+        let Some(front) = noted_scalar(limits, name, note, scalar) else {
             return false;
-        }
-        let mut front = name_front(name);
-        put_note(&mut front, note, scalar.len());
-        front.try_extend_from_slice(scalar.front).unwrap();
+        };
         let octets = Octets {
             front: front.as_slice(),
             rest: scalar.rest,
@@ -636,40 +630,6 @@ impl<A: Allocator + Copy> OpenValue<A> {
         self.headers.push(meter, header)?;
         Ok(true)
     }
-}
-
-// The id of a field, and nothing where it is 0: then there is none.
-#[inline]
-fn name_front(name: u32) -> ArrayVec<u8, FRONT>
-    ensures octets { result.items ≡ name_octets name }
-    ensures few { length result.items ≤ 10 }
-{
-    let mut front = ArrayVec::new();
-    if name == 0 {
-        return front;
-    }
-    let octets = var_uint_write(u64::from(name));
-    front.try_extend_from_slice(octets.as_slice()).unwrap();
-    front
-}
-
-// Puts what stands before a value of so many octets in the wrapper of an annotation of this id, and
-// nothing where that is 0: then there is none.
-#[inline]
-fn put_note(front: &mut ArrayVec<u8, FRONT>, note: u32, size: u64)
-    requires few { length front.old.items ≤ 10 }
-    requires short { size ≤ 2 ^ 32 }
-    ensures octets { (x : List ℕ) → length x ≡ size → front.new.items ++ x
-        ≡ front.old.items ++ wrapped (counted_ids (name_octets note)) x }
-    ensures few { length front.new.items ≤ 40 }
-{
-    if note == 0 {
-        return;
-    }
-    let ids = var_uint_write(u64::from(note));
-    let before = wrapper(ids.len() as u64, size);
-    front.try_extend_from_slice(before.as_slice()).unwrap();
-    front.try_extend_from_slice(ids.as_slice()).unwrap();
 }
 
 // Puts the header of a body of so many octets in at a place, where there is room for it. Else it

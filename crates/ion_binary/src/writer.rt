@@ -17,6 +17,7 @@ ghost use Rattle.ion_binary.specs.Writing.{Written, binary_adds, binary_puts, bi
 ghost use Rattle.ion_binary.specs.ItemPuts.{binary_grows, binary_silent};
 ghost use Rattle.ion_binary.specs.WriterWithin.{binary-within};
 
+mod fresh;
 mod plain;
 
 use crate::declaration::put_declaration;

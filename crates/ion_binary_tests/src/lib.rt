@@ -28,9 +28,13 @@ mod limits;
 #[cfg(test)]
 mod long;
 #[cfg(test)]
+mod new_texts;
+#[cfg(test)]
 mod one_declaration;
 #[cfg(test)]
 mod pieces;
+#[cfg(test)]
+mod plainly;
 #[cfg(test)]
 mod reading;
 #[cfg(test)]

@@ -1,10 +1,12 @@
 //! Items that are put as binary, one after the other.
-ghost use Rattle.std.specs.Prelude.{◌≡◌, ◌+◌, List, [], true, false, OnOk, IfSome};
+ghost use Rattle.std.specs.Prelude.{◌≡◌, ◌+◌, List, [], true, false, None, OnOk, IfSome};
 ghost use Rattle.ion_meter.specs.Limits.{AreChecked};
 ghost use Rattle.ion_value.specs.Items.{item_of, raw_head};
+ghost use Rattle.ion_value.specs.PlainItems.{IsPlainItem, IsSpelled, SaysRightly, placed_item};
 ghost use Rattle.ion_value.specs.Standing.{open_after, open_behind, is_marker, Fits, HeadInRange};
 ghost use Rattle.ion_value.specs.Value.{PlacedItem};
 
+use crate::plainly::{is_put, plain_of};
 use crate::reading::expect_little;
 use crate::same::same;
 use ion_binary::writer::BinWriter;
@@ -19,6 +21,7 @@ use ion_value::int::int_from_text;
 use ion_value::ion_type::{IonType, Kind};
 use ion_value::item::{Annotation, Annotations, Head, Item, Sym, SymAt};
 use ion_value::names::{Names, NoNames};
+use ion_value::plain_item::PlainItem;
 use ion_value::timestamp::timestamp_from_text;
 use ion_value::writer::ValueWriter;
 use std::alloc::Global;
@@ -26,10 +29,10 @@ use std::io::Write;
 use std::process::Abort;
 
 /// The texts that the annotations of a test are ranges of.
-const TEXTS: &[u8] = b"nameversion";
+pub const TEXTS: &[u8] = b"nameversion";
 
 /// The place of a field is its item's and this.
-const FIELDS: u64 = 100;
+pub const FIELDS: u64 = 100;
 
 /// A head, of which a number or a timestamp is given as a text that spells it.
 #[derive(Clone, Copy)]
@@ -111,7 +114,7 @@ fn may_stand<N: Names>(depth: u32, kinds: &[Kind], item: &Item<'_, N>) -> bool
 }
 
 /// Which containers are open behind a head.
-fn go_on(rt: &impl Abort, kinds: &mut Vec<Kind>, head: &Head<'_>)
+pub fn go_on(rt: &impl Abort, kinds: &mut Vec<Kind>, head: &Head<'_>)
     ensures { kinds.new.items ≡ open_after kinds.old.items (raw_head head.now) }
 {
     match *head {
@@ -129,6 +132,47 @@ fn go_on(rt: &impl Abort, kinds: &mut Vec<Kind>, head: &Head<'_>)
     }
 }
 
+/// Puts an item, one that is plain by `take_plain` if the writer takes it so.
+fn put_step<W: ValueWriter<O, Global>, O: Output, N: Names>(
+    rt: &impl Abort,
+    meter: &mut Meter<Global>,
+    sink: &mut Sink<O, Global>,
+    writer: &mut W,
+    kinds: &mut Vec<Kind>,
+    depth: u32,
+    item: &Item<'_, N>,
+    plain: Option<PlainItem<'_, '_>>,
+) -> Result<(), Fault>
+    requires sound { W.sound writer.old }
+    requires well { W.failed writer.old ≡ None }
+    requires sink { sink.old.fault ≡ None }
+    requires stands { (path : List PlacedItem) × W.stands writer.old path
+        × (open_behind [] path ≡ kinds.old.items) }
+    requires depth { (W.limits writer.old).depth ≡ depth }
+    requires held { meter.old.held ≡ 4096 + W.own writer.old }
+    requires range { HeadInRange (item_of N.text item.now).head }
+    requires plain_range { IfSome plain (λ i. HeadInRange (raw_head i.head)) }
+    requires plain { IfSome plain (λ i. IsPlainItem (placed_item i)) }
+    requires simple { IfSome plain SaysRightly }
+    requires spelled { IfSome plain IsSpelled }
+    requires single { IfSome plain (λ i. i.second ≡ None) }
+    ensures sound { W.sound writer.new }
+    ensures well { OnOk result (W.failed writer.new ≡ None) }
+    ensures sink { OnOk result (sink.new.fault ≡ None) }
+    ensures stands { OnOk result ((path : List PlacedItem) × W.stands writer.new path
+        × (open_behind [] path ≡ kinds.new.items)) }
+    ensures depth { (W.limits writer.new).depth ≡ depth }
+    ensures held { meter.new.held ≡ 4096 + W.own writer.new }
+{
+    let Some(plain) = plain else {
+        return put_one(rt, meter, sink, writer, kinds, depth, item);
+    };
+    if is_put(rt, meter, sink, writer, kinds, depth, plain) {
+        return Ok(());
+    }
+    put_one(rt, meter, sink, writer, kinds, depth, item)
+}
+
 /// Puts an item. A fault has to be answered again.
 fn put_one<W: ValueWriter<O, Global>, O: Output, N: Names>(
     rt: &impl Abort,
@@ -140,12 +184,16 @@ fn put_one<W: ValueWriter<O, Global>, O: Output, N: Names>(
     item: &Item<'_, N>,
 ) -> Result<(), Fault>
     requires sound { W.sound writer.old }
+    requires well { W.failed writer.old ≡ None }
+    requires sink { sink.old.fault ≡ None }
     requires stands { (path : List PlacedItem) × W.stands writer.old path
         × (open_behind [] path ≡ kinds.old.items) }
     requires depth { (W.limits writer.old).depth ≡ depth }
     requires held { meter.old.held ≡ 4096 + W.own writer.old }
     requires range { HeadInRange (item_of N.text item.now).head }
     ensures sound { W.sound writer.new }
+    ensures well { OnOk result (W.failed writer.new ≡ None) }
+    ensures sink { OnOk result (sink.new.fault ≡ None) }
     ensures stands { OnOk result ((path : List PlacedItem) × W.stands writer.new path
         × (open_behind [] path ≡ kinds.new.items)) }
     ensures depth { (W.limits writer.new).depth ≡ depth }
@@ -163,6 +211,13 @@ fn put_one<W: ValueWriter<O, Global>, O: Output, N: Names>(
     Ok(())
 }
 
+/// Steps, and whether those that are plain are put by `take_plain`, if the writer takes them so.
+#[derive(Clone, Copy)]
+struct Way<'a> {
+    steps: &'a [Step<'a>],
+    plainly: bool,
+}
+
 /// Puts items, up to the first fault. An item's place is its number, and a value's that of its first
 /// item.
 fn put_all<W: ValueWriter<O, Global>, O: Output>(
@@ -172,7 +227,7 @@ fn put_all<W: ValueWriter<O, Global>, O: Output>(
     sink: &mut Sink<O, Global>,
     writer: &mut W,
     depth: u32,
-    steps: &[Step<'_>],
+    way: Way<'_>,
 ) -> Result<(), Fault>
     requires sound { W.sound writer.old }
     requires fresh { W.is_new writer.old }
@@ -185,9 +240,10 @@ fn put_all<W: ValueWriter<O, Global>, O: Output>(
     }
     let mut kinds = Vec::new(alloc);
     let mut top = 0;
-    'steps: for (place, (field, annotations, part)) in steps.iter().enumerate() {
+    'steps: for (place, step) in way.steps.iter().enumerate() {
+        let (field, annotations, part) = *step;
         let place = place as u64;
-        let Some(head) = head_of(*part, place) else {
+        let Some(head) = head_of(part, place) else {
             panic!(rt; "no value")
         };
         let field = match field {
@@ -197,9 +253,10 @@ fn put_all<W: ValueWriter<O, Global>, O: Output>(
         if kinds.is_empty() {
             top = place;
         }
+        let plain = plain_of(way.plainly, *step, head, place, top);
         let annotations = Annotations::new(annotations, TEXTS, &NoNames);
         let item = Item::new(field, annotations, head, place, top);
-        if let Err(fault) = put_one(rt, meter, sink, writer, &mut kinds, depth, &item) {
+        if let Err(fault) = put_step(rt, meter, sink, writer, &mut kinds, depth, &item, plain) {
             return Err(fault);
         }
     }
@@ -216,6 +273,38 @@ pub fn put<D: Write + Drop>(
     want: Result<(), Fault>,
     device: D,
 ) -> D {
+    let way = Way {
+        steps,
+        plainly: false,
+    };
+    put_so(rt, alloc, limits, way, want, device)
+}
+
+/// The same, where plain items are put by `take_plain`, if the writer takes them so.
+pub fn put_plainly<D: Write + Drop>(
+    rt: &impl Abort,
+    alloc: Global,
+    limits: Limits,
+    steps: &[Step<'_>],
+    want: Result<(), Fault>,
+    device: D,
+) -> D {
+    let way = Way {
+        steps,
+        plainly: true,
+    };
+    put_so(rt, alloc, limits, way, want, device)
+}
+
+/// Puts items to a device in one of these ways.
+fn put_so<D: Write + Drop>(
+    rt: &impl Abort,
+    alloc: Global,
+    limits: Limits,
+    way: Way<'_>,
+    want: Result<(), Fault>,
+    device: D,
+) -> D {
     assert!(rt; limits.check());
     let mut meter = Meter::new(alloc);
     let Ok(mut sink) = Sink::new(&mut meter, ToWrite::new(device)) else {
@@ -223,7 +312,7 @@ pub fn put<D: Write + Drop>(
     };
     let mut writer = BinWriter::new(&meter, limits);
     let depth = limits.depth;
-    let answer = put_all(rt, alloc, &mut meter, &mut sink, &mut writer, depth, steps);
+    let answer = put_all(rt, alloc, &mut meter, &mut sink, &mut writer, depth, way);
     let flushed = sink.flush().is_ok();
     same(
         rt,

@@ -2,8 +2,9 @@
 
 use crate::hex::{MARKER, add, octets};
 use crate::limits::LIMITS;
+use crate::new_texts::NEW_TEXTS;
 use crate::same::same;
-use crate::written::{Part, Step, put};
+use crate::written::{Part, Step, put, put_plainly};
 use crate::written_again::FailingOnce;
 use ion_meter::fault::{Fault, Reason};
 use ion_meter::limits::Limits;
@@ -13,19 +14,20 @@ use std::alloc::Global;
 use std::process::Abort;
 
 /// The greatest length of a value where nothing else is said.
-const VALUE: u64 = 16_777_216;
+pub const VALUE: u64 = 16_777_216;
 
 /// The most that a symbol table costs there.
-const SYMBOLS: u64 = 1_048_576;
+pub const SYMBOLS: u64 = 1_048_576;
 
-/// An annotation of the text `name`, and of `version`.
-const NAME: Annotation = Annotation::Text {
+/// An annotation of the text `name`.
+pub const NAME: Annotation = Annotation::Text {
     from: 0,
     to: 4,
     place: 0,
 };
 
-const VERSION: Annotation = Annotation::Text {
+/// An annotation of the text `version`.
+pub const VERSION: Annotation = Annotation::Text {
     from: 4,
     to: 11,
     place: 0,
@@ -51,13 +53,16 @@ const FOUR: &[Annotation] = &[
     },
 ];
 
-const LIST: Step<'static> = (None, &[], Part::Begin(Kind::List));
+/// A list begins.
+pub const LIST: Step<'static> = (None, &[], Part::Begin(Kind::List));
 
 const SEXP: Step<'static> = (None, &[], Part::Begin(Kind::Sexp));
 
-const STRUCT: Step<'static> = (None, &[], Part::Begin(Kind::Struct));
+/// A struct begins.
+pub const STRUCT: Step<'static> = (None, &[], Part::Begin(Kind::Struct));
 
-const END: Step<'static> = (None, &[], Part::End);
+/// A container ends.
+pub const END: Step<'static> = (None, &[], Part::End);
 
 const A: Step<'static> = (None, &[], Part::Symbol(b"a"));
 
@@ -82,7 +87,7 @@ const Z: Step<'static> = (Some(b"f"), FOUR, Part::Symbol(b"z"));
 const LONG: [u8; 5_000] = [b'a'; 5_000];
 
 /// The limits on a value and on symbol tables, items, the answer, and what is written.
-type Row = (
+pub type Row = (
     u64,
     u64,
     &'static [Step<'static>],
@@ -588,7 +593,7 @@ const ANEW: &[Row] = &[
     ),
 ];
 
-// Asserts what is written of a row.
+// Asserts what is written of a row, item by item and where plain items are put at once.
 fn expect_row(rt: &impl Abort, alloc: Global, row: &Row) {
     let (value, symbols, steps, want, text) = *row;
     let limits = Limits {
@@ -597,13 +602,15 @@ fn expect_row(rt: &impl Abort, alloc: Global, row: &Row) {
         ..LIMITS
     };
     let written = put(rt, alloc, limits, steps, want, Vec::new(alloc));
+    let plainly = put_plainly(rt, alloc, limits, steps, want, Vec::new(alloc));
     let text = octets(rt, alloc, b"", text);
     same(rt, written.as_slice(), text.as_slice());
+    same(rt, plainly.as_slice(), text.as_slice());
 }
 
 #[test]
 fn items_are_written(rt: HostRuntime) {
-    for rows in [SCALARS, SYMBOLIC, CONTAINERS, ANEW] {
+    for rows in [SCALARS, SYMBOLIC, CONTAINERS, NEW_TEXTS, ANEW] {
         for row in rows {
             expect_row(&rt, rt.alloc(), row);
         }
@@ -640,23 +647,32 @@ fn add_steps(rt: &impl Abort, steps: &mut Vec<Step<'static>>, more: &[Step<'stat
     assert!(rt; steps.extend_from_slice(more).is_ok());
 }
 
-// Texts of the ids from 10 to 256.
+// Asserts how the octets end that are written of items, in both ways.
+fn expect_end(rt: &impl Abort, alloc: Global, steps: &[Step<'_>], end: &[u8]) {
+    let written = put(rt, alloc, LIMITS, steps, Ok(()), Vec::new(alloc));
+    let plainly = put_plainly(rt, alloc, LIMITS, steps, Ok(()), Vec::new(alloc));
+    same(rt, written.as_slice(), plainly.as_slice());
+    assert!(rt; written.as_slice().ends_with(end));
+}
+
+// Texts of the ids from 10 to 256, of symbols and of fields.
 #[test]
 fn an_id_may_have_two_octets(rt: HostRuntime) {
-    let mut steps = Vec::new(rt.alloc());
-    add_steps(&rt, &mut steps, &[LIST]);
+    let mut symbols = Vec::new(rt.alloc());
+    let mut fields = Vec::new(rt.alloc());
+    add_steps(&rt, &mut symbols, &[LIST]);
+    add_steps(&rt, &mut fields, &[STRUCT]);
     for length in 0..247usize {
-        add_steps(
-            &rt,
-            &mut steps,
-            &[(None, &[], Part::Symbol(&LONG[..length]))],
-        );
+        let text = &LONG[..length];
+        add_steps(&rt, &mut symbols, &[(None, &[], Part::Symbol(text))]);
+        add_steps(&rt, &mut fields, &[(Some(text), &[], Part::Int(b"1"))]);
     }
-    add_steps(&rt, &mut steps, &[END]);
-    let device = Vec::new(rt.alloc());
-    let written = put(&rt, rt.alloc(), LIMITS, steps.as_slice(), Ok(()), device);
+    add_steps(&rt, &mut symbols, &[END]);
+    add_steps(&rt, &mut fields, &[END]);
     let last = b"\x71\xFE\x71\xFF\x72\x01\x00";
-    assert!(rt; written.as_slice().ends_with(last));
+    expect_end(&rt, rt.alloc(), symbols.as_slice(), last);
+    let last = b"\x01\xFF\x21\x01\x02\x80\x21\x01";
+    expect_end(&rt, rt.alloc(), fields.as_slice(), last);
 }
 
 #[test]

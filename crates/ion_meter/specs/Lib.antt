@@ -1,3 +1,4 @@
+pub mod Additions
 pub mod Counts
 pub mod Devices
 pub mod Entries

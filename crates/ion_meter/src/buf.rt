@@ -2,6 +2,7 @@
 ghost use Rattle.std.specs.Prelude.{◌≡◌, true, false, ◌+◌, ◌-◌, ◌^◌, ◌<◌, ◌≤◌, ◌++◌, ◌∷◌, [], length, take, drop, replicate, slice_set, OnOk, OnErr, IfErr, MatchOption};
 ghost use Rattle.std.specs.List.{insert};
 ghost use Rattle.ion_meter.specs.Counts.{Grows, Shrinks, IsRefused};
+ghost use Rattle.ion_meter.specs.Additions.{added_cost};
 
 use crate::fault::Fault;
 use crate::meter::Meter;
@@ -16,6 +17,17 @@ use std::marker::Model;
 #[derive(Drop)]
 pub struct Buf<A: Allocator + Copy> {
     roomy: Roomy<A>,
+}
+
+/// Bytes that are added to a list, and others, in two parts, that are added to a second one.
+#[derive(Clone, Copy)]
+pub struct Added<'a> {
+    /// Those of the first.
+    pub bytes: &'a [u8],
+    /// Those of the second.
+    pub front: &'a [u8],
+    /// And what stands behind them.
+    pub rest: &'a [u8],
 }
 
 impl<A: Allocator + Copy> Model for Buf<A> {
@@ -118,6 +130,34 @@ impl<A: Allocator + Copy> Buf<A> {
         self.roomy.put(bytes);
         self.roomy.put(more);
         meter.add((bytes.len() + more.len()) as u64);
+        true
+    }
+
+    /// Adds bytes to these and to others, where there is room for all. Else it answers false, and nothing
+    /// is changed.
+    #[inline(always)]
+    pub(crate) fn extend_both_if_room(
+        &mut self,
+        others: &mut Buf<A>,
+        meter: &mut Meter<A>,
+        added: Added<'_>,
+    ) -> bool
+        requires { meter.old.held + added_cost added < 2 ^ 63 }
+        ensures bytes { result ≡ true → self.new ≡ self.old ++ added.entry.bytes.now }
+        ensures others { result ≡ true
+            → others.new ≡ others.old ++ (added.entry.front.now ++ added.entry.rest.now) }
+        ensures cost { result ≡ true → Grows meter.old meter.new (added_cost added.entry) }
+        ensures declines { result ≡ false → (self.new ≡ self.old) × (others.new ≡ others.old)
+            × (meter.new ≡ meter.old) }
+    {
+        if self.roomy.room() < added.bytes.len() {
+            return false;
+        }
+        if !others.extend_if_room(meter, added.front, added.rest) {
+            return false;
+        }
+        self.roomy.put(added.bytes);
+        meter.add(added.bytes.len() as u64);
         true
     }
 

@@ -3,8 +3,9 @@ ghost use Rattle.std.specs.Prelude.{◌≡◌, ◌+◌, ◌*◌, ◌-◌, ◌^�
 ghost use Rattle.std.specs.List.{insert};
 ghost use Rattle.ion_meter.specs.Counts.{Grows, Shrinks, IsRefused};
 ghost use Rattle.ion_meter.specs.Entries.{Entries, cost_of};
+ghost use Rattle.ion_meter.specs.Additions.{added_cost};
 
-use crate::buf::Buf;
+use crate::buf::{Added, Buf};
 use crate::fault::Fault;
 use crate::meter::Meter;
 use std::alloc::Allocator;
@@ -196,6 +197,68 @@ impl<T, A: Allocator + Copy> Table<T, A> {
         self.items.push_reserved(entry);
         meter.add(self.cost + others.cost);
         Ok(())
+    }
+
+    /// Adds an entry, another to a second table, and bytes to two lists, where there is room for all of
+    /// them. Else it answers false, and nothing is changed.
+    #[inline]
+    pub fn push_together<U>(
+        &mut self,
+        others: &mut Table<U, A>,
+        bytes: &mut Buf<A>,
+        octets: &mut Buf<A>,
+        meter: &mut Meter<A>,
+        entry: T,
+        other: U,
+        added: Added<'_>,
+    ) -> bool
+    where
+        T: Copy,
+        U: Copy,
+        requires { meter.old.held + (self.old.cost + others.old.cost + added_cost added) < 2 ^ 63 }
+        ensures items { result ≡ true → self.new.items ≡ self.old.items ++ entry ∷ [] }
+        ensures others { result ≡ true → others.new.items ≡ others.old.items ++ other ∷ [] }
+        ensures bytes { result ≡ true → bytes.new ≡ bytes.old ++ added.entry.bytes.now }
+        ensures octets { result ≡ true → octets.new
+            ≡ octets.old ++ (added.entry.front.now ++ added.entry.rest.now) }
+        ensures cost { result ≡ true → Grows meter.old meter.new
+            (self.old.cost + others.old.cost + added_cost added.entry) }
+        ensures same_cost { self.new.cost ≡ self.old.cost }
+        ensures same_other_cost { others.new.cost ≡ others.old.cost }
+        ensures declines { result ≡ false → (self.new ≡ self.old) × (others.new ≡ others.old)
+            × (bytes.new ≡ bytes.old) × (octets.new ≡ octets.old) × (meter.new ≡ meter.old) }
+    {
+        if self.items.len() >= self.items.capacity() {
+            return false;
+        }
+        if others.items.len() >= others.items.capacity() {
+            return false;
+        }
+        if !bytes.extend_both_if_room(octets, meter, added) {
+            return false;
+        }
+        self.items.push_reserved(entry);
+        others.items.push_reserved(other);
+        meter.add(others.cost + self.cost);
+        true
+    }
+
+    /// Puts an entry in at a place among the first entries, up to an end, each counted from 0: those from
+    /// the place on move behind it, and the one at the end goes.
+    pub fn shift_in(&mut self, place: usize, end: usize, entry: T)
+    where
+        T: Copy,
+        requires order { place ≤ end }
+        requires within { end < length self.old.items }
+        ensures items { take (end + 1) self.new.items
+            ≡ insert (take end self.old.items) place entry }
+        ensures len { length self.new.items ≡ length self.old.items }
+        ensures cost { self.new.cost ≡ self.old.cost }
+    {
+        let behind = &mut self.items[place..end + 1];
+        let moved = behind.len() - 1;
+        behind.copy_within(0..moved, 1);
+        behind[0] = entry;
     }
 
     /// Writes an entry over the one at a place, counted from 0.

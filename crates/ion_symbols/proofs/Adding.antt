@@ -1,88 +1,73 @@
 -- A text that is added to the texts of an output.
-use Rattle.std.proofs.Common.{◌≡◌, ℕ, ◌+◌, ◌*◌, ◌^◌, ◌<◌, ◌≤◌, if◌then◌else◌, List, [], ◌∷◌, ◌++◌, length, Option, Some, None, refl, ap, ap₂, sym, subst, subst₂, ◌∙◌, arith, le-leb, length-append}
-use Rattle.std.specs.List.{insert}
-use Rattle.std.proofs.lemmas.List.{length-map, length_push}
-use Rattle.ion_meter.specs.Counts.{Counts, Grows}
+use Rattle.std.proofs.Common.{◌≡◌, ℕ, ◌+◌, ◌-◌, ◌^◌, ◌<◌, ◌≤◌, Bool, true, false, if◌then◌else◌, List, [], ◌∷◌, ◌++◌, length, Option, Some, None, refl, ap, ap₂, sym, ◌∙◌, arith, le-leb}
+use Rattle.std.proofs.lemmas.Bool.{lt-leb}
+use Rattle.ion_meter.specs.Counts.{Counts}
 use Rattle.ion_value.specs.Shares.{Charges}
-use Rattle.ion_symbols.specs.declared.ordered.Place.{Place}
-use Rattle.ion_symbols.specs.Output.{Belongs, IsSorted, texts_cost, known_id, id_or_new, id_given}
-use Rattle.ion_symbols.specs.Ordered.{texts_in, ordered_texts, Orders, Follow, Ordered, IsWithin}
-use Rattle.ion_symbols.proofs.OutputTexts.{kept_cost, texts_push, follow_push, cost_push}
-use Rattle.ion_symbols.proofs.Orders.{orders_sorted, orders_push}
+use Rattle.ion_symbols.specs.Output.{IsNew, CanAdd, texts_cost, position, system_id, or_given, known_id, id_or_new, id_given}
+use Rattle.ion_symbols.proofs.OutputTexts.{cost_push}
+
+-- ---- what a text that is new has
+
+-- no id
+pub new_unknown : (texts : List (List ℕ)) (t : List ℕ) → IsNew texts t → known_id texts t ≡ None
+new_unknown texts t n = ap₂ or_given n.no_system n.absent
+
+-- and a text without an id is new
+none_of : (id place : Option ℕ) → or_given id place ≡ None → (id ≡ None) × (place ≡ None)
+none_of None None h = (refl, refl)
+none_of None (Some n) h = absurd (cc)
+none_of (Some id) place h = absurd (cc)
+
+pub unknown_new : (texts : List (List ℕ)) (t : List ℕ) → known_id texts t ≡ None → IsNew texts t
+unknown_new texts t h = let n = none_of (system_id t) (position texts t) h in record { absent = n.1; no_system = n.0 }
+
+-- ---- what it costs
 
 -- a call that moves no memory keeps the share
 pub nothing_charged : (m : Counts) (cost most : ℕ) → cost ≤ most → Charges m m cost cost most
 nothing_charged m cost most h = record { held = refl; share = h; peak = omega arith; rises = omega arith }
 
--- the cost is within the limit
-pub share_kept : (bytes : List ℕ) (places : List Place) (order : List ℕ) (texts : List (List ℕ)) (of_place of_id limit most : ℕ) → Ordered bytes places order → IsWithin bytes places of_place of_id limit → texts_in bytes places ≡ texts → limit ≡ most → texts_cost texts ≤ most
-share_kept bytes places order texts of_place of_id limit most h w e l =
-    let k = kept_cost bytes places order h in
-    let t : texts_cost (texts_in bytes places) ≡ texts_cost texts = ap texts_cost e in
-    omega (arith, k, t, l, w.share)
+-- and so does one that keeps a lower one
+pub charges_within : (old new : Counts) (before after most limit : ℕ) → Charges old new before after most → most ≤ limit → Charges old new before after limit
+charges_within old new before after most limit c l =
+    record { held = c.held; share = omega (arith, c.share, l); peak = omega (arith, c.peak, l); rises = c.rises }
 
--- where a text belongs among those that are kept
-pub belongs_kept : (bytes : List ℕ) (places : List Place) (order : List ℕ) (texts : List (List ℕ)) (t : List ℕ) (place : ℕ) → Ordered bytes places order → texts_in bytes places ≡ texts → ((sorted : List (List ℕ)) → IsSorted sorted texts → Belongs sorted t place) → Belongs (ordered_texts bytes places order) t place
-belongs_kept bytes places order texts t place h e b =
-    b (ordered_texts bytes places order) (subst (IsSorted (ordered_texts bytes places order)) e (orders_sorted (texts_in bytes places) order h.orders))
+-- the texts with one more keep a limit that allows for it
+pub share_push : (texts texts2 : List (List ℕ)) (t : List ℕ) (cost limit : ℕ) → cost ≡ texts_cost texts → cost + (16 + length t) ≤ limit → texts2 ≡ texts ++ t ∷ [] → texts_cost texts2 ≤ limit
+share_push texts texts2 t cost limit c l e = let k : texts_cost texts2 ≡ texts_cost texts + (16 + length t) = ap texts_cost e ∙ cost_push texts t in omega (arith, k, c, l)
 
--- its place is within the order
-pub place_within : (bytes : List ℕ) (places : List Place) (order : List ℕ) (t : List ℕ) (place : ℕ) → Belongs (ordered_texts bytes places order) t place → place ≤ length order
-place_within bytes places order t place b = simp length-map at b.within
+-- so do they whether it was added or not
+pub share_either : (added : Bool) (texts texts2 : List (List ℕ)) (t : List ℕ) (cost limit : ℕ) → cost ≡ texts_cost texts → cost + (16 + length t) ≤ limit
+    → (added ≡ true → texts2 ≡ texts ++ t ∷ []) → (added ≡ false → texts2 ≡ texts) → texts_cost texts2 ≤ limit
+share_either true texts texts2 t cost limit c l more same = share_push texts texts2 t cost limit c l (more refl)
+share_either false texts texts2 t cost limit c l more same = let k : texts_cost texts2 ≡ texts_cost texts = ap texts_cost (same refl) in omega (arith, k, c, l)
 
--- the texts with one more are kept in order
-pub ordered_push : (bytes bytes2 t : List ℕ) (places places2 : List Place) (p : Place) (order order2 : List ℕ) (place n : ℕ) → Ordered bytes places order → Belongs (ordered_texts bytes places order) t place → bytes2 ≡ bytes ++ t → places2 ≡ places ++ p ∷ [] → order2 ≡ insert order place n → n ≡ length places → p.from ≡ length bytes → p.to ≡ length bytes + length t → length places + 1 < 2 ^ 31 → Ordered bytes2 places2 order2
-ordered_push bytes bytes2 t places places2 p order order2 place n h b a c d e f g few = rw (a, c, d, e) (record {
-  follow = subst (Follow 0 (places ++ p ∷ [])) (g ∙ sym (length-append bytes t)) (follow_push 0 places (length bytes) p h.follow f (omega (arith, g)));
-  orders = subst₂ Orders (sym (texts_push bytes t places p h.follow f g)) (ap (insert order place) (length-map places _)) (orders_push (texts_in bytes places) order t place h.orders b);
-  few = omega (arith, few, length_push places p);
-})
+-- ---- the id that it is given
 
--- and their cost is within the limit that was looked at
-pub share_push : (bytes bytes2 t : List ℕ) (places places2 : List Place) (p : Place) (order : List ℕ) (texts : List (List ℕ)) (cost limit : ℕ) → Ordered bytes places order → texts_in bytes places ≡ texts → bytes2 ≡ bytes ++ t → places2 ≡ places ++ p ∷ [] → cost ≡ texts_cost texts → cost + 16 + length t ≤ limit → 16 * length places2 + length bytes2 ≤ limit
-share_push bytes bytes2 t places places2 p order texts cost limit h e a b c l =
-    let k = kept_cost bytes places order h in
-    let s : texts_cost (texts_in bytes places) ≡ texts_cost texts = ap texts_cost e in
-    let n : length places2 ≡ length places + 1 = ap length b ∙ length_push places p in
-    let m : length bytes2 ≡ length bytes + length t = ap length a ∙ length-append bytes t in
-    omega (arith, k, s, n, m, c, l)
-
--- so there are few
-pub few_push : (bytes2 : List ℕ) (places places2 : List Place) (p : Place) (limit : ℕ) → places2 ≡ places ++ p ∷ [] → 16 * length places2 + length bytes2 ≤ limit → limit ≤ 2 ^ 30 → length places + 1 < 2 ^ 31
-few_push bytes2 places places2 p limit b h l = let n : length places2 ≡ length places + 1 = ap length b ∙ length_push places p in omega (arith, n, h, l)
-
--- the texts are the ones there were and the new one
-pub texts_pushed : (bytes bytes2 t : List ℕ) (places places2 : List Place) (p : Place) (order : List ℕ) (texts : List (List ℕ)) → Ordered bytes places order → texts_in bytes places ≡ texts → bytes2 ≡ bytes ++ t → places2 ≡ places ++ p ∷ [] → p.from ≡ length bytes → p.to ≡ length bytes + length t → texts_in bytes2 places2 ≡ texts ++ t ∷ []
-texts_pushed bytes bytes2 t places places2 p order texts h e a b f g = rw (a, b) (texts_push bytes t places p h.follow f g ∙ ap (λ ts. ts ++ t ∷ []) e)
-
--- a text that is not known is given the next id where the limit allows it
+-- the next one, where the limit allows it
 new_given : (limit : ℕ) (texts : List (List ℕ)) (t : List ℕ) (known : Option ℕ) → known ≡ None → texts_cost texts + (16 + length t) ≤ limit → id_or_new limit texts t known ≡ (Some (length texts + 10), texts ++ t ∷ [])
 new_given limit texts t known h l =
     ap (id_or_new limit texts t) h
     ∙ ap (λ b. if b then (Some (length texts + 10), texts ++ t ∷ []) else (None, texts)) (le-leb _ _ l)
 
--- its id is the next one
-pub given_push : (limit most : ℕ) (texts texts2 : List (List ℕ)) (t : List ℕ) (n cost : ℕ) → known_id texts t ≡ None → limit ≡ most → cost ≡ texts_cost texts → cost + 16 + length t ≤ limit → n ≡ length texts → texts2 ≡ texts ++ t ∷ [] → ◌≡◌ {A = Option ℕ × List (List ℕ)} (Some (10 + n), texts2) (id_given most texts t)
-given_push limit most texts texts2 t n cost h m c l e f =
+pub given_push : (limit : ℕ) (texts texts2 : List (List ℕ)) (t : List ℕ) (n cost : ℕ) → IsNew texts t → cost ≡ texts_cost texts → cost + (16 + length t) ≤ limit → n ≡ length texts → texts2 ≡ texts ++ t ∷ []
+    → ◌≡◌ {A = Option ℕ × List (List ℕ)} (Some (10 + n), texts2) (id_given limit texts t)
+given_push limit texts texts2 t n cost h c l e f =
     let i : 10 + n ≡ length texts + 10 = omega (arith, e) in
-    ap₂ (λ (k : ℕ) (ts : List (List ℕ)). (Some k, ts)) i f ∙ sym (new_given most texts t (known_id texts t) h (omega (arith, m, c, l)))
+    ap₂ (λ (k : ℕ) (ts : List (List ℕ)). (Some k, ts)) i f ∙ sym (new_given limit texts t (known_id texts t) (new_unknown texts t h) (omega (arith, c, l)))
 
--- its cost is charged in three parts
-pub charges_push : (m0 m1 m2 m3 : Counts) (limit most : ℕ) (texts texts2 : List (List ℕ)) (t : List ℕ) (of_place of_id cost : ℕ) → Grows m0 m1 (length t) → Grows m1 m2 of_place → Grows m2 m3 of_id → of_place ≡ 12 → of_id ≡ 4 → texts_cost texts ≤ m0.held → limit ≡ most → cost ≡ texts_cost texts → cost + 16 + length t ≤ limit → texts2 ≡ texts ++ t ∷ [] → Charges m0 m3 (texts_cost texts) (texts_cost texts2) most
-charges_push m0 m1 m2 m3 limit most texts texts2 t of_place of_id cost a b c x y h m d l f =
-    let k : texts_cost texts2 ≡ texts_cost texts + (16 + length t) = ap texts_cost f ∙ cost_push texts t in
-    record {
-      held = omega (arith, a.held, b.held, c.held, x, y, k);
-      share = omega (arith, k, m, d, l);
-      peak = omega (arith, a.held, b.held, c.held, a.peak, b.peak, c.peak, x, y, h, m, d, l);
-      rises = omega (arith, a.peak, b.peak, c.peak);
-    }
+-- and none, where it does not
+none_given : (limit : ℕ) (texts : List (List ℕ)) (t : List ℕ) (known : Option ℕ) → known ≡ None → limit < texts_cost texts + (16 + length t) → id_or_new limit texts t known ≡ (None, texts)
+none_given limit texts t known h l =
+    ap (id_or_new limit texts t) h
+    ∙ ap (λ b. if b then (Some (length texts + 10), texts ++ t ∷ []) else (None, texts)) (lt-leb _ _ l)
 
--- there is enough to give back for a place that was added
-pub held_push : (bytes : List ℕ) (places places2 : List Place) (p : Place) (order : List ℕ) (texts : List (List ℕ)) (m0 m1 m2 : Counts) (a of_place of_place2 held : ℕ) → Ordered bytes places order → texts_in bytes places ≡ texts → places2 ≡ places ++ p ∷ [] → texts_cost texts ≤ m0.held → Grows m0 m1 a → Grows m1 m2 of_place → of_place ≡ 12 → of_place2 ≡ of_place → held ≡ m2.held → of_place2 * length places2 ≤ held
-held_push bytes places places2 p order texts m0 m1 m2 a of_place of_place2 held h e b l g f x y i =
-    let k = kept_cost bytes places order h in
-    let s : texts_cost (texts_in bytes places) ≡ texts_cost texts = ap texts_cost e in
-    let n : length places2 ≡ length places + 1 = ap length b ∙ length_push places p in
-    let z : of_place2 * length places2 ≡ 12 * length places2 = ap (λ k. k * length places2) (y ∙ x) in
-    omega (arith, k, s, n, z, l, g.held, f.held, x, i)
+pub given_over : (limit : ℕ) (texts : List (List ℕ)) (t : List ℕ) (cost : ℕ) → IsNew texts t → cost ≡ texts_cost texts → limit < cost + (16 + length t)
+    → ◌≡◌ {A = Option ℕ × List (List ℕ)} (None, texts) (id_given limit texts t)
+given_over limit texts t cost h c l = sym (none_given limit texts t (known_id texts t) (new_unknown texts t h) (omega (arith, c, l)))
+
+-- ---- that it can be added
+
+-- texts that are the same can be added to alike
+pub can_add : (texts texts2 : List (List ℕ)) (m : Counts) → texts2 ≡ texts → m.held ≤ 2 ^ 62 + 2 ^ 31 → texts_cost texts ≤ m.held → m.refused < 2 ^ 64 - 1 → CanAdd texts2 m
+can_add texts texts2 m e r h c = let k : texts_cost texts2 ≡ texts_cost texts = ap texts_cost e in record { room = r; held = omega (arith, k, h); countable = c }

@@ -42,8 +42,14 @@ mod OutputTexts
 mod Orders
 mod Adding
 mod Finding
+mod KeptTexts
 mod SameEnds
-mod InBuckets
+mod Linking
+mod Positions
+mod Seeking
+mod Placing
+mod LinkedTexts
+mod PuttingInOrder
 mod CatalogRows
 mod CatalogReadings
 mod CatalogViews

@@ -5,7 +5,7 @@ use Rattle.std.proofs.lemmas.List.Elements.{All-nil, All-cons, All-take, All-dro
 use Rattle.std.proofs.Math.Seq.{drop-append_seam, take-length}
 use Rattle.ion_symbols.specs.declared.ordered.Place.{Place}
 use Rattle.ion_symbols.specs.Output.{texts_cost}
-use Rattle.ion_symbols.specs.Ordered.{place_text, texts_in, ordered_texts, Follow, From, Ordered, IsWithin}
+use Rattle.ion_symbols.specs.Ordered.{place_text, texts_in, ordered_texts, Follow, From, Ordered}
 
 -- places that follow one another end at or behind their begin
 pub follow_within : (from : ℕ) (ps : List Place) (end : ℕ) → Follow from ps end → from ≤ end
@@ -33,7 +33,7 @@ kept_id bytes places order texts h e k l =
 
 -- which stands within the bytes
 pub kept_place : (bytes : List ℕ) (places : List Place) (order : List ℕ) (texts : List (List ℕ)) → Ordered bytes places order → ordered_texts bytes places order ≡ texts → (k : ℕ) → k < length texts → (d : Place) → ((get_or places (get_or order k 0) d).from ≤ (get_or places (get_or order k 0) d).to) × ((get_or places (get_or order k 0) d).to ≤ length bytes)
-kept_place bytes places order texts h e k l d = follow_from bytes places h.follow (get_or order k 0) d (kept_id bytes places order texts h e k l)
+kept_place bytes places order texts h e k l d = h.within (get_or order k 0) d (kept_id bytes places order texts h e k l)
 
 -- and its text is the one in the order
 pub kept_text : (bytes : List ℕ) (places : List Place) (order : List ℕ) (texts : List (List ℕ)) → Ordered bytes places order → ordered_texts bytes places order ≡ texts → (k : ℕ) → k < length texts → (d : Place) → get_or texts k [] ≡ place_text bytes (get_or places (get_or order k 0) d)
@@ -70,8 +70,8 @@ texts_cost-follow bytes from (p ∷ ps) end h k =
     omega (arith, f, b, r, t)
 
 -- the cost of the texts that are kept
-pub kept_cost : (bytes : List ℕ) (places : List Place) (order : List ℕ) → Ordered bytes places order → texts_cost (texts_in bytes places) ≡ 16 * length places + length bytes
-kept_cost bytes places order h = let e = texts_cost-follow bytes 0 places (length bytes) h.follow (omega arith) in omega (arith, e)
+pub kept_cost : (bytes : List ℕ) (places : List Place) → Follow 0 places (length bytes) → texts_cost (texts_in bytes places) ≡ 16 * length places + length bytes
+kept_cost bytes places h = let e = texts_cost-follow bytes 0 places (length bytes) h (omega arith) in omega (arith, e)
 
 -- a place more, where the last one ends
 pub follow_push : (from : ℕ) (ps : List Place) (end : ℕ) (p : Place) → Follow from ps end → p.from ≡ end → end ≤ p.to → Follow from (ps ++ p ∷ []) p.to
@@ -113,13 +113,3 @@ from_since bytes bytes2 places places2 m first a b h =
     let from : From bytes2 places2 = subst (λ bs. From bs places2) (sym a) (subst (From bytes) (sym b) (follow_from bytes places h)) in
     let is = λ (p : Place). (p.from ≤ p.to) × (p.to ≤ length bytes2) in
     All-take is m (drop first places2) (All-drop is first places2 from)
-
--- what is counted for the bytes, the places and the ids is the cost of the texts
-pub costs : (bytes : List ℕ) (places : List Place) (order : List ℕ) (texts : List (List ℕ)) (of_place of_id limit : ℕ) → Ordered bytes places order → IsWithin bytes places of_place of_id limit → texts_in bytes places ≡ texts → length bytes + (of_place * length places + of_id * length order) ≡ texts_cost texts
-costs bytes places order texts of_place of_id limit h w e =
-    let k = kept_cost bytes places order h in
-    let a : of_place * length places ≡ 12 * length places = ap (λ n. n * length places) w.place_cost in
-    let b : of_id * length order ≡ 4 * length order = ap (λ n. n * length order) w.id_cost in
-    let l : length order ≡ length places = simp length-map at h.orders.long in
-    let t : texts_cost (texts_in bytes places) ≡ texts_cost texts = ap texts_cost e in
-    omega (arith, k, a, b, l, t)

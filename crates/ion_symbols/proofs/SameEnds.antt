@@ -6,7 +6,7 @@ use Rattle.std.proofs.lemmas.Bool.{cases_lt, eq-eqb}
 use Rattle.std.proofs.lemmas.List.{drop-drop, ext_get_or, take-append-drop}
 use Rattle.std.proofs.lemmas.Nat.{le_bytes_4, le_bytes_8}
 use Rattle.std.proofs.lemmas.Slice.Eq.{bytes_eq-Decides}
-use Rattle.ion_symbols.specs.Buckets.{eight_at, four_at, few_of}
+use Rattle.ion_symbols.specs.Hash.{eight_at, four_at, few_of}
 
 abbrev AreSmall : List ℕ → Type 0
 AreSmall t = (i : ℕ) → get_or t i 0 < 256

@@ -15,7 +15,8 @@ pub mod Steps
 pub mod User
 pub mod Ordered
 pub mod Ranks
-pub mod Buckets
+pub mod Hash
+pub mod OutTexts
 pub mod CatalogItems
 pub mod CatalogTrees
 pub mod CatalogLaws

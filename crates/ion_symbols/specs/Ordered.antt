@@ -1,5 +1,5 @@
 -- How the texts of an output are kept: their bytes, where each stands, and their ids in order of bytes.
-use Rattle.std.specs.Prelude.{◌≡◌, ℕ, ◌+◌, ◌-◌, ◌*◌, ◌^◌, ◌<◌, ◌≤◌, List, [], ◌∷◌, length, take, drop, map, slice_get, slice_index_or, All, Some}
+use Rattle.std.specs.Prelude.{◌≡◌, ℕ, ◌-◌, ◌^◌, ◌<◌, ◌≤◌, List, [], ◌∷◌, length, take, drop, map, slice_get, slice_index_or, All, Some}
 use Rattle.ion_symbols.specs.declared.ordered.Place.{Place}
 use Rattle.ion_symbols.specs.Output.{Ascend}
 
@@ -35,15 +35,8 @@ Follow from (p ∷ ps) end = (p.from ≡ from) × ((from ≤ p.to) × Follow p.t
 abbrev pub From : List ℕ → List Place → Type 0
 From bytes places = All (λ p. (p.from ≤ p.to) × (p.to ≤ length bytes)) places
 
--- texts that are kept, with their order
+-- texts that stand among bytes, with their order
 pub record Ordered (bytes : List ℕ) (places : List Place) (order : List ℕ) : Type 0 where
-  pub follow : Follow 0 places (length bytes)
+  pub within : From bytes places
   pub orders : Orders (texts_in bytes places) order
   pub few : length places < 2 ^ 31
-
--- what a place and an id cost, and the limit that their cost keeps
-pub record IsWithin (bytes : List ℕ) (places : List Place) (of_place of_id limit : ℕ) : Type 0 where
-  pub place_cost : of_place ≡ 12
-  pub id_cost : of_id ≡ 4
-  pub share : 16 * length places + length bytes ≤ limit
-  pub most : limit ≤ 2 ^ 30

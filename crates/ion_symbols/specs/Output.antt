@@ -52,6 +52,11 @@ pub record Output : Type 0 where
   pub limit : ℕ
   pub probes : ℕ
 
+-- a text has no id, of the system table or of the texts
+pub record IsNew (texts : List (List ℕ)) (t : List ℕ) : Type 0 where
+  pub absent : position texts t ≡ None
+  pub no_system : system_id t ≡ None
+
 -- a text can be added, where memory and the limit allow it
 pub record CanAdd (texts : List (List ℕ)) (meter : Counts) : Type 0 where
   pub room : meter.held ≤ 2 ^ 62 + 2 ^ 31

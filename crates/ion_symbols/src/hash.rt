@@ -1,6 +1,6 @@
-//! The bucket of a text.
+//! The hash of a text.
 ghost use Rattle.std.specs.Prelude.{◌≡◌, ◌+◌, ◌-◌, ◌<◌, ◌≤◌, length, replicate};
-ghost use Rattle.ion_symbols.specs.Buckets.{back_of, bucket_of, eight_at, few_of, four_at, front_of, middle_of};
+ghost use Rattle.ion_symbols.specs.Hash.{back_of, bucket_in, digits_in, eight_at, few_of, four_at, front_of, hash_of, middle_of};
 
 /// How many buckets there are.
 pub(crate) const BUCKETS: usize = 512;
@@ -22,11 +22,10 @@ pub(crate) fn no_buckets() -> [u32; BUCKETS]
     [0; BUCKETS]
 }
 
-/// The bucket of a text: texts that are the same have the same one. It reads at most 32 bytes.
+/// The hash of a text: texts that are the same have the same one. It reads at most 32 bytes.
 #[inline]
-pub(crate) fn bucket(text: &[u8]) -> usize
-    ensures of { result ≡ bucket_of text.now }
-    ensures within { result < BUCKETS }
+pub(crate) fn hash(text: &[u8]) -> u64
+    ensures { result ≡ hash_of text.now }
 {
     let ends = front(text)
         .wrapping_mul(FRONT)
@@ -35,8 +34,24 @@ pub(crate) fn bucket(text: &[u8]) -> usize
         .wrapping_mul(MIDDLE)
         .wrapping_add((text.len() as u64).wrapping_mul(LENGTH));
     let sum = ends.wrapping_add(rest);
-    let mixed = sum.wrapping_add(sum / 4_294_967_296).wrapping_mul(FRONT);
-    (mixed / 36_028_797_018_963_968) as usize
+    sum.wrapping_add(sum / 4_294_967_296).wrapping_mul(FRONT)
+}
+
+/// The bucket of a hash: its highest binary digits.
+#[inline]
+pub(crate) fn bucket(hash: u64) -> usize
+    ensures of { result ≡ bucket_in hash }
+    ensures within { result < BUCKETS }
+{
+    (hash / 36_028_797_018_963_968) as usize
+}
+
+/// The binary digits of a hash by which the texts of its bucket are told apart, the last first.
+#[inline]
+pub(crate) fn digits(hash: u64) -> u64
+    ensures { result ≡ digits_in hash }
+{
+    hash / 8_388_608
 }
 
 // The first eight bytes of a text, or of a shorter one four, or what `few` reads.

@@ -7,15 +7,14 @@ ghost use Rattle.ion_symbols.specs.Ordered.{Ordered, ordered_texts};
 use std::cmp::Ordering;
 use std::marker::Model;
 
-/// Where a text stands among bytes, and another text of its bucket.
+/// Where a text stands among bytes, and a link to another text.
 #[derive(Clone, Copy)]
 pub(crate) struct Place {
     /// Where its first byte stands.
     pub(crate) from: u32,
     /// Where the byte behind its last one stands.
     pub(crate) to: u32,
-    /// One more than the place of another text of its bucket, or 0: for the one in front the last that
-    /// came, for another the last that came before it and is not in front.
+    /// The first of its links: one more than the number of another text of its bucket, or 0.
     pub(crate) next: u32,
 }
 

@@ -5,7 +5,7 @@ ghost use Rattle.ion_binary.specs.Canonical.{headed};
 ghost use Rattle.ion_binary.specs.Opening.{CanStep, IsOpen, Stepped, noted};
 
 use super::OpenValue;
-use crate::few::{Few, few_header, noted_front};
+use crate::few::{Few, few_header, few_number, noted_front};
 use crate::header::header;
 use crate::scalar::Octets;
 use ion_meter::limits::Limits;
@@ -57,11 +57,16 @@ impl<A: Allocator + Copy> OpenValue<A> {
         ensures declines { result ≡ false → (self.new ≡ self.old) × (meter.new ≡ meter.old) }
         ensures stepped { Stepped limits.now self.old self.new meter.old meter.new None }
     {
-        let zeros = n.leading_zeros() / 8;
-        let size = 8 - zeros as usize;
-        let front = Few::one(16 * code + size as u8);
-        let body = n.wrapping_shl(8 * zeros).to_be_bytes();
-        self.put_few(meter, limits, name, note, &front, body, size)
+        let number = few_number(code, n);
+        self.put_few(
+            meter,
+            limits,
+            name,
+            note,
+            &number.first,
+            number.body,
+            number.size,
+        )
     }
 
     /// The same of a decimal that is not zero: the octet of its exponent, and a coefficient of 63 bits.

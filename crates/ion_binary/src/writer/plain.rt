@@ -66,8 +66,8 @@ struct Ids {
 }
 
 impl<A: Allocator + Copy> BinWriter<A> {
-    // Adds an item behind which a value is open, where all is there that it needs: ids of its texts,
-    // and room. Else it answers false.
+    // Adds an item behind which a value is open, where all is there that it needs: ids of its texts, or
+    // of a scalar of all but one, and room. Else it answers false.
     #[inline(always)]
     pub(super) fn add_plain(&mut self, meter: &mut Meter<A>, item: SingleItem<'_, '_>) -> bool
         requires can_take { CanTake self.old meter.old }
@@ -175,7 +175,7 @@ impl<A: Allocator + Copy> BinWriter<A> {
             (as_item item.now) result }
     {
         let Some(name) = self.name_of(item.head) else {
-            return false;
+            return self.add_fresh(meter, *item);
         };
         let spelled = spell(item.head, name);
         let octets = Octets {
@@ -232,7 +232,7 @@ impl<A: Allocator + Copy> BinWriter<A> {
         };
         match self.symbols.known(text) {
             Some(id) => self.add_number(meter, item, 7, u64::from(id)),
-            None => false,
+            None => self.add_fresh(meter, *item),
         }
     }
 
@@ -246,7 +246,7 @@ impl<A: Allocator + Copy> BinWriter<A> {
             (as_item item.now) result }
     {
         let Some(ids) = self.ids_of(item) else {
-            return false;
+            return self.add_fresh(meter, *item);
         };
         self.open_value
             .put_text(meter, &self.limits, ids.name, ids.note, text)
@@ -276,7 +276,7 @@ impl<A: Allocator + Copy> BinWriter<A> {
             return self.add_spelled(meter, item);
         };
         let Some(ids) = self.ids_of(item) else {
-            return false;
+            return self.add_fresh(meter, *item);
         };
         self.open_value.put_decimal(
             meter,
@@ -309,7 +309,7 @@ impl<A: Allocator + Copy> BinWriter<A> {
             (as_item item.now) result }
     {
         let Some(ids) = self.ids_of(item) else {
-            return false;
+            return self.add_fresh(meter, *item);
         };
         self.open_value
             .put_number(meter, &self.limits, ids.name, ids.note, code, n)
@@ -328,7 +328,7 @@ impl<A: Allocator + Copy> BinWriter<A> {
             (as_item item.now) result }
     {
         let Some(ids) = self.ids_of(item) else {
-            return false;
+            return self.add_fresh(meter, *item);
         };
         self.open_value
             .put_octet(meter, &self.limits, ids.name, ids.note, octet)
@@ -352,7 +352,7 @@ impl<A: Allocator + Copy> BinWriter<A> {
             (as_item item.now) result }
     {
         let Some(ids) = self.ids_of(item) else {
-            return false;
+            return self.add_fresh(meter, *item);
         };
         self.open_value
             .put_octets(meter, &self.limits, ids.name, ids.note, scalar)
@@ -388,7 +388,7 @@ impl<A: Allocator + Copy> BinWriter<A> {
 
     // The id of a field, where its text has one, and 0 where there is none.
     #[inline(always)]
-    fn field_id(&self, field: Option<TextAt<'_>>) -> Option<u32>
+    pub(super) fn field_id(&self, field: Option<TextAt<'_>>) -> Option<u32>
         ensures known { IfSome result (λ _. HaveIds self.now.symbols.texts
             (field_symbols (option_map placed_text field.entry))) }
         ensures octets { IfSome result (λ name. name_octets name
@@ -403,7 +403,7 @@ impl<A: Allocator + Copy> BinWriter<A> {
 
     // The id of an annotation, where its text has one, and 0 where there is none.
     #[inline(always)]
-    fn annotation_id(&self, annotation: Option<TextAt<'_>>) -> Option<u32>
+    pub(super) fn annotation_id(&self, annotation: Option<TextAt<'_>>) -> Option<u32>
         ensures known { IfSome result (λ _. HaveIds self.now.symbols.texts
             (listed (option_map placed_text annotation.entry))) }
         ensures octets { IfSome result (λ note. counted_ids (name_octets note)
@@ -417,7 +417,7 @@ impl<A: Allocator + Copy> BinWriter<A> {
     }
 
     // The id of a symbol value, where its text has one, and 0 of other heads.
-    fn name_of(&self, head: Head<'_>) -> Option<u32>
+    pub(super) fn name_of(&self, head: Head<'_>) -> Option<u32>
         ensures known { IfSome result (λ _. HaveIds self.now.symbols.texts
             (head_symbols (raw_head head.entry))) }
         ensures name { IfSome result (λ name. name

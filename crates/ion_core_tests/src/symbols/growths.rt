@@ -21,6 +21,8 @@ enum Script {
     Table,
     Catalog,
     Texts,
+    /// Texts that are put in order of bytes.
+    OrderedTexts,
 }
 
 /// Limits that the texts keep.
@@ -247,6 +249,24 @@ fn expect_texts<A: Allocator + Copy>(
     same(rt, meter.held(), texts.cost());
 }
 
+/// Asks for the id of a text, which is found by halving where texts are put in order.
+fn give<A: Allocator + Copy>(
+    rt: &impl Abort,
+    meter: &mut Meter<A>,
+    texts: &mut OutSymbols<A>,
+    text: &str,
+    in_order: bool,
+) -> Result<Option<u32>, Fault>
+    requires held { texts_cost texts.old.texts ≤ meter.old.held }
+    ensures held { texts_cost texts.new.texts ≤ meter.new.held }
+{
+    counts_of(rt, meter);
+    if in_order {
+        return texts.id_of(meter, text.as_bytes());
+    }
+    texts.give_id(meter, text.as_bytes())
+}
+
 /// Asks for the id of a text behind so many others, and once more where that is refused. Whether it
 /// has one.
 fn id_again<A: Allocator + Copy>(
@@ -255,6 +275,7 @@ fn id_again<A: Allocator + Copy>(
     texts: &mut OutSymbols<A>,
     text: &str,
     count: usize,
+    in_order: bool,
 ) -> bool
     requires held { texts_cost texts.old.texts ≤ meter.old.held }
     ensures held { texts_cost texts.new.texts ≤ meter.new.held }
@@ -262,24 +283,23 @@ fn id_again<A: Allocator + Copy>(
     assert!(rt; count < 1_000);
     let want = Ok(Some(10 + count as u32));
     let before = counts_of(rt, meter);
-    let given = texts.id_of(meter, text.as_bytes());
+    let given = give(rt, meter, texts, text, in_order);
     if given == want {
         return true;
     }
     same(rt, given, Err(Fault::Memory));
     is_undone(rt, meter, before, 16 + 100);
     expect_texts(rt, meter, texts, count);
-    counts_of(rt, meter);
-    texts.id_of(meter, text.as_bytes()) == want
+    give(rt, meter, texts, text, in_order) == want
 }
 
 /// Texts, each of which may be refused an id.
-fn grow_texts<A: Allocator + Copy>(rt: &impl Abort, meter: &mut Meter<A>) {
+fn grow_texts<A: Allocator + Copy>(rt: &impl Abort, meter: &mut Meter<A>, in_order: bool) {
     assert!(rt; LIMITS.check());
     let mut texts = OutSymbols::new(meter, LIMITS);
     let mut count = 0;
     for text in TEXTS {
-        if !id_again(rt, meter, &mut texts, text, count) {
+        if !id_again(rt, meter, &mut texts, text, count, in_order) {
             break;
         }
         assert!(rt; count < 1_000);
@@ -298,7 +318,8 @@ fn is_met(rt: &impl Abort, alloc: Global, script: Script, nth: u64, onward: bool
     match script {
         Script::Table => grow_table(rt, &mut meter),
         Script::Catalog => grow_catalog(rt, &mut meter),
-        Script::Texts => grow_texts(rt, &mut meter),
+        Script::Texts => grow_texts(rt, &mut meter, false),
+        Script::OrderedTexts => grow_texts(rt, &mut meter, true),
     }
     same(rt, meter.held(), 0);
     let refused = match (refusing.has_refused(), onward) {
@@ -331,5 +352,6 @@ fn tables_grow_past_each_refusal(rt: HostRuntime) {
     let table = refuse_each(&rt, rt.alloc(), Script::Table);
     let catalog = refuse_each(&rt, rt.alloc(), Script::Catalog);
     let texts = refuse_each(&rt, rt.alloc(), Script::Texts);
-    assert!(rt; table >= 3 && catalog >= 6 && texts >= 6);
+    let ordered_texts = refuse_each(&rt, rt.alloc(), Script::OrderedTexts);
+    assert!(rt; table >= 3 && catalog >= 6 && texts >= 6 && ordered_texts >= 6);
 }

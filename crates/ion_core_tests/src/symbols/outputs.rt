@@ -3,6 +3,7 @@ ghost use Rattle.std.specs.Prelude.{◌≤◌};
 ghost use Rattle.ion_symbols.specs.Output.{texts_cost};
 
 use crate::same::same;
+use ion_meter::buf::{Added, Buf};
 use ion_meter::limits::Limits;
 use ion_meter::meter::Meter;
 use ion_symbols::output::OutSymbols;
@@ -42,6 +43,9 @@ enum Step<'a> {
     Id(&'a str, Option<u32>),
     /// The id of a text, found without a search where it has one.
     Give(&'a str, Option<u32>),
+    /// Whether a text without an id is given the next one at once, with three octets, where there is room
+    /// for so many.
+    Next(&'a str, usize, bool),
     /// The id that a text has.
     Known(&'a str, Option<u32>),
     /// The texts from an id on.
@@ -81,6 +85,44 @@ impl Texting {
         same(rt, (text, given), (text, Ok(id)));
     }
 
+    // Asserts whether a text without an id is given the next one at once, and octets are put with it, where
+    // there is room for so many octets. Neither is done without the other.
+    fn expect_next(&mut self, rt: &impl Abort, text: &str, room: usize, is_given: bool)
+        requires held { texts_cost self.old.texts.texts ≤ self.old.meter.held }
+        ensures held { texts_cost self.new.texts.texts ≤ self.new.meter.held }
+    {
+        assert!(rt; room < 1_000 && self.meter.held() < 1 << 32);
+        assert!(rt; self.meter.refused() < 1 << 32);
+        let mut octets = Buf::new(&self.meter);
+        let Ok(()) = octets.extend_zeros(&mut self.meter, room) else {
+            panic!(rt; "no memory")
+        };
+        octets.clear(&mut self.meter);
+        let bytes = text.as_bytes();
+        let None = self.texts.known(bytes) else {
+            panic!(rt; "it has an id")
+        };
+        let id = self.texts.next_id();
+        assert!(rt; self.meter.held() < 1 << 33);
+        let added = Added {
+            bytes,
+            front: b"ab",
+            rest: b"c",
+        };
+        let given = self.texts.give_next(&mut octets, &mut self.meter, added);
+        same(rt, (text, given), (text, is_given));
+        if given {
+            same(rt, self.texts.known(bytes), Some(id));
+            same(rt, octets.as_slice(), b"abc".as_slice());
+        } else {
+            same(rt, self.texts.known(bytes), None);
+            same(rt, octets.as_slice(), b"".as_slice());
+        }
+        assert!(rt; octets.as_slice().len() as u64 <= self.meter.held());
+        octets.release(&mut self.meter);
+        assert!(rt; self.texts.cost() <= self.meter.held());
+    }
+
     // Asserts which texts there are from an id on.
     fn expect_since(&self, rt: &impl Abort, id: u32, texts: &[&str]) {
         let since = self.texts.new_since(id);
@@ -96,8 +138,14 @@ impl Texting {
     }
 
     // Asserts where a text stands in order of bytes, or where it belongs.
-    fn expect_place(&self, rt: &impl Abort, text: &[u8], place: Result<u32, u32>) {
-        let mut search = self.texts.search();
+    fn expect_place(&mut self, rt: &impl Abort, text: &[u8], place: Result<u32, u32>)
+        requires held { texts_cost self.old.texts.texts ≤ self.old.meter.held }
+        ensures held { texts_cost self.new.texts.texts ≤ self.new.meter.held }
+    {
+        self.texts.put_in_order();
+        let Some(mut search) = self.texts.search() else {
+            panic!(rt; "not in order")
+        };
         same(rt, search.probes(), 0);
         same(rt, (text, place_of(&mut search, text)), (text, place));
     }
@@ -110,6 +158,7 @@ impl Texting {
         match step {
             Step::Id(text, id) => self.expect_id(rt, text, id),
             Step::Give(text, id) => self.expect_given(rt, text, id),
+            Step::Next(text, room, is_given) => self.expect_next(rt, text, room, is_given),
             Step::Known(text, id) => {
                 same(rt, (text, self.texts.known(text.as_bytes())), (text, id));
             }
@@ -129,8 +178,8 @@ impl Texting {
     }
 
     // Asserts which id the text of a number has, and which one it is given. No byte in which these texts
-    // differ is read for their bucket, so all of them are in one.
-    fn expect_in_bucket(
+    // differ is read for their hash, so all of them have the same.
+    fn expect_of_one_hash(
         &mut self,
         rt: &impl Abort,
         alloc: Global,
@@ -152,17 +201,17 @@ impl Texting {
         self.expect_given(rt, text.as_str(), Some(given));
     }
 
-    // Asserts the ids of many texts of one bucket, which they have, or are given now.
-    fn expect_bucket(&mut self, rt: &impl Abort, alloc: Global, are_known: bool)
+    // Asserts the ids of many texts of one hash, which they have, or are given now.
+    fn expect_alike(&mut self, rt: &impl Abort, alloc: Global, are_known: bool)
         requires held { texts_cost self.old.texts.texts ≤ self.old.meter.held }
         ensures held { texts_cost self.new.texts.texts ≤ self.new.meter.held }
     {
-        for number in 0..IN_BUCKET {
+        for number in 0..ALIKE {
             // A factor that has no divisor with 3,000, so that each text comes once, in no order.
-            let name = number * 1_103 % IN_BUCKET + 1_000;
+            let name = number * 1_103 % ALIKE + 1_000;
             let id = number + 10;
             let known = if are_known { Some(id) } else { None };
-            self.expect_in_bucket(rt, alloc, name, known, id);
+            self.expect_of_one_hash(rt, alloc, name, known, id);
         }
     }
 
@@ -177,8 +226,8 @@ impl Texting {
     }
 }
 
-/// How many texts share a bucket where many do, numbered with four digits.
-const IN_BUCKET: u32 = 3_000;
+/// How many texts have the same hash where many do, numbered with four digits.
+const ALIKE: u32 = 3_000;
 
 /// Asserts what each call answers, on new texts of which the cost may be so much, and gives all back.
 fn follow(rt: &impl Abort, alloc: Global, symbols: u64, steps: &[Step]) {
@@ -286,8 +335,8 @@ const KNOWN: &[Step] = &[
     Step::Known("abc", Some(10)),
 ];
 
-// Texts that differ in no byte that is read for their bucket, more than are compared there.
-const IN_ONE_BUCKET: &[Step] = &[
+// Texts that differ in no byte that is read for their hash.
+const OF_ONE_HASH: &[Step] = &[
     Step::Give("aaaaaaaaaaaaaaaa00bbbbbbbbbbbbbbbb", Some(10)),
     Step::Give("aaaaaaaaaaaaaaaa07bbbbbbbbbbbbbbbb", Some(11)),
     Step::Give("aaaaaaaaaaaaaaaa04bbbbbbbbbbbbbbbb", Some(12)),
@@ -308,10 +357,10 @@ const IN_ONE_BUCKET: &[Step] = &[
 #[test]
 fn a_text_that_has_an_id_is_known(rt: HostRuntime) {
     follow(&rt, rt.alloc(), 1_024, KNOWN);
-    follow(&rt, rt.alloc(), 1_024, IN_ONE_BUCKET);
+    follow(&rt, rt.alloc(), 1_024, OF_ONE_HASH);
 }
 
-const BEHIND_THE_BUCKET: &[Step] = &[
+const BEHIND_THEM: &[Step] = &[
     Step::Known("aaaaaaaaaaaaaaaa4000bbbbbbbbbbbbbbbb", None),
     Step::Known("aaaaaaaaaaaaaaaa0999bbbbbbbbbbbbbbbb", None),
     Step::Id("aaaaaaaaaaaaaaaa1000bbbbbbbbbbbbbbbb", Some(10)),
@@ -321,15 +370,92 @@ const BEHIND_THE_BUCKET: &[Step] = &[
 ];
 
 #[test]
-fn texts_of_one_bucket_have_their_ids(rt: HostRuntime) {
+fn texts_of_one_hash_have_their_ids(rt: HostRuntime) {
     let mut texting = start(&rt, rt.alloc(), 1_048_576);
     for known in [false, true] {
-        texting.expect_bucket(&rt, rt.alloc(), known);
+        texting.expect_alike(&rt, rt.alloc(), known);
     }
-    for step in BEHIND_THE_BUCKET {
+    for step in BEHIND_THEM {
         texting.expect(&rt, *step);
     }
     texting.finish(&rt);
+}
+
+// As many texts of one hash as are linked stand before: one more puts all in order.
+const BEHIND_THE_LAST_LINK: &[Step] = &[
+    Step::Known("aaaaaaaaaaaaaaaa2000bbbbbbbbbbbbbbbb", None),
+    Step::Give("another", Some(42)),
+    Step::Next("aaaaaaaaaaaaaaaa2000bbbbbbbbbbbbbbbb", 8, false),
+    Step::Next("one more", 8, true),
+    Step::Give("aaaaaaaaaaaaaaaa2000bbbbbbbbbbbbbbbb", Some(44)),
+    Step::Next("no more", 8, false),
+    Step::Known("another", Some(42)),
+    Step::Known("one more", Some(43)),
+    Step::Known("aaaaaaaaaaaaaaaa2000bbbbbbbbbbbbbbbb", Some(44)),
+    Step::Known("aaaaaaaaaaaaaaaa2001bbbbbbbbbbbbbbbb", None),
+    Step::Give("no more", Some(45)),
+    Step::Give("aaaaaaaaaaaaaaaa1000bbbbbbbbbbbbbbbb", Some(10)),
+    Step::Known("aaaaaaaaaaaaaaaa1031bbbbbbbbbbbbbbbb", Some(41)),
+    Step::Cost(33 * (16 + 36) + 3 * 16 + 7 + 8 + 7),
+    // Once all are taken away they are linked again.
+    Step::Clear,
+    Step::Known("another", None),
+    Step::Next("another", 8, true),
+    Step::Known("another", Some(10)),
+    Step::Give("aaaaaaaaaaaaaaaa1031bbbbbbbbbbbbbbbb", Some(11)),
+    Step::Known("aaaaaaaaaaaaaaaa1000bbbbbbbbbbbbbbbb", None),
+];
+
+#[test]
+fn too_many_texts_of_one_hash_are_put_in_order(rt: HostRuntime) {
+    let mut texting = start(&rt, rt.alloc(), 4_096);
+    for number in 0..32_u32 {
+        texting.expect_of_one_hash(&rt, rt.alloc(), number + 1_000, None, number + 10);
+    }
+    for step in BEHIND_THE_LAST_LINK {
+        texting.expect(&rt, *step);
+    }
+    texting.finish(&rt);
+}
+
+const NEXT: &[Step] = &[
+    // There is no room for a text.
+    Step::Next("b", 8, false),
+    Step::Give("b", Some(10)),
+    Step::Next("a", 8, true),
+    // There is none for the octets.
+    Step::Next("c", 0, false),
+    Step::Next("c", 3, true),
+    Step::Give("a", Some(11)),
+    Step::Known("c", Some(12)),
+    Step::Cost(51),
+    Step::Peak(54),
+    Step::Since(10, &["b", "a", "c"]),
+    Step::Probes(0, 0),
+    // In order of bytes none is given at once, until all are taken away.
+    Step::Place(b"b", Ok(1)),
+    Step::Next("d", 8, false),
+    Step::Give("d", Some(13)),
+    Step::Since(10, &["b", "a", "c", "d"]),
+    Step::Clear,
+    Step::Next("d", 8, true),
+    Step::Next("a", 8, true),
+    Step::Since(10, &["d", "a"]),
+];
+
+const NEXT_PAST_THE_LIMIT: &[Step] = &[
+    Step::Give("a", Some(10)),
+    Step::Next("bcd", 8, false),
+    Step::Next("bc", 8, true),
+    Step::Next("", 8, false),
+    Step::Since(10, &["a", "bc"]),
+    Step::Cost(35),
+];
+
+#[test]
+fn a_new_text_gets_the_next_id_at_once(rt: HostRuntime) {
+    follow(&rt, rt.alloc(), 1_024, NEXT);
+    follow(&rt, rt.alloc(), 35, NEXT_PAST_THE_LIMIT);
 }
 
 const PAST_THE_LIMIT: &[Step] = &[
@@ -384,7 +510,7 @@ const FEW_PROBES: &[Step] = &[
     Step::Id("text 0", Some(10)),
     Step::Id("text 1103", Some(11)),
     Step::Probes(1, 13),
-    // More texts than are looked for in buckets.
+    // They are in order of bytes, and stay so.
     Step::Give("one more", Some(4_106)),
     Step::Known("one more", Some(4_106)),
     Step::Known("text 0", Some(10)),

@@ -1,5 +1,5 @@
 use Rattle.std.proofs.Common.{rules}
-use Rattle.ion_symbols.specs.Buckets.{back_of}
+use Rattle.ion_symbols.specs.Hash.{back_of}
 use Rattle.ion_symbols.proofs.hash.back.Goals as goal
 
 pub returns-then-text-ge8 : goal.returns-then-text-ge8

@@ -1,4 +1,4 @@
-use Rattle.ion_symbols.specs.Buckets.{eight_at}
+use Rattle.ion_symbols.specs.Hash.{eight_at}
 use Rattle.ion_symbols.proofs.hash.eight.Goals as goal
 
 pub returns : goal.returns

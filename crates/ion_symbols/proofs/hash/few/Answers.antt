@@ -1,5 +1,5 @@
 use Rattle.std.proofs.Common.{rules}
-use Rattle.ion_symbols.specs.Buckets.{few_of}
+use Rattle.ion_symbols.specs.Hash.{few_of}
 use Rattle.ion_symbols.proofs.hash.few.Goals as goal
 
 pub returns-then-is_empty : goal.returns-then-is_empty

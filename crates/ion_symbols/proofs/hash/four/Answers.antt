@@ -1,4 +1,4 @@
-use Rattle.ion_symbols.specs.Buckets.{four_at}
+use Rattle.ion_symbols.specs.Hash.{four_at}
 use Rattle.ion_symbols.proofs.hash.four.Goals as goal
 
 pub returns : goal.returns

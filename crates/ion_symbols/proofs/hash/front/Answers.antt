@@ -1,5 +1,5 @@
 use Rattle.std.proofs.Common.{rules}
-use Rattle.ion_symbols.specs.Buckets.{front_of}
+use Rattle.ion_symbols.specs.Hash.{front_of}
 use Rattle.ion_symbols.proofs.hash.front.Goals as goal
 
 pub returns-then-text-ge8 : goal.returns-then-text-ge8

@@ -1,5 +1,5 @@
 use Rattle.std.proofs.Common.{rules}
-use Rattle.ion_symbols.specs.Buckets.{middle_of}
+use Rattle.ion_symbols.specs.Hash.{middle_of}
 use Rattle.ion_symbols.proofs.hash.middle.Goals as goal
 
 pub returns-then-text-gt16 : goal.returns-then-text-gt16

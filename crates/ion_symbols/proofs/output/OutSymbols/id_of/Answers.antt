@@ -1,72 +1,117 @@
-use Rattle.std.proofs.Common.{refl, ap, sym, ◌∙◌, arith}
+use Rattle.std.proofs.Common.{◌≡◌, ◌+◌, ℕ, List, refl, ap, sym, subst, subst₂, ◌∙◌, IfOk, IfErr, arith}
 use Rattle.std.proofs.lemmas.Grind.{common_steps}
-use Rattle.ion_symbols.specs.Output.{Output, known_id}
-use Rattle.ion_symbols.proofs.Finding.{searched, found_within, not_known, belongs_sorted, found_known, found_given, found_charges, id_answered, probes_sorted, system_known}
+use Rattle.ion_meter.specs.declared.fault.Fault.TheVariants.{Memory}
+use Rattle.ion_value.specs.Shares.{Charges}
+use Rattle.ion_symbols.specs.Output.{Output, Belongs, IsSorted, id_given, known_id, texts_cost}
+use Rattle.ion_symbols.specs.OutTexts.{texts_of}
+use Rattle.ion_symbols.proofs.Adding.{can_add, new_unknown}
+use Rattle.ion_symbols.proofs.Finding.{found_at, found_new, found_within, id_answered, known_given, probes_sorted, system_known}
+use Rattle.ion_symbols.proofs.KeptTexts.{known_kept, number_few, same_charges, same_share, same_texts, searched_kept}
 use Rattle.ion_symbols.proofs.output.OutSymbols.id_of.Goals as goal
 
--- ---- a text that has an id
+-- ---- a text of the system table
 
 pub returns-in-Some-clause-found : goal.returns-in-Some-clause-found
 returns-in-Some-clause-found g c id known =
     (id_answered c.args.self.now.texts c.args.text.now _ id (system_known c.args.self.now.texts c.args.text.now _ c.in-Some.ensures) known, ap (λ (s : Output). s.texts) c.self.view_is, refl)
 
-pub returns-in-Ok-clause-found : goal.returns-in-Ok-clause-found
-returns-in-Ok-clause-found g c id known =
-    let n = searched _ _ _ _ _ _ _ c.as_slice.ensures c.as_slice-2.ensures c.as_slice-3.ensures c.new-search.ensures.texts in
-    let found = found_known _ _ _ _ _ _ _ _ c.self.invariant.0 n (ap (λ (s : Output). s.texts) c.self.view_is) c.as_slice-in-Ok.ensures c.in_default.ensures c.in-Ok.ensures.found in
-    (id_answered c.args.self.now.texts c.args.text.now _ id found known, ap (λ (s : Output). s.texts) c.self.view_is, refl)
-
-pub returns-in-Err-clause-found : goal.returns-in-Err-clause-found
-returns-in-Err-clause-found g c id known =
-    let n = searched _ _ _ _ _ _ _ c.as_slice.ensures c.as_slice-2.ensures c.as_slice-3.ensures c.new-search.ensures.texts in
-    let none = not_known _ _ _ _ _ _ c.self.invariant.0 n c.in_default.ensures c.in-Err.ensures.belongs in
-    absurd (cc (sym none ∙ (ap (λ (s : Output). known_id s.texts c.args.text.now) c.self.view_is ∙ known)))
-
--- ---- any text
+pub returns-in-Some-clause-gives : goal.returns-in-Some-clause-gives
+returns-in-Some-clause-gives g c =
+    known_given c.args.self.now.limit _ c.args.self.now.texts c.args.text.now _ (ap (λ (s : Output). s.texts) c.self.view_is) (system_known c.args.self.now.texts c.args.text.now _ c.in-Some.ensures)
 
 pub returns-in-Some-clause-charges : goal.returns-in-Some-clause-charges
 returns-in-Some-clause-charges g c =
-    found_charges _ _ _ _ _ _ _ _ _ c.self.invariant.0 c.self.invariant.1 (ap (λ (s : Output). s.texts) c.self.view_is) (ap (λ (s : Output). s.limit) c.self.view_is)
+    let e = ap (λ (s : Output). s.texts) c.self.view_is in same_charges _ _ _ _ _ _ e (ap (λ (s : Output). s.limit) c.self.view_is) c.self.invariant.1 e
+
+-- ---- one that is there
 
 pub bounds-as_slice-place : goal.bounds-as_slice-place
 bounds-as_slice-place g c =
-    let n = searched _ _ _ _ _ _ _ c.as_slice.ensures c.as_slice-2.ensures c.as_slice-3.ensures c.new-search.ensures.texts in
-    found_within _ _ _ _ _ _ _ n c.in-Ok.ensures.found c.as_slice-in-Ok.ensures
+    let k = searched_kept _ _ c.put_in_order.ensures.kept c.put_in_order.ensures.ordered c.search-search.ensures.texts in
+    found_within _ _ _ _ c.args.text.now _ k c.in-Ok.ensures.found c.as_slice.ensures
 
-pub add-requires-clause-new : goal.add-requires-clause-new
-add-requires-clause-new g c =
-    let n = searched _ _ _ _ _ _ _ c.as_slice.ensures c.as_slice-2.ensures c.as_slice-3.ensures c.new-search.ensures.texts in
-    not_known _ _ _ _ _ _ c.self.invariant.0 n c.in_default.ensures c.in-Err.ensures.belongs
+pub overflow_add-result : goal.overflow_add-result
+overflow_add-result g c =
+    let k = searched_kept _ _ c.put_in_order.ensures.kept c.put_in_order.ensures.ordered c.search-search.ensures.texts in
+    omega (arith, number_few _ c.args.text.now _ c.put_in_order.ensures.kept (found_at _ _ _ _ _ _ k c.as_slice.ensures c.in-Ok.ensures.found))
 
-pub add-requires-clause-belongs : goal.add-requires-clause-belongs
-add-requires-clause-belongs g c =
-    let n = searched _ _ _ _ _ _ _ c.as_slice.ensures c.as_slice-2.ensures c.as_slice-3.ensures c.new-search.ensures.texts in
-    belongs_sorted _ _ _ _ _ _ c.self.invariant.0 n c.in-Err.ensures.belongs
+pub invariant_of-self-in-Ok : goal.invariant_of-self-in-Ok
+invariant_of-self-in-Ok g c =
+    (c.put_in_order.ensures.kept, same_share _ _ _ (same_texts c.self.inside.kept _ _ c.put_in_order.ensures.texts refl) c.self.invariant.1, c.self.invariant.2)
 
 pub returns-in-Ok-clause-gives : goal.returns-in-Ok-clause-gives
 returns-in-Ok-clause-gives g c =
-    let n = searched _ _ _ _ _ _ _ c.as_slice.ensures c.as_slice-2.ensures c.as_slice-3.ensures c.new-search.ensures.texts in
-    found_given _ _ _ _ _ _ _ _ _ c.self.invariant.0 n (ap (λ (s : Output). s.texts) c.self.view_is) c.as_slice-in-Ok.ensures c.in_default.ensures c.in-Ok.ensures.found
+    let same = same_texts c.self.inside.kept _ _ c.put_in_order.ensures.texts (ap (λ (s : Output). s.texts) c.self.view_is) in
+    let k = searched_kept _ _ c.put_in_order.ensures.kept c.put_in_order.ensures.ordered c.search-search.ensures.texts in
+    known_given c.args.self.now.limit _ c.args.self.now.texts c.args.text.now _ same
+    (known_kept _ _ _ _ c.put_in_order.ensures.kept same (found_at _ _ _ _ _ _ k c.as_slice.ensures c.in-Ok.ensures.found))
+
+pub returns-in-Ok-clause-found : goal.returns-in-Ok-clause-found
+returns-in-Ok-clause-found g c id known =
+    let same = same_texts c.self.inside.kept _ _ c.put_in_order.ensures.texts (ap (λ (s : Output). s.texts) c.self.view_is) in
+    let k = searched_kept _ _ c.put_in_order.ensures.kept c.put_in_order.ensures.ordered c.search-search.ensures.texts in
+    let found = known_kept _ _ _ _ c.put_in_order.ensures.kept same (found_at _ _ _ _ _ _ k c.as_slice.ensures c.in-Ok.ensures.found) in
+    (id_answered c.args.self.now.texts c.args.text.now _ id found known, same, refl)
 
 pub returns-in-Ok-clause-charges : goal.returns-in-Ok-clause-charges
 returns-in-Ok-clause-charges g c =
-    found_charges _ _ _ _ _ _ _ _ _ c.self.invariant.0 c.self.invariant.1 (ap (λ (s : Output). s.texts) c.self.view_is) (ap (λ (s : Output). s.limit) c.self.view_is)
-
-pub returns-in-Ok-clause-searched : goal.returns-in-Ok-clause-searched
-returns-in-Ok-clause-searched g c sorted is none =
-    let n = searched _ _ _ _ _ _ _ c.as_slice.ensures c.as_slice-2.ensures c.as_slice-3.ensures c.new-search.ensures.texts in
-    probes_sorted _ _ _ _ _ _ _ c.self.invariant.0 n (ap (λ (s : Output). s.texts) c.self.view_is) (c.probes-self-inside.ensures ∙ c.place_of-found.ensures.exact) sorted is
-
-pub returns-in-Err-clause-searched : goal.returns-in-Err-clause-searched
-returns-in-Err-clause-searched g c sorted is none =
-    let n = searched _ _ _ _ _ _ _ c.as_slice.ensures c.as_slice-2.ensures c.as_slice-3.ensures c.new-search.ensures.texts in
-    probes_sorted _ _ _ _ _ _ _ c.self.invariant.0 n (ap (λ (s : Output). s.texts) c.self.view_is) (c.add.ensures.kept.1 ∙ (c.probes-self-inside.ensures ∙ c.place_of-found.ensures.exact)) sorted is
-
-pub overflow_add-result : goal.overflow_add-result
-overflow_add-result g c = grind (arith, common_steps)
+    let e = ap (λ (s : Output). s.texts) c.self.view_is in
+    same_charges _ _ _ _ _ _ e (ap (λ (s : Output). s.limit) c.self.view_is) c.self.invariant.1 (same_texts c.self.inside.kept _ _ c.put_in_order.ensures.texts e)
 
 pub returns-in-Ok-clause-probes : goal.returns-in-Ok-clause-probes
 returns-in-Ok-clause-probes g c = grind (arith, common_steps)
 
+pub returns-in-Ok-clause-searched : goal.returns-in-Ok-clause-searched
+returns-in-Ok-clause-searched g c sorted is none =
+    let same = same_texts c.self.inside.kept _ _ c.put_in_order.ensures.texts (ap (λ (s : Output). s.texts) c.self.view_is) in
+    let k = searched_kept _ _ c.put_in_order.ensures.kept c.put_in_order.ensures.ordered c.search-search.ensures.texts in
+    probes_sorted _ _ _ _ _ k (c.probes-self-inside.ensures ∙ c.place_of-found.ensures.exact) sorted (subst (IsSorted sorted) (sym same) is)
+
+-- ---- one that is new
+
+pub add-requires-clause-new : goal.add-requires-clause-new
+add-requires-clause-new g c =
+    let k = searched_kept _ _ c.put_in_order.ensures.kept c.put_in_order.ensures.ordered c.search-search.ensures.texts in
+    found_new _ _ _ _ _ k c.in_default.ensures c.in-Err.ensures.belongs
+
+pub add-requires-clause-spot : goal.add-requires-clause-spot
+add-requires-clause-spot g c =
+    (c.put_in_order.ensures.ordered, subst (λ (ts : List (List ℕ)). Belongs ts c.args.text.now c.in-Err.place) c.search-search.ensures.texts c.in-Err.ensures.belongs)
+
+pub add-requires-clause-can_add : goal.add-requires-clause-can_add
+add-requires-clause-can_add g c =
+    can_add _ _ _ (same_texts c.self.inside.kept _ _ c.put_in_order.ensures.texts (ap (λ (s : Output). s.texts) c.self.view_is)) c.requires.room c.requires.held c.requires.countable
+
+pub add-requires-clause-share : goal.add-requires-clause-share
+add-requires-clause-share g c = same_share _ _ _ (same_texts c.self.inside.kept _ _ c.put_in_order.ensures.texts refl) c.self.invariant.1
+
+pub returns-in-Err-clause-gives : goal.returns-in-Err-clause-gives
+returns-in-Err-clause-gives g c =
+    let same = same_texts c.self.inside.kept _ _ c.put_in_order.ensures.texts (ap (λ (s : Output). s.texts) c.self.view_is) in
+    subst₂ (λ (ts : List (List ℕ)) (l : ℕ). IfOk c.add.result (λ id. (id, texts_of c.add.new.kept) ≡ id_given l ts c.args.text.now)) same (ap (λ (s : Output). s.limit) c.self.view_is) c.add.ensures.gives
+
+pub returns-in-Err-clause-found : goal.returns-in-Err-clause-found
+returns-in-Err-clause-found g c id known =
+    let same = same_texts c.self.inside.kept _ _ c.put_in_order.ensures.texts (ap (λ (s : Output). s.texts) c.self.view_is) in
+    let k = searched_kept _ _ c.put_in_order.ensures.kept c.put_in_order.ensures.ordered c.search-search.ensures.texts in
+    let none = new_unknown _ _ (found_new _ _ _ _ _ k c.in_default.ensures c.in-Err.ensures.belongs) in
+    absurd (cc (sym none ∙ (ap (λ (ts : List (List ℕ)). known_id ts c.args.text.now) same ∙ known)))
+
 pub returns-in-Err-clause-probes : goal.returns-in-Err-clause-probes
 returns-in-Err-clause-probes g c = grind (arith, common_steps)
+
+pub returns-in-Err-clause-searched : goal.returns-in-Err-clause-searched
+returns-in-Err-clause-searched g c sorted is none =
+    let same = same_texts c.self.inside.kept _ _ c.put_in_order.ensures.texts (ap (λ (s : Output). s.texts) c.self.view_is) in
+    let k = searched_kept _ _ c.put_in_order.ensures.kept c.put_in_order.ensures.ordered c.search-search.ensures.texts in
+    probes_sorted _ _ _ _ _ k (c.probes-self-inside.ensures ∙ c.place_of-found.ensures.exact) sorted (subst (IsSorted sorted) (sym same) is)
+
+pub returns-in-Err-clause-memory : goal.returns-in-Err-clause-memory
+returns-in-Err-clause-memory g c =
+    let same = same_texts c.self.inside.kept _ _ c.put_in_order.ensures.texts (ap (λ (s : Output). s.texts) c.self.view_is) in
+    subst (λ (ts : List (List ℕ)). IfErr c.add.result (λ fault. (fault ≡ Memory) × (texts_of c.add.new.kept ≡ ts) × (c.add.new.meter.refused ≡ c.args.meter.now.refused + 1))) same c.add.ensures.memory
+
+pub returns-in-Err-clause-charges : goal.returns-in-Err-clause-charges
+returns-in-Err-clause-charges g c =
+    let same = same_texts c.self.inside.kept _ _ c.put_in_order.ensures.texts (ap (λ (s : Output). s.texts) c.self.view_is) in
+    subst₂ (λ (ts : List (List ℕ)) (l : ℕ). Charges c.args.meter.now c.add.new.meter (texts_cost ts) (texts_cost (texts_of c.add.new.kept)) l) same (ap (λ (s : Output). s.limit) c.self.view_is) c.add.ensures.charges

@@ -1,0 +1,16 @@
+use Rattle.std.proofs.Common.{◌∷◌, ◌++◌, [], List, ℕ, ap, ◌∙◌}
+use Rattle.ion_binary.specs.Canonical.{id_in}
+use Rattle.ion_binary.specs.Opening.{noted}
+use Rattle.ion_binary.proofs.writer.BinWriter.put_spelled.Goals as goal
+
+pub give_fresh-requires-clause-octets : goal.give_fresh-requires-clause-octets
+give_fresh-requires-clause-octets g c new =
+    let fresh = c.args.fresh in
+    let note : ℕ = c.args.note in
+    let texts : List (List ℕ) = c.args.self.now.symbols.texts in
+    let lent : List ℕ = c.spell-spelled.result.lent.now in
+    let f = c.requires.can_put.text new in
+    ap (λ (z : List ℕ). z ++ lent) c.as_slice-2.ensures.value
+    ∙ (c.in-Some.ensures.octets
+    ∙ (ap (λ (z : List ℕ). noted fresh.name note (z ++ lent)) c.as_slice.ensures.value
+    ∙ ap (noted fresh.name note) (c.spell-spelled.ensures (id_in (texts ++ fresh.text.now ∷ [])) f.symbol)))

@@ -1,0 +1,25 @@
+use Rattle.std.proofs.Common.{◌∙◌, arith}
+use Rattle.ion_symbols.proofs.LinkedTexts.{added_texts, can_link_pushed, is_added, place_behind, place_small}
+use Rattle.ion_symbols.proofs.out_texts.OutTexts.add_with.Goals as goal
+
+pub overflow_cast-stands : goal.overflow_cast-stands
+overflow_cast-stands g c = let s = place_small c.args.self.now c.as_slice-from.result.now c.args.added.bytes.now c.requires.kept c.as_slice-from.ensures c.requires.small in omega (arith, s)
+
+pub overflow_cast-stands-2 : goal.overflow_cast-stands-2
+overflow_cast-stands-2 g c = let s = place_small c.args.self.now c.as_slice-from.result.now c.args.added.bytes.now c.requires.kept c.as_slice-from.ensures c.requires.small in omega (arith, s)
+
+pub link_last-requires : goal.link_last-requires
+link_last-requires g c =
+    can_link_pushed c.args.self.now (record c.args.self.now { bytes = c.push_together.new.bytes; places = c.push_together.new.self; ids = c.push_together.new.others }) c.args.added.bytes.now c.in-Free.spot
+    (place_behind c.as_slice-from.result.now c.args.added.bytes.now) c.requires.kept (record { absent = c.in-Free.ensures.0; no_system = c.requires.no_system }) c.in-Free.ensures.1
+    (is_added c.args.self.now c.as_slice-from.result.now c.push_together.new.bytes c.args.added.bytes.now c.push_together.new.self c.push_together.new.others c.as_slice-from.ensures
+    (c.push_together.ensures.bytes c.if-not-push_together.false) (c.push_together.ensures.items c.if-not-push_together.false) c.push_together.ensures.same_cost c.push_together.ensures.same_other_cost)
+    c.requires.small c.if-self.false (c.push_together.ensures.others c.if-not-push_together.false)
+
+pub returns-clause-added : goal.returns-clause-added
+returns-clause-added g c =
+    λ _. c.link_last.ensures.texts
+    ∙ added_texts c.args.self.now (record c.args.self.now { bytes = c.push_together.new.bytes; places = c.push_together.new.self; ids = c.push_together.new.others }) c.args.added.bytes.now
+    (place_behind c.as_slice-from.result.now c.args.added.bytes.now) c.requires.kept
+    (is_added c.args.self.now c.as_slice-from.result.now c.push_together.new.bytes c.args.added.bytes.now c.push_together.new.self c.push_together.new.others c.as_slice-from.ensures
+    (c.push_together.ensures.bytes c.if-not-push_together.false) (c.push_together.ensures.items c.if-not-push_together.false) c.push_together.ensures.same_cost c.push_together.ensures.same_other_cost)

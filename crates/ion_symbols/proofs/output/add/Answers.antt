@@ -1,0 +1,38 @@
+use Rattle.std.proofs.Common.{arith}
+use Rattle.ion_symbols.proofs.Adding.{charges_within, given_over, given_push, nothing_charged, share_push}
+use Rattle.ion_symbols.proofs.KeptTexts.{same_share}
+use Rattle.ion_symbols.proofs.output.add.Goals as goal
+
+-- ---- where the limit does not allow it
+
+pub returns-then-is_over-clause-gives : goal.returns-then-is_over-clause-gives
+returns-then-is_over-clause-gives g c = given_over _ _ _ _ c.requires.new c.cost.ensures (c.is_over.ensures.over c.if-is_over.true)
+
+pub returns-then-is_over-clause-charges : goal.returns-then-is_over-clause-charges
+returns-then-is_over-clause-charges g c = nothing_charged _ _ _ c.requires.share
+
+-- ---- where it does
+
+pub add-requires-clause-small : goal.add-requires-clause-small
+add-requires-clause-small g c = omega (arith, c.is_over.ensures.fits c.if-is_over.false, c.cost.ensures, c.requires.small)
+
+pub returns-in-Ok-clause-share : goal.returns-in-Ok-clause-share
+returns-in-Ok-clause-share g c = share_push _ _ c.args.text.now _ _ c.cost.ensures (c.is_over.ensures.fits c.if-is_over.false) c.in-Ok.ensures.added
+
+pub returns-in-Ok-clause-gives : goal.returns-in-Ok-clause-gives
+returns-in-Ok-clause-gives g c =
+    given_push _ _ _ c.args.text.now _ _ c.requires.new c.cost.ensures (c.is_over.ensures.fits c.if-is_over.false) c.len.ensures.0 c.in-Ok.ensures.added
+
+pub returns-in-Ok-clause-counted : goal.returns-in-Ok-clause-counted
+returns-in-Ok-clause-counted g c = c.in-Ok.ensures.grows.refused
+
+pub returns-in-Ok-clause-charges : goal.returns-in-Ok-clause-charges
+returns-in-Ok-clause-charges g c =
+    charges_within _ _ _ _ _ _ c.add.ensures.charges (let f = c.is_over.ensures.fits c.if-is_over.false in omega (arith, f, c.cost.ensures))
+
+pub returns-in-Err-clause-share : goal.returns-in-Err-clause-share
+returns-in-Err-clause-share g c = same_share _ _ _ c.in-Err.ensures.memory.1 c.requires.share
+
+pub returns-in-Err-clause-charges : goal.returns-in-Err-clause-charges
+returns-in-Err-clause-charges g c =
+    charges_within _ _ _ _ _ _ c.add.ensures.charges (let f = c.is_over.ensures.fits c.if-is_over.false in omega (arith, f, c.cost.ensures))

@@ -58,6 +58,7 @@ mod NumbersFit
 mod ShortNumbers
 mod ShownParts
 mod Handing
+mod HandingKeeps
 mod Feeding
 mod FewOctets
 mod PutInRoom

@@ -1,6 +1,7 @@
-use Rattle.std.proofs.Common.{◌≡◌, ◌+◌, ◌<◌, None, [], ◌∷◌, ◌++◌, length, refl, ap, sym, subst, ◌∙◌, arith, rules}
+use Rattle.std.proofs.Common.{◌≡◌, ◌+◌, ◌*◌, ◌-◌, ◌<◌, None, [], ◌∷◌, ◌++◌, length, refl, ap, sym, subst, ◌∙◌, arith, rules}
 use Rattle.std.proofs.lemmas.Grind.{common_steps}
 use Rattle.std.proofs.lemmas.List.{length_push}
+use Rattle.ion_meter.specs.Counts.{Counts}
 use Rattle.ion_meter.proofs.Lent.{IsPassed-total, lent-CanPass}
 use Rattle.ion_value.proofs.Passing.{IsPassed-moves}
 use Rattle.ion_value.specs.declared.item.Head.TheVariants as code
@@ -17,9 +18,10 @@ use Rattle.ion_binary.specs.Lane.{frame_in}
 use Rattle.ion_binary.specs.Reading.{placed_item, top_of}
 use Rattle.ion_binary.specs.Reader.{kinds_of, to_come}
 use Rattle.ion_binary.specs.Shown.{shown_scalar}
-use Rattle.ion_binary.specs.Steps.{opened_in}
+use Rattle.ion_binary.specs.Steps.{held_by, left_to, opened_in}
 use Rattle.ion_binary.specs.Wrappers.{as_frames, innermost}
 use Rattle.ion_binary.proofs.Handing.{around_pushed, as_frames-push, begin_fits, falls_begin, falls_scalar, hands_by, kinds_of-push, path_here, plain_seen, scalar_fits, shown-known, step_shown, to_come-gives, whole-opens, whole-value}
+use Rattle.ion_binary.proofs.HandingKeeps.{goes-opened, handed-none, handed-undone, head-fits, keeps_on-begin, keeps_on-scalar, more-below, popped}
 use Rattle.ion_binary.proofs.ReaderParts.{as_frames-length}
 use Rattle.ion_binary.proofs.reader.BinReader.hand_shape.Goals as goal
 
@@ -130,8 +132,14 @@ returns-else-not-take_plain-clause-handed g c = record {
         bytes = (IsPassed-moves device r.source t c.in-Some.behind v.within c.pass.ensures.passed).bytes;
       });
   nothing = λ e. absurd (cc e);
-  keeps = grind (arith, common_steps);
-  goes = search rules;
+  keeps =
+      let r = c.args.self.now in
+      let v = c.requires.front.gives (length (as_frames r.frames)) c.in-Some.behind c.in-Some.found c.in-Some.ensures.shows c.in-Some.ensures.fills in
+      let taken = c.if-not-take_plain.ensures in
+      rw c.pass.ensures.top (keeps_on-scalar g.W.ValueWriter r (top_of (innermost (frame_in c.args.around.now)) r.top r.source.place) c.in-Some.behind c.pass.new.self.source
+      c.args.writer.now c.take_plain.new.self c.args.sink.now c.take_plain.new.sink c.args.meter.now c.take_plain.new.meter
+      c.requires.can_hand v.within c.pass.ensures.passed taken.sound taken.same taken.device taken.counted taken.charges);
+  goes = rw c.pass.ensures.top (more-below _ _);
 }
 
 pub returns-else-not-take_plain-2-clause-handed : goal.returns-else-not-take_plain-2-clause-handed
@@ -178,27 +186,46 @@ returns-else-not-take_plain-2-clause-handed g c = record {
         bytes = (IsPassed-moves device r.source t c.in-Some.behind v.within c.pass-in-Begin.ensures.passed).bytes;
       });
   nothing = λ e. absurd (cc e);
-  keeps = record {
-    sized = grind (arith, common_steps);
-    stands = grind (arith, common_steps);
-    limits = grind (arith, common_steps);
-    failed = grind (arith, common_steps);
-    done = grind (arith, common_steps);
-    device = grind (arith, common_steps);
-    limit = grind (arith, common_steps);
-    writer = grind (arith, common_steps);
-    charges = record { held = grind (arith, common_steps); share = grind (arith, common_steps); peak = grind (arith, common_steps); rises = grind (arith, common_steps) };
-  };
-  goes = grind (arith, common_steps);
+  keeps =
+      let r = c.args.self.now in
+      let v = c.requires.front.gives (length (as_frames r.frames)) c.in-Some.behind c.in-Some.found c.in-Some.ensures.shows c.in-Some.ensures.fills in
+      let frame : Frame = record { kind = c.in-Begin.kind; end = c.in-Begin.end } in
+      let pushed : c.push_within.new.self ≡ r.frames ++ frame ∷ [] = c.push_within.ensures.ok c.if-not-push_within.false in
+      let shows = rw c.in-Begin.is at c.in-Some.ensures.shows in
+      let full = rw c.in-Begin.is at c.in-Some.ensures.fills in
+      let begun = c.requires.front.gives (length (as_frames r.frames)) c.in-Some.behind (shown.Begin c.in-Begin.kind c.in-Begin.end) shows full in
+      let few : length r.frames < r.limits.depth = subst (λ n. n < r.limits.depth) (as_frames-length r.frames) begun.may_be in
+      let taken = c.if-not-take_plain-2.ensures in
+      rw (c.pass-in-Begin.ensures.top, pushed) (keeps_on-begin g.W.ValueWriter r frame (top_of (innermost (frame_in c.args.around.now)) r.top r.source.place) c.in-Some.behind c.pass-in-Begin.new.self.source
+      c.args.writer.now c.take_plain-in-Begin.new.self c.args.sink.now c.take_plain-in-Begin.new.sink c.args.meter.now c.push_within.new.meter c.take_plain-in-Begin.new.meter
+      c.requires.can_hand (g.met.W.ValueWriter.within c.args.writer.now c.requires.can_hand.writer.sound) few v.within c.pass-in-Begin.ensures.passed (c.push_within.ensures.cost c.if-not-push_within.false)
+      taken.sound taken.same taken.device taken.counted taken.charges);
+  goes =
+      let r = c.args.self.now in
+      let v = c.requires.front.gives (length (as_frames r.frames)) c.in-Some.behind c.in-Some.found c.in-Some.ensures.shows c.in-Some.ensures.fills in
+      let frame : Frame = record { kind = c.in-Begin.kind; end = c.in-Begin.end } in
+      let pushed : c.push_within.new.self ≡ r.frames ++ frame ∷ [] = c.push_within.ensures.ok c.if-not-push_within.false in
+      let t = c.pass-in-Begin.new.self.source in
+      let passed = c.pass-in-Begin.ensures.passed in
+      rw (c.pass-in-Begin.ensures.top, pushed) (goes-opened r.source.limit r.source.place t.limit t.place c.args.front.at c.in-Some.behind (length r.frames) (length r.annotations) (length r.text) (length (r.frames ++ frame ∷ []))
+      passed.place passed.limit v.further (lent-CanPass r.source c.in-Some.behind v.within).1 (length_push r.frames frame));
 }
 
 pub returns-then-not-take_plain-2-clause-handed : goal.returns-then-not-take_plain-2-clause-handed
-returns-then-not-take_plain-2-clause-handed g c = record {
-  hands = λ e. absurd (cc e);
-  nothing = λ _. grind (arith, common_steps);
-  keeps = grind (arith, common_steps);
-  goes = grind (arith, common_steps);
-}
+returns-then-not-take_plain-2-clause-handed g c =
+    let r = c.args.self.now in
+    let w = g.W.ValueWriter in
+    let frame : Frame = record { kind = c.in-Begin.kind; end = c.in-Begin.end } in
+    let pushed : c.push_within.new.self ≡ r.frames ++ frame ∷ [] = c.push_within.ensures.ok c.if-not-push_within.false in
+    let grows = c.push_within.ensures.cost c.if-not-push_within.false in
+    let declines = c.if-not-take_plain-2.ensures.declines refl in
+    let shows = rw c.in-Begin.is at c.in-Some.ensures.shows in
+    let full = rw c.in-Begin.is at c.in-Some.ensures.fills in
+    let begun = c.requires.front.gives (length (as_frames r.frames)) c.in-Some.behind (shown.Begin c.in-Begin.kind c.in-Begin.end) shows full in
+    let few : length r.frames < r.limits.depth = subst (λ n. n < r.limits.depth) (as_frames-length r.frames) begun.may_be in
+    let back = popped r.frames c.pop.new.self frame c.pop.result c.push_within.new.meter c.pop.new.meter (rw pushed at c.pop.ensures.items) (rw declines.2 at c.pop.ensures.cost) in
+    rw (back.0, declines.0, declines.1) (handed-undone w g.I.Input (named_item (g.N.Names.text c.args.names.now)) r c.args.writer.now c.args.sink.now c.args.meter.now c.push_within.new.meter c.pop.new.meter
+    c.requires.can_hand (g.met.W.ValueWriter.within c.args.writer.now c.requires.can_hand.writer.sound) few grows back.1)
 
 pub returns-else-not-take_plain-clause-around : goal.returns-else-not-take_plain-clause-around
 returns-else-not-take_plain-clause-around g c e = rw c.pass.ensures.top c.requires.around
@@ -207,3 +234,54 @@ pub returns-else-not-take_plain-2-clause-around : goal.returns-else-not-take_pla
 returns-else-not-take_plain-2-clause-around g c e =
     let frame : Frame = record { kind = c.in-Begin.kind; end = c.in-Begin.end } in
     rw (c.pass-in-Begin.ensures.top, c.push_within.ensures.ok c.if-not-push_within.false) (around_pushed c.args.self.now.frames frame c.inside.result c.inside.ensures.0 c.inside.ensures.1)
+
+pub pass-requires : goal.pass-requires
+pass-requires g c =
+    let r = c.args.self.now in
+    let v = c.requires.front.gives (length (as_frames r.frames)) c.in-Some.behind c.in-Some.found c.in-Some.ensures.shows c.in-Some.ensures.fills in
+    lent-CanPass r.source c.in-Some.behind v.within
+
+pub pass-requires-in-Begin : goal.pass-requires-in-Begin
+pass-requires-in-Begin g c =
+    let r = c.args.self.now in
+    let v = c.requires.front.gives (length (as_frames r.frames)) c.in-Some.behind c.in-Some.found c.in-Some.ensures.shows c.in-Some.ensures.fills in
+    lent-CanPass r.source c.in-Some.behind v.within
+
+pub overflow_add-place : goal.overflow_add-place
+overflow_add-place g c =
+    let fits = head-fits c.args.self.now.source c.args.front.head c.requires.can_hand.stands c.requires.within in
+    let place = c.place-here.ensures in
+    omega (arith, fits, place)
+
+pub pop-requires : goal.pop-requires
+pop-requires g c =
+    let r = c.args.self.now in
+    let frame : Frame = record { kind = c.in-Begin.kind; end = c.in-Begin.end } in
+    let pushed : c.push_within.new.self ≡ r.frames ++ frame ∷ [] = c.push_within.ensures.ok c.if-not-push_within.false in
+    let grows = (c.push_within.ensures.cost c.if-not-push_within.false).held in
+    let declines = c.if-not-take_plain-2.ensures.declines refl in
+    let long = length_push r.frames frame in
+    let held = c.requires.can_hand.held in
+    rw (pushed, declines.2) (omega (arith, grows, long, held))
+
+pub returns-in_default-clause-handed : goal.returns-in_default-clause-handed
+returns-in_default-clause-handed g c =
+    handed-none g.W.ValueWriter g.I.Input (named_item (g.N.Names.text c.args.names.now)) c.args.self.now c.args.writer.now c.args.sink.now c.args.meter.now c.requires.can_hand
+    (g.met.W.ValueWriter.within c.args.writer.now c.requires.can_hand.writer.sound)
+
+pub returns-in_default-shown_head-clause-handed : goal.returns-in_default-shown_head-clause-handed
+returns-in_default-shown_head-clause-handed g c =
+    handed-none g.W.ValueWriter g.I.Input (named_item (g.N.Names.text c.args.names.now)) c.args.self.now c.args.writer.now c.args.sink.now c.args.meter.now c.requires.can_hand
+    (g.met.W.ValueWriter.within c.args.writer.now c.requires.can_hand.writer.sound)
+
+pub returns-then-not-take_plain-clause-handed : goal.returns-then-not-take_plain-clause-handed
+returns-then-not-take_plain-clause-handed g c =
+    let declines = c.if-not-take_plain.ensures.declines refl in
+    rw (declines.0, declines.1, declines.2) (handed-none g.W.ValueWriter g.I.Input (named_item (g.N.Names.text c.args.names.now)) c.args.self.now c.args.writer.now c.args.sink.now c.args.meter.now c.requires.can_hand
+    (g.met.W.ValueWriter.within c.args.writer.now c.requires.can_hand.writer.sound))
+
+pub returns-then-not-push_within-clause-handed : goal.returns-then-not-push_within-clause-handed
+returns-then-not-push_within-clause-handed g c =
+    let declines = c.push_within.ensures.declines c.if-not-push_within.true in
+    rw (declines.0, declines.1) (handed-none g.W.ValueWriter g.I.Input (named_item (g.N.Names.text c.args.names.now)) c.args.self.now c.args.writer.now c.args.sink.now c.args.meter.now c.requires.can_hand
+    (g.met.W.ValueWriter.within c.args.writer.now c.requires.can_hand.writer.sound))

@@ -1,0 +1,176 @@
+-- What a reader and a writer keep where an item is handed on, and how memory goes with it.
+use Rattle.std.proofs.Common.{◌≡◌, ℕ, ◌+◌, ◌*◌, ◌-◌, ◌^◌, ◌<◌, ◌≤◌, false, List, [], ◌∷◌, ◌++◌, length, Option, Some, None, MatchOption, refl, ap, ◌∙◌, subst, arith}
+use Rattle.std.proofs.lemmas.Grind.{common_steps}
+use Rattle.std.proofs.lemmas.List.{length_push}
+use Rattle.ion_meter.specs.Counts.{Counts, Grows, Shrinks}
+use Rattle.ion_meter.specs.Sources.{Stands}
+use Rattle.ion_meter.specs.Windows.{Incoming, IsPassed, Outgoing, lent}
+use Rattle.ion_meter.specs.declared.device.Input.{Ghosts as InputOf}
+use Rattle.ion_meter.proofs.Lent.{lent-CanPass}
+use Rattle.ion_value.specs.declared.writer.ValueWriter.{Ghosts as WriterOf}
+use Rattle.ion_value.specs.Feeding.{StaysWell}
+use Rattle.ion_value.specs.Shares.{Charges}
+use Rattle.ion_value.specs.Standing.{WritesWithin}
+use Rattle.ion_value.specs.Value.{PlacedItem}
+use Rattle.ion_binary.specs.declared.reader.BinReader.{BinReader}
+use Rattle.ion_binary.specs.declared.wrapper.Frame.{Frame}
+use Rattle.ion_binary.specs.Lane.{CanHand, Handed, KeepsOn}
+use Rattle.ion_binary.specs.Steps.{IsSized, held_by, left_to, share_of}
+
+-- a part that holds no more stands beside one that moves
+charges-beside : (a b : Counts) (own k l share most : ℕ) → own ≤ share → own + k ≤ a.held → Charges a b k l most → Charges a b (own + k) (own + l) (share + most)
+charges-beside a b own k l share most fits there x =
+    let held = x.held in let peak = x.peak in let few = x.share in
+    record {
+      held = omega (arith, held);
+      share = omega (arith, few, fits);
+      peak = omega (arith, peak, fits, there);
+      rises = x.rises;
+    }
+
+-- or one that took 16 more before
+charges-opened : (a b c : Counts) (own k l share most : ℕ) → own + 16 ≤ share → k ≤ most → own + k ≤ a.held → Grows a b 16 → Charges b c k l most → Charges a c (own + k) (own + 16 + l) (share + most)
+charges-opened a b c own k l share most fits small there one x =
+    let held = x.held in let peak = x.peak in let few = x.share in let more = one.held in let top = one.peak in let rises = x.rises in
+    record {
+      held = omega (arith, held, more);
+      share = omega (arith, few, fits);
+      peak = omega (arith, peak, top, more, fits, small, there);
+      rises = omega (arith, top, rises);
+    }
+
+-- 16 were taken, and given back
+charges-closed : (a b c : Counts) (own share : ℕ) → own + 16 ≤ share → own ≤ a.held → Grows a b 16 → Shrinks b c 16 → Charges a c own own share
+charges-closed a b c own share fits there one two =
+    let more = one.held in let top = one.peak in let less = two.held in let same = two.peak in
+    record {
+      held = omega (arith, more, less);
+      share = omega (arith, fits);
+      peak = omega (arith, top, same, more, fits, there);
+      rises = omega (arith, top, same);
+    }
+
+-- what is held is within the share
+held-within : {I A : Type 0} (r : BinReader I A) → IsSized r → held_by r ≤ share_of r
+held-within r sized = let few = sized.few in let noted = sized.annotated in let short = sized.short in omega (arith, few, noted, short)
+
+opened-within : {I A : Type 0} (r : BinReader I A) → IsSized r → length r.frames < r.limits.depth → held_by r + 16 ≤ share_of r
+opened-within r sized few = let noted = sized.annotated in let short = sized.short in omega (arith, few, noted, short)
+
+-- the place of a head that a window shows is a number of 64 bits
+pub head-fits : {I : Type 0} (s : Incoming I) (head : ℕ) → Stands s → head < length (lent s) → s.place + head < 2 ^ 64
+head-fits s head stands there =
+    let passes = (lent-CanPass s head (omega (arith, there))).1 in let within = stands.within in let small = stands.small in
+    omega (arith, passes, within, small)
+
+stands-passed : {I : Type 0} (s t : Incoming I) (k : ℕ) → Stands s → k ≤ length (lent s) → IsPassed s t k → Stands t
+stands-passed s t k stands there passed =
+    let passes = (lent-CanPass s k there).1 in let within = stands.within in let small = stands.small in let place = passed.place in let limit = passed.limit in
+    record { well = passed.fault ∙ stands.well; within = omega (arith, passes, within, place, limit); small = omega (arith, small, limit) }
+
+pub more-below : (n k : ℕ) → n ≤ n + k
+more-below n k = omega arith
+
+-- a container that is opened is paid for by what is read of it
+pub goes-opened : (limit place limit_then place_then at behind n notes text m : ℕ) → place_then ≡ place + behind → limit_then ≡ limit → at + 1 ≤ behind → behind ≤ limit - place → m ≡ n + 1
+    → 4096 + 16 * m + 16 * notes + text ≤ 4096 + 16 * n + 16 * notes + text + 16 * (2 * (limit - place) + n - (2 * (limit_then - place_then) + m))
+goes-opened limit place limit_then place_then at behind n notes text m p l further within more = omega (arith, p, l, further, within, more)
+
+stays-well : {W O A : Type 0} (w : WriterOf W O A) (pen then : W) (from to : Outgoing O) (m n : Counts) → w.sound then → (w.failed then ≡ w.failed pen) × (w.limits then ≡ w.limits pen) × (w.most then ≡ w.most pen)
+    → (to.device ≡ from.device) × (to.fault ≡ from.fault) → n.refused ≡ m.refused → StaysWell w pen then from to m n
+stays-well w pen then from to m n sound same device counted =
+    record { sound = sound; failed = same.0; limits = same.1; most = same.2; device = device.0; fault = device.1; refused = counted }
+
+module _ {I A W O : Type 0} (w : WriterOf W O A) where
+  -- a scalar is handed on
+  pub keeps_on-scalar : (r : BinReader I A) (top k : ℕ) (t : Incoming I) (pen then : W) (from to : Outgoing O) (m n : Counts) → CanHand w r pen from m → k ≤ length (lent r.source) → IsPassed r.source t k
+      → w.sound then → (w.failed then ≡ w.failed pen) × (w.limits then ≡ w.limits pen) × (w.most then ≡ w.most pen) → (to.device ≡ from.device) × (to.fault ≡ from.fault) → n.refused ≡ m.refused
+      → Charges m n (w.own pen) (w.own then) (w.most pen) → KeepsOn w r (record r { top = top; source = t }) pen then from to m n
+  keeps_on-scalar r top k t pen then from to m n can there passed sound same device counted charges = record {
+    sized = can.sized;
+    stands = stands-passed r.source t k can.stands there passed;
+    limits = refl;
+    failed = refl;
+    done = refl;
+    device = passed.device;
+    limit = passed.limit;
+    writer = stays-well w pen then from to m n sound same device counted;
+    charges = charges-beside m n (held_by r) (w.own pen) (w.own then) (share_of r) (w.most pen) (held-within r can.sized) can.held charges;
+  }
+
+  -- a container's beginning is
+  pub keeps_on-begin : (r : BinReader I A) (frame : Frame) (top k : ℕ) (t : Incoming I) (pen then : W) (from to : Outgoing O) (m b n : Counts) → CanHand w r pen from m → WritesWithin (w.own pen) (w.most pen)
+      → length r.frames < r.limits.depth → k ≤ length (lent r.source) → IsPassed r.source t k → Grows m b 16
+      → w.sound then → (w.failed then ≡ w.failed pen) × (w.limits then ≡ w.limits pen) × (w.most then ≡ w.most pen) → (to.device ≡ from.device) × (to.fault ≡ from.fault) → n.refused ≡ b.refused
+      → Charges b n (w.own pen) (w.own then) (w.most pen) → KeepsOn w r (record r { frames = r.frames ++ frame ∷ []; top = top; source = t }) pen then from to m n
+  keeps_on-begin r frame top k t pen then from to m b n can writer few there passed grows sound same device counted charges =
+      let long = length_push r.frames frame in
+      let sized = can.sized in
+      let held : held_by r + 16 ≡ 4096 + 16 * length (r.frames ++ frame ∷ []) + 16 * length r.annotations + length r.text = omega (arith, long) in
+      record {
+        sized = record { checked = sized.checked; few = omega (arith, long, few); annotated = sized.annotated; short = sized.short };
+        stands = stands-passed r.source t k can.stands there passed;
+        limits = refl;
+        failed = refl;
+        done = refl;
+        device = passed.device;
+        limit = passed.limit;
+        writer = stays-well w pen then from to m n sound same device (counted ∙ grows.refused);
+        charges = subst (λ (h : ℕ). Charges m n (held_by r + w.own pen) (h + w.own then) (share_of r + w.most pen)) held
+            (charges-opened m b n (held_by r) (w.own pen) (w.own then) (share_of r) (w.most pen) (opened-within r sized few) writer.share can.held grows charges);
+      }
+
+  -- nothing is
+  pub handed-none : (device : InputOf I) (see : PlacedItem → PlacedItem) (r : BinReader I A) (pen : W) (from : Outgoing O) (m : Counts) → CanHand w r pen from m → WritesWithin (w.own pen) (w.most pen)
+      → Handed device w see r r pen pen from from m m false
+  handed-none device see r pen from m can writer =
+      let sized = held-within r can.sized in let own = writer.share in let held = can.held in
+      record {
+        hands = λ e. absurd (cc e);
+        nothing = λ _. record { reader = refl; writer = refl; sink = refl };
+        keeps = record {
+          sized = can.sized;
+          stands = can.stands;
+          limits = refl;
+          failed = refl;
+          done = refl;
+          device = refl;
+          limit = refl;
+          writer = stays-well w pen pen from from m m can.writer.sound (refl, refl, refl) (refl, refl) refl;
+          charges = record { held = refl; share = omega (arith, sized, own); peak = omega (arith, sized, own, held); rises = omega arith };
+        };
+        goes = more-below (held_by r) (16 * (left_to r - left_to r));
+      }
+
+  -- nor is anything where a container was pushed and given back
+  pub handed-undone : (device : InputOf I) (see : PlacedItem → PlacedItem) (r : BinReader I A) (pen : W) (from : Outgoing O) (m b c : Counts) → CanHand w r pen from m → WritesWithin (w.own pen) (w.most pen)
+      → length r.frames < r.limits.depth → Grows m b 16 → Shrinks b c 16 → Handed device w see r r pen pen from from m c false
+  handed-undone device see r pen from m b c can writer few grows shrinks =
+      let sized = opened-within r can.sized few in let own = writer.share in let held = can.held in
+      record {
+        hands = λ e. absurd (cc e);
+        nothing = λ _. record { reader = refl; writer = refl; sink = refl };
+        keeps = record {
+          sized = can.sized;
+          stands = can.stands;
+          limits = refl;
+          failed = refl;
+          done = refl;
+          device = refl;
+          limit = refl;
+          writer = stays-well w pen pen from from m c can.writer.sound (refl, refl, refl) (refl, refl) (shrinks.refused ∙ grows.refused);
+          charges = charges-closed m b c (held_by r + w.own pen) (share_of r + w.most pen) (omega (arith, sized, own)) held grows shrinks;
+        };
+        goes = more-below (held_by r) (16 * (left_to r - left_to r));
+      }
+
+pushed-back : (frames new : List Frame) (f e : Frame) → frames ++ f ∷ [] ≡ new ++ e ∷ [] → new ≡ frames
+pushed-back frames new f e same = grind (arith, common_steps)
+
+-- what was pushed is popped
+pub popped : (frames new : List Frame) (f : Frame) (r : Option Frame) (b c : Counts) → MatchOption r ((frames ++ f ∷ [] ≡ []) × (new ≡ [])) (λ e. frames ++ f ∷ [] ≡ new ++ e ∷ [])
+    → MatchOption r (c ≡ b) (λ _. Shrinks b c 16) → (new ≡ frames) × Shrinks b c 16
+popped frames new f None b c items cost =
+    let none : length (frames ++ f ∷ []) ≡ 0 = ap (λ (l : List Frame). length l) items.0 in let long = length_push frames f in
+    absurd (omega (arith, none, long))
+popped frames new f (Some e) b c items cost = (pushed-back frames new f e items, cost)

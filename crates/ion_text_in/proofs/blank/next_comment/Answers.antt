@@ -1,4 +1,5 @@
-use Rattle.std.proofs.Common.{◌≡◌, ℕ, List, Some, slice_get, Ok, sym, ap, ◌∙◌}
+use Rattle.std.proofs.lemmas.Grind.{common_steps}
+use Rattle.std.proofs.Common.{◌≡◌, ℕ, List, Some, slice_get, Ok, sym, ap, ◌∙◌, arith}
 use Rattle.ion_meter.specs.Windows.{left}
 use Rattle.ion_meter.specs.Sources.{Cursor}
 use Rattle.ion_value.proofs.Cursors.{cursor-extends}
@@ -77,3 +78,18 @@ returns-clause-begins g c = λ h dark.
     ap (λ (l : List ℕ). slice_get l 1) (sym (kept.same_left h)) ∙ sym (peek.gives (kept.still_observable.1 h)) ∙ c.in-Ok-Some-peek.field-0-is in
     slash-other s.place c.in-Ok-Some-peek.byte bytes found second c.if-second-eq47.false c.if-second-eq42.false
     ∙ ap Ok (sym (cursor-extends g.I.Input s q (extends-then g.I.Input s p q kept peek.kept) h))
+
+pub returns-clause-reads : goal.returns-clause-reads
+returns-clause-reads g c = grind (arith, common_steps) steps 400000
+
+pub returns-in-Ok-None-clause-reads : goal.returns-in-Ok-None-clause-reads
+returns-in-Ok-None-clause-reads g c = grind (arith, common_steps) steps 400000
+
+pub returns-in-Ok-None-peek-clause-reads : goal.returns-in-Ok-None-peek-clause-reads
+returns-in-Ok-None-peek-clause-reads g c = grind (arith, common_steps) steps 400000
+
+pub returns-then-byte-ne47-clause-reads : goal.returns-then-byte-ne47-clause-reads
+returns-then-byte-ne47-clause-reads g c = grind (arith, common_steps) steps 400000
+
+pub returns-in-Err-peek-clause-reads : goal.returns-in-Err-peek-clause-reads
+returns-in-Err-peek-clause-reads g c = grind (arith, common_steps) steps 400000

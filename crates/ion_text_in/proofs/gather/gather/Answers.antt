@@ -90,3 +90,6 @@ parts-preserved g c =
           let far = moves-then g.I.Input s0 s p inv.passed.moves part.reads.moves in
           grows-over g.I.Input s0 p t m0 c.parts.meter c.append.new.meter (length text0) (length text) (length after) inv.held far added.reads.moves looked added.goes;
     }
+
+pub returns-in-Err-append-clause-goes : goal.returns-in-Err-append-clause-goes
+returns-in-Err-append-clause-goes g c = grind (arith, common_steps) steps 400000

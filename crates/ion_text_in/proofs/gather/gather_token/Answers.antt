@@ -1,3 +1,4 @@
+use Rattle.std.proofs.lemmas.Grind.{common_steps}
 use Rattle.std.proofs.Common.{◌≡◌, ◌≤◌, ◌∙◌, ap, sym, ℕ, List, ◌++◌, length, take, Some, arith}
 use Rattle.ion_meter.specs.Windows.{left, lent}
 use Rattle.ion_meter.specs.Sources.{Cursor, cursor, skip}
@@ -43,3 +44,18 @@ returns-clause-further g c = λ some.
     let place = c.in-Ok-Some.ensures.kept.place in
     let further = c.gather.ensures.reads.moves.further in
     on-ok c.gather.result (omega (arith, passed, place, further))
+
+pub append-requires-clause-there : goal.append-requires-clause-there
+append-requires-clause-there g c = grind (arith, common_steps) steps 400000
+
+pub returns-clause-goes : goal.returns-clause-goes
+returns-clause-goes g c = grind (arith, common_steps) steps 400000
+
+pub returns-in-Ok-None-clause-reads : goal.returns-in-Ok-None-clause-reads
+returns-in-Ok-None-clause-reads g c = grind (arith, common_steps) steps 400000
+
+pub returns-in-Err-clause-reads : goal.returns-in-Err-clause-reads
+returns-in-Err-clause-reads g c = grind (arith, common_steps) steps 400000
+
+pub returns-in-Err-append-clause-goes : goal.returns-in-Err-append-clause-goes
+returns-in-Err-append-clause-goes g c = grind (arith, common_steps) steps 400000

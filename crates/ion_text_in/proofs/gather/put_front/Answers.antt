@@ -1,3 +1,4 @@
+use Rattle.std.proofs.lemmas.Grind.{common_steps}
 use Rattle.std.proofs.Common.{◌≡◌, ◌+◌, ◌≤◌, ◌++◌, ℕ, List, length, take, ap, ◌∙◌, arith}
 use Rattle.std.proofs.lemmas.List.{length-append, length-take, length-take-le, take-take}
 use Rattle.std.proofs.Math.Seq.{take-append-add}
@@ -67,3 +68,12 @@ returns-then-len-limits-clause-goes g c =
       own = omega (arith, len, kept, most);
       peak = omega (arith, held, peak, cut, short, block);
     }
+
+pub returns-clause-grown : goal.returns-clause-grown
+returns-clause-grown g c = grind (arith, common_steps) steps 400000
+
+pub returns-clause-goes : goal.returns-clause-goes
+returns-clause-goes g c = grind (arith, common_steps) steps 400000
+
+pub truncate-requires : goal.truncate-requires
+truncate-requires g c = grind (arith, common_steps) steps 400000

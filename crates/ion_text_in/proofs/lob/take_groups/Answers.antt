@@ -48,3 +48,27 @@ returns-clause-goes g c =
     let spelled = ap (λ (l : List ℕ). length l) d.some ∙ length-encode_of (take n c.decode.new.room) in
     let few : n ≤ c.args.count = omega (arith, chars, long, spelled) in
     grind (arith, common_steps)
+
+pub returns-clause-none : goal.returns-clause-none
+returns-clause-none g c = grind (arith, common_steps) steps 400000
+
+pub returns-in-Err-clause-none : goal.returns-in-Err-clause-none
+returns-in-Err-clause-none g c = grind (arith, common_steps) steps 400000
+
+pub returns-in-Err-clause-goes : goal.returns-in-Err-clause-goes
+returns-in-Err-clause-goes g c = grind (arith, common_steps) steps 400000
+
+pub returns-clause-plain : goal.returns-clause-plain
+returns-clause-plain g c = grind (arith, common_steps) steps 400000
+
+pub returns-in_default-clause-reads : goal.returns-in_default-clause-reads
+returns-in_default-clause-reads g c = grind (arith, common_steps) steps 400000
+
+pub returns-then-left-n-clause-reads : goal.returns-then-left-n-clause-reads
+returns-then-left-n-clause-reads g c = grind (arith, common_steps) steps 400000
+
+pub returns-in-Err-clause-plain : goal.returns-in-Err-clause-plain
+returns-in-Err-clause-plain g c = grind (arith, common_steps) steps 400000
+
+pub returns-in-Err-clause-reads : goal.returns-in-Err-clause-reads
+returns-in-Err-clause-reads g c = grind (arith, common_steps) steps 400000

@@ -1,3 +1,4 @@
+use Rattle.std.proofs.lemmas.Grind.{common_steps}
 use mir.Syntax.{w32}
 use mir.Val.{SFits}
 use Rattle.std.proofs.lemmas.Int.{to_z-of_z}
@@ -52,3 +53,6 @@ quick_power-requires-clause-mantissa c =
     let within = rw rest at c.digit_run-places.ensures.within in
     let behind = digits-spell n fraction places within (omega arith) (rw rest at c.digit_run-places.ensures.digits) in
     rw is (pointed-mantissa digits n count (number_after n (take places fraction)) places (whole-spells digits count c.requires.whole) c.requires.point behind (omega arith) (omega arith) (omega arith))
+
+pub slice_bounds-number_after-end : goal.slice_bounds-number_after-end
+slice_bounds-number_after-end c = grind (arith, common_steps) steps 400000

@@ -1,3 +1,4 @@
+use Rattle.std.proofs.lemmas.Grind.{common_steps}
 use Rattle.std.proofs.Common.{◌≡◌, ◌<◌, ◌∙◌, ◌||◌, Bool, true, false, length, take, refl, sym, arith}
 use Rattle.std.specs.Str.{is_utf8}
 use Rattle.ion_text_in.specs.Quotes.{quote_of, mark_of}
@@ -60,3 +61,12 @@ returns-clause-shows c =
       λ place more. text-shown c.args.quote c.args.limit place n c.args.bytes.now more (sym c.is_long.ensures ∙ c.if-is_long.false) c.plain_length-plain.ensures.plain there
           (c.if-bytes-plain.false ∙ c.mark.ensures) c.if-limit-plain.false good,
     )
+
+pub returns-then-limit-plain-clause-known : goal.returns-then-limit-plain-clause-known
+returns-then-limit-plain-clause-known c = grind (arith, common_steps) steps 400000
+
+pub returns-then-not-front_is_text-clause-known : goal.returns-then-not-front_is_text-clause-known
+returns-then-not-front_is_text-clause-known c = grind (arith, common_steps) steps 400000
+
+pub returns-clause-known : goal.returns-clause-known
+returns-clause-known c = grind (arith, common_steps) steps 400000

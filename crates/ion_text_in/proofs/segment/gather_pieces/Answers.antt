@@ -1,3 +1,4 @@
+use Rattle.std.proofs.lemmas.Grind.{common_steps}
 use Rattle.std.proofs.Common.{◌≡◌, ℕ, ◌+◌, ◌-◌, ◌<◌, ◌≤◌, ◌++◌, ◌∙◌, List, length, None, Ok, Err, refl, sym, ap, subst, arith}
 use Rattle.std.proofs.lemmas.List.{length-append}
 use Rattle.ion_meter.specs.Windows.{left}
@@ -137,3 +138,18 @@ pieces-preserved g c =
           ∙ ap (λ (d : Cursor). onward q most (c.take_plain.new.text ++ bytes_of_piece c.in-Ok.piece) d) (sym (c.in-Ok.ensures.behind ht))
           ∙ ap (λ (l : List ℕ). onward q most l (cursor device u)) (sym puts.0);
     }
+
+pub returns-in-Illegal-clause-goes : goal.returns-in-Illegal-clause-goes
+returns-in-Illegal-clause-goes g c = grind (arith, common_steps) steps 400000
+
+pub put_piece-requires : goal.put_piece-requires
+put_piece-requires g c = grind (arith, common_steps) steps 400000
+
+pub returns-in-Close-clause-goes : goal.returns-in-Close-clause-goes
+returns-in-Close-clause-goes g c = grind (arith, common_steps) steps 400000
+
+pub returns-in-Err-next_piece-clause-goes : goal.returns-in-Err-next_piece-clause-goes
+returns-in-Err-next_piece-clause-goes g c = grind (arith, common_steps) steps 400000
+
+pub returns-in-Cut-clause-goes : goal.returns-in-Cut-clause-goes
+returns-in-Cut-clause-goes g c = grind (arith, common_steps) steps 400000

@@ -1,4 +1,5 @@
-use Rattle.std.proofs.Common.{◌≡◌, ℕ, ◌∙◌, List, Bool, length, Some, None, Ok, sym, ap}
+use Rattle.std.proofs.lemmas.Grind.{common_steps}
+use Rattle.std.proofs.Common.{◌≡◌, ℕ, ◌∙◌, List, Bool, length, Some, None, Ok, sym, ap, arith}
 use Rattle.ion_meter.specs.Sources.{Cursor, cursor, skip}
 use Rattle.ion_text_in.specs.Overrun.{overrun}
 use Rattle.ion_text_in.specs.Quoted.{text_at}
@@ -93,3 +94,9 @@ segments-preserved g c =
           (next-some c.args.quote (cursor device t) (cursor device u) c.requires.long behind some.0)
           ∙ ap (λ (d : Cursor). behind_text q most c.next_segment.new.text d) (sym some.1);
     }
+
+pub returns-in-Ok-false-clause-goes : goal.returns-in-Ok-false-clause-goes
+returns-in-Ok-false-clause-goes g c = grind (arith, common_steps) steps 400000
+
+pub returns-in-Err-pass_quotes-clause-goes : goal.returns-in-Err-pass_quotes-clause-goes
+returns-in-Err-pass_quotes-clause-goes g c = grind (arith, common_steps) steps 400000

@@ -48,3 +48,6 @@ returns-in-Nothing-clause-gives g c = λ h.
 
 pub returns-in-Colons-clause-reads : goal.returns-in-Colons-clause-reads
 returns-in-Colons-clause-reads g c = grind (arith, common_steps)
+
+pub returns-in-Nothing-clause-reads : goal.returns-in-Nothing-clause-reads
+returns-in-Nothing-clause-reads g c = grind (arith, common_steps) steps 400000

@@ -1,3 +1,4 @@
+use Rattle.std.proofs.lemmas.Grind.{common_steps}
 use Rattle.std.proofs.Common.{◌≡◌, ◌∙◌, ◌<◌, ◌++◌, ◌∷◌, ◌+◌, [], false, List, length, reverse, refl, sym, ap, subst, arith}
 use Rattle.std.proofs.lemmas.List.{length-append, length-reverse, reverse-append}
 use Rattle.ion_value.specs.declared.ion_type.Kind.{Kind}
@@ -85,3 +86,12 @@ returns-clause-goes g c =
     let behind = c.requires.found.head.fewer in
     let before = (c.requires.start.read.onward (reverse a.kinds.now) c.requires.can.expects).fewer in
     omega (arith, added, long, behind, before)
+
+pub returns-then-not-take_plain-clause-falls : goal.returns-then-not-take_plain-clause-falls
+returns-then-not-take_plain-clause-falls g c = grind (arith, common_steps) steps 400000
+
+pub take_plain-requires-clause-countable : goal.take_plain-requires-clause-countable
+take_plain-requires-clause-countable g c = grind (arith, common_steps) steps 400000
+
+pub returns-then-not-take_plain-clause-goes : goal.returns-then-not-take_plain-clause-goes
+returns-then-not-take_plain-clause-goes g c = grind (arith, common_steps)

@@ -1,3 +1,4 @@
+use Rattle.std.proofs.lemmas.Grind.{common_steps}
 use Rattle.std.proofs.Common.{◌∙◌, Option, ℕ, refl, ap, sym, subst, arith}
 use Rattle.ion_meter.specs.declared.fault.Reason.TheVariants.{Truncated}
 use Rattle.ion_value.specs.Shares.{GoesWithReading}
@@ -124,3 +125,9 @@ returns-in-Ok-Item-clause-goes g c =
     let e = c.in-Ok-Item.ensures in
     grows-read g.I.Input c.args.self.now.source c.loop-fault.self.source c.step.new.self.source c.args.meter.now c.loop-fault.meter c.step.new.meter (held_by c.args.self.now)
     (held_by c.loop-fault.self) (held_by c.step.new.self) inv.reached.held.charges.held inv.reached.held.moves e.stepped.reads.moves inv.grows e.goes
+
+pub returns-in-Ok-Ended-clause-falls : goal.returns-in-Ok-Ended-clause-falls
+returns-in-Ok-Ended-clause-falls g c = grind (arith, common_steps) steps 400000
+
+pub returns-in-Err-clause-falls : goal.returns-in-Err-clause-falls
+returns-in-Err-clause-falls g c = grind (arith, common_steps) steps 400000

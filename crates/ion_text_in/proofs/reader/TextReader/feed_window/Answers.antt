@@ -1,3 +1,4 @@
+use Rattle.std.proofs.lemmas.Grind.{common_steps}
 use Rattle.std.proofs.Common.{◌≡◌, ◌∙◌, ◌+◌, ◌-◌, List, ℕ, length, reverse, refl, sym, ap, subst, arith}
 use Rattle.ion_value.specs.declared.ion_type.Kind.{Kind}
 use Rattle.ion_text_in.specs.declared.expected.Expected.{Expected}
@@ -47,3 +48,9 @@ returns-clause-moved g c =
     subst (λ (k : Kind). MovedBy w r.limits (window_end r.source) texts first (record last { rest = lent t; expected = c.expected_in-self.result; kind = k })) (sym moved.kind)
     (subst (λ (e : Expected). MovedBy w r.limits (window_end r.source) texts first (record last { rest = lent t; expected = e })) (sym c.expected_in-self.ensures)
     (moved-window w r.limits r.source t end first last c.requires.stands refl (omega (arith, c.place.ensures, long)) moved passed))
+
+pub consume-requires : goal.consume-requires
+consume-requires g c = grind (arith, common_steps) steps 400000
+
+pub returns-clause-passed : goal.returns-clause-passed
+returns-clause-passed g c = grind (arith, common_steps) steps 400000

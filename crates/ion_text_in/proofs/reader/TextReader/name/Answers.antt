@@ -1,4 +1,5 @@
-use Rattle.std.proofs.Common.{◌∙◌, refl}
+use Rattle.std.proofs.lemmas.Grind.{common_steps}
+use Rattle.std.proofs.Common.{◌∙◌, refl, arith}
 use Rattle.ion_meter.specs.Sources.{cursor}
 use Rattle.ion_text_in.specs.Token as tokens
 use Rattle.ion_text_in.specs.Views.{word_token_of}
@@ -21,3 +22,9 @@ returns-in-Err-clause-gives g c = λ h.
     let r = c.args.self.now in
     token-failed g.I.Input r (record r { source = c.next_word.new.source; name = c.next_word.new.text }) tokens.a_word (word_token_of c.next_word.new.text) c.in-Err.fault (cursor g.I.Input c.next_word.new.source)
     (may-name r c.requires.field) (c.in-Err.ensures.gives h)
+
+pub returns-in-Err-clause-stepped : goal.returns-in-Err-clause-stepped
+returns-in-Err-clause-stepped g c = grind (arith, common_steps) steps 400000
+
+pub word_field-requires-clause-can_step : goal.word_field-requires-clause-can_step
+word_field-requires-clause-can_step g c = grind (arith, common_steps) steps 400000

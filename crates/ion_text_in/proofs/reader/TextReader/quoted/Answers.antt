@@ -1,4 +1,5 @@
-use Rattle.std.proofs.Common.{◌∙◌, sym, refl, true}
+use Rattle.std.proofs.lemmas.Grind.{common_steps}
+use Rattle.std.proofs.Common.{◌∙◌, sym, refl, true, arith}
 use Rattle.ion_meter.specs.Sources.{cursor}
 use Rattle.ion_value.specs.Value as value
 use Rattle.ion_text_in.specs.Token as tokens
@@ -14,3 +15,18 @@ returns-in-Ok-clause-gives g c = λ h.
     (part-taken g.I.Input r tokens.a_quoted (tokens.name true (value.Text c.next_quoted_symbol.new.text)) c.place-place.result d
     (sym (c.may_come.ensures (field_in r) (annotations_in r)) ∙ c.if-not-may_come.false) c.place-place.ensures (c.in-Ok.ensures.gives h))
     (c.take.ensures.gives (c.in-Ok.ensures.reads.moves.still_observable.1 h) d refl)
+
+pub returns-in-Err-clause-gives : goal.returns-in-Err-clause-gives
+returns-in-Err-clause-gives g c = grind (arith, common_steps) steps 400000
+
+pub returns-in-Err-clause-stepped : goal.returns-in-Err-clause-stepped
+returns-in-Err-clause-stepped g c = grind (arith, common_steps) steps 400000
+
+pub returns-in-Ok-clause-goes : goal.returns-in-Ok-clause-goes
+returns-in-Ok-clause-goes g c = grind (arith, common_steps) steps 400000
+
+pub returns-then-not-may_come-clause-stepped : goal.returns-then-not-may_come-clause-stepped
+returns-then-not-may_come-clause-stepped g c = grind (arith, common_steps) steps 400000
+
+pub take-requires-clause-can_step : goal.take-requires-clause-can_step
+take-requires-clause-can_step g c = grind (arith, common_steps) steps 400000

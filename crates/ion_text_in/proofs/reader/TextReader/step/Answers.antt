@@ -1,3 +1,4 @@
+use Rattle.std.proofs.lemmas.Grind.{common_steps}
 use Rattle.std.proofs.Common.{◌≡◌, ◌∙◌, ℕ, ◌<◌, ◌≤◌, Bool, List, [], length, sym, ap, arith}
 use Rattle.ion_meter.specs.Sources.{Cursor, cursor}
 use Rattle.ion_meter.specs.Windows.{left, lent}
@@ -70,3 +71,18 @@ returns-in-Ok-Some-next_first-clause-gives g c = λ h.
     (ap (λ (b : Bool). first_at b (left device.rest s)) (sym c.in_sexp-in_sexp.ensures) ∙ found)
     ∙ ap (λ (x : Cursor). comes r.limits (part_from r.limits (state_at x r) x (first_of first))) (sym here))
     (c.part.ensures.gives ht)
+
+pub returns-in-Err-clause-stepped : goal.returns-in-Err-clause-stepped
+returns-in-Err-clause-stepped g c = grind (arith, common_steps) steps 400000
+
+pub returns-in-Err-next_first-clause-stepped : goal.returns-in-Err-next_first-clause-stepped
+returns-in-Err-next_first-clause-stepped g c = grind (arith, common_steps) steps 400000
+
+pub returns-in-Ok-Some-next_first-clause-further : goal.returns-in-Ok-Some-next_first-clause-further
+returns-in-Ok-Some-next_first-clause-further g c = grind (arith, common_steps) steps 400000
+
+pub returns-in-Err-next_first-clause-further : goal.returns-in-Err-next_first-clause-further
+returns-in-Err-next_first-clause-further g c = grind (arith, common_steps) steps 400000
+
+pub returns-in-Ok-Some-clause-stepped : goal.returns-in-Ok-Some-clause-stepped
+returns-in-Ok-Some-clause-stepped g c = grind (arith, common_steps) steps 400000

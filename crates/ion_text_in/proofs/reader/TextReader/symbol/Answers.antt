@@ -1,4 +1,5 @@
-use Rattle.std.proofs.Common.{◌≡◌, ◌∙◌, ℕ, Bool, List, [], ◌++◌, Option, None, Ok, MatchOption, sym, ap, subst}
+use Rattle.std.proofs.lemmas.Grind.{common_steps}
+use Rattle.std.proofs.Common.{◌≡◌, ◌∙◌, ℕ, Bool, List, [], ◌++◌, Option, None, Ok, MatchOption, sym, ap, subst, arith}
 use Rattle.ion_meter.specs.Sources.{Cursor, cursor, skip}
 use Rattle.ion_meter.specs.Windows.{left}
 use Rattle.ion_text_in.specs.declared.first.First as code_first
@@ -82,3 +83,12 @@ returns-clause-stepped g c =
     let two = reached-look device mid t m c.in-Ok-next_first.found one.sized can.held c.in-Ok-next_first.ensures.reads in
     let both = reached-then device r mid last m m m can.held one two in
     stepped-behind device step_result.Item r last c.symbol_value-2.new.self m m m c.symbol_value-2.result can.held both (c.symbol_value-2.ensures.stepped m can.held)
+
+pub returns-in-Err-clause-stepped : goal.returns-in-Err-clause-stepped
+returns-in-Err-clause-stepped g c = grind (arith, common_steps) steps 400000
+
+pub returns-in-Err-clause-gives : goal.returns-in-Err-clause-gives
+returns-in-Err-clause-gives g c = grind (arith, common_steps) steps 400000
+
+pub returns-clause-goes : goal.returns-clause-goes
+returns-clause-goes g c = grind (arith, common_steps)

@@ -114,3 +114,6 @@ returns-in-Ok-true-clause-plain g c = grind (arith, common_steps) steps 400000
 
 pub block-smaller : goal.block-smaller
 block-smaller g c = grind (arith, common_steps) steps 400000
+
+pub returns-in-Err-pass_star-clause-plain : goal.returns-in-Err-pass_star-clause-plain
+returns-in-Err-pass_star-clause-plain g c = grind (arith, common_steps)

@@ -101,3 +101,12 @@ returns-then-not-take_plain-clause-goes g c = grind (arith, common_steps)
 
 pub returns-then-not-push_within-clause-goes : goal.returns-then-not-push_within-clause-goes
 returns-then-not-push_within-clause-goes g c = grind (arith, common_steps) steps 400000
+
+pub take_plain-requires-clause-path : goal.take_plain-requires-clause-path
+take_plain-requires-clause-path g c = grind (arith, common_steps)
+
+pub pop-opened-requires : goal.pop-opened-requires
+pop-opened-requires g c = grind (arith, common_steps)
+
+pub returns-clause-falls : goal.returns-clause-falls
+returns-clause-falls g c = grind (arith, common_steps)

@@ -63,3 +63,6 @@ pass_value-requires-clause-inside g c = grind (arith, common_steps) steps 400000
 
 pub returns-then-not-take_plain-clause-falls : goal.returns-then-not-take_plain-clause-falls
 returns-then-not-take_plain-clause-falls g c = grind (arith, common_steps) steps 400000
+
+pub returns-clause-falls : goal.returns-clause-falls
+returns-clause-falls g c = grind (arith, common_steps)

@@ -93,3 +93,9 @@ parts-preserved g c =
 
 pub returns-in-Err-append-clause-goes : goal.returns-in-Err-append-clause-goes
 returns-in-Err-append-clause-goes g c = grind (arith, common_steps) steps 400000
+
+pub parts-smaller : goal.parts-smaller
+parts-smaller g c = grind (arith, common_steps)
+
+pub returns-in-Err-clause-reads : goal.returns-in-Err-clause-reads
+returns-in-Err-clause-reads g c = grind (arith, common_steps)

@@ -10,3 +10,6 @@ groups-init g c = grind (arith, common_steps) steps 400000
 
 pub returns-in-Ok-None-clause-goes : goal.returns-in-Ok-None-clause-goes
 returns-in-Ok-None-clause-goes g c = grind (arith, common_steps) steps 400000
+
+pub returns-in-Err-take_group-clause-goes : goal.returns-in-Err-take_group-clause-goes
+returns-in-Err-take_group-clause-goes g c = grind (arith, common_steps)

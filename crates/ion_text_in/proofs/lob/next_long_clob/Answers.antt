@@ -41,3 +41,12 @@ returns-in-Err-pass_braces-clause-gives g c = λ h.
 
 pub returns-in-Ok-true-clause-reads : goal.returns-in-Ok-true-clause-reads
 returns-in-Ok-true-clause-reads g c = grind (arith, common_steps) steps 400000
+
+pub returns-in-Err-are_cut_quotes-clause-reads : goal.returns-in-Err-are_cut_quotes-clause-reads
+returns-in-Err-are_cut_quotes-clause-reads g c = grind (arith, common_steps)
+
+pub returns-in-Err-pass_braces-clause-reads : goal.returns-in-Err-pass_braces-clause-reads
+returns-in-Err-pass_braces-clause-reads g c = grind (arith, common_steps)
+
+pub returns-clause-reads : goal.returns-clause-reads
+returns-clause-reads g c = grind (arith, common_steps)

@@ -16,3 +16,9 @@ returns-then-count-eq0-clause-reads g c = grind (arith, common_steps) steps 4000
 
 pub returns-in-Ok-None-clause-plain : goal.returns-in-Ok-None-clause-plain
 returns-in-Ok-None-clause-plain g c = grind (arith, common_steps) steps 400000
+
+pub returns-in-Err-clause-plain : goal.returns-in-Err-clause-plain
+returns-in-Err-clause-plain g c = grind (arith, common_steps)
+
+pub returns-in-Ok-None-clause-reads : goal.returns-in-Ok-None-clause-reads
+returns-in-Ok-None-clause-reads g c = grind (arith, common_steps)

@@ -72,3 +72,9 @@ returns-in-Err-clause-plain g c = grind (arith, common_steps) steps 400000
 
 pub returns-in-Err-clause-reads : goal.returns-in-Err-clause-reads
 returns-in-Err-clause-reads g c = grind (arith, common_steps) steps 400000
+
+pub extend-requires-clause-room : goal.extend-requires-clause-room
+extend-requires-clause-room g c = grind (arith, common_steps)
+
+pub slice_bounds-extend-end-2 : goal.slice_bounds-extend-end-2
+slice_bounds-extend-end-2 g c = grind (arith, common_steps)

@@ -19,3 +19,9 @@ digit-requires-in-len3 c = grind (arith, common_steps) steps 400000
 
 pub pair-requires-in-len3-clause-ones : goal.pair-requires-in-len3-clause-ones
 pair-requires-in-len3-clause-ones c = grind (arith, common_steps) steps 400000
+
+pub returns-in-len2 : goal.returns-in-len2
+returns-in-len2 c = grind (arith, common_steps)
+
+pub returns-in-len3 : goal.returns-in-len3
+returns-in-len3 c = grind (arith, common_steps)

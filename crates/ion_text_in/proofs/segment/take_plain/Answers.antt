@@ -52,3 +52,6 @@ returns-clause-reads g c = grind (arith, common_steps) steps 400000
 
 pub returns-clause-longer : goal.returns-clause-longer
 returns-clause-longer g c = grind (arith, common_steps) steps 400000
+
+pub returns-in-Err-clause-reads : goal.returns-in-Err-clause-reads
+returns-in-Err-clause-reads g c = grind (arith, common_steps)

@@ -100,3 +100,6 @@ returns-in-Ok-false-clause-goes g c = grind (arith, common_steps) steps 400000
 
 pub returns-in-Err-pass_quotes-clause-goes : goal.returns-in-Err-pass_quotes-clause-goes
 returns-in-Err-pass_quotes-clause-goes g c = grind (arith, common_steps) steps 400000
+
+pub segments-init : goal.segments-init
+segments-init g c = grind (arith, common_steps)

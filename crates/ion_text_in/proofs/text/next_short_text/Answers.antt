@@ -47,3 +47,15 @@ returns-in-Err-clause-reads g c = grind (arith, common_steps) steps 400000
 
 pub returns-in-Fault-clause-reads : goal.returns-in-Fault-clause-reads
 returns-in-Fault-clause-reads g c = grind (arith, common_steps) steps 400000
+
+pub returns-in_default-clause-fresh : goal.returns-in_default-clause-fresh
+returns-in_default-clause-fresh g c = grind (arith, common_steps)
+
+pub returns-in-Cut-clause-reads : goal.returns-in-Cut-clause-reads
+returns-in-Cut-clause-reads g c = grind (arith, common_steps)
+
+pub consume-requires : goal.consume-requires
+consume-requires g c = grind (arith, common_steps)
+
+pub returns-in_default-clause-goes : goal.returns-in_default-clause-goes
+returns-in_default-clause-goes g c = grind (arith, common_steps)

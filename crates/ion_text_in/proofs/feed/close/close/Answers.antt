@@ -65,3 +65,9 @@ returns-then-not-take_plain-clause-falls g c = grind (arith, common_steps) steps
 
 pub behind-requires : goal.behind-requires
 behind-requires g c = grind (arith, common_steps) steps 400000
+
+pub returns-clause-falls : goal.returns-clause-falls
+returns-clause-falls g c = grind (arith, common_steps)
+
+pub take_plain-requires-clause-path : goal.take_plain-requires-clause-path
+take_plain-requires-clause-path g c = grind (arith, common_steps)

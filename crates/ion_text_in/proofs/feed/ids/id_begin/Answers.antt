@@ -95,3 +95,21 @@ take_plain-requires-clause-countable g c = grind (arith, common_steps) steps 400
 
 pub returns-then-not-take_plain-clause-goes : goal.returns-then-not-take_plain-clause-goes
 returns-then-not-take_plain-clause-goes g c = grind (arith, common_steps)
+
+pub take_plain-requires-clause-held : goal.take_plain-requires-clause-held
+take_plain-requires-clause-held g c = grind (arith, common_steps)
+
+pub returns-then-not-push_within-clause-goes : goal.returns-then-not-push_within-clause-goes
+returns-then-not-push_within-clause-goes g c = grind (arith, common_steps)
+
+pub take_plain-requires-clause-room : goal.take_plain-requires-clause-room
+take_plain-requires-clause-room g c = grind (arith, common_steps)
+
+pub take_plain-requires-clause-path : goal.take_plain-requires-clause-path
+take_plain-requires-clause-path g c = grind (arith, common_steps)
+
+pub returns-clause-falls : goal.returns-clause-falls
+returns-clause-falls g c = grind (arith, common_steps)
+
+pub pop-opened-requires : goal.pop-opened-requires
+pop-opened-requires g c = grind (arith, common_steps)

@@ -67,3 +67,6 @@ returns-then-not-take_plain-clause-falls g c = grind (arith, common_steps) steps
 
 pub pass_value-requires-clause-inside : goal.pass_value-requires-clause-inside
 pass_value-requires-clause-inside g c = grind (arith, common_steps) steps 400000
+
+pub returns-clause-falls : goal.returns-clause-falls
+returns-clause-falls g c = grind (arith, common_steps)

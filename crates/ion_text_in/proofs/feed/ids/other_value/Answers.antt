@@ -21,3 +21,6 @@ returns-in_default-clause-moved g c =
 
 pub returns-in-Begin-clause-falls : goal.returns-in-Begin-clause-falls
 returns-in-Begin-clause-falls g c = grind (arith, common_steps) steps 400000
+
+pub returns-in_default-head : goal.returns-in_default-head
+returns-in_default-head g c = grind (arith, common_steps)

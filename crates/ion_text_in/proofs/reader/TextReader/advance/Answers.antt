@@ -131,3 +131,6 @@ returns-in-Ok-Ended-clause-falls g c = grind (arith, common_steps) steps 400000
 
 pub returns-in-Err-clause-falls : goal.returns-in-Err-clause-falls
 returns-in-Err-clause-falls g c = grind (arith, common_steps) steps 400000
+
+pub loop-fault-smaller : goal.loop-fault-smaller
+loop-fault-smaller g c = grind (arith, common_steps)

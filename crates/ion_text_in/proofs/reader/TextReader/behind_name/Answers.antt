@@ -61,3 +61,9 @@ returns-in-Ok-Some-clause-stepped g c = grind (arith, common_steps) steps 400000
 
 pub returns-in-Ok-None-next_first-clause-stepped : goal.returns-in-Ok-None-next_first-clause-stepped
 returns-in-Ok-None-next_first-clause-stepped g c = grind (arith, common_steps) steps 400000
+
+pub returns-in-Err-next_first-clause-gives : goal.returns-in-Err-next_first-clause-gives
+returns-in-Err-next_first-clause-gives g c = grind (arith, common_steps)
+
+pub at_colon-requires-clause-there : goal.at_colon-requires-clause-there
+at_colon-requires-clause-there g c = grind (arith, common_steps)

@@ -19,3 +19,9 @@ returns-in_default-clause-stepped g c = grind (arith, common_steps) steps 400000
 
 pub returns-then-not-is_same-clause-stepped : goal.returns-then-not-is_same-clause-stepped
 returns-then-not-is_same-clause-stepped g c = grind (arith, common_steps) steps 400000
+
+pub returns-clause-goes : goal.returns-clause-goes
+returns-clause-goes g c = grind (arith, common_steps)
+
+pub returns-clause-stepped : goal.returns-clause-stepped
+returns-clause-stepped g c = grind (arith, common_steps)

@@ -54,3 +54,6 @@ consume-requires g c = grind (arith, common_steps) steps 400000
 
 pub returns-clause-passed : goal.returns-clause-passed
 returns-clause-passed g c = grind (arith, common_steps) steps 400000
+
+pub returns-clause-goes : goal.returns-clause-goes
+returns-clause-goes g c = grind (arith, common_steps)

@@ -86,3 +86,6 @@ returns-in-Err-next_first-clause-further g c = grind (arith, common_steps) steps
 
 pub returns-in-Ok-Some-clause-stepped : goal.returns-in-Ok-Some-clause-stepped
 returns-in-Ok-Some-clause-stepped g c = grind (arith, common_steps) steps 400000
+
+pub part-requires-clause-there : goal.part-requires-clause-there
+part-requires-clause-there g c = grind (arith, common_steps)

@@ -92,3 +92,12 @@ returns-in-Err-clause-gives g c = grind (arith, common_steps) steps 400000
 
 pub returns-clause-goes : goal.returns-clause-goes
 returns-clause-goes g c = grind (arith, common_steps)
+
+pub returns-in-Err-next_first-clause-gives : goal.returns-in-Err-next_first-clause-gives
+returns-in-Err-next_first-clause-gives g c = grind (arith, common_steps)
+
+pub annotate-requires-clause-colons : goal.annotate-requires-clause-colons
+annotate-requires-clause-colons g c = grind (arith, common_steps)
+
+pub returns-in-Err-next_first-clause-stepped : goal.returns-in-Err-next_first-clause-stepped
+returns-in-Err-next_first-clause-stepped g c = grind (arith, common_steps)

@@ -6,3 +6,7 @@ use Rattle.ion_text_in.proofs.reader.TextReader.take_field.Goals as goal
 pub returns-in-String-Some-clause-stepped : goal.returns-in-String-Some-clause-stepped
 unfolding take
 returns-in-String-Some-clause-stepped g c = grind (arith, common_steps) steps 400000
+
+pub returns-in_default : goal.returns-in_default
+unfolding take
+returns-in_default g c = grind (arith, common_steps)

@@ -20,3 +20,7 @@ returns-in-Comma-clause-gives g c = λ h d blank.
 pub returns-in-Comma-clause-stepped : goal.returns-in-Comma-clause-stepped
 unfolding take
 returns-in-Comma-clause-stepped g c = grind (arith, common_steps) steps 400000
+
+pub returns-in_default : goal.returns-in_default
+unfolding take
+returns-in_default g c = grind (arith, common_steps)

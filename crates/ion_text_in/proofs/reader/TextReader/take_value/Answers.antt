@@ -14,3 +14,7 @@ returns-in-Symbol-clause-goes g c = grind (arith, common_steps) steps 400000
 pub returns-in-NoNumber-clause-stepped : goal.returns-in-NoNumber-clause-stepped
 unfolding take
 returns-in-NoNumber-clause-stepped g c = grind (arith, common_steps) steps 400000
+
+pub returns-in_default-clause-stepped : goal.returns-in_default-clause-stepped
+unfolding take
+returns-in_default-clause-stepped g c = grind (arith, common_steps)

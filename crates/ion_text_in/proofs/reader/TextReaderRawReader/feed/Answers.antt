@@ -70,3 +70,12 @@ returns-then-self-clause-level g c = grind (arith, common_steps) steps 400000
 
 pub returns-clause-goes : goal.returns-clause-goes
 returns-clause-goes g c = grind (arith, common_steps) steps 400000
+
+pub returns-clause-level : goal.returns-clause-level
+returns-clause-level g c = grind (arith, common_steps)
+
+pub feed_window-values-requires-clause-can : goal.feed_window-values-requires-clause-can
+feed_window-values-requires-clause-can g c = grind (arith, common_steps)
+
+pub returns-clause-exceeds : goal.returns-clause-exceeds
+returns-clause-exceeds g c = grind (arith, common_steps)

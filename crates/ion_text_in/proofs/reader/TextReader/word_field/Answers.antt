@@ -1,0 +1,8 @@
+use Rattle.std.proofs.Common.{arith}
+use Rattle.std.proofs.lemmas.Grind.{common_steps}
+use Rattle.ion_text_in.specs.Reading.{take}
+use Rattle.ion_text_in.proofs.reader.TextReader.word_field.Goals as goal
+
+pub returns-in_default : goal.returns-in_default
+unfolding take
+returns-in_default g c = grind (arith, common_steps)

@@ -78,6 +78,10 @@ pub held-into : {I T : Type 0} (device : InputOf I) (s t : Incoming I) (a b : Co
 held-into device s t a b k l most (Ok x) h = record { stands = h.stands refl; moves = h.moves; causes = h.causes; charges = h.charges }
 held-into device s t a b k l most (Err f) h = record { stands = tt; moves = h.moves; causes = h.causes; charges = h.charges }
 
+-- no fault is none that there is
+pub none-some : {Y : Type 0} {y : Y} → None ≡ Some y → ⊥
+none-some e = cc e
+
 -- what was held so far, and then a call
 pub reads-then : {I T : Type 0} (device : InputOf I) (s t u : Incoming I) (a b c : Counts) (k l n most : ℕ) (r : Result T Fault) → k ≤ a.held → Held device s t a b k l most None → ReadsInto device t u b c l n most r
     → ReadsInto device s u a c k n most r

@@ -2,6 +2,7 @@ use Rattle.std.proofs.lemmas.Grind.{common_steps}
 use Rattle.std.proofs.Common.{◌≡◌, ◌+◌, ◌≤◌, ◌++◌, ℕ, List, length, take, ap, ◌∙◌, arith}
 use Rattle.std.proofs.lemmas.List.{length-append, length-take, length-take-le, take-take}
 use Rattle.std.proofs.Math.Seq.{take-append-add}
+use Rattle.ion_text_in.proofs.Holding.{none-some}
 use Rattle.ion_text_in.proofs.gather.put_front.Goals as goal
 
 -- of those behind a list and a block, the list and so many are kept
@@ -47,11 +48,11 @@ returns-then-len-limits-clause-grown g c =
         peak = omega (arith, len, block, held, peak, still, fits, holds);
         rises = omega (arith, peak, still);
       };
-      memory = λ e. absurd (cc e);
+      memory = λ e. absurd (none-some e);
       counted = λ _. c.truncate.ensures.cost.refused ∙ c.in_default.ensures.cost.refused;
-      no_reads = λ e. cc e;
-      no_writes = λ e. cc e;
-      no_limit = λ e. cc e;
+      no_reads = λ e. none-some e;
+      no_writes = λ e. none-some e;
+      no_limit = λ e. none-some e;
     }
 
 pub returns-then-len-limits-clause-goes : goal.returns-then-len-limits-clause-goes

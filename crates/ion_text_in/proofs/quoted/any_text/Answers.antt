@@ -1,5 +1,6 @@
 use Rattle.std.proofs.lemmas.Grind.{common_steps}
 use Rattle.std.proofs.Common.{◌≡◌, ◌<◌, ◌∙◌, ◌||◌, Bool, true, false, length, take, refl, sym, arith}
+use Rattle.std.proofs.lemmas.Bool.{false≢true}
 use Rattle.std.specs.Str.{is_utf8}
 use Rattle.ion_text_in.specs.Quotes.{quote_of, mark_of}
 use Rattle.ion_text_in.proofs.ScannedTexts.{text-shown, text-bad, text-over, ends-unclosed, stops-unclosed}
@@ -21,7 +22,7 @@ returns-then-is_long-clause-known c = λ _ short.
       plain = c.plain_length-plain.ensures.plain;
       ends = c.plain_length-plain.ensures.ends;
       unclosed = elim c.then-is_long.branch [
-        | then-is_long-via-then-is_long w ↦ absurd (cc (short, c.is_long.ensures, w.if-is_long.true))
+        | then-is_long-via-then-is_long w ↦ absurd (false≢true (sym short ∙ (sym c.is_long.ensures ∙ w.if-is_long.true)))
         | then-is_long-via-else-is_long+then-plain-bytes w ↦ ends-unclosed mark bytes n w.if-plain-bytes.true
         | then-is_long-via-else-is_long+else-plain-bytes+then-bytes-plain w ↦
             let there : n < length bytes = omega (arith, c.plain_length-plain.ensures.within, w.if-plain-bytes.false) in

@@ -101,3 +101,18 @@ annotate-requires-clause-colons g c = grind (arith, common_steps)
 
 pub returns-in-Err-next_first-clause-stepped : goal.returns-in-Err-next_first-clause-stepped
 returns-in-Err-next_first-clause-stepped g c = grind (arith, common_steps)
+
+pub returns-then-is_colons-clause-stepped : goal.returns-then-is_colons-clause-stepped
+returns-then-is_colons-clause-stepped g c =
+    let device = g.I.Input in
+    let r = c.args.self.now in
+    let s = c.pass_blanks.new.source in
+    let t = c.next_first.new.source in
+    let m = c.args.meter.now in
+    let can = c.requires.can_step in
+    let mid = record r { source = s } in
+    let last = record r { source = t } in
+    let one = reached-look device r s m c.in-Ok.unfinished can.sized can.held c.in-Ok.ensures.reads in
+    let two = reached-look device mid t m c.in-Ok-next_first.found one.sized can.held c.in-Ok-next_first.ensures.reads in
+    let both = reached-then device r mid last m m m can.held one two in
+    stepped-behind device step_result.Item r last c.annotate.new.self m m c.annotate.new.meter c.annotate.result can.held both c.annotate.ensures.stepped

@@ -1,3 +1,4 @@
+use Rattle.std.proofs.lemmas.Grind.{common_steps}
 use Rattle.std.proofs.Common.{arith, ap, sym, ◌∙◌, ◌≡◌, ◌+◌, ◌*◌, ◌-◌, ◌≤◌, [], length, Some, Err}
 use Rattle.std.proofs.lemmas.List.{length-append}
 use Rattle.ion_meter.specs.declared.fault.Reason.TheVariants.{AnnotationLimit}
@@ -81,3 +82,21 @@ loop-limits-preserved g c =
           inv.taken (omega (arith, c.loop-limits-test.true, c.place.ensures)) (o.gives (inv.moves.still_observable.1 t))
           (omega (arith, all, c.if-limits-as_slice.false)) c.id_of-id.ensures c.place-place.ensures c.in_default.ensures.ok;
     }
+
+pub returns-in-Err-push-clause-gives : goal.returns-in-Err-push-clause-gives
+returns-in-Err-push-clause-gives g c = grind (arith, common_steps) steps 400000
+
+pub returns-then-limits-as_slice-clause-reads : goal.returns-then-limits-as_slice-clause-reads
+returns-then-limits-as_slice-clause-reads g c = grind (arith, common_steps) steps 400000
+
+pub returns-in-Err-push-clause-reads : goal.returns-in-Err-push-clause-reads
+returns-in-Err-push-clause-reads g c = grind (arith, common_steps) steps 400000
+
+pub returns-clause-reads : goal.returns-clause-reads
+returns-clause-reads g c = grind (arith, common_steps) steps 400000
+
+pub returns-in-Err-push-clause-goes : goal.returns-in-Err-push-clause-goes
+returns-in-Err-push-clause-goes g c = grind (arith, common_steps) steps 400000
+
+pub push-requires-clause-room : goal.push-requires-clause-room
+push-requires-clause-room g c = grind (arith, common_steps) steps 400000

@@ -93,3 +93,36 @@ returns-then-byte-ne47-clause-reads g c = grind (arith, common_steps) steps 4000
 
 pub returns-in-Err-peek-clause-reads : goal.returns-in-Err-peek-clause-reads
 returns-in-Err-peek-clause-reads g c = grind (arith, common_steps) steps 400000
+
+pub returns-clause-plain : goal.returns-clause-plain
+returns-clause-plain g c = grind (arith, common_steps) steps 400000
+
+pub returns-in-Err-clause-reads : goal.returns-in-Err-clause-reads
+returns-in-Err-clause-reads g c = grind (arith, common_steps) steps 400000
+
+pub consume-requires : goal.consume-requires
+consume-requires g c = grind (arith, common_steps) steps 400000
+
+pub returns-in-Ok-None-clause-taken : goal.returns-in-Ok-None-clause-taken
+returns-in-Ok-None-clause-taken g c = grind (arith, common_steps) steps 400000
+
+pub returns-then-second-eq42-clause-plain : goal.returns-then-second-eq42-clause-plain
+returns-then-second-eq42-clause-plain g c = grind (arith, common_steps) steps 400000
+
+pub returns-clause-taken : goal.returns-clause-taken
+returns-clause-taken g c = grind (arith, common_steps) steps 400000
+
+pub returns-in-Err-peek-clause-plain : goal.returns-in-Err-peek-clause-plain
+returns-in-Err-peek-clause-plain g c = grind (arith, common_steps) steps 400000
+
+pub returns-in-Ok-None-peek-clause-taken : goal.returns-in-Ok-None-peek-clause-taken
+returns-in-Ok-None-peek-clause-taken g c = grind (arith, common_steps) steps 400000
+
+pub returns-in-Ok-None-peek-clause-plain : goal.returns-in-Ok-None-peek-clause-plain
+returns-in-Ok-None-peek-clause-plain g c = grind (arith, common_steps) steps 400000
+
+pub consume-requires-then-second-eq42 : goal.consume-requires-then-second-eq42
+consume-requires-then-second-eq42 g c = grind (arith, common_steps) steps 400000
+
+pub returns-then-second-eq47-clause-plain : goal.returns-then-second-eq47-clause-plain
+returns-then-second-eq47-clause-plain g c = grind (arith, common_steps) steps 400000

@@ -126,3 +126,15 @@ returns-in-Ok-false-clause-reads g c = grind (arith, common_steps) steps 400000
 
 pub returns-in-Err-pass_line-clause-reads : goal.returns-in-Err-pass_line-clause-reads
 returns-in-Err-pass_line-clause-reads g c = grind (arith, common_steps) steps 400000
+
+pub returns-in-Err-clause-reads : goal.returns-in-Err-clause-reads
+returns-in-Err-clause-reads g c = grind (arith, common_steps) steps 400000
+
+pub returns-in-Err-clause-plain : goal.returns-in-Err-clause-plain
+returns-in-Err-clause-plain g c = grind (arith, common_steps) steps 400000
+
+pub returns-in-Err-next_comment-clause-plain : goal.returns-in-Err-next_comment-clause-plain
+returns-in-Err-next_comment-clause-plain g c = grind (arith, common_steps) steps 400000
+
+pub returns-in-Ok-None-clause-plain : goal.returns-in-Ok-None-clause-plain
+returns-in-Ok-None-clause-plain g c = grind (arith, common_steps) steps 400000

@@ -66,3 +66,6 @@ line-smaller g c = grind (arith, common_steps) steps 400000
 
 pub returns-in-Ok-None-clause-reads : goal.returns-in-Ok-None-clause-reads
 returns-in-Ok-None-clause-reads g c = grind (arith, common_steps) steps 400000
+
+pub returns-then-line-bytes-clause-plain : goal.returns-then-line-bytes-clause-plain
+returns-then-line-bytes-clause-plain g c = grind (arith, common_steps) steps 400000

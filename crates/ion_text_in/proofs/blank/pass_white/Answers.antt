@@ -65,3 +65,6 @@ consume-requires g c = grind (arith, common_steps) steps 400000
 
 pub returns-in-Err-clause-reads : goal.returns-in-Err-clause-reads
 returns-in-Err-clause-reads g c = grind (arith, common_steps) steps 400000
+
+pub returns-then-ends-clause-plain : goal.returns-then-ends-clause-plain
+returns-then-ends-clause-plain g c = grind (arith, common_steps) steps 400000

@@ -13,3 +13,9 @@ returns-in-Begin-clause-falls g c = grind (arith, common_steps) steps 400000
 
 pub returns-in_default-head : goal.returns-in_default-head
 returns-in_default-head g c = grind (arith, common_steps)
+
+pub returns-in_default-clause-falls : goal.returns-in_default-clause-falls
+returns-in_default-clause-falls g c = grind (arith, common_steps) steps 400000
+
+pub returns-in-Begin-clause-goes : goal.returns-in-Begin-clause-goes
+returns-in-Begin-clause-goes g c = grind (arith, common_steps) steps 400000

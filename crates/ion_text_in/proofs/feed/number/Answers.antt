@@ -40,3 +40,21 @@ returns-in-None-clause-falls g c = grind (arith, common_steps) steps 400000
 
 pub returns-in_default-clause-falls : goal.returns-in_default-clause-falls
 returns-in_default-clause-falls g c = grind (arith, common_steps) steps 400000
+
+pub returns-in-Some-exponent-clause-goes : goal.returns-in-Some-exponent-clause-goes
+returns-in-Some-exponent-clause-goes g c = grind (arith, common_steps) steps 400000
+
+pub scalar-requires-clause-whole : goal.scalar-requires-clause-whole
+scalar-requires-clause-whole g c = grind (arith, common_steps) steps 400000
+
+pub scalar-requires-in-Some-exponent-clause-whole : goal.scalar-requires-in-Some-exponent-clause-whole
+scalar-requires-in-Some-exponent-clause-whole g c = grind (arith, common_steps) steps 400000
+
+pub returns-in-Some-exponent-clause-moved : goal.returns-in-Some-exponent-clause-moved
+returns-in-Some-exponent-clause-moved g c = grind (arith, common_steps) steps 400000
+
+pub returns-in-None-clause-goes : goal.returns-in-None-clause-goes
+returns-in-None-clause-goes g c = grind (arith, common_steps) steps 400000
+
+pub returns-in_default-clause-goes : goal.returns-in_default-clause-goes
+returns-in_default-clause-goes g c = grind (arith, common_steps) steps 400000

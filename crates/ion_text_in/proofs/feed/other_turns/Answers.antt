@@ -40,3 +40,9 @@ returns-then-not-is_dollar_near-clause-falls g c = grind (arith, common_steps) s
 
 pub returns-then-quoted_turn-clause-moved : goal.returns-then-quoted_turn-clause-moved
 returns-then-quoted_turn-clause-moved g c = grind (arith, common_steps) steps 400000
+
+pub returns-then-not-is_dollar_near-clause-goes : goal.returns-then-not-is_dollar_near-clause-goes
+returns-then-not-is_dollar_near-clause-goes g c = grind (arith, common_steps) steps 400000
+
+pub returns-then-quoted_turn-clause-goes : goal.returns-then-quoted_turn-clause-goes
+returns-then-quoted_turn-clause-goes g c = grind (arith, common_steps) steps 400000

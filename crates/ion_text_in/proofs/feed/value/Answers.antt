@@ -30,3 +30,39 @@ returns-in-Some-Begin-clause-falls g c = grind (arith, common_steps) steps 40000
 
 pub returns-in-Some-Word-clause-falls : goal.returns-in-Some-Word-clause-falls
 returns-in-Some-Word-clause-falls g c = grind (arith, common_steps) steps 400000
+
+pub returns-in-Some-Word-clause-goes : goal.returns-in-Some-Word-clause-goes
+returns-in-Some-Word-clause-goes g c = grind (arith, common_steps) steps 400000
+
+pub returns-in-Some-Number-clause-goes : goal.returns-in-Some-Number-clause-goes
+returns-in-Some-Number-clause-goes g c = grind (arith, common_steps) steps 400000
+
+pub returns-in-Some-QuotedSymbol-clause-moved : goal.returns-in-Some-QuotedSymbol-clause-moved
+returns-in-Some-QuotedSymbol-clause-moved g c = grind (arith, common_steps) steps 400000
+
+pub returns-in-Some-String-clause-goes : goal.returns-in-Some-String-clause-goes
+returns-in-Some-String-clause-goes g c = grind (arith, common_steps) steps 400000
+
+pub returns-in-Some-Begin-clause-moved : goal.returns-in-Some-Begin-clause-moved
+returns-in-Some-Begin-clause-moved g c = grind (arith, common_steps) steps 400000
+
+pub returns-in-Some-Word-clause-moved : goal.returns-in-Some-Word-clause-moved
+returns-in-Some-Word-clause-moved g c = grind (arith, common_steps) steps 400000
+
+pub returns-in_default-token-2-clause-falls : goal.returns-in_default-token-2-clause-falls
+returns-in_default-token-2-clause-falls g c = grind (arith, common_steps) steps 400000
+
+pub returns-in-Some-Number-clause-moved : goal.returns-in-Some-Number-clause-moved
+returns-in-Some-Number-clause-moved g c = grind (arith, common_steps) steps 400000
+
+pub returns-in-Some-QuotedSymbol-clause-goes : goal.returns-in-Some-QuotedSymbol-clause-goes
+returns-in-Some-QuotedSymbol-clause-goes g c = grind (arith, common_steps) steps 400000
+
+pub returns-in_default-token-clause-falls : goal.returns-in_default-token-clause-falls
+returns-in_default-token-clause-falls g c = grind (arith, common_steps) steps 400000
+
+pub returns-in_default-clause-falls : goal.returns-in_default-clause-falls
+returns-in_default-clause-falls g c = grind (arith, common_steps) steps 400000
+
+pub returns-in-Some-Begin-clause-goes : goal.returns-in-Some-Begin-clause-goes
+returns-in-Some-Begin-clause-goes g c = grind (arith, common_steps) steps 400000

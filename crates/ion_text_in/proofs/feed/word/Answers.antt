@@ -58,3 +58,24 @@ symbol_head-requires-clause-word g c = grind (arith, common_steps) steps 400000
 
 pub returns-in-None-clause-falls : goal.returns-in-None-clause-falls
 returns-in-None-clause-falls g c = grind (arith, common_steps) steps 400000
+
+pub returns-in_default-2-clause-falls : goal.returns-in_default-2-clause-falls
+returns-in_default-2-clause-falls g c = grind (arith, common_steps) steps 400000
+
+pub returns-in-Some-clause-goes : goal.returns-in-Some-clause-goes
+returns-in-Some-clause-goes g c = grind (arith, common_steps) steps 400000
+
+pub returns-in-Whole-Bool-default-clause-goes : goal.returns-in-Whole-Bool-default-clause-goes
+returns-in-Whole-Bool-default-clause-goes g c = grind (arith, common_steps) steps 400000
+
+pub returns-in-None-clause-moved : goal.returns-in-None-clause-moved
+returns-in-None-clause-moved g c = grind (arith, common_steps) steps 400000
+
+pub returns-in-Whole-Null-default-clause-goes : goal.returns-in-Whole-Null-default-clause-goes
+returns-in-Whole-Null-default-clause-goes g c = grind (arith, common_steps) steps 400000
+
+pub returns-in-None-clause-goes : goal.returns-in-None-clause-goes
+returns-in-None-clause-goes g c = grind (arith, common_steps) steps 400000
+
+pub returns-in_default-clause-falls : goal.returns-in_default-clause-falls
+returns-in_default-clause-falls g c = grind (arith, common_steps) steps 400000

@@ -12,3 +12,6 @@ returns-in-Some-clause-first g c = λ h.
 
 pub returns-in-Some-clause-reads : goal.returns-in-Some-clause-reads
 returns-in-Some-clause-reads g c = grind (arith, common_steps) steps 400000
+
+pub returns-in-Some-clause-kept : goal.returns-in-Some-clause-kept
+returns-in-Some-clause-kept g c = grind (arith, common_steps) steps 400000

@@ -13,3 +13,9 @@ consume-requires g c = grind (arith, common_steps) steps 400000
 
 pub returns-clause-reads : goal.returns-clause-reads
 returns-clause-reads g c = grind (arith, common_steps) steps 400000
+
+pub returns-clause-copies : goal.returns-clause-copies
+returns-clause-copies g c = grind (arith, common_steps) steps 400000
+
+pub returns-in-Err-clause-goes : goal.returns-in-Err-clause-goes
+returns-in-Err-clause-goes g c = grind (arith, common_steps) steps 400000

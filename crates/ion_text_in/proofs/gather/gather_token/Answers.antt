@@ -59,3 +59,12 @@ returns-in-Err-clause-reads g c = grind (arith, common_steps) steps 400000
 
 pub returns-in-Err-append-clause-goes : goal.returns-in-Err-append-clause-goes
 returns-in-Err-append-clause-goes g c = grind (arith, common_steps) steps 400000
+
+pub returns-in-Err-clause-goes : goal.returns-in-Err-clause-goes
+returns-in-Err-clause-goes g c = grind (arith, common_steps) steps 400000
+
+pub returns-in-Ok-None-clause-fresh : goal.returns-in-Ok-None-clause-fresh
+returns-in-Ok-None-clause-fresh g c = grind (arith, common_steps) steps 400000
+
+pub returns-in-Ok-None-clause-goes : goal.returns-in-Ok-None-clause-goes
+returns-in-Ok-None-clause-goes g c = grind (arith, common_steps) steps 400000

@@ -41,3 +41,9 @@ returns-in-Ok-None-clause-reads g c = grind (arith, common_steps) steps 400000
 
 pub returns-then-extent-clause-reads : goal.returns-then-extent-clause-reads
 returns-then-extent-clause-reads g c = grind (arith, common_steps) steps 400000
+
+pub returns-clause-plain : goal.returns-clause-plain
+returns-clause-plain g c = grind (arith, common_steps) steps 400000
+
+pub returns-in-Err-clause-reads : goal.returns-in-Err-clause-reads
+returns-in-Err-clause-reads g c = grind (arith, common_steps) steps 400000

@@ -78,3 +78,12 @@ returns-clause-goes g c = grind (arith, common_steps) steps 400000
 
 pub truncate-requires : goal.truncate-requires
 truncate-requires g c = grind (arith, common_steps) steps 400000
+
+pub returns-in-Err-clause-goes : goal.returns-in-Err-clause-goes
+returns-in-Err-clause-goes g c = grind (arith, common_steps) steps 400000
+
+pub returns-in-Err-clause-still : goal.returns-in-Err-clause-still
+returns-in-Err-clause-still g c = grind (arith, common_steps) steps 400000
+
+pub returns-in-Err-clause-grown : goal.returns-in-Err-clause-grown
+returns-in-Err-clause-grown g c = grind (arith, common_steps) steps 400000

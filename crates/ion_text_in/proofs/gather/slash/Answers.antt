@@ -31,3 +31,9 @@ returns-then-opens_comment-clause-reads g c = grind (arith, common_steps) steps 
 
 pub returns-in-Err-clause-reads : goal.returns-in-Err-clause-reads
 returns-in-Err-clause-reads g c = grind (arith, common_steps) steps 400000
+
+pub returns-clause-plain : goal.returns-clause-plain
+returns-clause-plain g c = grind (arith, common_steps) steps 400000
+
+pub returns-then-opens_comment-clause-plain : goal.returns-then-opens_comment-clause-plain
+returns-then-opens_comment-clause-plain g c = grind (arith, common_steps) steps 400000

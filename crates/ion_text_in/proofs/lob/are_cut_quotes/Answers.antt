@@ -22,3 +22,18 @@ returns-in-Ok-None-peek-clause-reads g c = grind (arith, common_steps) steps 400
 
 pub returns-in-Err-peek-clause-reads : goal.returns-in-Err-peek-clause-reads
 returns-in-Err-peek-clause-reads g c = grind (arith, common_steps) steps 400000
+
+pub returns-in-Ok-None-peek-clause-plain : goal.returns-in-Ok-None-peek-clause-plain
+returns-in-Ok-None-peek-clause-plain g c = grind (arith, common_steps) steps 400000
+
+pub returns-then-byte-ne39-clause-reads : goal.returns-then-byte-ne39-clause-reads
+returns-then-byte-ne39-clause-reads g c = grind (arith, common_steps) steps 400000
+
+pub returns-in-Err-peek-clause-plain : goal.returns-in-Err-peek-clause-plain
+returns-in-Err-peek-clause-plain g c = grind (arith, common_steps) steps 400000
+
+pub returns-in-Err-clause-reads : goal.returns-in-Err-clause-reads
+returns-in-Err-clause-reads g c = grind (arith, common_steps) steps 400000
+
+pub returns-then-second-ne39-clause-plain : goal.returns-then-second-ne39-clause-plain
+returns-then-second-ne39-clause-plain g c = grind (arith, common_steps) steps 400000

@@ -88,3 +88,18 @@ advance-requires g c = grind (arith, common_steps) steps 400000
 
 pub returns-in-Ok-None-clause-reads : goal.returns-in-Ok-None-clause-reads
 returns-in-Ok-None-clause-reads g c = grind (arith, common_steps) steps 400000
+
+pub returns-in-Err-clause-plain : goal.returns-in-Err-clause-plain
+returns-in-Err-clause-plain g c = grind (arith, common_steps) steps 400000
+
+pub loop-i-init : goal.loop-i-init
+loop-i-init g c = grind (arith, common_steps) steps 400000
+
+pub returns-in-Ok-None-clause-plain : goal.returns-in-Ok-None-clause-plain
+returns-in-Ok-None-clause-plain g c = grind (arith, common_steps) steps 400000
+
+pub returns-then-byte-eq125-clause-plain : goal.returns-then-byte-eq125-clause-plain
+returns-then-byte-eq125-clause-plain g c = grind (arith, common_steps) steps 400000
+
+pub returns-in-Err-clause-reads : goal.returns-in-Err-clause-reads
+returns-in-Err-clause-reads g c = grind (arith, common_steps) steps 400000

@@ -16,3 +16,12 @@ returns-in-Ok-None-peek-clause-reads g c = grind (arith, common_steps) steps 400
 
 pub returns-in-Ok-None-clause-reads : goal.returns-in-Ok-None-clause-reads
 returns-in-Ok-None-clause-reads g c = grind (arith, common_steps) steps 400000
+
+pub returns-then-byte-ne125-clause-reads : goal.returns-then-byte-ne125-clause-reads
+returns-then-byte-ne125-clause-reads g c = grind (arith, common_steps) steps 400000
+
+pub consume-requires : goal.consume-requires
+consume-requires g c = grind (arith, common_steps) steps 400000
+
+pub returns-in-Err-peek-clause-gives : goal.returns-in-Err-peek-clause-gives
+returns-in-Err-peek-clause-gives g c = grind (arith, common_steps) steps 400000

@@ -16,3 +16,15 @@ returns-then-byte-eq34-clause-reads g c = grind (arith, common_steps) steps 4000
 
 pub returns-in-Err-pass_quotes-clause-reads : goal.returns-in-Err-pass_quotes-clause-reads
 returns-in-Err-pass_quotes-clause-reads g c = grind (arith, common_steps) steps 400000
+
+pub returns-in-Ok-false-clause-plain : goal.returns-in-Ok-false-clause-plain
+returns-in-Ok-false-clause-plain g c = grind (arith, common_steps) steps 400000
+
+pub returns-in-Err-clause-reads : goal.returns-in-Err-clause-reads
+returns-in-Err-clause-reads g c = grind (arith, common_steps) steps 400000
+
+pub returns-in-Ok-true-clause-plain : goal.returns-in-Ok-true-clause-plain
+returns-in-Ok-true-clause-plain g c = grind (arith, common_steps) steps 400000
+
+pub returns-in-Err-pass_quotes-clause-plain : goal.returns-in-Err-pass_quotes-clause-plain
+returns-in-Err-pass_quotes-clause-plain g c = grind (arith, common_steps) steps 400000

@@ -22,3 +22,9 @@ returns-in-Err-clause-plain g c = grind (arith, common_steps)
 
 pub returns-in-Ok-None-clause-reads : goal.returns-in-Ok-None-clause-reads
 returns-in-Ok-None-clause-reads g c = grind (arith, common_steps)
+
+pub returns-in-Ok-None-clause-goes : goal.returns-in-Ok-None-clause-goes
+returns-in-Ok-None-clause-goes g c = grind (arith, common_steps) steps 400000
+
+pub returns-in-Ok-Some-true-clause-goes : goal.returns-in-Ok-Some-true-clause-goes
+returns-in-Ok-Some-true-clause-goes g c = grind (arith, common_steps) steps 400000

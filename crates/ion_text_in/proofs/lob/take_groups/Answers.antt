@@ -78,3 +78,12 @@ extend-requires-clause-room g c = grind (arith, common_steps)
 
 pub slice_bounds-extend-end-2 : goal.slice_bounds-extend-end-2
 slice_bounds-extend-end-2 g c = grind (arith, common_steps)
+
+pub returns-then-left-n-clause-none : goal.returns-then-left-n-clause-none
+returns-then-left-n-clause-none g c = grind (arith, common_steps) steps 400000
+
+pub overflow_sub-left : goal.overflow_sub-left
+overflow_sub-left g c = grind (arith, common_steps) steps 400000
+
+pub returns-then-left-n-clause-plain : goal.returns-then-left-n-clause-plain
+returns-then-left-n-clause-plain g c = grind (arith, common_steps) steps 400000

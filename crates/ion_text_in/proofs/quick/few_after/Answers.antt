@@ -25,3 +25,6 @@ returns-in-len2 c = grind (arith, common_steps)
 
 pub returns-in-len3 : goal.returns-in-len3
 returns-in-len3 c = grind (arith, common_steps)
+
+pub digit-requires : goal.digit-requires
+digit-requires c = grind (arith, common_steps)

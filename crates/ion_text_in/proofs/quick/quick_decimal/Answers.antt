@@ -56,3 +56,6 @@ quick_power-requires-clause-mantissa c =
 
 pub slice_bounds-number_after-end : goal.slice_bounds-number_after-end
 slice_bounds-number_after-end c = grind (arith, common_steps) steps 400000
+
+pub slice_bounds-number_after-end-2 : goal.slice_bounds-number_after-end-2
+slice_bounds-number_after-end-2 c = grind (arith, common_steps) steps 400000

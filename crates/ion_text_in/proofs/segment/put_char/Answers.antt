@@ -7,3 +7,6 @@ returns-clause-grown g c = grind (arith, common_steps) steps 400000
 
 pub returns-then-is_ascii-clause-grown : goal.returns-then-is_ascii-clause-grown
 returns-then-is_ascii-clause-grown g c = grind (arith, common_steps) steps 400000
+
+pub returns-then-is_ascii-clause-puts : goal.returns-then-is_ascii-clause-puts
+returns-then-is_ascii-clause-puts g c = grind (arith, common_steps)

@@ -49,3 +49,9 @@ more-smaller g c = grind (arith, common_steps) steps 400000
 
 pub returns-in-Err-clause-limit : goal.returns-in-Err-clause-limit
 returns-in-Err-clause-limit g c = grind (arith, common_steps) steps 400000
+
+pub returns-in-Ok-None-clause-limit : goal.returns-in-Ok-None-clause-limit
+returns-in-Ok-None-clause-limit g c = grind (arith, common_steps) steps 400000
+
+pub returns-in_default-clause-looks : goal.returns-in_default-clause-looks
+returns-in_default-clause-looks g c = grind (arith, common_steps) steps 400000

@@ -103,3 +103,12 @@ returns-in-Err-pass_quotes-clause-goes g c = grind (arith, common_steps) steps 4
 
 pub segments-init : goal.segments-init
 segments-init g c = grind (arith, common_steps)
+
+pub returns-in-Err-pass_between-clause-goes : goal.returns-in-Err-pass_between-clause-goes
+returns-in-Err-pass_between-clause-goes g c = grind (arith, common_steps) steps 400000
+
+pub segments-smaller : goal.segments-smaller
+segments-smaller g c = grind (arith, common_steps) steps 400000
+
+pub returns-in-Ok-Some-clause-goes : goal.returns-in-Ok-Some-clause-goes
+returns-in-Ok-Some-clause-goes g c = grind (arith, common_steps) steps 400000

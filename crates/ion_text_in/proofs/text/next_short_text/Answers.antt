@@ -59,3 +59,12 @@ consume-requires g c = grind (arith, common_steps)
 
 pub returns-in_default-clause-goes : goal.returns-in_default-clause-goes
 returns-in_default-clause-goes g c = grind (arith, common_steps)
+
+pub returns-in-Cut-clause-fresh : goal.returns-in-Cut-clause-fresh
+returns-in-Cut-clause-fresh g c = grind (arith, common_steps) steps 400000
+
+pub returns-in-Err-clause-goes : goal.returns-in-Err-clause-goes
+returns-in-Err-clause-goes g c = grind (arith, common_steps) steps 400000
+
+pub returns-in-Err-clause-gives : goal.returns-in-Err-clause-gives
+returns-in-Err-clause-gives g c = grind (arith, common_steps) steps 400000

@@ -34,3 +34,15 @@ returns-in-Ok-peek-2-clause-plain g c = grind (arith, common_steps) steps 400000
 
 pub returns-in-Ok-clause-reads : goal.returns-in-Ok-clause-reads
 returns-in-Ok-clause-reads g c = grind (arith, common_steps) steps 400000
+
+pub returns-in-Ok-peek-clause-plain : goal.returns-in-Ok-peek-clause-plain
+returns-in-Ok-peek-clause-plain g c = grind (arith, common_steps) steps 400000
+
+pub returns-in-Ok-peek-3-clause-plain : goal.returns-in-Ok-peek-3-clause-plain
+returns-in-Ok-peek-3-clause-plain g c = grind (arith, common_steps) steps 400000
+
+pub returns-in-Err-peek-clause-plain : goal.returns-in-Err-peek-clause-plain
+returns-in-Err-peek-clause-plain g c = grind (arith, common_steps) steps 400000
+
+pub returns-in-Err-clause-reads : goal.returns-in-Err-clause-reads
+returns-in-Err-clause-reads g c = grind (arith, common_steps) steps 400000

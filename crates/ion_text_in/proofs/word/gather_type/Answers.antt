@@ -43,3 +43,6 @@ returns-clause-goes g c = grind (arith, common_steps) steps 400000
 
 pub append-requires-clause-there : goal.append-requires-clause-there
 append-requires-clause-there g c = grind (arith, common_steps) steps 400000
+
+pub returns-in-Err-append-clause-goes : goal.returns-in-Err-append-clause-goes
+returns-in-Err-append-clause-goes g c = grind (arith, common_steps) steps 400000

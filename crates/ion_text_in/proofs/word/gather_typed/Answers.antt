@@ -30,3 +30,6 @@ returns-clause-fresh g c = grind (arith, common_steps) steps 400000
 
 pub returns-then-not-is_text-clause-further : goal.returns-then-not-is_text-clause-further
 returns-then-not-is_text-clause-further g c = grind (arith, common_steps) steps 400000
+
+pub returns-then-not-is_text-clause-fresh : goal.returns-then-not-is_text-clause-fresh
+returns-then-not-is_text-clause-fresh g c = grind (arith, common_steps) steps 400000

@@ -75,3 +75,6 @@ returns-in-Fault-clause-reads g c = grind (arith, common_steps) steps 400000
 
 pub returns-in_default-clause-reads : goal.returns-in_default-clause-reads
 returns-in_default-clause-reads g c = grind (arith, common_steps) steps 400000
+
+pub returns-in-Err-clause-gives : goal.returns-in-Err-clause-gives
+returns-in-Err-clause-gives g c = grind (arith, common_steps) steps 400000

@@ -71,3 +71,18 @@ returns-clause-falls g c = grind (arith, common_steps)
 
 pub take_plain-requires-clause-path : goal.take_plain-requires-clause-path
 take_plain-requires-clause-path g c = grind (arith, common_steps)
+
+pub overflow_sub-item : goal.overflow_sub-item
+overflow_sub-item g c = grind (arith, common_steps) steps 400000
+
+pub take_plain-requires-clause-plain : goal.take_plain-requires-clause-plain
+take_plain-requires-clause-plain g c = grind (arith, common_steps) steps 400000
+
+pub take_plain-requires-clause-simple : goal.take_plain-requires-clause-simple
+take_plain-requires-clause-simple g c = grind (arith, common_steps) steps 400000
+
+pub returns-in_default-clause-falls : goal.returns-in_default-clause-falls
+returns-in_default-clause-falls g c = grind (arith, common_steps) steps 400000
+
+pub returns-then-not-is_same-clause-falls : goal.returns-then-not-is_same-clause-falls
+returns-then-not-is_same-clause-falls g c = grind (arith, common_steps) steps 400000

@@ -113,3 +113,9 @@ returns-clause-falls g c = grind (arith, common_steps)
 
 pub pop-opened-requires : goal.pop-opened-requires
 pop-opened-requires g c = grind (arith, common_steps)
+
+pub returns-then-not-push_within-clause-falls : goal.returns-then-not-push_within-clause-falls
+returns-then-not-push_within-clause-falls g c = grind (arith, common_steps) steps 400000
+
+pub returns-then-from-as_slice-clause-falls : goal.returns-then-from-as_slice-clause-falls
+returns-then-from-as_slice-clause-falls g c = grind (arith, common_steps) steps 400000

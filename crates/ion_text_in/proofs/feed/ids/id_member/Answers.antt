@@ -10,3 +10,9 @@ returns-in-None-clause-moved g c =
 
 pub returns-in-Some-clause-falls : goal.returns-in-Some-clause-falls
 returns-in-Some-clause-falls g c = grind (arith, common_steps) steps 400000
+
+pub returns-in-Some-clause-goes : goal.returns-in-Some-clause-goes
+returns-in-Some-clause-goes g c = grind (arith, common_steps) steps 400000
+
+pub returns-in-None-clause-falls : goal.returns-in-None-clause-falls
+returns-in-None-clause-falls g c = grind (arith, common_steps) steps 400000

@@ -70,3 +70,6 @@ pass_value-requires-clause-inside g c = grind (arith, common_steps) steps 400000
 
 pub returns-clause-falls : goal.returns-clause-falls
 returns-clause-falls g c = grind (arith, common_steps)
+
+pub pass_value-requires-clause-few : goal.pass_value-requires-clause-few
+pass_value-requires-clause-few g c = grind (arith, common_steps) steps 400000

@@ -13,3 +13,12 @@ returns-then-begins_dollar-clause-falls g c = grind (arith, common_steps) steps 
 
 pub returns-then-begins_dollar-2-clause-falls : goal.returns-then-begins_dollar-2-clause-falls
 returns-then-begins_dollar-2-clause-falls g c = grind (arith, common_steps) steps 400000
+
+pub returns-then-begins_dollar-2-clause-goes : goal.returns-then-begins_dollar-2-clause-goes
+returns-then-begins_dollar-2-clause-goes g c = grind (arith, common_steps) steps 400000
+
+pub returns-then-begins_dollar-clause-goes : goal.returns-then-begins_dollar-clause-goes
+returns-then-begins_dollar-clause-goes g c = grind (arith, common_steps) steps 400000
+
+pub returns-clause-falls : goal.returns-clause-falls
+returns-clause-falls g c = grind (arith, common_steps) steps 400000

@@ -18,3 +18,12 @@ returns-in-Some-quoted_noted-clause-falls g c = grind (arith, common_steps) step
 
 pub returns-in-Some-clause-falls : goal.returns-in-Some-clause-falls
 returns-in-Some-clause-falls g c = grind (arith, common_steps) steps 400000
+
+pub returns-in-Some-quoted_noted-clause-goes : goal.returns-in-Some-quoted_noted-clause-goes
+returns-in-Some-quoted_noted-clause-goes g c = grind (arith, common_steps) steps 400000
+
+pub returns-in-Some-clause-goes : goal.returns-in-Some-clause-goes
+returns-in-Some-clause-goes g c = grind (arith, common_steps) steps 400000
+
+pub returns-in-None-clause-falls : goal.returns-in-None-clause-falls
+returns-in-None-clause-falls g c = grind (arith, common_steps) steps 400000

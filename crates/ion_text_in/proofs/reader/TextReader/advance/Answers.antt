@@ -142,3 +142,18 @@ returns-in-Err-clause-falls g c = grind (arith, common_steps) steps 400000
 
 pub loop-fault-smaller : goal.loop-fault-smaller
 loop-fault-smaller g c = grind (arith, common_steps)
+
+pub returns-in-Some-clause-ends : goal.returns-in-Some-clause-ends
+returns-in-Some-clause-ends g c = grind (arith, common_steps) steps 400000
+
+pub returns-in-Ok-Item-clause-ends : goal.returns-in-Ok-Item-clause-ends
+returns-in-Ok-Item-clause-ends g c = grind (arith, common_steps) steps 400000
+
+pub returns-in-Err-clause-ends : goal.returns-in-Err-clause-ends
+returns-in-Err-clause-ends g c = grind (arith, common_steps) steps 400000
+
+pub returns-in-Ok-Item-clause-refuses : goal.returns-in-Ok-Item-clause-refuses
+returns-in-Ok-Item-clause-refuses g c = grind (arith, common_steps) steps 400000
+
+pub returns-in-Ok-Ended-clause-refuses : goal.returns-in-Ok-Ended-clause-refuses
+returns-in-Ok-Ended-clause-refuses g c = grind (arith, common_steps) steps 400000

@@ -25,3 +25,6 @@ returns-clause-goes g c = grind (arith, common_steps)
 
 pub returns-clause-stepped : goal.returns-clause-stepped
 returns-clause-stepped g c = grind (arith, common_steps)
+
+pub returns-clause-ready : goal.returns-clause-ready
+returns-clause-ready g c = grind (arith, common_steps) steps 400000

@@ -57,3 +57,6 @@ returns-clause-passed g c = grind (arith, common_steps) steps 400000
 
 pub returns-clause-goes : goal.returns-clause-goes
 returns-clause-goes g c = grind (arith, common_steps)
+
+pub overflow_sub-taken : goal.overflow_sub-taken
+overflow_sub-taken g c = grind (arith, common_steps) steps 400000

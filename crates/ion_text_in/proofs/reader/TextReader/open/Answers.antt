@@ -35,3 +35,6 @@ returns-in-Err-clause-stepped g c = grind (arith, common_steps) steps 400000
 
 pub returns-clause-goes : goal.returns-clause-goes
 returns-clause-goes g c = grind (arith, common_steps)
+
+pub returns-then-from-as_slice-clause-gives : goal.returns-then-from-as_slice-clause-gives
+returns-then-from-as_slice-clause-gives g c = grind (arith, common_steps)

@@ -27,3 +27,6 @@ returns-in-Ok-clause-stepped g c =
     let can = c.requires.can_step in
     let read = reached-text g.I.Input r s t c.args.meter.now c.next_token.new.meter c.in-Ok.token can.sized can.held c.in-Ok.ensures.reads.into in
     stepped-behind g.I.Input step_result.Item r (record r { source = s; text = t }) c.take.new.self c.args.meter.now c.next_token.new.meter c.take.new.meter c.take.result can.held read c.take.ensures.stepped
+
+pub returns-in-Err-clause-goes : goal.returns-in-Err-clause-goes
+returns-in-Err-clause-goes g c = grind (arith, common_steps) steps 400000

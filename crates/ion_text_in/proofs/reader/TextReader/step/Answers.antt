@@ -104,3 +104,9 @@ returns-in-Ok-Some-next_first-clause-stepped g c =
     let two = reached-look device mid t m c.in-Ok-Some-next_first.field-0 one.sized can.held c.in-Ok-Some-next_first.ensures.reads in
     let both = reached-then device r mid last m m m can.held one two in
     stepped-behind device step_result.Item r last c.part.new.self m m c.part.new.meter c.part.result can.held both c.part.ensures.stepped
+
+pub returns-in-Err-clause-further : goal.returns-in-Err-clause-further
+returns-in-Err-clause-further g c = grind (arith, common_steps) steps 400000
+
+pub returns-in-Ok-Some-clause-further : goal.returns-in-Ok-Some-clause-further
+returns-in-Ok-Some-clause-further g c = grind (arith, common_steps) steps 400000

@@ -25,3 +25,6 @@ returns-clause-stepped g c = λ m there.
 
 pub returns-then-not-is_version_word-clause-stepped : goal.returns-then-not-is_version_word-clause-stepped
 returns-then-not-is_version_word-clause-stepped g c = grind (arith, common_steps) steps 400000
+
+pub returns-clause-ready : goal.returns-clause-ready
+returns-clause-ready g c = grind (arith, common_steps) steps 400000

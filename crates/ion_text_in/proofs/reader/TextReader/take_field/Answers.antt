@@ -10,3 +10,7 @@ returns-in-String-Some-clause-stepped g c = grind (arith, common_steps) steps 40
 pub returns-in_default : goal.returns-in_default
 unfolding take
 returns-in_default g c = grind (arith, common_steps)
+
+pub returns-in-Symbol-clause-gives : goal.returns-in-Symbol-clause-gives
+unfolding take
+returns-in-Symbol-clause-gives g c = grind (arith, common_steps) steps 400000

@@ -18,3 +18,7 @@ returns-in-NoNumber-clause-stepped g c = grind (arith, common_steps) steps 40000
 pub returns-in_default-clause-stepped : goal.returns-in_default-clause-stepped
 unfolding take
 returns-in_default-clause-stepped g c = grind (arith, common_steps)
+
+pub returns-in-Begin-clause-gives : goal.returns-in-Begin-clause-gives
+unfolding take
+returns-in-Begin-clause-gives g c = grind (arith, common_steps) steps 400000

@@ -79,3 +79,6 @@ feed_window-values-requires-clause-can g c = grind (arith, common_steps)
 
 pub returns-clause-exceeds : goal.returns-clause-exceeds
 returns-clause-exceeds g c = grind (arith, common_steps)
+
+pub returns-then-self-clause-writer : goal.returns-then-self-clause-writer
+returns-then-self-clause-writer g c = grind (arith, common_steps) steps 400000

@@ -1,5 +1,5 @@
-use Rattle.std.proofs.lemmas.Grind.{common_steps}
 use Rattle.std.proofs.Common.{refl, ap, sym, ◌∙◌, ℕ, List, take, arith}
+use Rattle.std.proofs.lemmas.Grind.{common_steps}
 use Rattle.ion_meter.proofs.Lent.{lent-take}
 use Rattle.ion_value.specs.Scalar.{scalar_of_body}
 use Rattle.ion_binary.specs.Bodies.{as_scalar}

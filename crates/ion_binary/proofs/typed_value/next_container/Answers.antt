@@ -1,5 +1,5 @@
-use Rattle.std.proofs.lemmas.Grind.{common_steps}
 use Rattle.std.proofs.Common.{◌≡◌, ℕ, Ok, Err, refl, sym, ap, ◌∙◌, arith}
+use Rattle.std.proofs.lemmas.Grind.{common_steps}
 use Rattle.ion_binary.specs.Descriptor.{length_at}
 use Rattle.ion_binary.specs.Finds.{as_around, end_by}
 use Rattle.ion_binary.specs.Reading.{a_container}

@@ -1,5 +1,5 @@
-use Rattle.std.proofs.lemmas.Grind.{common_steps}
 use Rattle.std.proofs.Common.{◌≡◌, Ok, Err, refl, sym, ap, ◌∙◌, arith}
+use Rattle.std.proofs.lemmas.Grind.{common_steps}
 use Rattle.ion_binary.specs.Descriptor.{length_at}
 use Rattle.ion_binary.specs.Bodies.{as_scalar}
 use Rattle.ion_binary.specs.Finds.{as_around}

@@ -1,5 +1,5 @@
-use Rattle.std.proofs.lemmas.Grind.{common_steps}
 use Rattle.std.proofs.Common.{ap, ◌∙◌, sym, subst, Err, arith}
+use Rattle.std.proofs.lemmas.Grind.{common_steps}
 use Rattle.ion_value.specs.Parts.{◌>>=◌}
 use Rattle.ion_binary.specs.Reading.{wrapper_at, inner_at, annotated_at, region_of}
 use Rattle.ion_meter.specs.Sources.{cursor}

@@ -1,5 +1,5 @@
-use Rattle.std.proofs.lemmas.Grind.{common_steps}
 use Rattle.std.proofs.Common.{ap, ◌∙◌, sym, subst, Ok, Err, false, [], arith}
+use Rattle.std.proofs.lemmas.Grind.{common_steps}
 use Rattle.ion_value.specs.Parts.{◌>>=◌, part}
 use Rattle.ion_binary.specs.Descriptor.{octet_at}
 use Rattle.ion_binary.specs.Reading.{step_for, typed_value_at, region_of, annotated_at, value_at}

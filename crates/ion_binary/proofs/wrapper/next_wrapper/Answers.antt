@@ -1,5 +1,5 @@
-use Rattle.std.proofs.lemmas.Grind.{common_steps}
 use Rattle.std.proofs.Common.{refl, ◌+◌, true, false, Some, arith}
+use Rattle.std.proofs.lemmas.Grind.{common_steps}
 use Rattle.ion_binary.specs.Descriptor.{length_at, var_uint_at}
 use Rattle.ion_binary.specs.Reading.{wrapper_at}
 use Rattle.ion_meter.specs.Sources.{cursor}

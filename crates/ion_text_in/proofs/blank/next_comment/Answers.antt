@@ -1,5 +1,5 @@
-use Rattle.std.proofs.lemmas.Grind.{common_steps}
 use Rattle.std.proofs.Common.{◌≡◌, ℕ, List, Some, slice_get, Ok, sym, ap, ◌∙◌, arith}
+use Rattle.std.proofs.lemmas.Grind.{common_steps}
 use Rattle.ion_meter.specs.Windows.{left}
 use Rattle.ion_meter.specs.Sources.{Cursor}
 use Rattle.ion_value.proofs.Cursors.{cursor-extends}

@@ -1,5 +1,5 @@
-use Rattle.std.proofs.lemmas.Grind.{common_steps}
 use Rattle.std.proofs.Common.{◌≡◌, ℕ, List, Some, take, drop, get_or, slice_get, ap, ◌∙◌, arith}
+use Rattle.std.proofs.lemmas.Grind.{common_steps}
 use Rattle.ion_meter.specs.Windows.{left}
 use Rattle.ion_value.specs.Digits.{first_is}
 use Rattle.ion_text_in.specs.Blanks.{is_white, blanks}

@@ -1,5 +1,5 @@
-use Rattle.std.proofs.lemmas.Grind.{common_steps}
 use Rattle.std.proofs.Common.{ℕ, Ok, Err, sym, ap, ◌∙◌, arith}
+use Rattle.std.proofs.lemmas.Grind.{common_steps}
 use Rattle.ion_meter.specs.declared.fault.Reason.TheVariants.{Truncated}
 use Rattle.ion_meter.specs.Windows.{left}
 use Rattle.ion_meter.specs.Sources.{Cursor, cursor}

@@ -1,5 +1,5 @@
-use Rattle.std.proofs.lemmas.Grind.{common_steps}
 use Rattle.std.proofs.Common.{◌∙◌, ◌+◌, ◌-◌, length, reverse, refl, sym, subst, arith}
+use Rattle.std.proofs.lemmas.Grind.{common_steps}
 use Rattle.ion_value.specs.Items.{raw_head}
 use Rattle.ion_value.specs.Outcome.{one_if_closed}
 use Rattle.ion_value.proofs.Handing.{may-take}

@@ -1,5 +1,5 @@
-use Rattle.std.proofs.lemmas.Grind.{common_steps}
 use Rattle.std.proofs.Common.{◌≡◌, ℕ, List, ◌++◌, IfSome, subst, arith}
+use Rattle.std.proofs.lemmas.Grind.{common_steps}
 use Rattle.ion_text_in.specs.Token.{first_at}
 use Rattle.ion_text_in.specs.Firsts.{first_of}
 use Rattle.ion_text_in.proofs.FirstTokens.{headed}

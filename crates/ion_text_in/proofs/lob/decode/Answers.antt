@@ -1,5 +1,5 @@
-use Rattle.std.proofs.lemmas.Grind.{common_steps}
 use Rattle.std.proofs.Common.{◌≡◌, ℕ, ◌<◌, All, take, Option, IfSome, IfNone, None, subst, sym, slice_index, arith}
+use Rattle.std.proofs.lemmas.Grind.{common_steps}
 use Rattle.base64.specs.Engines.{standard}
 use Rattle.base64.specs.GeneralPurpose.{encode_of, decoded_of}
 use Rattle.ion_text_in.proofs.LobTurns.{decoded-encodes, decoded-octets, decoded-none}

@@ -1,8 +1,8 @@
+use Rattle.std.proofs.Common.{rules, true, ◌≡◌, ℕ, ◌+◌, ◌∙◌, ℤ, Some, take, drop, ap, ap₂, sym, subst, arith}
 use Rattle.std.proofs.lemmas.Grind.{common_steps}
 use mir.Syntax.{w32}
 use mir.Val.{SFits}
 use Rattle.std.proofs.lemmas.Int.{to_z-of_z}
-use Rattle.std.proofs.Common.{rules, true, ◌≡◌, ℕ, ◌+◌, ◌∙◌, ℤ, Some, take, drop, ap, ap₂, sym, subst, arith}
 use Rattle.std.proofs.lemmas.List.{take_rest, length-take-le}
 use Rattle.ion_text_in.specs.Quick.{number_after, IsQuick}
 use Rattle.ion_text_in.proofs.DigitNumbers.{narrow-behind}

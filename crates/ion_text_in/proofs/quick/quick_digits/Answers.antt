@@ -1,5 +1,5 @@
-use Rattle.std.proofs.lemmas.Grind.{common_steps}
 use Rattle.std.proofs.Common.{◌∙◌, sym, take, arith}
+use Rattle.std.proofs.lemmas.Grind.{common_steps}
 use Rattle.ion_text_in.specs.Quick.{number_after}
 use Rattle.ion_text_in.proofs.QuickNumbers.{quick-int, whole-spells}
 use Rattle.ion_text_in.proofs.SpelledNumbers.{int-spelled, whole-front}

@@ -1,5 +1,5 @@
-use Rattle.std.proofs.lemmas.Grind.{common_steps}
 use Rattle.std.proofs.Common.{◌^◌, ◌∙◌, drop, length, arith}
+use Rattle.std.proofs.lemmas.Grind.{common_steps}
 use Rattle.std.proofs.lemmas.List.{take_rest, length-drop}
 use Rattle.ion_text_in.proofs.DigitNumbers.{after-front, after-none, cut-digits, head-digit, room-behind, room-head, tail-digits, tail-number, wide-behind}
 use Rattle.ion_text_in.proofs.quick.wide_number.Goals as goal

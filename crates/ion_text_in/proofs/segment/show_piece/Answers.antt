@@ -1,5 +1,5 @@
-use Rattle.std.proofs.lemmas.Grind.{common_steps}
 use Rattle.std.proofs.Common.{ℕ, ◌≤◌, List, length, subst, arith}
+use Rattle.std.proofs.lemmas.Grind.{common_steps}
 use Rattle.ion_text_in.specs.Quotes.{quote_of}
 use Rattle.ion_text_in.specs.Pieces.{taken_of, ShowsPiece}
 use Rattle.ion_text_in.proofs.Looking.{piece-left}

@@ -1,5 +1,5 @@
-use Rattle.std.proofs.lemmas.Grind.{common_steps}
 use Rattle.std.proofs.Common.{length, Ok, arith}
+use Rattle.std.proofs.lemmas.Grind.{common_steps}
 use Rattle.ion_text_in.proofs.Holding.{held-into, reads-held}
 use Rattle.ion_text_in.proofs.token.infinity_token.Goals as goal
 

@@ -1,5 +1,5 @@
-use Rattle.std.proofs.lemmas.Grind.{common_steps}
 use Rattle.std.proofs.Common.{◌≡◌, ◌∙◌, ◌+◌, ◌*◌, ap, sym, get_or, drop, Bool, true, ℕ, ◌&&◌, min, arith}
+use Rattle.std.proofs.lemmas.Grind.{common_steps}
 use Rattle.std.proofs.lemmas.List.{drop_more}
 use Rattle.ion_value.specs.Digits.{all_are, is_digit}
 use Rattle.ion_text_in.proofs.WordTokens.{id-more}

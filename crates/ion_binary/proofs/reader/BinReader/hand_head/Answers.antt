@@ -1,5 +1,5 @@
-use Rattle.std.proofs.lemmas.Grind.{common_steps}
 use Rattle.std.proofs.Common.{ap, sym, ◌∙◌, arith}
+use Rattle.std.proofs.lemmas.Grind.{common_steps}
 use Rattle.ion_binary.specs.Shapes.{as_shape}
 use Rattle.ion_value.specs.Items.{named_item}
 use Rattle.ion_binary.proofs.HandingKeeps.{handed-none}

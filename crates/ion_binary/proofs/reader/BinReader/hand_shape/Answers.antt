@@ -1,7 +1,5 @@
-use Rattle.std.proofs.Common.{◌≡◌, ◌+◌, ◌*◌, ◌-◌, ◌<◌, None, [], ◌∷◌, ◌++◌, length, refl, ap, sym, subst, ◌∙◌, arith, rules}
-use Rattle.std.proofs.lemmas.Grind.{common_steps}
+use Rattle.std.proofs.Common.{◌≡◌, ◌+◌, ◌<◌, None, [], ◌∷◌, ◌++◌, length, refl, ap, sym, subst, ◌∙◌, arith}
 use Rattle.std.proofs.lemmas.List.{length_push}
-use Rattle.ion_meter.specs.Counts.{Counts}
 use Rattle.ion_meter.proofs.Lent.{IsPassed-total, lent-CanPass}
 use Rattle.ion_value.proofs.Passing.{IsPassed-moves}
 use Rattle.ion_value.specs.declared.item.Head.TheVariants as code
@@ -18,7 +16,7 @@ use Rattle.ion_binary.specs.Lane.{frame_in}
 use Rattle.ion_binary.specs.Reading.{placed_item, top_of}
 use Rattle.ion_binary.specs.Reader.{kinds_of, to_come}
 use Rattle.ion_binary.specs.Shown.{shown_scalar}
-use Rattle.ion_binary.specs.Steps.{held_by, left_to, opened_in}
+use Rattle.ion_binary.specs.Steps.{opened_in}
 use Rattle.ion_binary.specs.Wrappers.{as_frames, innermost}
 use Rattle.ion_binary.proofs.Handing.{around_pushed, as_frames-push, begin_fits, falls_begin, falls_scalar, hands_by, kinds_of-push, path_here, plain_seen, scalar_fits, shown-known, step_shown, to_come-gives, whole-opens, whole-value}
 use Rattle.ion_binary.proofs.HandingKeeps.{goes-opened, handed-none, handed-undone, head-fits, keeps_on-begin, keeps_on-scalar, more-below, popped}

@@ -1,5 +1,5 @@
-use Rattle.std.proofs.lemmas.Grind.{common_steps}
 use Rattle.std.proofs.Common.{◌≤◌, length, sym, subst, arith}
+use Rattle.std.proofs.lemmas.Grind.{common_steps}
 use Rattle.ion_meter.proofs.Lent.{lent-CanPass}
 use Rattle.ion_binary.specs.Lane.{frame_in, inner_region}
 use Rattle.ion_binary.specs.Reading.{region_of}

@@ -1,5 +1,5 @@
-use Rattle.std.proofs.lemmas.Grind.{common_steps}
 use Rattle.std.proofs.Common.{ℕ, ◌≤◌, length, List, ap, arith}
+use Rattle.std.proofs.lemmas.Grind.{common_steps}
 use Rattle.std.proofs.lemmas.List.{length-drop}
 use Rattle.ion_text_in.proofs.FeedComments.{leads-to-block, leads-to-line}
 use Rattle.ion_text_in.proofs.feed.comments.behind_comment.Goals as goal

@@ -1,5 +1,5 @@
-use Rattle.std.proofs.lemmas.Grind.{common_steps}
 use Rattle.std.proofs.Common.{ℕ, ◌≡◌, ◌<◌, ◌==◌, List, false, length, drop, subst, sym, arith}
+use Rattle.std.proofs.lemmas.Grind.{common_steps}
 use Rattle.ion_value.specs.Digits.{first_is}
 use Rattle.ion_text_in.specs.Blanks.{blanks_at}
 use Rattle.ion_text_in.specs.Feeding.{LeadsTo, PassesBlanks}

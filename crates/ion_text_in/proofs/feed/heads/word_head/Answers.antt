@@ -1,5 +1,5 @@
-use Rattle.std.proofs.lemmas.Grind.{common_steps}
 use Rattle.std.proofs.Common.{◌∙◌, ◌+◌, ◌++◌, Some, Ok, take, drop, ap, arith}
+use Rattle.std.proofs.lemmas.Grind.{common_steps}
 use Rattle.ion_value.specs.Value.{null, bool}
 use Rattle.ion_text_in.specs.declared.word.Word.{Word}
 use Rattle.ion_text_in.specs.Meaning.{at}

@@ -1,5 +1,5 @@
-use Rattle.std.proofs.lemmas.Grind.{common_steps}
 use Rattle.std.proofs.Common.{◌∙◌, ℕ, ◌-◌, ◌<◌, ◌++◌, List, length, codes, refl, sym, ap, arith}
+use Rattle.std.proofs.lemmas.Grind.{common_steps}
 use Rattle.ion_value.specs.declared.plain_item.SecondAt.{SecondAt}
 use Rattle.ion_value.specs.Name.{is_simple}
 use Rattle.ion_text_in.specs.Firsts.{numbered}

@@ -1,5 +1,5 @@
-use Rattle.std.proofs.lemmas.Grind.{common_steps}
 use Rattle.std.proofs.Common.{◌∙◌, Option, sym, ap, arith}
+use Rattle.std.proofs.lemmas.Grind.{common_steps}
 use Rattle.ion_value.specs.declared.ion_type.Kind.{Kind}
 use Rattle.ion_text_in.specs.Reading.{behind_member}
 use Rattle.ion_text_in.proofs.ReaderSteps.{gives-closed, closed-opened}

@@ -1,5 +1,5 @@
-use Rattle.std.proofs.lemmas.Grind.{common_steps}
 use Rattle.std.proofs.Common.{◌∙◌, sym, arith}
+use Rattle.std.proofs.lemmas.Grind.{common_steps}
 use Rattle.ion_text_in.proofs.ReaderSteps.{end-over}
 use Rattle.ion_text_in.proofs.reader.TextReader.end.Goals as goal
 

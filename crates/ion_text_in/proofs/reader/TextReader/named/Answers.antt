@@ -1,5 +1,5 @@
-use Rattle.std.proofs.lemmas.Grind.{common_steps}
 use Rattle.std.proofs.Common.{◌≡◌, arith, ap, length, ℕ, List}
+use Rattle.std.proofs.lemmas.Grind.{common_steps}
 use Rattle.ion_text_in.specs.declared.reader.StepResult.TheVariants as step_result
 use Rattle.ion_text_in.proofs.ReaderCalls.{stepped-behind}
 use Rattle.ion_text_in.proofs.ReaderLanes.{reached-swapped}

@@ -1,7 +1,7 @@
+use Rattle.std.proofs.Common.{Ok, refl, ap, ◌∙◌, rules, arith}
 use Rattle.std.proofs.lemmas.Grind.{common_steps}
 use mir.Syntax.{w32}
 use mir.Val.{SFits}
-use Rattle.std.proofs.Common.{Ok, refl, ap, ◌∙◌, rules, arith}
 use Rattle.std.proofs.lemmas.Int.{to_z-of_z}
 use Rattle.ion_meter.specs.Sources.{cursor}
 use Rattle.ion_text_in.specs.declared.token.Body.TheVariants as body

@@ -1,5 +1,5 @@
-use Rattle.std.proofs.lemmas.Grind.{common_steps}
 use Rattle.std.proofs.Common.{◌∙◌, sym, refl, true, arith}
+use Rattle.std.proofs.lemmas.Grind.{common_steps}
 use Rattle.ion_meter.specs.Sources.{cursor}
 use Rattle.ion_value.specs.Value as value
 use Rattle.ion_text_in.specs.Token as tokens

@@ -1,5 +1,5 @@
-use Rattle.std.proofs.lemmas.Grind.{common_steps}
 use Rattle.std.proofs.Common.{◌≡◌, ◌∙◌, None, sym, ap, subst, arith}
+use Rattle.std.proofs.lemmas.Grind.{common_steps}
 use Rattle.ion_meter.specs.Sources.{BytesAreLeft, Stands}
 use Rattle.ion_meter.specs.Windows.{Incoming}
 use Rattle.ion_value.specs.Feeding.{nothing, Feeds, Joint}

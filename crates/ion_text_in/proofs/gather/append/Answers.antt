@@ -14,14 +14,8 @@ consume-requires g c = grind (arith, common_steps) steps 400000
 pub returns-clause-goes : goal.returns-clause-goes
 returns-clause-goes g c = grind (arith, common_steps) steps 400000
 
-pub returns-then-limits-as_slice-clause-reads : goal.returns-then-limits-as_slice-clause-reads
-returns-then-limits-as_slice-clause-reads g c = grind (arith, common_steps) steps 400000
-
 pub returns-in-Err-clause-reads : goal.returns-in-Err-clause-reads
 returns-in-Err-clause-reads g c = grind (arith, common_steps) steps 400000
-
-pub slice_bounds-bytes-end : goal.slice_bounds-bytes-end
-slice_bounds-bytes-end g c = grind (arith, common_steps) steps 400000
 
 pub returns-in-Err-clause-goes : goal.returns-in-Err-clause-goes
 returns-in-Err-clause-goes g c = grind (arith, common_steps) steps 400000

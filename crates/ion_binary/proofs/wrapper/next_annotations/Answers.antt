@@ -1,4 +1,4 @@
-use Rattle.std.proofs.Common.{arith, ap, sym, ◌∙◌, ◌≡◌, ◌+◌, ◌*◌, ◌-◌, ◌≤◌, [], length, Some, Err}
+use Rattle.std.proofs.Common.{arith, ap, sym, ◌∙◌, ◌≡◌, ◌+◌, ◌*◌, ◌-◌, ◌≤◌, [], length, None, Some, Err}
 use Rattle.std.proofs.lemmas.Grind.{common_steps}
 use Rattle.std.proofs.lemmas.List.{length-append}
 use Rattle.ion_meter.specs.declared.fault.Reason.TheVariants.{AnnotationLimit}
@@ -12,6 +12,9 @@ use Rattle.ion_value.proofs.Cursors.{moves-then}
 use Rattle.ion_value.proofs.GrowsWithin.{grows-then, passed-then}
 use Rattle.ion_binary.proofs.Annotations.{ids_at-ended, ids_at-refused, ids_at-limited, ids_at-one_more, answers_at-refused, charges-grown}
 use Rattle.ion_binary.proofs.wrapper.next_annotations.Goals as goal
+
+none-some : {Y : Type 0} {y : Y} → None ≡ Some y → ⊥
+none-some e = cc e
 
 pub returns-in-Err-clause-gives : goal.returns-in-Err-clause-gives
 returns-in-Err-clause-gives g c t =
@@ -54,7 +57,7 @@ loop-limits-preserved g c =
     record {
       stands = o.reads.stands;
       moves = moves-then g.I.Input c.args.source.now c.loop-limits.source c.next_var_uint.new.source inv.moves o.reads.moves;
-      steady = o.reads.causes.steady (λ e. absurd (cc e)) ∙ inv.steady;
+      steady = o.reads.causes.steady (λ e. none-some e) ∙ inv.steady;
       counted = c.in_default.ensures.cost.refused ∙ inv.counted;
       charges = charges-grown c.args.meter.now c.loop-limits.meter c.push.new.meter (16 * length c.loop-limits.annotations) (16 * length c.push.new.self) c.args.limits.scalar
           inv.charges c.in_default.ensures.cost (omega (arith, more)) (omega (arith, more, all, c.if-limits-as_slice.false));

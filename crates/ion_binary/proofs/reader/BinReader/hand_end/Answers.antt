@@ -1,5 +1,6 @@
 use Rattle.std.proofs.Common.{◌≡◌, ◌<◌, [], None, List, length, refl, ap, sym, subst, ◌∙◌, arith, rules}
 use Rattle.std.proofs.lemmas.Grind.{common_steps}
+use Rattle.std.proofs.lemmas.Bool.{true≢false}
 use Rattle.ion_meter.specs.Sources.{cursor}
 use Rattle.ion_value.specs.Reading.{Gives, More}
 use Rattle.ion_value.specs.Items.{named_item}
@@ -42,7 +43,7 @@ returns-clause-handed g c =
         total = refl;
         bytes = λ b. b;
       });
-      nothing = λ e. absurd (cc e);
+      nothing = λ e. absurd (true≢false e);
       keeps = search rules;
       goes = search rules;
     }

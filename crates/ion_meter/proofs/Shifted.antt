@@ -5,7 +5,7 @@ use Rattle.std.proofs.lemmas.List.{length-take, length-drop, drop_all}
 use Rattle.std.proofs.lemmas.Slice.{between_is}
 use Rattle.std.proofs.lemmas.Grind.{common_steps}
 use Rattle.std.specs.List.{copy_within, insert}
-use borrow.Rule.Slice.PartMut.{put_mid, post_of, same_len_mid}
+use borrow.Rule.Slice.PartMut.{put_mid, post_of, same_len_mid, drop_put}
 
 -- a list whose entries were moved by one place, and the first then written
 pub moved_by_one : {T : Type 0} (xs : List T) (n : ℕ) (x : T) → length xs ≡ n + 1 → set (copy_within xs 0 n 1) 0 x ≡ x ∷ take n xs
@@ -34,10 +34,11 @@ shifted xs ys p e k x h l is =
     (past (take p xs) (ys ++ post_of p k xs) p (1 + (e - p)) long
     ∙ (ap (λ r. take p xs ++ r) (all ∙ is) ∙ sym (ap (λ r. r ++ x ∷ drop p (take e xs)) first ∙ ap (λ r. take p xs ++ x ∷ r) last)))
 
--- the same by how they were written, of a list that keeps its length
+-- the same by how they were written, of a list that keeps its length and what stands behind the end
 pub shifted_in : {T : Type 0} (xs moved : List T) (p e : ℕ) (x : T) → p ≤ e → e < length xs
     → moved ≡ copy_within (take (e + 1 - p) (drop p xs)) 0 (length (take (e + 1 - p) (drop p xs)) - 1) 1
-    → (take (e + 1) (put_mid p (e + 1 - p) xs (set moved 0 x)) ≡ insert (take e xs) p x) × (length (put_mid p (e + 1 - p) xs (set moved 0 x)) ≡ length xs)
+    → (take (e + 1) (put_mid p (e + 1 - p) xs (set moved 0 x)) ≡ insert (take e xs) p x)
+    × (length (put_mid p (e + 1 - p) xs (set moved 0 x)) ≡ length xs) × (drop (e + 1) (put_mid p (e + 1 - p) xs (set moved 0 x)) ≡ drop (e + 1) xs)
 shifted_in xs moved p e x h l is =
     let block = take (e + 1 - p) (drop p xs) in
     let long : length block ≡ (e - p) + 1 = simp (length-take, length-drop) (omega (arith, h, l)) in
@@ -45,5 +46,8 @@ shifted_in xs moved p e x h l is =
     let part : take (e - p) block ≡ take (e - p) (drop p xs) = grind (arith, common_steps) in
     let put : set moved 0 x ≡ x ∷ take (e - p) (drop p xs)
     = ap (λ ys. set ys 0 x) (is ∙ ap (λ (k : ℕ). copy_within block 0 k 1) n) ∙ (moved_by_one block (e - p) x long ∙ ap (λ ys. x ∷ ys) part) in
-    let same : length (set moved 0 x) ≡ length block = ap length put ∙ grind (arith, common_steps) in
-    (shifted xs (set moved 0 x) p e (e + 1 - p) x h l put, same_len_mid p (e + 1 - p) xs (set moved 0 x) same)
+    let same : length (set moved 0 x) ≡ length block = ap length put ∙ grind (arith, common_steps) in (
+      shifted xs (set moved 0 x) p e (e + 1 - p) x h l put,
+      same_len_mid p (e + 1 - p) xs (set moved 0 x) same,
+      drop_put p (e + 1) xs (set moved 0 x) (omega (arith, h)) (omega (arith, l)) (omega (arith, same, long, h)),
+    )

@@ -1,5 +1,5 @@
 //! Entries whose every growth is counted, at a fixed cost each.
-ghost use Rattle.std.specs.Prelude.{◌≡◌, ◌+◌, ◌*◌, ◌-◌, ◌^◌, ◌<◌, ◌≤◌, ◌++◌, ◌∷◌, [], true, false, length, take, slice_set, OnOk, OnErr, IfErr, MatchOption};
+ghost use Rattle.std.specs.Prelude.{◌≡◌, ◌+◌, ◌*◌, ◌-◌, ◌^◌, ◌<◌, ◌≤◌, ◌++◌, ◌∷◌, [], true, false, length, take, drop, slice_set, OnOk, OnErr, IfErr, MatchOption};
 ghost use Rattle.std.specs.List.{insert};
 ghost use Rattle.ion_meter.specs.Counts.{Grows, Shrinks, IsRefused};
 ghost use Rattle.ion_meter.specs.Entries.{Entries, cost_of};
@@ -252,6 +252,7 @@ impl<T, A: Allocator + Copy> Table<T, A> {
         requires within { end < length self.old.items }
         ensures items { take (end + 1) self.new.items
             ≡ insert (take end self.old.items) place entry }
+        ensures behind { drop (end + 1) self.new.items ≡ drop (end + 1) self.old.items }
         ensures len { length self.new.items ≡ length self.old.items }
         ensures cost { self.new.cost ≡ self.old.cost }
     {

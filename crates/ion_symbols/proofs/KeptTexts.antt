@@ -1,5 +1,5 @@
 -- What the texts of an output are, by how they are kept.
-use Rattle.std.proofs.Common.{◌≡◌, ℕ, ◌+◌, ◌^◌, ◌<◌, ◌≤◌, true, List, [], length, get_or, Option, Some, None, refl, ap, sym, subst, ◌∙◌, arith}
+use Rattle.std.proofs.Common.{◌≡◌, ℕ, ◌+◌, ◌^◌, ◌<◌, ◌≤◌, Bool, true, List, [], length, get_or, Option, Some, None, refl, ap, sym, subst, ◌∙◌, arith}
 use Rattle.std.proofs.lemmas.List.{length-map}
 use Rattle.ion_meter.specs.Counts.{Counts}
 use Rattle.ion_value.specs.Shares.{Charges}
@@ -57,7 +57,7 @@ same_charges m kept texts texts2 limit most k l h e =
 
 -- ---- what is seen of them
 
--- the same texts with the same limit and probes
-pub same_output : (texts texts2 : List (List ℕ)) (limit limit2 probes : ℕ) → texts ≡ texts2 → limit ≡ limit2
-    → ◌≡◌ {A = Output} (record { texts = texts; limit = limit; probes = probes }) (record { texts = texts2; limit = limit2; probes = probes })
-same_output texts texts2 limit limit2 probes e l = rw (e, l) refl
+-- the same texts with the same limit and probes, in order or not
+pub same_output : (texts texts2 : List (List ℕ)) (limit limit2 probes : ℕ) (is_ordered is_ordered2 : Bool) → texts ≡ texts2 → limit ≡ limit2 → is_ordered ≡ is_ordered2
+    → ◌≡◌ {A = Output} (record { texts = texts; limit = limit; probes = probes; is_ordered = is_ordered }) (record { texts = texts2; limit = limit2; probes = probes; is_ordered = is_ordered2 })
+same_output texts texts2 limit limit2 probes is_ordered is_ordered2 e l o = rw (e, l, o) refl

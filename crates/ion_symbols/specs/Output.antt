@@ -1,5 +1,5 @@
 -- The texts of an output that have been given ids, and how they are found.
-use Rattle.std.specs.Prelude.{◌≡◌, ℕ, zero, suc, ◌+◌, ◌-◌, ◌^◌, ◌<◌, ◌≤◌, ◌/◌, nat_le, if◌then◌else◌, List, [], ◌∷◌, ◌++◌, length, take, drop, slice_get, slice_index_or, All, ⊤, Option, Some, None, option_map, codes}
+use Rattle.std.specs.Prelude.{◌≡◌, ℕ, zero, suc, ◌+◌, ◌-◌, ◌^◌, ◌<◌, ◌≤◌, ◌/◌, nat_le, if◌then◌else◌, Bool, List, [], ◌∷◌, ◌++◌, length, take, drop, slice_get, slice_index_or, All, ⊤, Option, Some, None, option_map, codes}
 use Rattle.std.specs.Str.{bytes_eq}
 use Rattle.ion_meter.specs.Counts.{Counts}
 use Rattle.std.specs.Cmp.Lexicographic.{slice_cmp}
@@ -46,11 +46,12 @@ id_or_new limit texts t None =
 abbrev pub id_given : ℕ → List (List ℕ) → List ℕ → Option ℕ × List (List ℕ)
 id_given limit texts t = id_or_new limit texts t (known_id texts t)
 
--- the texts in order of id, the limit of their cost, and the probes of the last search of id_of
+-- the texts in order of id, the limit of their cost, the probes of the last search of id_of, and whether the texts are in order of their bytes too
 pub record Output : Type 0 where
   pub texts : List (List ℕ)
   pub limit : ℕ
   pub probes : ℕ
+  pub is_ordered : Bool
 
 -- a text has no id, of the system table or of the texts
 pub record IsNew (texts : List (List ℕ)) (t : List ℕ) : Type 0 where

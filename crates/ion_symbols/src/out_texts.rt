@@ -89,6 +89,7 @@ impl<A: Allocator + Copy> OutTexts<A> {
     pub fn new(meter: &Meter<A>) -> OutTexts<A>
         ensures kept { AreKept result }
         ensures nothing { texts_of result ≡ [] }
+        ensures linked { result.is_ordered ≡ false }
     {
         OutTexts {
             bytes: Buf::new(meter),
@@ -434,6 +435,7 @@ impl<A: Allocator + Copy> OutTexts<A> {
         requires held { texts_cost (texts_of self.old) ≤ meter.old.held }
         ensures kept { AreKept self.new }
         ensures nothing { texts_of self.new ≡ [] }
+        ensures linked { self.new.is_ordered ≡ false }
         ensures cost { Shrinks meter.old meter.new (texts_cost (texts_of self.old)) }
     {
         self.bytes.clear(meter);

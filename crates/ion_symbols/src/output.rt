@@ -27,7 +27,8 @@ const FIRST_ID: u32 = 10;
 /// last taken away.
 ///
 /// It holds 16 counted bytes a text and the text's length, and never more than the limit on symbol
-/// tables. A clause sees the texts in order of id, the limit, and the probes of the last search.
+/// tables. A clause sees the texts in order of id, the limit, the probes of the last search, and
+/// whether the texts are in order of their bytes too, so that `search` has them.
 #[derive(Drop)]
 pub struct OutSymbols<A: Allocator + Copy> {
     kept: OutTexts<A>,
@@ -53,6 +54,7 @@ impl<A: Allocator + Copy> Model for OutSymbols<A> {
       texts = texts_of s.kept;
       limit = s.limit;
       probes = s.probes;
+      is_ordered = s.kept.is_ordered;
     } };
 
     ghost invariant = { λ s. AreKept s.kept × (texts_cost (texts_of s.kept) ≤ s.limit)
@@ -74,7 +76,12 @@ impl<A: Allocator + Copy> OutSymbols<A> {
     /// No texts. It takes no memory.
     pub fn new(meter: &Meter<A>, limits: Limits) -> OutSymbols<A>
         requires { AreChecked limits }
-        ensures { result ≡ record { texts = []; limit = limits.symbols; probes = 0 } }
+        ensures { result ≡ record {
+          texts = [];
+          limit = limits.symbols;
+          probes = 0;
+          is_ordered = false;
+        } }
     {
         OutSymbols {
             kept: OutTexts::new(meter),
@@ -195,6 +202,7 @@ impl<A: Allocator + Copy> OutSymbols<A> {
         ensures within { result ≡ true → texts_cost self.new.texts ≤ self.old.limit }
         ensures grows { result ≡ true → Grows meter.old meter.new (16 + added_cost added.entry) }
         ensures limit { self.new.limit ≡ self.old.limit }
+        ensures probes { self.new.probes ≡ self.old.probes }
         ensures declines { result ≡ false → (self.new ≡ self.old) × (octets.new ≡ octets.old)
             × (meter.new ≡ meter.old) }
     {
@@ -228,14 +236,15 @@ impl<A: Allocator + Copy> OutSymbols<A> {
 
     /// Puts the texts in order of bytes, where they are not, as `id_of` does. It takes no memory.
     pub fn put_in_order(&mut self)
-        ensures { self.new ≡ self.old }
+        ensures { self.new ≡ record self.old { is_ordered = true } }
     {
-        self.kept.put_in_order();
+        self.kept.put_in_order(); // Ids and probes stay as they are.
     }
 
     /// A search of the texts, without probes, where they are in order of bytes: from `put_in_order` or
     /// `id_of` on until all are taken away. Else there is none.
     pub fn search(&self) -> Option<Search<'_>>
+        ensures none { result ≡ None → self.now.is_ordered ≡ false }
         ensures texts { IfSome result (λ search. IsSorted search.texts self.now.texts) }
         ensures probes { IfSome result (λ search. search.probes ≡ 0) }
     {
@@ -255,7 +264,12 @@ impl<A: Allocator + Copy> OutSymbols<A> {
     /// Takes all texts away, so that ids begin at 10 again. It takes no memory.
     pub fn clear(&mut self, meter: &mut Meter<A>)
         requires { texts_cost self.old.texts ≤ meter.old.held }
-        ensures cleared { self.new ≡ record { texts = []; limit = self.old.limit; probes = 0 } }
+        ensures cleared { self.new ≡ record {
+          texts = [];
+          limit = self.old.limit;
+          probes = 0;
+          is_ordered = false;
+        } }
         ensures cost { Shrinks meter.old meter.new (texts_cost self.old.texts) }
     {
         self.kept.clear(meter);

@@ -8,7 +8,7 @@ pub clear-requires-clause-held : goal.clear-requires-clause-held
 clear-requires-clause-held g c = same_share _ _ _ (ap (λ (s : Output). s.texts) c.self.view_is) c.requires
 
 pub returns-clause-cleared : goal.returns-clause-cleared
-returns-clause-cleared g c = same_output _ _ _ _ _ c.clear.ensures.nothing (ap (λ (s : Output). s.limit) c.self.view_is)
+returns-clause-cleared g c = same_output _ _ _ _ _ _ _ c.clear.ensures.nothing (ap (λ (s : Output). s.limit) c.self.view_is) c.clear.ensures.linked
 
 pub returns-clause-cost : goal.returns-clause-cost
 returns-clause-cost g c = subst (λ (s : Output). Shrinks c.args.meter.now c.clear.new.meter (texts_cost s.texts)) c.self.view_is c.clear.ensures.cost

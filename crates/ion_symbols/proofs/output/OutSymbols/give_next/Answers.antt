@@ -31,7 +31,7 @@ returns-clause-within g c e =
 pub returns-clause-declines : goal.returns-clause-declines
 returns-clause-declines g c e =
     let same = c.add_with.ensures.declines e in
-    (same_output _ _ _ _ _ (ap (λ k. texts_of k) same.0) refl ∙ c.self.view_is, same.1, same.2)
+    (same_output _ _ _ _ _ _ _ (ap (λ k. texts_of k) same.0) refl (ap (λ k. k.is_ordered) same.0) ∙ c.self.view_is, same.1, same.2)
 
 pub returns-clause-new : goal.returns-clause-new
 returns-clause-new g c e =

@@ -1,5 +1,5 @@
 //! The devices that bytes come from and go to.
-ghost use Rattle.std.specs.Prelude.{◌≡◌, ℕ, ◌+◌, ◌-◌, ◌^◌, ◌<◌, ◌≤◌, ◌↔◌, List, [], ◌++◌, length, take, ◌⊎◌, OnOk, OnErr, IfOk, MatchResult};
+ghost use Rattle.std.specs.Prelude.{◌≡◌, ℕ, ◌+◌, ◌-◌, ◌^◌, ◌<◌, ◌≤◌, ◌↔◌, List, [], ◌++◌, length, take, ◌⊎◌, Ok, OnOk, OnErr, IfOk, MatchResult};
 
 use thiserror::Error;
 
@@ -85,6 +85,7 @@ pub fn write_all<O: Output>(device: &mut O, bytes: &[u8]) -> Result<(), Broken>
         (O.written device.new ≡ O.written device.old ++ bytes.now) }
     ensures prefix { O.observable device.old → (n : ℕ)
         × (O.written device.new ≡ O.written device.old ++ take n bytes.now) }
+    ensures nothing { bytes.now ≡ [] → (result ≡ Ok tt) × (device.new ≡ device.old) }
 {
     let mut at = 0;
     while at < bytes.len() {

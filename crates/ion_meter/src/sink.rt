@@ -1,5 +1,5 @@
 //! A window of 4,096 bytes on an output.
-ghost use Rattle.std.specs.Prelude.{◌≡◌, ◌+◌, ◌-◌, ◌^◌, ◌<◌, ◌≤◌, ◌++◌, ◌∷◌, [], length, take, min, None, Some, Err, OnOk, OnErr, IfOk, IfErr, IfSome, MatchResult};
+ghost use Rattle.std.specs.Prelude.{◌≡◌, ◌+◌, ◌-◌, ◌^◌, ◌<◌, ◌≤◌, ◌++◌, ◌∷◌, [], length, take, min, None, Some, Ok, Err, OnOk, OnErr, IfOk, IfErr, IfSome, MatchResult};
 ghost use Rattle.ion_meter.specs.Counts.{Grows, Shrinks, IsRefused};
 ghost use Rattle.ion_meter.specs.Windows.{Outgoing, so_far, Puts, write_failures_in};
 
@@ -126,10 +126,14 @@ impl<O: Output, A: Allocator + Copy> Sink<O, A> {
 
     /// Puts these bytes behind what was put before.
     ///
-    /// They are copied into the window, which is written out each time that it is full. Answers
-    /// `WriteFault` where the device fails, or takes nothing of bytes that it was given.
+    /// They are copied into the window, which is written out where it has no room for all of them.
+    /// Answers `WriteFault` where the device fails, or takes nothing of bytes that it was given.
     #[inline]
     pub fn put(&mut self, bytes: &[u8]) -> Result<(), Fault>
+        ensures within { self.old.fault ≡ None
+            → length self.old.pending + length bytes.now ≤ WINDOW
+            → (result ≡ Ok tt)
+            × (self.new ≡ record self.old { pending = self.old.pending ++ bytes.now }) }
         ensures puts { self.old.fault ≡ None
             → Puts O.written O.observable self.old self.new bytes.now }
         ensures ok { OnOk result (O.observable self.old.device
@@ -178,12 +182,14 @@ impl<O: Output, A: Allocator + Copy> Sink<O, A> {
         self.len += 1;
     }
 
-    /// Writes all that was put.
+    /// Writes all that was put; where that is nothing, the device is not called.
     ///
     /// Answers `WriteFault` where the device fails: what was written is then a prefix of what was
     /// put.
     pub fn flush(&mut self) -> Result<(), Fault>
         ensures puts { self.old.fault ≡ None → Puts O.written O.observable self.old self.new [] }
+        ensures nothing { self.old.fault ≡ None → self.old.pending ≡ []
+            → (result ≡ Ok tt) × (self.new ≡ self.old) }
         ensures ok { OnOk result (self.new.pending ≡ []) }
         ensures all { OnOk result (O.observable self.old.device
             → O.written self.new.device ≡ so_far O.written self.old) }

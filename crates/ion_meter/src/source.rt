@@ -114,6 +114,7 @@ impl<I: Input, A: Allocator + Copy> Source<I, A> {
             (λ _. I.failure_count self.new.device ≡ I.failure_count self.old.device + 1) }
         ensures more { OnOk result (self.new.ended ≡ false
             → length self.old.buffered < length self.new.buffered) }
+        ensures lost { OnErr result (self.new.buffered ≡ self.old.buffered) }
     {
         let live = self.end - self.start;
         self.window.copy_within(self.start..self.end, 0);
@@ -141,6 +142,7 @@ impl<I: Input, A: Allocator + Copy> Source<I, A> {
         ensures stays { self.old.ended ≡ true → self.new ≡ self.old }
         ensures reached { OnOk result ((ahead < length self.new.buffered)
             ⊎ (self.new.ended ≡ true)) }
+        ensures needed { OnErr result (length self.new.buffered ≤ ahead) }
         ensures err { IfErr result (λ f. (f ≡ Fault.ReadFault) × (self.new.fault ≡ Some f)) }
         ensures count { MatchResult result
             (λ _. I.failure_count self.new.device ≡ I.failure_count self.old.device)
@@ -170,6 +172,10 @@ impl<I: Input, A: Allocator + Copy> Source<I, A> {
             → (self.old.limit ≤ self.old.place + ahead)
             × (I.observable self.old.device
             → self.old.limit < self.old.place + length (left I.rest self.old)) }
+        ensures past { self.old.fault ≡ None → result ≡ Err Fault.InputLimit
+            → ahead < length self.new.buffered }
+        ensures needed { self.old.fault ≡ None → result ≡ Err Fault.ReadFault
+            → length self.new.buffered ≤ ahead }
     {
         if let Some(fault) = self.fault {
             return Err(fault);
@@ -189,9 +195,9 @@ impl<I: Input, A: Allocator + Copy> Source<I, A> {
 
     /// The byte so far ahead of the present place, or none past the end of the input.
     ///
-    /// A byte that is in the window is given from there, and no more of the device is read than that
-    /// needs. Answers `InputLimit` where the byte is
-    /// there and its place is not below `Limits::input`, and `ReadFault` where the device fails.
+    /// A byte that is in the window is given from there, and the device is read only where it is not.
+    /// Answers `InputLimit` where the byte is there and its place is not below `Limits::input`, and
+    /// `ReadFault` where the device fails.
     #[inline]
     pub fn peek(&mut self, ahead: usize) -> Result<Option<u8>, Fault>
         requires { ahead < 16 }
@@ -218,6 +224,10 @@ impl<I: Input, A: Allocator + Copy> Source<I, A> {
             → (self.old.limit ≤ self.old.place + ahead)
             × (I.observable self.old.device
             → self.old.limit < self.old.place + length (left I.rest self.old)) }
+        ensures past { self.old.fault ≡ None → result ≡ Err Fault.InputLimit
+            → ahead < length self.new.buffered }
+        ensures needed { self.old.fault ≡ None → result ≡ Err Fault.ReadFault
+            → length self.new.buffered ≤ ahead }
     {
         let at = self.start + ahead;
         if at < self.stop {

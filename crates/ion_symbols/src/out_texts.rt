@@ -254,6 +254,7 @@ impl<A: Allocator + Copy> OutTexts<A> {
             position (texts_of self.old) text.now ≡ Some number) }
         ensures new { IfErr result (λ spot. (position (texts_of self.old) text.now ≡ None)
             × IsSpot self.new text.now spot) }
+        ensures ordered { self.old.is_ordered ≡ true → self.new.is_ordered ≡ true }
     {
         if !self.is_ordered {
             match self.seek(text, hash(text)) {
@@ -327,6 +328,7 @@ impl<A: Allocator + Copy> OutTexts<A> {
         ensures charges { Charges meter.old meter.new
             (texts_cost (texts_of self.old)) (texts_cost (texts_of self.new))
             (texts_cost (texts_of self.old) + (16 + length text.now)) }
+        ensures order { self.new.is_ordered ≡ self.old.is_ordered }
     {
         let from = self.bytes.as_slice().len();
         let number = self.places.as_slice().len();
@@ -362,6 +364,7 @@ impl<A: Allocator + Copy> OutTexts<A> {
         ensures octets { result ≡ true
             → octets.new ≡ octets.old ++ (added.entry.front.now ++ added.entry.rest.now) }
         ensures grows { result ≡ true → Grows meter.old meter.new (16 + added_cost added.entry) }
+        ensures order { self.new.is_ordered ≡ self.old.is_ordered }
         ensures declines { result ≡ false → (self.new ≡ self.old) × (octets.new ≡ octets.old)
             × (meter.new ≡ meter.old) }
     {
@@ -397,6 +400,7 @@ impl<A: Allocator + Copy> OutTexts<A> {
         requires { CanLink self.old text.now spot }
         ensures kept { AreKept self.new }
         ensures texts { texts_of self.new ≡ texts_of self.old }
+        ensures order { self.new.is_ordered ≡ self.old.is_ordered }
     {
         let last = self.places.as_slice().len() as u32;
         if let Spot::Behind(number, digits) = spot {

@@ -109,11 +109,19 @@ impl<A: Allocator + Copy> OutSymbols<A> {
         ensures found { (id : ℕ) → known_id self.old.texts text.now ≡ Some id
             → (result ≡ Ok (Some id)) × (self.new.texts ≡ self.old.texts)
             × (meter.new ≡ meter.old) }
+        ensures over { known_id self.old.texts text.now ≡ None
+            → self.old.limit < texts_cost self.old.texts + (16 + length text.now)
+            → (result ≡ Ok None) × (meter.new ≡ meter.old) }
+        ensures grows { (id : ℕ) → known_id self.old.texts text.now ≡ None
+            → result ≡ Ok (Some id) → Grows meter.old meter.new (16 + length text.now) }
         ensures limit { self.new.limit ≡ self.old.limit }
         ensures probes { self.new.probes ≤ binary_digits (length self.old.texts) }
         ensures system { (id : ℕ) → system_id text.now ≡ Some id → self.new.probes ≡ 0 }
         ensures searched { (sorted : List (List ℕ)) → IsSorted sorted self.old.texts
             → system_id text.now ≡ None → self.new.probes ≡ probes_for sorted text.now }
+        ensures ordered { system_id text.now ≡ None → self.new.is_ordered ≡ true }
+        ensures stays { (id : ℕ) → system_id text.now ≡ Some id
+            → self.new.is_ordered ≡ self.old.is_ordered }
         ensures memory { IfErr result (λ fault. (fault ≡ Memory)
             × (self.new.texts ≡ self.old.texts) × (meter.new.refused ≡ meter.old.refused + 1)) }
         ensures counted { OnOk result (meter.new.refused ≡ meter.old.refused) }
@@ -163,8 +171,14 @@ impl<A: Allocator + Copy> OutSymbols<A> {
         ensures found { (id : ℕ) → known_id self.old.texts text.now ≡ Some id
             → (result ≡ Ok (Some id)) × (self.new.texts ≡ self.old.texts)
             × (meter.new ≡ meter.old) }
+        ensures over { known_id self.old.texts text.now ≡ None
+            → self.old.limit < texts_cost self.old.texts + (16 + length text.now)
+            → (result ≡ Ok None) × (meter.new ≡ meter.old) }
+        ensures grows { (id : ℕ) → known_id self.old.texts text.now ≡ None
+            → result ≡ Ok (Some id) → Grows meter.old meter.new (16 + length text.now) }
         ensures limit { self.new.limit ≡ self.old.limit }
         ensures probes { self.new.probes ≡ self.old.probes }
+        ensures ordered { self.old.is_ordered ≡ true → self.new.is_ordered ≡ true }
         ensures memory { IfErr result (λ fault. (fault ≡ Memory)
             × (self.new.texts ≡ self.old.texts) × (meter.new.refused ≡ meter.old.refused + 1)) }
         ensures counted { OnOk result (meter.new.refused ≡ meter.old.refused) }
@@ -189,8 +203,9 @@ impl<A: Allocator + Copy> OutSymbols<A> {
         FIRST_ID + self.kept.len() as u32
     }
 
-    /// Gives a text the next id, and adds octets to others, where the text has none, there is room for all
-    /// of it without a growth, and the limit allows it. Else it answers false, and nothing is changed.
+    /// Gives a text the next id, and adds octets to others, where the text has none, the texts are not in
+    /// order, the way to it is not too long, there is room for all of it without a growth, and the limit
+    /// allows it. Else it answers false, and nothing is changed.
     pub fn give_next(&mut self, octets: &mut Buf<A>, meter: &mut Meter<A>, added: Added<'_>) -> bool
         requires room { meter.old.held ≤ 2 ^ 62 + 2 ^ 31 }
         requires short { length added.front.now + length added.rest.now ≤ 2 ^ 32 }
@@ -203,6 +218,7 @@ impl<A: Allocator + Copy> OutSymbols<A> {
         ensures grows { result ≡ true → Grows meter.old meter.new (16 + added_cost added.entry) }
         ensures limit { self.new.limit ≡ self.old.limit }
         ensures probes { self.new.probes ≡ self.old.probes }
+        ensures ordered { self.new.is_ordered ≡ self.old.is_ordered }
         ensures declines { result ≡ false → (self.new ≡ self.old) × (octets.new ≡ octets.old)
             × (meter.new ≡ meter.old) }
     {
@@ -241,10 +257,12 @@ impl<A: Allocator + Copy> OutSymbols<A> {
         self.kept.put_in_order(); // Ids and probes stay as they are.
     }
 
-    /// A search of the texts, without probes, where they are in order of bytes: from `put_in_order` or
-    /// `id_of` on until all are taken away. Else there is none.
+    /// A search of the texts, without probes, where they are in order of bytes: from `put_in_order` on, or
+    /// from `id_of` of a text that is not of the system table, until all are taken away. Else there is
+    /// none, but where `give_id` had to put them in order.
     pub fn search(&self) -> Option<Search<'_>>
         ensures none { result ≡ None → self.now.is_ordered ≡ false }
+        ensures some { IfSome result (λ _. self.now.is_ordered ≡ true) }
         ensures texts { IfSome result (λ search. IsSorted search.texts self.now.texts) }
         ensures probes { IfSome result (λ search. search.probes ≡ 0) }
     {
@@ -339,6 +357,11 @@ fn add<A: Allocator + Copy>(
     ensures counted { OnOk result (meter.new.refused ≡ meter.old.refused) }
     ensures charges { Charges meter.old meter.new
         (texts_cost (texts_of kept.old)) (texts_cost (texts_of kept.new)) limit }
+    ensures over { limit < texts_cost (texts_of kept.old) + (16 + length text.now)
+        → (result ≡ Ok None) × (meter.new ≡ meter.old) }
+    ensures grows { (id : ℕ) → result ≡ Ok (Some id)
+        → Grows meter.old meter.new (16 + length text.now) }
+    ensures order { kept.new.is_ordered ≡ kept.old.is_ordered }
 {
     if is_over(kept.cost(), text, limit) {
         return Ok(None);

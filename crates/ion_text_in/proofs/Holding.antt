@@ -3,6 +3,8 @@ use Rattle.std.proofs.Common.{◌≡◌, ℕ, ◌+◌, ◌≤◌, List, length, 
 use Rattle.ion_meter.specs.Counts.{Counts}
 use Rattle.ion_meter.specs.declared.device.Input.{Ghosts as InputOf}
 use Rattle.ion_meter.specs.declared.fault.Fault.{Fault}
+use Rattle.ion_meter.specs.declared.fault.Fault.TheVariants.{Refused}
+use Rattle.ion_meter.specs.declared.fault.Reason.{Reason}
 use Rattle.ion_meter.specs.declared.limits.Limits.{Limits}
 use Rattle.ion_meter.specs.Windows.{Incoming}
 use Rattle.ion_meter.specs.Sources.{Exceeds, Stands, Moves, Causes}
@@ -75,6 +77,32 @@ into-held device s t a b k l most (Err f) h = record { stands = λ e. absurd (cc
 pub held-into : {I T : Type 0} (device : InputOf I) (s t : Incoming I) (a b : Counts) (k l most : ℕ) (r : Result T Fault) → Held device s t a b k l most (fault_of r) → ReadsInto device s t a b k l most r
 held-into device s t a b k l most (Ok x) h = record { stands = h.stands refl; moves = h.moves; causes = h.causes; charges = h.charges }
 held-into device s t a b k l most (Err f) h = record { stands = tt; moves = h.moves; causes = h.causes; charges = h.charges }
+
+-- no fault is none that there is
+pub none-some : {Y : Type 0} {y : Y} → None ≡ Some y → ⊥
+none-some e = cc e
+
+-- what was held so far, and then a call
+pub reads-then : {I T : Type 0} (device : InputOf I) (s t u : Incoming I) (a b c : Counts) (k l n most : ℕ) (r : Result T Fault) → k ≤ a.held → Held device s t a b k l most None → ReadsInto device t u b c l n most r
+    → ReadsInto device s u a c k n most r
+reads-then device s t u a b c k l n most r there x y = held-into device s u a c k n most r (held-then device s t u a b c k l n most (fault_of r) there x (into-held device t u b c l n most r y))
+
+-- or a refusal
+pub reads-refused : {I T : Type 0} (device : InputOf I) (s t : Incoming I) (a b : Counts) (k l most : ℕ) (reason : Reason) (place : ℕ) → Held device s t a b k l most None
+    → ReadsInto {T = T} device s t a b k l most (Err (Refused reason place))
+reads-refused device s t a b k l most reason place x = record {
+  stands = tt;
+  moves = x.moves;
+  causes = record {
+    memory = λ e. absurd (cc e);
+    counted = λ _. x.causes.counted (λ e. cc e);
+    device = λ e. absurd (cc e);
+    steady = λ _. x.causes.steady (λ e. cc e);
+    limit = λ e. absurd (cc e);
+    no_writes = λ e. cc e;
+  };
+  charges = x.charges;
+}
 
 causes-held : (fault : Option Fault) (m : Counts) (n k : ℕ) (exceeds : Type 0) → Causes fault n k exceeds → ReadCauses fault m m n k exceeds
 causes-held fault m n k exceeds c = record { memory = λ e. absurd (c.no_memory e); counted = λ _. refl; device = c.device; steady = c.steady; limit = c.limit; no_writes = c.no_writes }

@@ -9,7 +9,7 @@ use Rattle.ion_meter.specs.declared.limits.Limits.{Limits}
 use Rattle.ion_meter.specs.Windows.{Incoming}
 use Rattle.ion_meter.specs.Sources.{cursor}
 use Rattle.ion_value.specs.declared.ion_type.Kind.{Kind}
-use Rattle.ion_value.specs.Calls.{Reads}
+use Rattle.ion_value.specs.Calls.{Reads, ReadsInto}
 use Rattle.ion_value.specs.Shares.{fault_of}
 use Rattle.ion_value.proofs.Cursors.{moves-not}
 use Rattle.ion_value.specs.Standing.{Fits, open_after}
@@ -46,6 +46,56 @@ module _ {I A : Type 0} (device : InputOf I) where
     sized = source-sized r s sized;
     held = reads-held device r.source s a (held_by r) (share_of r) (Ok x) (within-share r sized) there reads;
   }
+
+  -- a token was read into the text
+  pub reached-text : {T : Type 0} (r : TextReader I A) (s : Incoming I) (t : List ℕ) (a b : Counts) (x : T) → IsSized r → held_by r ≤ a.held
+      → ReadsInto device r.source s a b (length r.text) (length t) r.limits.scalar (Ok x) → Reached r (record r { source = s; text = t }) a b
+  reached-text r s t a b x sized there reads =
+      let few = sized.few in let noted = sized.annotated in let name = sized.name in
+      let held = reads.charges.held in let share = reads.charges.share in let peak = reads.charges.peak in
+      record {
+        kinds = refl;
+        limits = refl;
+        done = refl;
+        failed = refl;
+        sized = record { checked = sized.checked; few = few; annotated = noted; name = name; text = share };
+        held = record {
+          stands = λ _. reads.stands;
+          moves = reads.moves;
+          causes = reads.causes;
+          charges = record {
+            held = omega (arith, held);
+            share = omega (arith, few, noted, name, share);
+            peak = omega (arith, few, noted, name, there, peak);
+            rises = reads.charges.rises;
+          };
+        };
+      }
+
+  -- or into the name of a field
+  pub reached-name : {T : Type 0} (r : TextReader I A) (s : Incoming I) (t : List ℕ) (a b : Counts) (x : T) → IsSized r → held_by r ≤ a.held
+      → ReadsInto device r.source s a b (length r.name) (length t) r.limits.scalar (Ok x) → Reached r (record r { source = s; name = t }) a b
+  reached-name r s t a b x sized there reads =
+      let few = sized.few in let noted = sized.annotated in let text = sized.text in
+      let held = reads.charges.held in let share = reads.charges.share in let peak = reads.charges.peak in
+      record {
+        kinds = refl;
+        limits = refl;
+        done = refl;
+        failed = refl;
+        sized = record { checked = sized.checked; few = few; annotated = noted; name = share; text = text };
+        held = record {
+          stands = λ _. reads.stands;
+          moves = reads.moves;
+          causes = reads.causes;
+          charges = record {
+            held = omega (arith, held);
+            share = omega (arith, few, noted, text, share);
+            peak = omega (arith, few, noted, text, there, peak);
+            rises = reads.charges.rises;
+          };
+        };
+      }
 
   -- one behind another
   pub reached-then : (p q r : TextReader I A) (a b c : Counts) → held_by p ≤ a.held → Reached p q a b → Reached q r b c → Reached p r a c

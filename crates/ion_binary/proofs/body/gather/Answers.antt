@@ -66,3 +66,24 @@ consume-requires g c = grind (arith, common_steps)
 
 pub loop-source-smaller : goal.loop-source-smaller
 loop-source-smaller g c = grind (arith, common_steps)
+
+pub returns-in-Err-extend-clause-plain : goal.returns-in-Err-extend-clause-plain
+returns-in-Err-extend-clause-plain g c = grind (arith, common_steps) steps 400000
+
+pub returns-in-Err-extend-clause-cut : goal.returns-in-Err-extend-clause-cut
+returns-in-Err-extend-clause-cut g c = grind (arith, common_steps) steps 400000
+
+pub returns-in-Err-extend-clause-goes : goal.returns-in-Err-extend-clause-goes
+returns-in-Err-extend-clause-goes g c = grind (arith, common_steps) steps 400000
+
+pub returns-clause-reads : goal.returns-clause-reads
+returns-clause-reads g c = grind (arith, common_steps) steps 400000
+
+pub slice_bounds-extend-end : goal.slice_bounds-extend-end
+slice_bounds-extend-end g c = grind (arith, common_steps) steps 400000
+
+pub extend-requires-clause-room : goal.extend-requires-clause-room
+extend-requires-clause-room g c = grind (arith, common_steps) steps 400000
+
+pub loop-source-init : goal.loop-source-init
+loop-source-init g c = grind (arith, common_steps) steps 400000

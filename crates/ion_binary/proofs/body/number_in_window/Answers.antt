@@ -1,4 +1,5 @@
-use Rattle.std.proofs.Common.{refl, ap, sym, ◌∙◌, ℕ, List, take}
+use Rattle.std.proofs.Common.{refl, ap, sym, ◌∙◌, ℕ, List, take, arith}
+use Rattle.std.proofs.lemmas.Grind.{common_steps}
 use Rattle.ion_meter.proofs.Lent.{lent-take}
 use Rattle.ion_value.specs.Scalar.{scalar_of_body}
 use Rattle.ion_binary.specs.Bodies.{as_scalar}
@@ -25,3 +26,12 @@ returns-clause-gives g c = λ text.
     let behind = IsPassed-cursor g.I.Input s c.consume.new.self c.args.count c.requires.there c.consume.ensures in
     rw behind (body_here-read c.args.limits c.args.type_code c.args.count (cursor g.I.Input s) (as_scalar text c.number.new.body) c.requires.small (lent-there g.I.Input.rest s c.args.count c.requires.there)
     (ap (scalar_of_body c.args.type_code) (sym same) ∙ read text))
+
+pub consume-requires : goal.consume-requires
+consume-requires g c = grind (arith, common_steps)
+
+pub returns-clause-reads : goal.returns-clause-reads
+returns-clause-reads g c = grind (arith, common_steps)
+
+pub returns-in-Err-clause-reads : goal.returns-in-Err-clause-reads
+returns-in-Err-clause-reads g c = grind (arith, common_steps) steps 400000

@@ -21,3 +21,15 @@ loop-more-preserved g c =
       steady = let e = rw inv.passed.stands.well at peek.count in ap g.I.Input.failure_count c.consume.ensures.device ∙ omega (arith, inv.steady, e);
       fewer = omega (arith, some, inv.fewer);
     }
+
+pub returns-in-Ok-None-clause-reads : goal.returns-in-Ok-None-clause-reads
+returns-in-Ok-None-clause-reads g c = grind (arith, common_steps) steps 400000
+
+pub consume-requires : goal.consume-requires
+consume-requires g c = grind (arith, common_steps)
+
+pub returns-in-Err-clause-reads : goal.returns-in-Err-clause-reads
+returns-in-Err-clause-reads g c = grind (arith, common_steps) steps 400000
+
+pub loop-more-smaller : goal.loop-more-smaller
+loop-more-smaller g c = grind (arith, common_steps) steps 400000

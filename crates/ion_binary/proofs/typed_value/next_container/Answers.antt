@@ -1,4 +1,5 @@
-use Rattle.std.proofs.Common.{◌≡◌, ℕ, Ok, Err, refl, sym, ap, ◌∙◌}
+use Rattle.std.proofs.Common.{◌≡◌, ℕ, Ok, Err, refl, sym, ap, ◌∙◌, arith}
+use Rattle.std.proofs.lemmas.Grind.{common_steps}
 use Rattle.ion_binary.specs.Descriptor.{length_at}
 use Rattle.ion_binary.specs.Finds.{as_around, end_by}
 use Rattle.ion_binary.specs.Reading.{a_container}
@@ -29,3 +30,6 @@ returns-in-Ok-begin-clause-gives g c t =
     let begun : end_by c.args.limits (as_around c.args.around) there.place c.in-Ok.count ≡ Ok c.in-Ok-begin.end =
     ap (λ n. end_by c.args.limits (as_around c.args.around) n c.in-Ok.count) (sym c.place.ensures) ∙ sym c.in-Ok-begin.ensures.gives in
     container_at-begun c.args.limits (as_around c.args.around) c.args.kind c.args.length_code here c.in-Ok.count there c.in-Ok-begin.end (c.in-Ok.ensures.gives t) begun
+
+pub returns-in-Err-begin-clause-reads : goal.returns-in-Err-begin-clause-reads
+returns-in-Err-begin-clause-reads g c = grind (arith, common_steps) steps 400000

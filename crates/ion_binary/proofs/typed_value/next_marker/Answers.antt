@@ -1,4 +1,5 @@
-use Rattle.std.proofs.Common.{◌≡◌, ℕ, ◌+◌, Bool, true, false, not, List, take, drop, None, slice_get, refl, sym, ap, ◌∙◌}
+use Rattle.std.proofs.Common.{◌≡◌, ℕ, ◌+◌, Bool, true, false, not, List, take, drop, None, slice_get, refl, sym, ap, ◌∙◌, arith}
+use Rattle.std.proofs.lemmas.Grind.{common_steps}
 use Rattle.ion_meter.specs.Windows.{left}
 use Rattle.ion_meter.proofs.Lent.{lent-IsGiven, IsPassed-left}
 use Rattle.ion_meter.specs.Sources.{cursor}
@@ -41,3 +42,18 @@ returns-clause-gives g c t =
     let passed : left g.I.Input.rest c.consume.new.self ≡ drop 3 all = IsPassed-left g.I.Input.rest p c.consume.new.self 3 three.0 c.consume.ensures ∙ ap (drop 3) same_left in
     let at : c.consume.new.self.place ≡ c.args.source.now.place + 3 = c.consume.ensures.place ∙ ap (λ n. n + 3) c.in-Ok-Some.ensures.kept.place in
     rw (passed, at) (marker_at-read c.args.region (cursor g.I.Input c.args.source.now) (sym c.is_some.ensures ∙ c.if-is_some.false) three.1 one)
+
+pub returns-in-Ok-None-clause-reads : goal.returns-in-Ok-None-clause-reads
+returns-in-Ok-None-clause-reads g c = grind (arith, common_steps) steps 400000
+
+pub returns-in-Err-clause-reads : goal.returns-in-Err-clause-reads
+returns-in-Err-clause-reads g c = grind (arith, common_steps) steps 400000
+
+pub returns-then-is_some-clause-reads : goal.returns-then-is_some-clause-reads
+returns-then-is_some-clause-reads g c = grind (arith, common_steps) steps 400000
+
+pub returns-then-ne-clause-reads : goal.returns-then-ne-clause-reads
+returns-then-ne-clause-reads g c = grind (arith, common_steps) steps 400000
+
+pub slice_bounds-ne-end : goal.slice_bounds-ne-end
+slice_bounds-ne-end g c = grind (arith, common_steps)

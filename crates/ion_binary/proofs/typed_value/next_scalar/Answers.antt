@@ -1,4 +1,5 @@
-use Rattle.std.proofs.Common.{◌≡◌, Ok, Err, refl, sym, ap, ◌∙◌}
+use Rattle.std.proofs.Common.{◌≡◌, Ok, Err, refl, sym, ap, ◌∙◌, arith}
+use Rattle.std.proofs.lemmas.Grind.{common_steps}
 use Rattle.ion_binary.specs.Descriptor.{length_at}
 use Rattle.ion_binary.specs.Bodies.{as_scalar}
 use Rattle.ion_binary.specs.Finds.{as_around}
@@ -33,3 +34,9 @@ returns-clause-gives g c t =
     answers-mapped (λ (x : Unit {0}). as_scalar c.next_body.new.text c.next_body.new.body) a_scalar c.next_body.result (cursor g.I.Input c.next_body.new.source) c.args.place
     (body_here c.args.limits c.args.type_code c.in-Ok.count there) _ (c.next_body.ensures.gives (c.in-Ok.ensures.reads.moves.still_observable.1 t))
     (scalar_at-body c.args.limits (as_around c.args.around) c.args.type_code c.args.length_code here c.in-Ok.count there c.in_default.field-0 (c.in-Ok.ensures.gives t) fitting)
+
+pub returns-in-Err-check_fits-clause-reads : goal.returns-in-Err-check_fits-clause-reads
+returns-in-Err-check_fits-clause-reads g c = grind (arith, common_steps) steps 400000
+
+pub returns-in-Err-clause-reads : goal.returns-in-Err-clause-reads
+returns-in-Err-clause-reads g c = grind (arith, common_steps) steps 400000

@@ -1,4 +1,5 @@
 use Rattle.std.proofs.Common.{◌≡◌, ℕ, Ok, Err, refl, arith, sym, ap, ◌∙◌}
+use Rattle.std.proofs.lemmas.Grind.{common_steps}
 use Rattle.ion_binary.specs.Descriptor.{var_uint_at}
 use Rattle.ion_binary.specs.Finds.{as_around, end_by}
 use Rattle.ion_binary.specs.Reading.{a_container}
@@ -36,3 +37,6 @@ returns-in-Ok-begin-clause-gives g c t =
     let begun : end_by c.args.limits (as_around c.args.around) there.place c.in-Ok.count ≡ Ok c.in-Ok-begin.end =
     ap (λ n. end_by c.args.limits (as_around c.args.around) n c.in-Ok.count) (sym c.place.ensures) ∙ sym c.in-Ok-begin.ensures.gives in
     sorted_at-begun c.args.limits (as_around c.args.around) here c.in-Ok.count there c.in-Ok-begin.end (c.in-Ok.ensures.gives t) (omega (arith, c.if-count-eq0.false)) begun
+
+pub returns-in-Err-begin-clause-reads : goal.returns-in-Err-begin-clause-reads
+returns-in-Err-begin-clause-reads g c = grind (arith, common_steps) steps 400000

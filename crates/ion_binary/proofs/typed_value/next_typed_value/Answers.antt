@@ -1,4 +1,5 @@
-use Rattle.std.proofs.Common.{◌≡◌, false, ◌&&◌, refl, sym, ap, subst, ◌∙◌}
+use Rattle.std.proofs.Common.{◌≡◌, false, ◌&&◌, refl, sym, ap, subst, ◌∙◌, arith}
+use Rattle.std.proofs.lemmas.Grind.{common_steps}
 use Rattle.std.proofs.lemmas.Bool.{and_from, and_left, and_right}
 use Rattle.ion_binary.specs.Descriptor.{is_unwrappable}
 use Rattle.ion_binary.specs.Finds.{as_around, as_typed_value, IsOfDescriptor}
@@ -33,3 +34,6 @@ returns-clause-gives g c t =
     ap (λ s. read_by_descriptor c.args.limits (as_around c.args.around) s here) c.of.ensures ∙ sym (typed_value_at-shape c.args.limits (as_around c.args.around) c.args.octet here free) in
     subst (λ given. Answers (as_typed_value c.read_by_descriptor.new.text c.read_by_descriptor.new.body) c.read_by_descriptor.result (cursor g.I.Input c.read_by_descriptor.new.source) c.args.place given)
     same (c.read_by_descriptor.ensures.gives t)
+
+pub returns-then-no_wrapper_holds-clause-reads : goal.returns-then-no_wrapper_holds-clause-reads
+returns-then-no_wrapper_holds-clause-reads g c = grind (arith, common_steps) steps 400000

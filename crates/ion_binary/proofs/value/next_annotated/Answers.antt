@@ -1,4 +1,5 @@
-use Rattle.std.proofs.Common.{ap, ◌∙◌, sym, subst, Err}
+use Rattle.std.proofs.Common.{ap, ◌∙◌, sym, subst, Err, arith}
+use Rattle.std.proofs.lemmas.Grind.{common_steps}
 use Rattle.ion_value.specs.Parts.{◌>>=◌}
 use Rattle.ion_binary.specs.Reading.{wrapper_at, inner_at, annotated_at, region_of}
 use Rattle.ion_meter.specs.Sources.{cursor}
@@ -35,3 +36,24 @@ returns-clause-gives g c t frames top f region deep =
     (as_wrapped c.in-Ok.wrapper) region (c.in-Ok.ensures.gives t)
     ∙ ap (λ r. r >>= λ annotations. inner_at c.args.limits frames top f annotations.0 c.in-Ok.wrapper.end annotations.1) (c.in_default.ensures.gives observable))
     (c.next_inner.ensures.gives (c.in_default.ensures.reads.moves.still_observable.1 observable) frames top f (as_annotations c.next_annotations.new.annotations) deep)
+
+pub returns-in-Err-next_annotations-clause-deep : goal.returns-in-Err-next_annotations-clause-deep
+returns-in-Err-next_annotations-clause-deep g c = grind (arith, common_steps) steps 400000
+
+pub returns-in-Err-next_annotations-clause-no_marker : goal.returns-in-Err-next_annotations-clause-no_marker
+returns-in-Err-next_annotations-clause-no_marker g c = grind (arith, common_steps) steps 400000
+
+pub returns-clause-no_marker : goal.returns-clause-no_marker
+returns-clause-no_marker g c = grind (arith, common_steps) steps 400000
+
+pub returns-clause-deep : goal.returns-clause-deep
+returns-clause-deep g c = grind (arith, common_steps) steps 400000
+
+pub returns-clause-goes : goal.returns-clause-goes
+returns-clause-goes g c = grind (arith, common_steps) steps 400000
+
+pub returns-in-Err-clause-reads : goal.returns-in-Err-clause-reads
+returns-in-Err-clause-reads g c = grind (arith, common_steps) steps 400000
+
+pub returns-in-Err-next_annotations-clause-range : goal.returns-in-Err-next_annotations-clause-range
+returns-in-Err-next_annotations-clause-range g c = grind (arith, common_steps) steps 400000

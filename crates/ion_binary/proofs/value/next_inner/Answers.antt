@@ -1,4 +1,5 @@
-use Rattle.std.proofs.Common.{ap, ◌∙◌, sym, subst, Some, Ok, Err, true}
+use Rattle.std.proofs.Common.{ap, ◌∙◌, sym, subst, Some, Ok, Err, true, arith}
+use Rattle.std.proofs.lemmas.Grind.{common_steps}
 use Rattle.ion_value.specs.Parts.{◌>>=◌, part}
 use Rattle.ion_binary.specs.Descriptor.{octet_at}
 use Rattle.ion_binary.specs.Reading.{step_for, typed_value_at, inner_at}
@@ -32,3 +33,24 @@ returns-in-Ok-next_typed_value-clause-gives g c t frames top f annotations deep 
     inner_at-octet c.args.limits frames top f annotations c.args.end (cursor g.I.Input c.args.source.now) (cursor g.I.Input c.next_octet.new.source) c.args.depth c.in-Ok.octet deep (c.in-Ok.ensures.gives t)
     ∙ (ap (λ r. part c.args.source.now.place r >>= λ v. Ok (step_for frames top f annotations c.args.source.now.place v.0 v.1)) (c.in-Ok-next_typed_value.ensures.gives (c.in-Ok.ensures.reads.moves.still_observable.1 t))
     ∙ ap (λ p. Ok (step_for frames top f annotations p (as_typed_value c.next_typed_value.new.text c.next_typed_value.new.body c.in-Ok-next_typed_value.found) (cursor g.I.Input c.next_typed_value.new.source))) (sym c.place-place.ensures))
+
+pub returns-in-Err-clause-reads : goal.returns-in-Err-clause-reads
+returns-in-Err-clause-reads g c = grind (arith, common_steps) steps 400000
+
+pub returns-in-Ok-next_typed_value-clause-range : goal.returns-in-Ok-next_typed_value-clause-range
+returns-in-Ok-next_typed_value-clause-range g c = grind (arith, common_steps) steps 400000
+
+pub returns-in-Err-next_typed_value-clause-no_marker : goal.returns-in-Err-next_typed_value-clause-no_marker
+returns-in-Err-next_typed_value-clause-no_marker g c = grind (arith, common_steps) steps 400000
+
+pub returns-in-Ok-next_typed_value-clause-deep : goal.returns-in-Ok-next_typed_value-clause-deep
+returns-in-Ok-next_typed_value-clause-deep g c = grind (arith, common_steps) steps 400000
+
+pub returns-in-Ok-next_typed_value-clause-no_marker : goal.returns-in-Ok-next_typed_value-clause-no_marker
+returns-in-Ok-next_typed_value-clause-no_marker g c = grind (arith, common_steps) steps 400000
+
+pub returns-in-Err-next_typed_value-clause-range : goal.returns-in-Err-next_typed_value-clause-range
+returns-in-Err-next_typed_value-clause-range g c = grind (arith, common_steps) steps 400000
+
+pub returns-in-Err-next_typed_value-clause-deep : goal.returns-in-Err-next_typed_value-clause-deep
+returns-in-Err-next_typed_value-clause-deep g c = grind (arith, common_steps) steps 400000

@@ -1,4 +1,5 @@
-use Rattle.std.proofs.Common.{ap, ◌∙◌, sym, subst, Ok, Err, false, []}
+use Rattle.std.proofs.Common.{ap, ◌∙◌, sym, subst, Ok, Err, false, [], arith}
+use Rattle.std.proofs.lemmas.Grind.{common_steps}
 use Rattle.ion_value.specs.Parts.{◌>>=◌, part}
 use Rattle.ion_binary.specs.Descriptor.{octet_at}
 use Rattle.ion_binary.specs.Reading.{step_for, typed_value_at, region_of, annotated_at, value_at}
@@ -47,3 +48,33 @@ returns-in-Ok-next_typed_value-clause-gives g c t frames top f region deep =
     ∙ (ap (λ p. Ok (step_for frames top f [] p (as_typed_value c.next_typed_value.new.text c.next_typed_value.new.body c.in-Ok-next_typed_value.found) (cursor g.I.Input c.next_typed_value.new.source))) (sym c.place-place.ensures)
     ∙ ap (λ n. Ok (step_for frames top f (as_annotations n) c.place-place.result (as_typed_value c.next_typed_value.new.text c.next_typed_value.new.body c.in-Ok-next_typed_value.found) (cursor g.I.Input c.next_typed_value.new.source)))
     (sym c.requires.none)))
+
+pub returns-in-Err-clause-reads : goal.returns-in-Err-clause-reads
+returns-in-Err-clause-reads g c = grind (arith, common_steps) steps 400000
+
+pub returns-in-Ok-next_typed_value-clause-deep : goal.returns-in-Ok-next_typed_value-clause-deep
+returns-in-Ok-next_typed_value-clause-deep g c = grind (arith, common_steps) steps 400000
+
+pub returns-in-Ok-next_typed_value-clause-spare : goal.returns-in-Ok-next_typed_value-clause-spare
+returns-in-Ok-next_typed_value-clause-spare g c = grind (arith, common_steps) steps 400000
+
+pub returns-in-Err-next_typed_value-clause-goes : goal.returns-in-Err-next_typed_value-clause-goes
+returns-in-Err-next_typed_value-clause-goes g c = grind (arith, common_steps) steps 400000
+
+pub returns-in-Err-next_typed_value-clause-deep : goal.returns-in-Err-next_typed_value-clause-deep
+returns-in-Err-next_typed_value-clause-deep g c = grind (arith, common_steps) steps 400000
+
+pub returns-in-Ok-next_typed_value-clause-range : goal.returns-in-Ok-next_typed_value-clause-range
+returns-in-Ok-next_typed_value-clause-range g c = grind (arith, common_steps) steps 400000
+
+pub returns-in-Some-clause-deep : goal.returns-in-Some-clause-deep
+returns-in-Some-clause-deep g c = grind (arith, common_steps) steps 400000
+
+pub returns-in-Ok-next_typed_value-clause-goes : goal.returns-in-Ok-next_typed_value-clause-goes
+returns-in-Ok-next_typed_value-clause-goes g c = grind (arith, common_steps) steps 400000
+
+pub returns-in-Err-next_typed_value-clause-range : goal.returns-in-Err-next_typed_value-clause-range
+returns-in-Err-next_typed_value-clause-range g c = grind (arith, common_steps) steps 400000
+
+pub returns-in-Some-clause-spare : goal.returns-in-Some-clause-spare
+returns-in-Some-clause-spare g c = grind (arith, common_steps) steps 400000

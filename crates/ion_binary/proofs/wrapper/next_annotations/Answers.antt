@@ -1,4 +1,5 @@
-use Rattle.std.proofs.Common.{arith, ap, sym, ◌∙◌, ◌≡◌, ◌+◌, ◌*◌, ◌-◌, ◌≤◌, [], length, Some, Err}
+use Rattle.std.proofs.Common.{arith, ap, sym, ◌∙◌, ◌≡◌, ◌+◌, ◌*◌, ◌-◌, ◌≤◌, [], length, None, Some, Err}
+use Rattle.std.proofs.lemmas.Grind.{common_steps}
 use Rattle.std.proofs.lemmas.List.{length-append}
 use Rattle.ion_meter.specs.declared.fault.Reason.TheVariants.{AnnotationLimit}
 use Rattle.ion_binary.specs.Descriptor.{var_uint_at}
@@ -11,6 +12,9 @@ use Rattle.ion_value.proofs.Cursors.{moves-then}
 use Rattle.ion_value.proofs.GrowsWithin.{grows-then, passed-then}
 use Rattle.ion_binary.proofs.Annotations.{ids_at-ended, ids_at-refused, ids_at-limited, ids_at-one_more, answers_at-refused, charges-grown}
 use Rattle.ion_binary.proofs.wrapper.next_annotations.Goals as goal
+
+none-some : {Y : Type 0} {y : Y} → None ≡ Some y → ⊥
+none-some e = cc e
 
 pub returns-in-Err-clause-gives : goal.returns-in-Err-clause-gives
 returns-in-Err-clause-gives g c t =
@@ -53,7 +57,7 @@ loop-limits-preserved g c =
     record {
       stands = o.reads.stands;
       moves = moves-then g.I.Input c.args.source.now c.loop-limits.source c.next_var_uint.new.source inv.moves o.reads.moves;
-      steady = o.reads.causes.steady (λ e. absurd (cc e)) ∙ inv.steady;
+      steady = o.reads.causes.steady (λ e. none-some e) ∙ inv.steady;
       counted = c.in_default.ensures.cost.refused ∙ inv.counted;
       charges = charges-grown c.args.meter.now c.loop-limits.meter c.push.new.meter (16 * length c.loop-limits.annotations) (16 * length c.push.new.self) c.args.limits.scalar
           inv.charges c.in_default.ensures.cost (omega (arith, more)) (omega (arith, more, all, c.if-limits-as_slice.false));
@@ -81,3 +85,21 @@ loop-limits-preserved g c =
           inv.taken (omega (arith, c.loop-limits-test.true, c.place.ensures)) (o.gives (inv.moves.still_observable.1 t))
           (omega (arith, all, c.if-limits-as_slice.false)) c.id_of-id.ensures c.place-place.ensures c.in_default.ensures.ok;
     }
+
+pub returns-in-Err-push-clause-gives : goal.returns-in-Err-push-clause-gives
+returns-in-Err-push-clause-gives g c = grind (arith, common_steps) steps 400000
+
+pub returns-then-limits-as_slice-clause-reads : goal.returns-then-limits-as_slice-clause-reads
+returns-then-limits-as_slice-clause-reads g c = grind (arith, common_steps) steps 400000
+
+pub returns-in-Err-push-clause-reads : goal.returns-in-Err-push-clause-reads
+returns-in-Err-push-clause-reads g c = grind (arith, common_steps) steps 400000
+
+pub returns-clause-reads : goal.returns-clause-reads
+returns-clause-reads g c = grind (arith, common_steps) steps 400000
+
+pub returns-in-Err-push-clause-goes : goal.returns-in-Err-push-clause-goes
+returns-in-Err-push-clause-goes g c = grind (arith, common_steps) steps 400000
+
+pub push-requires-clause-room : goal.push-requires-clause-room
+push-requires-clause-room g c = grind (arith, common_steps) steps 400000

@@ -1,4 +1,5 @@
-use Rattle.std.proofs.Common.{refl, ◌+◌, true, false, Some}
+use Rattle.std.proofs.Common.{refl, ◌+◌, true, false, Some, arith}
+use Rattle.std.proofs.lemmas.Grind.{common_steps}
 use Rattle.ion_binary.specs.Descriptor.{length_at, var_uint_at}
 use Rattle.ion_binary.specs.Reading.{wrapper_at}
 use Rattle.ion_meter.specs.Sources.{cursor}
@@ -52,3 +53,12 @@ returns-clause-gives g c t =
     wrapper_at-tested c.args.region c.args.length_code c.in-Ok.count c.in-Ok-next_var_uint.ids c.place-here.result c.place-behind.result old sized new false false
     (c.in-Ok.ensures.gives t) c.place-here.ensures (c.in-Ok-next_var_uint.ensures.gives (c.in-Ok.ensures.reads.moves.still_observable.1 t)) c.place-behind.ensures
     c.if-passes_end.ensures c.if-is_no_wrapper.ensures
+
+pub returns-then-is_no_wrapper-clause-reads : goal.returns-then-is_no_wrapper-clause-reads
+returns-then-is_no_wrapper-clause-reads g c = grind (arith, common_steps) steps 400000
+
+pub returns-in-Err-next_var_uint-clause-reads : goal.returns-in-Err-next_var_uint-clause-reads
+returns-in-Err-next_var_uint-clause-reads g c = grind (arith, common_steps) steps 400000
+
+pub returns-then-passes_end-clause-reads : goal.returns-then-passes_end-clause-reads
+returns-then-passes_end-clause-reads g c = grind (arith, common_steps) steps 400000

@@ -1,4 +1,4 @@
-use Rattle.std.proofs.Common.{arith}
+use Rattle.std.proofs.Common.{refl, arith}
 use Rattle.ion_symbols.proofs.Adding.{charges_within, given_over, given_push, nothing_charged, share_push}
 use Rattle.ion_symbols.proofs.KeptTexts.{same_share}
 use Rattle.ion_symbols.proofs.output.add.Goals as goal
@@ -36,3 +36,23 @@ returns-in-Err-clause-share g c = same_share _ _ _ c.in-Err.ensures.memory.1 c.r
 pub returns-in-Err-clause-charges : goal.returns-in-Err-clause-charges
 returns-in-Err-clause-charges g c =
     charges_within _ _ _ _ _ _ c.add.ensures.charges (let f = c.is_over.ensures.fits c.if-is_over.false in omega (arith, f, c.cost.ensures))
+
+-- ---- what is over the limit, and what grows
+
+pub returns-then-is_over-clause-over : goal.returns-then-is_over-clause-over
+returns-then-is_over-clause-over g c over = (refl, refl)
+
+pub returns-then-is_over-clause-grows : goal.returns-then-is_over-clause-grows
+returns-then-is_over-clause-grows g c id e = absurd (cc e)
+
+pub returns-in-Ok-clause-over : goal.returns-in-Ok-clause-over
+returns-in-Ok-clause-over g c over = let f = c.is_over.ensures.fits c.if-is_over.false in absurd (omega (arith, f, c.cost.ensures, over))
+
+pub returns-in-Ok-clause-grows : goal.returns-in-Ok-clause-grows
+returns-in-Ok-clause-grows g c id e = c.in-Ok.ensures.grows
+
+pub returns-in-Err-clause-over : goal.returns-in-Err-clause-over
+returns-in-Err-clause-over g c over = let f = c.is_over.ensures.fits c.if-is_over.false in absurd (omega (arith, f, c.cost.ensures, over))
+
+pub returns-in-Err-clause-grows : goal.returns-in-Err-clause-grows
+returns-in-Err-clause-grows g c id e = absurd (cc e)

@@ -1,4 +1,5 @@
-use Rattle.std.proofs.Common.{◌≡◌, ℕ, List, Some, slice_get, Ok, sym, ap, ◌∙◌}
+use Rattle.std.proofs.Common.{◌≡◌, ℕ, List, Some, slice_get, Ok, sym, ap, ◌∙◌, arith}
+use Rattle.std.proofs.lemmas.Grind.{common_steps}
 use Rattle.ion_meter.specs.Windows.{left}
 use Rattle.ion_meter.specs.Sources.{Cursor}
 use Rattle.ion_value.proofs.Cursors.{cursor-extends}
@@ -77,3 +78,51 @@ returns-clause-begins g c = λ h dark.
     ap (λ (l : List ℕ). slice_get l 1) (sym (kept.same_left h)) ∙ sym (peek.gives (kept.still_observable.1 h)) ∙ c.in-Ok-Some-peek.field-0-is in
     slash-other s.place c.in-Ok-Some-peek.byte bytes found second c.if-second-eq47.false c.if-second-eq42.false
     ∙ ap Ok (sym (cursor-extends g.I.Input s q (extends-then g.I.Input s p q kept peek.kept) h))
+
+pub returns-clause-reads : goal.returns-clause-reads
+returns-clause-reads g c = grind (arith, common_steps) steps 400000
+
+pub returns-in-Ok-None-clause-reads : goal.returns-in-Ok-None-clause-reads
+returns-in-Ok-None-clause-reads g c = grind (arith, common_steps) steps 400000
+
+pub returns-in-Ok-None-peek-clause-reads : goal.returns-in-Ok-None-peek-clause-reads
+returns-in-Ok-None-peek-clause-reads g c = grind (arith, common_steps) steps 400000
+
+pub returns-then-byte-ne47-clause-reads : goal.returns-then-byte-ne47-clause-reads
+returns-then-byte-ne47-clause-reads g c = grind (arith, common_steps) steps 400000
+
+pub returns-in-Err-peek-clause-reads : goal.returns-in-Err-peek-clause-reads
+returns-in-Err-peek-clause-reads g c = grind (arith, common_steps) steps 400000
+
+pub returns-clause-plain : goal.returns-clause-plain
+returns-clause-plain g c = grind (arith, common_steps) steps 400000
+
+pub returns-in-Err-clause-reads : goal.returns-in-Err-clause-reads
+returns-in-Err-clause-reads g c = grind (arith, common_steps) steps 400000
+
+pub consume-requires : goal.consume-requires
+consume-requires g c = grind (arith, common_steps) steps 400000
+
+pub returns-in-Ok-None-clause-taken : goal.returns-in-Ok-None-clause-taken
+returns-in-Ok-None-clause-taken g c = grind (arith, common_steps) steps 400000
+
+pub returns-then-second-eq42-clause-plain : goal.returns-then-second-eq42-clause-plain
+returns-then-second-eq42-clause-plain g c = grind (arith, common_steps) steps 400000
+
+pub returns-clause-taken : goal.returns-clause-taken
+returns-clause-taken g c = grind (arith, common_steps) steps 400000
+
+pub returns-in-Err-peek-clause-plain : goal.returns-in-Err-peek-clause-plain
+returns-in-Err-peek-clause-plain g c = grind (arith, common_steps) steps 400000
+
+pub returns-in-Ok-None-peek-clause-taken : goal.returns-in-Ok-None-peek-clause-taken
+returns-in-Ok-None-peek-clause-taken g c = grind (arith, common_steps) steps 400000
+
+pub returns-in-Ok-None-peek-clause-plain : goal.returns-in-Ok-None-peek-clause-plain
+returns-in-Ok-None-peek-clause-plain g c = grind (arith, common_steps) steps 400000
+
+pub consume-requires-then-second-eq42 : goal.consume-requires-then-second-eq42
+consume-requires-then-second-eq42 g c = grind (arith, common_steps) steps 400000
+
+pub returns-then-second-eq47-clause-plain : goal.returns-then-second-eq47-clause-plain
+returns-then-second-eq47-clause-plain g c = grind (arith, common_steps) steps 400000

@@ -1,4 +1,5 @@
 use Rattle.std.proofs.Common.{◌≡◌, ℕ, List, Some, take, drop, get_or, slice_get, ap, ◌∙◌, arith}
+use Rattle.std.proofs.lemmas.Grind.{common_steps}
 use Rattle.ion_meter.specs.Windows.{left}
 use Rattle.ion_value.specs.Digits.{first_is}
 use Rattle.ion_text_in.specs.Blanks.{is_white, blanks}
@@ -22,3 +23,9 @@ returns-then-bytes-run-ne47-clause-gives g c = λ h.
     let first : slice_get (left g.I.Input.rest t) 0 ≡ Some (get_or bytes n 0) =
     ap (λ (l : List ℕ). slice_get l 0) behind.1 ∙ first-shown (drop n bytes) behind.0 (get_or bytes n 0) (at-front bytes n c.if-run-bytes.true) in
     turn-then g.I.Input s t (take n bytes) blanks blanks passed h over ∙ found-other t.place (get_or bytes n 0) (left g.I.Input.rest t) dark first c.if-bytes-run-ne47.true
+
+pub returns-then-bytes-run-ne47-clause-reads : goal.returns-then-bytes-run-ne47-clause-reads
+returns-then-bytes-run-ne47-clause-reads g c = grind (arith, common_steps) steps 400000
+
+pub consume-requires : goal.consume-requires
+consume-requires g c = grind (arith, common_steps) steps 400000

@@ -102,3 +102,18 @@ returns-in-Ok-true-clause-reads g c = grind (arith, common_steps)
 
 pub consume-requires-else-star : goal.consume-requires-else-star
 consume-requires-else-star g c = grind (arith, common_steps)
+
+pub returns-in-Err-clause-reads : goal.returns-in-Err-clause-reads
+returns-in-Err-clause-reads g c = grind (arith, common_steps) steps 400000
+
+pub returns-in-Ok-None-clause-reads : goal.returns-in-Ok-None-clause-reads
+returns-in-Ok-None-clause-reads g c = grind (arith, common_steps) steps 400000
+
+pub returns-in-Ok-true-clause-plain : goal.returns-in-Ok-true-clause-plain
+returns-in-Ok-true-clause-plain g c = grind (arith, common_steps) steps 400000
+
+pub block-smaller : goal.block-smaller
+block-smaller g c = grind (arith, common_steps) steps 400000
+
+pub returns-in-Err-pass_star-clause-plain : goal.returns-in-Err-pass_star-clause-plain
+returns-in-Err-pass_star-clause-plain g c = grind (arith, common_steps)

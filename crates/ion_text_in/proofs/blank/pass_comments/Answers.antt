@@ -1,4 +1,5 @@
-use Rattle.std.proofs.Common.{ℕ, Ok, Err, sym, ap, ◌∙◌}
+use Rattle.std.proofs.Common.{ℕ, Ok, Err, sym, ap, ◌∙◌, arith}
+use Rattle.std.proofs.lemmas.Grind.{common_steps}
 use Rattle.ion_meter.specs.declared.fault.Reason.TheVariants.{Truncated}
 use Rattle.ion_meter.specs.Windows.{left}
 use Rattle.ion_meter.specs.Sources.{Cursor, cursor}
@@ -95,3 +96,45 @@ returns-in-Ok-false-clause-gives g c = λ h.
     ∙ ap (λ k. within k w.place (cursor g.I.Input n)) c.in-Ok-Block.field-0-is
     ∙ c.in-Ok-false.ensures.open next (ap Ok c.in-Ok-false.field-0-test) w.place
     ∙ ap (λ (p : ℕ). Err (Truncated, p)) (sym c.place-start.ensures)
+
+pub returns-in-Err-pass_block-clause-plain : goal.returns-in-Err-pass_block-clause-plain
+returns-in-Err-pass_block-clause-plain g c = grind (arith, common_steps) steps 400000
+
+pub comments-smaller : goal.comments-smaller
+comments-smaller g c = grind (arith, common_steps) steps 400000
+
+pub returns-in-Err-pass_block-clause-reads : goal.returns-in-Err-pass_block-clause-reads
+returns-in-Err-pass_block-clause-reads g c = grind (arith, common_steps) steps 400000
+
+pub returns-in-Ok-None-clause-reads : goal.returns-in-Ok-None-clause-reads
+returns-in-Ok-None-clause-reads g c = grind (arith, common_steps) steps 400000
+
+pub returns-in-Err-next_comment-clause-reads : goal.returns-in-Err-next_comment-clause-reads
+returns-in-Err-next_comment-clause-reads g c = grind (arith, common_steps) steps 400000
+
+pub returns-in-Err-pass_line-clause-plain : goal.returns-in-Err-pass_line-clause-plain
+returns-in-Err-pass_line-clause-plain g c = grind (arith, common_steps) steps 400000
+
+pub comments-smaller-in_default-pass_line : goal.comments-smaller-in_default-pass_line
+comments-smaller-in_default-pass_line g c = grind (arith, common_steps) steps 400000
+
+pub returns-in-Ok-false-clause-plain : goal.returns-in-Ok-false-clause-plain
+returns-in-Ok-false-clause-plain g c = grind (arith, common_steps) steps 400000
+
+pub returns-in-Ok-false-clause-reads : goal.returns-in-Ok-false-clause-reads
+returns-in-Ok-false-clause-reads g c = grind (arith, common_steps) steps 400000
+
+pub returns-in-Err-pass_line-clause-reads : goal.returns-in-Err-pass_line-clause-reads
+returns-in-Err-pass_line-clause-reads g c = grind (arith, common_steps) steps 400000
+
+pub returns-in-Err-clause-reads : goal.returns-in-Err-clause-reads
+returns-in-Err-clause-reads g c = grind (arith, common_steps) steps 400000
+
+pub returns-in-Err-clause-plain : goal.returns-in-Err-clause-plain
+returns-in-Err-clause-plain g c = grind (arith, common_steps) steps 400000
+
+pub returns-in-Err-next_comment-clause-plain : goal.returns-in-Err-next_comment-clause-plain
+returns-in-Err-next_comment-clause-plain g c = grind (arith, common_steps) steps 400000
+
+pub returns-in-Ok-None-clause-plain : goal.returns-in-Ok-None-clause-plain
+returns-in-Ok-None-clause-plain g c = grind (arith, common_steps) steps 400000

@@ -57,3 +57,15 @@ returns-then-line-bytes-clause-reads g c = grind (arith, common_steps)
 
 pub consume-requires-in-line : goal.consume-requires-in-line
 consume-requires-in-line g c = grind (arith, common_steps)
+
+pub returns-in-Err-clause-reads : goal.returns-in-Err-clause-reads
+returns-in-Err-clause-reads g c = grind (arith, common_steps) steps 400000
+
+pub line-smaller : goal.line-smaller
+line-smaller g c = grind (arith, common_steps) steps 400000
+
+pub returns-in-Ok-None-clause-reads : goal.returns-in-Ok-None-clause-reads
+returns-in-Ok-None-clause-reads g c = grind (arith, common_steps) steps 400000
+
+pub returns-then-line-bytes-clause-plain : goal.returns-then-line-bytes-clause-plain
+returns-then-line-bytes-clause-plain g c = grind (arith, common_steps) steps 400000

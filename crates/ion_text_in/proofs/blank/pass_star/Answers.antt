@@ -37,3 +37,15 @@ advance-requires g c = grind (arith, common_steps)
 
 pub returns-clause-reads : goal.returns-clause-reads
 returns-clause-reads g c = grind (arith, common_steps)
+
+pub returns-then-eq-clause-reads : goal.returns-then-eq-clause-reads
+returns-then-eq-clause-reads g c = grind (arith, common_steps)
+
+pub returns-then-eq-clause-plain : goal.returns-then-eq-clause-plain
+returns-then-eq-clause-plain g c = grind (arith, common_steps) steps 400000
+
+pub returns-in-Err-clause-reads : goal.returns-in-Err-clause-reads
+returns-in-Err-clause-reads g c = grind (arith, common_steps) steps 400000
+
+pub returns-clause-plain : goal.returns-clause-plain
+returns-clause-plain g c = grind (arith, common_steps) steps 400000

@@ -1,4 +1,5 @@
-use Rattle.std.proofs.Common.{ℕ, List, take, sym, ap, ◌∙◌}
+use Rattle.std.proofs.Common.{ℕ, List, take, sym, ap, ◌∙◌, arith}
+use Rattle.std.proofs.lemmas.Grind.{common_steps}
 use Rattle.ion_meter.specs.Windows.{left}
 use Rattle.ion_value.proofs.Cursors.{cursor-extends}
 use Rattle.ion_value.specs.Digits.{first_is}
@@ -49,3 +50,21 @@ white-preserved g c =
       gone = gone-then g.I.Input c.args.source.now s t inv.gone passed.gone;
       behind = λ h. sym (turn-then g.I.Input s t (take n bytes) behind_white behind_white passed (inv.gone.moves.still_observable.1 h) over) ∙ inv.behind h;
     }
+
+pub returns-then-ends-clause-reads : goal.returns-then-ends-clause-reads
+returns-then-ends-clause-reads g c = grind (arith, common_steps)
+
+pub returns-in-Ok-None-clause-reads : goal.returns-in-Ok-None-clause-reads
+returns-in-Ok-None-clause-reads g c = grind (arith, common_steps) steps 400000
+
+pub white-smaller : goal.white-smaller
+white-smaller g c = grind (arith, common_steps) steps 400000
+
+pub consume-requires : goal.consume-requires
+consume-requires g c = grind (arith, common_steps) steps 400000
+
+pub returns-in-Err-clause-reads : goal.returns-in-Err-clause-reads
+returns-in-Err-clause-reads g c = grind (arith, common_steps) steps 400000
+
+pub returns-then-ends-clause-plain : goal.returns-then-ends-clause-plain
+returns-then-ends-clause-plain g c = grind (arith, common_steps) steps 400000

@@ -1,4 +1,5 @@
 use Rattle.std.proofs.Common.{◌≡◌, ◌<◌, ◌∙◌, true, false, not, length, map, ap, sym, subst, take, drop, arith}
+use Rattle.std.proofs.lemmas.Grind.{common_steps}
 use Rattle.std.proofs.lemmas.List.{take_rest, drop-drop, length-drop}
 use Rattle.std.specs.List.{prefix_len}
 use lib.Lanes.{chunk, mask_l}
@@ -55,3 +56,6 @@ pub returns-clause-run : goal.returns-clause-run
 returns-clause-run c =
     let few = rw (take_rest c.args.bytes.now c.skip.at) at c.few_without.ensures.run in
     all-behind (is_neither c.args.first c.args.second) c.args.bytes.now c.skip.at c.few_without.result c.skip.invariant.run few
+
+pub returns-clause-ends : goal.returns-clause-ends
+returns-clause-ends c = grind (arith, common_steps)

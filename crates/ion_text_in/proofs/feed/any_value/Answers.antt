@@ -1,3 +1,5 @@
+use Rattle.std.proofs.Common.{arith}
+use Rattle.std.proofs.lemmas.Grind.{common_steps}
 use Rattle.ion_text_in.specs.Feeding.{lane}
 use Rattle.ion_text_in.proofs.FeedLanes.{moved-none}
 use Rattle.ion_text_in.proofs.feed.any_value.Goals as goal
@@ -5,3 +7,15 @@ use Rattle.ion_text_in.proofs.feed.any_value.Goals as goal
 pub returns-in_default-clause-moved : goal.returns-in_default-clause-moved
 returns-in_default-clause-moved g c =
     moved-none g.W.ValueWriter c.args.limits c.args.end (lane c.args.kinds.now c.args.spot c.args.writer.now c.args.sink.now c.args.meter.now) c.requires.can
+
+pub returns-in-Begin-clause-falls : goal.returns-in-Begin-clause-falls
+returns-in-Begin-clause-falls g c = grind (arith, common_steps) steps 400000
+
+pub returns-in_default-head : goal.returns-in_default-head
+returns-in_default-head g c = grind (arith, common_steps)
+
+pub returns-in_default-clause-falls : goal.returns-in_default-clause-falls
+returns-in_default-clause-falls g c = grind (arith, common_steps) steps 400000
+
+pub returns-in-Begin-clause-goes : goal.returns-in-Begin-clause-goes
+returns-in-Begin-clause-goes g c = grind (arith, common_steps) steps 400000

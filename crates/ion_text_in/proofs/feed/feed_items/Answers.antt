@@ -1,4 +1,5 @@
 use Rattle.std.proofs.Common.{arith}
+use Rattle.std.proofs.lemmas.Grind.{common_steps}
 use Rattle.ion_text_in.specs.Feeding.{lane}
 use Rattle.ion_text_in.proofs.FeedLanes.{can-moved, moved-by, moved-none, moved-then}
 use Rattle.ion_text_in.proofs.feed.feed_items.Goals as goal
@@ -60,3 +61,6 @@ runs-preserved g c =
           (moved-then w a.limits a.end old then now c.requires.can l.invariant.moved (moved-by w a.limits a.end (g.N.Names.text a.names.now) then now f.ensures.moved)) t.ensures.moved;
       goes = let before = l.invariant.goes in let run = f.ensures.goes in let others = t.ensures.goes in omega (arith, before, run, others);
     }
+
+pub runs-smaller : goal.runs-smaller
+runs-smaller g c = grind (arith, common_steps) steps 400000

@@ -1,4 +1,5 @@
-use Rattle.std.proofs.Common.{◌-◌, ℕ, List, length, sym, subst}
+use Rattle.std.proofs.Common.{◌-◌, ℕ, List, length, sym, subst, arith}
+use Rattle.std.proofs.lemmas.Grind.{common_steps}
 use Rattle.std.specs.Prelude.{IfSome}
 use Rattle.ion_value.specs.Items.{raw_head}
 use Rattle.ion_value.specs.PlainItems.{IsTextOf}
@@ -27,3 +28,33 @@ scalar-requires-in-Some-exponent-clause-found g c =
     let head = head-number a.limits (a.end - length bytes) c.in-Some.quick bytes c.behind-rest.result.now (raw_head c.decimal_head.result) c.decimal_head.ensures.is c.behind-rest.ensures e.some e.shows e.range
     begins.bare begins.some c.requires.first in
     record { head = head; spelled = subst (λ (h : Head SymbolAt). IfSome c.spelled_quick.result (λ text. IsTextOf text.now h)) (sym c.decimal_head.ensures.is) c.spelled_quick.ensures }
+
+pub returns-in-Some-exponent-clause-falls : goal.returns-in-Some-exponent-clause-falls
+returns-in-Some-exponent-clause-falls g c = grind (arith, common_steps) steps 400000
+
+pub spelled_quick-requires : goal.spelled_quick-requires
+spelled_quick-requires g c = grind (arith, common_steps) steps 400000
+
+pub returns-in-None-clause-falls : goal.returns-in-None-clause-falls
+returns-in-None-clause-falls g c = grind (arith, common_steps) steps 400000
+
+pub returns-in_default-clause-falls : goal.returns-in_default-clause-falls
+returns-in_default-clause-falls g c = grind (arith, common_steps) steps 400000
+
+pub returns-in-Some-exponent-clause-goes : goal.returns-in-Some-exponent-clause-goes
+returns-in-Some-exponent-clause-goes g c = grind (arith, common_steps) steps 400000
+
+pub scalar-requires-clause-whole : goal.scalar-requires-clause-whole
+scalar-requires-clause-whole g c = grind (arith, common_steps) steps 400000
+
+pub scalar-requires-in-Some-exponent-clause-whole : goal.scalar-requires-in-Some-exponent-clause-whole
+scalar-requires-in-Some-exponent-clause-whole g c = grind (arith, common_steps) steps 400000
+
+pub returns-in-Some-exponent-clause-moved : goal.returns-in-Some-exponent-clause-moved
+returns-in-Some-exponent-clause-moved g c = grind (arith, common_steps) steps 400000
+
+pub returns-in-None-clause-goes : goal.returns-in-None-clause-goes
+returns-in-None-clause-goes g c = grind (arith, common_steps) steps 400000
+
+pub returns-in_default-clause-goes : goal.returns-in_default-clause-goes
+returns-in_default-clause-goes g c = grind (arith, common_steps) steps 400000

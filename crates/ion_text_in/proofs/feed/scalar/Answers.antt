@@ -1,4 +1,5 @@
-use Rattle.std.proofs.Common.{◌∙◌, ◌+◌, ◌-◌, length, reverse, refl, sym, subst}
+use Rattle.std.proofs.Common.{◌∙◌, ◌+◌, ◌-◌, length, reverse, refl, sym, subst, arith}
+use Rattle.std.proofs.lemmas.Grind.{common_steps}
 use Rattle.ion_value.specs.Items.{raw_head}
 use Rattle.ion_value.specs.Outcome.{one_if_closed}
 use Rattle.ion_value.proofs.Handing.{may-take}
@@ -56,3 +57,12 @@ returns-clause-moved g c =
       refused = e.counted;
     })
     e.charges.share (charges-scalar w a.limits a.end a.kinds.now a.meter.now t.new.meter (w.own a.writer.now) (w.own t.new.self) (w.most a.writer.now) r.can.few r.can.held e.charges))
+
+pub pass_value-requires-clause-inside : goal.pass_value-requires-clause-inside
+pass_value-requires-clause-inside g c = grind (arith, common_steps) steps 400000
+
+pub returns-then-not-take_plain-clause-falls : goal.returns-then-not-take_plain-clause-falls
+returns-then-not-take_plain-clause-falls g c = grind (arith, common_steps) steps 400000
+
+pub returns-clause-falls : goal.returns-clause-falls
+returns-clause-falls g c = grind (arith, common_steps)

@@ -1,4 +1,5 @@
 use Rattle.std.proofs.Common.{◌∙◌, ◌+◌, ◌-◌, ◌++◌, Some, Ok, length, take, drop, ap, arith}
+use Rattle.std.proofs.lemmas.Grind.{common_steps}
 use Rattle.ion_value.specs.Value.{null, bool}
 use Rattle.ion_text_in.specs.declared.word.Word.{Word}
 use Rattle.ion_text_in.specs.Feeding.{lane}
@@ -39,3 +40,42 @@ returns-in_default-clause-moved g c =
 pub returns-in_default-2-clause-moved : goal.returns-in_default-2-clause-moved
 returns-in_default-2-clause-moved g c =
     moved-none g.W.ValueWriter c.args.limits c.args.end (lane c.args.kinds.now c.args.at.now c.args.writer.now c.args.sink.now c.args.meter.now) c.requires.can
+
+pub note-requires-clause-word : goal.note-requires-clause-word
+note-requires-clause-word g c = grind (arith, common_steps) steps 400000
+
+pub returns-in-Some-clause-falls : goal.returns-in-Some-clause-falls
+returns-in-Some-clause-falls g c = grind (arith, common_steps) steps 400000
+
+pub returns-in-Whole-Null-default-clause-falls : goal.returns-in-Whole-Null-default-clause-falls
+returns-in-Whole-Null-default-clause-falls g c = grind (arith, common_steps) steps 400000
+
+pub returns-in-Whole-Bool-default-clause-falls : goal.returns-in-Whole-Bool-default-clause-falls
+returns-in-Whole-Bool-default-clause-falls g c = grind (arith, common_steps) steps 400000
+
+pub symbol_head-requires-clause-word : goal.symbol_head-requires-clause-word
+symbol_head-requires-clause-word g c = grind (arith, common_steps) steps 400000
+
+pub returns-in-None-clause-falls : goal.returns-in-None-clause-falls
+returns-in-None-clause-falls g c = grind (arith, common_steps) steps 400000
+
+pub returns-in_default-2-clause-falls : goal.returns-in_default-2-clause-falls
+returns-in_default-2-clause-falls g c = grind (arith, common_steps) steps 400000
+
+pub returns-in-Some-clause-goes : goal.returns-in-Some-clause-goes
+returns-in-Some-clause-goes g c = grind (arith, common_steps) steps 400000
+
+pub returns-in-Whole-Bool-default-clause-goes : goal.returns-in-Whole-Bool-default-clause-goes
+returns-in-Whole-Bool-default-clause-goes g c = grind (arith, common_steps) steps 400000
+
+pub returns-in-None-clause-moved : goal.returns-in-None-clause-moved
+returns-in-None-clause-moved g c = grind (arith, common_steps) steps 400000
+
+pub returns-in-Whole-Null-default-clause-goes : goal.returns-in-Whole-Null-default-clause-goes
+returns-in-Whole-Null-default-clause-goes g c = grind (arith, common_steps) steps 400000
+
+pub returns-in-None-clause-goes : goal.returns-in-None-clause-goes
+returns-in-None-clause-goes g c = grind (arith, common_steps) steps 400000
+
+pub returns-in_default-clause-falls : goal.returns-in_default-clause-falls
+returns-in_default-clause-falls g c = grind (arith, common_steps) steps 400000

@@ -59,3 +59,18 @@ returns-in-Err-clause-kept g c = grind (arith, common_steps)
 
 pub returns-in-Ok-None-clause-kept : goal.returns-in-Ok-None-clause-kept
 returns-in-Ok-None-clause-kept g c = grind (arith, common_steps)
+
+pub returns-in-Ok-None-clause-reads : goal.returns-in-Ok-None-clause-reads
+returns-in-Ok-None-clause-reads g c = grind (arith, common_steps) steps 400000
+
+pub returns-in-Err-clause-reads : goal.returns-in-Err-clause-reads
+returns-in-Err-clause-reads g c = grind (arith, common_steps)
+
+pub returns-in-Some-clause-wide : goal.returns-in-Some-clause-wide
+returns-in-Some-clause-wide g c = grind (arith, common_steps) steps 400000
+
+pub returns-in-Some-clause-plain : goal.returns-in-Some-clause-plain
+returns-in-Some-clause-plain g c = grind (arith, common_steps) steps 400000
+
+pub returns-in-Ok-None-clause-wide : goal.returns-in-Ok-None-clause-wide
+returns-in-Ok-None-clause-wide g c = grind (arith, common_steps) steps 400000

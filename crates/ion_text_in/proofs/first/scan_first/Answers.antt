@@ -1,4 +1,5 @@
-use Rattle.std.proofs.Common.{◌≡◌, ℕ, List, ◌++◌, IfSome, subst}
+use Rattle.std.proofs.Common.{◌≡◌, ℕ, List, ◌++◌, IfSome, subst, arith}
+use Rattle.std.proofs.lemmas.Grind.{common_steps}
 use Rattle.ion_text_in.specs.Token.{first_at}
 use Rattle.ion_text_in.specs.Firsts.{first_of}
 use Rattle.ion_text_in.proofs.FirstTokens.{headed}
@@ -18,3 +19,7 @@ pub returns-in-58-clause-shows : goal.returns-in-58-clause-shows
 returns-in-58-clause-shows c =
     subst (λ (l : List ℕ). IfSome c.colon.result (λ f. (more : List ℕ) → first_at c.args.in_sexp (l ++ more) ≡ first_of f)) (headed c.args.bytes.now 58 c.in-len1-up.len_at_least c.in-58.is)
     (c.colon.ensures.shows c.args.in_sexp)
+
+pub returns-in-43-clause-shows : goal.returns-in-43-clause-shows
+unfolding first_at
+returns-in-43-clause-shows c = grind (arith, common_steps)

@@ -10,6 +10,7 @@ use Rattle.ion_value.proofs.GrowsWithin.{grows-on, grows-over}
 use Rattle.ion_text_in.specs.Runs.{goes_on, GoesOver}
 use Rattle.ion_text_in.proofs.RunEnds.{goes-then}
 use Rattle.ion_text_in.proofs.Gathered.{answers-over, run-over-limit, bytes-then, grown-there}
+use Rattle.ion_text_in.proofs.Holding.{none-some}
 use Rattle.ion_text_in.proofs.gather.gather.Goals as goal
 
 pub append-requires-clause-can_append : goal.append-requires-clause-can_append
@@ -67,7 +68,7 @@ parts-preserved g c =
     let next = Passed-lent g.I.Input s p t n inv.passed.stands part.kept part.reads.stands.well part.there added.appends.passed in
     record {
       passed = subst (λ (m : ℕ). Passed g.I.Input c.args.source.now t m) step (Passed-then g.I.Input c.args.source.now s t k n inv.passed next);
-      steady = ap g.I.Input.failure_count added.appends.passed.device ∙ (part.reads.causes.steady (λ e. absurd (cc e)) ∙ inv.steady);
+      steady = ap g.I.Input.failure_count added.appends.passed.device ∙ (part.reads.causes.steady (λ e. absurd (none-some e)) ∙ inv.steady);
       few = charges.share;
       grown = omega (arith, long, inv.grown);
       bytes = λ h.
@@ -82,7 +83,7 @@ parts-preserved g c =
       held = omega (arith, inv.held, charges.held);
       peak = grind (arith, common_steps, charges.peak, charges.held, inv.held, inv.peak, inv.grown, c.requires.can_append.holds);
       rises = omega (arith, charges.rises, inv.rises);
-      refused = added.reads.causes.counted (λ e. absurd (cc e)) ∙ inv.refused;
+      refused = added.reads.causes.counted (λ e. absurd (none-some e)) ∙ inv.refused;
       grows =
           let s0 = c.args.source.now in
           let m0 = c.args.meter.now in
@@ -90,3 +91,12 @@ parts-preserved g c =
           let far = moves-then g.I.Input s0 s p inv.passed.moves part.reads.moves in
           grows-over g.I.Input s0 p t m0 c.parts.meter c.append.new.meter (length text0) (length text) (length after) inv.held far added.reads.moves looked added.goes;
     }
+
+pub returns-in-Err-append-clause-goes : goal.returns-in-Err-append-clause-goes
+returns-in-Err-append-clause-goes g c = grind (arith, common_steps) steps 400000
+
+pub parts-smaller : goal.parts-smaller
+parts-smaller g c = grind (arith, common_steps)
+
+pub returns-in-Err-clause-reads : goal.returns-in-Err-clause-reads
+returns-in-Err-clause-reads g c = grind (arith, common_steps)

@@ -1,4 +1,5 @@
 use Rattle.std.proofs.Common.{◌≡◌, ◌≤◌, ◌∙◌, ap, sym, ℕ, List, ◌++◌, length, take, Some, arith}
+use Rattle.std.proofs.lemmas.Grind.{common_steps}
 use Rattle.ion_meter.specs.Windows.{left, lent}
 use Rattle.ion_meter.specs.Sources.{Cursor, cursor, skip}
 use Rattle.ion_meter.proofs.Lent.{lent-take, lent-IsGiven}
@@ -43,3 +44,27 @@ returns-clause-further g c = λ some.
     let place = c.in-Ok-Some.ensures.kept.place in
     let further = c.gather.ensures.reads.moves.further in
     on-ok c.gather.result (omega (arith, passed, place, further))
+
+pub append-requires-clause-there : goal.append-requires-clause-there
+append-requires-clause-there g c = grind (arith, common_steps) steps 400000
+
+pub returns-clause-goes : goal.returns-clause-goes
+returns-clause-goes g c = grind (arith, common_steps) steps 400000
+
+pub returns-in-Ok-None-clause-reads : goal.returns-in-Ok-None-clause-reads
+returns-in-Ok-None-clause-reads g c = grind (arith, common_steps) steps 400000
+
+pub returns-in-Err-clause-reads : goal.returns-in-Err-clause-reads
+returns-in-Err-clause-reads g c = grind (arith, common_steps) steps 400000
+
+pub returns-in-Err-append-clause-goes : goal.returns-in-Err-append-clause-goes
+returns-in-Err-append-clause-goes g c = grind (arith, common_steps) steps 400000
+
+pub returns-in-Err-clause-goes : goal.returns-in-Err-clause-goes
+returns-in-Err-clause-goes g c = grind (arith, common_steps) steps 400000
+
+pub returns-in-Ok-None-clause-fresh : goal.returns-in-Ok-None-clause-fresh
+returns-in-Ok-None-clause-fresh g c = grind (arith, common_steps) steps 400000
+
+pub returns-in-Ok-None-clause-goes : goal.returns-in-Ok-None-clause-goes
+returns-in-Ok-None-clause-goes g c = grind (arith, common_steps) steps 400000

@@ -1,4 +1,5 @@
 use Rattle.std.proofs.Common.{◌≡◌, ◌∙◌, ◌≤◌, sym, subst, List, ℕ, length, arith}
+use Rattle.std.proofs.lemmas.Grind.{common_steps}
 use Rattle.ion_meter.specs.Windows.{left, lent}
 use Rattle.ion_text_in.specs.Runs.{goes_on, GoOn, EndBehind}
 use Rattle.ion_text_in.proofs.Shown.{lent-left}
@@ -31,3 +32,18 @@ returns-then-extent-clause-ends g c = λ h e.
           end-left test (lent p) _ (left g.I.Input.rest c.args.source.now) n none (sym (c.in-Ok-Some.ensures.kept.same_left h) ∙ lent-left g.I.Input.rest p) ends
       | then-extent-via-else-extent+then-extent-gt0 w ↦ let some = w.if-extent-gt0.true in absurd (omega (arith, some, none))
     ]
+
+pub returns-clause-kept : goal.returns-clause-kept
+returns-clause-kept g c = grind (arith, common_steps)
+
+pub returns-in-Ok-None-clause-reads : goal.returns-in-Ok-None-clause-reads
+returns-in-Ok-None-clause-reads g c = grind (arith, common_steps) steps 400000
+
+pub returns-then-extent-clause-reads : goal.returns-then-extent-clause-reads
+returns-then-extent-clause-reads g c = grind (arith, common_steps) steps 400000
+
+pub returns-clause-plain : goal.returns-clause-plain
+returns-clause-plain g c = grind (arith, common_steps) steps 400000
+
+pub returns-in-Err-clause-reads : goal.returns-in-Err-clause-reads
+returns-in-Err-clause-reads g c = grind (arith, common_steps) steps 400000

@@ -1,6 +1,8 @@
 use Rattle.std.proofs.Common.{◌≡◌, ◌+◌, ◌≤◌, ◌++◌, ℕ, List, length, take, ap, ◌∙◌, arith}
+use Rattle.std.proofs.lemmas.Grind.{common_steps}
 use Rattle.std.proofs.lemmas.List.{length-append, length-take, length-take-le, take-take}
 use Rattle.std.proofs.Math.Seq.{take-append-add}
+use Rattle.ion_text_in.proofs.Holding.{none-some}
 use Rattle.ion_text_in.proofs.gather.put_front.Goals as goal
 
 -- of those behind a list and a block, the list and so many are kept
@@ -46,11 +48,11 @@ returns-then-len-limits-clause-grown g c =
         peak = omega (arith, len, block, held, peak, still, fits, holds);
         rises = omega (arith, peak, still);
       };
-      memory = λ e. absurd (cc e);
+      memory = λ e. absurd (none-some e);
       counted = λ _. c.truncate.ensures.cost.refused ∙ c.in_default.ensures.cost.refused;
-      no_reads = λ e. cc e;
-      no_writes = λ e. cc e;
-      no_limit = λ e. cc e;
+      no_reads = λ e. none-some e;
+      no_writes = λ e. none-some e;
+      no_limit = λ e. none-some e;
     }
 
 pub returns-then-len-limits-clause-goes : goal.returns-then-len-limits-clause-goes
@@ -67,3 +69,21 @@ returns-then-len-limits-clause-goes g c =
       own = omega (arith, len, kept, most);
       peak = omega (arith, held, peak, cut, short, block);
     }
+
+pub returns-clause-grown : goal.returns-clause-grown
+returns-clause-grown g c = grind (arith, common_steps) steps 400000
+
+pub returns-clause-goes : goal.returns-clause-goes
+returns-clause-goes g c = grind (arith, common_steps) steps 400000
+
+pub truncate-requires : goal.truncate-requires
+truncate-requires g c = grind (arith, common_steps) steps 400000
+
+pub returns-in-Err-clause-goes : goal.returns-in-Err-clause-goes
+returns-in-Err-clause-goes g c = grind (arith, common_steps) steps 400000
+
+pub returns-in-Err-clause-still : goal.returns-in-Err-clause-still
+returns-in-Err-clause-still g c = grind (arith, common_steps) steps 400000
+
+pub returns-in-Err-clause-grown : goal.returns-in-Err-clause-grown
+returns-in-Err-clause-grown g c = grind (arith, common_steps) steps 400000

@@ -1,4 +1,5 @@
 use Rattle.std.proofs.Common.{◌≡◌, ℕ, ◌<◌, All, take, Option, IfSome, IfNone, None, subst, sym, slice_index, arith}
+use Rattle.std.proofs.lemmas.Grind.{common_steps}
 use Rattle.base64.specs.Engines.{standard}
 use Rattle.base64.specs.GeneralPurpose.{encode_of, decoded_of}
 use Rattle.ion_text_in.proofs.LobTurns.{decoded-encodes, decoded-octets, decoded-none}
@@ -21,3 +22,9 @@ returns-clause-none c =
     let d = c.decode_slice_unchecked in
     subst (λ (o : Option ℕ). IfNone o (decoded_of standard c.args.chars.now ≡ None)) (sym c.ok.ensures.value)
     (decoded-none d.result c.args.chars.now d.ensures.err)
+
+pub invariant_of-decode_slice_unchecked-2 : goal.invariant_of-decode_slice_unchecked-2
+invariant_of-decode_slice_unchecked-2 c = grind (arith, common_steps) steps 400000
+
+pub returns-clause-within : goal.returns-clause-within
+returns-clause-within c = grind (arith, common_steps) steps 400000

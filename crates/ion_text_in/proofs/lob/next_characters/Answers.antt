@@ -1,4 +1,5 @@
 use Rattle.std.proofs.Common.{◌≡◌, ℕ, ◌+◌, ◌-◌, ◌++◌, List, take, drop, slice_set, sym, ap, ◌∙◌, arith}
+use Rattle.std.proofs.lemmas.Grind.{common_steps}
 use Rattle.std.proofs.lemmas.List.{length-set}
 use Rattle.ion_meter.specs.Windows.{left}
 use Rattle.ion_meter.specs.Sources.{Cursor, cursor}
@@ -72,3 +73,33 @@ pub returns-clause-gives : goal.returns-clause-gives
 returns-clause-gives g c = λ h.
     let all : c.loop-i.i ≡ 4 = omega (arith, c.loop-i-test.false, c.loop-i.auto.i-end) in
     c.loop-i.invariant.group h ∙ characters-all c.loop-i.i c.loop-i.group (left g.I.Input.rest c.loop-i.source) all
+
+pub returns-then-byte-eq125-clause-reads : goal.returns-then-byte-eq125-clause-reads
+returns-then-byte-eq125-clause-reads g c = grind (arith, common_steps) steps 400000
+
+pub returns-in-Err-peek-clause-plain : goal.returns-in-Err-peek-clause-plain
+returns-in-Err-peek-clause-plain g c = grind (arith, common_steps) steps 400000
+
+pub returns-in-Err-peek-clause-reads : goal.returns-in-Err-peek-clause-reads
+returns-in-Err-peek-clause-reads g c = grind (arith, common_steps) steps 400000
+
+pub advance-requires : goal.advance-requires
+advance-requires g c = grind (arith, common_steps) steps 400000
+
+pub returns-in-Ok-None-clause-reads : goal.returns-in-Ok-None-clause-reads
+returns-in-Ok-None-clause-reads g c = grind (arith, common_steps) steps 400000
+
+pub returns-in-Err-clause-plain : goal.returns-in-Err-clause-plain
+returns-in-Err-clause-plain g c = grind (arith, common_steps) steps 400000
+
+pub loop-i-init : goal.loop-i-init
+loop-i-init g c = grind (arith, common_steps) steps 400000
+
+pub returns-in-Ok-None-clause-plain : goal.returns-in-Ok-None-clause-plain
+returns-in-Ok-None-clause-plain g c = grind (arith, common_steps) steps 400000
+
+pub returns-then-byte-eq125-clause-plain : goal.returns-then-byte-eq125-clause-plain
+returns-then-byte-eq125-clause-plain g c = grind (arith, common_steps) steps 400000
+
+pub returns-in-Err-clause-reads : goal.returns-in-Err-clause-reads
+returns-in-Err-clause-reads g c = grind (arith, common_steps) steps 400000

@@ -1,4 +1,5 @@
 use Rattle.std.proofs.Common.{◌≡◌, Some, ap, ◌∙◌, arith}
+use Rattle.std.proofs.lemmas.Grind.{common_steps}
 use Rattle.ion_meter.specs.Sources.{cursor}
 use Rattle.ion_text_in.specs.declared.lob.Opening.{Opening}
 use Rattle.ion_text_in.specs.declared.lob.Opening.TheVariants as opening
@@ -90,3 +91,9 @@ returns-in-None-clause-further g c = λ _.
     let opens = c.in-Ok.ensures.reads.moves.further in
     let further = c.next_blob.ensures.reads.moves.further in
     on-ok c.next_blob.result (omega (arith, passed, white, opens, further))
+
+pub returns-in-Err-pass_opening-clause-reads : goal.returns-in-Err-pass_opening-clause-reads
+returns-in-Err-pass_opening-clause-reads g c = grind (arith, common_steps)
+
+pub returns-in-Err-clause-reads : goal.returns-in-Err-clause-reads
+returns-in-Err-clause-reads g c = grind (arith, common_steps)

@@ -38,3 +38,15 @@ returns-in-Err-pass_braces-clause-gives g c = λ h.
     answers-closed (Unit {0}) (λ lob. lob_of lob c.next_long_text.new.text) c.in-Err-pass_braces.fault _ _ c.args.place _ _
     (c.in-Err-pass_braces.ensures.gives hq)
     (λ e k. braces-refused limit (cursor g.I.Input c.args.source.now) t.0 x c.next_long_text.new.text c.in_default.field-0 e t.1 t.2 whole (ap closed_at (sym same) ∙ k))
+
+pub returns-in-Ok-true-clause-reads : goal.returns-in-Ok-true-clause-reads
+returns-in-Ok-true-clause-reads g c = grind (arith, common_steps) steps 400000
+
+pub returns-in-Err-are_cut_quotes-clause-reads : goal.returns-in-Err-are_cut_quotes-clause-reads
+returns-in-Err-are_cut_quotes-clause-reads g c = grind (arith, common_steps)
+
+pub returns-in-Err-pass_braces-clause-reads : goal.returns-in-Err-pass_braces-clause-reads
+returns-in-Err-pass_braces-clause-reads g c = grind (arith, common_steps)
+
+pub returns-clause-reads : goal.returns-clause-reads
+returns-clause-reads g c = grind (arith, common_steps)

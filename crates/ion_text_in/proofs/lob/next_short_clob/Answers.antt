@@ -7,3 +7,6 @@ returns-in-Err-clause-gives g c = grind (arith, common_steps) steps 400000
 
 pub returns-clause-gives : goal.returns-clause-gives
 returns-clause-gives g c = grind (arith, common_steps) steps 400000
+
+pub returns-in-Err-pass_white-clause-reads : goal.returns-in-Err-pass_white-clause-reads
+returns-in-Err-pass_white-clause-reads g c = grind (arith, common_steps)

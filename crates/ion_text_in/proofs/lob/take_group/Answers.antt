@@ -96,3 +96,39 @@ returns-clause-gives g c = λ h.
 
 pub returns-clause-reads : goal.returns-clause-reads
 returns-clause-reads g c = grind (arith, common_steps)
+
+pub overflow_sub-limits : goal.overflow_sub-limits
+overflow_sub-limits g c = grind (arith, common_steps) steps 400000
+
+pub returns-then-limits-as_slice-clause-reads : goal.returns-then-limits-as_slice-clause-reads
+returns-then-limits-as_slice-clause-reads g c = grind (arith, common_steps) steps 400000
+
+pub returns-in-Err-extend-clause-goes : goal.returns-in-Err-extend-clause-goes
+returns-in-Err-extend-clause-goes g c = grind (arith, common_steps) steps 400000
+
+pub extend-requires-clause-room : goal.extend-requires-clause-room
+extend-requires-clause-room g c = grind (arith, common_steps) steps 400000
+
+pub returns-in-Err-extend-clause-gives : goal.returns-in-Err-extend-clause-gives
+returns-in-Err-extend-clause-gives g c = grind (arith, common_steps) steps 400000
+
+pub returns-in-Err-extend-clause-reads : goal.returns-in-Err-extend-clause-reads
+returns-in-Err-extend-clause-reads g c = grind (arith, common_steps) steps 400000
+
+pub returns-then-count-lt4-clause-reads : goal.returns-then-count-lt4-clause-reads
+returns-then-count-lt4-clause-reads g c = grind (arith, common_steps) steps 400000
+
+pub returns-in-Err-clause-reads : goal.returns-in-Err-clause-reads
+returns-in-Err-clause-reads g c = grind (arith, common_steps) steps 400000
+
+pub returns-then-padded-clause-reads : goal.returns-then-padded-clause-reads
+returns-then-padded-clause-reads g c = grind (arith, common_steps) steps 400000
+
+pub returns-clause-goes : goal.returns-clause-goes
+returns-clause-goes g c = grind (arith, common_steps) steps 400000
+
+pub slice_bounds-extend-end : goal.slice_bounds-extend-end
+slice_bounds-extend-end g c = grind (arith, common_steps) steps 400000
+
+pub returns-in_default-clause-reads : goal.returns-in_default-clause-reads
+returns-in_default-clause-reads g c = grind (arith, common_steps) steps 400000

@@ -48,3 +48,42 @@ returns-clause-goes g c =
     let spelled = ap (λ (l : List ℕ). length l) d.some ∙ length-encode_of (take n c.decode.new.room) in
     let few : n ≤ c.args.count = omega (arith, chars, long, spelled) in
     grind (arith, common_steps)
+
+pub returns-clause-none : goal.returns-clause-none
+returns-clause-none g c = grind (arith, common_steps) steps 400000
+
+pub returns-in-Err-clause-none : goal.returns-in-Err-clause-none
+returns-in-Err-clause-none g c = grind (arith, common_steps) steps 400000
+
+pub returns-in-Err-clause-goes : goal.returns-in-Err-clause-goes
+returns-in-Err-clause-goes g c = grind (arith, common_steps) steps 400000
+
+pub returns-clause-plain : goal.returns-clause-plain
+returns-clause-plain g c = grind (arith, common_steps) steps 400000
+
+pub returns-in_default-clause-reads : goal.returns-in_default-clause-reads
+returns-in_default-clause-reads g c = grind (arith, common_steps) steps 400000
+
+pub returns-then-left-n-clause-reads : goal.returns-then-left-n-clause-reads
+returns-then-left-n-clause-reads g c = grind (arith, common_steps) steps 400000
+
+pub returns-in-Err-clause-plain : goal.returns-in-Err-clause-plain
+returns-in-Err-clause-plain g c = grind (arith, common_steps) steps 400000
+
+pub returns-in-Err-clause-reads : goal.returns-in-Err-clause-reads
+returns-in-Err-clause-reads g c = grind (arith, common_steps) steps 400000
+
+pub extend-requires-clause-room : goal.extend-requires-clause-room
+extend-requires-clause-room g c = grind (arith, common_steps)
+
+pub slice_bounds-extend-end-2 : goal.slice_bounds-extend-end-2
+slice_bounds-extend-end-2 g c = grind (arith, common_steps)
+
+pub returns-then-left-n-clause-none : goal.returns-then-left-n-clause-none
+returns-then-left-n-clause-none g c = grind (arith, common_steps) steps 400000
+
+pub overflow_sub-left : goal.overflow_sub-left
+overflow_sub-left g c = grind (arith, common_steps) steps 400000
+
+pub returns-then-left-n-clause-plain : goal.returns-then-left-n-clause-plain
+returns-then-left-n-clause-plain g c = grind (arith, common_steps) steps 400000

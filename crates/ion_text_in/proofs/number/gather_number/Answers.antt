@@ -1,4 +1,5 @@
-use Rattle.std.proofs.Common.{◌∙◌, ap, sym, Some}
+use Rattle.std.proofs.Common.{◌∙◌, ap, sym, Some, arith}
+use Rattle.std.proofs.lemmas.Grind.{common_steps}
 use Rattle.ion_meter.specs.Sources.{cursor}
 use Rattle.ion_value.proofs.Cursors.{answers-refused}
 use Rattle.ion_text_in.specs.Token.{bytes_of, in_run, run_token}
@@ -30,3 +31,9 @@ returns-in-Err-number_of-clause-gives g c = λ h.
           (ap run_token (sym c.as_slice.ensures) ∙ c.in-Err-number_of.ensures.gives),
       c.place-place.ensures,
     )
+
+pub returns-in-Err-number_of-clause-reads : goal.returns-in-Err-number_of-clause-reads
+returns-in-Err-number_of-clause-reads g c = grind (arith, common_steps) steps 400000
+
+pub returns-in-Ok-clause-further : goal.returns-in-Ok-clause-further
+returns-in-Ok-clause-further g c = grind (arith, common_steps) steps 400000

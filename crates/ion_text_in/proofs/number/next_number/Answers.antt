@@ -1,4 +1,5 @@
-use Rattle.std.proofs.Common.{Some, List, ℕ, subst}
+use Rattle.std.proofs.Common.{Some, List, ℕ, subst, arith}
+use Rattle.std.proofs.lemmas.Grind.{common_steps}
 use Rattle.ion_text_in.specs.declared.scanned.Scanned.TheVariants as scanned
 use Rattle.ion_text_in.specs.Scanners.{Shows}
 use Rattle.ion_text_in.specs.Token.{a_run, token_of}
@@ -24,3 +25,12 @@ returns-in-Whole-clause-further g c = λ some.
     let reading = token_of (Some c.args.limits.scalar) a_run in
     let shows = subst (λ (l : List ℕ). Shows number_token l (scanned.Whole c.in-Whole.number c.in-Whole.count) reading) c.buffer.ensures c.in-Whole.ensures.shows in
     shown-further number_token c.args.source.now c.consume.new.self c.in-Whole.number c.in-Whole.count (Some c.args.limits.scalar) a_run shows some c.consume.ensures
+
+pub returns-in-Whole-clause-reads : goal.returns-in-Whole-clause-reads
+returns-in-Whole-clause-reads g c = grind (arith, common_steps) steps 400000
+
+pub returns-in-Fault-clause-reads : goal.returns-in-Fault-clause-reads
+returns-in-Fault-clause-reads g c = grind (arith, common_steps) steps 400000
+
+pub consume-requires : goal.consume-requires
+consume-requires g c = grind (arith, common_steps) steps 400000

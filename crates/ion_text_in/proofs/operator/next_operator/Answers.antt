@@ -1,4 +1,5 @@
-use Rattle.std.proofs.Common.{◌≡◌, ◌∙◌, [], ap, sym, take, Some, Result, Ok, List, ℕ, subst}
+use Rattle.std.proofs.Common.{◌≡◌, ◌∙◌, [], ap, sym, take, Some, Result, Ok, List, ℕ, subst, arith}
+use Rattle.std.proofs.lemmas.Grind.{common_steps}
 use Rattle.ion_meter.specs.Windows.{lent}
 use Rattle.ion_meter.specs.Sources.{Cursor, cursor}
 use Rattle.ion_meter.specs.declared.fault.Reason.{Reason}
@@ -54,3 +55,6 @@ returns-in-Whole-clause-further g c = λ some.
     let view = λ (u : Unit {0}). tokens.operator (take n (lent s)) in
     let shows = subst (λ (l : List ℕ). Shows (λ (u : Unit {0}). tokens.operator (take n l)) l (scanned.Whole tt n) reading) c.buffer.ensures c.in-Whole.ensures.shows in
     on-ok-map c.copy.result c.copy.ensures.copies (λ (copied : IsAppended [] c.copy.new.text s t n). shown-further view s t tt n (Some c.args.limits.scalar) an_operator shows some copied.passed)
+
+pub returns-in-Fault-clause-reads : goal.returns-in-Fault-clause-reads
+returns-in-Fault-clause-reads g c = grind (arith, common_steps) steps 400000

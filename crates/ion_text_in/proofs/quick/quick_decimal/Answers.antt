@@ -1,7 +1,8 @@
+use Rattle.std.proofs.Common.{rules, true, ◌≡◌, ℕ, ◌+◌, ◌∙◌, ℤ, Some, take, drop, ap, ap₂, sym, subst, arith}
+use Rattle.std.proofs.lemmas.Grind.{common_steps}
 use mir.Syntax.{w32}
 use mir.Val.{SFits}
 use Rattle.std.proofs.lemmas.Int.{to_z-of_z}
-use Rattle.std.proofs.Common.{rules, true, ◌≡◌, ℕ, ◌+◌, ◌∙◌, ℤ, Some, take, drop, ap, ap₂, sym, subst, arith}
 use Rattle.std.proofs.lemmas.List.{take_rest, length-take-le}
 use Rattle.ion_text_in.specs.Quick.{number_after, IsQuick}
 use Rattle.ion_text_in.proofs.DigitNumbers.{narrow-behind}
@@ -52,3 +53,9 @@ quick_power-requires-clause-mantissa c =
     let within = rw rest at c.digit_run-places.ensures.within in
     let behind = digits-spell n fraction places within (omega arith) (rw rest at c.digit_run-places.ensures.digits) in
     rw is (pointed-mantissa digits n count (number_after n (take places fraction)) places (whole-spells digits count c.requires.whole) c.requires.point behind (omega arith) (omega arith) (omega arith))
+
+pub slice_bounds-number_after-end : goal.slice_bounds-number_after-end
+slice_bounds-number_after-end c = grind (arith, common_steps) steps 400000
+
+pub slice_bounds-number_after-end-2 : goal.slice_bounds-number_after-end-2
+slice_bounds-number_after-end-2 c = grind (arith, common_steps) steps 400000

@@ -1,4 +1,5 @@
 use Rattle.std.proofs.Common.{◌∙◌, sym, take, arith}
+use Rattle.std.proofs.lemmas.Grind.{common_steps}
 use Rattle.ion_text_in.specs.Quick.{number_after}
 use Rattle.ion_text_in.proofs.QuickNumbers.{quick-int, whole-spells}
 use Rattle.ion_text_in.proofs.SpelledNumbers.{int-spelled, whole-front}
@@ -17,3 +18,6 @@ returns-then-stops_number c =
 pub quick_mantissa-requires-clause-whole : goal.quick_mantissa-requires-clause-whole
 quick_mantissa-requires-clause-whole c =
     whole-front c.args.negative c.args.digits.now c.digit_run-count.result (omega arith) (omega arith) c.digit_run-count.ensures.digits (sym c.begins_zeros.ensures ∙ c.if-begins_zeros.false)
+
+pub slice_bounds-number_by-end : goal.slice_bounds-number_by-end
+slice_bounds-number_by-end c = grind (arith, common_steps) steps 400000

@@ -1,4 +1,5 @@
 use Rattle.std.proofs.Common.{◌^◌, ◌∙◌, drop, length, arith}
+use Rattle.std.proofs.lemmas.Grind.{common_steps}
 use Rattle.std.proofs.lemmas.List.{take_rest, length-drop}
 use Rattle.ion_text_in.proofs.DigitNumbers.{after-front, after-none, cut-digits, head-digit, room-behind, room-head, tail-digits, tail-number, wide-behind}
 use Rattle.ion_text_in.proofs.quick.wide_number.Goals as goal
@@ -34,3 +35,6 @@ loop-rest-preserved c =
 
 pub returns : goal.returns
 returns c = after-none c.loop-rest.number c.loop-rest.rest.now c.in_default.len_below ∙ c.loop-rest.invariant.so_far
+
+pub number_after-number-requires-clause-digits : goal.number_after-number-requires-clause-digits
+number_after-number-requires-clause-digits c = grind (arith, common_steps)

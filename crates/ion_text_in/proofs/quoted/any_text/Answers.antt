@@ -1,4 +1,6 @@
 use Rattle.std.proofs.Common.{◌≡◌, ◌<◌, ◌∙◌, ◌||◌, Bool, true, false, length, take, refl, sym, arith}
+use Rattle.std.proofs.lemmas.Grind.{common_steps}
+use Rattle.std.proofs.lemmas.Bool.{false≢true}
 use Rattle.std.specs.Str.{is_utf8}
 use Rattle.ion_text_in.specs.Quotes.{quote_of, mark_of}
 use Rattle.ion_text_in.proofs.ScannedTexts.{text-shown, text-bad, text-over, ends-unclosed, stops-unclosed}
@@ -20,7 +22,7 @@ returns-then-is_long-clause-known c = λ _ short.
       plain = c.plain_length-plain.ensures.plain;
       ends = c.plain_length-plain.ensures.ends;
       unclosed = elim c.then-is_long.branch [
-        | then-is_long-via-then-is_long w ↦ absurd (cc (short, c.is_long.ensures, w.if-is_long.true))
+        | then-is_long-via-then-is_long w ↦ absurd (false≢true (sym short ∙ (sym c.is_long.ensures ∙ w.if-is_long.true)))
         | then-is_long-via-else-is_long+then-plain-bytes w ↦ ends-unclosed mark bytes n w.if-plain-bytes.true
         | then-is_long-via-else-is_long+else-plain-bytes+then-bytes-plain w ↦
             let there : n < length bytes = omega (arith, c.plain_length-plain.ensures.within, w.if-plain-bytes.false) in
@@ -60,3 +62,12 @@ returns-clause-shows c =
       λ place more. text-shown c.args.quote c.args.limit place n c.args.bytes.now more (sym c.is_long.ensures ∙ c.if-is_long.false) c.plain_length-plain.ensures.plain there
           (c.if-bytes-plain.false ∙ c.mark.ensures) c.if-limit-plain.false good,
     )
+
+pub returns-then-limit-plain-clause-known : goal.returns-then-limit-plain-clause-known
+returns-then-limit-plain-clause-known c = grind (arith, common_steps) steps 400000
+
+pub returns-then-not-front_is_text-clause-known : goal.returns-then-not-front_is_text-clause-known
+returns-then-not-front_is_text-clause-known c = grind (arith, common_steps) steps 400000
+
+pub returns-clause-known : goal.returns-clause-known
+returns-clause-known c = grind (arith, common_steps) steps 400000

@@ -31,3 +31,15 @@ returns-clause-behind c = grind (arith, common_steps) steps 400000
 
 pub returns-clause-ends : goal.returns-clause-ends
 returns-clause-ends c = grind (arith, common_steps) steps 400000
+
+pub returns-in-None-clause-open : goal.returns-in-None-clause-open
+returns-in-None-clause-open c = grind (arith, common_steps) steps 400000
+
+pub ends-requires : goal.ends-requires
+ends-requires c = grind (arith, common_steps) steps 400000
+
+pub returns-in-Some-true-clause-behind : goal.returns-in-Some-true-clause-behind
+returns-in-Some-true-clause-behind c = grind (arith, common_steps) steps 400000
+
+pub returns-in-Some-true-clause-open : goal.returns-in-Some-true-clause-open
+returns-in-Some-true-clause-open c = grind (arith, common_steps) steps 400000

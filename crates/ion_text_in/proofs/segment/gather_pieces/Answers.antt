@@ -1,8 +1,10 @@
-use Rattle.std.proofs.Common.{◌≡◌, ℕ, ◌+◌, ◌-◌, ◌<◌, ◌≤◌, ◌++◌, ◌∙◌, List, length, None, Ok, Err, refl, sym, ap, subst, arith}
+use Rattle.std.proofs.Common.{◌≡◌, ℕ, ◌+◌, ◌-◌, ◌<◌, ◌≤◌, ◌++◌, ◌∙◌, List, length, None, Some, Ok, Err, refl, sym, ap, subst, arith}
+use Rattle.std.proofs.lemmas.Grind.{common_steps}
 use Rattle.std.proofs.lemmas.List.{length-append}
 use Rattle.ion_meter.specs.Windows.{left}
 use Rattle.ion_meter.specs.Sources.{Cursor, cursor, skip}
 use Rattle.ion_meter.specs.declared.fault.Reason.{Reason}
+use Rattle.ion_meter.specs.declared.fault.Reason.TheVariants.{Truncated}
 use Rattle.ion_text_in.specs.declared.piece.Piece.{Piece as CodePiece}
 use Rattle.ion_text_in.specs.declared.piece.Piece.TheVariants as code
 use Rattle.ion_text_in.specs.Quoted.{piece_at}
@@ -12,7 +14,7 @@ use Rattle.ion_text_in.specs.Gathered.{onward}
 use Rattle.ion_text_in.proofs.Quotes.{quote_of-is}
 use Rattle.ion_text_in.proofs.Gathering.{onward-close, onward-cut, onward-illegal, onward-char, onward-char_over, answers-over, is-char_else, IsChar}
 use Rattle.ion_value.proofs.GrowsWithin.{grows-over, grows-behind}
-use Rattle.ion_text_in.proofs.Holding.{held-then, into-held, reads-held, grown-held, held-can}
+use Rattle.ion_text_in.proofs.Holding.{held-into, reads-refused, reads-then, held-then, into-held, reads-held, grown-held, held-can}
 use Rattle.ion_text_in.proofs.segment.gather_pieces.Goals as goal
 
 pub returns-in-Close-clause-gives : goal.returns-in-Close-clause-gives
@@ -137,3 +139,114 @@ pieces-preserved g c =
           ∙ ap (λ (d : Cursor). onward q most (c.take_plain.new.text ++ bytes_of_piece c.in-Ok.piece) d) (sym (c.in-Ok.ensures.behind ht))
           ∙ ap (λ (l : List ℕ). onward q most l (cursor device u)) (sym puts.0);
     }
+
+pub returns-in-Illegal-clause-goes : goal.returns-in-Illegal-clause-goes
+returns-in-Illegal-clause-goes g c = grind (arith, common_steps) steps 400000
+
+pub put_piece-requires : goal.put_piece-requires
+put_piece-requires g c = grind (arith, common_steps) steps 400000
+
+pub returns-in-Close-clause-goes : goal.returns-in-Close-clause-goes
+returns-in-Close-clause-goes g c = grind (arith, common_steps) steps 400000
+
+pub returns-in-Err-next_piece-clause-goes : goal.returns-in-Err-next_piece-clause-goes
+returns-in-Err-next_piece-clause-goes g c = grind (arith, common_steps) steps 400000
+
+pub returns-in-Cut-clause-goes : goal.returns-in-Cut-clause-goes
+returns-in-Cut-clause-goes g c = grind (arith, common_steps) steps 400000
+
+pub pieces-init : goal.pieces-init
+pieces-init g c = grind (arith, common_steps)
+
+pub returns-in-Err-clause-reads : goal.returns-in-Err-clause-reads
+returns-in-Err-clause-reads g c =
+    let device = g.I.Input in
+    let s = c.pieces.source in
+    let t = c.take_plain.new.source in
+    let most = c.args.limits.scalar in
+    let holds = c.requires.can_gather.grows.holds in
+    reads-then device c.args.source.now s t c.args.meter.now c.pieces.meter c.take_plain.new.meter (length c.args.text.now) (length c.pieces.text) (length c.take_plain.new.text) most (Err c.in-Err.fault) holds
+    c.pieces.invariant.held c.in-Err.ensures.reads
+
+pub returns-in-Err-next_piece-clause-reads : goal.returns-in-Err-next_piece-clause-reads
+returns-in-Err-next_piece-clause-reads g c =
+    let device = g.I.Input in
+    let s = c.pieces.source in
+    let t = c.take_plain.new.source in
+    let most = c.args.limits.scalar in
+    let holds = c.requires.can_gather.grows.holds in
+    let u = c.next_piece.new.source in
+    let plain = into-held device s t c.pieces.meter c.take_plain.new.meter (length c.pieces.text) (length c.take_plain.new.text) most (Ok c.in_default.field-0) c.in_default.ensures.reads in
+    let two = held-then device c.args.source.now s t c.args.meter.now c.pieces.meter c.take_plain.new.meter (length c.args.text.now) (length c.pieces.text) (length c.take_plain.new.text) most None holds
+    c.pieces.invariant.held plain in
+    let can = held-can device c.args.limits c.args.source.now t c.args.text.now c.take_plain.new.text c.args.meter.now c.take_plain.new.meter c.requires.can_gather two in
+    let read = reads-held device t u c.take_plain.new.meter (length c.take_plain.new.text) most (Err c.in-Err-next_piece.fault) can.grows.share can.grows.holds c.in-Err-next_piece.ensures.reads in
+    held-into device c.args.source.now u c.args.meter.now c.take_plain.new.meter (length c.args.text.now) (length c.take_plain.new.text) most (Err c.in-Err-next_piece.fault)
+    (held-then device c.args.source.now t u c.args.meter.now c.take_plain.new.meter c.take_plain.new.meter (length c.args.text.now) (length c.take_plain.new.text) (length c.take_plain.new.text) most (Some c.in-Err-next_piece.fault) holds two read)
+
+pub returns-in-Close-clause-reads : goal.returns-in-Close-clause-reads
+returns-in-Close-clause-reads g c =
+    let device = g.I.Input in
+    let s = c.pieces.source in
+    let t = c.take_plain.new.source in
+    let most = c.args.limits.scalar in
+    let holds = c.requires.can_gather.grows.holds in
+    let u = c.next_piece.new.source in
+    let plain = into-held device s t c.pieces.meter c.take_plain.new.meter (length c.pieces.text) (length c.take_plain.new.text) most (Ok c.in_default.field-0) c.in_default.ensures.reads in
+    let two = held-then device c.args.source.now s t c.args.meter.now c.pieces.meter c.take_plain.new.meter (length c.args.text.now) (length c.pieces.text) (length c.take_plain.new.text) most None holds
+    c.pieces.invariant.held plain in
+    let can = held-can device c.args.limits c.args.source.now t c.args.text.now c.take_plain.new.text c.args.meter.now c.take_plain.new.meter c.requires.can_gather two in
+    let read = reads-held device t u c.take_plain.new.meter (length c.take_plain.new.text) most (Ok c.in-Ok.piece) can.grows.share can.grows.holds c.in-Ok.ensures.reads in
+    let three = held-then device c.args.source.now t u c.args.meter.now c.take_plain.new.meter c.take_plain.new.meter (length c.args.text.now) (length c.take_plain.new.text) (length c.take_plain.new.text) most None holds two read in
+    held-into device c.args.source.now u c.args.meter.now c.take_plain.new.meter (length c.args.text.now) (length c.take_plain.new.text) most (Ok tt) three
+
+pub returns-in-Illegal-clause-reads : goal.returns-in-Illegal-clause-reads
+returns-in-Illegal-clause-reads g c =
+    let device = g.I.Input in
+    let s = c.pieces.source in
+    let t = c.take_plain.new.source in
+    let most = c.args.limits.scalar in
+    let holds = c.requires.can_gather.grows.holds in
+    let u = c.next_piece.new.source in
+    let plain = into-held device s t c.pieces.meter c.take_plain.new.meter (length c.pieces.text) (length c.take_plain.new.text) most (Ok c.in_default.field-0) c.in_default.ensures.reads in
+    let two = held-then device c.args.source.now s t c.args.meter.now c.pieces.meter c.take_plain.new.meter (length c.args.text.now) (length c.pieces.text) (length c.take_plain.new.text) most None holds
+    c.pieces.invariant.held plain in
+    let can = held-can device c.args.limits c.args.source.now t c.args.text.now c.take_plain.new.text c.args.meter.now c.take_plain.new.meter c.requires.can_gather two in
+    let read = reads-held device t u c.take_plain.new.meter (length c.take_plain.new.text) most (Ok c.in-Ok.piece) can.grows.share can.grows.holds c.in-Ok.ensures.reads in
+    let three = held-then device c.args.source.now t u c.args.meter.now c.take_plain.new.meter c.take_plain.new.meter (length c.args.text.now) (length c.take_plain.new.text) (length c.take_plain.new.text) most None holds two read in
+    reads-refused device c.args.source.now u c.args.meter.now c.take_plain.new.meter (length c.args.text.now) (length c.take_plain.new.text) most c.bad_text.result c.args.place three
+
+pub returns-in-Cut-clause-reads : goal.returns-in-Cut-clause-reads
+returns-in-Cut-clause-reads g c =
+    let device = g.I.Input in
+    let s = c.pieces.source in
+    let t = c.take_plain.new.source in
+    let most = c.args.limits.scalar in
+    let holds = c.requires.can_gather.grows.holds in
+    let u = c.next_piece.new.source in
+    let plain = into-held device s t c.pieces.meter c.take_plain.new.meter (length c.pieces.text) (length c.take_plain.new.text) most (Ok c.in_default.field-0) c.in_default.ensures.reads in
+    let two = held-then device c.args.source.now s t c.args.meter.now c.pieces.meter c.take_plain.new.meter (length c.args.text.now) (length c.pieces.text) (length c.take_plain.new.text) most None holds
+    c.pieces.invariant.held plain in
+    let can = held-can device c.args.limits c.args.source.now t c.args.text.now c.take_plain.new.text c.args.meter.now c.take_plain.new.meter c.requires.can_gather two in
+    let read = reads-held device t u c.take_plain.new.meter (length c.take_plain.new.text) most (Ok c.in-Ok.piece) can.grows.share can.grows.holds c.in-Ok.ensures.reads in
+    let three = held-then device c.args.source.now t u c.args.meter.now c.take_plain.new.meter c.take_plain.new.meter (length c.args.text.now) (length c.take_plain.new.text) (length c.take_plain.new.text) most None holds two read in
+    reads-refused device c.args.source.now u c.args.meter.now c.take_plain.new.meter (length c.args.text.now) (length c.take_plain.new.text) most Truncated c.args.place three
+
+pub returns-in-Err-put_piece-clause-reads : goal.returns-in-Err-put_piece-clause-reads
+returns-in-Err-put_piece-clause-reads g c =
+    let device = g.I.Input in
+    let s = c.pieces.source in
+    let t = c.take_plain.new.source in
+    let most = c.args.limits.scalar in
+    let holds = c.requires.can_gather.grows.holds in
+    let u = c.next_piece.new.source in
+    let plain = into-held device s t c.pieces.meter c.take_plain.new.meter (length c.pieces.text) (length c.take_plain.new.text) most (Ok c.in_default.field-0) c.in_default.ensures.reads in
+    let two = held-then device c.args.source.now s t c.args.meter.now c.pieces.meter c.take_plain.new.meter (length c.args.text.now) (length c.pieces.text) (length c.take_plain.new.text) most None holds
+    c.pieces.invariant.held plain in
+    let can = held-can device c.args.limits c.args.source.now t c.args.text.now c.take_plain.new.text c.args.meter.now c.take_plain.new.meter c.requires.can_gather two in
+    let read = reads-held device t u c.take_plain.new.meter (length c.take_plain.new.text) most (Ok c.in-Ok.piece) can.grows.share can.grows.holds c.in-Ok.ensures.reads in
+    let three = held-then device c.args.source.now t u c.args.meter.now c.take_plain.new.meter c.take_plain.new.meter (length c.args.text.now) (length c.take_plain.new.text) (length c.take_plain.new.text) most None holds two read in
+    let v = c.in-Err-put_piece.fault in
+    let grown = grown-held device u c.take_plain.new.meter c.put_piece.new.meter (length c.take_plain.new.text) (length c.put_piece.new.text) most (Some v) c.in-Ok.ensures.reads.stands c.in-Err-put_piece.ensures.grown in
+    held-into device c.args.source.now u c.args.meter.now c.put_piece.new.meter (length c.args.text.now) (length c.put_piece.new.text) most (Err v)
+    (held-then device c.args.source.now u u c.args.meter.now c.take_plain.new.meter c.put_piece.new.meter (length c.args.text.now) (length c.take_plain.new.text) (length c.put_piece.new.text) most (Some v) holds three grown)

@@ -1,4 +1,5 @@
-use Rattle.std.proofs.Common.{ℕ, ◌≤◌, List, length, subst}
+use Rattle.std.proofs.Common.{ℕ, ◌≤◌, List, length, subst, arith}
+use Rattle.std.proofs.lemmas.Grind.{common_steps}
 use Rattle.ion_text_in.specs.Quotes.{quote_of}
 use Rattle.ion_text_in.specs.Pieces.{taken_of, ShowsPiece}
 use Rattle.ion_text_in.proofs.Looking.{piece-left}
@@ -12,3 +13,6 @@ returns-in_default-clause-gives g c = λ h.
 pub returns-in_default-clause-there : goal.returns-in_default-clause-there
 returns-in_default-clause-there g c =
     subst (λ (l : List ℕ). taken_of c.quick_piece.result ≤ length l) c.buffer.ensures c.quick_piece.ensures.there
+
+pub returns-in_default-clause-looks : goal.returns-in_default-clause-looks
+returns-in_default-clause-looks g c = grind (arith, common_steps) steps 400000

@@ -1,4 +1,5 @@
-use Rattle.std.proofs.Common.{ℕ, ◌≤◌, List, length, ap, subst, ◌∙◌}
+use Rattle.std.proofs.Common.{ℕ, ◌≤◌, List, length, ap, subst, ◌∙◌, arith}
+use Rattle.std.proofs.lemmas.Grind.{common_steps}
 use Rattle.ion_text_in.specs.Quoted.{piece_at}
 use Rattle.ion_text_in.specs.Quotes.{quote_of}
 use Rattle.ion_text_in.specs.Pieces.{taken_of, ShowsPiece}
@@ -33,3 +34,24 @@ returns-in-Ok-None-clause-there g c =
 
 pub returns-in-Ok-None-clause-some : goal.returns-in-Ok-None-clause-some
 returns-in-Ok-None-clause-some g c = taken-some c.args.quote c.buffer.result.now c.last_piece.result c.last_piece.ensures
+
+pub more-preserved : goal.more-preserved
+more-preserved g c = grind (arith, common_steps)
+
+pub returns-in-Err-clause-looks : goal.returns-in-Err-clause-looks
+returns-in-Err-clause-looks g c = grind (arith, common_steps)
+
+pub returns-in-Ok-None-clause-looks : goal.returns-in-Ok-None-clause-looks
+returns-in-Ok-None-clause-looks g c = grind (arith, common_steps)
+
+pub more-smaller : goal.more-smaller
+more-smaller g c = grind (arith, common_steps) steps 400000
+
+pub returns-in-Err-clause-limit : goal.returns-in-Err-clause-limit
+returns-in-Err-clause-limit g c = grind (arith, common_steps) steps 400000
+
+pub returns-in-Ok-None-clause-limit : goal.returns-in-Ok-None-clause-limit
+returns-in-Ok-None-clause-limit g c = grind (arith, common_steps) steps 400000
+
+pub returns-in_default-clause-looks : goal.returns-in_default-clause-looks
+returns-in_default-clause-looks g c = grind (arith, common_steps) steps 400000

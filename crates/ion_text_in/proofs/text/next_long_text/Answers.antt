@@ -1,4 +1,5 @@
-use Rattle.std.proofs.Common.{◌≡◌, ℕ, ◌∙◌, List, Bool, length, Some, None, Ok, sym, ap}
+use Rattle.std.proofs.Common.{◌≡◌, ℕ, ◌∙◌, List, Bool, length, Some, None, Ok, Err, sym, ap, arith}
+use Rattle.std.proofs.lemmas.Grind.{common_steps}
 use Rattle.ion_meter.specs.Sources.{Cursor, cursor, skip}
 use Rattle.ion_text_in.specs.Overrun.{overrun}
 use Rattle.ion_text_in.specs.Quoted.{text_at}
@@ -8,7 +9,7 @@ use Rattle.ion_text_in.proofs.Quotes.{quote_of-is}
 use Rattle.ion_text_in.proofs.Gathering.{overruns-refused}
 use Rattle.ion_text_in.proofs.SegmentTexts.{behind_text, long-err, long-ends, long-goes, next-cut, next-none, next-some}
 use Rattle.ion_value.proofs.GrowsWithin.{grows-on, grows-over}
-use Rattle.ion_text_in.proofs.Holding.{held-then, into-held, reads-held, held-can, read-can}
+use Rattle.ion_text_in.proofs.Holding.{held-into, held-then, into-held, reads-held, held-can, read-can}
 use Rattle.ion_text_in.proofs.text.next_long_text.Goals as goal
 
 pub returns-in-Err-clause-gives : goal.returns-in-Err-clause-gives
@@ -93,3 +94,117 @@ segments-preserved g c =
           (next-some c.args.quote (cursor device t) (cursor device u) c.requires.long behind some.0)
           ∙ ap (λ (d : Cursor). behind_text q most c.next_segment.new.text d) (sym some.1);
     }
+
+pub returns-in-Ok-false-clause-goes : goal.returns-in-Ok-false-clause-goes
+returns-in-Ok-false-clause-goes g c = grind (arith, common_steps) steps 400000
+
+pub returns-in-Err-pass_quotes-clause-goes : goal.returns-in-Err-pass_quotes-clause-goes
+returns-in-Err-pass_quotes-clause-goes g c = grind (arith, common_steps) steps 400000
+
+pub segments-init : goal.segments-init
+segments-init g c = grind (arith, common_steps)
+
+pub returns-in-Err-pass_between-clause-goes : goal.returns-in-Err-pass_between-clause-goes
+returns-in-Err-pass_between-clause-goes g c = grind (arith, common_steps) steps 400000
+
+pub segments-smaller : goal.segments-smaller
+segments-smaller g c = grind (arith, common_steps) steps 400000
+
+pub returns-in-Ok-Some-clause-goes : goal.returns-in-Ok-Some-clause-goes
+returns-in-Ok-Some-clause-goes g c = grind (arith, common_steps) steps 400000
+
+pub returns-in-Err-clause-reads : goal.returns-in-Err-clause-reads
+returns-in-Err-clause-reads g c =
+    let device = g.I.Input in
+    let first = c.args.source.now in
+    let s = c.segments.source in
+    let t = c.next_segment.new.source in
+    let most = c.args.limits.scalar in
+    let m = c.next_segment.new.meter in
+    let before = length c.args.text.now in
+    let all = length c.next_segment.new.text in
+    let can = read-can c.args.limits first c.args.text.now c.args.meter.now c.requires.can_read in
+    let f = c.in-Err.fault in
+    let one = into-held device s t c.segments.meter m (length c.segments.text) all most (Err f) c.in-Err.ensures.reads in
+    held-into device first t c.args.meter.now m before all most (Err f) (held-then device first s t c.args.meter.now c.segments.meter m before (length c.segments.text) all most (Some f) can.grows.holds c.segments.invariant.held one)
+
+pub returns-in-Err-pass_between-clause-reads : goal.returns-in-Err-pass_between-clause-reads
+returns-in-Err-pass_between-clause-reads g c =
+    let device = g.I.Input in
+    let first = c.args.source.now in
+    let s = c.segments.source in
+    let t = c.next_segment.new.source in
+    let most = c.args.limits.scalar in
+    let m = c.next_segment.new.meter in
+    let before = length c.args.text.now in
+    let all = length c.next_segment.new.text in
+    let can = read-can c.args.limits first c.args.text.now c.args.meter.now c.requires.can_read in
+    let u = c.pass_between.new.source in
+    let one = into-held device s t c.segments.meter m (length c.segments.text) all most (Ok c.in_default.field-0) c.in_default.ensures.reads in
+    let two = held-then device first s t c.args.meter.now c.segments.meter m before (length c.segments.text) all most None can.grows.holds c.segments.invariant.held one in
+    let next = held-can device c.args.limits first t c.args.text.now c.next_segment.new.text c.args.meter.now m can two in
+    let f = c.in-Err-pass_between.fault in
+    let passes = reads-held device t u m all most (Err f) next.grows.share next.grows.holds c.in-Err-pass_between.ensures.reads in
+    held-into device first u c.args.meter.now m before all most (Err f) (held-then device first t u c.args.meter.now m m before all all most (Some f) can.grows.holds two passes)
+
+pub returns-in-Ok-Some-clause-reads : goal.returns-in-Ok-Some-clause-reads
+returns-in-Ok-Some-clause-reads g c =
+    let device = g.I.Input in
+    let first = c.args.source.now in
+    let s = c.segments.source in
+    let t = c.next_segment.new.source in
+    let most = c.args.limits.scalar in
+    let m = c.next_segment.new.meter in
+    let before = length c.args.text.now in
+    let all = length c.next_segment.new.text in
+    let can = read-can c.args.limits first c.args.text.now c.args.meter.now c.requires.can_read in
+    let u = c.pass_between.new.source in
+    let one = into-held device s t c.segments.meter m (length c.segments.text) all most (Ok c.in_default.field-0) c.in_default.ensures.reads in
+    let two = held-then device first s t c.args.meter.now c.segments.meter m before (length c.segments.text) all most None can.grows.holds c.segments.invariant.held one in
+    let next = held-can device c.args.limits first t c.args.text.now c.next_segment.new.text c.args.meter.now m can two in
+    let passes = reads-held device t u m all most (Ok c.in-Ok-Some.field-0) next.grows.share next.grows.holds c.in-Ok-Some.ensures.reads in
+    let three = held-then device first t u c.args.meter.now m m before all all most None can.grows.holds two passes in
+    held-into device first u c.args.meter.now m before all most (Ok (Some c.in-Ok-Some.start)) three
+
+pub returns-in-Err-pass_quotes-clause-reads : goal.returns-in-Err-pass_quotes-clause-reads
+returns-in-Err-pass_quotes-clause-reads g c =
+    let device = g.I.Input in
+    let first = c.args.source.now in
+    let s = c.segments.source in
+    let t = c.next_segment.new.source in
+    let most = c.args.limits.scalar in
+    let m = c.next_segment.new.meter in
+    let before = length c.args.text.now in
+    let all = length c.next_segment.new.text in
+    let can = read-can c.args.limits first c.args.text.now c.args.meter.now c.requires.can_read in
+    let u = c.pass_between.new.source in
+    let one = into-held device s t c.segments.meter m (length c.segments.text) all most (Ok c.in_default.field-0) c.in_default.ensures.reads in
+    let two = held-then device first s t c.args.meter.now c.segments.meter m before (length c.segments.text) all most None can.grows.holds c.segments.invariant.held one in
+    let next = held-can device c.args.limits first t c.args.text.now c.next_segment.new.text c.args.meter.now m can two in
+    let passes = reads-held device t u m all most (Ok c.in-Ok-None.field-0) next.grows.share next.grows.holds c.in-Ok-None.ensures.reads in
+    let three = held-then device first t u c.args.meter.now m m before all all most None can.grows.holds two passes in
+    let v = c.pass_quotes.new.source in
+    let f = c.in-Err-pass_quotes.fault in
+    let quotes = reads-held device u v m all most (Err f) next.grows.share next.grows.holds c.in-Err-pass_quotes.ensures.reads in
+    held-into device first v c.args.meter.now m before all most (Err f) (held-then device first u v c.args.meter.now m m before all all most (Some f) can.grows.holds three quotes)
+
+pub returns-in-Ok-false-clause-reads : goal.returns-in-Ok-false-clause-reads
+returns-in-Ok-false-clause-reads g c =
+    let device = g.I.Input in
+    let first = c.args.source.now in
+    let s = c.segments.source in
+    let t = c.next_segment.new.source in
+    let most = c.args.limits.scalar in
+    let m = c.next_segment.new.meter in
+    let before = length c.args.text.now in
+    let all = length c.next_segment.new.text in
+    let can = read-can c.args.limits first c.args.text.now c.args.meter.now c.requires.can_read in
+    let u = c.pass_between.new.source in
+    let one = into-held device s t c.segments.meter m (length c.segments.text) all most (Ok c.in_default.field-0) c.in_default.ensures.reads in
+    let two = held-then device first s t c.args.meter.now c.segments.meter m before (length c.segments.text) all most None can.grows.holds c.segments.invariant.held one in
+    let next = held-can device c.args.limits first t c.args.text.now c.next_segment.new.text c.args.meter.now m can two in
+    let passes = reads-held device t u m all most (Ok c.in-Ok-None.field-0) next.grows.share next.grows.holds c.in-Ok-None.ensures.reads in
+    let three = held-then device first t u c.args.meter.now m m before all all most None can.grows.holds two passes in
+    let v = c.pass_quotes.new.source in
+    let quotes = reads-held device u v m all most (Ok c.in-Ok-false.field-0) next.grows.share next.grows.holds c.in-Ok-false.ensures.reads in
+    held-into device first v c.args.meter.now m before all most (Ok None) (held-then device first u v c.args.meter.now m m before all all most None can.grows.holds three quotes)

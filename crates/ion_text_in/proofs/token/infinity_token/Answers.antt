@@ -1,4 +1,5 @@
-use Rattle.std.proofs.Common.{length, Ok}
+use Rattle.std.proofs.Common.{length, Ok, arith}
+use Rattle.std.proofs.lemmas.Grind.{common_steps}
 use Rattle.ion_text_in.proofs.Holding.{held-into, reads-held}
 use Rattle.ion_text_in.proofs.token.infinity_token.Goals as goal
 
@@ -15,3 +16,9 @@ returns-in-Ok-clause-reads g c =
       further = c.in-Ok.ensures.further;
       into = held-into g.I.Input s t m m n n most (Ok _) (reads-held g.I.Input s t m n most (Ok tt) can.share can.holds c.in-Ok.ensures.reads);
     }
+
+pub returns-in-Err-clause-reads : goal.returns-in-Err-clause-reads
+returns-in-Err-clause-reads g c = grind (arith, common_steps) steps 400000
+
+pub returns-in-Ok-clause-gives : goal.returns-in-Ok-clause-gives
+returns-in-Ok-clause-gives g c = grind (arith, common_steps) steps 400000

@@ -1,4 +1,5 @@
-use Rattle.std.proofs.Common.{◌∙◌, Ok, refl, sym, ap}
+use Rattle.std.proofs.Common.{◌∙◌, Ok, refl, sym, ap, arith}
+use Rattle.std.proofs.lemmas.Grind.{common_steps}
 use Rattle.ion_meter.specs.Sources.{cursor}
 use Rattle.ion_value.specs.Value.{Scalar, SymbolAt}
 use Rattle.ion_text_in.specs.declared.lob.Lob.{Lob}
@@ -16,3 +17,6 @@ returns-in-Err-clause-gives g c = λ h.
 
 pub returns-in-Ok-clause-gives : goal.returns-in-Ok-clause-gives
 returns-in-Ok-clause-gives g c = λ h. (cursor g.I.Input c.next_lob.new.source, c.in-Ok.ensures.gives h ∙ ap (λ (s : Scalar SymbolAt). Ok (tokens.plain s, cursor g.I.Input c.next_lob.new.source)) (sym (c.lob_body.ensures.is c.next_lob.new.text c.args.source.now.place)), refl)
+
+pub returns-in-Ok-clause-reads : goal.returns-in-Ok-clause-reads
+returns-in-Ok-clause-reads g c = grind (arith, common_steps) steps 400000

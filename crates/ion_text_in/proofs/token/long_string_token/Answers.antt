@@ -1,4 +1,5 @@
-use Rattle.std.proofs.Common.{false}
+use Rattle.std.proofs.Common.{false, arith}
+use Rattle.std.proofs.lemmas.Grind.{common_steps}
 use Rattle.ion_meter.specs.Sources.{cursor}
 use Rattle.ion_text_in.specs.Token as tokens
 use Rattle.ion_text_in.proofs.ReaderTokens.{overrun-refused, overrun-going, lent-given}
@@ -15,3 +16,6 @@ pub returns-in-Ok-clause-gives : goal.returns-in-Ok-clause-gives
 returns-in-Ok-clause-gives g c = λ h.
     let o = c.in-Ok.ensures.gives h in
     (o.0, o.1, overrun-going c.in-Ok.start o.0 (cursor g.I.Input c.next_long_string.new.source) o.2)
+
+pub returns-in-Ok-clause-reads : goal.returns-in-Ok-clause-reads
+returns-in-Ok-clause-reads g c = grind (arith, common_steps) steps 400000

@@ -48,3 +48,18 @@ returns-in-Nothing-clause-gives g c = λ h.
 
 pub returns-in-Colons-clause-reads : goal.returns-in-Colons-clause-reads
 returns-in-Colons-clause-reads g c = grind (arith, common_steps)
+
+pub returns-in-Nothing-clause-reads : goal.returns-in-Nothing-clause-reads
+returns-in-Nothing-clause-reads g c = grind (arith, common_steps) steps 400000
+
+pub returns-in-Colon-clause-reads : goal.returns-in-Colon-clause-reads
+returns-in-Colon-clause-reads g c = grind (arith, common_steps)
+
+pub returns-in-Begin-clause-reads : goal.returns-in-Begin-clause-reads
+returns-in-Begin-clause-reads g c = grind (arith, common_steps)
+
+pub returns-in-End-clause-reads : goal.returns-in-End-clause-reads
+returns-in-End-clause-reads g c = grind (arith, common_steps)
+
+pub returns-in-Comma-clause-reads : goal.returns-in-Comma-clause-reads
+returns-in-Comma-clause-reads g c = grind (arith, common_steps)

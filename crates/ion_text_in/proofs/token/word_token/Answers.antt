@@ -1,4 +1,5 @@
-use Rattle.std.proofs.Common.{◌∙◌, ℕ, Option, Ok, sym, ap}
+use Rattle.std.proofs.Common.{◌∙◌, ℕ, Option, Ok, sym, ap, arith}
+use Rattle.std.proofs.lemmas.Grind.{common_steps}
 use Rattle.ion_meter.specs.Sources.{cursor}
 use Rattle.ion_text_in.specs.Token as tokens
 use Rattle.ion_text_in.specs.Tokens.{going}
@@ -12,3 +13,9 @@ returns-in-Err-clause-gives g c = λ h.
 
 pub returns-in-Ok-clause-gives : goal.returns-in-Ok-clause-gives
 returns-in-Ok-clause-gives g c = λ h. (cursor g.I.Input c.next_word.new.source, c.in-Ok.ensures.gives h ∙ ap (λ (t : tokens.Token). Ok (t, cursor g.I.Input c.next_word.new.source)) (sym (c.word_of.ensures.is c.next_word.new.text c.args.source.now.place)), ap (λ (o : Option ℕ). going o (cursor g.I.Input c.next_word.new.source)) (sym c.word_of.ensures.alone))
+
+pub returns-in-Ok-clause-reads : goal.returns-in-Ok-clause-reads
+returns-in-Ok-clause-reads g c = grind (arith, common_steps) steps 400000
+
+pub returns-in-Ok-clause-paid : goal.returns-in-Ok-clause-paid
+returns-in-Ok-clause-paid g c = grind (arith, common_steps) steps 400000

@@ -1,4 +1,5 @@
 use Rattle.std.proofs.Common.{◌≡◌, ◌≤◌, ◌∙◌, ap, sym, Some, true, List, ℕ, ◌++◌, ◌==◌, length, take, refl, arith}
+use Rattle.std.proofs.lemmas.Grind.{common_steps}
 use Rattle.ion_meter.specs.Windows.{left, lent}
 use Rattle.ion_meter.specs.Sources.{cursor, skip}
 use Rattle.ion_meter.proofs.Lent.{lent-take, lent-IsGiven}
@@ -30,3 +31,18 @@ returns-clause-gives g c = λ h.
     let same = name-gathered limit c.args.text.now c.append.new.text (cursor g.I.Input s) (cursor g.I.Input t) point text there in
     answers-same (λ (x : Unit {0}). c.gather.new.text) c.gather.result (cursor g.I.Input c.gather.new.source) c.args.place c.args.place _ _
     (c.gather.ensures.gives (added.reads.moves.still_observable.1 (peek.kept.still_observable.1 h))) refl same
+
+pub returns-then-not-is_point-clause-reads : goal.returns-then-not-is_point-clause-reads
+returns-then-not-is_point-clause-reads g c = grind (arith, common_steps) steps 400000
+
+pub returns-in-Err-clause-reads : goal.returns-in-Err-clause-reads
+returns-in-Err-clause-reads g c = grind (arith, common_steps) steps 400000
+
+pub returns-clause-goes : goal.returns-clause-goes
+returns-clause-goes g c = grind (arith, common_steps) steps 400000
+
+pub append-requires-clause-there : goal.append-requires-clause-there
+append-requires-clause-there g c = grind (arith, common_steps) steps 400000
+
+pub returns-in-Err-append-clause-goes : goal.returns-in-Err-append-clause-goes
+returns-in-Err-append-clause-goes g c = grind (arith, common_steps) steps 400000

@@ -21,3 +21,15 @@ returns-in-Err-clause-gives g c = grind (arith, common_steps)
 
 pub returns-then-not-is_text-clause-gives : goal.returns-then-not-is_text-clause-gives
 returns-then-not-is_text-clause-gives g c = grind (arith, common_steps)
+
+pub returns-clause-further : goal.returns-clause-further
+returns-clause-further g c = grind (arith, common_steps) steps 400000
+
+pub returns-clause-fresh : goal.returns-clause-fresh
+returns-clause-fresh g c = grind (arith, common_steps) steps 400000
+
+pub returns-then-not-is_text-clause-further : goal.returns-then-not-is_text-clause-further
+returns-then-not-is_text-clause-further g c = grind (arith, common_steps) steps 400000
+
+pub returns-then-not-is_text-clause-fresh : goal.returns-then-not-is_text-clause-fresh
+returns-then-not-is_text-clause-fresh g c = grind (arith, common_steps) steps 400000

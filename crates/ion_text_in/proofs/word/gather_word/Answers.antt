@@ -1,4 +1,5 @@
 use Rattle.std.proofs.Common.{◌∙◌, ap, sym, Some, Ok, List, ℕ, arith}
+use Rattle.std.proofs.lemmas.Grind.{common_steps}
 use Rattle.ion_meter.specs.Sources.{cursor}
 use Rattle.ion_value.proofs.Cursors.{answers-refused}
 use Rattle.ion_text_in.specs.Token.{word_of, word_token}
@@ -38,3 +39,9 @@ returns-in-Ok-clause-fresh g c =
     let most = prepaid_word-most c.gather_typed.new.text c.in-Ok.word in
     let fresh = c.in_default.ensures.fresh in
     omega (arith, most, fresh)
+
+pub returns-in-Ok-clause-further : goal.returns-in-Ok-clause-further
+returns-in-Ok-clause-further g c = grind (arith, common_steps) steps 400000
+
+pub returns-in-Err-word_by-clause-reads : goal.returns-in-Err-word_by-clause-reads
+returns-in-Err-word_by-clause-reads g c = grind (arith, common_steps) steps 400000

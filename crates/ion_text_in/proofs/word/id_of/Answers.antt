@@ -1,4 +1,5 @@
-use Rattle.std.proofs.Common.{◌≡◌, ◌∙◌, ◌+◌, ◌*◌, ap, sym, get_or, drop, Bool, true, ℕ, ◌&&◌, min}
+use Rattle.std.proofs.Common.{◌≡◌, ◌∙◌, ◌+◌, ◌*◌, ap, sym, get_or, drop, Bool, true, ℕ, ◌&&◌, min, arith}
+use Rattle.std.proofs.lemmas.Grind.{common_steps}
 use Rattle.std.proofs.lemmas.List.{drop_more}
 use Rattle.ion_value.specs.Digits.{all_are, is_digit}
 use Rattle.ion_text_in.proofs.WordTokens.{id-more}
@@ -13,3 +14,6 @@ digits-preserved c =
       id = c.min-id.ensures ∙ ap (λ (k : ℕ). min (c.digits.id * 10 + k) 2147483648) c.from.ensures ∙ id-more digits i c.digits.id c.digits-test.true is c.digits.invariant.id;
       all = c.digits.invariant.all ∙ ap (all_are is_digit) (drop_more digits i 0 c.digits-test.true) ∙ ap (λ (b : Bool). b && all_are is_digit (drop (i + 1) digits)) is;
     }
+
+pub returns-then-not-is_ascii_digit : goal.returns-then-not-is_ascii_digit
+returns-then-not-is_ascii_digit c = grind (arith, common_steps)

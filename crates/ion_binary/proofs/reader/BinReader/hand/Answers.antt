@@ -1,5 +1,12 @@
 use Rattle.std.proofs.Common.{arith}
+use Rattle.ion_value.specs.Items.{named_item}
+use Rattle.ion_binary.proofs.HandingKeeps.{handed-none}
 use Rattle.ion_binary.proofs.reader.BinReader.hand.Goals as goal
 
 pub ends_here-requires : goal.ends_here-requires
 ends_here-requires g c = record { top = λ none. omega (arith, c.place.ensures, c.requires.around.top none, c.requires.can_hand.stands.within, c.requires.can_hand.stands.small) }
+
+pub returns-then-this-ne0-clause-handed : goal.returns-then-this-ne0-clause-handed
+returns-then-this-ne0-clause-handed g c =
+    handed-none g.W.ValueWriter g.I.Input (named_item (g.N.Names.text c.args.names.now)) c.args.self.now c.args.writer.now c.args.sink.now c.args.meter.now c.requires.can_hand
+    (g.met.W.ValueWriter.within c.args.writer.now c.requires.can_hand.writer.sound)

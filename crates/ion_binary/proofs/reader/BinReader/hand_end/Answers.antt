@@ -1,4 +1,6 @@
 use Rattle.std.proofs.Common.{◌≡◌, ◌<◌, [], None, List, length, refl, ap, sym, subst, ◌∙◌, arith, rules}
+use Rattle.std.proofs.lemmas.Grind.{common_steps}
+use Rattle.std.proofs.lemmas.Bool.{true≢false}
 use Rattle.ion_meter.specs.Sources.{cursor}
 use Rattle.ion_value.specs.Reading.{Gives, More}
 use Rattle.ion_value.specs.Items.{named_item}
@@ -41,7 +43,7 @@ returns-clause-handed g c =
         total = refl;
         bytes = λ b. b;
       });
-      nothing = λ e. absurd (cc e);
+      nothing = λ e. absurd (true≢false e);
       keeps = search rules;
       goes = search rules;
     }
@@ -65,3 +67,6 @@ take_plain-requires-clause-path g c =
 
 pub returns-clause-around : goal.returns-clause-around
 returns-clause-around g c e = rw c.as_slice.ensures at c.around_in.ensures
+
+pub returns-then-not-take_plain-clause-handed : goal.returns-then-not-take_plain-clause-handed
+returns-then-not-take_plain-clause-handed g c = grind (arith, common_steps) steps 400000

@@ -1,4 +1,6 @@
 use Rattle.std.proofs.Common.{arith}
+use Rattle.ion_value.specs.Items.{named_item}
+use Rattle.ion_binary.proofs.HandingKeeps.{handed-none}
 use Rattle.ion_binary.proofs.reader.BinReader.hand_next_noted.Goals as goal
 
 pub ends_here-requires : goal.ends_here-requires
@@ -6,3 +8,8 @@ ends_here-requires g c = record { top = λ none. omega (arith, c.place.ensures, 
 
 pub hand_noted-requires-clause-around : goal.hand_noted-requires-clause-around
 hand_noted-requires-clause-around g c = rw c.as_slice.ensures at c.around_in-around.ensures
+
+pub returns-then-ends_here : goal.returns-then-ends_here
+returns-then-ends_here g c =
+    handed-none g.W.ValueWriter g.I.Input (named_item (g.N.Names.text c.args.names.now)) c.args.self.now c.args.writer.now c.args.sink.now c.args.meter.now c.requires
+    (g.met.W.ValueWriter.within c.args.writer.now c.requires.writer.sound)

@@ -1,3 +1,7 @@
+use Rattle.std.proofs.Common.{arith}
+use Rattle.std.proofs.lemmas.Grind.{common_steps}
+use Rattle.ion_value.specs.Items.{named_item}
+use Rattle.ion_binary.proofs.HandingKeeps.{handed-none}
 use Rattle.ion_binary.proofs.reader.BinReader.hand_noted.Goals as goal
 
 pub noted_front-requires-clause-field : goal.noted_front-requires-clause-field
@@ -8,3 +12,24 @@ hand_shape-requires-clause-front g c = rw (c.buffer-octets.ensures, c.place-here
 
 pub hand_shape-requires-clause-shape : goal.hand_shape-requires-clause-shape
 hand_shape-requires-clause-shape g c = rw c.buffer-octets.ensures at c.of-shape.ensures
+
+pub noted_front-requires-clause-small : goal.noted_front-requires-clause-small
+noted_front-requires-clause-small g c = grind (arith, common_steps)
+
+pub hand_shape-requires-clause-within : goal.hand_shape-requires-clause-within
+hand_shape-requires-clause-within g c = grind (arith, common_steps) steps 400000
+
+pub returns-in_default-noted_front-clause-handed : goal.returns-in_default-noted_front-clause-handed
+returns-in_default-noted_front-clause-handed g c =
+    handed-none g.W.ValueWriter g.I.Input (named_item (g.N.Names.text c.args.names.now)) c.args.self.now c.args.writer.now c.args.sink.now c.args.meter.now c.requires.can_hand
+    (g.met.W.ValueWriter.within c.args.writer.now c.requires.can_hand.writer.sound)
+
+pub returns-in_default-clause-handed : goal.returns-in_default-clause-handed
+returns-in_default-clause-handed g c =
+    handed-none g.W.ValueWriter g.I.Input (named_item (g.N.Names.text c.args.names.now)) c.args.self.now c.args.writer.now c.args.sink.now c.args.meter.now c.requires.can_hand
+    (g.met.W.ValueWriter.within c.args.writer.now c.requires.can_hand.writer.sound)
+
+pub returns-then-front-octets-clause-handed : goal.returns-then-front-octets-clause-handed
+returns-then-front-octets-clause-handed g c =
+    handed-none g.W.ValueWriter g.I.Input (named_item (g.N.Names.text c.args.names.now)) c.args.self.now c.args.writer.now c.args.sink.now c.args.meter.now c.requires.can_hand
+    (g.met.W.ValueWriter.within c.args.writer.now c.requires.can_hand.writer.sound)

@@ -2,6 +2,7 @@ use Rattle.std.proofs.Common.{◌≡◌, ◌+◌, ◌*◌, ◌-◌, ◌<◌, Non
 use Rattle.std.proofs.lemmas.Grind.{common_steps}
 use Rattle.std.proofs.lemmas.List.{length_push}
 use Rattle.ion_meter.specs.Counts.{Counts}
+use Rattle.std.proofs.lemmas.Bool.{true≢false}
 use Rattle.ion_meter.proofs.Lent.{IsPassed-total, lent-CanPass}
 use Rattle.ion_value.proofs.Passing.{IsPassed-moves}
 use Rattle.ion_value.specs.declared.item.Head.TheVariants as code
@@ -131,7 +132,7 @@ returns-else-not-take_plain-clause-handed g c = record {
         total = IsPassed-total device.rest r.source t c.in-Some.behind (lent-CanPass r.source c.in-Some.behind v.within).0 c.pass.ensures.passed;
         bytes = (IsPassed-moves device r.source t c.in-Some.behind v.within c.pass.ensures.passed).bytes;
       });
-  nothing = λ e. absurd (cc e);
+  nothing = λ e. absurd (true≢false e);
   keeps =
       let r = c.args.self.now in
       let v = c.requires.front.gives (length (as_frames r.frames)) c.in-Some.behind c.in-Some.found c.in-Some.ensures.shows c.in-Some.ensures.fills in
@@ -185,7 +186,7 @@ returns-else-not-take_plain-2-clause-handed g c = record {
         total = IsPassed-total device.rest r.source t c.in-Some.behind (lent-CanPass r.source c.in-Some.behind v.within).0 c.pass-in-Begin.ensures.passed;
         bytes = (IsPassed-moves device r.source t c.in-Some.behind v.within c.pass-in-Begin.ensures.passed).bytes;
       });
-  nothing = λ e. absurd (cc e);
+  nothing = λ e. absurd (true≢false e);
   keeps =
       let r = c.args.self.now in
       let v = c.requires.front.gives (length (as_frames r.frames)) c.in-Some.behind c.in-Some.found c.in-Some.ensures.shows c.in-Some.ensures.fills in

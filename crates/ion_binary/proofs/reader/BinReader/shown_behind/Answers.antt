@@ -1,4 +1,5 @@
 use Rattle.std.proofs.Common.{◌≤◌, length, sym, subst, arith}
+use Rattle.std.proofs.lemmas.Grind.{common_steps}
 use Rattle.ion_meter.proofs.Lent.{lent-CanPass}
 use Rattle.ion_binary.specs.Lane.{frame_in, inner_region}
 use Rattle.ion_binary.specs.Reading.{region_of}
@@ -23,3 +24,6 @@ returns-clause-shows g c =
 
 pub returns-clause-fills : goal.returns-clause-fills
 returns-clause-fills g c = rw (c.far_end.ensures, c.place-here.ensures) at (c.fills.ensures c.if-not-fills.false)
+
+pub shown_value-requires-clause-small : goal.shown_value-requires-clause-small
+shown_value-requires-clause-small g c = grind (arith, common_steps)

@@ -23,3 +23,30 @@ returns-in-Ok-clause-ends g c = grind (arith, common_steps) steps 400000
 
 pub returns-in-Ok-clause-causes : goal.returns-in-Ok-clause-causes
 returns-in-Ok-clause-causes g c = grind (arith, common_steps) steps 400000
+
+pub returns-in-Ok-clause-depth : goal.returns-in-Ok-clause-depth
+returns-in-Ok-clause-depth g c = grind (arith, common_steps) steps 400000
+
+pub returns-in-Ok-clause-falls : goal.returns-in-Ok-clause-falls
+returns-in-Ok-clause-falls g c = grind (arith, common_steps) steps 400000
+
+pub returns-in-Err-clause-sound : goal.returns-in-Err-clause-sound
+returns-in-Err-clause-sound g c = grind (arith, common_steps) steps 400000
+
+pub returns-in-Ok-clause-most : goal.returns-in-Ok-clause-most
+returns-in-Ok-clause-most g c = grind (arith, common_steps) steps 400000
+
+pub returns-in-Ok-clause-stays : goal.returns-in-Ok-clause-stays
+returns-in-Ok-clause-stays g c = grind (arith, common_steps) steps 400000
+
+pub returns-in-Err-clause-again : goal.returns-in-Err-clause-again
+returns-in-Err-clause-again g c = grind (arith, common_steps) steps 400000
+
+pub returns-in-Err-clause-depth : goal.returns-in-Err-clause-depth
+returns-in-Err-clause-depth g c = grind (arith, common_steps) steps 400000
+
+pub returns-in-Err-clause-most : goal.returns-in-Err-clause-most
+returns-in-Err-clause-most g c = grind (arith, common_steps) steps 400000
+
+pub returns-in-Err-clause-falls : goal.returns-in-Err-clause-falls
+returns-in-Err-clause-falls g c = grind (arith, common_steps) steps 400000

@@ -36,3 +36,9 @@ returns-clause-kept g c =
 
 pub invariant_of-self-2 : goal.invariant_of-self-2
 invariant_of-self-2 g c = grind (arith, common_steps) steps 400000
+
+pub returns-in_default-clause-lost : goal.returns-in_default-clause-lost
+returns-in_default-clause-lost g c =
+    let s = c.self.inside in
+    let copied = c.deref_mut-2.ensures.value ∙ (c.copy_within.ensures.after ∙ ap (λ (l : List ℕ). copy_within l s.start s.end 0) c.deref_mut.ensures.value) in
+    rw (← c.self.view_is) (read_nothing s.window.value c.deref_mut-2.result.now c.read.new.into s.start s.end (4096 - (s.end - s.start)) (omega arith) (omega arith) copied)

@@ -16,3 +16,6 @@ returns-in_err-fill-clause-kept g c = grind (arith, common_steps)
 
 pub returns-after-loop-self-clause-reached : goal.returns-after-loop-self-clause-reached
 returns-after-loop-self-clause-reached g c = grind (arith, common_steps)
+
+pub returns-in_err-fill-clause-needed : goal.returns-in_err-fill-clause-needed
+returns-in_err-fill-clause-needed g c = grind (arith, common_steps)

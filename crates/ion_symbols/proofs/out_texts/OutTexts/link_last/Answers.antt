@@ -17,3 +17,6 @@ pub returns-clause-kept : goal.returns-clause-kept
 returns-clause-kept g c =
     linked_in_front c.args.self.now c.args.text.now c.args.spot c.bucket-of.result (length c.as_slice.result.now) c.requires c.in_default.not-Behind (c.bucket-of.ensures.of ∙ ap bucket_in c.hash.ensures)
     c.bucket-of.ensures.within (omega (arith, c.if-self-of-gt0.false)) (ap length c.as_slice.ensures)
+
+pub returns-in-Behind-clause-order : goal.returns-in-Behind-clause-order
+returns-in-Behind-clause-order g c = ap (λ k. k.is_ordered) c.link_behind.ensures.rest

@@ -1,4 +1,4 @@
-use Rattle.std.proofs.Common.{◌≡◌, ◌+◌, ℕ, List, refl, ap, sym, subst, subst₂, ◌∙◌, IfOk, IfErr, arith}
+use Rattle.std.proofs.Common.{◌≡◌, ◌+◌, ◌<◌, ℕ, List, length, refl, ap, sym, subst, subst₂, ◌∙◌, IfOk, IfErr, arith}
 use Rattle.ion_meter.specs.declared.fault.Fault.TheVariants.{Memory}
 use Rattle.ion_value.specs.Shares.{Charges}
 use Rattle.ion_symbols.specs.Output.{Output, id_given, known_id, texts_cost}
@@ -82,3 +82,32 @@ pub returns-in-Err-clause-charges : goal.returns-in-Err-clause-charges
 returns-in-Err-clause-charges g c =
     let same = same_texts c.self.inside.kept _ _ c.spot.ensures.texts (ap (λ (s : Output). s.texts) c.self.view_is) in
     subst₂ (λ (ts : List (List ℕ)) (l : ℕ). Charges c.args.meter.now c.add.new.meter (texts_cost ts) (texts_cost (texts_of c.add.new.kept)) l) same (ap (λ (s : Output). s.limit) c.self.view_is) c.add.ensures.charges
+
+-- ---- what is over the limit, what grows, and the order
+
+pub returns-in-Some-clause-over : goal.returns-in-Some-clause-over
+returns-in-Some-clause-over g c none over = absurd (cc (system_known c.args.self.now.texts c.args.text.now _ c.in-Some.ensures ∙ none))
+
+pub returns-in-Some-clause-grows : goal.returns-in-Some-clause-grows
+returns-in-Some-clause-grows g c id none e = absurd (cc (system_known c.args.self.now.texts c.args.text.now _ c.in-Some.ensures ∙ none))
+
+pub returns-in-Ok-clause-over : goal.returns-in-Ok-clause-over
+returns-in-Ok-clause-over g c none over = let e = ap (λ (s : Output). s.texts) c.self.view_is in absurd (cc (known_kept _ _ _ _ c.self.invariant.0 e c.in-Ok.ensures.there ∙ none))
+
+pub returns-in-Ok-clause-grows : goal.returns-in-Ok-clause-grows
+returns-in-Ok-clause-grows g c id none is = let e = ap (λ (s : Output). s.texts) c.self.view_is in absurd (cc (known_kept _ _ _ _ c.self.invariant.0 e c.in-Ok.ensures.there ∙ none))
+
+pub returns-in-Ok-clause-ordered : goal.returns-in-Ok-clause-ordered
+returns-in-Ok-clause-ordered g c e = c.spot.ensures.ordered (ap (λ (s : Output). s.is_ordered) c.self.view_is ∙ e)
+
+pub returns-in-Err-clause-over : goal.returns-in-Err-clause-over
+returns-in-Err-clause-over g c none over =
+    let same = same_texts c.self.inside.kept _ _ c.spot.ensures.texts (ap (λ (s : Output). s.texts) c.self.view_is) in
+    let limit = ap (λ (s : Output). s.limit) c.self.view_is in
+    c.add.ensures.over (subst₂ (λ (ts : List (List ℕ)) (l : ℕ). l < texts_cost ts + (16 + length c.args.text.now)) (sym same) (sym limit) over)
+
+pub returns-in-Err-clause-grows : goal.returns-in-Err-clause-grows
+returns-in-Err-clause-grows g c id none e = c.add.ensures.grows id e
+
+pub returns-in-Err-clause-ordered : goal.returns-in-Err-clause-ordered
+returns-in-Err-clause-ordered g c e = c.add.ensures.order ∙ c.spot.ensures.ordered (ap (λ (s : Output). s.is_ordered) c.self.view_is ∙ e)

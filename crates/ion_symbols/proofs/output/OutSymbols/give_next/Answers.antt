@@ -39,3 +39,6 @@ returns-clause-new g c e =
     let absent : position c.args.self.now.texts c.args.added.bytes.now ≡ None =
     ap (λ (s : Output). position s.texts c.args.added.bytes.now) (sym c.self.view_is) ∙ c.add_with.ensures.new e in
     new_unknown c.args.self.now.texts c.args.added.bytes.now (record { absent = absent; no_system = none })
+
+pub returns-clause-ordered : goal.returns-clause-ordered
+returns-clause-ordered g c = c.add_with.ensures.order ∙ ap (λ (s : Output). s.is_ordered) c.self.view_is

@@ -1,4 +1,4 @@
-use Rattle.std.proofs.Common.{◌≡◌, ◌+◌, ℕ, List, refl, ap, sym, subst, subst₂, ◌∙◌, IfOk, IfErr, arith}
+use Rattle.std.proofs.Common.{◌≡◌, ◌+◌, ◌<◌, ℕ, List, length, refl, ap, sym, subst, subst₂, ◌∙◌, IfOk, IfErr, arith}
 use Rattle.std.proofs.lemmas.Grind.{common_steps}
 use Rattle.ion_meter.specs.declared.fault.Fault.TheVariants.{Memory}
 use Rattle.ion_value.specs.Shares.{Charges}
@@ -115,3 +115,50 @@ pub returns-in-Err-clause-charges : goal.returns-in-Err-clause-charges
 returns-in-Err-clause-charges g c =
     let same = same_texts c.self.inside.kept _ _ c.put_in_order.ensures.texts (ap (λ (s : Output). s.texts) c.self.view_is) in
     subst₂ (λ (ts : List (List ℕ)) (l : ℕ). Charges c.args.meter.now c.add.new.meter (texts_cost ts) (texts_cost (texts_of c.add.new.kept)) l) same (ap (λ (s : Output). s.limit) c.self.view_is) c.add.ensures.charges
+
+-- ---- what is over the limit, what grows, and the order
+
+pub returns-in-Some-clause-over : goal.returns-in-Some-clause-over
+returns-in-Some-clause-over g c none over = absurd (cc (system_known c.args.self.now.texts c.args.text.now _ c.in-Some.ensures ∙ none))
+
+pub returns-in-Some-clause-grows : goal.returns-in-Some-clause-grows
+returns-in-Some-clause-grows g c id none e = absurd (cc (system_known c.args.self.now.texts c.args.text.now _ c.in-Some.ensures ∙ none))
+
+pub returns-in-Some-clause-ordered : goal.returns-in-Some-clause-ordered
+returns-in-Some-clause-ordered g c none = absurd (cc (c.in-Some.ensures ∙ none))
+
+pub returns-in-Some-clause-stays : goal.returns-in-Some-clause-stays
+returns-in-Some-clause-stays g c id e = ap (λ (s : Output). s.is_ordered) c.self.view_is
+
+pub returns-in-Ok-clause-over : goal.returns-in-Ok-clause-over
+returns-in-Ok-clause-over g c none over =
+    let same = same_texts c.self.inside.kept _ _ c.put_in_order.ensures.texts (ap (λ (s : Output). s.texts) c.self.view_is) in
+    let k = searched_kept _ _ c.put_in_order.ensures.kept c.put_in_order.ensures.ordered c.search-search.ensures.texts in
+    absurd (cc (known_kept _ _ _ _ c.put_in_order.ensures.kept same (found_at _ _ _ _ _ _ k c.as_slice.ensures c.in-Ok.ensures.found) ∙ none))
+
+pub returns-in-Ok-clause-grows : goal.returns-in-Ok-clause-grows
+returns-in-Ok-clause-grows g c id none is =
+    let same = same_texts c.self.inside.kept _ _ c.put_in_order.ensures.texts (ap (λ (s : Output). s.texts) c.self.view_is) in
+    let k = searched_kept _ _ c.put_in_order.ensures.kept c.put_in_order.ensures.ordered c.search-search.ensures.texts in
+    absurd (cc (known_kept _ _ _ _ c.put_in_order.ensures.kept same (found_at _ _ _ _ _ _ k c.as_slice.ensures c.in-Ok.ensures.found) ∙ none))
+
+pub returns-in-Ok-clause-ordered : goal.returns-in-Ok-clause-ordered
+returns-in-Ok-clause-ordered g c none = c.put_in_order.ensures.ordered
+
+pub returns-in-Ok-clause-stays : goal.returns-in-Ok-clause-stays
+returns-in-Ok-clause-stays g c id is = absurd (cc (c.in_default.ensures ∙ is))
+
+pub returns-in-Err-clause-over : goal.returns-in-Err-clause-over
+returns-in-Err-clause-over g c none over =
+    let same = same_texts c.self.inside.kept _ _ c.put_in_order.ensures.texts (ap (λ (s : Output). s.texts) c.self.view_is) in
+    let limit = ap (λ (s : Output). s.limit) c.self.view_is in
+    c.add.ensures.over (subst₂ (λ (ts : List (List ℕ)) (l : ℕ). l < texts_cost ts + (16 + length c.args.text.now)) (sym same) (sym limit) over)
+
+pub returns-in-Err-clause-grows : goal.returns-in-Err-clause-grows
+returns-in-Err-clause-grows g c id none e = c.add.ensures.grows id e
+
+pub returns-in-Err-clause-ordered : goal.returns-in-Err-clause-ordered
+returns-in-Err-clause-ordered g c none = c.add.ensures.order ∙ c.put_in_order.ensures.ordered
+
+pub returns-in-Err-clause-stays : goal.returns-in-Err-clause-stays
+returns-in-Err-clause-stays g c id is = absurd (cc (c.in_default.ensures ∙ is))

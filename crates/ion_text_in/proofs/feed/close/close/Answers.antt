@@ -1,4 +1,5 @@
-use Rattle.std.proofs.Common.{◌∙◌, ◌+◌, ◌-◌, length, reverse, refl, sym, subst}
+use Rattle.std.proofs.Common.{◌∙◌, ◌+◌, ◌-◌, length, reverse, refl, sym, subst, arith}
+use Rattle.std.proofs.lemmas.Grind.{common_steps}
 use Rattle.ion_value.specs.Outcome.{one_if_closed}
 use Rattle.ion_text_in.specs.declared.feed.Spot.{Spot}
 use Rattle.ion_text_in.specs.Expecting.{is_separated}
@@ -55,3 +56,33 @@ returns-clause-moved g c =
       refused = e.counted;
     })
     e.charges (closed-cost a.kinds.now left c.in-Some.inner c.pop-closed.result t.new.meter c.pop-closed.new.meter (sym c.innermost.ensures ∙ c.in-Some.is) c.pop-closed.ensures.items c.pop-closed.ensures.cost))
+
+pub returns-clause-goes : goal.returns-clause-goes
+returns-clause-goes g c = grind (arith, common_steps)
+
+pub returns-then-not-take_plain-clause-falls : goal.returns-then-not-take_plain-clause-falls
+returns-then-not-take_plain-clause-falls g c = grind (arith, common_steps) steps 400000
+
+pub behind-requires : goal.behind-requires
+behind-requires g c = grind (arith, common_steps) steps 400000
+
+pub returns-clause-falls : goal.returns-clause-falls
+returns-clause-falls g c = grind (arith, common_steps)
+
+pub take_plain-requires-clause-path : goal.take_plain-requires-clause-path
+take_plain-requires-clause-path g c = grind (arith, common_steps)
+
+pub overflow_sub-item : goal.overflow_sub-item
+overflow_sub-item g c = grind (arith, common_steps) steps 400000
+
+pub take_plain-requires-clause-plain : goal.take_plain-requires-clause-plain
+take_plain-requires-clause-plain g c = grind (arith, common_steps) steps 400000
+
+pub take_plain-requires-clause-simple : goal.take_plain-requires-clause-simple
+take_plain-requires-clause-simple g c = grind (arith, common_steps) steps 400000
+
+pub returns-in_default-clause-falls : goal.returns-in_default-clause-falls
+returns-in_default-clause-falls g c = grind (arith, common_steps) steps 400000
+
+pub returns-then-not-is_same-clause-falls : goal.returns-then-not-is_same-clause-falls
+returns-then-not-is_same-clause-falls g c = grind (arith, common_steps) steps 400000

@@ -1,4 +1,5 @@
 use Rattle.std.proofs.Common.{◌≤◌, length, arith}
+use Rattle.std.proofs.lemmas.Grind.{common_steps}
 use Rattle.ion_text_in.specs.Blanks.{blanks_at, in_block}
 use Rattle.ion_text_in.proofs.FeedComments.{leads-block, leads-star, leads-then}
 use Rattle.ion_text_in.proofs.feed.comments.behind_block.Goals as goal
@@ -22,3 +23,6 @@ block-preserved c start =
     let two : 2 ≤ length star.result.now = grind (arith, c.if-star-lt2.false) in
     leads-then (in_block start) (in_block start) (in_block start) bytes rest c.behind-rest.result.now (c.block.invariant start)
     (leads-star start rest star.result.now c.behind-rest.result.now run.result run.ensures.within run.ensures.run run.ensures.ends star.ensures two c.if-star-eq47.false c.behind-rest.ensures)
+
+pub block-smaller : goal.block-smaller
+block-smaller c = grind (arith, common_steps) steps 400000

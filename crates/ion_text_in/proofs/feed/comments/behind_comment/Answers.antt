@@ -1,4 +1,5 @@
 use Rattle.std.proofs.Common.{ℕ, ◌≤◌, length, List, ap, arith}
+use Rattle.std.proofs.lemmas.Grind.{common_steps}
 use Rattle.std.proofs.lemmas.List.{length-drop}
 use Rattle.ion_text_in.proofs.FeedComments.{leads-to-block, leads-to-line}
 use Rattle.ion_text_in.proofs.feed.comments.behind_comment.Goals as goal
@@ -24,3 +25,6 @@ returns-then-bytes-eq42-clause-falls c some =
     let long = ap (λ (l : List ℕ). length l) c.behind-then-bytes-eq42.ensures in
     let dropped = length-drop 2 bytes in
     omega (arith, two, fewer, long, dropped)
+
+pub returns-then-bytes-eq47-clause-falls : goal.returns-then-bytes-eq47-clause-falls
+returns-then-bytes-eq47-clause-falls c = grind (arith, common_steps) steps 400000

@@ -1,4 +1,5 @@
 use Rattle.std.proofs.Common.{ℕ, ◌≡◌, ◌<◌, ◌==◌, List, false, length, drop, subst, sym, arith}
+use Rattle.std.proofs.lemmas.Grind.{common_steps}
 use Rattle.ion_value.specs.Digits.{first_is}
 use Rattle.ion_text_in.specs.Blanks.{blanks_at}
 use Rattle.ion_text_in.specs.Feeding.{LeadsTo, PassesBlanks}
@@ -29,3 +30,6 @@ blanks-preserved c =
     (leads-then blanks_at blanks_at blanks_at rest next last
     (subst (λ (l : List ℕ). LeadsTo blanks_at blanks_at rest l) (sym c.behind-next.ensures) (leads-white rest white.result white.ensures.within white.ensures.run))
     (c.behind_comment-last.ensures.leads some))
+
+pub blanks-smaller : goal.blanks-smaller
+blanks-smaller c = grind (arith, common_steps) steps 400000

@@ -1,4 +1,5 @@
 use Rattle.std.proofs.Common.{◌≡◌, ◌∙◌, ◌<◌, ◌++◌, ◌∷◌, ◌+◌, [], false, List, length, reverse, refl, sym, ap, subst, arith}
+use Rattle.std.proofs.lemmas.Grind.{common_steps}
 use Rattle.std.proofs.lemmas.List.{length-append, length-reverse, reverse-append}
 use Rattle.ion_value.specs.declared.ion_type.Kind.{Kind}
 use Rattle.ion_value.specs.Items.{raw_head}
@@ -85,3 +86,36 @@ returns-clause-goes g c =
     let behind = c.requires.found.head.fewer in
     let before = (c.requires.start.read.onward (reverse a.kinds.now) c.requires.can.expects).fewer in
     omega (arith, added, long, behind, before)
+
+pub returns-then-not-take_plain-clause-falls : goal.returns-then-not-take_plain-clause-falls
+returns-then-not-take_plain-clause-falls g c = grind (arith, common_steps) steps 400000
+
+pub take_plain-requires-clause-countable : goal.take_plain-requires-clause-countable
+take_plain-requires-clause-countable g c = grind (arith, common_steps) steps 400000
+
+pub returns-then-not-take_plain-clause-goes : goal.returns-then-not-take_plain-clause-goes
+returns-then-not-take_plain-clause-goes g c = grind (arith, common_steps)
+
+pub take_plain-requires-clause-held : goal.take_plain-requires-clause-held
+take_plain-requires-clause-held g c = grind (arith, common_steps)
+
+pub returns-then-not-push_within-clause-goes : goal.returns-then-not-push_within-clause-goes
+returns-then-not-push_within-clause-goes g c = grind (arith, common_steps)
+
+pub take_plain-requires-clause-room : goal.take_plain-requires-clause-room
+take_plain-requires-clause-room g c = grind (arith, common_steps)
+
+pub take_plain-requires-clause-path : goal.take_plain-requires-clause-path
+take_plain-requires-clause-path g c = grind (arith, common_steps)
+
+pub returns-clause-falls : goal.returns-clause-falls
+returns-clause-falls g c = grind (arith, common_steps)
+
+pub pop-opened-requires : goal.pop-opened-requires
+pop-opened-requires g c = grind (arith, common_steps)
+
+pub returns-then-not-push_within-clause-falls : goal.returns-then-not-push_within-clause-falls
+returns-then-not-push_within-clause-falls g c = grind (arith, common_steps) steps 400000
+
+pub returns-then-from-as_slice-clause-falls : goal.returns-then-from-as_slice-clause-falls
+returns-then-from-as_slice-clause-falls g c = grind (arith, common_steps) steps 400000

@@ -1,4 +1,5 @@
 use Rattle.std.proofs.Common.{arith}
+use Rattle.std.proofs.lemmas.Grind.{common_steps}
 use Rattle.ion_text_in.specs.Feeding.{lane}
 use Rattle.ion_text_in.proofs.FeedLanes.{can-moved, moved-none, moved-then}
 use Rattle.ion_text_in.proofs.feed.ids.id_turns.Goals as goal
@@ -38,3 +39,6 @@ items-preserved g c =
           (lane t.new.kinds t.new.at t.new.writer t.new.sink t.new.meter) c.requires.can l.invariant.moved t.ensures.moved;
       goes = let before = l.invariant.goes in let one = t.ensures.goes in omega (arith, before, one);
     }
+
+pub items-smaller : goal.items-smaller
+items-smaller g c = grind (arith, common_steps) steps 400000

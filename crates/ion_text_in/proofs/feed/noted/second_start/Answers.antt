@@ -1,4 +1,5 @@
 use Rattle.std.proofs.Common.{◌∙◌, ℕ, ◌-◌, ◌<◌, ◌++◌, List, length, codes, refl, sym, ap, arith}
+use Rattle.std.proofs.lemmas.Grind.{common_steps}
 use Rattle.ion_value.specs.declared.plain_item.SecondAt.{SecondAt}
 use Rattle.ion_value.specs.Name.{is_simple}
 use Rattle.ion_text_in.specs.Firsts.{numbered}
@@ -32,3 +33,12 @@ returns c =
     (ap (λ (l : List ℕ). is_simple l) c.front-text.ensures ∙ word.simple)
     (c.front-pair.ensures ∙ (pair-taken count c.in-Some-from_note.bytes.now note.text.now bytes c.in-Some-from_note.ensures ∙ ap (λ (l : List ℕ). note.text.now ++ (codes "::" ++ l)) (sym c.front-text.ensures)))
     c.behind_second.ensures
+
+pub front-pair-requires : goal.front-pair-requires
+front-pair-requires c = grind (arith, common_steps) steps 400000
+
+pub behind_second-requires : goal.behind_second-requires
+behind_second-requires c = grind (arith, common_steps) steps 400000
+
+pub overflow_add-note-2 : goal.overflow_add-note-2
+overflow_add-note-2 c = grind (arith, common_steps) steps 400000

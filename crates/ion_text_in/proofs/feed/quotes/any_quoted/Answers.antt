@@ -1,3 +1,5 @@
+use Rattle.std.proofs.Common.{arith}
+use Rattle.std.proofs.lemmas.Grind.{common_steps}
 use Rattle.ion_text_in.specs.Feeding.{lane}
 use Rattle.ion_text_in.proofs.FeedLanes.{moved-none}
 use Rattle.ion_text_in.proofs.FeedNoted.{start-noted}
@@ -10,3 +12,18 @@ any_value-requires-clause-start g c =
 pub returns-in-None-clause-moved : goal.returns-in-None-clause-moved
 returns-in-None-clause-moved g c =
     moved-none g.W.ValueWriter c.args.limits c.args.end (lane c.args.kinds.now c.args.spot c.args.writer.now c.args.sink.now c.args.meter.now) c.requires.can
+
+pub returns-in-Some-quoted_noted-clause-falls : goal.returns-in-Some-quoted_noted-clause-falls
+returns-in-Some-quoted_noted-clause-falls g c = grind (arith, common_steps) steps 400000
+
+pub returns-in-Some-clause-falls : goal.returns-in-Some-clause-falls
+returns-in-Some-clause-falls g c = grind (arith, common_steps) steps 400000
+
+pub returns-in-Some-quoted_noted-clause-goes : goal.returns-in-Some-quoted_noted-clause-goes
+returns-in-Some-quoted_noted-clause-goes g c = grind (arith, common_steps) steps 400000
+
+pub returns-in-Some-clause-goes : goal.returns-in-Some-clause-goes
+returns-in-Some-clause-goes g c = grind (arith, common_steps) steps 400000
+
+pub returns-in-None-clause-falls : goal.returns-in-None-clause-falls
+returns-in-None-clause-falls g c = grind (arith, common_steps) steps 400000

@@ -1,4 +1,5 @@
-use Rattle.std.proofs.Common.{◌∙◌, Option, ℕ, refl, ap, sym, subst, arith}
+use Rattle.std.proofs.Common.{◌≡◌, ◌∙◌, Option, ℕ, refl, ap, sym, subst, arith}
+use Rattle.std.proofs.lemmas.Grind.{common_steps}
 use Rattle.ion_meter.specs.declared.fault.Reason.TheVariants.{Truncated}
 use Rattle.ion_value.specs.Shares.{GoesWithReading}
 use Rattle.ion_value.proofs.GrowsWithin.{grows-read}
@@ -9,6 +10,14 @@ use Rattle.ion_text_in.proofs.ReaderSteps.{ended-gives, failed-refuses, item-giv
 use Rattle.ion_text_in.proofs.ReaderCalls.{begins-inside, can-loop, ended-ready, item-ready, passed-ready, reached-passed, reached-then, stepped-behind, stepped-ended, stepped-failed, stepped-item, stepped-unfinished}
 use Rattle.ion_text_in.specs.declared.reader.StepResult.TheVariants as step_result
 use Rattle.ion_text_in.proofs.reader.TextReader.advance.Goals as goal
+
+-- an item is no end
+item-not_ended : step_result.Item ≡ step_result.Ended → ⊥
+item-not_ended e = cc e
+
+-- nor is what is passed over
+passed-not_ended : step_result.Passed ≡ step_result.Ended → ⊥
+passed-not_ended e = cc e
 
 pub returns-in-Some-clause-refuses : goal.returns-in-Some-clause-refuses
 returns-in-Some-clause-refuses g c = λ h reason place e.
@@ -76,7 +85,7 @@ pub returns-in-Ok-Item-clause-falls : goal.returns-in-Ok-Item-clause-falls
 returns-in-Ok-Item-clause-falls g c = λ _.
     let inv = c.loop-fault.invariant in
     let less = inv.less in
-    let falls = c.in-Ok-Item.ensures.further c.in-Ok-Item.field-0 refl (λ e. absurd (cc (e, c.in-Ok-Item.field-0-is))) in
+    let falls = c.in-Ok-Item.ensures.further c.in-Ok-Item.field-0 refl (λ e. item-not_ended (sym c.in-Ok-Item.field-0-is ∙ e)) in
     omega (arith, less, falls)
 
 pub returns-in-Ok-Item-clause-stepped : goal.returns-in-Ok-Item-clause-stepped
@@ -90,7 +99,7 @@ loop-fault-preserved g c =
     let inv = c.loop-fault.invariant in
     let e = c.in-Ok-Passed.ensures in
     let passed = c.in-Ok-Passed.field-0-is in
-    let falls = e.further c.in-Ok-Passed.field-0 refl (λ x. absurd (cc (x, passed))) in
+    let falls = e.further c.in-Ok-Passed.field-0 refl (λ x. passed-not_ended (sym passed ∙ x)) in
     let less = inv.less in
     record {
       reached =
@@ -124,3 +133,27 @@ returns-in-Ok-Item-clause-goes g c =
     let e = c.in-Ok-Item.ensures in
     grows-read g.I.Input c.args.self.now.source c.loop-fault.self.source c.step.new.self.source c.args.meter.now c.loop-fault.meter c.step.new.meter (held_by c.args.self.now)
     (held_by c.loop-fault.self) (held_by c.step.new.self) inv.reached.held.charges.held inv.reached.held.moves e.stepped.reads.moves inv.grows e.goes
+
+pub returns-in-Ok-Ended-clause-falls : goal.returns-in-Ok-Ended-clause-falls
+returns-in-Ok-Ended-clause-falls g c = grind (arith, common_steps) steps 400000
+
+pub returns-in-Err-clause-falls : goal.returns-in-Err-clause-falls
+returns-in-Err-clause-falls g c = grind (arith, common_steps) steps 400000
+
+pub loop-fault-smaller : goal.loop-fault-smaller
+loop-fault-smaller g c = grind (arith, common_steps)
+
+pub returns-in-Some-clause-ends : goal.returns-in-Some-clause-ends
+returns-in-Some-clause-ends g c = grind (arith, common_steps) steps 400000
+
+pub returns-in-Ok-Item-clause-ends : goal.returns-in-Ok-Item-clause-ends
+returns-in-Ok-Item-clause-ends g c = grind (arith, common_steps) steps 400000
+
+pub returns-in-Err-clause-ends : goal.returns-in-Err-clause-ends
+returns-in-Err-clause-ends g c = grind (arith, common_steps) steps 400000
+
+pub returns-in-Ok-Item-clause-refuses : goal.returns-in-Ok-Item-clause-refuses
+returns-in-Ok-Item-clause-refuses g c = grind (arith, common_steps) steps 400000
+
+pub returns-in-Ok-Ended-clause-refuses : goal.returns-in-Ok-Ended-clause-refuses
+returns-in-Ok-Ended-clause-refuses g c = grind (arith, common_steps) steps 400000

@@ -38,3 +38,18 @@ returns-in-Err-clause-stepped g c = grind (arith, common_steps)
 
 pub returns-in-Err-push-clause-stepped : goal.returns-in-Err-push-clause-stepped
 returns-in-Err-push-clause-stepped g c = grind (arith, common_steps)
+
+pub returns-in-Err-clause-goes : goal.returns-in-Err-clause-goes
+returns-in-Err-clause-goes g c = grind (arith, common_steps) steps 400000
+
+pub returns-in-Err-push-clause-goes : goal.returns-in-Err-push-clause-goes
+returns-in-Err-push-clause-goes g c = grind (arith, common_steps)
+
+pub returns-then-limit-cost-clause-stepped : goal.returns-then-limit-cost-clause-stepped
+returns-then-limit-cost-clause-stepped g c = grind (arith, common_steps) steps 400000
+
+pub returns-in-Err-push-clause-gives : goal.returns-in-Err-push-clause-gives
+returns-in-Err-push-clause-gives g c = grind (arith, common_steps) steps 400000
+
+pub returns-in-Ok-push-clause-goes : goal.returns-in-Ok-push-clause-goes
+returns-in-Ok-push-clause-goes g c = grind (arith, common_steps)

@@ -49,3 +49,21 @@ returns-in-Ok-Some-Colon-clause-stepped g c = λ m there.
 
 pub returns-in-Ok-Some-next_first : goal.returns-in-Ok-Some-next_first
 returns-in-Ok-Some-next_first g c = grind (arith, common_steps)
+
+pub returns-in-Err-next_first-clause-stepped : goal.returns-in-Err-next_first-clause-stepped
+returns-in-Err-next_first-clause-stepped g c = grind (arith, common_steps) steps 400000
+
+pub returns-in-Err-clause-stepped : goal.returns-in-Err-clause-stepped
+returns-in-Err-clause-stepped g c = grind (arith, common_steps) steps 400000
+
+pub returns-in-Ok-Some-clause-stepped : goal.returns-in-Ok-Some-clause-stepped
+returns-in-Ok-Some-clause-stepped g c = grind (arith, common_steps) steps 400000
+
+pub returns-in-Ok-None-next_first-clause-stepped : goal.returns-in-Ok-None-next_first-clause-stepped
+returns-in-Ok-None-next_first-clause-stepped g c = grind (arith, common_steps) steps 400000
+
+pub returns-in-Err-next_first-clause-gives : goal.returns-in-Err-next_first-clause-gives
+returns-in-Err-next_first-clause-gives g c = grind (arith, common_steps)
+
+pub at_colon-requires-clause-there : goal.at_colon-requires-clause-there
+at_colon-requires-clause-there g c = grind (arith, common_steps)

@@ -1,4 +1,5 @@
 use Rattle.std.proofs.Common.{◌≡◌, ◌∙◌, ◌+◌, ◌-◌, List, ℕ, length, reverse, refl, sym, ap, subst, arith}
+use Rattle.std.proofs.lemmas.Grind.{common_steps}
 use Rattle.ion_value.specs.declared.ion_type.Kind.{Kind}
 use Rattle.ion_text_in.specs.declared.expected.Expected.{Expected}
 use Rattle.ion_text_in.specs.declared.feed.Spot.{Spot}
@@ -47,3 +48,15 @@ returns-clause-moved g c =
     subst (λ (k : Kind). MovedBy w r.limits (window_end r.source) texts first (record last { rest = lent t; expected = c.expected_in-self.result; kind = k })) (sym moved.kind)
     (subst (λ (e : Expected). MovedBy w r.limits (window_end r.source) texts first (record last { rest = lent t; expected = e })) (sym c.expected_in-self.ensures)
     (moved-window w r.limits r.source t end first last c.requires.stands refl (omega (arith, c.place.ensures, long)) moved passed))
+
+pub consume-requires : goal.consume-requires
+consume-requires g c = grind (arith, common_steps) steps 400000
+
+pub returns-clause-passed : goal.returns-clause-passed
+returns-clause-passed g c = grind (arith, common_steps) steps 400000
+
+pub returns-clause-goes : goal.returns-clause-goes
+returns-clause-goes g c = grind (arith, common_steps)
+
+pub overflow_sub-taken : goal.overflow_sub-taken
+overflow_sub-taken g c = grind (arith, common_steps) steps 400000

@@ -1,9 +1,12 @@
-use Rattle.std.proofs.Common.{◌∙◌, refl}
+use Rattle.std.proofs.Common.{◌∙◌, refl, arith}
+use Rattle.std.proofs.lemmas.Grind.{common_steps}
 use Rattle.ion_meter.specs.Sources.{cursor}
 use Rattle.ion_text_in.specs.Token as tokens
 use Rattle.ion_text_in.specs.Views.{word_token_of}
 use Rattle.ion_text_in.proofs.ReaderLanes.{may-name, taking-named, token-failed}
 use Rattle.ion_text_in.proofs.ReaderSteps.{gives-same, part-taken}
+use Rattle.ion_text_in.proofs.ReaderCalls.{reached-name, stepped-behind}
+use Rattle.ion_text_in.specs.declared.reader.StepResult.TheVariants as step_result
 use Rattle.ion_text_in.proofs.reader.TextReader.name.Goals as goal
 
 pub returns-in-Ok-clause-gives : goal.returns-in-Ok-clause-gives
@@ -21,3 +24,18 @@ returns-in-Err-clause-gives g c = λ h.
     let r = c.args.self.now in
     token-failed g.I.Input r (record r { source = c.next_word.new.source; name = c.next_word.new.text }) tokens.a_word (word_token_of c.next_word.new.text) c.in-Err.fault (cursor g.I.Input c.next_word.new.source)
     (may-name r c.requires.field) (c.in-Err.ensures.gives h)
+
+pub returns-in-Err-clause-stepped : goal.returns-in-Err-clause-stepped
+returns-in-Err-clause-stepped g c = grind (arith, common_steps) steps 400000
+
+pub word_field-requires-clause-can_step : goal.word_field-requires-clause-can_step
+word_field-requires-clause-can_step g c = grind (arith, common_steps) steps 400000
+
+pub returns-in-Ok-clause-stepped : goal.returns-in-Ok-clause-stepped
+returns-in-Ok-clause-stepped g c =
+    let r = c.args.self.now in
+    let s = c.next_word.new.source in
+    let t = c.next_word.new.text in
+    let can = c.requires.can_step in
+    let read = reached-name g.I.Input r s t c.args.meter.now c.next_word.new.meter c.in-Ok.word can.sized can.held c.in-Ok.ensures.reads in
+    stepped-behind g.I.Input step_result.Item r (record r { source = s; name = t }) c.word_field.new.self c.args.meter.now c.next_word.new.meter c.word_field.new.meter c.word_field.result can.held read c.word_field.ensures.stepped

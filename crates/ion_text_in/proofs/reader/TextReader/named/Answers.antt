@@ -1,4 +1,5 @@
 use Rattle.std.proofs.Common.{◌≡◌, arith, ap, length, ℕ, List}
+use Rattle.std.proofs.lemmas.Grind.{common_steps}
 use Rattle.ion_text_in.specs.declared.reader.StepResult.TheVariants as step_result
 use Rattle.ion_text_in.proofs.ReaderCalls.{stepped-behind}
 use Rattle.ion_text_in.proofs.ReaderLanes.{reached-swapped}
@@ -16,3 +17,6 @@ returns-clause-stepped g c = λ m there.
     stepped-behind g.I.Input step_result.Item r (record r { name = x; text = y }) c.behind_name.new.self m m m c.behind_name.result there
     (reached-swapped g.I.Input r x y m text name c.requires.sized c.requires.inside.stands there)
     (c.behind_name.ensures.stepped m (omega (arith, there, longer, long)))
+
+pub returns-clause-gives : goal.returns-clause-gives
+returns-clause-gives g c = grind (arith, common_steps) steps 400000

@@ -1,4 +1,5 @@
-use Rattle.std.proofs.Common.{ℕ, List, Some, Ok, subst}
+use Rattle.std.proofs.Common.{ℕ, List, Some, Ok, subst, arith}
+use Rattle.std.proofs.lemmas.Grind.{common_steps}
 use Rattle.ion_meter.specs.Sources.{cursor}
 use Rattle.ion_text_in.specs.declared.reader.StepResult.TheVariants as step_result
 use Rattle.ion_text_in.specs.declared.scanned.Scanned.TheVariants.{Whole}
@@ -51,3 +52,9 @@ returns-clause-stepped g c =
     let shows = subst (λ (l : List ℕ). Shows number_token l (Whole (as_quick x) x.count) reading) c.buffer.ensures c.in-Some.ensures.shows in
     stepped-behind device step_result.Item r (record r { source = t }) c.quick.new.self m m m (Ok c.quick.result) can.held
     (reached-over device r t x.count m can.sized can.inside.stands can.held shows.0 c.consume.ensures) (c.quick.ensures.stepped m can.held)
+
+pub quick-requires-clause-inside : goal.quick-requires-clause-inside
+quick-requires-clause-inside g c = grind (arith, common_steps) steps 400000
+
+pub consume-requires : goal.consume-requires
+consume-requires g c = grind (arith, common_steps) steps 400000

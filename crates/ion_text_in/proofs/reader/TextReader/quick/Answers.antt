@@ -1,6 +1,7 @@
+use Rattle.std.proofs.Common.{Ok, refl, ap, ◌∙◌, rules, arith}
+use Rattle.std.proofs.lemmas.Grind.{common_steps}
 use mir.Syntax.{w32}
 use mir.Val.{SFits}
-use Rattle.std.proofs.Common.{Ok, refl, ap, ◌∙◌, rules}
 use Rattle.std.proofs.lemmas.Int.{to_z-of_z}
 use Rattle.ion_meter.specs.Sources.{cursor}
 use Rattle.ion_text_in.specs.declared.token.Body.TheVariants as body
@@ -31,3 +32,6 @@ returns-in-None-clause-gives g c = λ h.
     gives-same g.I.Input _ _ c.scalar-in-None.new.self (Ok c.scalar-in-None.result)
     (plain-taken r (body.Int x.result) (as_number (as_quick c.args.quick)) c.args.place d c.requires.value same)
     (c.scalar-in-None.ensures.gives h d refl)
+
+pub scalar-requires-clause-range : goal.scalar-requires-clause-range
+scalar-requires-clause-range g c = grind (arith, common_steps) steps 400000

@@ -1,4 +1,5 @@
 use Rattle.std.proofs.Common.{◌≡◌, ◌∙◌, ℕ, ◌<◌, ◌≤◌, Bool, List, [], length, sym, ap, arith}
+use Rattle.std.proofs.lemmas.Grind.{common_steps}
 use Rattle.ion_meter.specs.Sources.{Cursor, cursor}
 use Rattle.ion_meter.specs.Windows.{left, lent}
 use Rattle.ion_value.proofs.Cursors.{cursor-extends}
@@ -70,3 +71,42 @@ returns-in-Ok-Some-next_first-clause-gives g c = λ h.
     (ap (λ (b : Bool). first_at b (left device.rest s)) (sym c.in_sexp-in_sexp.ensures) ∙ found)
     ∙ ap (λ (x : Cursor). comes r.limits (part_from r.limits (state_at x r) x (first_of first))) (sym here))
     (c.part.ensures.gives ht)
+
+pub returns-in-Err-clause-stepped : goal.returns-in-Err-clause-stepped
+returns-in-Err-clause-stepped g c = grind (arith, common_steps) steps 400000
+
+pub returns-in-Err-next_first-clause-stepped : goal.returns-in-Err-next_first-clause-stepped
+returns-in-Err-next_first-clause-stepped g c = grind (arith, common_steps) steps 400000
+
+pub returns-in-Ok-Some-next_first-clause-further : goal.returns-in-Ok-Some-next_first-clause-further
+returns-in-Ok-Some-next_first-clause-further g c = grind (arith, common_steps) steps 400000
+
+pub returns-in-Err-next_first-clause-further : goal.returns-in-Err-next_first-clause-further
+returns-in-Err-next_first-clause-further g c = grind (arith, common_steps) steps 400000
+
+pub returns-in-Ok-Some-clause-stepped : goal.returns-in-Ok-Some-clause-stepped
+returns-in-Ok-Some-clause-stepped g c = grind (arith, common_steps) steps 400000
+
+pub part-requires-clause-there : goal.part-requires-clause-there
+part-requires-clause-there g c = grind (arith, common_steps)
+
+pub returns-in-Ok-Some-next_first-clause-stepped : goal.returns-in-Ok-Some-next_first-clause-stepped
+returns-in-Ok-Some-next_first-clause-stepped g c =
+    let device = g.I.Input in
+    let r = c.args.self.now in
+    let s = c.pass_blanks.new.source in
+    let t = c.next_first.new.source in
+    let m = c.args.meter.now in
+    let can = c.requires.can_step in
+    let mid = record r { source = s } in
+    let last = record r { source = t } in
+    let one = reached-look device r s m c.in-Ok-None.field-0 can.sized can.held c.in-Ok-None.ensures.reads in
+    let two = reached-look device mid t m c.in-Ok-Some-next_first.field-0 one.sized can.held c.in-Ok-Some-next_first.ensures.reads in
+    let both = reached-then device r mid last m m m can.held one two in
+    stepped-behind device step_result.Item r last c.part.new.self m m c.part.new.meter c.part.result can.held both c.part.ensures.stepped
+
+pub returns-in-Err-clause-further : goal.returns-in-Err-clause-further
+returns-in-Err-clause-further g c = grind (arith, common_steps) steps 400000
+
+pub returns-in-Ok-Some-clause-further : goal.returns-in-Ok-Some-clause-further
+returns-in-Ok-Some-clause-further g c = grind (arith, common_steps) steps 400000

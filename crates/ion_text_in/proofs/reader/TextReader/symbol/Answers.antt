@@ -1,4 +1,5 @@
-use Rattle.std.proofs.Common.{◌≡◌, ◌∙◌, ℕ, Bool, List, [], ◌++◌, Option, None, Ok, MatchOption, sym, ap, subst}
+use Rattle.std.proofs.Common.{◌≡◌, ◌∙◌, ℕ, Bool, List, [], ◌++◌, Option, None, Ok, MatchOption, sym, ap, subst, arith}
+use Rattle.std.proofs.lemmas.Grind.{common_steps}
 use Rattle.ion_meter.specs.Sources.{Cursor, cursor, skip}
 use Rattle.ion_meter.specs.Windows.{left}
 use Rattle.ion_text_in.specs.declared.first.First as code_first
@@ -82,3 +83,36 @@ returns-clause-stepped g c =
     let two = reached-look device mid t m c.in-Ok-next_first.found one.sized can.held c.in-Ok-next_first.ensures.reads in
     let both = reached-then device r mid last m m m can.held one two in
     stepped-behind device step_result.Item r last c.symbol_value-2.new.self m m m c.symbol_value-2.result can.held both (c.symbol_value-2.ensures.stepped m can.held)
+
+pub returns-in-Err-clause-stepped : goal.returns-in-Err-clause-stepped
+returns-in-Err-clause-stepped g c = grind (arith, common_steps) steps 400000
+
+pub returns-in-Err-clause-gives : goal.returns-in-Err-clause-gives
+returns-in-Err-clause-gives g c = grind (arith, common_steps) steps 400000
+
+pub returns-clause-goes : goal.returns-clause-goes
+returns-clause-goes g c = grind (arith, common_steps)
+
+pub returns-in-Err-next_first-clause-gives : goal.returns-in-Err-next_first-clause-gives
+returns-in-Err-next_first-clause-gives g c = grind (arith, common_steps)
+
+pub annotate-requires-clause-colons : goal.annotate-requires-clause-colons
+annotate-requires-clause-colons g c = grind (arith, common_steps)
+
+pub returns-in-Err-next_first-clause-stepped : goal.returns-in-Err-next_first-clause-stepped
+returns-in-Err-next_first-clause-stepped g c = grind (arith, common_steps)
+
+pub returns-then-is_colons-clause-stepped : goal.returns-then-is_colons-clause-stepped
+returns-then-is_colons-clause-stepped g c =
+    let device = g.I.Input in
+    let r = c.args.self.now in
+    let s = c.pass_blanks.new.source in
+    let t = c.next_first.new.source in
+    let m = c.args.meter.now in
+    let can = c.requires.can_step in
+    let mid = record r { source = s } in
+    let last = record r { source = t } in
+    let one = reached-look device r s m c.in-Ok.unfinished can.sized can.held c.in-Ok.ensures.reads in
+    let two = reached-look device mid t m c.in-Ok-next_first.found one.sized can.held c.in-Ok-next_first.ensures.reads in
+    let both = reached-then device r mid last m m m can.held one two in
+    stepped-behind device step_result.Item r last c.annotate.new.self m m c.annotate.new.meter c.annotate.result can.held both c.annotate.ensures.stepped

@@ -1,4 +1,5 @@
-use Rattle.std.proofs.Common.{◌≡◌, ◌∙◌, List, ℕ, true, sym, ap}
+use Rattle.std.proofs.Common.{◌≡◌, ◌∙◌, List, ℕ, true, sym, ap, arith}
+use Rattle.std.proofs.lemmas.Grind.{common_steps}
 use Rattle.std.specs.Str.{bytes_eq}
 use Rattle.ion_value.specs.Name.{version_word}
 use Rattle.ion_text_in.specs.Positions.{innermost}
@@ -21,3 +22,9 @@ returns-clause-stepped g c = λ m there.
     let v = told-version (innermost (opened_in r)) (annotations_in r) c.args.quoted r.text c.args.symbol told in
     stepped-marker g.I.Input r c.give.new.self c.args.place c.args.unfinished m c.give.ensures.given c.requires.value (none-open (opened_in r) v.0) (none-annotated r.texts r.annotations v.1)
     c.requires.sized c.requires.inside there
+
+pub returns-then-not-is_version_word-clause-stepped : goal.returns-then-not-is_version_word-clause-stepped
+returns-then-not-is_version_word-clause-stepped g c = grind (arith, common_steps) steps 400000
+
+pub returns-clause-ready : goal.returns-clause-ready
+returns-clause-ready g c = grind (arith, common_steps) steps 400000

@@ -1,4 +1,5 @@
-use Rattle.std.proofs.Common.{◌≡◌, ◌∙◌, None, sym, ap, subst}
+use Rattle.std.proofs.Common.{◌≡◌, ◌∙◌, None, sym, ap, subst, arith}
+use Rattle.std.proofs.lemmas.Grind.{common_steps}
 use Rattle.ion_meter.specs.Sources.{BytesAreLeft, Stands}
 use Rattle.ion_meter.specs.Windows.{Incoming}
 use Rattle.ion_value.specs.Feeding.{nothing, Feeds, Joint}
@@ -45,3 +46,39 @@ returns-clause-bytes_left g c =
     let p = c.feed_window-values.ensures.passed in
     let source : c.forget.new.self.source ≡ r.source = ap (λ (x : TextReader g.row.I.Denot g.row.A.Denot). x.source) c.forget.ensures.cleared in
     subst (λ (s : Incoming g.row.I.Denot). BytesAreLeft g.I.Input n.source → BytesAreLeft g.I.Input s) source (IsPassed-moves g.I.Input c.forget.new.self.source n.source p.count p.within p.passed).bytes
+
+pub returns-clause-falls : goal.returns-clause-falls
+returns-clause-falls g c = grind (arith, common_steps) steps 400000
+
+pub returns-clause-sound : goal.returns-clause-sound
+returns-clause-sound g c = grind (arith, common_steps)
+
+pub returns-clause-writer : goal.returns-clause-writer
+returns-clause-writer g c = grind (arith, common_steps) steps 400000
+
+pub returns-clause-charges : goal.returns-clause-charges
+returns-clause-charges g c = grind (arith, common_steps) steps 400000
+
+pub returns-clause-observable : goal.returns-clause-observable
+returns-clause-observable g c = grind (arith, common_steps) steps 400000
+
+pub overflow_cast-result-2 : goal.overflow_cast-result-2
+overflow_cast-result-2 g c = grind (arith, common_steps) steps 400000
+
+pub returns-then-self-clause-level : goal.returns-then-self-clause-level
+returns-then-self-clause-level g c = grind (arith, common_steps) steps 400000
+
+pub returns-clause-goes : goal.returns-clause-goes
+returns-clause-goes g c = grind (arith, common_steps) steps 400000
+
+pub returns-clause-level : goal.returns-clause-level
+returns-clause-level g c = grind (arith, common_steps)
+
+pub feed_window-values-requires-clause-can : goal.feed_window-values-requires-clause-can
+feed_window-values-requires-clause-can g c = grind (arith, common_steps)
+
+pub returns-clause-exceeds : goal.returns-clause-exceeds
+returns-clause-exceeds g c = grind (arith, common_steps)
+
+pub returns-then-self-clause-writer : goal.returns-then-self-clause-writer
+returns-then-self-clause-writer g c = grind (arith, common_steps) steps 400000

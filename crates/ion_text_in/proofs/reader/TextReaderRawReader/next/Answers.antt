@@ -1,0 +1,57 @@
+use Rattle.std.proofs.Common.{arith}
+use Rattle.std.proofs.lemmas.Grind.{common_steps}
+use Rattle.ion_text_in.proofs.reader.TextReaderRawReader.next.Goals as goal
+
+pub returns-in-Ok-clause-most : goal.returns-in-Ok-clause-most
+returns-in-Ok-clause-most g c = grind (arith, common_steps) steps 400000
+
+pub returns-in-Err-clause-depth : goal.returns-in-Err-clause-depth
+returns-in-Err-clause-depth g c = grind (arith, common_steps) steps 400000
+
+pub returns-in-Ok-clause-stays : goal.returns-in-Ok-clause-stays
+returns-in-Ok-clause-stays g c = grind (arith, common_steps) steps 400000
+
+pub returns-in-Ok-clause-depth : goal.returns-in-Ok-clause-depth
+returns-in-Ok-clause-depth g c = grind (arith, common_steps) steps 400000
+
+pub returns-in-Ok-clause-falls : goal.returns-in-Ok-clause-falls
+returns-in-Ok-clause-falls g c = grind (arith, common_steps) steps 400000
+
+pub returns-in-Err-clause-falls : goal.returns-in-Err-clause-falls
+returns-in-Err-clause-falls g c = grind (arith, common_steps) steps 400000
+
+pub returns-in-Err-clause-again : goal.returns-in-Err-clause-again
+returns-in-Err-clause-again g c = grind (arith, common_steps) steps 400000
+
+pub returns-in-Err-clause-most : goal.returns-in-Err-clause-most
+returns-in-Err-clause-most g c = grind (arith, common_steps) steps 400000
+
+pub returns-in-Err-clause-causes : goal.returns-in-Err-clause-causes
+returns-in-Err-clause-causes g c = grind (arith, common_steps) steps 400000
+
+pub returns-in-Err-clause-sound : goal.returns-in-Err-clause-sound
+returns-in-Err-clause-sound g c = grind (arith, common_steps) steps 400000
+
+pub returns-in-Ok-clause-causes : goal.returns-in-Ok-clause-causes
+returns-in-Ok-clause-causes g c = grind (arith, common_steps) steps 400000
+
+pub returns-in-Ok-clause-again : goal.returns-in-Ok-clause-again
+returns-in-Ok-clause-again g c = grind (arith, common_steps) steps 400000
+
+pub returns-in-Err-clause-ends : goal.returns-in-Err-clause-ends
+returns-in-Err-clause-ends g c = grind (arith, common_steps) steps 400000
+
+pub returns-in-Err-clause-stays : goal.returns-in-Err-clause-stays
+returns-in-Err-clause-stays g c = grind (arith, common_steps) steps 400000
+
+pub returns-in-Some-clause-again : goal.returns-in-Some-clause-again
+returns-in-Some-clause-again g c = grind (arith, common_steps) steps 400000
+
+pub returns-in-Ok-clause-refuses : goal.returns-in-Ok-clause-refuses
+returns-in-Ok-clause-refuses g c = grind (arith, common_steps) steps 400000
+
+pub returns-in-Some-clause-stays : goal.returns-in-Some-clause-stays
+returns-in-Some-clause-stays g c = grind (arith, common_steps) steps 400000
+
+pub returns-then-self-clause-again : goal.returns-then-self-clause-again
+returns-then-self-clause-again g c = grind (arith, common_steps) steps 400000

@@ -198,6 +198,9 @@ fn call_stack(
     call: EntryCall,
 ) {
     counts_of(rt, meter);
+    let length = stack.as_slice().len();
+    assert!(rt; length < 1_000);
+    assert!(rt; 16 * length as u64 <= meter.held());
     match call {
         EntryCall::Push(entry) => same(rt, stack.push(meter, entry), Ok(())),
         EntryCall::PushWithin(entry, added) => same(rt, stack.push_within(meter, entry), added),
@@ -206,31 +209,16 @@ fn call_stack(
             same(rt, stack.extend(meter, entries), Ok(()));
         }
         EntryCall::Insert(place, entry) => {
-            assert!(rt; place <= stack.as_slice().len());
+            assert!(rt; place <= length);
             same(rt, stack.insert(meter, place, entry), Ok(()));
         }
-        _ => change_stack(rt, meter, stack, call),
-    }
-}
-
-/// The same, where it sets entries or takes them off.
-fn change_stack(
-    rt: &impl Abort,
-    meter: &mut Meter<Global>,
-    stack: &mut Stack<u32, Global>,
-    call: EntryCall,
-) {
-    let length = stack.as_slice().len();
-    assert!(rt; length < 1_000);
-    assert!(rt; 16 * length as u64 <= meter.held());
-    match call {
         EntryCall::Set(place, entry) => {
             assert!(rt; place < length);
             stack.set(place, entry);
         }
         EntryCall::Pop(entry) => same(rt, stack.pop(meter), entry),
         EntryCall::Truncate(to) => stack.truncate(meter, to),
-        _ => stack.clear(meter),
+        EntryCall::Clear => stack.clear(meter),
     }
 }
 
@@ -247,23 +235,19 @@ const STACK: &[(EntryCall, &[u32], u64)] = &[
     (EntryCall::Push(3), &[3], 16),
 ];
 
-/// Makes the calls, and asserts the entries and what is held after each.
-fn follow_stack(rt: &impl Abort, meter: &mut Meter<Global>, stack: &mut Stack<u32, Global>) {
-    for (call, entries, held) in STACK {
-        call_stack(rt, meter, stack, *call);
-        same(rt, (stack.as_slice(), meter.held()), (*entries, *held));
-    }
-}
-
 #[test]
 fn an_entry_of_a_stack_costs_16(rt: HostRuntime) {
     let mut meter = Meter::new(rt.alloc());
     let mut stack = Stack::new(&meter);
-    follow_stack(&rt, &mut meter, &mut stack);
-    assert!(rt; stack.as_slice().len() == 1);
-    assert!(rt; meter.held() == 16);
+    for (call, entries, held) in STACK {
+        call_stack(&rt, &mut meter, &mut stack, *call);
+        same(&rt, stack.as_slice(), *entries);
+        same(&rt, meter.held(), *held);
+    }
+    assert!(rt; stack.as_slice().len() == 1 && meter.held() == 16);
     stack.release(&mut meter);
-    same(&rt, (meter.held(), meter.peak()), (0, 48));
+    same(&rt, meter.held(), 0);
+    same(&rt, meter.peak(), 48);
 }
 
 /// Makes the call, which is not refused.
@@ -277,6 +261,9 @@ fn call_table(
     ensures cost { table.new.cost ≡ 24 }
 {
     counts_of(rt, meter);
+    let length = table.as_slice().len();
+    assert!(rt; length < 1_000);
+    assert!(rt; 24 * length as u64 <= meter.held());
     match call {
         EntryCall::Push(entry) => same(rt, table.push(meter, entry), Ok(())),
         EntryCall::PushWithin(entry, added) => same(rt, table.push_within(meter, entry), added),
@@ -285,34 +272,16 @@ fn call_table(
             same(rt, table.extend(meter, entries), Ok(()));
         }
         EntryCall::Insert(place, entry) => {
-            assert!(rt; place <= table.as_slice().len());
+            assert!(rt; place <= length);
             same(rt, table.insert(meter, place, entry), Ok(()));
         }
-        _ => change_table(rt, meter, table, call),
-    }
-}
-
-/// The same, where it sets entries or takes them off.
-fn change_table(
-    rt: &impl Abort,
-    meter: &mut Meter<Global>,
-    table: &mut Table<u32, Global>,
-    call: EntryCall,
-)
-    requires cost { table.old.cost ≡ 24 }
-    ensures cost { table.new.cost ≡ 24 }
-{
-    let length = table.as_slice().len();
-    assert!(rt; length < 1_000);
-    assert!(rt; 24 * length as u64 <= meter.held());
-    match call {
         EntryCall::Set(place, entry) => {
             assert!(rt; place < length);
             table.set(place, entry);
         }
         EntryCall::Pop(entry) => same(rt, table.pop(meter), entry),
         EntryCall::Truncate(to) => table.truncate(meter, to),
-        _ => table.clear(meter),
+        EntryCall::Clear => table.clear(meter),
     }
 }
 
@@ -329,26 +298,19 @@ const TABLE: &[(EntryCall, &[u32], u64)] = &[
     (EntryCall::Push(3), &[3], 24),
 ];
 
-/// Makes the calls, and asserts the entries and what is held after each.
-fn follow_table(rt: &impl Abort, meter: &mut Meter<Global>, table: &mut Table<u32, Global>)
-    requires cost { table.old.cost ≡ 24 }
-    ensures cost { table.new.cost ≡ 24 }
-{
-    for (call, entries, held) in TABLE {
-        call_table(rt, meter, table, *call);
-        same(rt, (table.as_slice(), meter.held()), (*entries, *held));
-    }
-}
-
 #[test]
 fn an_entry_of_a_table_has_its_cost(rt: HostRuntime) {
     let mut meter = Meter::new(rt.alloc());
     let mut table = Table::new(&meter, 24);
-    follow_table(&rt, &mut meter, &mut table);
-    assert!(rt; table.as_slice().len() == 1);
-    assert!(rt; meter.held() == 24);
+    for (call, entries, held) in TABLE {
+        call_table(&rt, &mut meter, &mut table, *call);
+        same(&rt, table.as_slice(), *entries);
+        same(&rt, meter.held(), *held);
+    }
+    assert!(rt; table.as_slice().len() == 1 && meter.held() == 24);
     table.release(&mut meter);
-    same(&rt, (meter.held(), meter.peak()), (0, 96));
+    same(&rt, meter.held(), 0);
+    same(&rt, meter.peak(), 96);
 }
 
 /// Adds an entry and bytes, if both have room.

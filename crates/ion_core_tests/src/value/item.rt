@@ -35,30 +35,20 @@ const ENTRIES: [Annotation; 3] = [
 
 // Asserts what the item has, where the id 10 is given as this.
 fn shows<N: Names>(rt: &impl Abort, item: &Item<'_, N>, ten: Sym<'_>) {
-    let field = SymAt { sym: ten, place: 5 };
-    let head = SymAt {
-        sym: ten,
-        place: 13,
-    };
-    let want = (Some(field), Head::Symbol(head), 13, 5);
+    same(rt, item.field(), Some(SymAt { sym: ten, place: 5 }));
     same(
         rt,
-        (item.field(), item.head(), item.place(), item.top()),
-        want,
+        item.head(),
+        Head::Symbol(SymAt {
+            sym: ten,
+            place: 13,
+        }),
     );
-    has_three(rt, item.annotations(), ten);
-}
-
-// Asserts which annotations there are.
-fn has_three<N: Names>(rt: &impl Abort, annotations: Annotations<'_, N>, ten: Sym<'_>) {
+    same(rt, (item.place(), item.top()), (13, 5));
+    let annotations = item.annotations();
     same(rt, (annotations.len(), annotations.is_empty()), (3, false));
-    let rows = [(Sym::Text(b"bc"), 7), (ten, 11), (Sym::Id(11), 12)];
-    for (index, (sym, place)) in rows.iter().enumerate() {
-        let want = SymAt {
-            sym: *sym,
-            place: *place,
-        };
-        same(rt, annotations.get(index), Some(want));
+    for (index, sym, place) in [(0, Sym::Text(b"bc"), 7), (1, ten, 11), (2, Sym::Id(11), 12)] {
+        same(rt, annotations.get(index), Some(SymAt { sym, place }));
     }
     same(rt, annotations.get(3), None);
 }

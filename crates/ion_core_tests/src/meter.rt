@@ -35,19 +35,16 @@ enum Script {
     Stack,
     Table,
     TwoTables,
-    Input,
-    Output,
 }
 
-fn run(rt: &impl Abort, alloc: Global, refusing: &Refusing<Global>, script: Script) -> u64 {
+/// Runs a script over an allocator. How often it was refused.
+fn run<A: Allocator + Copy>(rt: &impl Abort, alloc: Global, inner: A, script: Script) -> u64 {
     match script {
-        Script::Bytes => growing::grow_bytes(rt, alloc, refusing),
-        Script::SplicedBytes => growing::grow_spliced_bytes(rt, alloc, refusing),
-        Script::Stack => growing::grow_stack(rt, alloc, refusing),
-        Script::Table => growing::grow_table(rt, alloc, refusing),
-        Script::TwoTables => growing::grow_two_tables(rt, alloc, refusing),
-        Script::Input => windows::read_byte(rt, refusing),
-        Script::Output => windows::write_bytes(rt, alloc, refusing),
+        Script::Bytes => growing::grow_bytes(rt, alloc, inner),
+        Script::SplicedBytes => growing::grow_spliced_bytes(rt, alloc, inner),
+        Script::Stack => growing::grow_stack(rt, alloc, inner),
+        Script::Table => growing::grow_table(rt, alloc, inner),
+        Script::TwoTables => growing::grow_two_tables(rt, alloc, inner),
     }
 }
 

@@ -190,7 +190,7 @@ fn answers<I: Input, A: Allocator + Copy>(rt: &impl Abort, source: &mut Source<I
     match ask {
         Ask::Peek(ahead, want) => {
             assert!(rt; ahead < 16);
-            same(rt, (ahead, source.peek(ahead)), (ahead, want));
+            same(rt, source.peek(ahead), want);
         }
         Ask::Lent(bytes) => same(rt, source.buffer(), bytes),
         Ask::Pass(byte) => pass(rt, source, byte),
@@ -267,11 +267,6 @@ const END_AT_10: &[Ask] = &[
     Ask::Peek(0, Ok(None)),
 ];
 
-#[test]
-fn a_reader_that_never_fails_is_read_to_its_end(rt: HostRuntime) {
-    read_drip(&rt, rt.alloc(), 12, TEXT, END_AT_10, 11, 0);
-}
-
 const AHEAD: &[Ask] = &[
     Ask::Peek(3, Ok(Some(b'3'))),
     Ask::Lent(b"0123"),
@@ -285,7 +280,8 @@ const AHEAD: &[Ask] = &[
 ];
 
 #[test]
-fn a_peek_ahead_reads_no_more_than_it_needs(rt: HostRuntime) {
+fn a_reader_that_never_fails_is_read_to_its_end_and_no_further_than_needed(rt: HostRuntime) {
+    read_drip(&rt, rt.alloc(), 12, TEXT, END_AT_10, 11, 0);
     read_drip(&rt, rt.alloc(), 0, b"", AHEAD, 11, 0);
 }
 
@@ -315,107 +311,54 @@ pub fn has_more<I: Input, A: Allocator + Copy>(rt: &impl Abort, source: &mut Sou
     assert!(rt; matches!(source.peek(0), Ok(Some(_))));
 }
 
-/// Takes what the window lends, so many bytes, and passes over it.
-fn take_lent<I: Input, A: Allocator + Copy>(
-    rt: &impl Abort,
-    source: &mut Source<I, A>,
-    into: &mut Vec<u8>,
-    length: usize,
-) {
-    has_more(rt, source);
-    let lent = source.buffer();
-    let count = lent.len();
-    assert!(rt; into.extend_from_slice(lent).is_ok());
-    source.consume(count);
-    same(rt, count, length);
-}
-
-/// Takes the windows of 10,000 bytes.
-fn take_windows<I: Input, A: Allocator + Copy>(
-    rt: &impl Abort,
-    source: &mut Source<I, A>,
-    into: &mut Vec<u8>,
-) {
-    for length in [4_096, 4_096, 1_808] {
-        take_lent(rt, source, into, length);
-    }
-    same(rt, source.peek(0), Ok(None));
-    same(rt, source.place(), 10_000);
-}
-
-/// Reads these bytes by the windows that follow one another.
-fn read_windows(rt: &impl Abort, alloc: Global, bytes: &[u8]) {
-    let mut meter = Meter::new(alloc);
-    let limits = Limits {
-        input: 10_000,
-        ..LIMITS
-    };
-    let mut source = source_on(rt, &mut meter, limits, FromRead::new(bytes));
-    let mut read = Vec::new(alloc);
-    take_windows(rt, &mut source, &mut read);
-    same(rt, read.as_slice(), bytes);
-}
-
-#[test]
-fn windows_follow_one_another(rt: HostRuntime) -> Result<(), Fail> {
-    let bytes = many_bytes(rt.alloc(), 10_000)?;
-    read_windows(&rt, rt.alloc(), bytes.as_slice());
-    Ok(())
-}
-
-/// A call on a window on an output.
+/// A call on a window on an output, and what it answers.
 #[derive(Clone, Copy)]
-enum Call<'a> {
-    Put(&'a [u8]),
-    Flush,
+pub enum Call<'a> {
+    Put(&'a [u8], Result<(), Fault>),
+    Flush(Result<(), Fault>),
+    /// Puts a byte and then these, for which the window has room. Behind them it has room for so many.
+    Within(&'a [u8], usize),
 }
 
-/// Makes the calls on a window on this output, each with its answer. The output is handed out.
-fn write_on<O: Output + Drop>(
-    rt: &impl Abort,
-    alloc: Global,
-    device: O,
-    calls: &[(Call, Result<(), Fault>)],
-) -> O
+/// Asserts what a window on an output answers.
+pub fn make<O: Output, A: Allocator + Copy>(rt: &impl Abort, sink: &mut Sink<O, A>, call: Call) {
+    match call {
+        Call::Put(bytes, want) => same(rt, sink.put(bytes), want),
+        Call::Flush(want) => same(rt, sink.flush(), want),
+        Call::Within(bytes, room) => {
+            assert!(rt; bytes.len() < sink.room());
+            sink.put_byte(b'>');
+            sink.put_within(bytes);
+            same(rt, sink.room(), room);
+        }
+    }
+}
+
+/// Makes the calls on a window on this output. The output is handed out.
+fn write_on<O: Output + Drop>(rt: &impl Abort, alloc: Global, device: O, calls: &[Call]) -> O
     requires failures { O.failure_count device ≡ 0 }
 {
     let mut meter = Meter::new(alloc);
     let mut sink = sink_on(rt, &mut meter, device);
-    for (call, want) in calls {
-        let answer = match *call {
-            Call::Put(bytes) => sink.put(bytes),
-            Call::Flush => sink.flush(),
-        };
-        same(rt, answer, *want);
+    for call in calls {
+        make(rt, &mut sink, *call);
     }
     sink.release(&mut meter)
 }
 
-/// Puts a byte and then these, for which the window has room. Behind them it has room for so many.
-fn put_within<O: Output, A: Allocator + Copy>(
-    rt: &impl Abort,
-    sink: &mut Sink<O, A>,
-    bytes: &[u8],
-    room: usize,
-) {
-    assert!(rt; bytes.len() < sink.room());
-    sink.put_byte(b'>');
-    sink.put_within(bytes);
-    same(rt, sink.room(), room);
-}
+const ROOM: &[Call] = &[
+    Call::Within(b"ab", 4_093),
+    Call::Within(b"", 4_092),
+    Call::Put(b"c", Ok(())),
+    Call::Flush(Ok(())),
+    Call::Within(b"d", 4_094),
+    Call::Flush(Ok(())),
+];
 
 #[test]
 fn bytes_are_put_where_the_window_has_room(rt: HostRuntime) {
-    let mut meter = Meter::new(rt.alloc());
-    let mut sink = sink_on(&rt, &mut meter, ToWrite::new(Vec::new(rt.alloc())));
-    same(&rt, sink.room(), 4_096);
-    put_within(&rt, &mut sink, b"ab", 4_093);
-    put_within(&rt, &mut sink, b"", 4_092);
-    same(&rt, sink.put(b"c"), Ok(()));
-    same(&rt, sink.flush(), Ok(()));
-    same(&rt, sink.room(), 4_096);
-    let written = sink.release(&mut meter).into_inner();
-    same(&rt, written.as_slice(), b">ab>c".as_slice());
+    let device = write_on(&rt, rt.alloc(), ToWrite::new(Vec::new(rt.alloc())), ROOM);
+    same(&rt, device.into_inner().as_slice(), b">ab>c>d".as_slice());
 }
 
 /// Asserts what such an output has taken, and its calls and failures.
@@ -428,14 +371,14 @@ fn has_taken(rt: &impl Abort, device: Narrow, taken: &[u8], calls: usize, failur
 const WRITE_FAULT: Result<(), Fault> = Err(Fault::WriteFault);
 
 /// Puts the text and flushes it, where the output fails behind fewer bytes, then puts and flushes more.
-const WRITE_FAULTS: &[(Call, Result<(), Fault>)] = &[
-    (Call::Put(TEXT), Ok(())),
-    (Call::Flush, WRITE_FAULT),
-    (Call::Put(b"a"), WRITE_FAULT),
-    (Call::Put(b""), WRITE_FAULT),
-    (Call::Flush, WRITE_FAULT),
-    (Call::Put(b"a"), WRITE_FAULT),
-    (Call::Put(b""), WRITE_FAULT),
+const WRITE_FAULTS: &[Call] = &[
+    Call::Put(TEXT, Ok(())),
+    Call::Flush(WRITE_FAULT),
+    Call::Put(b"a", WRITE_FAULT),
+    Call::Put(b"", WRITE_FAULT),
+    Call::Flush(WRITE_FAULT),
+    Call::Put(b"a", WRITE_FAULT),
+    Call::Put(b"", WRITE_FAULT),
 ];
 
 #[test]
@@ -449,10 +392,10 @@ fn a_write_that_fails_is_answered_from_then_on(rt: HostRuntime) {
     }
 }
 
-const ALL: &[(Call, Result<(), Fault>)] = &[
-    (Call::Put(TEXT), Ok(())),
-    (Call::Flush, Ok(())),
-    (Call::Flush, Ok(())),
+const ALL: &[Call] = &[
+    Call::Put(TEXT, Ok(())),
+    Call::Flush(Ok(())),
+    Call::Flush(Ok(())),
 ];
 
 #[test]
@@ -466,37 +409,12 @@ fn a_writer_that_never_fails_gets_all(rt: HostRuntime) {
 fn a_put_into_a_full_window_may_fail(rt: HostRuntime) -> Result<(), Fail> {
     let bytes = many_bytes(rt.alloc(), 4_097)?;
     let calls = [
-        (Call::Put(bytes.as_slice()), WRITE_FAULT),
-        (Call::Put(b"a"), WRITE_FAULT),
-        (Call::Flush, WRITE_FAULT),
+        Call::Put(bytes.as_slice(), WRITE_FAULT),
+        Call::Put(b"a", WRITE_FAULT),
+        Call::Flush(WRITE_FAULT),
     ];
     let output = Narrow::new(rt.alloc(), 3, Failing::ByErr);
     let device = write_on(&rt, rt.alloc(), output, &calls);
     has_taken(&rt, device, &[0, 1], 3, 1);
-    Ok(())
-}
-
-/// Puts pieces of the bytes, and flushes them.
-fn put_each<O: Output, A: Allocator + Copy>(rt: &impl Abort, sink: &mut Sink<O, A>, bytes: &[u8]) {
-    for piece in bytes.chunks(700) {
-        same(rt, sink.put(piece), Ok(()));
-    }
-    same(rt, sink.flush(), Ok(()));
-}
-
-/// Puts pieces of the bytes, which arrive whole and in order.
-fn put_pieces(rt: &impl Abort, alloc: Global, bytes: &[u8]) {
-    let mut meter = Meter::new(alloc);
-    let mut sink = sink_on(rt, &mut meter, ToWrite::new(Vec::new(alloc)));
-    put_each(rt, &mut sink, bytes);
-    let written = sink.release(&mut meter).into_inner();
-    same(rt, written.as_slice(), bytes);
-    same(rt, meter.held(), 0);
-}
-
-#[test]
-fn pieces_arrive_whole_and_in_order(rt: HostRuntime) -> Result<(), Fail> {
-    let bytes = many_bytes(rt.alloc(), 7_000)?;
-    put_pieces(&rt, rt.alloc(), bytes.as_slice());
     Ok(())
 }

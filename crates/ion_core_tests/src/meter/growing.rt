@@ -1,7 +1,6 @@
 // Calls that grow, each over an allocator that refuses it.
 ghost use Rattle.std.specs.Prelude.{◌≡◌, ◌<◌};
 
-use super::refusing::Refusing;
 use super::{Script, counts_of, is_refused, refuse_each};
 use crate::same::same;
 use ion_meter::buf::Buf;
@@ -214,45 +213,43 @@ fn grow_often<A: Allocator + Copy>(
         grow(rt, alloc, meter, grown, Call::Insert(place, 9));
     }
     same(rt, grown.contents().len(), 200);
-    same(rt, meter.held(), held);
-    same(rt, meter.peak(), held);
+    same(rt, (meter.held(), meter.peak()), (held, held));
     meter.refused()
 }
 
-pub fn grow_bytes(rt: &impl Abort, alloc: Global, refusing: &Refusing<Global>) -> u64 {
-    let mut meter = Meter::new(refusing);
+pub fn grow_bytes<A: Allocator + Copy>(rt: &impl Abort, alloc: Global, inner: A) -> u64 {
+    let mut meter = Meter::new(inner);
     let mut buf = Buf::new(&meter);
     grow_often(rt, alloc, &mut meter, &mut buf, 200)
 }
 
-pub fn grow_spliced_bytes(rt: &impl Abort, alloc: Global, refusing: &Refusing<Global>) -> u64 {
-    let mut meter = Meter::new(refusing);
+pub fn grow_spliced_bytes<A: Allocator + Copy>(rt: &impl Abort, alloc: Global, inner: A) -> u64 {
+    let mut meter = Meter::new(inner);
     let buf = Buf::new(&meter);
     grow_often(rt, alloc, &mut meter, &mut Spliced { buf }, 200)
 }
 
-pub fn grow_stack(rt: &impl Abort, alloc: Global, refusing: &Refusing<Global>) -> u64 {
-    let mut meter = Meter::new(refusing);
+pub fn grow_stack<A: Allocator + Copy>(rt: &impl Abort, alloc: Global, inner: A) -> u64 {
+    let mut meter = Meter::new(inner);
     let mut stack = Stack::new(&meter);
     grow_often(rt, alloc, &mut meter, &mut stack, 3_200)
 }
 
-pub fn grow_table(rt: &impl Abort, alloc: Global, refusing: &Refusing<Global>) -> u64 {
-    let mut meter = Meter::new(refusing);
+pub fn grow_table<A: Allocator + Copy>(rt: &impl Abort, alloc: Global, inner: A) -> u64 {
+    let mut meter = Meter::new(inner);
     let table = Table::new(&meter, 24);
     grow_often(rt, alloc, &mut meter, &mut Priced { table }, 4_800)
 }
 
-pub fn grow_two_tables(rt: &impl Abort, alloc: Global, refusing: &Refusing<Global>) -> u64 {
-    let mut meter = Meter::new(refusing);
+pub fn grow_two_tables<A: Allocator + Copy>(rt: &impl Abort, alloc: Global, inner: A) -> u64 {
+    let mut meter = Meter::new(inner);
     let table = Table::new(&meter, 24);
     let others = Table::new(&meter, 8);
     let mut paired = Paired { table, others };
     for entry in 0..40 {
         grow(rt, alloc, &mut meter, &mut paired, Call::Push(entry));
     }
-    same(rt, meter.held(), 1_280);
-    same(rt, meter.peak(), 1_280);
+    same(rt, (meter.held(), meter.peak()), (1_280, 1_280));
     same(rt, paired.others.as_slice().first(), Some(&39));
     meter.refused()
 }
@@ -273,10 +270,6 @@ fn each_grows_past_each_refusal(rt: HostRuntime) {
         let runs = refuse_each(&rt, rt.alloc(), *script);
         same(&rt, (*name, runs), (*name, REFUSALS));
     }
-}
-
-// Of each table four growths.
-#[test]
-fn two_tables_grow_past_each_refusal(rt: HostRuntime) {
+    // Of each of two tables four growths.
     same(&rt, refuse_each(&rt, rt.alloc(), Script::TwoTables), 8);
 }

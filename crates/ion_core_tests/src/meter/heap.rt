@@ -1,4 +1,6 @@
-// Windows and a buffer in a heap of fixed size.
+// Windows that follow one another, in pieces to the output, and a buffer, in a heap of fixed size.
+ghost use Rattle.std.specs.Prelude.{◌≡◌};
+
 use super::devices::{has_more, sink_on, source_on};
 use super::{LIMITS, counts_of, many_bytes};
 use crate::same::same;
@@ -13,6 +15,13 @@ use linked_list_allocator::LocalHeap;
 use std::alloc::{Allocator, Global};
 use std::process::Abort;
 use std::test::Fail;
+
+/// Puts pieces of the bytes.
+fn put_each<O: Output, A: Allocator + Copy>(rt: &impl Abort, sink: &mut Sink<O, A>, bytes: &[u8]) {
+    for piece in bytes.chunks(700) {
+        same(rt, sink.put(piece), Ok(()));
+    }
+}
 
 /// Copies a window's bytes, so many, to the output through the buffer.
 fn copy_window<I: Input, O: Output, A: Allocator + Copy>(
@@ -30,7 +39,7 @@ fn copy_window<I: Input, O: Output, A: Allocator + Copy>(
     assert!(rt; count <= 4_096);
     assert!(rt; buf.extend(meter, lent).is_ok());
     source.consume(count);
-    assert!(rt; sink.put(buf.as_slice()).is_ok());
+    put_each(rt, sink, buf.as_slice());
     assert!(rt; buf.as_slice().len() as u64 <= meter.held());
     buf.clear(meter);
 }
@@ -47,29 +56,45 @@ fn copy_all<I: Input, O: Output, A: Allocator + Copy>(
         has_more(rt, source);
         copy_window(rt, meter, source, &mut buf, sink, length);
     }
-    same(rt, source.peek(0), Ok(None));
+    same(rt, (source.peek(0), source.place()), (Ok(None), 10_000));
     same(rt, sink.flush(), Ok(()));
     assert!(rt; buf.as_slice().is_empty());
     buf.release(meter);
     same(rt, meter.peak(), 12_288);
 }
 
-/// Copies these bytes by windows and a buffer of this allocator. In the end it holds nothing.
-fn copy_in<A: Allocator + Copy>(rt: &impl Abort, inner: A, alloc: Global, text: &[u8]) {
+/// Copies one device to the other by windows and a buffer of this allocator, and hands both out. In the end it holds nothing.
+fn copy_between<I: Input + Drop, O: Output + Drop, A: Allocator + Copy>(
+    rt: &impl Abort,
+    inner: A,
+    input: I,
+    output: O,
+) -> (I, O)
+    requires reads { I.failure_count input ≡ 0 }
+    requires writes { O.failure_count output ≡ 0 }
+{
     let mut meter = Meter::new(inner);
     let limits = Limits {
         input: 10_000,
         ..LIMITS
     };
-    let mut source = source_on(rt, &mut meter, limits, FromRead::new(text));
-    let mut sink = sink_on(rt, &mut meter, ToWrite::new(Vec::new(alloc)));
+    let mut source = source_on(rt, &mut meter, limits, input);
+    let mut sink = sink_on(rt, &mut meter, output);
     copy_all(rt, &mut meter, &mut source, &mut sink);
     assert!(rt; meter.held() == 8_192);
-    source.release(&mut meter);
-    let written = sink.release(&mut meter).into_inner();
-    same(rt, written.as_slice(), text);
-    same(rt, meter.held(), 0);
-    same(rt, meter.refused(), 0);
+    let input = source.release(&mut meter);
+    same(rt, meter.held(), 4_096);
+    let output = sink.release(&mut meter);
+    same(rt, (meter.held(), meter.refused()), (0, 0));
+    (input, output)
+}
+
+/// Copies these bytes.
+fn copy_in<A: Allocator + Copy>(rt: &impl Abort, inner: A, alloc: Global, text: &[u8]) {
+    let output = ToWrite::new(Vec::new(alloc));
+    let (input, output) = copy_between(rt, inner, FromRead::new(text), output);
+    same(rt, input.into_inner().len(), 0);
+    same(rt, output.into_inner().as_slice(), text);
 }
 
 #[test]
@@ -78,24 +103,5 @@ fn a_copy_fits_into_a_heap(rt: HostRuntime) -> Result<(), Fail> {
     let heap = LocalHeap::new(rt.alloc(), 65_536)?;
     copy_in(&rt, &heap, rt.alloc(), text.as_slice());
     same(&rt, heap.used(), 0);
-    Ok(())
-}
-
-/// Asks for a window of 4,096 bytes, which this allocator refuses.
-fn ask_for_window<A: Allocator + Copy>(rt: &impl Abort, inner: A) {
-    let mut meter = Meter::new(inner);
-    let Err(device) = Source::new(&mut meter, LIMITS, FromRead::new(b"ab".as_slice())) else {
-        panic!(rt; "a window of 4,096 bytes in a heap of 2,048")
-    };
-    same(rt, device.into_inner(), b"ab".as_slice());
-    same(rt, meter.refused(), 1);
-    same(rt, meter.held(), 0);
-    same(rt, meter.peak(), 0);
-}
-
-#[test]
-fn a_small_heap_refuses_a_window(rt: HostRuntime) -> Result<(), Fail> {
-    let heap = LocalHeap::new(rt.alloc(), 2_048)?;
-    ask_for_window(&rt, &heap);
     Ok(())
 }

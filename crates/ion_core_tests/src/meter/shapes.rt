@@ -36,40 +36,59 @@ enum ByteCall<'a> {
     Clear,
 }
 
-/// Makes the call, which is not refused.
+/// Makes the call, which is not refused. What follows from many arms is dear, so that others make the other calls.
 fn call_buf(rt: &impl Abort, meter: &mut Meter<Global>, buf: &mut Buf<Global>, call: ByteCall) {
     counts_of(rt, meter);
-    let length = buf.as_slice().len();
-    assert!(rt; length as u64 <= meter.held());
     match call {
         ByteCall::Push(byte) => same(rt, buf.push(meter, byte), Ok(())),
         ByteCall::Extend(bytes) => {
             assert!(rt; bytes.len() < 1_000);
             same(rt, buf.extend(meter, bytes), Ok(()));
         }
+        ByteCall::ExtendZeros(count) => {
+            assert!(rt; count < 1_000);
+            same(rt, buf.extend_zeros(meter, count), Ok(()));
+        }
+        ByteCall::ExtendIfRoom(bytes, more, added) => {
+            assert!(rt; bytes.len() < 1_000);
+            assert!(rt; more.len() < 1_000);
+            same(rt, buf.extend_if_room(meter, bytes, more), added);
+        }
+        _ => put_in(rt, meter, buf, call),
+    }
+}
+
+/// The same, where it puts bytes between others.
+fn put_in(rt: &impl Abort, meter: &mut Meter<Global>, buf: &mut Buf<Global>, call: ByteCall) {
+    counts_of(rt, meter);
+    let length = buf.as_slice().len();
+    match call {
         ByteCall::Insert(place, byte) => {
             assert!(rt; place <= length);
             same(rt, buf.insert(meter, place, byte), Ok(()));
         }
         ByteCall::InsertSlice(place, bytes) => {
-            assert!(rt; place <= length && bytes.len() < 1_000);
+            assert!(rt; place <= length);
+            assert!(rt; bytes.len() < 1_000);
             same(rt, buf.insert_slice(meter, place, bytes), Ok(()));
         }
-        ByteCall::ExtendZeros(count) => {
-            assert!(rt; count < 1_000);
-            same(rt, buf.extend_zeros(meter, count), Ok(()));
+        ByteCall::InsertIfRoom(place, bytes, added) => {
+            assert!(rt; place <= length);
+            assert!(rt; bytes.len() < 1_000);
+            same(rt, buf.insert_if_room(meter, place, bytes), added);
         }
+        _ => change(rt, meter, buf, call),
+    }
+}
+
+/// The same, where it sets bytes or takes them off.
+fn change(rt: &impl Abort, meter: &mut Meter<Global>, buf: &mut Buf<Global>, call: ByteCall) {
+    let length = buf.as_slice().len();
+    assert!(rt; length as u64 <= meter.held());
+    match call {
         ByteCall::MoveBehind(place, end, gap, bytes) => {
             assert!(rt; place <= end && end <= length && gap <= length - end && bytes.len() <= gap);
             buf.move_behind(place, end, gap, bytes);
-        }
-        ByteCall::ExtendIfRoom(bytes, more, added) => {
-            assert!(rt; bytes.len() < 1_000 && more.len() < 1_000);
-            same(rt, buf.extend_if_room(meter, bytes, more), added);
-        }
-        ByteCall::InsertIfRoom(place, bytes, added) => {
-            assert!(rt; place <= length && bytes.len() < 1_000);
-            same(rt, buf.insert_if_room(meter, place, bytes), added);
         }
         ByteCall::Set(place, byte) => {
             assert!(rt; place < length);
@@ -77,25 +96,37 @@ fn call_buf(rt: &impl Abort, meter: &mut Meter<Global>, buf: &mut Buf<Global>, c
         }
         ByteCall::Pop(byte) => same(rt, buf.pop(meter), byte),
         ByteCall::Truncate(to) => buf.truncate(meter, to),
-        ByteCall::Clear => buf.clear(meter),
+        _ => buf.clear(meter),
     }
 }
 
-/// Makes the calls, and asserts the bytes after each, of which each costs 1. Then all is given back, and so much was held at most.
+/// Makes the calls, and asserts the bytes after each, of which each costs 1.
+fn make_all(
+    rt: &impl Abort,
+    meter: &mut Meter<Global>,
+    buf: &mut Buf<Global>,
+    calls: &[(ByteCall, &[u8])],
+) {
+    for (call, bytes) in calls {
+        call_buf(rt, meter, buf, *call);
+        same(
+            rt,
+            (buf.as_slice(), meter.held()),
+            (*bytes, bytes.len() as u64),
+        );
+    }
+}
+
+/// Makes the calls. Then all is given back, and so much was held at most.
 fn follow_buf(rt: &impl Abort, alloc: Global, calls: &[(ByteCall, &[u8])], peak: u64) {
     let mut meter = Meter::new(alloc);
     let mut buf = Buf::new(&meter);
-    for (call, bytes) in calls {
-        call_buf(rt, &mut meter, &mut buf, *call);
-        same(rt, buf.as_slice(), *bytes);
-        same(rt, meter.held(), bytes.len() as u64);
-    }
+    make_all(rt, &mut meter, &mut buf, calls);
     same(rt, meter.peak(), peak);
     assert!(rt; buf.as_slice().len() as u64 <= meter.held());
     buf.release(&mut meter);
-    same(rt, meter.held(), 0);
-    same(rt, meter.peak(), peak);
-    same(rt, meter.refused(), 0);
+    let found = (meter.held(), meter.peak(), meter.refused());
+    same(rt, found, (0, peak, 0));
 }
 
 const CUT: &[(ByteCall, &[u8])] = &[
@@ -297,40 +328,34 @@ fn push_both(
     same(rt, table.push_with(bytes, meter, 7, b"ab"), added);
 }
 
+/// Adds them where neither has room, where bytes alone have, and where both have.
+fn push_thrice(
+    rt: &impl Abort,
+    meter: &mut Meter<Global>,
+    table: &mut Table<u32, Global>,
+    bytes: &mut Buf<Global>,
+)
+    requires cost { table.old.cost ≡ 24 }
+{
+    push_both(rt, meter, table, bytes, false);
+    call_buf(rt, meter, bytes, ByteCall::Extend(b"xyz"));
+    call_buf(rt, meter, bytes, ByteCall::Clear);
+    push_both(rt, meter, table, bytes, false);
+    same(rt, (bytes.as_slice().len(), meter.held()), (0, 0));
+    call_table(rt, meter, table, EntryCall::Push(5));
+    call_table(rt, meter, table, EntryCall::Clear);
+    push_both(rt, meter, table, bytes, true);
+    same(rt, table.as_slice(), [7].as_slice());
+    same(rt, bytes.as_slice(), b"ab".as_slice());
+}
+
 #[test]
 fn an_entry_and_bytes_are_added_where_both_have_room(rt: HostRuntime) {
     let mut meter = Meter::new(rt.alloc());
     let mut table = Table::new(&meter, 24);
     let mut bytes = Buf::new(&meter);
-    push_both(&rt, &mut meter, &mut table, &mut bytes, false);
-    call_buf(&rt, &mut meter, &mut bytes, ByteCall::Extend(b"xyz"));
-    call_buf(&rt, &mut meter, &mut bytes, ByteCall::Clear);
-    push_both(&rt, &mut meter, &mut table, &mut bytes, false);
-    same(&rt, (bytes.as_slice().len(), meter.held()), (0, 0));
-    call_table(&rt, &mut meter, &mut table, EntryCall::Push(5));
-    call_table(&rt, &mut meter, &mut table, EntryCall::Clear);
-    push_both(&rt, &mut meter, &mut table, &mut bytes, true);
-    same(&rt, table.as_slice(), [7].as_slice());
-    same(&rt, bytes.as_slice(), b"ab".as_slice());
+    push_thrice(&rt, &mut meter, &mut table, &mut bytes);
     same(&rt, (meter.held(), meter.peak()), (26, 26));
-}
-
-#[test]
-fn both_windows_cost_8_192(rt: HostRuntime) {
-    let mut meter = Meter::new(rt.alloc());
-    let Ok(source) = Source::new(&mut meter, LIMITS, FromRead::new(b"ab".as_slice())) else {
-        panic!(rt; "no memory")
-    };
-    let Ok(sink) = Sink::new(&mut meter, ToWrite::new(Vec::new(rt.alloc()))) else {
-        panic!(rt; "no memory")
-    };
-    same(&rt, meter.held(), 8_192);
-    let reader = source.release(&mut meter).into_inner();
-    same(&rt, reader, b"ab".as_slice());
-    same(&rt, meter.held(), 4_096);
-    sink.release(&mut meter);
-    same(&rt, meter.held(), 0);
-    same(&rt, meter.peak(), 8_192);
 }
 
 /// The greatest limits: 65,535, then 2^30 three times, then 2^48.

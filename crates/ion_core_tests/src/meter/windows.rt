@@ -1,83 +1,60 @@
-// Windows over an allocator that refuses them.
-ghost use Rattle.std.specs.Prelude.{◌≡◌, ◌≤◌};
+// Windows over an allocator that refuses them at first.
+ghost use Rattle.std.specs.Prelude.{◌≡◌};
 
-use super::devices::{sink_on, source_on};
+use super::devices::{Call, make, sink_on, source_on};
 use super::refusing::Refusing;
-use super::{LIMITS, Script, counts_of, is_refused, refuse_each};
+use super::{LIMITS, counts_of, is_refused};
 use crate::same::same;
 use ion_meter::device::{Input, Output};
 use ion_meter::meter::Meter;
 use ion_meter::sink::Sink;
 use ion_meter::source::Source;
 use ion_meter::stream::{FromRead, ToWrite};
-use std::alloc::{Allocator, Global};
+use std::alloc::Allocator;
 use std::process::Abort;
 
-/// Makes a window on an input, once more where it is refused.
-fn source_again<I: Input + Drop, A: Allocator + Copy>(
-    rt: &impl Abort,
-    meter: &mut Meter<A>,
-    device: I,
-) -> Source<I, A>
+/// Reads by a window on an input, which is handed back where the window is refused.
+fn read_byte<I: Input + Drop, A: Allocator + Copy>(rt: &impl Abort, inner: A, device: I)
     requires failures { I.failure_count device ≡ 0 }
-    ensures { 4096 ≤ meter.new.held }
 {
-    let before = counts_of(rt, meter);
-    match Source::new(meter, LIMITS, device) {
-        Ok(source) => source,
-        Err(device) => {
-            is_refused(rt, meter, before);
-            source_on(rt, meter, LIMITS, device)
-        }
-    }
-}
-
-/// Makes a window on an output, once more where it is refused.
-fn sink_again<O: Output + Drop, A: Allocator + Copy>(
-    rt: &impl Abort,
-    meter: &mut Meter<A>,
-    device: O,
-) -> Sink<O, A>
-    requires failures { O.failure_count device ≡ 0 }
-    ensures { 4096 ≤ meter.new.held }
-{
-    let before = counts_of(rt, meter);
-    match Sink::new(meter, device) {
-        Ok(sink) => sink,
-        Err(device) => {
-            is_refused(rt, meter, before);
-            sink_on(rt, meter, device)
-        }
-    }
-}
-
-/// Reads by such a window on an input.
-pub fn read_byte(rt: &impl Abort, refusing: &Refusing<Global>) -> u64 {
-    let mut meter = Meter::new(refusing);
-    let mut source = source_again(rt, &mut meter, FromRead::new(b"ab".as_slice()));
-    same(rt, meter.held(), 4096);
-    same(rt, source.peek(0), Ok(Some(b'a')));
+    let mut meter = Meter::new(inner);
+    let before = counts_of(rt, &meter);
+    assert!(rt; LIMITS.check());
+    let Err(device) = Source::new(&mut meter, LIMITS, device) else {
+        panic!(rt; "it was not refused")
+    };
+    is_refused(rt, &meter, before);
+    let mut source = source_on(rt, &mut meter, LIMITS, device);
+    same(rt, (meter.held(), source.peek(0)), (4096, Ok(Some(b'a'))));
     source.release(&mut meter);
-    same(rt, meter.held(), 0);
-    meter.refused()
+    same(rt, (meter.held(), meter.refused()), (0, 1));
 }
 
-/// Writes by such a window on an output.
-pub fn write_bytes(rt: &impl Abort, alloc: Global, refusing: &Refusing<Global>) -> u64 {
-    let mut meter = Meter::new(refusing);
-    let mut sink = sink_again(rt, &mut meter, ToWrite::new(Vec::new(alloc)));
+/// Puts bytes by a window on an output, which is handed back where the window is refused, and then handed out.
+fn put_bytes<O: Output + Drop, A: Allocator + Copy>(rt: &impl Abort, inner: A, device: O) -> O
+    requires failures { O.failure_count device ≡ 0 }
+{
+    let mut meter = Meter::new(inner);
+    let before = counts_of(rt, &meter);
+    let Err(device) = Sink::new(&mut meter, device) else {
+        panic!(rt; "it was not refused")
+    };
+    is_refused(rt, &meter, before);
+    let mut sink = sink_on(rt, &mut meter, device);
+    make(rt, &mut sink, Call::Put(b"ab", Ok(())));
+    make(rt, &mut sink, Call::Flush(Ok(())));
     same(rt, meter.held(), 4096);
-    same(rt, sink.put(b"ab"), Ok(()));
-    same(rt, sink.flush(), Ok(()));
-    let written = sink.release(&mut meter).into_inner();
-    same(rt, written.as_slice(), b"ab".as_slice());
-    same(rt, meter.held(), 0);
-    meter.refused()
+    let device = sink.release(&mut meter);
+    same(rt, (meter.held(), meter.refused()), (0, 1));
+    device
 }
 
 #[test]
 fn what_is_refused_is_handed_back(rt: HostRuntime) {
-    for (name, script) in [("input", Script::Input), ("output", Script::Output)] {
-        same(&rt, (name, refuse_each(&rt, rt.alloc(), script)), (name, 1));
-    }
+    let refusing = Refusing::new(rt.alloc(), 1);
+    read_byte(&rt, &refusing, FromRead::new(b"ab".as_slice()));
+    refusing.refuse(1, false);
+    let output = ToWrite::new(Vec::new(rt.alloc()));
+    let output = put_bytes(&rt, &refusing, output);
+    same(&rt, output.into_inner().as_slice(), b"ab".as_slice());
 }

@@ -2,7 +2,7 @@
 ghost use Rattle.std.specs.Prelude.{◌+◌, ◌^◌, ◌<◌, ◌≤◌};
 ghost use Rattle.ion_symbols.specs.Table.{catalog_cost, shared_cost};
 
-use super::shared_tables::expect_slots;
+use super::shared_tables::expect_table;
 use crate::same::same;
 use ion_meter::fault::{Fault, Reason};
 use ion_meter::meter::Meter;
@@ -77,8 +77,7 @@ impl Shelf {
         if let Some(text) = text {
             assert!(rt; text.len() < 100);
         }
-        let pushed = table.push(&mut self.meter, text);
-        assert!(rt; pushed.is_ok());
+        same(rt, table.push(&mut self.meter, text), Ok(()));
     }
 
     // Asserts that the meter counts little, which a call that grows requires.
@@ -99,13 +98,10 @@ impl Shelf {
         let table = self.table(rt, name, version, slots);
         self.expect_little(rt);
         let held = self.meter.held();
-        let added = self.catalog.add(&mut self.meter, table);
-        assert!(rt; added.is_ok());
-        same(
-            rt,
-            (name, version, self.meter.held()),
-            (name, version, held + 32),
-        );
+        let Ok(()) = self.catalog.add(&mut self.meter, table) else {
+            panic!(rt; "{name} {version} was not added")
+        };
+        same(rt, self.meter.held(), held + 32);
     }
 
     // Asserts that such a table is handed back, and that nothing is changed.
@@ -121,12 +117,10 @@ impl Shelf {
             panic!(rt; "{name} {version} was added")
         };
         same(rt, fault, Fault::Refused(Reason::CatalogEntry, 0));
-        same(rt, table.name(), name.as_bytes());
-        same(rt, table.version(), version);
-        same(rt, table.get(0), Some(b"new".as_slice()));
+        expect_table(rt, &table, name, version, &[Some("new")]);
         table.release(&mut self.meter);
-        same(rt, self.catalog.len(), count);
-        same(rt, self.meter.held(), held);
+        let found = (self.catalog.len(), self.meter.held());
+        same(rt, found, (count, held));
     }
 
     // Asserts that there is a table of this name and version, with these slots.
@@ -134,9 +128,7 @@ impl Shelf {
         let Some(table) = self.catalog.find(name, version) else {
             panic!(rt; "no {name} {version}")
         };
-        same(rt, table.name(), name.as_bytes());
-        same(rt, table.version(), version);
-        expect_slots(rt, table, slots);
+        expect_table(rt, table, name, version, slots);
     }
 
     // Asserts what a call answers.
@@ -153,12 +145,51 @@ impl Shelf {
                 same(rt, (name, version, there), (name, version, false));
             }
             Step::Counts(count, held) => {
-                same(rt, self.catalog.len(), count);
-                same(rt, self.catalog.is_empty(), count == 0);
-                same(rt, self.meter.held(), held);
-                same(rt, self.meter.peak(), held);
+                let found = (self.catalog.len(), self.catalog.is_empty());
+                same(rt, found, (count, count == 0));
+                same(rt, (self.meter.held(), self.meter.peak()), (held, held));
             }
         }
+    }
+
+    // Asserts what each call answers.
+    fn expect_each(&mut self, rt: &impl Abort, steps: &[Step])
+        requires held { catalog_cost self.old.catalog ≤ self.old.meter.held }
+        ensures held { catalog_cost self.new.catalog ≤ self.new.meter.held }
+    {
+        for step in steps {
+            self.expect(rt, *step);
+        }
+    }
+
+    // Adds the table at a rank, which is found then and was not before.
+    fn add_at(&mut self, rt: &impl Abort, rank: usize)
+        requires held { catalog_cost self.old.catalog ≤ self.old.meter.held }
+        ensures held { catalog_cost self.new.catalog ≤ self.new.meter.held }
+    {
+        let (name, version) = table_at(rt, rank);
+        let slots = [Some(name)];
+        let steps = [
+            Step::Missing(name, version),
+            Step::Add(name, version, &slots),
+            Step::Found(name, version, &slots),
+        ];
+        self.expect_each(rt, &steps);
+    }
+
+    // Asserts that the table at a rank is found and may not be added again, and none between two versions.
+    fn found_at(&mut self, rt: &impl Abort, rank: usize)
+        requires held { catalog_cost self.old.catalog ≤ self.old.meter.held }
+        ensures held { catalog_cost self.new.catalog ≤ self.new.meter.held }
+    {
+        let (name, version) = table_at(rt, rank);
+        let slots = [Some(name)];
+        let steps = [
+            Step::Found(name, version, &slots),
+            Step::Missing(name, version ^ 1),
+            Step::Refused(name, version),
+        ];
+        self.expect_each(rt, &steps);
     }
 
     // Gives all back, after which nothing is held.
@@ -174,12 +205,11 @@ impl Shelf {
 /// Asserts what each call answers, on a new catalogue, and gives all back.
 fn follow(rt: &impl Abort, alloc: Global, steps: &[Step]) {
     let mut shelf = Shelf::new(alloc);
-    for step in steps {
-        shelf.expect(rt, *step);
-    }
+    shelf.expect_each(rt, steps);
     shelf.finish(rt);
 }
 
+// A table costs 32 more in a catalogue.
 const COSTS: &[Step] = &[
     Step::Counts(0, 0),
     Step::Add("x", 1, &[Some("p"), None]),
@@ -188,11 +218,7 @@ const COSTS: &[Step] = &[
     Step::Found("x", 1, &[Some("p"), None]),
 ];
 
-#[test]
-fn a_table_costs_32_more_in_a_catalog(rt: HostRuntime) {
-    follow(&rt, rt.alloc(), COSTS);
-}
-
+// Tables that may not stand are handed back.
 const MAY_NOT_STAND: &[Step] = &[
     Step::Add("x", 1, &[Some("p"), Some("q")]),
     Step::Refused("x", 1),
@@ -203,11 +229,6 @@ const MAY_NOT_STAND: &[Step] = &[
     Step::Refused("y", u32::MAX),
     Step::Found("x", 1, &[Some("p"), Some("q")]),
 ];
-
-#[test]
-fn a_table_that_may_not_stand_is_handed_back(rt: HostRuntime) {
-    follow(&rt, rt.alloc(), MAY_NOT_STAND);
-}
 
 const BY_NAME_AND_VERSION: &[Step] = &[
     Step::Missing("x", 1),
@@ -230,7 +251,9 @@ const BY_NAME_AND_VERSION: &[Step] = &[
 ];
 
 #[test]
-fn a_table_is_found_by_name_and_version(rt: HostRuntime) {
+fn a_table_is_found_by_name_and_version_or_handed_back(rt: HostRuntime) {
+    follow(&rt, rt.alloc(), COSTS);
+    follow(&rt, rt.alloc(), MAY_NOT_STAND);
     follow(&rt, rt.alloc(), BY_NAME_AND_VERSION);
 }
 
@@ -295,17 +318,11 @@ fn table_at(rt: &impl Abort, rank: usize) -> (&'static str, u32) {
 fn add_many(rt: &impl Abort, alloc: Global, order: Order) {
     let mut shelf = Shelf::new(alloc);
     for number in 0..MANY {
-        let (name, version) = table_at(rt, rank_in(order, number));
-        shelf.expect(rt, Step::Missing(name, version));
-        shelf.expect(rt, Step::Add(name, version, &[Some(name)]));
-        shelf.expect(rt, Step::Found(name, version, &[Some(name)]));
+        shelf.add_at(rt, rank_in(order, number));
     }
     same(rt, shelf.catalog.len(), MANY);
     for rank in 0..MANY {
-        let (name, version) = table_at(rt, rank);
-        shelf.expect(rt, Step::Found(name, version, &[Some(name)]));
-        shelf.expect(rt, Step::Missing(name, version ^ 1));
-        shelf.expect(rt, Step::Refused(name, version));
+        shelf.found_at(rt, rank);
     }
     shelf.finish(rt);
 }

@@ -3,6 +3,8 @@ ghost use Rattle.std.specs.Prelude.{◌≡◌, ◌+◌, ◌≤◌, MatchOption};
 ghost use Rattle.ion_symbols.specs.Table.{catalog_cost, shared_cost};
 ghost use Rattle.ion_symbols.specs.Output.{texts_cost};
 
+use super::outputs::expect_since;
+use super::shared_tables::{expect_table, push};
 use crate::meter::refusing::Refusing;
 use crate::meter::{Counted, counts_of, is_refused};
 use crate::same::same;
@@ -44,25 +46,14 @@ const SLOTS: &[Option<&str>] = &[
 ];
 
 /// Asserts that a table has the first of these slots, so many, and this name.
-fn expect_table<A: Allocator + Copy>(
+fn expect_first<A: Allocator + Copy>(
     rt: &impl Abort,
     table: &SharedTable<A>,
     name: &str,
     count: usize,
 ) {
-    same(rt, table.name(), name.as_bytes());
-    same(rt, table.version(), 1);
-    same(rt, table.len(), count);
-    let mut place = 0;
-    for slot in SLOTS {
-        let want = match slot {
-            Some(text) if place < count => Some(text.as_bytes()),
-            _ => None,
-        };
-        same(rt, (place, table.get(place)), (place, want));
-        assert!(rt; place < 1_000);
-        place += 1;
-    }
+    assert!(rt; count <= SLOTS.len());
+    expect_table(rt, table, name, 1, &SLOTS[..count]);
 }
 
 /// Asserts that a refusal was counted since then, that as much is held, and that no more was at any
@@ -75,24 +66,6 @@ fn is_undone<A: Allocator + Copy>(rt: &impl Abort, meter: &Meter<A>, before: Cou
         (before.held, before.refused.saturating_add(1)),
     );
     assert!(rt; after.peak <= before.peak.max(before.held.saturating_add(most)));
-}
-
-/// Pushes a slot.
-#[tactic(auto, using(ion_symbols::proofs::Keeping::cost_push))]
-fn push<A: Allocator + Copy>(
-    rt: &impl Abort,
-    meter: &mut Meter<A>,
-    table: &mut SharedTable<A>,
-    slot: Option<&str>,
-) -> Result<(), Fault>
-    requires held { shared_cost table.old ≤ meter.old.held }
-    ensures held { shared_cost table.new ≤ meter.new.held }
-{
-    counts_of(rt, meter);
-    if let Some(text) = slot {
-        assert!(rt; text.len() < 100);
-    }
-    table.push(meter, slot)
 }
 
 /// Pushes a slot, and once more where that is refused; a table without it has so many slots. Whether
@@ -114,7 +87,7 @@ fn push_again<A: Allocator + Copy>(
     }
     same(rt, pushed, Err(Fault::Memory));
     is_undone(rt, meter, before, 16 + 100);
-    expect_table(rt, table, "x", count);
+    expect_first(rt, table, "x", count);
     push(rt, meter, table, slot).is_ok()
 }
 
@@ -147,16 +120,26 @@ fn grow_table<A: Allocator + Copy>(rt: &impl Abort, meter: &mut Meter<A>) {
     let Some(mut table) = new_table(rt, meter, "x") else {
         return;
     };
-    let mut count = 0;
-    for slot in SLOTS {
-        if !push_again(rt, meter, &mut table, *slot, count) {
-            break;
-        }
-        assert!(rt; count < 1_000);
-        count += 1;
-    }
-    expect_table(rt, &table, "x", count);
+    let count = push_all(rt, meter, &mut table);
+    expect_first(rt, &table, "x", count);
     table.release(meter);
+}
+
+/// Pushes the slots up to one that is refused twice. How many there are then.
+fn push_all<A: Allocator + Copy>(
+    rt: &impl Abort,
+    meter: &mut Meter<A>,
+    table: &mut SharedTable<A>,
+) -> usize
+    requires held { shared_cost table.old ≤ meter.old.held }
+    ensures held { shared_cost table.new ≤ meter.new.held }
+{
+    'slot: for (count, slot) in SLOTS.iter().enumerate() {
+        if !push_again(rt, meter, table, *slot, count) {
+            return count;
+        }
+    }
+    SLOTS.len()
 }
 
 /// The names of the tables that a catalogue gets.
@@ -184,7 +167,7 @@ fn add_again<A: Allocator + Copy>(
     };
     same(rt, fault, Fault::Memory);
     is_refused(rt, meter, before);
-    expect_table(rt, &table, name, 0);
+    expect_table(rt, &table, name, 1, &[]);
     same(rt, catalog.len(), count);
     assert!(rt; catalog.find(name, 1).is_none());
     match catalog.add(meter, table) {
@@ -199,16 +182,26 @@ fn add_again<A: Allocator + Copy>(
 /// A catalogue and its tables, each of which may be refused.
 fn grow_catalog<A: Allocator + Copy>(rt: &impl Abort, meter: &mut Meter<A>) {
     let mut catalog = Catalog::new(meter);
-    let mut count = 0;
-    for name in NAMES {
-        if !add_again(rt, meter, &mut catalog, name, count) {
-            break;
-        }
-        assert!(rt; count < 1_000);
-        count += 1;
-    }
+    let count = add_all(rt, meter, &mut catalog);
     same(rt, catalog.len(), count);
     catalog.release(meter);
+}
+
+/// Adds the tables up to one that is refused twice. How many there are then.
+fn add_all<A: Allocator + Copy>(
+    rt: &impl Abort,
+    meter: &mut Meter<A>,
+    catalog: &mut Catalog<A>,
+) -> usize
+    requires held { catalog_cost catalog.old ≤ meter.old.held }
+    ensures held { catalog_cost catalog.new ≤ meter.new.held }
+{
+    'name: for (count, name) in NAMES.iter().enumerate() {
+        if !add_again(rt, meter, catalog, name, count) {
+            return count;
+        }
+    }
+    NAMES.len()
 }
 
 /// Texts in order of id.
@@ -233,24 +226,13 @@ fn expect_texts<A: Allocator + Copy>(
     texts: &OutSymbols<A>,
     count: usize,
 ) {
-    let since = texts.new_since(10);
-    same(rt, since.len(), count);
-    let mut place = 0;
-    for text in TEXTS {
-        let want = if place < count {
-            Some(text.as_bytes())
-        } else {
-            None
-        };
-        same(rt, (place, since.get(place)), (place, want));
-        assert!(rt; place < 1_000);
-        place += 1;
-    }
+    assert!(rt; count <= TEXTS.len());
+    expect_since(rt, texts, 10, &TEXTS[..count]);
     same(rt, meter.held(), texts.cost());
 }
 
 /// Asks for the id of a text, which is found by halving where texts are put in order.
-fn give<A: Allocator + Copy>(
+pub fn give<A: Allocator + Copy>(
     rt: &impl Abort,
     meter: &mut Meter<A>,
     texts: &mut OutSymbols<A>,
@@ -297,24 +279,32 @@ fn id_again<A: Allocator + Copy>(
 fn grow_texts<A: Allocator + Copy>(rt: &impl Abort, meter: &mut Meter<A>, in_order: bool) {
     assert!(rt; LIMITS.check());
     let mut texts = OutSymbols::new(meter, LIMITS);
-    let mut count = 0;
-    for text in TEXTS {
-        if !id_again(rt, meter, &mut texts, text, count, in_order) {
-            break;
-        }
-        assert!(rt; count < 1_000);
-        count += 1;
-    }
+    let count = give_all(rt, meter, &mut texts, in_order);
     expect_texts(rt, meter, &texts, count);
     texts.release(meter);
 }
 
-/// Whether a script meets its nth growth, which is refused: alone, or with all behind it. A call that
-/// is refused is made again.
-fn is_met(rt: &impl Abort, alloc: Global, script: Script, nth: u64, onward: bool) -> bool {
-    let refusing = Refusing::new(alloc, 0);
-    refusing.refuse(nth, onward);
-    let mut meter = Meter::new(&refusing);
+/// Asks for the ids of the texts up to one that is refused twice. How many have one then.
+fn give_all<A: Allocator + Copy>(
+    rt: &impl Abort,
+    meter: &mut Meter<A>,
+    texts: &mut OutSymbols<A>,
+    in_order: bool,
+) -> usize
+    requires held { texts_cost texts.old.texts ≤ meter.old.held }
+    ensures held { texts_cost texts.new.texts ≤ meter.new.held }
+{
+    'text: for (count, text) in TEXTS.iter().enumerate() {
+        if !id_again(rt, meter, texts, text, count, in_order) {
+            return count;
+        }
+    }
+    TEXTS.len()
+}
+
+/// Runs a script over an allocator, after which nothing is held. How often it was refused.
+fn run<A: Allocator + Copy>(rt: &impl Abort, inner: A, script: Script) -> u64 {
+    let mut meter = Meter::new(inner);
     match script {
         Script::Table => grow_table(rt, &mut meter),
         Script::Catalog => grow_catalog(rt, &mut meter),
@@ -322,13 +312,27 @@ fn is_met(rt: &impl Abort, alloc: Global, script: Script, nth: u64, onward: bool
         Script::OrderedTexts => grow_texts(rt, &mut meter, true),
     }
     same(rt, meter.held(), 0);
-    let refused = match (refusing.has_refused(), onward) {
+    meter.refused()
+}
+
+/// How often a run is refused, which has met its nth growth or not.
+fn refusals(is_met: bool, onward: bool) -> u64 {
+    match (is_met, onward) {
         (false, _) => 0,
         (true, false) => 1,
         (true, true) => 2,
-    };
-    same(rt, (nth, meter.refused()), (nth, refused));
-    refusing.has_refused()
+    }
+}
+
+/// Whether a script meets its nth growth, which is refused: alone, or with all behind it. A call that
+/// is refused is made again.
+fn is_met(rt: &impl Abort, alloc: Global, script: Script, nth: u64, onward: bool) -> bool {
+    let refusing = Refusing::new(alloc, 0);
+    refusing.refuse(nth, onward);
+    let refused = run(rt, &refusing, script);
+    let is_met = refusing.has_refused();
+    same(rt, (nth, refused), (nth, refusals(is_met, onward)));
+    is_met
 }
 
 /// How many growths a script has. Each is refused once alone, and once with all behind it.

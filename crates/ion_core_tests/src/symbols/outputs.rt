@@ -2,15 +2,36 @@
 ghost use Rattle.std.specs.Prelude.{◌≤◌};
 ghost use Rattle.ion_symbols.specs.Output.{texts_cost};
 
+use super::growths::give;
+use crate::meter::counts_of;
 use crate::same::same;
 use ion_meter::buf::{Added, Buf};
 use ion_meter::limits::Limits;
 use ion_meter::meter::Meter;
 use ion_symbols::output::OutSymbols;
 use ion_symbols::search::place_of;
-use std::alloc::Global;
+use std::alloc::{Allocator, Global};
 use std::process::Abort;
 use std::test::Fail;
+
+/// Asserts which texts there are from an id on.
+pub fn expect_since<A: Allocator + Copy>(
+    rt: &impl Abort,
+    texts: &OutSymbols<A>,
+    id: u32,
+    wanted: &[&str],
+) {
+    let since = texts.new_since(id);
+    let found = (since.len(), since.is_empty());
+    same(rt, found, (wanted.len(), wanted.is_empty()));
+    let mut place = 0;
+    for text in wanted {
+        same(rt, (id, since.get(place)), (id, Some(text.as_bytes())));
+        assert!(rt; place < 1_000);
+        place += 1;
+    }
+    same(rt, since.get(place), None);
+}
 
 /// Texts, and the meter of what they hold.
 #[derive(Drop)]
@@ -62,26 +83,49 @@ enum Step<'a> {
     Clear,
 }
 
-impl Texting {
-    // Asserts the id of a text.
-    fn expect_id(&mut self, rt: &impl Abort, text: &str, id: Option<u32>)
-        requires held { texts_cost self.old.texts.texts ≤ self.old.meter.held }
-        ensures held { texts_cost self.new.texts.texts ≤ self.new.meter.held }
-    {
-        assert!(rt; self.meter.held() < 1 << 32);
-        assert!(rt; self.meter.refused() < 1 << 32);
-        let given = self.texts.id_of(&mut self.meter, text.as_bytes());
-        same(rt, (text, given), (text, Ok(id)));
-    }
+// Makes room for so many octets, of which none stands there then.
+fn make_room(rt: &impl Abort, meter: &mut Meter<Global>, octets: &mut Buf<Global>, room: usize) {
+    counts_of(rt, meter);
+    assert!(rt; room < 1_000);
+    same(rt, octets.extend_zeros(meter, room), Ok(()));
+    assert!(rt; octets.as_slice().len() as u64 <= meter.held());
+    octets.clear(meter);
+}
 
-    // Asserts the id of a text, which is found without a search where it has one.
-    fn expect_given(&mut self, rt: &impl Abort, text: &str, id: Option<u32>)
+// Asserts whether a text without an id is given the next one, and three octets are put with it.
+fn expect_both(
+    rt: &impl Abort,
+    texting: &mut Texting,
+    octets: &mut Buf<Global>,
+    text: &str,
+    is_given: bool,
+) {
+    assert!(rt; texting.meter.held() < 1 << 33);
+    let bytes = text.as_bytes();
+    let id = texting.texts.next_id();
+    same(rt, (text, texting.texts.known(bytes)), (text, None));
+    let added = Added {
+        bytes,
+        front: b"ab",
+        rest: b"c",
+    };
+    let given = texting.texts.give_next(octets, &mut texting.meter, added);
+    same(rt, (text, given), (text, is_given));
+    let put = if given {
+        (Some(id), b"abc".as_slice())
+    } else {
+        (None, b"".as_slice())
+    };
+    same(rt, (texting.texts.known(bytes), octets.as_slice()), put);
+}
+
+impl Texting {
+    // Asserts the id of a text, which is found by halving where texts are put in order.
+    fn expect_id(&mut self, rt: &impl Abort, text: &str, id: Option<u32>, in_order: bool)
         requires held { texts_cost self.old.texts.texts ≤ self.old.meter.held }
         ensures held { texts_cost self.new.texts.texts ≤ self.new.meter.held }
     {
-        assert!(rt; self.meter.held() < 1 << 32);
-        assert!(rt; self.meter.refused() < 1 << 32);
-        let given = self.texts.give_id(&mut self.meter, text.as_bytes());
+        let given = give(rt, &mut self.meter, &mut self.texts, text, in_order);
         same(rt, (text, given), (text, Ok(id)));
     }
 
@@ -91,50 +135,12 @@ impl Texting {
         requires held { texts_cost self.old.texts.texts ≤ self.old.meter.held }
         ensures held { texts_cost self.new.texts.texts ≤ self.new.meter.held }
     {
-        assert!(rt; room < 1_000 && self.meter.held() < 1 << 32);
-        assert!(rt; self.meter.refused() < 1 << 32);
         let mut octets = Buf::new(&self.meter);
-        let Ok(()) = octets.extend_zeros(&mut self.meter, room) else {
-            panic!(rt; "no memory")
-        };
-        octets.clear(&mut self.meter);
-        let bytes = text.as_bytes();
-        let None = self.texts.known(bytes) else {
-            panic!(rt; "it has an id")
-        };
-        let id = self.texts.next_id();
-        assert!(rt; self.meter.held() < 1 << 33);
-        let added = Added {
-            bytes,
-            front: b"ab",
-            rest: b"c",
-        };
-        let given = self.texts.give_next(&mut octets, &mut self.meter, added);
-        same(rt, (text, given), (text, is_given));
-        if given {
-            same(rt, self.texts.known(bytes), Some(id));
-            same(rt, octets.as_slice(), b"abc".as_slice());
-        } else {
-            same(rt, self.texts.known(bytes), None);
-            same(rt, octets.as_slice(), b"".as_slice());
-        }
+        make_room(rt, &mut self.meter, &mut octets, room);
+        expect_both(rt, self, &mut octets, text, is_given);
         assert!(rt; octets.as_slice().len() as u64 <= self.meter.held());
         octets.release(&mut self.meter);
         assert!(rt; self.texts.cost() <= self.meter.held());
-    }
-
-    // Asserts which texts there are from an id on.
-    fn expect_since(&self, rt: &impl Abort, id: u32, texts: &[&str]) {
-        let since = self.texts.new_since(id);
-        same(rt, (id, since.len()), (id, texts.len()));
-        same(rt, since.is_empty(), texts.is_empty());
-        let mut place = 0;
-        for text in texts {
-            same(rt, (id, since.get(place)), (id, Some(text.as_bytes())));
-            assert!(rt; place < 1_000);
-            place += 1;
-        }
-        same(rt, since.get(place), None);
     }
 
     // Asserts where a text stands in order of bytes, or where it belongs.
@@ -156,24 +162,41 @@ impl Texting {
         ensures held { texts_cost self.new.texts.texts ≤ self.new.meter.held }
     {
         match step {
-            Step::Id(text, id) => self.expect_id(rt, text, id),
-            Step::Give(text, id) => self.expect_given(rt, text, id),
+            Step::Id(text, id) => self.expect_id(rt, text, id, true),
+            Step::Give(text, id) => self.expect_id(rt, text, id, false),
             Step::Next(text, room, is_given) => self.expect_next(rt, text, room, is_given),
+            Step::Place(text, place) => self.expect_place(rt, text, place),
+            Step::Clear => self.texts.clear(&mut self.meter),
+            _ => self.expect_seen(rt, step),
+        }
+    }
+
+    // Asserts what is answered where nothing is changed.
+    fn expect_seen(&self, rt: &impl Abort, step: Step) {
+        match step {
             Step::Known(text, id) => {
                 same(rt, (text, self.texts.known(text.as_bytes())), (text, id));
             }
-            Step::Since(id, texts) => self.expect_since(rt, id, texts),
-            Step::Place(text, place) => self.expect_place(rt, text, place),
+            Step::Since(id, texts) => expect_since(rt, &self.texts, id, texts),
             Step::Cost(cost) => {
-                same(rt, self.texts.cost(), cost);
-                same(rt, self.meter.held(), cost);
+                same(rt, (self.texts.cost(), self.meter.held()), (cost, cost));
             }
             Step::Peak(peak) => same(rt, self.meter.peak(), peak),
             Step::Probes(least, most) => {
                 let probes = self.texts.last_probes();
                 assert!(rt; least <= probes && probes <= most);
             }
-            Step::Clear => self.texts.clear(&mut self.meter),
+            _ => panic!(rt; "a call that changes the texts"),
+        }
+    }
+
+    // Asserts what each call answers.
+    fn expect_each(&mut self, rt: &impl Abort, steps: &[Step])
+        requires held { texts_cost self.old.texts.texts ≤ self.old.meter.held }
+        ensures held { texts_cost self.new.texts.texts ≤ self.new.meter.held }
+    {
+        for step in steps {
+            self.expect(rt, *step);
         }
     }
 
@@ -198,7 +221,7 @@ impl Texting {
             (number, self.texts.known(text.as_bytes())),
             (number, known),
         );
-        self.expect_given(rt, text.as_str(), Some(given));
+        self.expect_id(rt, text.as_str(), Some(given), false);
     }
 
     // Asserts the ids of many texts of one hash, which they have, or are given now.
@@ -232,9 +255,7 @@ const ALIKE: u32 = 3_000;
 /// Asserts what each call answers, on new texts of which the cost may be so much, and gives all back.
 fn follow(rt: &impl Abort, alloc: Global, symbols: u64, steps: &[Step]) {
     let mut texting = start(rt, alloc, symbols);
-    for step in steps {
-        texting.expect(rt, *step);
-    }
+    texting.expect_each(rt, steps);
     texting.finish(rt);
 }
 
@@ -253,11 +274,6 @@ const FROM_10_ON: &[Step] = &[
     Step::Since(u32::MAX, &[]),
     Step::Since(0, &["b", "a", "c"]),
 ];
-
-#[test]
-fn texts_get_ids_from_10_on(rt: HostRuntime) {
-    follow(&rt, rt.alloc(), 1_024, FROM_10_ON);
-}
 
 const CLEARED: &[Step] = &[
     Step::Id("b", Some(10)),
@@ -280,12 +296,6 @@ const CLEARED_AT_THE_LIMIT: &[Step] = &[
     Step::Id("b", Some(10)),
 ];
 
-#[test]
-fn cleared_texts_begin_at_10_again_and_cost_nothing(rt: HostRuntime) {
-    follow(&rt, rt.alloc(), 1_024, CLEARED);
-    follow(&rt, rt.alloc(), 17, CLEARED_AT_THE_LIMIT);
-}
-
 const SYSTEM: &[Step] = &[
     Step::Id("b", Some(10)),
     Step::Id("a", Some(11)),
@@ -307,11 +317,6 @@ const SYSTEM: &[Step] = &[
     Step::Since(10, &["b", "a", "$ion_1", "", "$ion_"]),
     Step::Cost(5 * 16 + 1 + 1 + 6 + 5),
 ];
-
-#[test]
-fn system_texts_have_ids_without_probes(rt: HostRuntime) {
-    follow(&rt, rt.alloc(), 1_024, SYSTEM);
-}
 
 const KNOWN: &[Step] = &[
     Step::Known("b", None),
@@ -354,12 +359,6 @@ const OF_ONE_HASH: &[Step] = &[
     Step::Known("aaaaaaaaaaaaaaaa10bbbbbbbbbbbbbbbb", None),
 ];
 
-#[test]
-fn a_text_that_has_an_id_is_known(rt: HostRuntime) {
-    follow(&rt, rt.alloc(), 1_024, KNOWN);
-    follow(&rt, rt.alloc(), 1_024, OF_ONE_HASH);
-}
-
 const BEHIND_THEM: &[Step] = &[
     Step::Known("aaaaaaaaaaaaaaaa4000bbbbbbbbbbbbbbbb", None),
     Step::Known("aaaaaaaaaaaaaaaa0999bbbbbbbbbbbbbbbb", None),
@@ -375,9 +374,7 @@ fn texts_of_one_hash_have_their_ids(rt: HostRuntime) {
     for known in [false, true] {
         texting.expect_alike(&rt, rt.alloc(), known);
     }
-    for step in BEHIND_THEM {
-        texting.expect(&rt, *step);
-    }
+    texting.expect_each(&rt, BEHIND_THEM);
     texting.finish(&rt);
 }
 
@@ -412,9 +409,7 @@ fn too_many_texts_of_one_hash_are_put_in_order(rt: HostRuntime) {
     for number in 0..32_u32 {
         texting.expect_of_one_hash(&rt, rt.alloc(), number + 1_000, None, number + 10);
     }
-    for step in BEHIND_THE_LAST_LINK {
-        texting.expect(&rt, *step);
-    }
+    texting.expect_each(&rt, BEHIND_THE_LAST_LINK);
     texting.finish(&rt);
 }
 
@@ -452,12 +447,6 @@ const NEXT_PAST_THE_LIMIT: &[Step] = &[
     Step::Cost(35),
 ];
 
-#[test]
-fn a_new_text_gets_the_next_id_at_once(rt: HostRuntime) {
-    follow(&rt, rt.alloc(), 1_024, NEXT);
-    follow(&rt, rt.alloc(), 35, NEXT_PAST_THE_LIMIT);
-}
-
 const PAST_THE_LIMIT: &[Step] = &[
     Step::Id("ab", None),
     Step::Id("a", Some(10)),
@@ -469,11 +458,6 @@ const PAST_THE_LIMIT: &[Step] = &[
     Step::Cost(17),
     Step::Peak(17),
 ];
-
-#[test]
-fn a_text_past_the_limit_gets_no_id(rt: HostRuntime) {
-    follow(&rt, rt.alloc(), 17, PAST_THE_LIMIT);
-}
 
 const IN_ORDER: &[Step] = &[
     Step::Place(b"a", Err(0)),
@@ -500,11 +484,6 @@ const IN_ORDER: &[Step] = &[
     Step::Place(b"\xFF", Err(6)),
 ];
 
-#[test]
-fn texts_stand_in_order_of_bytes(rt: HostRuntime) {
-    follow(&rt, rt.alloc(), 1_024, IN_ORDER);
-}
-
 const FEW_PROBES: &[Step] = &[
     Step::Probes(0, 12),
     Step::Id("text 0", Some(10)),
@@ -527,12 +506,38 @@ fn a_place_is_found_with_few_probes(rt: HostRuntime) -> Result<(), Fail> {
         // An odd factor, so that each text comes once, in no order.
         let name = number * 1_103 % 4_096;
         let text = format!(in rt.alloc(); "text {name}")?;
-        texting.expect_id(&rt, text.as_str(), Some(number + 10));
+        texting.expect_id(&rt, text.as_str(), Some(number + 10), true);
     }
     same(&rt, texting.texts.new_since(10).len(), 4_096);
-    for step in FEW_PROBES {
-        texting.expect(&rt, *step);
-    }
+    texting.expect_each(&rt, FEW_PROBES);
     texting.finish(&rt);
     Ok(())
+}
+
+/// What the texts may cost, and calls.
+const RUNS: &[(u64, &[Step])] = &[
+    // Texts get ids from 10 on.
+    (1_024, FROM_10_ON),
+    // System texts have ids without probes.
+    (1_024, SYSTEM),
+    // Cleared texts begin at 10 again, and cost nothing.
+    (1_024, CLEARED),
+    (17, CLEARED_AT_THE_LIMIT),
+    // A text past the limit gets no id.
+    (17, PAST_THE_LIMIT),
+    // Texts stand in order of bytes.
+    (1_024, IN_ORDER),
+    // A text that has an id is known.
+    (1_024, KNOWN),
+    (1_024, OF_ONE_HASH),
+    // A new text gets the next id at once.
+    (1_024, NEXT),
+    (35, NEXT_PAST_THE_LIMIT),
+];
+
+#[test]
+fn texts_have_ids(rt: HostRuntime) {
+    for (symbols, steps) in RUNS {
+        follow(&rt, rt.alloc(), *symbols, steps);
+    }
 }

@@ -2,10 +2,12 @@
 ghost use Rattle.std.specs.Prelude.{◌≤◌};
 ghost use Rattle.ion_symbols.specs.Table.{shared_cost};
 
+use crate::meter::counts_of;
 use crate::same::same;
+use ion_meter::fault::Fault;
 use ion_meter::meter::Meter;
 use ion_symbols::shared::SharedTable;
-use std::alloc::Global;
+use std::alloc::{Allocator, Global};
 use std::process::Abort;
 
 /// A call that changes a table.
@@ -16,34 +18,50 @@ enum Change<'a> {
     Version(u32),
 }
 
-// Makes the call.
+// Pushes a slot.
 #[tactic(auto, using(ion_symbols::proofs::Keeping::cost_push))]
+pub fn push<A: Allocator + Copy>(
+    rt: &impl Abort,
+    meter: &mut Meter<A>,
+    table: &mut SharedTable<A>,
+    slot: Option<&str>,
+) -> Result<(), Fault>
+    requires held { shared_cost table.old ≤ meter.old.held }
+    ensures held { shared_cost table.new ≤ meter.new.held }
+{
+    counts_of(rt, meter);
+    if let Some(text) = slot {
+        assert!(rt; text.len() < 100);
+    }
+    table.push(meter, slot)
+}
+
+// Makes the call.
 fn make(rt: &impl Abort, meter: &mut Meter<Global>, table: &mut SharedTable<Global>, call: Change)
     requires held { shared_cost table.old ≤ meter.old.held }
     ensures held { shared_cost table.new ≤ meter.new.held }
 {
-    assert!(rt; meter.held() < 1 << 32);
-    assert!(rt; meter.refused() < 1 << 32);
     match call {
-        Change::Push(text) => {
-            if let Some(text) = text {
-                assert!(rt; text.len() < 100);
-            }
-            let pushed = table.push(meter, text);
-            assert!(rt; pushed.is_ok());
-        }
+        Change::Push(text) => same(rt, push(rt, meter, table, text), Ok(())),
         Change::Rename(name) => {
+            counts_of(rt, meter);
             assert!(rt; name.len() < 100);
-            let renamed = table.set_name(meter, name);
-            assert!(rt; renamed.is_ok());
+            same(rt, table.set_name(meter, name), Ok(()));
         }
         Change::Version(version) => table.set_version(version),
     }
 }
 
-// Asserts the text of each slot, none where there is none.
-pub fn expect_slots(rt: &impl Abort, table: &SharedTable<Global>, slots: &[Option<&str>]) {
-    same(rt, table.len(), slots.len());
+// Asserts the name and the version of a table, and the text of each slot, none where there is none.
+pub fn expect_table<A: Allocator + Copy>(
+    rt: &impl Abort,
+    table: &SharedTable<A>,
+    name: &str,
+    version: u32,
+    slots: &[Option<&str>],
+) {
+    same(rt, table.name(), name.as_bytes());
+    same(rt, (table.version(), table.len()), (version, slots.len()));
     same(rt, table.is_empty(), slots.is_empty());
     let mut place = 0;
     for slot in slots {
@@ -56,6 +74,23 @@ pub fn expect_slots(rt: &impl Abort, table: &SharedTable<Global>, slots: &[Optio
         place += 1;
     }
     same(rt, table.get(place), None);
+}
+
+/// Changes a table, and asserts its name, its version and what is held after each call.
+fn make_all(
+    rt: &impl Abort,
+    meter: &mut Meter<Global>,
+    table: &mut SharedTable<Global>,
+    calls: &[(Change, &str, u32, u64)],
+)
+    requires held { shared_cost table.old ≤ meter.old.held }
+    ensures held { shared_cost table.new ≤ meter.new.held }
+{
+    for (call, name, version, held) in calls {
+        make(rt, meter, table, *call);
+        let found = (table.name(), table.version(), meter.held());
+        same(rt, found, (name.as_bytes(), *version, *held));
+    }
 }
 
 /// Changes a table of the name x and version 1, and asserts its name, its version and what is held after each call. In the end
@@ -71,19 +106,12 @@ fn follow(
     let Ok(mut table) = SharedTable::new(&mut meter, "x", 1) else {
         panic!(rt; "no memory")
     };
-    assert!(rt; table.is_empty());
-    same(rt, table.version(), 1);
+    expect_table(rt, &table, "x", 1, &[]);
     same(rt, meter.held(), 1);
-    for (call, name, version, held) in calls {
-        make(rt, &mut meter, &mut table, *call);
-        same(rt, table.name(), name.as_bytes());
-        same(rt, table.version(), *version);
-        same(rt, meter.held(), *held);
-    }
-    expect_slots(rt, &table, slots);
+    make_all(rt, &mut meter, &mut table, calls);
+    expect_table(rt, &table, "x", 1, slots);
     table.release(&mut meter);
-    same(rt, meter.held(), 0);
-    same(rt, meter.peak(), peak);
+    same(rt, (meter.held(), meter.peak()), (0, peak));
 }
 
 const COSTS: &[(Change, &str, u32, u64)] = &[
@@ -93,20 +121,11 @@ const COSTS: &[(Change, &str, u32, u64)] = &[
     (Change::Rename("x"), "x", 1, 34),
 ];
 
-#[test]
-fn a_table_costs_its_name_and_16_a_slot(rt: HostRuntime) {
-    follow(&rt, rt.alloc(), COSTS, &[Some("p"), None], 36);
-}
-
+// A version costs nothing.
 const VERSIONS: &[(Change, &str, u32, u64)] = &[
     (Change::Version(2), "x", 2, 1),
     (Change::Version(1), "x", 1, 1),
 ];
-
-#[test]
-fn a_version_costs_nothing(rt: HostRuntime) {
-    follow(&rt, rt.alloc(), VERSIONS, &[], 1);
-}
 
 const SLOTS: &[(Change, &str, u32, u64)] = &[
     (Change::Push(Some("p")), "x", 1, 1 + 16 + 1),
@@ -115,13 +134,11 @@ const SLOTS: &[(Change, &str, u32, u64)] = &[
     (Change::Push(Some("two")), "x", 1, 1 + 4 * 16 + 4),
 ];
 
+const SLOTS_BY_PLACE: &[Option<&str>] = &[Some("p"), None, Some(""), Some("two")];
+
 #[test]
-fn slots_are_given_by_place(rt: HostRuntime) {
-    follow(
-        &rt,
-        rt.alloc(),
-        SLOTS,
-        &[Some("p"), None, Some(""), Some("two")],
-        69,
-    );
+fn a_table_costs_its_name_and_16_a_slot(rt: HostRuntime) {
+    follow(&rt, rt.alloc(), COSTS, &[Some("p"), None], 36);
+    follow(&rt, rt.alloc(), VERSIONS, &[], 1);
+    follow(&rt, rt.alloc(), SLOTS, SLOTS_BY_PLACE, 69);
 }

@@ -8,59 +8,69 @@ use ion_value::names::Names;
 use std::alloc::Global;
 use std::process::Abort;
 
-const TEXTS: [&[u8]; 9] = [
-    b"$ion",
-    b"$ion_1_0",
-    b"$ion_symbol_table",
-    b"name",
-    b"version",
-    b"imports",
-    b"symbols",
-    b"max_id",
-    b"$ion_shared_symbol_table",
+/// Ids, what each is, its text, and its text where that is simple: it does not begin with a dollar sign.
+const IDS: &[(u32, Slot<'_>, Option<&[u8]>, Option<&[u8]>)] = &[
+    (0, Slot::Unknown, None, None),
+    (1, Slot::Known(b"$ion"), Some(b"$ion"), None),
+    (2, Slot::Known(b"$ion_1_0"), Some(b"$ion_1_0"), None),
+    (
+        3,
+        Slot::Known(b"$ion_symbol_table"),
+        Some(b"$ion_symbol_table"),
+        None,
+    ),
+    (4, Slot::Known(b"name"), Some(b"name"), Some(b"name")),
+    (
+        5,
+        Slot::Known(b"version"),
+        Some(b"version"),
+        Some(b"version"),
+    ),
+    (
+        6,
+        Slot::Known(b"imports"),
+        Some(b"imports"),
+        Some(b"imports"),
+    ),
+    (
+        7,
+        Slot::Known(b"symbols"),
+        Some(b"symbols"),
+        Some(b"symbols"),
+    ),
+    (8, Slot::Known(b"max_id"), Some(b"max_id"), Some(b"max_id")),
+    (
+        9,
+        Slot::Known(b"$ion_shared_symbol_table"),
+        Some(b"$ion_shared_symbol_table"),
+        None,
+    ),
+    (10, Slot::Above, None, None),
+    (11, Slot::Above, None, None),
+    (2_147_483_648, Slot::Above, None, None),
+    (u32::MAX, Slot::Above, None, None),
 ];
 
-// Asserts the texts of the ids from 1 on.
-fn expect_texts(rt: &impl Abort, symbols: &Symbols<Global>) {
-    let mut id = 1;
-    for text in TEXTS {
-        same(rt, (id, symbols.text(id)), (id, Slot::Known(text)));
-        same(rt, (id, symbols.text_of(id)), (id, Some(text)));
-        // Those that do not begin with a dollar sign are simple.
-        let simple = if id < 4 || id == 9 { None } else { Some(text) };
-        same(rt, (id, symbols.simple_text(id)), (id, simple));
-        assert!(rt; id < 10);
-        id += 1;
+// Asserts what the ids are.
+fn expect_ids(rt: &impl Abort, symbols: &Symbols<Global>) {
+    for row in IDS {
+        let id = row.0;
+        let found = (
+            id,
+            symbols.text(id),
+            symbols.text_of(id),
+            symbols.simple_text(id),
+        );
+        same(rt, found, *row);
     }
-    same(rt, id, 10);
-}
-
-// Asserts that 0 is unknown, and that the ids from 10 on are above.
-fn expect_no_texts(rt: &impl Abort, symbols: &Symbols<Global>) {
-    same(rt, symbols.text(0), Slot::Unknown);
-    for id in [10, 11, 2_147_483_648, u32::MAX] {
-        same(rt, (id, symbols.text(id)), (id, Slot::Above));
-        same(rt, (id, symbols.text_of(id)), (id, None));
-        same(rt, (id, symbols.simple_text(id)), (id, None));
-    }
-    same(rt, symbols.text_of(0), None);
 }
 
 #[test]
-fn ids_1_to_9_have_texts(rt: HostRuntime) {
+fn ids_1_to_9_have_texts_and_no_others(rt: HostRuntime) {
     let mut meter = Meter::new(rt.alloc());
     let catalog = Catalog::new(&meter);
     let symbols = Symbols::new(&meter, &catalog);
-    expect_texts(&rt, &symbols);
+    expect_ids(&rt, &symbols);
     symbols.release(&mut meter);
-    same(&rt, meter.held(), 0);
-}
-
-#[test]
-fn id_0_is_unknown_and_10_above(rt: HostRuntime) {
-    let meter = Meter::new(rt.alloc());
-    let catalog = Catalog::new(&meter);
-    let symbols = Symbols::new(&meter, &catalog);
-    expect_no_texts(&rt, &symbols);
     same(&rt, meter.held(), 0);
 }

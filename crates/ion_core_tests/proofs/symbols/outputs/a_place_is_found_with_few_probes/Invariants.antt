@@ -4,6 +4,3 @@ use Rattle.ion_core_tests.proofs.symbols.outputs.a_place_is_found_with_few_probe
 
 abbrev pub invariant-loop-number : goal.invariant-loop-number
 invariant-loop-number g l = texts_cost l.texting.texts.texts ≤ l.texting.meter.held
-
-abbrev pub invariant-loop-step : goal.invariant-loop-step
-invariant-loop-step g l = texts_cost l.texting.texts.texts ≤ l.texting.meter.held

@@ -4,6 +4,3 @@ use Rattle.ion_core_tests.proofs.symbols.outputs.texts_of_one_hash_have_their_id
 
 abbrev pub invariant-loop-known : goal.invariant-loop-known
 invariant-loop-known g l = texts_cost l.texting.texts.texts ≤ l.texting.meter.held
-
-abbrev pub invariant-loop-step : goal.invariant-loop-step
-invariant-loop-step g l = texts_cost l.texting.texts.texts ≤ l.texting.meter.held

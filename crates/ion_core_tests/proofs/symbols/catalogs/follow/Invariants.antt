@@ -1,6 +1,0 @@
-use Rattle.std.proofs.Common.{◌≤◌}
-use Rattle.ion_symbols.specs.Table.{catalog_cost}
-use Rattle.ion_core_tests.proofs.symbols.catalogs.follow.Given as goal
-
-abbrev pub invariant-loop-step : goal.invariant-loop-step
-invariant-loop-step g l = catalog_cost l.shelf.catalog ≤ l.shelf.meter.held

@@ -1,6 +1,0 @@
-use Rattle.std.proofs.Common.{◌≤◌}
-use Rattle.ion_symbols.specs.Output.{texts_cost}
-use Rattle.ion_core_tests.proofs.symbols.outputs.follow.Given as goal
-
-abbrev pub invariant-loop-step : goal.invariant-loop-step
-invariant-loop-step g l = texts_cost l.texting.texts.texts ≤ l.texting.meter.held

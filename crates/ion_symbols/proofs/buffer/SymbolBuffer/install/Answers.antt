@@ -25,3 +25,12 @@ returns-then-not-keeps-clause-cheap g c = grind (arith, common_steps)
 
 pub returns-then-not-keeps-clause-charges : goal.returns-then-not-keeps-clause-charges
 returns-then-not-keeps-clause-charges g c = grind (arith, common_steps)
+
+pub replace-requires-clause-kept : goal.replace-requires-clause-kept
+replace-requires-clause-kept g c = grind (arith, common_steps)
+
+pub append-outcome-requires-clause-few : goal.append-outcome-requires-clause-few
+append-outcome-requires-clause-few g c = grind (arith, common_steps)
+
+pub returns-clause-table : goal.returns-clause-table
+returns-clause-table g c = grind (arith, common_steps)

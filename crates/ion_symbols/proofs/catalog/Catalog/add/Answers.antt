@@ -1,4 +1,5 @@
-use Rattle.std.proofs.Common.{◌≡◌, ◌++◌, ◌∷◌, [], true, length, Some, ap, ap₂, sym, ◌∙◌}
+use Rattle.std.proofs.Common.{◌≡◌, ◌++◌, ◌∷◌, [], true, length, Some, ap, ap₂, sym, ◌∙◌, arith}
+use Rattle.std.proofs.lemmas.Grind.{common_steps}
 use Rattle.ion_symbols.specs.Table.{find, may_stand}
 use Rattle.ion_symbols.specs.Ranks.{key, key_of}
 use Rattle.ion_symbols.proofs.Ranking.{orders_lent, found_lent, rank_points, not_there, added_order, texts_added, belongs_lent, refused_table, rank_upto, same_ranked}
@@ -40,3 +41,9 @@ rank_of-requires g c =
 pub invariant_of-self : goal.invariant_of-self
 invariant_of-self g c =
     same_ranked c.self.inside.tables c.push_and_insert.new.self c.self.inside.order c.push_and_insert.new.others c.self.invariant c.in-Err-push_and_insert.ensures.err.0 c.in-Err-push_and_insert.ensures.err.1
+
+pub push_and_insert-requires-clause-countable : goal.push_and_insert-requires-clause-countable
+push_and_insert-requires-clause-countable g c = grind (arith, common_steps)
+
+pub returns-in-Err-push_and_insert-clause-is_text : goal.returns-in-Err-push_and_insert-clause-is_text
+returns-in-Err-push_and_insert-clause-is_text g c = grind (arith, common_steps)

@@ -51,3 +51,6 @@ truncate-requires g c = grind (arith, common_steps)
 
 pub returns-in-Err-clause-memory : goal.returns-in-Err-clause-memory
 returns-in-Err-clause-memory g c = grind (arith, common_steps)
+
+pub overflow_cast-number : goal.overflow_cast-number
+overflow_cast-number g c = grind (arith, common_steps)

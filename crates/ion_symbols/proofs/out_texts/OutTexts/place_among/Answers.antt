@@ -39,3 +39,6 @@ returns g c =
 
 pub slice_bounds-new-end-2 : goal.slice_bounds-new-end-2
 slice_bounds-new-end-2 g c = grind (arith, common_steps)
+
+pub slice_bounds-new-end : goal.slice_bounds-new-end
+slice_bounds-new-end g c = grind (arith, common_steps)

@@ -77,3 +77,9 @@ invariant_of-self-in-Err g c = grind (arith, common_steps)
 
 pub returns-in-Err-clause-err : goal.returns-in-Err-clause-err
 returns-in-Err-clause-err g c = grind (arith, common_steps)
+
+pub push_moved-requires-clause-fits : goal.push_moved-requires-clause-fits
+push_moved-requires-clause-fits g c = grind (arith, common_steps)
+
+pub invariant_of-self : goal.invariant_of-self
+invariant_of-self g c = grind (arith, common_steps)

@@ -37,3 +37,6 @@ invariant_of-self-in-Err-extend g c = grind (arith, common_steps)
 
 pub returns-in-Err-extend-clause-err : goal.returns-in-Err-extend-clause-err
 returns-in-Err-extend-clause-err g c = grind (arith, common_steps)
+
+pub invariant_of-self : goal.invariant_of-self
+invariant_of-self g c = grind (arith, common_steps)

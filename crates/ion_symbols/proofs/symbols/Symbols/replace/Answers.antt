@@ -10,3 +10,6 @@ returns-clause-cost g c = grind (arith, common_steps)
 
 pub release-requires : goal.release-requires
 release-requires g c = grind (arith, common_steps)
+
+pub invariant_of-self : goal.invariant_of-self
+invariant_of-self g c = grind (arith, common_steps)

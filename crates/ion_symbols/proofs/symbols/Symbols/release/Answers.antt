@@ -9,4 +9,4 @@ pub release-requires-2 : goal.release-requires-2
 release-requires-2 g c = grind (arith, common_steps)
 
 pub returns : goal.returns
-returns g c = grind (arith, common_steps)
+returns g c = grind (arith, common_steps) steps 400000

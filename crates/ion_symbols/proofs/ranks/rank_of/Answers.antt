@@ -1,6 +1,5 @@
-use Rattle.std.proofs.lemmas.Grind.{common_steps}
 use Rattle.std.proofs.Common.{◌+◌, ◌-◌, ◌/◌, ◌<◌, ◌≡◌, length, arith}
-use Rattle.std.proofs.lemmas.List.{length-map}
+use Rattle.std.proofs.lemmas.List.{length-drop, length-map}
 use Rattle.ion_symbols.specs.Ranks.{key_of}
 use Rattle.ion_symbols.proofs.Ranking.{ranked_less, ranked_greater, ranked_equal, place_in}
 use Rattle.ion_symbols.proofs.ranks.rank_of.Goals as goal
@@ -46,7 +45,12 @@ returns-clause-belongs g c =
     }
 
 pub loop-low-init : goal.loop-low-init
-loop-low-init g c = grind (arith, common_steps)
+loop-low-init g c = record {
+  below = omega arith;
+  within = omega arith;
+  before = λ k d l. absurd (omega (arith, l));
+  behind = λ k d l. let m = simp (length-drop, length-map) at l in absurd (omega (arith, m));
+}
 
 pub bounds-tables-order : goal.bounds-tables-order
 bounds-tables-order g c =

@@ -8,6 +8,16 @@ use Rattle.ion_symbols.specs.declared.user.StepResult.TheVariants as step
 pub no_fault : (f : Fault) → ◌≡◌ {A = Option Fault} None (Some f) → ⊥
 no_fault f e = cc
 
+-- nothing is not something
+pub none-not-some : {T : Type 0} (x : T) → ◌≡◌ {A = Option T} None (Some x) → ⊥
+none-not-some x e = cc
+
+pub some-not-none : {T : Type 0} (x : T) → ◌≡◌ {A = Option T} (Some x) None → ⊥
+some-not-none x e = cc
+
+pub no_id : {T : Type 0} (x : T) → ◌≡◌ {A = Result (Option T) Fault} (Ok None) (Ok (Some x)) → ⊥
+no_id x e = cc
+
 -- what was answered is no fault
 pub ok-not-err : {T : Type 0} (x : T) (f : Fault) → ◌≡◌ {A = Result T Fault} (Ok x) (Err f) → ⊥
 ok-not-err x f e = cc

@@ -141,6 +141,14 @@ no_rank_points tables order name version rank h b =
 pub place_in : (tables : List Shared) (order : List ℕ) (rank : ℕ) → Orders (keys tables) order → rank < length order → get_or order rank 0 < length tables
 place_in tables order rank h l = simp length-map at (h.each rank 0 l)
 
+-- what was found stands in the order
+pub rank_there : (tables : List Shared) (order : List ℕ) (k : List ℕ) (rank : ℕ) → slice_get (in_order (keys tables) order) rank ≡ Some k → rank < length order
+rank_there tables order k rank e = simp length-map at (slice_get_within (in_order (keys tables) order) rank k e)
+
+-- where a key belongs is no further than the order's end
+pub rank_upto : (tables : List Shared) (order order2 : List ℕ) (k : List ℕ) (rank : ℕ) → order2 ≡ order → Belongs (in_order (keys tables) order2) k rank → rank ≤ length order
+rank_upto tables order order2 k rank e b = let n : rank ≤ length order2 = simp length-map at b.within in omega (arith, n, ap length e)
+
 -- the key at a rank is that table's
 key_at : (tables : List Shared) (order : List ℕ) (rank : ℕ) (d : Shared) → Orders (keys tables) order → rank < length order → get_or (in_order (keys tables) order) rank [] ≡ key (get_or tables (get_or order rank 0) d)
 key_at tables order rank d h l =
@@ -423,6 +431,10 @@ refused_table catalog s old new why e m r = subst (WhyNotAdded catalog s old new
 -- where the key of a table belongs
 pub belongs_lent : (tables tables2 : List Shared) (order order2 : List ℕ) (k k2 : List ℕ) (rank : ℕ) → tables2 ≡ tables → order2 ≡ order → k2 ≡ k → Belongs (in_order (keys tables2) order2) k2 rank → Belongs (in_order (keys tables) order) k rank
 belongs_lent tables tables2 order order2 k k2 rank a b e h = rw (← a, ← b, ← e) h
+
+-- tables and order that stay are still ranked
+pub same_ranked : (tables tables2 : Entries Shared) (order order2 : Entries ℕ) → IsRanked tables.items order.items tables.cost order.cost → tables2 ≡ tables → order2 ≡ order → IsRanked tables2.items order2.items tables2.cost order2.cost
+same_ranked tables tables2 order order2 h a b = rw (a, b) h
 
 -- the order with a table more
 pub added_order : (tables tables2 : Entries Shared) (order order2 : Entries ℕ) (s : Shared) (rank place : ℕ) → IsRanked tables.items order.items tables.cost order.cost → Belongs (in_order (keys tables.items) order.items) (key s) rank → may_stand tables.items s ≡ true

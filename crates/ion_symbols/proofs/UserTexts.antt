@@ -11,6 +11,7 @@ use Rattle.ion_symbols.specs.Table.{Slot, Shared, Table, system, system_slots, s
 use Rattle.ion_symbols.specs.TextsOfUsers.{CatalogHas, SymbolHas, MembersHave, ValueHas, TopHas, UserHas, UserTopHas, IsShort, TextsOfUsersAreShort}
 use Rattle.ion_symbols.specs.Tree.{user_at, declares_table, next_table, user_tops}
 use Rattle.ion_symbols.specs.Users.{is_declaration}
+use Rattle.ion_symbols.proofs.Answering.{some-not-none}
 use Rattle.ion_symbols.proofs.OtherSymbols.{value_symbols-map}
 use Rattle.ion_symbols.proofs.TableTexts.{KnownHas, SlotsHave, TableHas, next_table-has, slot_of-has, system-has}
 use Rattle.ion_symbols.proofs.UserReadings.{user_tree}
@@ -95,7 +96,7 @@ module _ (P : List ℕ → Type 0) (standard : SlotsHave P system_slots) where
 
 system-short : (most : ℕ) → SlotsHave (IsShort most) system_slots
 system-short most =
-    (tt, (λ e. absurd (cc e), (λ e. absurd (cc e), (λ e. absurd (cc e), (λ e. absurd (cc e), (λ e. absurd (cc e), (λ e. absurd (cc e), (λ e. absurd (cc e), (λ e. absurd (cc e), (λ e. absurd (cc e), tt))))))))))
+    (tt, (λ e. absurd (some-not-none 1 e), (λ e. absurd (some-not-none 2 e), (λ e. absurd (some-not-none 3 e), (λ e. absurd (some-not-none 4 e), (λ e. absurd (some-not-none 5 e), (λ e. absurd (some-not-none 6 e), (λ e. absurd (some-not-none 7 e), (λ e. absurd (some-not-none 8 e), (λ e. absurd (some-not-none 9 e), tt))))))))))
 
 pub texts_of_users_are_short : TextsOfUsersAreShort
 texts_of_users_are_short most catalog tops us c h e =

@@ -1,4 +1,5 @@
 use Rattle.std.proofs.Common.{◌<◌, length, ap, subst, ◌∙◌, arith}
+use Rattle.std.proofs.lemmas.Grind.{common_steps}
 use Rattle.ion_value.specs.Items.{raw_annotations, raw_field, symbol_at}
 use Rattle.ion_symbols.specs.Users.{at_checked}
 use Rattle.ion_symbols.specs.User.{CheckedAs}
@@ -31,3 +32,6 @@ pub returns : goal.returns
 returns g c =
     let there = got_plain (raw_annotations c.args.annotations) c.loop-at.i (raw_field c.get.result) c.get.ensures ∙ ap raw_field c.in_default.is in
     annotations_end c.args.symbols.now.table c.args.user (raw_annotations c.args.annotations) c.loop-at.i c.loop-at.invariant.checked there
+
+pub overflow_add-i : goal.overflow_add-i
+overflow_add-i g c = grind (arith, common_steps)

@@ -1,6 +1,7 @@
 use Rattle.std.proofs.Common.{refl, arith}
 use Rattle.ion_symbols.proofs.Adding.{charges_within, given_over, given_push, nothing_charged, share_push}
 use Rattle.ion_symbols.proofs.KeptTexts.{same_share}
+use Rattle.ion_symbols.proofs.Answering.{err-not-ok, no_id}
 use Rattle.ion_symbols.proofs.output.add.Goals as goal
 
 -- ---- where the limit does not allow it
@@ -43,7 +44,7 @@ pub returns-then-is_over-clause-over : goal.returns-then-is_over-clause-over
 returns-then-is_over-clause-over g c over = (refl, refl)
 
 pub returns-then-is_over-clause-grows : goal.returns-then-is_over-clause-grows
-returns-then-is_over-clause-grows g c id e = absurd (cc e)
+returns-then-is_over-clause-grows g c id e = absurd (no_id id e)
 
 pub returns-in-Ok-clause-over : goal.returns-in-Ok-clause-over
 returns-in-Ok-clause-over g c over = let f = c.is_over.ensures.fits c.if-is_over.false in absurd (omega (arith, f, c.cost.ensures, over))
@@ -55,4 +56,4 @@ pub returns-in-Err-clause-over : goal.returns-in-Err-clause-over
 returns-in-Err-clause-over g c over = let f = c.is_over.ensures.fits c.if-is_over.false in absurd (omega (arith, f, c.cost.ensures, over))
 
 pub returns-in-Err-clause-grows : goal.returns-in-Err-clause-grows
-returns-in-Err-clause-grows g c id e = absurd (cc e)
+returns-in-Err-clause-grows g c id e = absurd (err-not-ok _ _ e)

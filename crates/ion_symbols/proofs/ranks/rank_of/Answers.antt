@@ -1,7 +1,7 @@
 use Rattle.std.proofs.Common.{◌+◌, ◌-◌, ◌/◌, ◌<◌, ◌≡◌, length, arith}
-use Rattle.std.proofs.lemmas.List.{length-map}
+use Rattle.std.proofs.lemmas.List.{length-drop, length-map}
 use Rattle.ion_symbols.specs.Ranks.{key_of}
-use Rattle.ion_symbols.proofs.Ranking.{ranked_less, ranked_greater, ranked_equal}
+use Rattle.ion_symbols.proofs.Ranking.{ranked_less, ranked_greater, ranked_equal, place_in}
 use Rattle.ion_symbols.proofs.ranks.rank_of.Goals as goal
 
 pub loop-low-preserved-in-Less : goal.loop-low-preserved-in-Less
@@ -43,3 +43,24 @@ returns-clause-belongs g c =
       before = h.before;
       behind = rw (← same) h.behind;
     }
+
+pub loop-low-init : goal.loop-low-init
+loop-low-init g c = record {
+  below = omega arith;
+  within = omega arith;
+  before = λ k d l. absurd (omega (arith, l));
+  behind = λ k d l. let m = simp (length-drop, length-map) at l in absurd (omega (arith, m));
+}
+
+pub bounds-tables-order : goal.bounds-tables-order
+bounds-tables-order g c =
+    let middle = c.loop-low.low + (c.loop-low.high - c.loop-low.low) / 2 in
+    let l : middle < length c.args.order.now = omega (arith, c.loop-low-test.true, c.loop-low.invariant.within) in
+    place_in c.args.tables.now c.args.order.now middle c.requires l
+
+pub offset_bounds-tables-order : goal.offset_bounds-tables-order
+offset_bounds-tables-order g c =
+    let middle = c.loop-low.low + (c.loop-low.high - c.loop-low.low) / 2 in
+    let l : middle < length c.args.order.now = omega (arith, c.loop-low-test.true, c.loop-low.invariant.within) in
+    let p = place_in c.args.tables.now c.args.order.now middle c.requires l in
+    omega (arith, p)

@@ -1,4 +1,5 @@
 use Rattle.std.proofs.Common.{◌+◌, ◌-◌, ◌/◌, ◌≤◌, length, arith, ◌∙◌}
+use Rattle.std.proofs.lemmas.Grind.{common_steps}
 use Rattle.ion_symbols.specs.Output.{binary_digits}
 use Rattle.ion_symbols.proofs.TextOrder.{answers_less, answers_greater, answers_equal}
 use Rattle.ion_symbols.proofs.Halving.{half_digits, few_digits}
@@ -60,3 +61,6 @@ pub returns-in-Equal-clause-exact : goal.returns-in-Equal-clause-exact
 returns-in-Equal-clause-exact c =
     let h = c.loop-low.invariant in
     omega (arith, probes_equal c.loop-low.search.texts c.args.search.now.texts c.loop-low.low c.loop-low.high c.args.text.now h.texts c.loop-low-test.true h.within c.in-Equal.ensures.order, h.exact, c.in-Equal.ensures.probes)
+
+pub loop-low-init : goal.loop-low-init
+loop-low-init c = grind (arith, common_steps)

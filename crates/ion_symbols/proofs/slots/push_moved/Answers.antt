@@ -24,3 +24,6 @@ returns-in-Err-clause-undone g c = grind (arith, common_steps)
 
 pub loop-part-preserved : goal.loop-part-preserved
 loop-part-preserved g c = grind (arith, common_steps)
+
+pub returns-clause-ok : goal.returns-clause-ok
+returns-clause-ok g c = grind (arith, common_steps)

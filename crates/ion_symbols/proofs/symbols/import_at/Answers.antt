@@ -10,3 +10,6 @@ returns c =
 
 pub loop-high-preserved : goal.loop-high-preserved
 loop-high-preserved c = grind (arith, common_steps) steps 400000
+
+pub loop-high-init : goal.loop-high-init
+loop-high-init c = grind (arith, common_steps)

@@ -1,4 +1,5 @@
 use Rattle.std.proofs.Common.{◌+◌, ◌≤◌, Some, None, arith}
+use Rattle.std.proofs.lemmas.Grind.{common_steps}
 use Rattle.ion_symbols.specs.Table.{most_slots}
 use Rattle.ion_symbols.proofs.Pendings.{slot_pushed}
 use Rattle.ion_symbols.proofs.buffer.SymbolBuffer.element.Goals as goal
@@ -23,3 +24,15 @@ returns-clause-pending g c =
           slot_pushed b m n None cost w.push_none.new.self p at w.self-is
           w.in_ok-push_none-in_default-what.ensures.ok kept (grind arith) cheap few
     ]
+
+pub pass-requires : goal.pass-requires
+pass-requires g c = grind (arith, common_steps)
+
+pub overflow_add-self-3 : goal.overflow_add-self-3
+overflow_add-self-3 g c = grind (arith, common_steps)
+
+pub overflow_add-self-2 : goal.overflow_add-self-2
+overflow_add-self-2 g c = grind (arith, common_steps)
+
+pub push_text-requires-clause-can_grow : goal.push_text-requires-clause-can_grow
+push_text-requires-clause-can_grow g c = grind (arith, common_steps)

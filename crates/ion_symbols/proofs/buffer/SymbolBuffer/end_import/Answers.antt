@@ -19,3 +19,30 @@ returns-clause-turn g c = grind (arith, common_steps)
 
 pub returns-clause-takes : goal.returns-clause-takes
 returns-clause-takes g c = grind (arith, common_steps)
+
+pub overflow_sub-self : goal.overflow_sub-self
+overflow_sub-self g c = grind (arith, common_steps)
+
+pub overflow_add-self : goal.overflow_add-self
+overflow_add-self g c = grind (arith, common_steps)
+
+pub returns-then-not-fits-clause-takes : goal.returns-then-not-fits-clause-takes
+returns-then-not-fits-clause-takes g c = grind (arith, common_steps)
+
+pub returns-in-Missing-clause-takes : goal.returns-in-Missing-clause-takes
+returns-in-Missing-clause-takes g c = grind (arith, common_steps)
+
+pub returns-in-Ignored-clause-takes : goal.returns-in-Ignored-clause-takes
+returns-in-Ignored-clause-takes g c = grind (arith, common_steps)
+
+pub returns-in-Err-clause-takes : goal.returns-in-Err-clause-takes
+returns-in-Err-clause-takes g c = grind (arith, common_steps)
+
+pub returns-in-Err-clause-turn : goal.returns-in-Err-clause-turn
+returns-in-Err-clause-turn g c = grind (arith, common_steps)
+
+pub overflow_add-self-3 : goal.overflow_add-self-3
+overflow_add-self-3 g c = grind (arith, common_steps)
+
+pub returns-in-Ignored-clause-pending : goal.returns-in-Ignored-clause-pending
+returns-in-Ignored-clause-pending g c = grind (arith, common_steps)

@@ -10,3 +10,9 @@ returns-in-Begins-List-what g c = grind (arith, common_steps) steps 400000
 
 pub returns-in_default-what-2 : goal.returns-in_default-what-2
 returns-in_default-what-2 g c = grind (arith, common_steps) steps 800000
+
+pub returns-in-Begins-List : goal.returns-in-Begins-List
+returns-in-Begins-List g c = grind (arith, common_steps)
+
+pub keep-requires : goal.keep-requires
+keep-requires g c = grind (arith, common_steps)

@@ -1,4 +1,5 @@
 use Rattle.std.proofs.Common.{◌+◌, ◌≤◌, arith}
+use Rattle.std.proofs.lemmas.Grind.{common_steps}
 use Rattle.ion_symbols.specs.Table.{table_cost}
 use Rattle.ion_symbols.specs.Buffer.{own_of}
 use Rattle.ion_symbols.proofs.Taking.{both_within, behind_within, behind_charges}
@@ -18,3 +19,18 @@ returns-clause-charges g c =
     old c.append-outcome.new.self c.args.self c.append-outcome.ensures.ok c.append-outcome.ensures.err c.append-outcome.ensures.cost c.append-outcome.ensures.undone
     c.release.ensures c.release-2.ensures c.release-3.ensures.cost
     (both_within c.args.limit old.table c.args.self c.requires.can_install.pending c.if-not-keeps.false) c.requires.can_install.held
+
+pub returns-then-not-keeps-clause-cheap : goal.returns-then-not-keeps-clause-cheap
+returns-then-not-keeps-clause-cheap g c = grind (arith, common_steps)
+
+pub returns-then-not-keeps-clause-charges : goal.returns-then-not-keeps-clause-charges
+returns-then-not-keeps-clause-charges g c = grind (arith, common_steps)
+
+pub replace-requires-clause-kept : goal.replace-requires-clause-kept
+replace-requires-clause-kept g c = grind (arith, common_steps)
+
+pub append-outcome-requires-clause-few : goal.append-outcome-requires-clause-few
+append-outcome-requires-clause-few g c = grind (arith, common_steps)
+
+pub returns-clause-table : goal.returns-clause-table
+returns-clause-table g c = grind (arith, common_steps)

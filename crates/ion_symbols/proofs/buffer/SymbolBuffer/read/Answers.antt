@@ -108,3 +108,6 @@ returns-clause-causes g c = grind (arith, common_steps)
 
 pub returns-clause-charges : goal.returns-clause-charges
 returns-clause-charges g c = grind (arith, common_steps) steps 400000
+
+pub returns-clause-refuses : goal.returns-clause-refuses
+returns-clause-refuses g c = grind (arith, common_steps)

@@ -1,7 +1,8 @@
-use Rattle.std.proofs.Common.{◌≡◌, ◌++◌, ◌∷◌, [], true, length, Some, ap, ap₂, sym, ◌∙◌}
+use Rattle.std.proofs.Common.{◌≡◌, ◌++◌, ◌∷◌, [], true, length, Some, ap, ap₂, sym, ◌∙◌, arith}
+use Rattle.std.proofs.lemmas.Grind.{common_steps}
 use Rattle.ion_symbols.specs.Table.{find, may_stand}
 use Rattle.ion_symbols.specs.Ranks.{key, key_of}
-use Rattle.ion_symbols.proofs.Ranking.{orders_lent, found_lent, rank_points, not_there, added_order, texts_added, belongs_lent, refused_table}
+use Rattle.ion_symbols.proofs.Ranking.{orders_lent, found_lent, rank_points, not_there, added_order, texts_added, belongs_lent, refused_table, rank_upto, same_ranked}
 use Rattle.ion_symbols.proofs.catalog.Catalog.add.Goals as goal
 
 pub returns-in_default-clause-why : goal.returns-in_default-clause-why
@@ -28,3 +29,21 @@ invariant_of-self-2 g c =
 
 pub returns-clause-is_text : goal.returns-clause-is_text
 returns-clause-is_text g c = λ h k. texts_added c.args.self.now _ c.args.table (c.in_default-push_and_insert.ensures.added ∙ ap (λ ts. ts ++ c.args.table ∷ []) c.self.view_is) h k
+
+pub push_and_insert-requires-clause-within : goal.push_and_insert-requires-clause-within
+push_and_insert-requires-clause-within g c =
+    rank_upto c.as_slice-tables.result.now c.self.inside.order.items c.as_slice-order.result.now _ c.in-Err.rank c.as_slice-order.ensures c.in-Err.ensures.belongs
+
+pub rank_of-requires : goal.rank_of-requires
+rank_of-requires g c =
+    orders_lent c.self.inside.tables.items c.as_slice-tables.result.now c.self.inside.order.items c.as_slice-order.result.now c.self.invariant.orders c.as_slice-tables.ensures c.as_slice-order.ensures
+
+pub invariant_of-self : goal.invariant_of-self
+invariant_of-self g c =
+    same_ranked c.self.inside.tables c.push_and_insert.new.self c.self.inside.order c.push_and_insert.new.others c.self.invariant c.in-Err-push_and_insert.ensures.err.0 c.in-Err-push_and_insert.ensures.err.1
+
+pub push_and_insert-requires-clause-countable : goal.push_and_insert-requires-clause-countable
+push_and_insert-requires-clause-countable g c = grind (arith, common_steps)
+
+pub returns-in-Err-push_and_insert-clause-is_text : goal.returns-in-Err-push_and_insert-clause-is_text
+returns-in-Err-push_and_insert-clause-is_text g c = grind (arith, common_steps)

@@ -1,4 +1,5 @@
-use Rattle.std.proofs.Common.{rules, ◌≡◌, ◌+◌, ◌≤◌, true, false, nat_le, Ok, ap, sym, ◌∙◌}
+use Rattle.std.proofs.Common.{rules, ◌≡◌, ◌+◌, ◌≤◌, true, false, nat_le, Ok, ap, sym, ◌∙◌, arith}
+use Rattle.std.proofs.lemmas.Grind.{common_steps}
 use Rattle.ion_symbols.specs.Table.{text_length}
 use Rattle.ion_symbols.specs.Declaration.{string_in}
 use Rattle.ion_symbols.specs.declared.catalog_builder.Stage.TheVariants as stage
@@ -35,3 +36,6 @@ returns-clause-built g c =
       causes = search rules;
       charges = search rules;
     }
+
+pub push_bytes-requires-clause-room : goal.push_bytes-requires-clause-room
+push_bytes-requires-clause-room g c = grind (arith, common_steps)

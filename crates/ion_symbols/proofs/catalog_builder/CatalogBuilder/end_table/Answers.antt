@@ -1,4 +1,5 @@
-use Rattle.std.proofs.Common.{rules, ◌≡◌, true}
+use Rattle.std.proofs.Common.{rules, ◌≡◌, true, arith}
+use Rattle.std.proofs.lemmas.Grind.{common_steps}
 use Rattle.ion_symbols.specs.Table.{may_stand}
 use Rattle.ion_symbols.specs.Building.{draft_of}
 use Rattle.ion_symbols.proofs.CatalogCosts.{counted-ended, held-ended}
@@ -18,3 +19,6 @@ returns-clause-built g c =
       causes = search rules;
       charges = search rules;
     }
+
+pub returns-in-Refused-clause-gives : goal.returns-in-Refused-clause-gives
+returns-in-Refused-clause-gives g c = grind (arith, common_steps)

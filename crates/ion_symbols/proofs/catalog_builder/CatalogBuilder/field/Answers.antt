@@ -4,3 +4,12 @@ use Rattle.ion_symbols.proofs.catalog_builder.CatalogBuilder.field.Goals as goal
 
 pub returns-in-Imports-clause-gives : goal.returns-in-Imports-clause-gives
 returns-in-Imports-clause-gives g c = grind (arith, common_steps) steps 400000
+
+pub returns-in-Symbols-clause-gives : goal.returns-in-Symbols-clause-gives
+returns-in-Symbols-clause-gives g c = grind (arith, common_steps)
+
+pub returns-in-Name-clause-gives : goal.returns-in-Name-clause-gives
+returns-in-Name-clause-gives g c = grind (arith, common_steps)
+
+pub returns-in-Version-clause-gives : goal.returns-in-Version-clause-gives
+returns-in-Version-clause-gives g c = grind (arith, common_steps)

@@ -4,3 +4,9 @@ use Rattle.ion_symbols.proofs.catalog_builder.CatalogBuilder.name.Goals as goal
 
 pub returns-clause-built : goal.returns-clause-built
 returns-clause-built g c = grind (arith, common_steps) steps 400000
+
+pub returns-in_default : goal.returns-in_default
+returns-in_default g c = grind (arith, common_steps)
+
+pub returns-then-not-is_empty-clause-gives : goal.returns-then-not-is_empty-clause-gives
+returns-then-not-is_empty-clause-gives g c = grind (arith, common_steps)

@@ -69,3 +69,21 @@ returns-in_default-outcome-clause-puts g c = grind (arith, common_steps)
 
 pub returns-in_default-outcome-clause-causes : goal.returns-in_default-outcome-clause-causes
 returns-in_default-outcome-clause-causes g c = grind (arith, common_steps)
+
+pub returns-in_default-outcome-clause-cut : goal.returns-in_default-outcome-clause-cut
+returns-in_default-outcome-clause-cut g c = grind (arith, common_steps)
+
+pub returns-in-Err-clause-most : goal.returns-in-Err-clause-most
+returns-in-Err-clause-most g c = grind (arith, common_steps)
+
+pub returns-in_default-outcome-clause-memory : goal.returns-in_default-outcome-clause-memory
+returns-in_default-outcome-clause-memory g c = grind (arith, common_steps)
+
+pub returns-in_default-outcome-clause-most : goal.returns-in_default-outcome-clause-most
+returns-in_default-outcome-clause-most g c = grind (arith, common_steps)
+
+pub returns-in_default-outcome-clause-well : goal.returns-in_default-outcome-clause-well
+returns-in_default-outcome-clause-well g c = grind (arith, common_steps)
+
+pub returns-in_default-outcome-clause-again : goal.returns-in_default-outcome-clause-again
+returns-in_default-outcome-clause-again g c = grind (arith, common_steps)

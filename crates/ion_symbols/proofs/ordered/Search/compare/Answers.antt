@@ -26,3 +26,9 @@ returns-clause-order c =
 
 pub returns-clause-probes : goal.returns-clause-probes
 returns-clause-probes c = grind (arith, common_steps) steps 400000
+
+pub bounds-self-inside-self-inside : goal.bounds-self-inside-self-inside
+bounds-self-inside-self-inside c = grind (arith, common_steps)
+
+pub bounds-self-inside-place : goal.bounds-self-inside-place
+bounds-self-inside-place c = grind (arith, common_steps)

@@ -1,4 +1,5 @@
 use Rattle.std.proofs.Common.{ℕ, length, ap, ◌∙◌, arith}
+use Rattle.std.proofs.lemmas.Grind.{common_steps}
 use Rattle.std.specs.List.{insert}
 use Rattle.ion_symbols.specs.OutTexts.{texts_of}
 use Rattle.ion_symbols.proofs.LinkedTexts.{added_texts, can_link_put, charges_add, is_added, place_behind, place_small}
@@ -35,3 +36,21 @@ returns-clause-charges g c =
     (place_behind c.as_slice-from.result.now c.args.text.now) c.requires.kept
     (is_added c.args.self.now c.as_slice-from.result.now c.extend.new.self c.args.text.now c.push_and_insert.new.self c.push_and_insert.new.others c.as_slice-from.ensures c.in_ok-extend.ensures.ok
     c.in_default.ensures.added c.push_and_insert.ensures.same_cost c.push_and_insert.ensures.same_other_cost))
+
+pub returns-in-Err-clause-charges : goal.returns-in-Err-clause-charges
+returns-in-Err-clause-charges g c = grind (arith, common_steps)
+
+pub push_and_insert-requires-clause-within : goal.push_and_insert-requires-clause-within
+push_and_insert-requires-clause-within g c = grind (arith, common_steps)
+
+pub returns-in-Err-clause-kept : goal.returns-in-Err-clause-kept
+returns-in-Err-clause-kept g c = grind (arith, common_steps)
+
+pub truncate-requires : goal.truncate-requires
+truncate-requires g c = grind (arith, common_steps)
+
+pub returns-in-Err-clause-memory : goal.returns-in-Err-clause-memory
+returns-in-Err-clause-memory g c = grind (arith, common_steps)
+
+pub overflow_cast-number : goal.overflow_cast-number
+overflow_cast-number g c = grind (arith, common_steps)

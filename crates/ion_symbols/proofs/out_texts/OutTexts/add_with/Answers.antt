@@ -1,4 +1,5 @@
 use Rattle.std.proofs.Common.{◌∙◌, arith}
+use Rattle.std.proofs.lemmas.Grind.{common_steps}
 use Rattle.ion_symbols.proofs.LinkedTexts.{added_texts, can_link_pushed, is_added, place_behind, place_small}
 use Rattle.ion_symbols.proofs.out_texts.OutTexts.add_with.Goals as goal
 
@@ -23,3 +24,12 @@ returns-clause-added g c =
     (place_behind c.as_slice-from.result.now c.args.added.bytes.now) c.requires.kept
     (is_added c.args.self.now c.as_slice-from.result.now c.push_together.new.bytes c.args.added.bytes.now c.push_together.new.self c.push_together.new.others c.as_slice-from.ensures
     (c.push_together.ensures.bytes c.if-not-push_together.false) (c.push_together.ensures.items c.if-not-push_together.false) c.push_together.ensures.same_cost c.push_together.ensures.same_other_cost)
+
+pub returns-clause-grows : goal.returns-clause-grows
+returns-clause-grows g c = grind (arith, common_steps)
+
+pub returns-then-not-push_together-clause-kept : goal.returns-then-not-push_together-clause-kept
+returns-then-not-push_together-clause-kept g c = grind (arith, common_steps)
+
+pub returns-in_default : goal.returns-in_default
+returns-in_default g c = grind (arith, common_steps)

@@ -1,4 +1,5 @@
 use Rattle.std.proofs.Common.{◌<◌, ◌≤◌, length, sym, subst, arith}
+use Rattle.std.proofs.lemmas.Grind.{common_steps}
 use Rattle.ion_symbols.specs.OutTexts.{firsts, texts_of}
 use Rattle.ion_symbols.proofs.Placing.{first_there, link_first, link_second}
 use Rattle.ion_symbols.proofs.Seeking.{texts_length}
@@ -18,3 +19,9 @@ returns-then-digits-eq0-clause-within g c =
 pub returns-else-digits-eq0-clause-link : goal.returns-else-digits-eq0-clause-link
 returns-else-digits-eq0-clause-link g c =
     link_second (firsts c.args.self.now.places.items) c.args.self.now.ids.items c.as_slice-2.result.now c.args.number c.args.digits c.as_slice-2.ensures (omega (arith, c.if-digits-eq0.false))
+
+pub bounds-as_slice-number : goal.bounds-as_slice-number
+bounds-as_slice-number g c = grind (arith, common_steps)
+
+pub bounds-as_slice-number-2 : goal.bounds-as_slice-number-2
+bounds-as_slice-number-2 g c = grind (arith, common_steps)

@@ -1,4 +1,5 @@
 use Rattle.std.proofs.Common.{◌∙◌, length, ap, subst, arith}
+use Rattle.std.proofs.lemmas.Grind.{common_steps}
 use Rattle.ion_symbols.specs.Hash.{bucket_in}
 use Rattle.ion_symbols.specs.OutTexts.{CanLink}
 use Rattle.ion_symbols.proofs.LinkedTexts.{linked_behind, linked_in_front, linked_in_order}
@@ -20,3 +21,6 @@ returns-clause-kept g c =
 
 pub returns-in-Behind-clause-order : goal.returns-in-Behind-clause-order
 returns-in-Behind-clause-order g c = ap (λ k. k.is_ordered) c.link_behind.ensures.rest
+
+pub link_behind-requires-clause-within : goal.link_behind-requires-clause-within
+link_behind-requires-clause-within g c = grind (arith, common_steps)

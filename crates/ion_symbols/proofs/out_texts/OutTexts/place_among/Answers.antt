@@ -1,4 +1,5 @@
 use Rattle.std.proofs.Common.{arith}
+use Rattle.std.proofs.lemmas.Grind.{common_steps}
 use Rattle.ion_symbols.proofs.Placing.{text_bounds}
 use Rattle.ion_symbols.proofs.PuttingInOrder.{among_ordered, among_texts, among_none, among_belongs}
 use Rattle.ion_symbols.proofs.out_texts.OutTexts.place_among.Goals as goal
@@ -35,3 +36,9 @@ returns g c =
     c.as_slice-bytes.ensures c.as_slice-places.ensures c.as_slice.ensures c.new-search.ensures.texts in
     among_belongs c.args.self.now.bytes c.as_slice-bytes.result.now c.args.self.now.places.items c.as_slice-places.result.now c.args.self.now.ids.items c.new-search.result.texts c.args.count _ (record { from = 0; to = 0; next = 0 })
     c.requires.within n c.as_slice-bytes.ensures c.as_slice-places.ensures c.in-Err.ensures.belongs
+
+pub slice_bounds-new-end-2 : goal.slice_bounds-new-end-2
+slice_bounds-new-end-2 g c = grind (arith, common_steps)
+
+pub slice_bounds-new-end : goal.slice_bounds-new-end
+slice_bounds-new-end g c = grind (arith, common_steps)

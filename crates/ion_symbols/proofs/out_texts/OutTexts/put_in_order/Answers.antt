@@ -1,4 +1,5 @@
 use Rattle.std.proofs.Common.{length, ap, arith}
+use Rattle.std.proofs.lemmas.Grind.{common_steps}
 use Rattle.ion_symbols.proofs.PuttingInOrder.{putting_distinct, putting_none, putting_more, putting_all}
 use Rattle.ion_symbols.proofs.out_texts.OutTexts.put_in_order.Goals as goal
 
@@ -16,3 +17,6 @@ loop-count-preserved g c =
 pub returns-clause-kept : goal.returns-clause-kept
 returns-clause-kept g c =
     putting_all c.args.self.now c.loop-count.self c.loop-count.count c.requires.kept c.loop-count.invariant (omega (arith, ap length c.as_slice.ensures, c.loop-count-test.false))
+
+pub shift_in-requires-clause-order : goal.shift_in-requires-clause-order
+shift_in-requires-clause-order g c = grind (arith, common_steps)

@@ -1,4 +1,5 @@
 use Rattle.std.proofs.Common.{◌≡◌, ◌+◌, ◌<◌, ℕ, List, length, refl, ap, sym, subst, subst₂, ◌∙◌, IfOk, IfErr, arith}
+use Rattle.std.proofs.lemmas.Grind.{common_steps}
 use Rattle.ion_meter.specs.declared.fault.Fault.TheVariants.{Memory}
 use Rattle.ion_value.specs.Shares.{Charges}
 use Rattle.ion_symbols.specs.Output.{Output, id_given, known_id, texts_cost}
@@ -6,6 +7,7 @@ use Rattle.ion_symbols.specs.OutTexts.{texts_of}
 use Rattle.ion_symbols.proofs.Adding.{can_add, new_unknown}
 use Rattle.ion_symbols.proofs.Finding.{id_answered, known_given, spot_new, system_known}
 use Rattle.ion_symbols.proofs.KeptTexts.{known_kept, number_few, same_charges, same_share, same_texts}
+use Rattle.ion_symbols.proofs.Answering.{none-not-some, some-not-none}
 use Rattle.ion_symbols.proofs.output.OutSymbols.give_id.Goals as goal
 
 -- ---- a text of the system table
@@ -71,7 +73,7 @@ returns-in-Err-clause-gives g c =
 pub returns-in-Err-clause-found : goal.returns-in-Err-clause-found
 returns-in-Err-clause-found g c id known =
     let none = new_unknown (texts_of c.self.inside.kept) c.args.text.now (spot_new (texts_of c.self.inside.kept) _ c.args.text.now refl c.in_default.ensures c.in-Err.ensures.new.0) in
-    absurd (cc (sym none ∙ (ap (λ (s : Output). known_id s.texts c.args.text.now) c.self.view_is ∙ known)))
+    absurd (none-not-some _ (sym none ∙ (ap (λ (s : Output). known_id s.texts c.args.text.now) c.self.view_is ∙ known)))
 
 pub returns-in-Err-clause-memory : goal.returns-in-Err-clause-memory
 returns-in-Err-clause-memory g c =
@@ -86,16 +88,16 @@ returns-in-Err-clause-charges g c =
 -- ---- what is over the limit, what grows, and the order
 
 pub returns-in-Some-clause-over : goal.returns-in-Some-clause-over
-returns-in-Some-clause-over g c none over = absurd (cc (system_known c.args.self.now.texts c.args.text.now _ c.in-Some.ensures ∙ none))
+returns-in-Some-clause-over g c none over = absurd (some-not-none _ (system_known c.args.self.now.texts c.args.text.now _ c.in-Some.ensures ∙ none))
 
 pub returns-in-Some-clause-grows : goal.returns-in-Some-clause-grows
-returns-in-Some-clause-grows g c id none e = absurd (cc (system_known c.args.self.now.texts c.args.text.now _ c.in-Some.ensures ∙ none))
+returns-in-Some-clause-grows g c id none e = absurd (some-not-none _ (system_known c.args.self.now.texts c.args.text.now _ c.in-Some.ensures ∙ none))
 
 pub returns-in-Ok-clause-over : goal.returns-in-Ok-clause-over
-returns-in-Ok-clause-over g c none over = let e = ap (λ (s : Output). s.texts) c.self.view_is in absurd (cc (known_kept _ _ _ _ c.self.invariant.0 e c.in-Ok.ensures.there ∙ none))
+returns-in-Ok-clause-over g c none over = let e = ap (λ (s : Output). s.texts) c.self.view_is in absurd (some-not-none _ (known_kept _ _ _ _ c.self.invariant.0 e c.in-Ok.ensures.there ∙ none))
 
 pub returns-in-Ok-clause-grows : goal.returns-in-Ok-clause-grows
-returns-in-Ok-clause-grows g c id none is = let e = ap (λ (s : Output). s.texts) c.self.view_is in absurd (cc (known_kept _ _ _ _ c.self.invariant.0 e c.in-Ok.ensures.there ∙ none))
+returns-in-Ok-clause-grows g c id none is = let e = ap (λ (s : Output). s.texts) c.self.view_is in absurd (some-not-none _ (known_kept _ _ _ _ c.self.invariant.0 e c.in-Ok.ensures.there ∙ none))
 
 pub returns-in-Ok-clause-ordered : goal.returns-in-Ok-clause-ordered
 returns-in-Ok-clause-ordered g c e = c.spot.ensures.ordered (ap (λ (s : Output). s.is_ordered) c.self.view_is ∙ e)
@@ -111,3 +113,15 @@ returns-in-Err-clause-grows g c id none e = c.add.ensures.grows id e
 
 pub returns-in-Err-clause-ordered : goal.returns-in-Err-clause-ordered
 returns-in-Err-clause-ordered g c e = c.add.ensures.order ∙ c.spot.ensures.ordered (ap (λ (s : Output). s.is_ordered) c.self.view_is ∙ e)
+
+pub returns-in-Ok-clause-probes : goal.returns-in-Ok-clause-probes
+returns-in-Ok-clause-probes g c = grind (arith, common_steps)
+
+pub returns-in-Ok-clause-limit : goal.returns-in-Ok-clause-limit
+returns-in-Ok-clause-limit g c = grind (arith, common_steps)
+
+pub returns-in-Err-clause-probes : goal.returns-in-Err-clause-probes
+returns-in-Err-clause-probes g c = grind (arith, common_steps)
+
+pub returns-in-Err-clause-limit : goal.returns-in-Err-clause-limit
+returns-in-Err-clause-limit g c = grind (arith, common_steps)

@@ -1,4 +1,5 @@
 use Rattle.std.proofs.Common.{◌≡◌, ◌++◌, ◌∷◌, [], None, refl, ap, sym, ◌∙◌, arith, rules}
+use Rattle.std.proofs.lemmas.Grind.{common_steps}
 use Rattle.ion_symbols.specs.Output.{Output, position, system_id}
 use Rattle.ion_symbols.specs.OutTexts.{texts_of}
 use Rattle.ion_symbols.proofs.Adding.{new_unknown, share_either, share_push}
@@ -42,3 +43,9 @@ returns-clause-new g c e =
 
 pub returns-clause-ordered : goal.returns-clause-ordered
 returns-clause-ordered g c = c.add_with.ensures.order ∙ ap (λ (s : Output). s.is_ordered) c.self.view_is
+
+pub returns-clause-probes : goal.returns-clause-probes
+returns-clause-probes g c = grind (arith, common_steps)
+
+pub returns-clause-limit : goal.returns-clause-limit
+returns-clause-limit g c = grind (arith, common_steps)

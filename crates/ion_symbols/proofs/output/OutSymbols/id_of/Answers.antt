@@ -7,6 +7,7 @@ use Rattle.ion_symbols.specs.OutTexts.{texts_of}
 use Rattle.ion_symbols.proofs.Adding.{can_add, new_unknown}
 use Rattle.ion_symbols.proofs.Finding.{found_at, found_new, found_within, id_answered, known_given, probes_sorted, system_known}
 use Rattle.ion_symbols.proofs.KeptTexts.{known_kept, number_few, same_charges, same_share, same_texts, searched_kept}
+use Rattle.ion_symbols.proofs.Answering.{none-not-some, some-not-none}
 use Rattle.ion_symbols.proofs.output.OutSymbols.id_of.Goals as goal
 
 -- ---- a text of the system table
@@ -95,7 +96,7 @@ returns-in-Err-clause-found g c id known =
     let same = same_texts c.self.inside.kept _ _ c.put_in_order.ensures.texts (ap (λ (s : Output). s.texts) c.self.view_is) in
     let k = searched_kept _ _ c.put_in_order.ensures.kept c.put_in_order.ensures.ordered c.search-search.ensures.texts in
     let none = new_unknown _ _ (found_new _ _ _ _ _ k c.in_default.ensures c.in-Err.ensures.belongs) in
-    absurd (cc (sym none ∙ (ap (λ (ts : List (List ℕ)). known_id ts c.args.text.now) same ∙ known)))
+    absurd (none-not-some _ (sym none ∙ (ap (λ (ts : List (List ℕ)). known_id ts c.args.text.now) same ∙ known)))
 
 pub returns-in-Err-clause-probes : goal.returns-in-Err-clause-probes
 returns-in-Err-clause-probes g c = grind (arith, common_steps)
@@ -119,13 +120,13 @@ returns-in-Err-clause-charges g c =
 -- ---- what is over the limit, what grows, and the order
 
 pub returns-in-Some-clause-over : goal.returns-in-Some-clause-over
-returns-in-Some-clause-over g c none over = absurd (cc (system_known c.args.self.now.texts c.args.text.now _ c.in-Some.ensures ∙ none))
+returns-in-Some-clause-over g c none over = absurd (some-not-none _ (system_known c.args.self.now.texts c.args.text.now _ c.in-Some.ensures ∙ none))
 
 pub returns-in-Some-clause-grows : goal.returns-in-Some-clause-grows
-returns-in-Some-clause-grows g c id none e = absurd (cc (system_known c.args.self.now.texts c.args.text.now _ c.in-Some.ensures ∙ none))
+returns-in-Some-clause-grows g c id none e = absurd (some-not-none _ (system_known c.args.self.now.texts c.args.text.now _ c.in-Some.ensures ∙ none))
 
 pub returns-in-Some-clause-ordered : goal.returns-in-Some-clause-ordered
-returns-in-Some-clause-ordered g c none = absurd (cc (c.in-Some.ensures ∙ none))
+returns-in-Some-clause-ordered g c none = absurd (some-not-none _ (c.in-Some.ensures ∙ none))
 
 pub returns-in-Some-clause-stays : goal.returns-in-Some-clause-stays
 returns-in-Some-clause-stays g c id e = ap (λ (s : Output). s.is_ordered) c.self.view_is
@@ -134,19 +135,19 @@ pub returns-in-Ok-clause-over : goal.returns-in-Ok-clause-over
 returns-in-Ok-clause-over g c none over =
     let same = same_texts c.self.inside.kept _ _ c.put_in_order.ensures.texts (ap (λ (s : Output). s.texts) c.self.view_is) in
     let k = searched_kept _ _ c.put_in_order.ensures.kept c.put_in_order.ensures.ordered c.search-search.ensures.texts in
-    absurd (cc (known_kept _ _ _ _ c.put_in_order.ensures.kept same (found_at _ _ _ _ _ _ k c.as_slice.ensures c.in-Ok.ensures.found) ∙ none))
+    absurd (some-not-none _ (known_kept _ _ _ _ c.put_in_order.ensures.kept same (found_at _ _ _ _ _ _ k c.as_slice.ensures c.in-Ok.ensures.found) ∙ none))
 
 pub returns-in-Ok-clause-grows : goal.returns-in-Ok-clause-grows
 returns-in-Ok-clause-grows g c id none is =
     let same = same_texts c.self.inside.kept _ _ c.put_in_order.ensures.texts (ap (λ (s : Output). s.texts) c.self.view_is) in
     let k = searched_kept _ _ c.put_in_order.ensures.kept c.put_in_order.ensures.ordered c.search-search.ensures.texts in
-    absurd (cc (known_kept _ _ _ _ c.put_in_order.ensures.kept same (found_at _ _ _ _ _ _ k c.as_slice.ensures c.in-Ok.ensures.found) ∙ none))
+    absurd (some-not-none _ (known_kept _ _ _ _ c.put_in_order.ensures.kept same (found_at _ _ _ _ _ _ k c.as_slice.ensures c.in-Ok.ensures.found) ∙ none))
 
 pub returns-in-Ok-clause-ordered : goal.returns-in-Ok-clause-ordered
 returns-in-Ok-clause-ordered g c none = c.put_in_order.ensures.ordered
 
 pub returns-in-Ok-clause-stays : goal.returns-in-Ok-clause-stays
-returns-in-Ok-clause-stays g c id is = absurd (cc (c.in_default.ensures ∙ is))
+returns-in-Ok-clause-stays g c id is = absurd (none-not-some _ (c.in_default.ensures ∙ is))
 
 pub returns-in-Err-clause-over : goal.returns-in-Err-clause-over
 returns-in-Err-clause-over g c none over =
@@ -161,4 +162,16 @@ pub returns-in-Err-clause-ordered : goal.returns-in-Err-clause-ordered
 returns-in-Err-clause-ordered g c none = c.add.ensures.order ∙ c.put_in_order.ensures.ordered
 
 pub returns-in-Err-clause-stays : goal.returns-in-Err-clause-stays
-returns-in-Err-clause-stays g c id is = absurd (cc (c.in_default.ensures ∙ is))
+returns-in-Err-clause-stays g c id is = absurd (none-not-some _ (c.in_default.ensures ∙ is))
+
+pub returns-in-Err-clause-limit : goal.returns-in-Err-clause-limit
+returns-in-Err-clause-limit g c = grind (arith, common_steps)
+
+pub returns-in-Err-clause-system : goal.returns-in-Err-clause-system
+returns-in-Err-clause-system g c = grind (arith, common_steps)
+
+pub returns-in-Ok-clause-system : goal.returns-in-Ok-clause-system
+returns-in-Ok-clause-system g c = grind (arith, common_steps)
+
+pub returns-in-Ok-clause-limit : goal.returns-in-Ok-clause-limit
+returns-in-Ok-clause-limit g c = grind (arith, common_steps)

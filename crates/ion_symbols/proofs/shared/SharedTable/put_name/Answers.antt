@@ -4,3 +4,6 @@ use Rattle.ion_symbols.proofs.shared.SharedTable.put_name.Goals as goal
 
 pub returns-clause-cost : goal.returns-clause-cost
 returns-clause-cost g c = grind (arith, common_steps) steps 400000
+
+pub overwrite-requires : goal.overwrite-requires
+overwrite-requires g c = grind (arith, common_steps)

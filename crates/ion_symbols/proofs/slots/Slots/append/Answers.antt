@@ -1,4 +1,5 @@
 use Rattle.std.proofs.Common.{◌≡◌, ◌+◌, ◌-◌, ◌*◌, ◌++◌, length, map, ap, subst, ◌∙◌, arith, length-append}
+use Rattle.std.proofs.lemmas.Grind.{common_steps}
 use Rattle.ion_meter.specs.Counts.{Shrinks}
 use Rattle.ion_symbols.specs.Table.{slots_cost}
 use Rattle.ion_symbols.specs.Kept.{kept_slots, moved}
@@ -67,3 +68,18 @@ returns-clause-cost g c =
     grown c.args.meter.now c.extend.new.meter c.push_moved.new.meter (length c.as_slice.result.now) (length c.as_slice-2.result.now)
     (slots_cost c.args.more.now)
     (omega (arith, k, t, n)) c.in_ok-extend.ensures.cost c.in_default.ensures.cost
+
+pub truncate-requires : goal.truncate-requires
+truncate-requires g c = grind (arith, common_steps)
+
+pub invariant_of-self-in-Err : goal.invariant_of-self-in-Err
+invariant_of-self-in-Err g c = grind (arith, common_steps)
+
+pub returns-in-Err-clause-err : goal.returns-in-Err-clause-err
+returns-in-Err-clause-err g c = grind (arith, common_steps)
+
+pub push_moved-requires-clause-fits : goal.push_moved-requires-clause-fits
+push_moved-requires-clause-fits g c = grind (arith, common_steps)
+
+pub invariant_of-self : goal.invariant_of-self
+invariant_of-self g c = grind (arith, common_steps)

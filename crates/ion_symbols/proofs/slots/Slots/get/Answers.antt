@@ -1,4 +1,5 @@
 use Rattle.std.proofs.Common.{◌≡◌, ℕ, ◌<◌, false, List, length, Option, ap, arith}
+use Rattle.std.proofs.lemmas.Grind.{common_steps}
 use Rattle.ion_symbols.specs.Kept.{kept_slots}
 use Rattle.ion_symbols.specs.declared.slots.Part.{Part}
 use Rattle.ion_symbols.proofs.Keeping.{kept_count, tile_at}
@@ -16,3 +17,9 @@ unfolding none_there
 between-requires g c =
     let t = tile_at none_there 0 c.self.inside.parts (length c.self.inside.texts) c.args.i c.self.invariant.0 (there c.self.inside.texts c.self.inside.parts c.args.self.now c.args.i c.self.view_is c.requires) in
     rw (c.as_slice-then-part.ensures, c.as_slice.ensures) t
+
+pub bounds-as_slice-i : goal.bounds-as_slice-i
+bounds-as_slice-i g c = grind (arith, common_steps)
+
+pub offset_bounds-as_slice-i : goal.offset_bounds-as_slice-i
+offset_bounds-as_slice-i g c = grind (arith, common_steps)

@@ -1,4 +1,5 @@
 use Rattle.std.proofs.Common.{◌≡◌, suc, ◌+◌, ◌*◌, [], ◌∷◌, ◌++◌, length, Some, ap, sym, ◌∙◌, arith, length-append}
+use Rattle.std.proofs.lemmas.Grind.{common_steps}
 use Rattle.ion_symbols.specs.Table.{slots_cost}
 use Rattle.ion_symbols.specs.Kept.{kept_slots}
 use Rattle.ion_symbols.proofs.Keeping.{kept_cost, marked_push, pushed_tiles, pushed_kept}
@@ -27,3 +28,15 @@ invariant_of-self-in_default-extend g c = (
 
 pub returns-clause-ok : goal.returns-clause-ok
 returns-clause-ok g c = pushed_kept c.self.inside.texts c.args.text.now c.extend.new.self c.self.inside.parts c.push.new.self (length c.as_slice-from.result.now) c.is_simple.result c.self.invariant.0 (ap length c.as_slice-from.ensures) c.in_default.ensures.ok c.in_default-extend.ensures.ok ∙ ap (λ ss. ss ++ Some c.args.text.now ∷ []) c.self.view_is
+
+pub returns-in-Err-extend-clause-undone : goal.returns-in-Err-extend-clause-undone
+returns-in-Err-extend-clause-undone g c = grind (arith, common_steps)
+
+pub invariant_of-self-in-Err-extend : goal.invariant_of-self-in-Err-extend
+invariant_of-self-in-Err-extend g c = grind (arith, common_steps)
+
+pub returns-in-Err-extend-clause-err : goal.returns-in-Err-extend-clause-err
+returns-in-Err-extend-clause-err g c = grind (arith, common_steps)
+
+pub invariant_of-self : goal.invariant_of-self
+invariant_of-self g c = grind (arith, common_steps)

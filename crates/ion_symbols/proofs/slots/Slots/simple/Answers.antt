@@ -1,4 +1,5 @@
 use Rattle.std.proofs.Common.{◌≡◌, ◌<◌, false, ap, sym, length, arith}
+use Rattle.std.proofs.lemmas.Grind.{common_steps}
 use Rattle.ion_symbols.specs.Kept.{kept_slots}
 use Rattle.ion_symbols.specs.declared.slots.Part.{Part}
 use Rattle.ion_symbols.proofs.Keeping.{kept_count, marked_at, tile_at}
@@ -30,3 +31,9 @@ returns-then-part-clause-simple g c =
     let there : c.args.i < length c.self.inside.parts = omega (arith, n, kept_count c.self.inside.texts c.self.inside.parts, c.requires) in
     let m = marked_at c.self.inside.texts c.self.inside.parts c.args.i none_there c.self.invariant.1 there (rw c.as_slice.ensures at c.if-part.true) in
     rw (c.between.ensures, c.as_slice-then-part.ensures, c.as_slice.ensures) m.1
+
+pub offset_bounds-as_slice-i : goal.offset_bounds-as_slice-i
+offset_bounds-as_slice-i g c = grind (arith, common_steps)
+
+pub bounds-as_slice-i : goal.bounds-as_slice-i
+bounds-as_slice-i g c = grind (arith, common_steps)

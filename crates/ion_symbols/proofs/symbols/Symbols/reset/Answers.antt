@@ -7,3 +7,9 @@ returns-clause-table g c = grind (arith, common_steps) steps 400000
 
 pub returns-clause-cost : goal.returns-clause-cost
 returns-clause-cost g c = grind (arith, common_steps) steps 400000
+
+pub clear-requires-2 : goal.clear-requires-2
+clear-requires-2 g c = grind (arith, common_steps)
+
+pub clear-requires : goal.clear-requires
+clear-requires g c = grind (arith, common_steps)

@@ -1,3 +1,5 @@
+use Rattle.std.proofs.Common.{arith}
+use Rattle.std.proofs.lemmas.Grind.{common_steps}
 use Rattle.ion_value.specs.Feeding.{Joint}
 use Rattle.ion_symbols.specs.Table.{table_cost}
 use Rattle.ion_symbols.proofs.Feeding.{charges_fed, user_feeds}
@@ -20,3 +22,6 @@ returns-clause-feeds g c =
     record { coming = r.reading c.feed-fed.new.self; opened = r.opened c.feed-fed.new.self; writer = c.feed-fed.new.writer; pending = c.feed-fed.new.sink.pending; values = c.feed-fed.result.values } in
     user_feeds g.W.ValueWriter u.symbols.catalog u.limits.symbols u.symbols.table (r.observable u.raw) old new u.count c.feed-fed.result.level
     c.requires.level c.feed-fed.ensures.level c.feed-fed.ensures.feeds
+
+pub returns-clause-ready : goal.returns-clause-ready
+returns-clause-ready g c = grind (arith, common_steps)

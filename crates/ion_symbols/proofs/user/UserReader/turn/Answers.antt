@@ -226,3 +226,9 @@ returns-clause-steps g c =
       charges = charges_beside c.args.meter.now c.next.new.meter (r.own u.raw) (r.own c.next.new.self) (table_cost u.symbols.table) (r.most u.raw) u.limits.symbols
           ready.cheap c.requires.can_turn.held c.next.ensures.charges;
     }
+
+pub returns-in-Err-clause-passes : goal.returns-in-Err-clause-passes
+returns-in-Err-clause-passes g c = grind (arith, common_steps)
+
+pub returns-in-Ok-false-clause-passes : goal.returns-in-Ok-false-clause-passes
+returns-in-Ok-false-clause-passes g c = grind (arith, common_steps)

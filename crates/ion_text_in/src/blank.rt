@@ -196,18 +196,15 @@ fn pass_block<I: Input, A: Allocator + Copy>(source: &mut Source<I, A>) -> Resul
             Ok(Some(_)) => {}
         }
         let bytes = source.buffer();
-        let end = bytes.len();
         let plain = run_without(b'*', b'*', bytes);
-        let star = plain < end;
+        let star = plain < bytes.len();
+        source.consume(plain);
         if star {
-            source.consume(plain);
             match pass_star(source) {
                 Err(fault) => return Err(fault),
                 Ok(true) => return Ok(true),
                 Ok(false) => {}
             }
-        } else {
-            source.consume(end);
         }
     }
 }

@@ -216,10 +216,10 @@ pub(crate) fn gather_token<I: Input, A: Allocator + Copy>(
     meter: &mut Meter<A>,
 ) -> Result<(), Fault>
     requires can_read { CanRead limits limits.scalar source.old text.old meter.old }
+    requires there { 1 ≤ length (lent source.old) }
     ensures gives { AnswersBy I.Input (λ _. text.new) source.old source.new source.old.place result
         (spelled (bytes_of (goes_on run)) (Some limits.scalar)) }
-    ensures further { 1 ≤ length (lent source.old)
-        → OnOk result (source.old.place < source.new.place) }
+    ensures further { OnOk result (source.old.place < source.new.place) }
     ensures reads { ReadsInto I.Input source.old source.new meter.old meter.new
         (length text.old) (length text.new) limits.scalar result }
     ensures goes { GrowsWithin meter.old meter.new (length text.old) (length text.new)
@@ -228,11 +228,6 @@ pub(crate) fn gather_token<I: Input, A: Allocator + Copy>(
 {
     let place = source.place();
     text.clear(meter);
-    match source.peek(0) {
-        Err(fault) => return Err(fault),
-        Ok(None) => return Ok(()),
-        Ok(Some(_)) => {}
-    }
     if let Err(fault) = append(source, text, 1, limits, place, meter) {
         return Err(fault);
     }

@@ -69,11 +69,11 @@ pub(crate) fn next_number<I: Input, A: Allocator + Copy>(
     meter: &mut Meter<A>,
 ) -> Result<Number, Fault>
     requires can_read { CanRead limits limits.scalar source.old text.old meter.old }
+    requires there { 1 ≤ length (lent source.old) }
     ensures gives { AnswersBy I.Input number_token source.old source.new source.old.place result
         (token_of (Some limits.scalar) a_run) }
     ensures range { IfOk result (λ x. InRange (as_number x)) }
-    ensures further { 1 ≤ length (lent source.old)
-        → OnOk result (source.old.place < source.new.place) }
+    ensures further { OnOk result (source.old.place < source.new.place) }
     ensures reads { ReadsInto I.Input source.old source.new meter.old meter.new
         (length text.old) (length text.new) limits.scalar result }
     ensures goes { GrowsWithin meter.old meter.new (length text.old) (length text.new)
@@ -99,11 +99,11 @@ fn gather_number<I: Input, A: Allocator + Copy>(
     meter: &mut Meter<A>,
 ) -> Result<Number, Fault>
     requires can_read { CanRead limits limits.scalar source.old text.old meter.old }
+    requires there { 1 ≤ length (lent source.old) }
     ensures gives { AnswersBy I.Input number_token source.old source.new source.old.place result
         (token_of (Some limits.scalar) a_run) }
     ensures range { IfOk result (λ x. InRange (as_number x)) }
-    ensures further { 1 ≤ length (lent source.old)
-        → OnOk result (source.old.place < source.new.place) }
+    ensures further { OnOk result (source.old.place < source.new.place) }
     ensures reads { ReadsInto I.Input source.old source.new meter.old meter.new
         (length text.old) (length text.new) limits.scalar result }
     ensures goes { GrowsWithin meter.old meter.new (length text.old) (length text.new)

@@ -51,10 +51,10 @@ pub(crate) fn next_operator<I: Input, A: Allocator + Copy>(
     meter: &mut Meter<A>,
 ) -> Result<(), Fault>
     requires can_read { CanRead limits limits.scalar source.old text.old meter.old }
+    requires there { 1 ≤ length (lent source.old) }
     ensures gives { AnswersBy I.Input (λ _. tokens.operator text.new) source.old source.new
         source.old.place result (token_of (Some limits.scalar) an_operator) }
-    ensures further { 1 ≤ length (lent source.old)
-        → OnOk result (source.old.place < source.new.place) }
+    ensures further { OnOk result (source.old.place < source.new.place) }
     ensures reads { ReadsInto I.Input source.old source.new meter.old meter.new
         (length text.old) (length text.new) limits.scalar result }
     ensures goes { GrowsWithin meter.old meter.new (length text.old) (length text.new)

@@ -13,6 +13,7 @@ ghost use Rattle.ion_text_in.specs.Blanks.{blanks};
 ghost use Rattle.ion_text_in.specs.Positions.{at, innermost, in_sexp};
 ghost use Rattle.ion_text_in.specs.Reading as reading;
 ghost use Rattle.ion_text_in.specs.Reading.{reading};
+ghost use Rattle.ion_text_in.specs.Token.{name};
 ghost use Rattle.ion_text_in.specs.Tokens.{as_symbol, going, token_view, BodyInRange};
 ghost use Rattle.ion_text_in.specs.Symbols.{is_annotated, kept_text};
 ghost use Rattle.ion_text_in.specs.Expecting.{wanted, MayExpect};
@@ -358,7 +359,7 @@ impl<I: Input, A: Allocator + Copy> TextReader<I, A> {
         ensures gives { I.observable self.old.source.device → (d : Cursor)
             → blanks d ≡ blanks (cursor I.Input self.old.source)
             → StepGives I.Input (taking self.old place
-            (token_view self.old.text place (Token.Symbol symbol quoted)) d) self.new result }
+            (name quoted (as_symbol self.old.text symbol)) d) self.new result }
         ensures ready { ReadyAfter result self.new }
         ensures stepped { Stepped I.Input StepResult.Item self.old self.new
             meter.old meter.new result }

@@ -1,24 +1,23 @@
 //! Tokens, each read by the kind that its first bytes tell (Ion specification, "Text Encoding").
-ghost use Rattle.std.specs.Prelude.{◌≡◌, ◌≤◌, ◌+◌, ◌*◌, ℕ, List, Some, None, length, IfOk};
+ghost use Rattle.std.specs.Prelude.{◌≡◌, ◌≢◌, ◌≤◌, ◌+◌, ◌*◌, ℕ, List, Some, length, IfOk};
 ghost use Rattle.ion_meter.specs.Sources.{cursor};
 ghost use Rattle.ion_meter.specs.Windows.{lent};
 ghost use Rattle.ion_value.specs.Calls.{CanRead, passed_over};
 ghost use Rattle.ion_value.specs.Standing.{InRange};
 ghost use Rattle.ion_value.specs.Shares.{GrowsWithin};
-ghost use Rattle.ion_text_in.specs.Symbols.{prepaid, prepaid_word};
+ghost use Rattle.ion_text_in.specs.Symbols.{prepaid};
 ghost use Rattle.ion_text_in.specs.Firsts.{first_of, width};
 ghost use Rattle.ion_text_in.specs.Token as tokens;
 ghost use Rattle.ion_text_in.specs.Token.{token_of};
 ghost use Rattle.ion_text_in.specs.Lobs.{lob_of};
-ghost use Rattle.ion_text_in.specs.Tokens.{as_scalar, overrun_of, token_view, BodyInRange, ReadsToken, TokenGives, TokenInRange};
-ghost use Rattle.ion_text_in.specs.Views.{as_number, word_token_of};
+ghost use Rattle.ion_text_in.specs.Tokens.{as_scalar, BodyInRange, ReadsToken, TokenGives};
+ghost use Rattle.ion_text_in.specs.Views.{as_number};
 
 use crate::first::First;
 use crate::lob::{Lob, next_lob};
 use crate::number::{Number, next_number};
 use crate::operator::{next_infinity, next_operator, pass_colons, pass_mark};
-use crate::text::{next_long_string, next_quoted_symbol, next_short_string};
-use crate::word::{Word, next_word};
+use crate::text::{next_long_string, next_short_string};
 use ion_meter::buf::Buf;
 use ion_meter::device::Input;
 use ion_meter::fault::{Fault, Reason};
@@ -63,19 +62,19 @@ pub(crate) enum Body {
     Blob,
 }
 
-/// A token. The bytes of a symbol's text, a string, a lob or an operator stand beside it.
+/// A token that is no word. The bytes of a symbol's text, a string, a lob or an operator stand beside it.
 #[derive(Clone, Copy)]
 pub(crate) enum Token {
     /// A scalar that is neither a symbol nor a string.
     Plain(Body),
-    /// A symbol, and whether it stands in quotes.
-    Symbol(Symbol, bool),
+    /// A symbol in quotes.
+    Symbol,
     /// A string. Behind a long one blanks were passed over: `Some` is the place where a comment
     /// begins among them that does not end.
     String(Option<u64>),
     /// An operator.
     Operator,
-    /// `nan`, `+inf` or `-inf`.
+    /// `+inf` or `-inf`.
     NoNumber,
     /// A container begins.
     Begin(Kind),
@@ -90,7 +89,7 @@ pub(crate) enum Token {
 }
 
 /// Reads the token whose kind was told by its first bytes, which stand in the window. The bytes of
-/// a text, a lob or an operator are copied to `text`.
+/// a text, a lob or an operator are copied to `text`. Words and symbols in quotes are not read here.
 ///
 /// Each fault stands at the token's first byte.
 pub(crate) fn next_token<I: Input, A: Allocator + Copy>(
@@ -102,6 +101,7 @@ pub(crate) fn next_token<I: Input, A: Allocator + Copy>(
 ) -> Result<Token, Fault>
     requires can_read { CanRead limits limits.scalar source.old text.old meter.old }
     requires there { width (first_of first) ≤ length (lent source.old) }
+    requires other { (first ≢ First.Word) × (first ≢ First.QuotedSymbol) }
     ensures gives { I.observable source.old.device → TokenGives text.new source.old.place result
         (cursor I.Input source.new)
         (token_of (Some limits.scalar) (first_of first) (cursor I.Input source.old)) }
@@ -113,9 +113,7 @@ pub(crate) fn next_token<I: Input, A: Allocator + Copy>(
         ≤ length text.old + 16 * passed_over source.old source.new) }
 {
     match first {
-        First::Word => word_token(source, text, limits, meter),
         First::Number => number_token(source, text, limits, meter),
-        First::QuotedSymbol => quoted_token(source, text, limits, meter),
         First::String => string_token(source, text, limits, meter),
         First::LongString => long_string_token(source, text, limits, meter),
         First::Lob => lob_token(source, text, limits, meter),
@@ -142,32 +140,7 @@ pub(crate) fn next_token<I: Input, A: Allocator + Copy>(
             Ok(Token::Colons)
         }
         First::Nothing => Err(Fault::Refused(Reason::BadToken, source.place())),
-    }
-}
-
-// The word that begins here.
-#[inline]
-fn word_token<I: Input, A: Allocator + Copy>(
-    source: &mut Source<I, A>,
-    text: &mut Buf<A>,
-    limits: Limits,
-    meter: &mut Meter<A>,
-) -> Result<Token, Fault>
-    requires can_read { CanRead limits limits.scalar source.old text.old meter.old }
-    requires there { 1 ≤ length (lent source.old) }
-    ensures gives { I.observable source.old.device → TokenGives text.new source.old.place result
-        (cursor I.Input source.new)
-        (token_of (Some limits.scalar) tokens.a_word (cursor I.Input source.old)) }
-    ensures reads { ReadsToken I.Input limits source.old source.new meter.old meter.new
-        text.old text.new result }
-    ensures goes { GrowsWithin meter.old meter.new (length text.old) (length text.new)
-        (16 * passed_over source.old source.new) }
-    ensures paid { IfOk result (λ token. length text.new + prepaid text.new token
-        ≤ length text.old + 16 * passed_over source.old source.new) }
-{
-    match next_word(source, text, limits, meter) {
-        Err(fault) => Err(fault),
-        Ok(word) => Ok(word_of(word)),
+        First::Word | First::QuotedSymbol => unreachable!(),
     }
 }
 
@@ -194,32 +167,6 @@ fn number_token<I: Input, A: Allocator + Copy>(
     match next_number(source, text, limits, meter) {
         Err(fault) => Err(fault),
         Ok(number) => Ok(Token::Plain(number_body(number))),
-    }
-}
-
-// The symbol in quotes that begins here.
-#[inline]
-fn quoted_token<I: Input, A: Allocator + Copy>(
-    source: &mut Source<I, A>,
-    text: &mut Buf<A>,
-    limits: Limits,
-    meter: &mut Meter<A>,
-) -> Result<Token, Fault>
-    requires can_read { CanRead limits limits.scalar source.old text.old meter.old }
-    requires there { 1 ≤ length (lent source.old) }
-    ensures gives { I.observable source.old.device → TokenGives text.new source.old.place result
-        (cursor I.Input source.new)
-        (token_of (Some limits.scalar) tokens.a_quoted (cursor I.Input source.old)) }
-    ensures reads { ReadsToken I.Input limits source.old source.new meter.old meter.new
-        text.old text.new result }
-    ensures goes { GrowsWithin meter.old meter.new (length text.old) (length text.new)
-        (16 * passed_over source.old source.new) }
-    ensures paid { IfOk result (λ token. length text.new + prepaid text.new token
-        ≤ length text.old + 16 * passed_over source.old source.new) }
-{
-    match next_quoted_symbol(source, text, limits, meter) {
-        Err(fault) => Err(fault),
-        Ok(()) => Ok(Token::Symbol(Symbol::Text, true)),
     }
 }
 
@@ -363,24 +310,6 @@ fn number_body(number: Number) -> Body
         Number::Int(int) => Body::Int(int),
         Number::Decimal(decimal) => Body::Decimal(decimal),
         Number::Timestamp(timestamp) => Body::Timestamp(timestamp),
-    }
-}
-
-// A word as a token.
-#[inline]
-fn word_of(word: Word) -> Token
-    ensures is { (bytes : List ℕ) (place : ℕ)
-        → token_view bytes place result ≡ word_token_of bytes word }
-    ensures range { TokenInRange result }
-    ensures alone { overrun_of result ≡ None }
-    ensures prepaid { (bytes : List ℕ) → prepaid bytes result ≡ prepaid_word bytes word }
-{
-    match word {
-        Word::Null(ion_type) => Token::Plain(Body::Null(ion_type)),
-        Word::Bool(truth) => Token::Plain(Body::Bool(truth)),
-        Word::NoNumber => Token::NoNumber,
-        Word::Id(id) => Token::Symbol(Symbol::Id(id), false),
-        Word::Name => Token::Symbol(Symbol::Text, false),
     }
 }
 

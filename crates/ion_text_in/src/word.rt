@@ -187,10 +187,10 @@ pub(crate) fn next_word<I: Input, A: Allocator + Copy>(
     meter: &mut Meter<A>,
 ) -> Result<Word, Fault>
     requires can_read { CanRead limits limits.scalar source.old text.old meter.old }
+    requires there { 1 ≤ length (lent source.old) }
     ensures gives { AnswersBy I.Input (word_token_of text.new) source.old source.new
         source.old.place result (token_of (Some limits.scalar) a_word) }
-    ensures further { 1 ≤ length (lent source.old)
-        → OnOk result (source.old.place < source.new.place) }
+    ensures further { OnOk result (source.old.place < source.new.place) }
     ensures reads { ReadsInto I.Input source.old source.new meter.old meter.new
         (length text.old) (length text.new) limits.scalar result }
     ensures goes { GrowsWithin meter.old meter.new (length text.old) (length text.new)
@@ -224,10 +224,10 @@ fn gather_word<I: Input, A: Allocator + Copy>(
     meter: &mut Meter<A>,
 ) -> Result<Word, Fault>
     requires can_read { CanRead limits limits.scalar source.old text.old meter.old }
+    requires there { 1 ≤ length (lent source.old) }
     ensures gives { AnswersBy I.Input (word_token_of text.new) source.old source.new
         source.old.place result (token_of (Some limits.scalar) a_word) }
-    ensures further { 1 ≤ length (lent source.old)
-        → OnOk result (source.old.place < source.new.place) }
+    ensures further { OnOk result (source.old.place < source.new.place) }
     ensures reads { ReadsInto I.Input source.old source.new meter.old meter.new
         (length text.old) (length text.new) limits.scalar result }
     ensures goes { GrowsWithin meter.old meter.new (length text.old) (length text.new)
@@ -253,10 +253,10 @@ fn gather_typed<I: Input, A: Allocator + Copy>(
     meter: &mut Meter<A>,
 ) -> Result<(), Fault>
     requires can_read { CanRead limits limits.scalar source.old text.old meter.old }
+    requires there { 1 ≤ length (lent source.old) }
     ensures gives { AnswersBy I.Input (λ _. text.new) source.old source.new source.old.place result
         (spelled word_of (Some limits.scalar)) }
-    ensures further { 1 ≤ length (lent source.old)
-        → OnOk result (source.old.place < source.new.place) }
+    ensures further { OnOk result (source.old.place < source.new.place) }
     ensures reads { ReadsInto I.Input source.old source.new meter.old meter.new
         (length text.old) (length text.new) limits.scalar result }
     ensures goes { GrowsWithin meter.old meter.new (length text.old) (length text.new)

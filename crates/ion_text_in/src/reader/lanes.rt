@@ -1,6 +1,6 @@
 //! Tokens that are read and taken. Words, numbers and symbols in quotes, which a lane leaves most, are taken
 //! at once: no token is built of them that is copied and told apart again.
-ghost use Rattle.std.specs.Prelude.{◌≡◌, ◌<◌, ◌≤◌, ◌+◌, ◌*◌, length, Ok, OnOk};
+ghost use Rattle.std.specs.Prelude.{◌≡◌, ◌≢◌, ◌<◌, ◌≤◌, ◌+◌, ◌*◌, length, Ok, OnOk};
 ghost use Rattle.ion_meter.specs.Counts.{Counts};
 ghost use Rattle.ion_meter.specs.Sources.{Cursor, cursor};
 ghost use Rattle.ion_meter.specs.Windows.{lent};
@@ -51,11 +51,12 @@ impl<I: Input, A: Allocator + Copy> TextReader<I, A> {
         }
     }
 
-    // The same by way of a token.
+    // The same by way of a token, of what is neither a word nor a symbol in quotes.
     #[inline(never)]
     fn other(&mut self, first: First, meter: &mut Meter<A>) -> Result<StepResult, Fault>
         requires can_step { CanStep self.old meter.old }
         requires there { width (first_of first) ≤ length (lent self.old.source) }
+        requires other { (first ≢ First.Word) × (first ≢ First.QuotedSymbol) }
         ensures gives { I.observable self.old.source.device → StepGives I.Input
             (part_by I.Input self.old (first_of first)) self.new result }
         ensures ready { ReadyAfter result self.new }
@@ -90,7 +91,7 @@ impl<I: Input, A: Allocator + Copy> TextReader<I, A> {
             (held_by self.old) (held_by self.new) (left_to self.old) (left_to self.new) }
     {
         match self.expected {
-            Expected::Separator => self.other(First::Word, meter),
+            Expected::Separator => Err(Fault::Refused(Reason::BadToken, self.source.place())),
             Expected::Field => self.name(meter),
             Expected::Value => self.value_word(meter),
         }
@@ -259,7 +260,7 @@ impl<I: Input, A: Allocator + Copy> TextReader<I, A> {
         }
         match next_quoted_symbol(&mut self.source, &mut self.text, self.limits, meter) {
             Err(fault) => Err(fault),
-            Ok(()) => self.take(Token::Symbol(Symbol::Text, true), place, meter),
+            Ok(()) => self.take(Token::Symbol, place, meter),
         }
     }
 
@@ -368,7 +369,7 @@ impl<I: Input, A: Allocator + Copy> TextReader<I, A> {
             (prepaid self.old.text token + 16 * passed_over self.old.source self.new.source) }
     {
         match token {
-            Token::Symbol(symbol, _) => self.named(symbol, place),
+            Token::Symbol => self.named(Symbol::Text, place),
             Token::String(None) => self.named(Symbol::Text, place),
             Token::String(Some(start)) => Err(Fault::Refused(Reason::Truncated, start)),
             Token::End(kind) => self.close(kind, place, meter),
@@ -402,7 +403,7 @@ impl<I: Input, A: Allocator + Copy> TextReader<I, A> {
             Token::Plain(body) => Ok(self.scalar(body, place, None)),
             Token::String(start) => Ok(self.scalar(Body::String, place, start)),
             Token::Operator => Ok(self.scalar(Body::Symbol(Symbol::Text), place, None)),
-            Token::Symbol(symbol, quoted) => self.symbol(symbol, quoted, place, meter),
+            Token::Symbol => self.symbol(Symbol::Text, true, place, meter),
             Token::Begin(kind) => self.open(kind, place, meter),
             Token::End(kind) => self.close_bare(kind, place, meter),
             Token::NoNumber => Err(Fault::Refused(Reason::Float, place)),

@@ -1,9 +1,7 @@
-use Rattle.std.proofs.Common.{◌≡◌, ℕ, true, length, subst, List, take, Ok, sym, ap, ◌∙◌, arith}
+use Rattle.std.proofs.Common.{ℕ, List, take, Ok, sym, ap, ◌∙◌, arith}
 use Rattle.std.proofs.lemmas.Grind.{common_steps}
 use Rattle.ion_meter.specs.Windows.{left}
-use Rattle.ion_value.specs.Digits.{all_are}
 use Rattle.ion_text_in.specs.Blanks.{in_block}
-use Rattle.ion_text_in.specs.Overrun.{is_neither}
 use Rattle.ion_text_in.proofs.BlankTurns.{block-cut, block-over-run, star-stands}
 use Rattle.ion_text_in.proofs.Runs.{no-byte}
 use Rattle.ion_text_in.proofs.Turns.{turn, turn-then, turn-first, gone-then, reads-gone}
@@ -69,18 +67,16 @@ pub block-preserved : goal.block-preserved
 block-preserved g c =
     let inv = c.block.invariant in
     let s = c.block.source in
-    let t = c.consume-else-star.new.self in
+    let t = c.consume.new.self in
     let peek = c.in-Ok-Some.ensures in
     let bytes : List ℕ = c.buffer-bytes.result.now in
     let run = c.run_without-plain.ensures in
-    let n : ℕ = length bytes in
-    let whole : c.run_without-plain.result ≡ n = omega (arith, run.within, c.if-star.false) in
-    let all : all_are (is_neither 42 42) (take n bytes) ≡ true = subst (λ (k : ℕ). all_are (is_neither 42 42) (take k bytes) ≡ true) whole run.run in
-    let passed = turn g.I.Input s c.peek.new.self t bytes n inv.gone.stands peek.kept peek.well.1 (rw inv.gone.stands.well at peek.count) c.buffer-bytes.ensures (omega arith) c.consume-else-star.ensures in
+    let n = c.run_without-plain.result in
+    let passed = turn g.I.Input s c.peek.new.self t bytes n inv.gone.stands peek.kept peek.well.1 (rw inv.gone.stands.well at peek.count) c.buffer-bytes.ensures run.within c.consume.ensures in
     record {
       gone = gone-then g.I.Input c.args.source.now s t inv.gone passed.gone;
       behind = λ h start.
-          let over = block-over-run start s.place (take n bytes) (left g.I.Input.rest t) all in
+          let over = block-over-run start s.place (take n bytes) (left g.I.Input.rest t) run.run in
           inv.behind h start
           ∙ turn-then g.I.Input s t (take n bytes) (λ d. in_block start d.place d.rest) (λ d. in_block start d.place d.rest) passed (inv.gone.moves.still_observable.1 h) over;
     }
@@ -99,9 +95,6 @@ returns-in-Err-pass_star-clause-reads g c = grind (arith, common_steps)
 
 pub returns-in-Ok-true-clause-reads : goal.returns-in-Ok-true-clause-reads
 returns-in-Ok-true-clause-reads g c = grind (arith, common_steps)
-
-pub consume-requires-else-star : goal.consume-requires-else-star
-consume-requires-else-star g c = grind (arith, common_steps)
 
 pub returns-in-Err-clause-reads : goal.returns-in-Err-clause-reads
 returns-in-Err-clause-reads g c = grind (arith, common_steps) steps 400000

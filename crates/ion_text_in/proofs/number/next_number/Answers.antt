@@ -21,10 +21,10 @@ returns-in-Fault-clause-gives g c = λ h.
     (shown-fault g.I.Input number_token c.args.source.now c.in-Fault.reason reading shows, c.place.ensures)
 
 pub returns-in-Whole-clause-further : goal.returns-in-Whole-clause-further
-returns-in-Whole-clause-further g c = λ some.
+returns-in-Whole-clause-further g c =
     let reading = token_of (Some c.args.limits.scalar) a_run in
     let shows = subst (λ (l : List ℕ). Shows number_token l (scanned.Whole c.in-Whole.number c.in-Whole.count) reading) c.buffer.ensures c.in-Whole.ensures.shows in
-    shown-further number_token c.args.source.now c.consume.new.self c.in-Whole.number c.in-Whole.count (Some c.args.limits.scalar) a_run shows some c.consume.ensures
+    shown-further number_token c.args.source.now c.consume.new.self c.in-Whole.number c.in-Whole.count (Some c.args.limits.scalar) a_run shows c.requires.there c.consume.ensures
 
 pub returns-in-Whole-clause-reads : goal.returns-in-Whole-clause-reads
 returns-in-Whole-clause-reads g c = grind (arith, common_steps) steps 400000

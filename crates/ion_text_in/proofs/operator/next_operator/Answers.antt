@@ -47,14 +47,14 @@ returns-in-Cut-clause-gives g c = λ h.
     (λ x e. operator-spelled limit from to text e) (λ reason e. operator-refused limit from reason e) (c.gather_token.ensures.gives h)
 
 pub returns-in-Whole-clause-further : goal.returns-in-Whole-clause-further
-returns-in-Whole-clause-further g c = λ some.
+returns-in-Whole-clause-further g c =
     let s = c.args.source.now in
     let t = c.copy.new.source in
     let n = c.in-Whole.count in
     let reading = token_of (Some c.args.limits.scalar) an_operator in
     let view = λ (u : Unit {0}). tokens.operator (take n (lent s)) in
     let shows = subst (λ (l : List ℕ). Shows (λ (u : Unit {0}). tokens.operator (take n l)) l (scanned.Whole tt n) reading) c.buffer.ensures c.in-Whole.ensures.shows in
-    on-ok-map c.copy.result c.copy.ensures.copies (λ (copied : IsAppended [] c.copy.new.text s t n). shown-further view s t tt n (Some c.args.limits.scalar) an_operator shows some copied.passed)
+    on-ok-map c.copy.result c.copy.ensures.copies (λ (copied : IsAppended [] c.copy.new.text s t n). shown-further view s t tt n (Some c.args.limits.scalar) an_operator shows c.requires.there copied.passed)
 
 pub returns-in-Fault-clause-reads : goal.returns-in-Fault-clause-reads
 returns-in-Fault-clause-reads g c = grind (arith, common_steps) steps 400000

@@ -42,22 +42,22 @@ returns-in-Fault-clause-gives g c = λ h.
     (shown-fault g.I.Input (word_token_of []) c.args.source.now c.in-Fault.reason reading shows, c.place.ensures)
 
 pub returns-in-Ok-clause-further : goal.returns-in-Ok-clause-further
-returns-in-Ok-clause-further g c = λ some.
+returns-in-Ok-clause-further g c =
     let s = c.args.source.now in
     let n = c.in-Whole.count in
     let w = c.in-Whole.word in
     let reading = token_of (Some c.args.limits.scalar) a_word in
     let shows = subst (λ (l : List ℕ). Shows (word_token_of (take n l)) l (scanned.Whole w n) reading) c.buffer.ensures c.in-Whole.ensures.shows in
-    shown-further (word_token_of (take n (lent s))) s c.copy.new.source w n (Some c.args.limits.scalar) a_word shows some c.in-Ok.ensures.copies.passed
+    shown-further (word_token_of (take n (lent s))) s c.copy.new.source w n (Some c.args.limits.scalar) a_word shows c.requires.there c.in-Ok.ensures.copies.passed
 
 pub returns-in_default-clause-further : goal.returns-in_default-clause-further
-returns-in_default-clause-further g c = λ some.
+returns-in_default-clause-further g c =
     let s = c.args.source.now in
     let n = c.in-Whole.count in
     let w = c.in-Whole.word in
     let reading = token_of (Some c.args.limits.scalar) a_word in
     let shows = subst (λ (l : List ℕ). Shows (word_token_of (take n l)) l (scanned.Whole w n) reading) c.buffer.ensures c.in-Whole.ensures.shows in
-    shown-further (word_token_of (take n (lent s))) s c.consume.new.self w n (Some c.args.limits.scalar) a_word shows some c.consume.ensures
+    shown-further (word_token_of (take n (lent s))) s c.consume.new.self w n (Some c.args.limits.scalar) a_word shows c.requires.there c.consume.ensures
 
 pub returns-in_default-clause-fresh : goal.returns-in_default-clause-fresh
 returns-in_default-clause-fresh g c =

@@ -33,3 +33,21 @@ returns-in-Err-clause-reads g c = grind (arith, common_steps) steps 400000
 
 pub loop-more-smaller : goal.loop-more-smaller
 loop-more-smaller g c = grind (arith, common_steps) steps 400000
+
+pub returns-in-Err-clause-plain : goal.returns-in-Err-clause-plain
+returns-in-Err-clause-plain g c = grind (arith, common_steps) steps 400000
+
+pub returns-in-Err-clause-cut : goal.returns-in-Err-clause-cut
+returns-in-Err-clause-cut g c = grind (arith, common_steps) steps 400000
+
+pub returns-in-Ok-None-clause-plain : goal.returns-in-Ok-None-clause-plain
+returns-in-Ok-None-clause-plain g c = grind (arith, common_steps) steps 400000
+
+pub returns-in-Ok-None-clause-all : goal.returns-in-Ok-None-clause-all
+returns-in-Ok-None-clause-all g c = grind (arith, common_steps) steps 400000
+
+pub returns-clause-reads : goal.returns-clause-reads
+returns-clause-reads g c = grind (arith, common_steps) steps 400000
+
+pub returns-in-Err-clause-all : goal.returns-in-Err-clause-all
+returns-in-Err-clause-all g c = grind (arith, common_steps) steps 400000

@@ -14,3 +14,9 @@ returns-in-Some-clause-goes g c = grind (arith, common_steps) steps 400000
 
 pub returns-in-None-clause-goes : goal.returns-in-None-clause-goes
 returns-in-None-clause-goes g c = grind (arith, common_steps) steps 400000
+
+pub next_top-requires-clause-none : goal.next_top-requires-clause-none
+next_top-requires-clause-none g c = grind (arith, common_steps) steps 400000
+
+pub returns-in-Some-clause-over : goal.returns-in-Some-clause-over
+returns-in-Some-clause-over g c = grind (arith, common_steps) steps 400000

@@ -50,3 +50,36 @@ returns-in-Err-clause-most g c = grind (arith, common_steps) steps 400000
 
 pub returns-in-Err-clause-falls : goal.returns-in-Err-clause-falls
 returns-in-Err-clause-falls g c = grind (arith, common_steps) steps 400000
+
+pub returns-in-Err-clause-stays : goal.returns-in-Err-clause-stays
+returns-in-Err-clause-stays g c = grind (arith, common_steps) steps 400000
+
+pub returns-in-Ok-clause-again : goal.returns-in-Ok-clause-again
+returns-in-Ok-clause-again g c = grind (arith, common_steps) steps 400000
+
+pub returns-in-Ok-clause-charges : goal.returns-in-Ok-clause-charges
+returns-in-Ok-clause-charges g c = grind (arith, common_steps) steps 400000
+
+pub returns-in-Ok-clause-refuses : goal.returns-in-Ok-clause-refuses
+returns-in-Ok-clause-refuses g c = grind (arith, common_steps) steps 400000
+
+pub returns-in-Err-clause-charges : goal.returns-in-Err-clause-charges
+returns-in-Err-clause-charges g c = grind (arith, common_steps) steps 400000
+
+pub returns-in-Err-clause-ends : goal.returns-in-Err-clause-ends
+returns-in-Err-clause-ends g c = grind (arith, common_steps) steps 400000
+
+pub returns-in-Some-clause-again : goal.returns-in-Some-clause-again
+returns-in-Some-clause-again g c = grind (arith, common_steps) steps 400000
+
+pub returns-then-self-clause-fits : goal.returns-then-self-clause-fits
+returns-then-self-clause-fits g c = grind (arith, common_steps) steps 400000
+
+pub returns-then-self-clause-again : goal.returns-then-self-clause-again
+returns-then-self-clause-again g c = grind (arith, common_steps) steps 400000
+
+pub returns-in-Some-clause-stays : goal.returns-in-Some-clause-stays
+returns-in-Some-clause-stays g c = grind (arith, common_steps) steps 400000
+
+pub returns-in-Some-clause-fits : goal.returns-in-Some-clause-fits
+returns-in-Some-clause-fits g c = grind (arith, common_steps) steps 400000

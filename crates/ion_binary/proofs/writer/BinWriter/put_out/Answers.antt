@@ -1,4 +1,6 @@
 use Rattle.std.proofs.Common.{◌≡◌, ◌≤◌, ◌<◌, ◌^◌, ℕ, List, length, refl, ap, arith, rules}
+use Rattle.std.proofs.lemmas.Grind.{common_steps}
+use Rattle.std.proofs.lemmas.Option.{none-some}
 use Rattle.ion_binary.specs.Writer.{held_in}
 use Rattle.ion_binary.proofs.DeclarationOctets.{few-texts}
 use Rattle.ion_binary.proofs.WriterSteps.{none-open, puts-nothing}
@@ -49,7 +51,7 @@ returns-clause-taken g c =
       };
       limits = refl;
       failed = refl;
-      memory = record { memory = λ x. absurd (Prim.cc x); counted = λ x. c.clear.ensures.cost.refused };
+      memory = record { memory = λ x. absurd (none-some _ x); counted = λ x. c.clear.ensures.cost.refused };
       charges = record {
         held = omega (arith, ch, b, held);
         share = omega (arith, b, share, headers);
@@ -57,3 +59,15 @@ returns-clause-taken g c =
         rises = omega (arith, cp);
       };
     }
+
+pub returns-clause-open : goal.returns-clause-open
+returns-clause-open g c = grind (arith, common_steps) steps 400000
+
+pub returns-clause-puts : goal.returns-clause-puts
+returns-clause-puts g c = grind (arith, common_steps) steps 400000
+
+pub returns-clause-held : goal.returns-clause-held
+returns-clause-held g c = grind (arith, common_steps) steps 400000
+
+pub returns-clause-causes : goal.returns-clause-causes
+returns-clause-causes g c = grind (arith, common_steps) steps 400000

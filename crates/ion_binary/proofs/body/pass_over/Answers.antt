@@ -51,3 +51,12 @@ returns-clause-reads g c = grind (arith, common_steps) steps 400000
 
 pub returns-in-Err-clause-all : goal.returns-in-Err-clause-all
 returns-in-Err-clause-all g c = grind (arith, common_steps) steps 400000
+
+pub overflow_sub-more : goal.overflow_sub-more
+overflow_sub-more g c = grind (arith, common_steps) steps 400000
+
+pub returns-clause-cut : goal.returns-clause-cut
+returns-clause-cut g c = grind (arith, common_steps) steps 400000
+
+pub loop-more-init : goal.loop-more-init
+loop-more-init g c = grind (arith, common_steps) steps 400000

@@ -32,3 +32,15 @@ returns-clause-few c = grind (arith, common_steps) steps 400000
 
 pub behind-requires-3 : goal.behind-requires-3
 behind-requires-3 c = grind (arith, common_steps) steps 400000
+
+pub returns-then-inside-lt14-clause-few : goal.returns-then-inside-lt14-clause-few
+returns-then-inside-lt14-clause-few c = grind (arith, common_steps) steps 400000
+
+pub behind-requires-2 : goal.behind-requires-2
+behind-requires-2 c = grind (arith, common_steps) steps 400000
+
+pub behind-ids-requires : goal.behind-ids-requires
+behind-ids-requires c = grind (arith, common_steps) steps 400000
+
+pub behind-requires-then-inside-lt14 : goal.behind-requires-then-inside-lt14
+behind-requires-then-inside-lt14 c = grind (arith, common_steps) steps 400000

@@ -16,3 +16,9 @@ returns-in-Ok-clause-causes g c = grind (arith, common_steps) steps 400000
 
 pub returns-in-Ok-clause-puts : goal.returns-in-Ok-clause-puts
 returns-in-Ok-clause-puts g c = grind (arith, common_steps) steps 400000
+
+pub extend-requires-clause-countable : goal.extend-requires-clause-countable
+extend-requires-clause-countable g c = grind (arith, common_steps) steps 400000
+
+pub extend-requires-clause-room : goal.extend-requires-clause-room
+extend-requires-clause-room g c = grind (arith, common_steps) steps 400000

@@ -46,3 +46,6 @@ returns-then-no_wrapper_holds-clause-range g c = grind (arith, common_steps) ste
 
 pub returns-clause-deep : goal.returns-clause-deep
 returns-clause-deep g c = grind (arith, common_steps) steps 400000
+
+pub returns-clause-goes : goal.returns-clause-goes
+returns-clause-goes g c = grind (arith, common_steps) steps 400000

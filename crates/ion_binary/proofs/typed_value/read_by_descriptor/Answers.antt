@@ -101,3 +101,36 @@ returns-in-Float-clause-deep g c = grind (arith, common_steps) steps 400000
 
 pub returns-in_ok-end-in-Container-clause-deep : goal.returns-in_ok-end-in-Container-clause-deep
 returns-in_ok-end-in-Container-clause-deep g c = grind (arith, common_steps) steps 400000
+
+pub returns-in_ok-next_nop_pad-in-NopPad-clause-goes : goal.returns-in_ok-next_nop_pad-in-NopPad-clause-goes
+returns-in_ok-next_nop_pad-in-NopPad-clause-goes g c = grind (arith, common_steps) steps 400000
+
+pub next_scalar-requires-clause-length_code : goal.next_scalar-requires-clause-length_code
+next_scalar-requires-clause-length_code g c = grind (arith, common_steps) steps 400000
+
+pub returns-in_ok-end-in-Container-clause-goes : goal.returns-in_ok-end-in-Container-clause-goes
+returns-in_ok-end-in-Container-clause-goes g c = grind (arith, common_steps) steps 400000
+
+pub returns-in_ok-next_scalar-in-Body-clause-at_top : goal.returns-in_ok-next_scalar-in-Body-clause-at_top
+returns-in_ok-next_scalar-in-Body-clause-at_top g c = grind (arith, common_steps) steps 400000
+
+pub returns-in_ok-end-in-Container-clause-at_top : goal.returns-in_ok-end-in-Container-clause-at_top
+returns-in_ok-end-in-Container-clause-at_top g c = grind (arith, common_steps) steps 400000
+
+pub returns-in_ok-next_marker-in-Marker-clause-at_top : goal.returns-in_ok-next_marker-in-Marker-clause-at_top
+returns-in_ok-next_marker-in-Marker-clause-at_top g c = grind (arith, common_steps) steps 400000
+
+pub returns-in_ok-end-in-Sorted-clause-at_top : goal.returns-in_ok-end-in-Sorted-clause-at_top
+returns-in_ok-end-in-Sorted-clause-at_top g c = grind (arith, common_steps) steps 400000
+
+pub returns-in_ok-next_marker-in-Marker-clause-goes : goal.returns-in_ok-next_marker-in-Marker-clause-goes
+returns-in_ok-next_marker-in-Marker-clause-goes g c = grind (arith, common_steps) steps 400000
+
+pub returns-in_ok-end-in-Sorted-clause-goes : goal.returns-in_ok-end-in-Sorted-clause-goes
+returns-in_ok-end-in-Sorted-clause-goes g c = grind (arith, common_steps) steps 400000
+
+pub returns-in_ok-next_nop_pad-in-NopPad-clause-at_top : goal.returns-in_ok-next_nop_pad-in-NopPad-clause-at_top
+returns-in_ok-next_nop_pad-in-NopPad-clause-at_top g c = grind (arith, common_steps) steps 400000
+
+pub next_scalar-requires-clause-type_code : goal.next_scalar-requires-clause-type_code
+next_scalar-requires-clause-type_code g c = grind (arith, common_steps) steps 400000

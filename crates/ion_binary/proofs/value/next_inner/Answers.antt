@@ -78,3 +78,6 @@ returns-in-Err-next_typed_value-clause-reads g c = grind (arith, common_steps) s
 
 pub returns-in-Err-clause-no_marker : goal.returns-in-Err-clause-no_marker
 returns-in-Err-clause-no_marker g c = grind (arith, common_steps) steps 400000
+
+pub returns-in-Err-clause-goes : goal.returns-in-Err-clause-goes
+returns-in-Err-clause-goes g c = grind (arith, common_steps) steps 400000

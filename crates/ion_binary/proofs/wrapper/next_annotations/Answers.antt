@@ -112,3 +112,6 @@ returns-in-Err-clause-goes g c = grind (arith, common_steps) steps 400000
 
 pub returns-in-Err-clause-reads : goal.returns-in-Err-clause-reads
 returns-in-Err-clause-reads g c = grind (arith, common_steps) steps 1200000
+
+pub push-requires-clause-countable : goal.push-requires-clause-countable
+push-requires-clause-countable g c = grind (arith, common_steps) steps 400000

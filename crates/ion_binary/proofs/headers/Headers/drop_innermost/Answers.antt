@@ -21,3 +21,6 @@ returns-clause-cost g c = grind (arith, common_steps) steps 400000
 
 pub overflow_sub-left : goal.overflow_sub-left
 overflow_sub-left g c = grind (arith, common_steps) steps 400000
+
+pub truncate-requires : goal.truncate-requires
+truncate-requires g c = grind (arith, common_steps) steps 400000

@@ -23,3 +23,6 @@ returns-clause-stepped g c = grind (arith, common_steps)
 
 pub overflow_cast-header : goal.overflow_cast-header
 overflow_cast-header g c = grind (arith, common_steps) steps 400000
+
+pub returns-clause-headers : goal.returns-clause-headers
+returns-clause-headers g c = grind (arith, common_steps) steps 400000

@@ -56,3 +56,12 @@ returns-then-octets-place-clause-octets g c = grind (arith, common_steps) steps 
 
 pub push-requires-clause-room : goal.push-requires-clause-room
 push-requires-clause-room g c = grind (arith, common_steps) steps 400000
+
+pub returns-then-octets-place-clause-over : goal.returns-then-octets-place-clause-over
+returns-then-octets-place-clause-over g c = grind (arith, common_steps) steps 400000
+
+pub push-requires-clause-countable : goal.push-requires-clause-countable
+push-requires-clause-countable g c = grind (arith, common_steps) steps 400000
+
+pub insert_slice-requires-clause-within : goal.insert_slice-requires-clause-within
+insert_slice-requires-clause-within g c = grind (arith, common_steps) steps 400000

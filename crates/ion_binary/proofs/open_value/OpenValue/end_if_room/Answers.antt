@@ -80,3 +80,12 @@ returns-clause-octets g c = grind (arith, common_steps) steps 400000
 
 pub returns-then-not-insert_header-clause-declines : goal.returns-then-not-insert_header-clause-declines
 returns-then-not-insert_header-clause-declines g c = grind (arith, common_steps) steps 400000
+
+pub insert_header-requires-clause-room : goal.insert_header-requires-clause-room
+insert_header-requires-clause-room g c = grind (arith, common_steps) steps 400000
+
+pub overflow_sub-inside : goal.overflow_sub-inside
+overflow_sub-inside g c = grind (arith, common_steps) steps 400000
+
+pub insert_header-requires-clause-short : goal.insert_header-requires-clause-short
+insert_header-requires-clause-short g c = grind (arith, common_steps) steps 400000

@@ -118,3 +118,9 @@ loop-i-init g c = grind (arith, common_steps) steps 400000
 
 pub overflow_sub-all : goal.overflow_sub-all
 overflow_sub-all g c = grind (arith, common_steps) steps 400000
+
+pub returns-in_default-clause-counts : goal.returns-in_default-clause-counts
+returns-in_default-clause-counts g c = grind (arith, common_steps) steps 400000
+
+pub returns-in_default-clause-headers : goal.returns-in_default-clause-headers
+returns-in_default-clause-headers g c = grind (arith, common_steps) steps 400000

@@ -50,3 +50,6 @@ returns-clause-octets g c is =
 
 pub put_few-requires-clause-few : goal.put_few-requires-clause-few
 put_few-requires-clause-few g c = grind (arith, common_steps) steps 400000
+
+pub returns-clause-headers : goal.returns-clause-headers
+returns-clause-headers g c = grind (arith, common_steps) steps 400000

@@ -95,3 +95,6 @@ fill-requires-clause-placed g c = grind (arith, common_steps) steps 400000
 
 pub returns-in-Err-clause-stepped : goal.returns-in-Err-clause-stepped
 returns-in-Err-clause-stepped g c = grind (arith, common_steps) steps 400000
+
+pub returns-clause-headers : goal.returns-clause-headers
+returns-clause-headers g c = grind (arith, common_steps) steps 400000

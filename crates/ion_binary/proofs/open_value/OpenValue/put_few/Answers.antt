@@ -45,3 +45,9 @@ returns-clause-declines g c = grind (arith, common_steps) steps 400000
 
 pub returns-clause-octets : goal.returns-clause-octets
 returns-clause-octets g c = grind (arith, common_steps) steps 400000
+
+pub extend_blocks_if_room-requires-clause-room : goal.extend_blocks_if_room-requires-clause-room
+extend_blocks_if_room-requires-clause-room g c = grind (arith, common_steps) steps 400000
+
+pub extend_blocks_if_room-requires-clause-others_within : goal.extend_blocks_if_room-requires-clause-others_within
+extend_blocks_if_room-requires-clause-others_within g c = grind (arith, common_steps) steps 400000

@@ -54,3 +54,6 @@ returns-clause-headers g c = grind (arith, common_steps) steps 400000
 
 pub header-octets-requires-clause-code : goal.header-octets-requires-clause-code
 header-octets-requires-clause-code g c = grind (arith, common_steps) steps 400000
+
+pub overflow_sub-as_slice : goal.overflow_sub-as_slice
+overflow_sub-as_slice g c = grind (arith, common_steps) steps 400000

@@ -37,3 +37,15 @@ extend_block_if_room-requires-clause-room g c = grind (arith, common_steps) step
 
 pub returns-clause-declines : goal.returns-clause-declines
 returns-clause-declines g c = grind (arith, common_steps) steps 400000
+
+pub returns-clause-headers : goal.returns-clause-headers
+returns-clause-headers g c = grind (arith, common_steps) steps 400000
+
+pub returns-then-not-surely_fits-clause-stepped : goal.returns-then-not-surely_fits-clause-stepped
+returns-then-not-surely_fits-clause-stepped g c = grind (arith, common_steps) steps 400000
+
+pub returns-then-not-surely_fits-clause-open : goal.returns-then-not-surely_fits-clause-open
+returns-then-not-surely_fits-clause-open g c = grind (arith, common_steps) steps 400000
+
+pub extend_block_if_room-requires-clause-within : goal.extend_block_if_room-requires-clause-within
+extend_block_if_room-requires-clause-within g c = grind (arith, common_steps) steps 400000

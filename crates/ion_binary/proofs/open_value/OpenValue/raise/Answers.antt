@@ -33,3 +33,9 @@ returns-then-content-level-clause-counted g c = grind (arith, common_steps) step
 
 pub content-requires-clause-few : goal.content-requires-clause-few
 content-requires-clause-few g c = grind (arith, common_steps) steps 400000
+
+pub returns-then-content-level-clause-octets : goal.returns-then-content-level-clause-octets
+returns-then-content-level-clause-octets g c = grind (arith, common_steps) steps 400000
+
+pub returns-then-content-level-clause-headers : goal.returns-then-content-level-clause-headers
+returns-then-content-level-clause-headers g c = grind (arith, common_steps) steps 400000

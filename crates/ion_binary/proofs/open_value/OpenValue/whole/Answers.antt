@@ -120,3 +120,6 @@ returns-clause-headers c = grind (arith, common_steps) steps 400000
 
 pub closed_size-requires-clause-short : goal.closed_size-requires-clause-short
 closed_size-requires-clause-short c = grind (arith, common_steps) steps 400000
+
+pub wrapper-front-requires-clause-ids : goal.wrapper-front-requires-clause-ids
+wrapper-front-requires-clause-ids c = grind (arith, common_steps) steps 400000

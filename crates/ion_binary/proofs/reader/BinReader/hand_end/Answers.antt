@@ -75,3 +75,24 @@ returns-then-not-take_plain-clause-handed g c = grind (arith, common_steps) step
 
 pub close-requires-clause-held : goal.close-requires-clause-held
 close-requires-clause-held g c = grind (arith, common_steps) steps 400000
+
+pub take_plain-requires-clause-room : goal.take_plain-requires-clause-room
+take_plain-requires-clause-room g c = grind (arith, common_steps) steps 400000
+
+pub take_plain-requires-clause-simple : goal.take_plain-requires-clause-simple
+take_plain-requires-clause-simple g c = grind (arith, common_steps) steps 400000
+
+pub returns-then-not-take_plain-clause-around : goal.returns-then-not-take_plain-clause-around
+returns-then-not-take_plain-clause-around g c = grind (arith, common_steps) steps 400000
+
+pub take_plain-requires-clause-plain : goal.take_plain-requires-clause-plain
+take_plain-requires-clause-plain g c = grind (arith, common_steps) steps 400000
+
+pub take_plain-requires-clause-well : goal.take_plain-requires-clause-well
+take_plain-requires-clause-well g c = grind (arith, common_steps) steps 400000
+
+pub take_plain-requires-clause-held : goal.take_plain-requires-clause-held
+take_plain-requires-clause-held g c = grind (arith, common_steps) steps 400000
+
+pub take_plain-requires-clause-countable : goal.take_plain-requires-clause-countable
+take_plain-requires-clause-countable g c = grind (arith, common_steps) steps 400000

@@ -113,3 +113,6 @@ hand_shape-requires-in-Container-clause-around g c = grind (arith, common_steps)
 
 pub hand_body-requires-clause-front : goal.hand_body-requires-clause-front
 hand_body-requires-clause-front g c = grind (arith, common_steps) steps 400000
+
+pub returns-then-front-octets-clause-around : goal.returns-then-front-octets-clause-around
+returns-then-front-octets-clause-around g c = grind (arith, common_steps) steps 400000

@@ -33,3 +33,6 @@ hand_head-requires-clause-goes_on g c = grind (arith, common_steps) steps 400000
 
 pub hand_head-requires-clause-around : goal.hand_head-requires-clause-around
 hand_head-requires-clause-around g c = grind (arith, common_steps) steps 400000
+
+pub returns-in_default-clause-around : goal.returns-in_default-clause-around
+returns-in_default-clause-around g c = grind (arith, common_steps) steps 400000

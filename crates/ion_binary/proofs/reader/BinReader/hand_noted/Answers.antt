@@ -57,3 +57,6 @@ returns-then-front-octets-clause-around g c = grind (arith, common_steps) steps 
 
 pub hand_shape-requires-clause-around : goal.hand_shape-requires-clause-around
 hand_shape-requires-clause-around g c = grind (arith, common_steps) steps 400000
+
+pub returns-in_default-clause-around : goal.returns-in_default-clause-around
+returns-in_default-clause-around g c = grind (arith, common_steps) steps 400000

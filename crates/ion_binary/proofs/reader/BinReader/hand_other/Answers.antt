@@ -40,3 +40,6 @@ hand_head-requires-clause-goes_on g c = grind (arith, common_steps) steps 400000
 
 pub returns-clause-around : goal.returns-clause-around
 returns-clause-around g c = grind (arith, common_steps) steps 400000
+
+pub returns-in_default-clause-around : goal.returns-in_default-clause-around
+returns-in_default-clause-around g c = grind (arith, common_steps) steps 400000

@@ -306,3 +306,6 @@ returns-then-not-take_plain-clause-around g c = grind (arith, common_steps) step
 
 pub returns-in_default-clause-around : goal.returns-in_default-clause-around
 returns-in_default-clause-around g c = grind (arith, common_steps) steps 400000
+
+pub shown_behind-requires-clause-sized : goal.shown_behind-requires-clause-sized
+shown_behind-requires-clause-sized g c = grind (arith, common_steps) steps 400000

@@ -25,3 +25,6 @@ returns-in-Err-clause-opens g c = grind (arith, common_steps) steps 400000
 
 pub returns-in-Err-clause-gives : goal.returns-in-Err-clause-gives
 returns-in-Err-clause-gives g c = grind (arith, common_steps) steps 400000
+
+pub returns-in-NopPad-clause-gives : goal.returns-in-NopPad-clause-gives
+returns-in-NopPad-clause-gives g c = grind (arith, common_steps) steps 400000

@@ -83,3 +83,27 @@ returns-in-Some-clause-stays g c = grind (arith, common_steps) steps 400000
 
 pub returns-in-Some-clause-fits : goal.returns-in-Some-clause-fits
 returns-in-Some-clause-fits g c = grind (arith, common_steps) steps 400000
+
+pub returns-then-self-clause-refuses : goal.returns-then-self-clause-refuses
+returns-then-self-clause-refuses g c = grind (arith, common_steps) steps 400000
+
+pub returns-in-Some-clause-falls : goal.returns-in-Some-clause-falls
+returns-in-Some-clause-falls g c = grind (arith, common_steps) steps 400000
+
+pub returns-in-Some-clause-refuses : goal.returns-in-Some-clause-refuses
+returns-in-Some-clause-refuses g c = grind (arith, common_steps) steps 400000
+
+pub returns-then-self-clause-falls : goal.returns-then-self-clause-falls
+returns-then-self-clause-falls g c = grind (arith, common_steps) steps 400000
+
+pub returns-in-Err-clause-goes : goal.returns-in-Err-clause-goes
+returns-in-Err-clause-goes g c = grind (arith, common_steps) steps 400000
+
+pub returns-in-Ok-clause-goes : goal.returns-in-Ok-clause-goes
+returns-in-Ok-clause-goes g c = grind (arith, common_steps) steps 400000
+
+pub returns-in-Some-clause-ends : goal.returns-in-Some-clause-ends
+returns-in-Some-clause-ends g c = grind (arith, common_steps) steps 400000
+
+pub returns-then-self-clause-ends : goal.returns-then-self-clause-ends
+returns-then-self-clause-ends g c = grind (arith, common_steps) steps 400000

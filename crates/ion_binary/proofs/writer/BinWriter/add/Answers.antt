@@ -128,3 +128,12 @@ returns-in-Ok-true-clause-ended g c = grind (arith, common_steps) steps 400000
 
 pub returns-in-Ok-false-clause-ended : goal.returns-in-Ok-false-clause-ended
 returns-in-Ok-false-clause-ended g c = grind (arith, common_steps) steps 400000
+
+pub put_front-requires-clause-can_number : goal.put_front-requires-clause-can_number
+put_front-requires-clause-can_number g c = grind (arith, common_steps) steps 400000
+
+pub returns-in-Err-clause-ended : goal.returns-in-Err-clause-ended
+returns-in-Err-clause-ended g c = grind (arith, common_steps) steps 400000
+
+pub returns-then-not-front-clause-ended : goal.returns-then-not-front-clause-ended
+returns-then-not-front-clause-ended g c = grind (arith, common_steps) steps 400000

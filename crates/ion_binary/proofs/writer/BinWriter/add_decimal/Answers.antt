@@ -47,3 +47,15 @@ put_decimal-requires-clause-some g c = grind (arith, common_steps) steps 400000
 
 pub add_spelled-requires-in_default-clause-whole : goal.add_spelled-requires-in_default-clause-whole
 add_spelled-requires-in_default-clause-whole g c = grind (arith, common_steps) steps 400000
+
+pub overflow_cast-magnitude : goal.overflow_cast-magnitude
+overflow_cast-magnitude g c = grind (arith, common_steps) steps 400000
+
+pub add_spelled-requires-in_default-clause-can_take : goal.add_spelled-requires-in_default-clause-can_take
+add_spelled-requires-in_default-clause-can_take g c = grind (arith, common_steps) steps 400000
+
+pub add_spelled-requires-clause-whole : goal.add_spelled-requires-clause-whole
+add_spelled-requires-clause-whole g c = grind (arith, common_steps) steps 400000
+
+pub put_decimal-requires-clause-open : goal.put_decimal-requires-clause-open
+put_decimal-requires-clause-open g c = grind (arith, common_steps) steps 400000

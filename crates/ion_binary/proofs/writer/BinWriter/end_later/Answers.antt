@@ -71,3 +71,6 @@ returns-clause-inside g c = grind (arith, common_steps) steps 400000
 
 pub returns-in_default-nth-clause-inside : goal.returns-in_default-nth-clause-inside
 returns-in_default-nth-clause-inside g c = grind (arith, common_steps) steps 400000
+
+pub returns-in_default-clause-inside : goal.returns-in_default-clause-inside
+returns-in_default-clause-inside g c = grind (arith, common_steps) steps 400000

@@ -56,3 +56,12 @@ returns-clause-fault g c = grind (arith, common_steps) steps 400000
 
 pub returns-then-room-len-clause-declines : goal.returns-then-room-len-clause-declines
 returns-then-room-len-clause-declines g c = grind (arith, common_steps) steps 400000
+
+pub returns-then-room-len-clause-device : goal.returns-then-room-len-clause-device
+returns-then-room-len-clause-device g c = grind (arith, common_steps) steps 400000
+
+pub returns-then-len-self-clause-declines : goal.returns-then-len-self-clause-declines
+returns-then-len-self-clause-declines g c = grind (arith, common_steps) steps 400000
+
+pub returns-then-room-len-clause-fault : goal.returns-then-room-len-clause-fault
+returns-then-room-len-clause-fault g c = grind (arith, common_steps) steps 400000

@@ -25,3 +25,6 @@ returns-then-not-surely_fits g c = grind (arith, common_steps) steps 400000
 
 pub give_next-requires-clause-short : goal.give_next-requires-clause-short
 give_next-requires-clause-short g c = grind (arith, common_steps) steps 400000
+
+pub give_next-requires-clause-room : goal.give_next-requires-clause-room
+give_next-requires-clause-room g c = grind (arith, common_steps) steps 400000

@@ -42,3 +42,6 @@ returns-clause-causes g c = grind (arith, common_steps) steps 400000
 
 pub returns-in-Err-put_declaration-clause-causes : goal.returns-in-Err-put_declaration-clause-causes
 returns-in-Err-put_declaration-clause-causes g c = grind (arith, common_steps) steps 400000
+
+pub returns-in-Err-clause-causes : goal.returns-in-Err-clause-causes
+returns-in-Err-clause-causes g c = grind (arith, common_steps) steps 400000

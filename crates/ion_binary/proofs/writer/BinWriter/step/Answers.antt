@@ -51,3 +51,12 @@ returns-then-end_later-clause-causes g c = grind (arith, common_steps) steps 400
 
 pub returns-in-Err-clause-taken : goal.returns-in-Err-clause-taken
 returns-in-Err-clause-taken g c = grind (arith, common_steps) steps 400000
+
+pub take-requires-clause-none : goal.take-requires-clause-none
+take-requires-clause-none g c = grind (arith, common_steps) steps 400000
+
+pub take-requires-clause-head : goal.take-requires-clause-head
+take-requires-clause-head g c = grind (arith, common_steps) steps 400000
+
+pub returns-in-Err-clause-still : goal.returns-in-Err-clause-still
+returns-in-Err-clause-still g c = grind (arith, common_steps) steps 400000

@@ -63,3 +63,6 @@ add-requires-clause-can_take g c = grind (arith, common_steps) steps 400000
 
 pub returns-in-Err-clause-still : goal.returns-in-Err-clause-still
 returns-in-Err-clause-still g c = grind (arith, common_steps) steps 400000
+
+pub put_out-requires-clause-open : goal.put_out-requires-clause-open
+put_out-requires-clause-open g c = grind (arith, common_steps) steps 400000

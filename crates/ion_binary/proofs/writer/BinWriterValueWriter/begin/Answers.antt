@@ -25,3 +25,12 @@ returns-in_default-clause-passed g c = grind (arith, common_steps) steps 400000
 
 pub returns-in_default-clause-steady : goal.returns-in_default-clause-steady
 returns-in_default-clause-steady g c = grind (arith, common_steps) steps 400000
+
+pub returns-in-Err-clause-device : goal.returns-in-Err-clause-device
+returns-in-Err-clause-device g c = grind (arith, common_steps) steps 400000
+
+pub returns-in_default-clause-sound : goal.returns-in_default-clause-sound
+returns-in_default-clause-sound g c = grind (arith, common_steps) steps 400000
+
+pub returns-in-Err-clause-sound : goal.returns-in-Err-clause-sound
+returns-in-Err-clause-sound g c = grind (arith, common_steps) steps 400000

@@ -110,3 +110,21 @@ returns-in-Ok-clause-quiet g c = grind (arith, common_steps) steps 400000
 
 pub returns-in-Ok-clause-causes : goal.returns-in-Ok-clause-causes
 returns-in-Ok-clause-causes g c = grind (arith, common_steps) steps 400000
+
+pub returns-in-Err-clause-limits : goal.returns-in-Err-clause-limits
+returns-in-Err-clause-limits g c = grind (arith, common_steps) steps 400000
+
+pub returns-in-Ok-clause-failed : goal.returns-in-Ok-clause-failed
+returns-in-Ok-clause-failed g c = grind (arith, common_steps) steps 400000
+
+pub returns-in-Some-clause-refuses : goal.returns-in-Some-clause-refuses
+returns-in-Some-clause-refuses g c = grind (arith, common_steps) steps 400000
+
+pub returns-in-Some-clause-sound : goal.returns-in-Some-clause-sound
+returns-in-Some-clause-sound g c = grind (arith, common_steps) steps 400000
+
+pub returns-in-Ok-clause-refuses : goal.returns-in-Ok-clause-refuses
+returns-in-Ok-clause-refuses g c = grind (arith, common_steps) steps 400000
+
+pub step-requires-clause-can_take : goal.step-requires-clause-can_take
+step-requires-clause-can_take g c = grind (arith, common_steps) steps 400000

@@ -142,3 +142,24 @@ returns-then-len-eq1-clause-same g c = grind (arith, common_steps) steps 400000
 
 pub returns-then-waits-clause-charges : goal.returns-then-waits-clause-charges
 returns-then-waits-clause-charges g c = grind (arith, common_steps) steps 400000
+
+pub returns-then-pair-clause-puts : goal.returns-then-pair-clause-puts
+returns-then-pair-clause-puts g c = grind (arith, common_steps) steps 400000
+
+pub returns-then-pair-clause-charges : goal.returns-then-pair-clause-charges
+returns-then-pair-clause-charges g c = grind (arith, common_steps) steps 400000
+
+pub returns-then-waits-clause-counted : goal.returns-then-waits-clause-counted
+returns-then-waits-clause-counted g c = grind (arith, common_steps) steps 400000
+
+pub returns-then-waits-clause-puts : goal.returns-then-waits-clause-puts
+returns-then-waits-clause-puts g c = grind (arith, common_steps) steps 400000
+
+pub end_whole-requires-clause-head : goal.end_whole-requires-clause-head
+end_whole-requires-clause-head g c = grind (arith, common_steps) steps 400000
+
+pub returns-then-waits-clause-same : goal.returns-then-waits-clause-same
+returns-then-waits-clause-same g c = grind (arith, common_steps) steps 400000
+
+pub returns-then-pair-clause-device : goal.returns-then-pair-clause-device
+returns-then-pair-clause-device g c = grind (arith, common_steps) steps 400000

@@ -18,14 +18,7 @@ pub low-length : (k w : ℕ) → length (low_octets k w) ≡ k
 low-length zero w = refl
 low-length (suc k) w = ap suc (low-length k (w / 256))
 
--- an octet before them
-pub low-behind : (k w o : ℕ) → o < 256 → low_octets (suc k) (w * 256 + o) ≡ o ∷ low_octets k w
-low-behind k w o h =
-    let r : (w * 256 + o) % 256 ≡ o = omega (arith, h) in
-    let q : (w * 256 + o) / 256 ≡ w = omega (arith, h) in
-    ap (λ b. b ∷ low_octets k ((w * 256 + o) / 256)) r ∙ ap (λ v. o ∷ low_octets k v) q
-
--- and there is room for it in the word
+-- there is room in the word for an octet before them
 pub room-behind : (k w : ℕ) → k < 8 → w < 256 ^ k → w * 256 + 255 < 2 ^ 64
 room-behind k w few small =
     let most : k ≤ 7 = omega (arith, few) in

@@ -13,6 +13,8 @@ use Rattle.ion_value.specs.Shares.{Charges}
 use Rattle.ion_value.specs.Standing.{WritesWithin}
 use Rattle.ion_value.specs.Value.{PlacedItem}
 use Rattle.ion_binary.specs.declared.reader.BinReader.{BinReader}
+use Rattle.ion_binary.specs.declared.reader.ItemKind.{ItemKind}
+use Rattle.ion_binary.specs.declared.wrapper.Field.{Field}
 use Rattle.ion_binary.specs.declared.wrapper.Frame.{Frame}
 use Rattle.ion_binary.specs.Lane.{CanHand, Handed, KeepsOn}
 use Rattle.ion_binary.specs.Steps.{IsSized, held_by, left_to, share_of}
@@ -48,6 +50,17 @@ charges-closed a b c own share fits there one two =
       share = omega (arith, fits);
       peak = omega (arith, top, same, more, fits, there);
       rises = omega (arith, top, same);
+    }
+
+-- 16 are given back behind a part that moves
+charges-freed : (a b c : Counts) (own k l share most : ℕ) → own + 16 ≤ share → own + 16 + k ≤ a.held → Charges a b k l most → Shrinks b c 16 → Charges a c (own + 16 + k) (own + l) (share + most)
+charges-freed a b c own k l share most fits there x less =
+    let held = x.held in let peak = x.peak in let few = x.share in let rises = x.rises in let gone = less.held in let same = less.peak in
+    record {
+      held = omega (arith, held, gone);
+      share = omega (arith, few, fits);
+      peak = omega (arith, peak, same, fits, there);
+      rises = omega (arith, rises, same);
     }
 
 -- what is held is within the share
@@ -118,6 +131,31 @@ module _ {I A W O : Type 0} (w : WriterOf W O A) where
         writer = stays-well w pen then from to m n sound same device (counted ∙ grows.refused);
         charges = subst (λ (h : ℕ). Charges m n (held_by r + w.own pen) (h + w.own then) (share_of r + w.most pen)) held
             (charges-opened m b n (held_by r) (w.own pen) (w.own then) (share_of r) (w.most pen) (opened-within r sized few) writer.share can.held grows charges);
+      }
+
+  -- a container's end is
+  pub keeps_on-end : (r : BinReader I A) (frames : List Frame) (kind : ItemKind) (field : Option Field) (place : ℕ) (pen then : W) (from to : Outgoing O) (m b n : Counts) → CanHand w r pen from m
+      → length frames + 1 ≡ length r.frames → w.sound then → (w.failed then ≡ w.failed pen) × (w.limits then ≡ w.limits pen) × (w.most then ≡ w.most pen)
+      → (to.device ≡ from.device) × (to.fault ≡ from.fault) → b.refused ≡ m.refused → Charges m b (w.own pen) (w.own then) (w.most pen) → Shrinks b n 16
+      → KeepsOn w r (record r { frames = frames; what = kind; field = field; place = place }) pen then from to m n
+  keeps_on-end r frames kind field place pen then from to m b n can fewer sound same device counted charges shrinks =
+      let sized = can.sized in
+      let few = sized.few in
+      let held = can.held in
+      let share = held-within r sized in
+      let own : ℕ = 4096 + 16 * length frames + 16 * length r.annotations + length r.text in
+      let was : own + 16 ≡ held_by r = omega (arith, fewer) in
+      record {
+        sized = record { checked = sized.checked; few = omega (arith, fewer, few); annotated = sized.annotated; short = sized.short };
+        stands = can.stands;
+        limits = refl;
+        failed = refl;
+        done = refl;
+        device = refl;
+        limit = refl;
+        writer = stays-well w pen then from to m n sound same device (shrinks.refused ∙ counted);
+        charges = subst (λ (h : ℕ). Charges m n (h + w.own pen) (own + w.own then) (share_of r + w.most pen)) was
+            (charges-freed m b n own (w.own pen) (w.own then) (share_of r) (w.most pen) (omega (arith, share, was)) (omega (arith, held, was)) charges shrinks);
       }
 
   -- nothing is

@@ -1,9 +1,10 @@
 -- The steps of the reader as those of the reading.
-use Rattle.std.proofs.Common.{arith, refl, ap, ◌∙◌, sym, subst, ◌≡◌, ℕ, suc, ◌-◌, ◌<◌, ◌≤◌, true, false, List, [], ◌∷◌, ◌++◌, length, drop, map, reverse, Option, Some, None, Result, Ok, Err, is_some, slice_get, leb}
+use Rattle.std.proofs.Common.{arith, refl, ap, ◌∙◌, sym, subst, ◌≡◌, ℕ, suc, ◌*◌, ◌-◌, ◌<◌, ◌≤◌, true, false, List, [], ◌∷◌, ◌++◌, length, drop, map, reverse, Option, Some, None, Result, Ok, Err, is_some, slice_get, leb}
 use Rattle.std.proofs.lemmas.Bool.{le-leb, lt-leb}
 use Rattle.std.proofs.lemmas.Grind.{reverse_onto}
 use Rattle.std.proofs.lemmas.List.{length-map, length-reverse}
-use Rattle.ion_meter.specs.Counts.{Counts}
+use Rattle.ion_meter.specs.Counts.{Counts, Shrinks}
+use Rattle.ion_meter.specs.declared.device.Input.{Ghosts as InputOf}
 use Rattle.ion_meter.specs.declared.fault.Fault.{Fault}
 use Rattle.ion_meter.specs.declared.fault.Fault.TheVariants.{Refused, Memory, ReadFault, WriteFault, InputLimit}
 use Rattle.ion_meter.specs.declared.limits.Limits.{Limits}
@@ -20,6 +21,7 @@ use Rattle.ion_binary.specs.declared.typed_value.TypedValue as typed
 use Rattle.ion_binary.specs.declared.typed_value.TypedValue.TheVariants as finds
 use Rattle.ion_binary.specs.declared.wrapper.Field as field
 use Rattle.ion_binary.specs.declared.wrapper.Frame as frame
+use Rattle.ion_binary.specs.declared.reader.BinReader.{BinReader}
 use Rattle.ion_binary.specs.declared.reader.ItemKind.{ItemKind}
 use Rattle.ion_binary.specs.declared.reader.StepResult.{StepResult}
 use Rattle.ion_binary.specs.declared.reader.StepResult.TheVariants as taken
@@ -32,6 +34,7 @@ use Rattle.ion_value.specs.Answers.{Answers}
 use Rattle.ion_binary.specs.Values.{GivesStep}
 use Rattle.ion_binary.specs.Wrappers.{as_annotations, as_field, as_frame, as_frames, innermost}
 use Rattle.ion_binary.specs.Reader.{item_seen, kinds_of, TakenGives, TakesAs, IsInnermost, at_top, inside}
+use Rattle.ion_binary.specs.Steps.{Stepped}
 
 -- ---- open containers
 
@@ -204,3 +207,35 @@ charges-then a b c first between last most small x y = record {
   peak = omega (arith, x.held, x.peak, y.peak, small, x.share);
   rises = omega (arith, x.rises, y.rises);
 }
+
+-- a step behind the last item's annotations being given back
+pub stepped-cleared : {I A T : Type 0} (device : InputOf I) (item ended : T) (old new : BinReader I A) (notes : List Annotation) (a b c : Counts) (result : Result T Fault) → length notes ≡ 0
+    → Shrinks a b (16 * length old.annotations) → Stepped device item ended (record old { annotations = notes }) new b c result → Stepped device item ended old new a c result
+stepped-cleared device item ended old new notes a b c result none less s =
+    let x = s.charges in let held = x.held in let peak = x.peak in let rises = x.rises in let gone = less.held in let same = less.peak in let refused = less.refused in
+    record {
+      opens = s.opens;
+      stays = s.stays;
+      falls = s.falls;
+      sized = s.sized;
+      stands = s.stands;
+      moves = s.moves;
+      limits = s.limits;
+      done = s.done;
+      failed = s.failed;
+      causes =
+          record {
+            memory = λ e. let m = s.causes.memory e in omega (arith, m, refused);
+            counted = λ k. s.causes.counted k ∙ refused;
+            device = s.causes.device;
+            steady = s.causes.steady;
+            limit = s.causes.limit;
+            no_writes = s.causes.no_writes;
+          };
+      charges = record {
+        held = omega (arith, held, gone, none);
+        share = x.share;
+        peak = omega (arith, peak, gone, same, none);
+        rises = omega (arith, rises, same);
+      };
+    }

@@ -1,7 +1,8 @@
 -- Each step leads from a path of the bytes to the path with the item that it gives.
 use Rattle.std.proofs.Common.{◌≡◌, ℕ, ◌+◌, ◌*◌, ◌<◌, ◌≤◌, Bool, true, false, leb, List, [], ◌∷◌, ◌++◌, length, Option, Some, None, Ok, Err, refl, sym, ap, subst, ◌∙◌, append_assoc, append-nil, arith}
-use Rattle.std.proofs.lemmas.Bool.{leb-true}
+use Rattle.std.proofs.lemmas.Bool.{leb-true, true≢false}
 use Rattle.std.proofs.lemmas.List.{length-append}
+use Rattle.std.proofs.lemmas.Option.{none-some}
 use Rattle.ion_meter.specs.declared.fault.Reason.{Reason}
 use Rattle.ion_meter.specs.declared.limits.Limits.{Limits}
 use Rattle.ion_value.specs.declared.ion_type.Kind.{Kind}
@@ -333,8 +334,8 @@ module _ (bodies : Bodies) (limits : Limits) (bytes : List ℕ) (path : Path Sym
           wide = λ x d t. Took-wide r e here x d t in_end lengths.inside;
           wide_end = λ q le. InRegion-below r q e lengths.inside le;
           inside = in_end;
-          bare = λ k. absurd (let t : true ≡ false = k in cc t);
-          topmost = λ k. absurd (let t : Some e ≡ None = k in cc t);
+          bare = λ k. absurd (true≢false k);
+          topmost = λ k. absurd (none-some _ (sym k));
         } in
         subst (λ (s : Step State). Follows bytes path frames c s) is
         (typed_value_follows bytes path frames c at top f annotations.0.0 y header a start.place here d.0.0 d.0.1 v.0 fits field start_is

@@ -35,3 +35,9 @@ returns-clause-reads g c = grind (arith, common_steps)
 
 pub returns-in-Err-clause-reads : goal.returns-in-Err-clause-reads
 returns-in-Err-clause-reads g c = grind (arith, common_steps) steps 400000
+
+pub slice_bounds-number-end : goal.slice_bounds-number-end
+slice_bounds-number-end g c = grind (arith, common_steps) steps 400000
+
+pub returns-clause-range : goal.returns-clause-range
+returns-clause-range g c = grind (arith, common_steps) steps 400000

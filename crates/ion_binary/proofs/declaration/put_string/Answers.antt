@@ -1,3 +1,5 @@
+use Rattle.std.proofs.Common.{arith}
+use Rattle.std.proofs.lemmas.Grind.{common_steps}
 use Rattle.ion_meter.proofs.Putting.{put_cut}
 use Rattle.ion_binary.proofs.declaration.put_string.Goals as goal
 
@@ -5,3 +7,6 @@ pub returns-in-Err : goal.returns-in-Err
 returns-in-Err g c =
     let header = rw (c.as_slice.ensures.value, c.header.ensures) at c.put.ensures in
     put_cut c.args.text.now c.in-Err.is header
+
+pub returns : goal.returns
+returns g c = grind (arith, common_steps)

@@ -1,4 +1,5 @@
 use Rattle.std.proofs.Common.{◌≡◌, ◌≢◌, ◌+◌, ◌<◌, ◌≤◌, ◌∷◌, ◌++◌, List, ℕ, length, ap, ◌∙◌, arith, length-append}
+use Rattle.std.proofs.lemmas.Grind.{common_steps}
 use Rattle.ion_binary.proofs.FewOctets.{within-one, within-two}
 use Rattle.ion_binary.proofs.few.wrapped_front.Goals as goal
 
@@ -25,3 +26,21 @@ returns-clause-octets c x e =
     ap (λ (os : List ℕ). os ++ x)
     (c.behind-3.ensures ∙ ap (λ (os : List ℕ). 238 ∷ os) (c.behind-2.ensures ∙ ap (λ (os : List ℕ). (128 + m) ∷ os) (c.behind-ids.ensures ∙ ap (λ (os : List ℕ). 129 ∷ os) c.behind.ensures)))
     ∙ within-two c.args.note y some few m is least short
+
+pub returns-clause-few : goal.returns-clause-few
+returns-clause-few c = grind (arith, common_steps) steps 400000
+
+pub behind-requires-3 : goal.behind-requires-3
+behind-requires-3 c = grind (arith, common_steps) steps 400000
+
+pub returns-then-inside-lt14-clause-few : goal.returns-then-inside-lt14-clause-few
+returns-then-inside-lt14-clause-few c = grind (arith, common_steps) steps 400000
+
+pub behind-requires-2 : goal.behind-requires-2
+behind-requires-2 c = grind (arith, common_steps) steps 400000
+
+pub behind-ids-requires : goal.behind-ids-requires
+behind-ids-requires c = grind (arith, common_steps) steps 400000
+
+pub behind-requires-then-inside-lt14 : goal.behind-requires-then-inside-lt14
+behind-requires-then-inside-lt14 c = grind (arith, common_steps) steps 400000

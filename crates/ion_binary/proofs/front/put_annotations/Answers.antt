@@ -1,4 +1,5 @@
 use Rattle.std.proofs.Common.{◌≡◌, ◌∙◌, ◌<◌, ap, sym, arith, refl, length, None, Some}
+use Rattle.std.proofs.lemmas.Grind.{common_steps}
 use Rattle.std.specs.Prelude.{slice_get}
 use Rattle.ion_value.specs.Items.{annotations_of, raw_field, symbol_at}
 use Rattle.ion_binary.specs.Canonical.{id_in, id_octets}
@@ -44,3 +45,12 @@ returns-clause-puts g c =
     let all = annotations_of g.N.Names.text c.args.annotations.now in
     let past : slice_get all c.loop-at.index ≡ None = sym c.get.ensures ∙ ap raw_field c.in_default.is in
     puts-as c.loop-at.invariant.puts (ap (λ l. id_octets (id_in c.loop-at.symbols.texts) (users l)) (take-past all c.loop-at.index past))
+
+pub overflow_add-index : goal.overflow_add-index
+overflow_add-index g c = grind (arith, common_steps)
+
+pub returns-in-Err-clause-puts : goal.returns-in-Err-clause-puts
+returns-in-Err-clause-puts g c = grind (arith, common_steps) steps 400000
+
+pub put_symbol-requires : goal.put_symbol-requires
+put_symbol-requires g c = grind (arith, common_steps) steps 400000

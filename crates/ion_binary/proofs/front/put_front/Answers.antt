@@ -1,4 +1,5 @@
-use Rattle.std.proofs.Common.{◌++◌, ◌∙◌, ap, refl, length, append_assoc}
+use Rattle.std.proofs.Common.{◌++◌, ◌∙◌, ap, refl, length, append_assoc, arith}
+use Rattle.std.proofs.lemmas.Grind.{common_steps}
 use Rattle.ion_value.specs.Items.{annotations_of, item_of, raw_field, raw_head}
 use Rattle.ion_value.specs.Writable.{field_symbols}
 use Rattle.ion_binary.specs.Canonical.{with_symbols}
@@ -59,3 +60,12 @@ returns-clause-front g c =
       ids = ap length c.as_slice-ids.ensures;
       name = c.in-Ok-name_of.ensures.name;
     }
+
+pub name_of-requires-clause-share : goal.name_of-requires-clause-share
+name_of-requires-clause-share g c = grind (arith, common_steps) steps 400000
+
+pub name_of-requires-clause-can_add : goal.name_of-requires-clause-can_add
+name_of-requires-clause-can_add g c = grind (arith, common_steps) steps 400000
+
+pub put_annotations-requires : goal.put_annotations-requires
+put_annotations-requires g c = grind (arith, common_steps) steps 400000

@@ -1,4 +1,5 @@
 use Rattle.std.proofs.Common.{rules, ◌≡◌, ◌≢◌, ◌<◌, ◌++◌, List, ℕ, length, ap, sym, ◌∙◌, arith}
+use Rattle.std.proofs.lemmas.Grind.{common_steps}
 use Rattle.ion_value.specs.Number.{var_uint_octets}
 use Rattle.ion_binary.specs.Opening.{name_octets, wrapper_octets}
 use Rattle.ion_binary.proofs.NotedOctets.{named-octets, note-front}
@@ -16,3 +17,9 @@ returns-clause-octets c x long =
     let before : c.wrapper-before.result.items ≡ wrapper_octets (length d) c.args.size = search rules in
     ap (λ (y : List ℕ). y ++ x) (second ∙ ap (λ (y : List ℕ). y ++ d) first)
     ∙ note-front front d c.wrapper-before.result.items x c.args.size c.args.note ids before long
+
+pub returns-clause-few : goal.returns-clause-few
+returns-clause-few c = grind (arith, common_steps) steps 400000
+
+pub unwrap-requires-2 : goal.unwrap-requires-2
+unwrap-requires-2 c = grind (arith, common_steps) steps 400000

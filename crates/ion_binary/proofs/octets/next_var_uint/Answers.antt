@@ -1,4 +1,6 @@
 use Rattle.std.proofs.Common.{arith, refl, ap, ◌∙◌, ◌+◌, ◌-◌, ◌*◌, Ok}
+use Rattle.std.proofs.lemmas.Grind.{common_steps}
+use Rattle.std.proofs.lemmas.Option.{none-some}
 use Rattle.ion_value.proofs.Numbers.{seven-fits, append-lt}
 use Rattle.ion_binary.specs.Descriptor.{octet_at}
 use Rattle.ion_meter.specs.Sources.{cursor}
@@ -47,7 +49,7 @@ loop-preserved g c =
     record {
       stands = o.reads.stands;
       moves = moves-then g.I.Input c.args.source.now c.loop.source c.next_octet.new.source inv.moves o.reads.moves;
-      steady = o.reads.causes.steady (λ e. absurd (cc e)) ∙ inv.steady;
+      steady = o.reads.causes.steady (λ e. absurd (none-some _ e)) ∙ inv.steady;
       same = λ t.
           inv.same t
           ∙ (var_from-goes_on (9 - c.loop.counter) (9 - (c.loop.counter + 1)) c.loop.value c.in-Ok.octet c.args.region (cursor g.I.Input c.loop.source) (cursor g.I.Input c.next_octet.new.source)
@@ -60,3 +62,18 @@ loop-preserved g c =
 pub returns-clause-gives : goal.returns-clause-gives
 returns-clause-gives g c t =
     (c.loop.invariant.same t ∙ var_from-none (9 - c.loop.counter) c.loop.value c.args.region (cursor g.I.Input c.loop.source) (omega (arith, c.loop-test.false)), refl)
+
+pub returns-in-Err-clause-reads : goal.returns-in-Err-clause-reads
+returns-in-Err-clause-reads g c = grind (arith, common_steps) steps 400000
+
+pub returns-clause-reads : goal.returns-clause-reads
+returns-clause-reads g c = grind (arith, common_steps) steps 400000
+
+pub returns-in-Err-clause-fits : goal.returns-in-Err-clause-fits
+returns-in-Err-clause-fits g c = grind (arith, common_steps) steps 400000
+
+pub returns-then-octet-ge128-clause-taken : goal.returns-then-octet-ge128-clause-taken
+returns-then-octet-ge128-clause-taken g c = grind (arith, common_steps) steps 400000
+
+pub returns-in-Err-clause-taken : goal.returns-in-Err-clause-taken
+returns-in-Err-clause-taken g c = grind (arith, common_steps) steps 400000

@@ -1,4 +1,5 @@
 use Rattle.std.proofs.Common.{◌+◌, get_or, refl, sym, arith}
+use Rattle.std.proofs.lemmas.Grind.{common_steps}
 use Rattle.ion_binary.proofs.ShownParts.{bounds-reaches, shows_note}
 use Rattle.ion_binary.proofs.shown.shown_note.Goals as goal
 
@@ -9,3 +10,9 @@ returns c = λ region b.
     c.in-Some-shown_var.ids c.in-Some-shown_var-2.id (get_or octets c.args.at 0) (c.args.here + c.in-Some-shown_length.behind + c.in-Some-shown_length.count) (omega arith) refl (sym c.in-Some.ensures.is)
     c.in-Some-shown_length.ensures.shows c.in-Some-shown_var.ensures.shows c.in-Some-shown_var-2.ensures.shows refl (omega arith) (omega arith) (omega arith) (omega arith) (omega arith)
     (bounds-reaches region c.args.most (c.args.here + c.in-Some-shown_length.behind + c.in-Some-shown_length.count) b (omega arith))
+
+pub overflow_add-here : goal.overflow_add-here
+overflow_add-here c = grind (arith, common_steps) steps 400000
+
+pub overflow_add-from : goal.overflow_add-from
+overflow_add-from c = grind (arith, common_steps) steps 400000

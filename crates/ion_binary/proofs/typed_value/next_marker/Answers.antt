@@ -57,3 +57,9 @@ returns-then-ne-clause-reads g c = grind (arith, common_steps) steps 400000
 
 pub slice_bounds-ne-end : goal.slice_bounds-ne-end
 slice_bounds-ne-end g c = grind (arith, common_steps)
+
+pub returns-in-Err-clause-gives : goal.returns-in-Err-clause-gives
+returns-in-Err-clause-gives g c = grind (arith, common_steps) steps 400000
+
+pub consume-requires : goal.consume-requires
+consume-requires g c = grind (arith, common_steps) steps 400000

@@ -22,3 +22,6 @@ returns-in-Ok-true-clause-reads g c = grind (arith, common_steps) steps 400000
 pub returns-in-Err-pass_over-clause-gives : goal.returns-in-Err-pass_over-clause-gives
 unfolding nop_pad_at
 returns-in-Err-pass_over-clause-gives g c = grind (arith, common_steps) steps 400000
+
+pub returns-in-Err-clause-reads : goal.returns-in-Err-clause-reads
+returns-in-Err-clause-reads g c = grind (arith, common_steps) steps 400000

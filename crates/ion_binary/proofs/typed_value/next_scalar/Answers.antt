@@ -40,3 +40,12 @@ returns-in-Err-check_fits-clause-reads g c = grind (arith, common_steps) steps 4
 
 pub returns-in-Err-clause-reads : goal.returns-in-Err-clause-reads
 returns-in-Err-clause-reads g c = grind (arith, common_steps) steps 400000
+
+pub returns-clause-goes : goal.returns-clause-goes
+returns-clause-goes g c = grind (arith, common_steps) steps 400000
+
+pub returns-in-Err-check_fits-clause-goes : goal.returns-in-Err-check_fits-clause-goes
+returns-in-Err-check_fits-clause-goes g c = grind (arith, common_steps) steps 400000
+
+pub returns-clause-range : goal.returns-clause-range
+returns-clause-range g c = grind (arith, common_steps) steps 400000

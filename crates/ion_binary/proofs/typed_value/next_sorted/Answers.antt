@@ -40,3 +40,12 @@ returns-in-Ok-begin-clause-gives g c t =
 
 pub returns-in-Err-begin-clause-reads : goal.returns-in-Err-begin-clause-reads
 returns-in-Err-begin-clause-reads g c = grind (arith, common_steps) steps 400000
+
+pub returns-then-count-eq0-clause-reads : goal.returns-then-count-eq0-clause-reads
+returns-then-count-eq0-clause-reads g c = grind (arith, common_steps) steps 400000
+
+pub returns-in-Ok-begin-clause-reads : goal.returns-in-Ok-begin-clause-reads
+returns-in-Ok-begin-clause-reads g c = grind (arith, common_steps) steps 400000
+
+pub returns-in-Ok-begin-clause-deep : goal.returns-in-Ok-begin-clause-deep
+returns-in-Ok-begin-clause-deep g c = grind (arith, common_steps) steps 400000

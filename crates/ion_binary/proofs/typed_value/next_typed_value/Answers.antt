@@ -37,3 +37,15 @@ returns-clause-gives g c t =
 
 pub returns-then-no_wrapper_holds-clause-reads : goal.returns-then-no_wrapper_holds-clause-reads
 returns-then-no_wrapper_holds-clause-reads g c = grind (arith, common_steps) steps 400000
+
+pub returns-then-no_wrapper_holds-clause-deep : goal.returns-then-no_wrapper_holds-clause-deep
+returns-then-no_wrapper_holds-clause-deep g c = grind (arith, common_steps) steps 400000
+
+pub returns-then-no_wrapper_holds-clause-range : goal.returns-then-no_wrapper_holds-clause-range
+returns-then-no_wrapper_holds-clause-range g c = grind (arith, common_steps) steps 400000
+
+pub returns-clause-deep : goal.returns-clause-deep
+returns-clause-deep g c = grind (arith, common_steps) steps 400000
+
+pub returns-clause-goes : goal.returns-clause-goes
+returns-clause-goes g c = grind (arith, common_steps) steps 400000

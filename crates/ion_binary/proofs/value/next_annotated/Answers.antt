@@ -57,3 +57,24 @@ returns-in-Err-clause-reads g c = grind (arith, common_steps) steps 400000
 
 pub returns-in-Err-next_annotations-clause-range : goal.returns-in-Err-next_annotations-clause-range
 returns-in-Err-next_annotations-clause-range g c = grind (arith, common_steps) steps 400000
+
+pub returns-in-Err-clause-goes : goal.returns-in-Err-clause-goes
+returns-in-Err-clause-goes g c = grind (arith, common_steps) steps 400000
+
+pub returns-in-Err-clause-deep : goal.returns-in-Err-clause-deep
+returns-in-Err-clause-deep g c = grind (arith, common_steps) steps 400000
+
+pub returns-in-Err-next_annotations-clause-goes : goal.returns-in-Err-next_annotations-clause-goes
+returns-in-Err-next_annotations-clause-goes g c = grind (arith, common_steps) steps 400000
+
+pub returns-in-Err-clause-range : goal.returns-in-Err-clause-range
+returns-in-Err-clause-range g c = grind (arith, common_steps) steps 400000
+
+pub returns-in-Err-next_annotations-clause-reads : goal.returns-in-Err-next_annotations-clause-reads
+returns-in-Err-next_annotations-clause-reads g c = grind (arith, common_steps) steps 1200000
+
+pub returns-clause-range : goal.returns-clause-range
+returns-clause-range g c = grind (arith, common_steps) steps 400000
+
+pub returns-in-Err-clause-no_marker : goal.returns-in-Err-clause-no_marker
+returns-in-Err-clause-no_marker g c = grind (arith, common_steps) steps 400000

@@ -54,3 +54,30 @@ returns-in-Err-next_typed_value-clause-range g c = grind (arith, common_steps) s
 
 pub returns-in-Err-next_typed_value-clause-deep : goal.returns-in-Err-next_typed_value-clause-deep
 returns-in-Err-next_typed_value-clause-deep g c = grind (arith, common_steps) steps 400000
+
+pub returns-in-Err-clause-range : goal.returns-in-Err-clause-range
+returns-in-Err-clause-range g c = grind (arith, common_steps) steps 400000
+
+pub returns-in-Ok-next_typed_value-clause-further : goal.returns-in-Ok-next_typed_value-clause-further
+returns-in-Ok-next_typed_value-clause-further g c = grind (arith, common_steps) steps 400000
+
+pub returns-in-Ok-next_typed_value-clause-goes : goal.returns-in-Ok-next_typed_value-clause-goes
+returns-in-Ok-next_typed_value-clause-goes g c = grind (arith, common_steps) steps 400000
+
+pub returns-in-Err-next_typed_value-clause-goes : goal.returns-in-Err-next_typed_value-clause-goes
+returns-in-Err-next_typed_value-clause-goes g c = grind (arith, common_steps) steps 400000
+
+pub returns-in-Err-clause-deep : goal.returns-in-Err-clause-deep
+returns-in-Err-clause-deep g c = grind (arith, common_steps) steps 400000
+
+pub returns-in-Ok-next_typed_value-clause-reads : goal.returns-in-Ok-next_typed_value-clause-reads
+returns-in-Ok-next_typed_value-clause-reads g c = grind (arith, common_steps) steps 1200000
+
+pub returns-in-Err-next_typed_value-clause-reads : goal.returns-in-Err-next_typed_value-clause-reads
+returns-in-Err-next_typed_value-clause-reads g c = grind (arith, common_steps) steps 1200000
+
+pub returns-in-Err-clause-no_marker : goal.returns-in-Err-clause-no_marker
+returns-in-Err-clause-no_marker g c = grind (arith, common_steps) steps 400000
+
+pub returns-in-Err-clause-goes : goal.returns-in-Err-clause-goes
+returns-in-Err-clause-goes g c = grind (arith, common_steps) steps 400000

@@ -78,3 +78,48 @@ returns-in-Err-next_typed_value-clause-range g c = grind (arith, common_steps) s
 
 pub returns-in-Some-clause-spare : goal.returns-in-Some-clause-spare
 returns-in-Some-clause-spare g c = grind (arith, common_steps) steps 400000
+
+pub returns-in-Err-clause-range : goal.returns-in-Err-clause-range
+returns-in-Err-clause-range g c = grind (arith, common_steps) steps 400000
+
+pub returns-in-Some-clause-goes : goal.returns-in-Some-clause-goes
+returns-in-Some-clause-goes g c = grind (arith, common_steps) steps 400000
+
+pub returns-in-Err-clause-goes : goal.returns-in-Err-clause-goes
+returns-in-Err-clause-goes g c = grind (arith, common_steps) steps 400000
+
+pub returns-in-Err-clause-deep : goal.returns-in-Err-clause-deep
+returns-in-Err-clause-deep g c = grind (arith, common_steps) steps 400000
+
+pub returns-in-Ok-next_typed_value-clause-marker : goal.returns-in-Ok-next_typed_value-clause-marker
+returns-in-Ok-next_typed_value-clause-marker g c = grind (arith, common_steps) steps 400000
+
+pub returns-in-Ok-next_typed_value-clause-reads : goal.returns-in-Ok-next_typed_value-clause-reads
+returns-in-Ok-next_typed_value-clause-reads g c = grind (arith, common_steps) steps 1200000
+
+pub returns-in-Err-next_typed_value-clause-reads : goal.returns-in-Err-next_typed_value-clause-reads
+returns-in-Err-next_typed_value-clause-reads g c = grind (arith, common_steps) steps 1200000
+
+pub returns-in-Err-next_typed_value-clause-marker : goal.returns-in-Err-next_typed_value-clause-marker
+returns-in-Err-next_typed_value-clause-marker g c = grind (arith, common_steps) steps 400000
+
+pub returns-in-Some-clause-range : goal.returns-in-Some-clause-range
+returns-in-Some-clause-range g c = grind (arith, common_steps) steps 400000
+
+pub returns-in-Some-clause-marker : goal.returns-in-Some-clause-marker
+returns-in-Some-clause-marker g c = grind (arith, common_steps) steps 400000
+
+pub returns-in-Err-next_typed_value-clause-spare : goal.returns-in-Err-next_typed_value-clause-spare
+returns-in-Err-next_typed_value-clause-spare g c = grind (arith, common_steps) steps 400000
+
+pub next_annotated-requires-clause-none : goal.next_annotated-requires-clause-none
+next_annotated-requires-clause-none g c = grind (arith, common_steps) steps 400000
+
+pub next_annotated-requires-clause-can_read : goal.next_annotated-requires-clause-can_read
+next_annotated-requires-clause-can_read g c = grind (arith, common_steps) steps 400000
+
+pub next_annotated-requires-clause-length_code : goal.next_annotated-requires-clause-length_code
+next_annotated-requires-clause-length_code g c = grind (arith, common_steps) steps 400000
+
+pub returns-in-Err-clause-marker : goal.returns-in-Err-clause-marker
+returns-in-Err-clause-marker g c = grind (arith, common_steps) steps 400000

@@ -103,3 +103,15 @@ returns-in-Err-push-clause-goes g c = grind (arith, common_steps) steps 400000
 
 pub push-requires-clause-room : goal.push-requires-clause-room
 push-requires-clause-room g c = grind (arith, common_steps) steps 400000
+
+pub returns-then-limits-as_slice-clause-goes : goal.returns-then-limits-as_slice-clause-goes
+returns-then-limits-as_slice-clause-goes g c = grind (arith, common_steps) steps 400000
+
+pub returns-in-Err-clause-goes : goal.returns-in-Err-clause-goes
+returns-in-Err-clause-goes g c = grind (arith, common_steps) steps 400000
+
+pub returns-in-Err-clause-reads : goal.returns-in-Err-clause-reads
+returns-in-Err-clause-reads g c = grind (arith, common_steps) steps 1200000
+
+pub push-requires-clause-countable : goal.push-requires-clause-countable
+push-requires-clause-countable g c = grind (arith, common_steps) steps 400000

@@ -62,3 +62,12 @@ returns-in-Err-next_var_uint-clause-reads g c = grind (arith, common_steps) step
 
 pub returns-then-passes_end-clause-reads : goal.returns-then-passes_end-clause-reads
 returns-then-passes_end-clause-reads g c = grind (arith, common_steps) steps 400000
+
+pub is_no_wrapper-requires : goal.is_no_wrapper-requires
+is_no_wrapper-requires g c = grind (arith, common_steps) steps 400000
+
+pub returns-in-Err-clause-reads : goal.returns-in-Err-clause-reads
+returns-in-Err-clause-reads g c = grind (arith, common_steps) steps 400000
+
+pub overflow_add-result : goal.overflow_add-result
+overflow_add-result g c = grind (arith, common_steps) steps 400000

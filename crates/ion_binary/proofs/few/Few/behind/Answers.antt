@@ -1,4 +1,5 @@
 use Rattle.std.proofs.Common.{◌≡◌, ◌<◌, List, ℕ, length, ap, sym, ◌∙◌, arith}
+use Rattle.std.proofs.lemmas.Grind.{common_steps}
 use Rattle.ion_binary.proofs.FewOctets.{low-length, room-behind}
 use Rattle.ion_binary.proofs.few.Few.behind.Goals as goal
 
@@ -15,3 +16,6 @@ overflow_add-result c =
     let few : c.self.inside.count < 8 = let r = c.requires in omega (arith, r, long) in
     let room = room-behind c.self.inside.count c.self.inside.word few c.self.invariant.1 in
     record { fits = omega (arith, room, c.ranges.octet.fits) }
+
+pub invariant_of-result : goal.invariant_of-result
+invariant_of-result c = grind (arith, common_steps) steps 400000

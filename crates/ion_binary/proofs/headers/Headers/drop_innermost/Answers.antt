@@ -1,4 +1,5 @@
 use Rattle.std.proofs.Common.{◌≡◌, ℕ, ◌+◌, ◌-◌, List, drop, length, reverse, ap, sym, ◌∙◌, arith}
+use Rattle.std.proofs.lemmas.Grind.{common_steps}
 use Rattle.std.proofs.lemmas.List.{length-reverse}
 use Rattle.ion_binary.specs.declared.headers.HeaderPlace.{HeaderPlace}
 use Rattle.ion_binary.proofs.EndedRuns.{drop-reverse}
@@ -14,3 +15,12 @@ returns-clause-headers g c =
     let all : length items ≡ left + c.args.k = let few = c.requires.few in omega (arith, seen, view, long, few) in
     ap (λ (hs : List HeaderPlace). reverse hs) c.truncate.ensures.items
     ∙ (sym (drop-reverse items c.args.k left all) ∙ ap (λ (hs : List HeaderPlace). drop c.args.k hs) c.self.view_is)
+
+pub returns-clause-cost : goal.returns-clause-cost
+returns-clause-cost g c = grind (arith, common_steps) steps 400000
+
+pub overflow_sub-left : goal.overflow_sub-left
+overflow_sub-left g c = grind (arith, common_steps) steps 400000
+
+pub truncate-requires : goal.truncate-requires
+truncate-requires g c = grind (arith, common_steps) steps 400000

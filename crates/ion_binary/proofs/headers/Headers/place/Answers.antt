@@ -1,4 +1,5 @@
 use Rattle.std.proofs.Common.{◌≡◌, ◌<◌, List, length, reverse, ap, ◌∙◌, arith}
+use Rattle.std.proofs.lemmas.Grind.{common_steps}
 use Rattle.std.proofs.lemmas.List.{length-reverse}
 use Rattle.ion_binary.specs.declared.headers.HeaderPlace.{HeaderPlace}
 use Rattle.ion_binary.specs.Counting.{place_around}
@@ -13,3 +14,9 @@ returns g c =
     let same : length (reverse items) ≡ length c.args.self.now = ap (λ (hs : List HeaderPlace). length hs) view in
     let less : c.args.k < length items = let r = c.requires in omega (arith, r, long, same) in
     around-reverse items c.args.k (record { place = 0; code = 0 }) less ∙ ap (λ (hs : List HeaderPlace). place_around hs c.args.k) view
+
+pub offset_bounds-as_slice-k : goal.offset_bounds-as_slice-k
+offset_bounds-as_slice-k g c = grind (arith, common_steps) steps 400000
+
+pub bounds-as_slice-k : goal.bounds-as_slice-k
+bounds-as_slice-k g c = grind (arith, common_steps) steps 400000

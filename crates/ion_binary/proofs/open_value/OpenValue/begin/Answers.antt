@@ -83,3 +83,39 @@ returns-clause-open g c is =
       reached = reached;
       fits = counted-fits c.args.limits w.counts w.octets w.headers c.requires.can_step.checked placed few (subst P n c.closed_size.ensures.counted) (omega (arith, t, size, long));
     }
+
+pub returns-clause-over : goal.returns-clause-over
+returns-clause-over c = grind (arith, common_steps) steps 400000
+
+pub returns-then-not-branch-clause-over : goal.returns-then-not-branch-clause-over
+returns-then-not-branch-clause-over c = grind (arith, common_steps) steps 400000
+
+pub returns-then-not-branch-clause-open : goal.returns-then-not-branch-clause-open
+returns-then-not-branch-clause-open c = grind (arith, common_steps) steps 400000
+
+pub push-requires-clause-countable : goal.push-requires-clause-countable
+push-requires-clause-countable c = grind (arith, common_steps) steps 400000
+
+pub returns-clause-headers : goal.returns-clause-headers
+returns-clause-headers c = grind (arith, common_steps) steps 400000
+
+pub returns-clause-octets : goal.returns-clause-octets
+returns-clause-octets c = grind (arith, common_steps) steps 400000
+
+pub closed_size-requires-clause-short : goal.closed_size-requires-clause-short
+closed_size-requires-clause-short c = grind (arith, common_steps) steps 400000
+
+pub returns-then-closed_size-limits-clause-open : goal.returns-then-closed_size-limits-clause-open
+returns-then-closed_size-limits-clause-open c = grind (arith, common_steps) steps 400000
+
+pub closed_size-requires-clause-few : goal.closed_size-requires-clause-few
+closed_size-requires-clause-few c = grind (arith, common_steps) steps 400000
+
+pub returns-then-closed_size-limits-clause-octets : goal.returns-then-closed_size-limits-clause-octets
+returns-then-closed_size-limits-clause-octets c = grind (arith, common_steps) steps 400000
+
+pub returns-then-closed_size-limits-clause-headers : goal.returns-then-closed_size-limits-clause-headers
+returns-then-closed_size-limits-clause-headers c = grind (arith, common_steps) steps 400000
+
+pub overflow_cast-header : goal.overflow_cast-header
+overflow_cast-header c = grind (arith, common_steps) steps 400000

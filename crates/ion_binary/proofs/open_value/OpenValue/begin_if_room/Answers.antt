@@ -1,4 +1,5 @@
 use Rattle.std.proofs.Common.{◌≡◌, ◌+◌, ◌<◌, ◌∷◌, List, ℕ, length, refl, ap, ◌∙◌, arith}
+use Rattle.std.proofs.lemmas.Grind.{common_steps}
 use Rattle.ion_binary.specs.Held.{header_at}
 use Rattle.ion_binary.proofs.OpenSteps.{kind-small, room-begun}
 use Rattle.ion_binary.proofs.open_value.OpenValue.begin_if_room.Goals as goal
@@ -13,3 +14,15 @@ returns-clause-open g c is =
     let pushed : c.push_with.new.self ≡ header_at (length c.as_slice.result.now + length x) c.type_code.result ∷ v.headers = c.push_with.ensures.headers is in
     room-begun c.args.limits v (record { octets = c.push_with.new.others; headers = c.push_with.new.self; counts = v.counts }) x c.type_code.result c.requires.can_step.checked c.requires.open code
     (c.push_with.ensures.octets is) (pushed ∙ ap (λ n. header_at (n + length x) c.type_code.result ∷ v.headers) long) refl (omega (arith, s))
+
+pub push_with-requires : goal.push_with-requires
+push_with-requires g c = grind (arith, common_steps) steps 400000
+
+pub returns-clause-stepped : goal.returns-clause-stepped
+returns-clause-stepped g c = grind (arith, common_steps)
+
+pub overflow_cast-header : goal.overflow_cast-header
+overflow_cast-header g c = grind (arith, common_steps) steps 400000
+
+pub returns-clause-headers : goal.returns-clause-headers
+returns-clause-headers g c = grind (arith, common_steps) steps 400000

@@ -11,3 +11,9 @@ returns-then-len-eq0-clause-size g c =
 
 pub returns-clause-size : goal.returns-clause-size
 returns-clause-size g c = grind (arith, common_steps) steps 400000
+
+pub returns-clause-counted : goal.returns-clause-counted
+returns-clause-counted g c = grind (arith, common_steps) steps 400000
+
+pub returns-then-len-eq0-clause-counted : goal.returns-then-len-eq0-clause-counted
+returns-then-len-eq0-clause-counted g c = grind (arith, common_steps) steps 400000

@@ -1,4 +1,6 @@
 use Rattle.std.proofs.Common.{rules, ◌≡◌, ◌-◌, ◌∷◌, List, ℕ, drop, length, refl, ap, subst, ◌∙◌, arith}
+use Rattle.std.proofs.lemmas.Grind.{common_steps}
+use Rattle.std.proofs.lemmas.Option.{none-some}
 use Rattle.ion_meter.specs.Counts.{Grows, Shrinks}
 use Rattle.ion_binary.specs.declared.headers.HeaderPlace.{HeaderPlace}
 use Rattle.ion_binary.specs.Canonical.{header}
@@ -48,9 +50,42 @@ returns-clause-stepped g c =
     let grows : Grows c.args.meter.now c.insert_header.new.meter (length x) = subst Cost same (c.insert_header.ensures.cost c.if-not-insert_header.false) in
     record {
       within = record { octets = omega (arith, fits); headers = omega (arith, few, before, now) };
-      memory = record { memory = λ e. absurd (Prim.cc e); counted = λ e. shrinks.refused ∙ grows.refused };
-      alone = λ f e. absurd (Prim.cc e);
+      memory = record { memory = λ e. absurd (none-some _ e); counted = λ e. shrinks.refused ∙ grows.refused };
+      alone = λ f e. absurd (none-some _ e);
       charges =
           grow-shrink c.args.meter.now c.insert_header.new.meter c.pop-innermost.new.meter (length x) 8 (open_cost v) (open_cost w) (open_most c.args.limits)
           grows shrinks (omega (arith, few, now, long, put, size)) c.requires.can_step.held (omega (arith, fits, few, before, long, put, size));
     }
+
+pub returns-clause-inside : goal.returns-clause-inside
+returns-clause-inside g c = grind (arith, common_steps) steps 400000
+
+pub insert_header-requires-clause-code : goal.insert_header-requires-clause-code
+insert_header-requires-clause-code g c = grind (arith, common_steps) steps 400000
+
+pub pop-innermost-requires : goal.pop-innermost-requires
+pop-innermost-requires g c = grind (arith, common_steps) steps 400000
+
+pub cut-requires : goal.cut-requires
+cut-requires g c = grind (arith, common_steps) steps 400000
+
+pub returns-then-not-insert_header-clause-open : goal.returns-then-not-insert_header-clause-open
+returns-then-not-insert_header-clause-open g c = grind (arith, common_steps) steps 400000
+
+pub insert_header-requires-clause-within : goal.insert_header-requires-clause-within
+insert_header-requires-clause-within g c = grind (arith, common_steps) steps 400000
+
+pub returns-clause-octets : goal.returns-clause-octets
+returns-clause-octets g c = grind (arith, common_steps) steps 400000
+
+pub returns-then-not-insert_header-clause-declines : goal.returns-then-not-insert_header-clause-declines
+returns-then-not-insert_header-clause-declines g c = grind (arith, common_steps) steps 400000
+
+pub insert_header-requires-clause-room : goal.insert_header-requires-clause-room
+insert_header-requires-clause-room g c = grind (arith, common_steps) steps 400000
+
+pub overflow_sub-inside : goal.overflow_sub-inside
+overflow_sub-inside g c = grind (arith, common_steps) steps 400000
+
+pub insert_header-requires-clause-short : goal.insert_header-requires-clause-short
+insert_header-requires-clause-short g c = grind (arith, common_steps) steps 400000

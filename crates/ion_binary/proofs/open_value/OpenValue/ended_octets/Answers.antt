@@ -1,4 +1,5 @@
 use Rattle.std.proofs.Common.{◌≡◌, ℕ, ◌+◌, ◌-◌, ◌<◌, Some, drop, length, map, take, ap, sym, ◌∙◌, arith}
+use Rattle.std.proofs.lemmas.Grind.{common_steps}
 use Rattle.std.specs.Prelude.{slice_get}
 use Rattle.ion_binary.specs.Canonical.{header}
 use Rattle.ion_binary.specs.Counting.{place_of_header}
@@ -30,3 +31,6 @@ loop-i-preserved g c =
           ap (λ x. missing n (map place_of_header (take (c.args.k - (c.loop-i.i + 1)) (drop (c.loop-i.i + 1) hs))) (m + x)) size
           ∙ (sym (missing-next n m c.args.k c.loop-i.i hs h got lt) ∙ inv.so_far);
     }
+
+pub header-requires-clause-short : goal.header-requires-clause-short
+header-requires-clause-short g c = grind (arith, common_steps) steps 400000

@@ -1,4 +1,5 @@
 use Rattle.std.proofs.Common.{◌≡◌, ℕ, ◌+◌, ◌-◌, ◌<◌, ◌≤◌, List, Some, drop, length, take, ap, sym, subst, ◌∙◌, arith}
+use Rattle.std.proofs.lemmas.Grind.{common_steps}
 use Rattle.std.specs.Prelude.{slice_get}
 use Rattle.std.specs.List.{AllByRecursion}
 use Rattle.ion_binary.specs.declared.headers.HeaderPlace.{HeaderPlace}
@@ -111,3 +112,15 @@ returns-clause-octets g c =
     let size = around-length c.loop-i.end c.loop-i.left v.octets inv.within in
     let left : c.loop-i.left ≡ 0 = omega (arith, long, size) in
     sym (around-none c.loop-i.end v.octets) ∙ (ap (λ n. around_gap c.loop-i.end n v.octets) (sym left) ∙ done)
+
+pub loop-i-init : goal.loop-i-init
+loop-i-init g c = grind (arith, common_steps) steps 400000
+
+pub overflow_sub-all : goal.overflow_sub-all
+overflow_sub-all g c = grind (arith, common_steps) steps 400000
+
+pub returns-in_default-clause-counts : goal.returns-in_default-clause-counts
+returns-in_default-clause-counts g c = grind (arith, common_steps) steps 400000
+
+pub returns-in_default-clause-headers : goal.returns-in_default-clause-headers
+returns-in_default-clause-headers g c = grind (arith, common_steps) steps 400000

@@ -1,4 +1,5 @@
 use Rattle.std.proofs.Common.{◌≡◌, ◌+◌, ◌-◌, ◌*◌, ◌/◌, ◌%◌, ◌^◌, ◌<◌, ◌∷◌, [], ◌++◌, if◌then◌else◌, List, ℕ, length, take, refl, ap, ◌∙◌, arith}
+use Rattle.std.proofs.lemmas.Grind.{common_steps}
 use Rattle.std.specs.Int.{bytes_high_first, leading_zeros, w64}
 use Rattle.std.proofs.lemmas.List.{length-take-le}
 use Rattle.ion_value.specs.Number.{coefficient_octets}
@@ -46,3 +47,9 @@ returns-clause-octets g c is =
     ap (λ (os : List ℕ). os ++ body) front
     ∙ (ap (λ (k : ℕ). k ∷ b) head ∙ (few-headed 5 b few ∙ ap (λ (os : List ℕ). headed 5 (c.args.exponent ∷ os)) spelled)) in
     c.put_few.ensures.octets is ∙ ap (λ (y : List ℕ). c.args.self.now.octets ++ noted c.args.name c.args.note y) whole
+
+pub put_few-requires-clause-few : goal.put_few-requires-clause-few
+put_few-requires-clause-few g c = grind (arith, common_steps) steps 400000
+
+pub returns-clause-headers : goal.returns-clause-headers
+returns-clause-headers g c = grind (arith, common_steps) steps 400000

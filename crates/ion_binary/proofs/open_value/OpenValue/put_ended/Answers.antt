@@ -1,5 +1,7 @@
 use Rattle.std.proofs.Common.{◌≡◌, ℕ, ◌-◌, ◌*◌, List, drop, length, replicate, take, ap, sym, ◌∙◌, arith, take_at}
+use Rattle.std.proofs.lemmas.Grind.{common_steps}
 use Rattle.std.proofs.lemmas.List.{length-drop}
+use Rattle.std.proofs.lemmas.Option.{none-some}
 use Rattle.ion_binary.specs.declared.headers.HeaderPlace.{HeaderPlace}
 use Rattle.ion_binary.specs.Counting.{cut}
 use Rattle.ion_binary.specs.Held.{closed_run}
@@ -69,9 +71,30 @@ returns-clause-stepped g c =
     let shrinks = c.drop_innermost.ensures.cost in
     record {
       within = record { octets = omega (arith, fits); headers = omega (arith, left, before) };
-      memory = record { memory = λ e. absurd (Prim.cc e); counted = λ e. shrinks.refused ∙ grows.refused };
-      alone = λ f e. absurd (Prim.cc e);
+      memory = record { memory = λ e. absurd (none-some _ e); counted = λ e. shrinks.refused ∙ grows.refused };
+      alone = λ f e. absurd (none-some _ e);
       charges =
           grow-shrink c.args.meter.now c.extend_zeros.new.meter c.drop_innermost.new.meter c.ended_octets-gap.result (8 * c.args.k) (open_cost v) (open_cost w) (open_most c.args.limits) grows shrinks
           (omega (arith, long, whole, left, gap, few)) c.requires.can_step.held (omega (arith, fits, long, whole, gap, before));
     }
+
+pub returns-clause-octets : goal.returns-clause-octets
+returns-clause-octets g c = grind (arith, common_steps) steps 400000
+
+pub drop_innermost-requires-clause-few : goal.drop_innermost-requires-clause-few
+drop_innermost-requires-clause-few g c = grind (arith, common_steps) steps 400000
+
+pub fill-requires-clause-whole : goal.fill-requires-clause-whole
+fill-requires-clause-whole g c = grind (arith, common_steps) steps 400000
+
+pub cut-requires : goal.cut-requires
+cut-requires g c = grind (arith, common_steps) steps 400000
+
+pub fill-requires-clause-placed : goal.fill-requires-clause-placed
+fill-requires-clause-placed g c = grind (arith, common_steps) steps 400000
+
+pub returns-in-Err-clause-stepped : goal.returns-in-Err-clause-stepped
+returns-in-Err-clause-stepped g c = grind (arith, common_steps) steps 400000
+
+pub returns-clause-headers : goal.returns-clause-headers
+returns-clause-headers g c = grind (arith, common_steps) steps 400000

@@ -1,4 +1,5 @@
 use Rattle.std.proofs.Common.{rules, ◌≡◌, ◌+◌, ◌++◌, List, ℕ, length, take, refl, ap, sym, ◌∙◌, arith, length-append}
+use Rattle.std.proofs.lemmas.Grind.{common_steps}
 use Rattle.std.proofs.lemmas.List.{length-take-le}
 use Rattle.ion_binary.proofs.OpenSteps.{room-open}
 use Rattle.ion_binary.proofs.PutInRoom.{room-stepped}
@@ -38,3 +39,15 @@ returns-clause-stepped g c =
     c.extend_blocks_if_room.new.meter (c.len.result + c.args.size) c.extend_blocks_if_room.result c.requires.can_step refl
     (λ is. ap (λ (os : List ℕ). length os) (c.extend_blocks_if_room.ensures.bytes is) ∙ omega (arith, a, l, f, r)) c.extend_blocks_if_room.ensures.cost
     c.extend_blocks_if_room.ensures.declines (omega (arith, z, few, s))
+
+pub returns-clause-declines : goal.returns-clause-declines
+returns-clause-declines g c = grind (arith, common_steps) steps 400000
+
+pub returns-clause-octets : goal.returns-clause-octets
+returns-clause-octets g c = grind (arith, common_steps) steps 400000
+
+pub extend_blocks_if_room-requires-clause-room : goal.extend_blocks_if_room-requires-clause-room
+extend_blocks_if_room-requires-clause-room g c = grind (arith, common_steps) steps 400000
+
+pub extend_blocks_if_room-requires-clause-others_within : goal.extend_blocks_if_room-requires-clause-others_within
+extend_blocks_if_room-requires-clause-others_within g c = grind (arith, common_steps) steps 400000

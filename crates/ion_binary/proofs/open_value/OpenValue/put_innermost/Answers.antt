@@ -1,4 +1,6 @@
 use Rattle.std.proofs.Common.{◌≡◌, ℕ, ◌-◌, List, ◌∷◌, length, refl, ap, subst, arith, rules}
+use Rattle.std.proofs.lemmas.Grind.{common_steps}
+use Rattle.std.proofs.lemmas.Option.{none-some}
 use Rattle.ion_binary.specs.Counting.{ArePlaced}
 use Rattle.ion_binary.specs.declared.headers.HeaderPlace.{HeaderPlace}
 use Rattle.ion_binary.specs.Canonical.{header}
@@ -29,8 +31,29 @@ returns-clause-stepped g c =
     record {
       within = record { octets = omega (arith, fits); headers = omega (arith, few, before) };
       memory = search rules;
-      alone = λ f e. absurd (Prim.cc e);
+      alone = λ f e. absurd (none-some _ e);
       charges =
           shrink-grow c.args.meter.now c.pop.new.meter c.insert_slice.new.meter 8 (length c.as_slice-2.result.now) (open_cost c.args.self.now) (open_cost c.cut.new.self) (open_most c.args.limits)
           c.in-Some.ensures.cost (search rules) (omega (arith, few, long, put, size)) c.requires.can_step.held (omega (arith, fits, few, before));
     }
+
+pub cut-requires : goal.cut-requires
+cut-requires g c = grind (arith, common_steps) steps 400000
+
+pub returns-clause-octets : goal.returns-clause-octets
+returns-clause-octets g c = grind (arith, common_steps) steps 400000
+
+pub insert_slice-requires-clause-within : goal.insert_slice-requires-clause-within
+insert_slice-requires-clause-within g c = grind (arith, common_steps) steps 400000
+
+pub returns-in_default-clause-open : goal.returns-in_default-clause-open
+returns-in_default-clause-open g c = grind (arith, common_steps) steps 400000
+
+pub returns-clause-headers : goal.returns-clause-headers
+returns-clause-headers g c = grind (arith, common_steps) steps 400000
+
+pub header-octets-requires-clause-code : goal.header-octets-requires-clause-code
+header-octets-requires-clause-code g c = grind (arith, common_steps) steps 400000
+
+pub overflow_sub-as_slice : goal.overflow_sub-as_slice
+overflow_sub-as_slice g c = grind (arith, common_steps) steps 400000

@@ -1,4 +1,5 @@
 use Rattle.std.proofs.Common.{◌≡◌, ◌+◌, ◌++◌, List, ℕ, length, take, refl, ap, sym, ◌∙◌, arith, length-append}
+use Rattle.std.proofs.lemmas.Grind.{common_steps}
 use Rattle.ion_binary.proofs.OpenSteps.{room-open}
 use Rattle.ion_binary.proofs.PutInRoom.{room-stepped}
 use Rattle.ion_binary.proofs.open_value.OpenValue.put_text.Goals as goal
@@ -30,3 +31,21 @@ returns-clause-stepped g c =
     c.extend_block_if_room.new.meter (c.len-2.result + length text) c.extend_block_if_room.result c.requires.can_step refl
     (λ is. ap (λ (os : List ℕ). length os) (c.extend_block_if_room.ensures.bytes is) ∙ omega (arith, a, l, f)) c.extend_block_if_room.ensures.cost
     c.extend_block_if_room.ensures.declines (omega (arith, same, s))
+
+pub extend_block_if_room-requires-clause-room : goal.extend_block_if_room-requires-clause-room
+extend_block_if_room-requires-clause-room g c = grind (arith, common_steps) steps 400000
+
+pub returns-clause-declines : goal.returns-clause-declines
+returns-clause-declines g c = grind (arith, common_steps) steps 400000
+
+pub returns-clause-headers : goal.returns-clause-headers
+returns-clause-headers g c = grind (arith, common_steps) steps 400000
+
+pub returns-then-not-surely_fits-clause-stepped : goal.returns-then-not-surely_fits-clause-stepped
+returns-then-not-surely_fits-clause-stepped g c = grind (arith, common_steps) steps 400000
+
+pub returns-then-not-surely_fits-clause-open : goal.returns-then-not-surely_fits-clause-open
+returns-then-not-surely_fits-clause-open g c = grind (arith, common_steps) steps 400000
+
+pub extend_block_if_room-requires-clause-within : goal.extend_block_if_room-requires-clause-within
+extend_block_if_room-requires-clause-within g c = grind (arith, common_steps) steps 400000

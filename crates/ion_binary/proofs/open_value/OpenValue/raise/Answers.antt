@@ -1,4 +1,5 @@
 use Rattle.std.proofs.Common.{◌<◌, ◌≤◌, ℕ, List, length, get_or, sym, ◌∙◌, arith}
+use Rattle.std.proofs.lemmas.Grind.{common_steps}
 use Rattle.ion_binary.specs.declared.headers.HeaderPlace.{HeaderPlace}
 use Rattle.ion_binary.specs.Counting.{content_around, most_at}
 use Rattle.ion_binary.specs.Places.{thresholds}
@@ -23,3 +24,18 @@ raising-preserved g c =
       };
       most = c.raising.invariant.most ∙ sym (most-same ns (length hs) c.args.level);
     }
+
+pub overflow_add-self : goal.overflow_add-self
+overflow_add-self g c = grind (arith, common_steps) steps 400000
+
+pub returns-then-content-level-clause-counted : goal.returns-then-content-level-clause-counted
+returns-then-content-level-clause-counted g c = grind (arith, common_steps) steps 1200000
+
+pub content-requires-clause-few : goal.content-requires-clause-few
+content-requires-clause-few g c = grind (arith, common_steps) steps 400000
+
+pub returns-then-content-level-clause-octets : goal.returns-then-content-level-clause-octets
+returns-then-content-level-clause-octets g c = grind (arith, common_steps) steps 400000
+
+pub returns-then-content-level-clause-headers : goal.returns-then-content-level-clause-headers
+returns-then-content-level-clause-headers g c = grind (arith, common_steps) steps 400000

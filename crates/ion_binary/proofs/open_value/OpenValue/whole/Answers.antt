@@ -99,3 +99,27 @@ returns-in_err-extend_some-clause-stepped g c = grind (arith, common_steps)
 
 pub returns-clause-stepped : goal.returns-clause-stepped
 returns-clause-stepped g c = grind (arith, common_steps)
+
+pub returns-clause-over : goal.returns-clause-over
+returns-clause-over c = grind (arith, common_steps) steps 400000
+
+pub insert_some-requires-clause-within : goal.insert_some-requires-clause-within
+insert_some-requires-clause-within c = grind (arith, common_steps) steps 400000
+
+pub extend-requires-clause-countable : goal.extend-requires-clause-countable
+extend-requires-clause-countable c = grind (arith, common_steps) steps 400000
+
+pub returns-then-closed_size-limits-clause-open : goal.returns-then-closed_size-limits-clause-open
+returns-then-closed_size-limits-clause-open c = grind (arith, common_steps) steps 400000
+
+pub returns-then-length-limits-clause-open : goal.returns-then-length-limits-clause-open
+returns-then-length-limits-clause-open c = grind (arith, common_steps) steps 400000
+
+pub returns-clause-headers : goal.returns-clause-headers
+returns-clause-headers c = grind (arith, common_steps) steps 400000
+
+pub closed_size-requires-clause-short : goal.closed_size-requires-clause-short
+closed_size-requires-clause-short c = grind (arith, common_steps) steps 400000
+
+pub wrapper-front-requires-clause-ids : goal.wrapper-front-requires-clause-ids
+wrapper-front-requires-clause-ids c = grind (arith, common_steps) steps 400000

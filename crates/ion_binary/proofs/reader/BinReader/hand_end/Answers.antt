@@ -1,4 +1,4 @@
-use Rattle.std.proofs.Common.{◌≡◌, ◌<◌, [], None, List, length, refl, ap, sym, subst, ◌∙◌, arith, rules}
+use Rattle.std.proofs.Common.{◌≡◌, ◌<◌, [], None, List, length, refl, ap, sym, subst, ◌∙◌, arith}
 use Rattle.std.proofs.lemmas.Grind.{common_steps}
 use Rattle.std.proofs.lemmas.Bool.{true≢false}
 use Rattle.ion_meter.specs.Sources.{cursor}
@@ -12,6 +12,7 @@ use Rattle.ion_binary.specs.Reader.{IsInnermost, to_come}
 use Rattle.ion_binary.specs.Steps.{opened_in}
 use Rattle.ion_binary.specs.Wrappers.{as_frames}
 use Rattle.ion_binary.proofs.Handing.{end_fits, ends-some, hands_by, open_one, path_here, to_come-gives}
+use Rattle.ion_binary.proofs.HandingKeeps.{keeps_on-end}
 use Rattle.ion_binary.proofs.ReaderParts.{inside-ends, kinds_of-length}
 use Rattle.ion_binary.proofs.reader.BinReader.hand_end.Goals as goal
 
@@ -44,8 +45,9 @@ returns-clause-handed g c =
         bytes = λ b. b;
       });
       nothing = λ e. absurd (true≢false e);
-      keeps = search rules;
-      goes = search rules;
+      keeps = rw c.close.ensures.end (keeps_on-end w r new.frames _ _ _ c.args.writer.now c.take_plain.new.self c.args.sink.now c.take_plain.new.sink c.args.meter.now c.take_plain.new.meter c.close.new.meter
+          c.requires.can_hand c.close.ensures.fewer taken.sound taken.same taken.device taken.counted taken.charges c.close.ensures.cost);
+      goes = rw c.close.ensures.end (omega (arith, less));
     }
 
 pub close-requires-clause-open : goal.close-requires-clause-open
@@ -70,3 +72,27 @@ returns-clause-around g c e = rw c.as_slice.ensures at c.around_in.ensures
 
 pub returns-then-not-take_plain-clause-handed : goal.returns-then-not-take_plain-clause-handed
 returns-then-not-take_plain-clause-handed g c = grind (arith, common_steps) steps 400000
+
+pub close-requires-clause-held : goal.close-requires-clause-held
+close-requires-clause-held g c = grind (arith, common_steps) steps 400000
+
+pub take_plain-requires-clause-room : goal.take_plain-requires-clause-room
+take_plain-requires-clause-room g c = grind (arith, common_steps) steps 400000
+
+pub take_plain-requires-clause-simple : goal.take_plain-requires-clause-simple
+take_plain-requires-clause-simple g c = grind (arith, common_steps) steps 400000
+
+pub returns-then-not-take_plain-clause-around : goal.returns-then-not-take_plain-clause-around
+returns-then-not-take_plain-clause-around g c = grind (arith, common_steps) steps 400000
+
+pub take_plain-requires-clause-plain : goal.take_plain-requires-clause-plain
+take_plain-requires-clause-plain g c = grind (arith, common_steps) steps 400000
+
+pub take_plain-requires-clause-well : goal.take_plain-requires-clause-well
+take_plain-requires-clause-well g c = grind (arith, common_steps) steps 400000
+
+pub take_plain-requires-clause-held : goal.take_plain-requires-clause-held
+take_plain-requires-clause-held g c = grind (arith, common_steps) steps 400000
+
+pub take_plain-requires-clause-countable : goal.take_plain-requires-clause-countable
+take_plain-requires-clause-countable g c = grind (arith, common_steps) steps 400000

@@ -1,3 +1,5 @@
+use Rattle.std.proofs.Common.{arith}
+use Rattle.std.proofs.lemmas.Grind.{common_steps}
 use Rattle.ion_binary.specs.Lane.{frame_in}
 use Rattle.ion_binary.specs.Wrappers.{innermost}
 use Rattle.ion_binary.proofs.Handing.{front_bare}
@@ -16,3 +18,21 @@ pub returns-in_default-clause-handed : goal.returns-in_default-clause-handed
 returns-in_default-clause-handed g c =
     handed-none g.W.ValueWriter g.I.Input (named_item (g.N.Names.text c.args.names.now)) c.args.self.now c.args.writer.now c.args.sink.now c.args.meter.now c.requires.can_hand
     (g.met.W.ValueWriter.within c.args.writer.now c.requires.can_hand.writer.sound)
+
+pub returns-clause-around : goal.returns-clause-around
+returns-clause-around g c = grind (arith, common_steps) steps 400000
+
+pub hand_head-requires-clause-can_hand : goal.hand_head-requires-clause-can_hand
+hand_head-requires-clause-can_hand g c = grind (arith, common_steps) steps 400000
+
+pub returns-clause-handed : goal.returns-clause-handed
+returns-clause-handed g c = grind (arith, common_steps) steps 400000
+
+pub hand_head-requires-clause-goes_on : goal.hand_head-requires-clause-goes_on
+hand_head-requires-clause-goes_on g c = grind (arith, common_steps) steps 400000
+
+pub hand_head-requires-clause-around : goal.hand_head-requires-clause-around
+hand_head-requires-clause-around g c = grind (arith, common_steps) steps 400000
+
+pub returns-in_default-clause-around : goal.returns-in_default-clause-around
+returns-in_default-clause-around g c = grind (arith, common_steps) steps 400000

@@ -1,4 +1,5 @@
 use Rattle.std.proofs.Common.{arith}
+use Rattle.std.proofs.lemmas.Grind.{common_steps}
 use Rattle.ion_value.specs.Items.{named_item}
 use Rattle.ion_binary.proofs.HandingKeeps.{handed-none}
 use Rattle.ion_binary.proofs.reader.BinReader.hand_next_noted.Goals as goal
@@ -13,3 +14,6 @@ pub returns-then-ends_here : goal.returns-then-ends_here
 returns-then-ends_here g c =
     handed-none g.W.ValueWriter g.I.Input (named_item (g.N.Names.text c.args.names.now)) c.args.self.now c.args.writer.now c.args.sink.now c.args.meter.now c.requires
     (g.met.W.ValueWriter.within c.args.writer.now c.requires.writer.sound)
+
+pub hand_noted-requires-clause-goes_on : goal.hand_noted-requires-clause-goes_on
+hand_noted-requires-clause-goes_on g c = grind (arith, common_steps) steps 400000

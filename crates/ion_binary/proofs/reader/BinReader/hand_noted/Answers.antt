@@ -33,3 +33,30 @@ pub returns-then-front-octets-clause-handed : goal.returns-then-front-octets-cla
 returns-then-front-octets-clause-handed g c =
     handed-none g.W.ValueWriter g.I.Input (named_item (g.N.Names.text c.args.names.now)) c.args.self.now c.args.writer.now c.args.sink.now c.args.meter.now c.requires.can_hand
     (g.met.W.ValueWriter.within c.args.writer.now c.requires.can_hand.writer.sound)
+
+pub hand_shape-requires-clause-goes_on : goal.hand_shape-requires-clause-goes_on
+hand_shape-requires-clause-goes_on g c = grind (arith, common_steps) steps 400000
+
+pub hand_shape-requires-clause-can_hand : goal.hand_shape-requires-clause-can_hand
+hand_shape-requires-clause-can_hand g c = grind (arith, common_steps) steps 400000
+
+pub returns-clause-around : goal.returns-clause-around
+returns-clause-around g c = grind (arith, common_steps) steps 400000
+
+pub returns-clause-handed : goal.returns-clause-handed
+returns-clause-handed g c = grind (arith, common_steps) steps 400000
+
+pub returns-in_default-noted_front-clause-around : goal.returns-in_default-noted_front-clause-around
+returns-in_default-noted_front-clause-around g c = grind (arith, common_steps) steps 400000
+
+pub bounds-octets-front : goal.bounds-octets-front
+bounds-octets-front g c = grind (arith, common_steps) steps 400000
+
+pub returns-then-front-octets-clause-around : goal.returns-then-front-octets-clause-around
+returns-then-front-octets-clause-around g c = grind (arith, common_steps) steps 400000
+
+pub hand_shape-requires-clause-around : goal.hand_shape-requires-clause-around
+hand_shape-requires-clause-around g c = grind (arith, common_steps) steps 400000
+
+pub returns-in_default-clause-around : goal.returns-in_default-clause-around
+returns-in_default-clause-around g c = grind (arith, common_steps) steps 400000

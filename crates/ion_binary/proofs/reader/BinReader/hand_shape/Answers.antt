@@ -1,7 +1,6 @@
-use Rattle.std.proofs.Common.{◌≡◌, ◌+◌, ◌*◌, ◌-◌, ◌<◌, None, [], ◌∷◌, ◌++◌, length, refl, ap, sym, subst, ◌∙◌, arith, rules}
+use Rattle.std.proofs.Common.{◌≡◌, ◌+◌, ◌<◌, None, [], ◌∷◌, ◌++◌, length, refl, ap, sym, subst, ◌∙◌, arith}
 use Rattle.std.proofs.lemmas.Grind.{common_steps}
 use Rattle.std.proofs.lemmas.List.{length_push}
-use Rattle.ion_meter.specs.Counts.{Counts}
 use Rattle.std.proofs.lemmas.Bool.{true≢false}
 use Rattle.ion_meter.proofs.Lent.{IsPassed-total, lent-CanPass}
 use Rattle.ion_value.proofs.Passing.{IsPassed-moves}
@@ -19,7 +18,7 @@ use Rattle.ion_binary.specs.Lane.{frame_in}
 use Rattle.ion_binary.specs.Reading.{placed_item, top_of}
 use Rattle.ion_binary.specs.Reader.{kinds_of, to_come}
 use Rattle.ion_binary.specs.Shown.{shown_scalar}
-use Rattle.ion_binary.specs.Steps.{held_by, left_to, opened_in}
+use Rattle.ion_binary.specs.Steps.{opened_in}
 use Rattle.ion_binary.specs.Wrappers.{as_frames, innermost}
 use Rattle.ion_binary.proofs.Handing.{around_pushed, as_frames-push, begin_fits, falls_begin, falls_scalar, hands_by, kinds_of-push, path_here, plain_seen, scalar_fits, shown-known, step_shown, to_come-gives, whole-opens, whole-value}
 use Rattle.ion_binary.proofs.HandingKeeps.{goes-opened, handed-none, handed-undone, head-fits, keeps_on-begin, keeps_on-scalar, more-below, popped}
@@ -286,3 +285,27 @@ returns-then-not-push_within-clause-handed g c =
     let declines = c.push_within.ensures.declines c.if-not-push_within.true in
     rw (declines.0, declines.1) (handed-none g.W.ValueWriter g.I.Input (named_item (g.N.Names.text c.args.names.now)) c.args.self.now c.args.writer.now c.args.sink.now c.args.meter.now c.requires.can_hand
     (g.met.W.ValueWriter.within c.args.writer.now c.requires.can_hand.writer.sound))
+
+pub take_plain-requires-in-Begin-clause-countable : goal.take_plain-requires-in-Begin-clause-countable
+take_plain-requires-in-Begin-clause-countable g c = grind (arith, common_steps) steps 400000
+
+pub take_plain-requires-in-Begin-clause-held : goal.take_plain-requires-in-Begin-clause-held
+take_plain-requires-in-Begin-clause-held g c = grind (arith, common_steps) steps 400000
+
+pub returns-in_default-shown_head-clause-around : goal.returns-in_default-shown_head-clause-around
+returns-in_default-shown_head-clause-around g c = grind (arith, common_steps) steps 400000
+
+pub returns-then-not-take_plain-2-clause-around : goal.returns-then-not-take_plain-2-clause-around
+returns-then-not-take_plain-2-clause-around g c = grind (arith, common_steps) steps 400000
+
+pub returns-then-not-push_within-clause-around : goal.returns-then-not-push_within-clause-around
+returns-then-not-push_within-clause-around g c = grind (arith, common_steps) steps 400000
+
+pub returns-then-not-take_plain-clause-around : goal.returns-then-not-take_plain-clause-around
+returns-then-not-take_plain-clause-around g c = grind (arith, common_steps) steps 400000
+
+pub returns-in_default-clause-around : goal.returns-in_default-clause-around
+returns-in_default-clause-around g c = grind (arith, common_steps) steps 400000
+
+pub shown_behind-requires-clause-sized : goal.shown_behind-requires-clause-sized
+shown_behind-requires-clause-sized g c = grind (arith, common_steps) steps 400000

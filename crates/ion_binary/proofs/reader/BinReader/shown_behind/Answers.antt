@@ -27,3 +27,12 @@ returns-clause-fills g c = rw (c.far_end.ensures, c.place-here.ensures) at (c.fi
 
 pub shown_value-requires-clause-small : goal.shown_value-requires-clause-small
 shown_value-requires-clause-small g c = grind (arith, common_steps)
+
+pub shown_value-requires-clause-within : goal.shown_value-requires-clause-within
+shown_value-requires-clause-within g c = grind (arith, common_steps) steps 400000
+
+pub returns-then-not-fills-clause-shows : goal.returns-then-not-fills-clause-shows
+returns-then-not-fills-clause-shows g c = grind (arith, common_steps) steps 400000
+
+pub returns-then-not-fills-clause-fills : goal.returns-then-not-fills-clause-fills
+returns-then-not-fills-clause-fills g c = grind (arith, common_steps) steps 400000

@@ -1,4 +1,5 @@
 use Rattle.std.proofs.Common.{◌≡◌, Ok, Option, Some, Result, ◌<◌, ℕ, List, Bool, true, false, not, None, refl, ap, sym, subst, ◌∙◌, arith}
+use Rattle.std.proofs.lemmas.Grind.{common_steps}
 use Rattle.ion_meter.specs.declared.fault.Fault.{Fault}
 use Rattle.ion_meter.specs.declared.fault.Reason.{Reason}
 use Rattle.ion_meter.specs.declared.fault.Reason.TheVariants.{ValueLimit}
@@ -88,3 +89,51 @@ returns-in-Ok-false-clause-refuses g c r p is =
     let over : w.limits.value < size_of o hs = c.in-Ok-false.ensures.over (id_in n.texts) name ok in
     refused-long w.limits (held_in w) item none (omega (arith, over, size))
     ∙ (ap (λ (t : ℕ). let x : Option (Reason × ℕ) = Some (ValueLimit, t) in x) (sym c.top-in-Ok-false.ensures) ∙ same-why (Unit {0}) ValueLimit r c.top-in-Ok-false.result p is)
+
+pub returns-in-Err-clause-no_device : goal.returns-in-Err-clause-no_device
+returns-in-Err-clause-no_device g c = grind (arith, common_steps) steps 400000
+
+pub returns-in-Ok-true-clause-no_device : goal.returns-in-Ok-true-clause-no_device
+returns-in-Ok-true-clause-no_device g c = grind (arith, common_steps) steps 400000
+
+pub returns-then-not-front-clause-no_device : goal.returns-then-not-front-clause-no_device
+returns-then-not-front-clause-no_device g c = grind (arith, common_steps) steps 400000
+
+pub returns-then-not-front-clause-taken : goal.returns-then-not-front-clause-taken
+returns-then-not-front-clause-taken g c = grind (arith, common_steps) steps 400000
+
+pub returns-in-Err-take-clause-no_device : goal.returns-in-Err-take-clause-no_device
+returns-in-Err-take-clause-no_device g c = grind (arith, common_steps) steps 400000
+
+pub returns-in-Ok-false-clause-no_device : goal.returns-in-Ok-false-clause-no_device
+returns-in-Ok-false-clause-no_device g c = grind (arith, common_steps) steps 400000
+
+pub take-requires-clause-can_step : goal.take-requires-clause-can_step
+take-requires-clause-can_step g c = grind (arith, common_steps) steps 400000
+
+pub returns-in-Ok-true-clause-open : goal.returns-in-Ok-true-clause-open
+returns-in-Ok-true-clause-open g c = grind (arith, common_steps) steps 400000
+
+pub returns-in-Err-clause-taken : goal.returns-in-Err-clause-taken
+returns-in-Err-clause-taken g c = grind (arith, common_steps) steps 400000
+
+pub returns-in-Err-take-clause-ended : goal.returns-in-Err-take-clause-ended
+returns-in-Err-take-clause-ended g c = grind (arith, common_steps) steps 400000
+
+pub returns-in-Ok-true-clause-refuses : goal.returns-in-Ok-true-clause-refuses
+returns-in-Ok-true-clause-refuses g c = grind (arith, common_steps) steps 400000
+
+pub returns-in-Ok-true-clause-ended : goal.returns-in-Ok-true-clause-ended
+returns-in-Ok-true-clause-ended g c = grind (arith, common_steps) steps 400000
+
+pub returns-in-Ok-false-clause-ended : goal.returns-in-Ok-false-clause-ended
+returns-in-Ok-false-clause-ended g c = grind (arith, common_steps) steps 400000
+
+pub put_front-requires-clause-can_number : goal.put_front-requires-clause-can_number
+put_front-requires-clause-can_number g c = grind (arith, common_steps) steps 400000
+
+pub returns-in-Err-clause-ended : goal.returns-in-Err-clause-ended
+returns-in-Err-clause-ended g c = grind (arith, common_steps) steps 400000
+
+pub returns-then-not-front-clause-ended : goal.returns-then-not-front-clause-ended
+returns-then-not-front-clause-ended g c = grind (arith, common_steps) steps 400000

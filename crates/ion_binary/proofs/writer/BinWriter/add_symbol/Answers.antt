@@ -1,4 +1,5 @@
-use Rattle.std.proofs.Common.{rules, ◌≡◌, ◌∷◌, [], List, ℕ, Some, subst, sym, ap, ◌∙◌}
+use Rattle.std.proofs.Common.{rules, ◌≡◌, ◌∷◌, [], List, ℕ, Some, subst, sym, ap, ◌∙◌, arith}
+use Rattle.std.proofs.lemmas.Grind.{common_steps}
 use Rattle.ion_value.specs.declared.item.Sym.{Sym}
 use Rattle.ion_value.specs.Items.{symbol_of}
 use Rattle.ion_value.specs.Number.{uint_octets}
@@ -29,3 +30,12 @@ add_number-requires-clause-octets g c =
     let P : Head SymbolAt → Type 0 = λ h. headed 7 (uint_octets c.from.result) ≡ head_octets (id_in texts) (map_head user_symbol_at h) in
     let Q : Sym → Type 0 = λ s. headed 7 (uint_octets c.from.result) ≡ headed 7 (uint_octets (id_in texts (user_symbol (symbol_of s)))) in
     subst P (sym c.requires.head) (subst Q (sym c.in-Text.is) (ap (λ n. headed 7 (uint_octets n)) (same ∙ known-is texts t c.in-Some.id e)))
+
+pub returns-in_default : goal.returns-in_default
+returns-in_default g c = grind (arith, common_steps) steps 400000
+
+pub returns-in-None : goal.returns-in-None
+returns-in-None g c = grind (arith, common_steps) steps 400000
+
+pub add_number-requires-clause-whole : goal.add_number-requires-clause-whole
+add_number-requires-clause-whole g c = grind (arith, common_steps) steps 400000

@@ -1,4 +1,5 @@
 use Rattle.std.proofs.Common.{rules, ◌≡◌, ℕ, ◌+◌, ◌^◌, ◌<◌, List, Some, drop, ap, sym, ◌∙◌, arith, eq-eqb, ne_eqb}
+use Rattle.std.proofs.lemmas.Grind.{common_steps}
 use Rattle.std.specs.Prelude.{slice_get}
 use Rattle.std.proofs.lemmas.Option.{slice_get_within}
 use Rattle.ion_binary.specs.declared.headers.HeaderPlace.{HeaderPlace}
@@ -61,3 +62,15 @@ returns-clause-headers g c is =
       | then-around-eq-WRAPPER b ↦ ap (λ k. drop k hs) b.ended-is ∙ (run-wrapped w.ended os hs h around first second (eq-eqb around.code 14 b.if-around-eq-WRAPPER.true)).1
       | else-around-eq-WRAPPER b ↦ ap (λ k. drop k hs) b.ended-is ∙ (run-own w.ended os hs h around first second (ne_eqb around.code 14 b.if-around-eq-WRAPPER.false)).1
     ]
+
+pub returns-then-ended-len-clause-inside : goal.returns-then-ended-len-clause-inside
+returns-then-ended-len-clause-inside g c = grind (arith, common_steps) steps 400000
+
+pub returns-clause-inside : goal.returns-clause-inside
+returns-clause-inside g c = grind (arith, common_steps) steps 400000
+
+pub returns-in_default-nth-clause-inside : goal.returns-in_default-nth-clause-inside
+returns-in_default-nth-clause-inside g c = grind (arith, common_steps) steps 400000
+
+pub returns-in_default-clause-inside : goal.returns-in_default-clause-inside
+returns-in_default-clause-inside g c = grind (arith, common_steps) steps 400000

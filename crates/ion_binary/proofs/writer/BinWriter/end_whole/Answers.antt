@@ -1,4 +1,5 @@
 use Rattle.std.proofs.Common.{◌≡◌, ◌++◌, List, ℕ, length, ap, ◌∙◌, arith}
+use Rattle.std.proofs.lemmas.Grind.{common_steps}
 use Rattle.ion_binary.specs.Canonical.{header}
 use Rattle.ion_binary.specs.Plain.{as_item}
 use Rattle.ion_binary.proofs.PlainAdded.{plain-ended}
@@ -19,3 +20,48 @@ returns-clause-ends g c =
     plain-ended w c.clear.new.self o c.args.meter.now c.clear.new.meter (as_item c.args.item.now) c.args.sink.now.pending c.put_within-2.new.self.pending x
     c.requires.can_take c.requires.comes.counted c.requires.comes.follows c.requires.head c.in-Some.ensures c.if-outermost-ne0.false c.if-self.false all is put
     c.clear.ensures.nothing.0 c.clear.ensures.nothing.1 c.clear.ensures.open c.clear.ensures.stepped
+
+pub returns-then-room-len-clause-ends : goal.returns-then-room-len-clause-ends
+returns-then-room-len-clause-ends g c = grind (arith, common_steps) steps 400000
+
+pub clear-requires-clause-one : goal.clear-requires-clause-one
+clear-requires-clause-one g c = grind (arith, common_steps) steps 400000
+
+pub returns-clause-declines : goal.returns-clause-declines
+returns-clause-declines g c = grind (arith, common_steps) steps 400000
+
+pub returns-then-self-clause-ends : goal.returns-then-self-clause-ends
+returns-then-self-clause-ends g c = grind (arith, common_steps) steps 400000
+
+pub put_within-requires-2 : goal.put_within-requires-2
+put_within-requires-2 g c = grind (arith, common_steps) steps 400000
+
+pub header-before-requires-clause-code : goal.header-before-requires-clause-code
+header-before-requires-clause-code g c = grind (arith, common_steps) steps 400000
+
+pub put_within-requires : goal.put_within-requires
+put_within-requires g c = grind (arith, common_steps) steps 400000
+
+pub returns-then-len-self-clause-ends : goal.returns-then-len-self-clause-ends
+returns-then-len-self-clause-ends g c = grind (arith, common_steps) steps 400000
+
+pub returns-in_default-clause-ends : goal.returns-in_default-clause-ends
+returns-in_default-clause-ends g c = grind (arith, common_steps) steps 400000
+
+pub returns-clause-device : goal.returns-clause-device
+returns-clause-device g c = grind (arith, common_steps) steps 400000
+
+pub returns-clause-fault : goal.returns-clause-fault
+returns-clause-fault g c = grind (arith, common_steps) steps 400000
+
+pub returns-then-room-len-clause-declines : goal.returns-then-room-len-clause-declines
+returns-then-room-len-clause-declines g c = grind (arith, common_steps) steps 400000
+
+pub returns-then-room-len-clause-device : goal.returns-then-room-len-clause-device
+returns-then-room-len-clause-device g c = grind (arith, common_steps) steps 400000
+
+pub returns-then-len-self-clause-declines : goal.returns-then-len-self-clause-declines
+returns-then-len-self-clause-declines g c = grind (arith, common_steps) steps 400000
+
+pub returns-then-room-len-clause-fault : goal.returns-then-room-len-clause-fault
+returns-then-room-len-clause-fault g c = grind (arith, common_steps) steps 400000

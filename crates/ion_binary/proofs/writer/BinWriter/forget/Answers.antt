@@ -1,4 +1,5 @@
 use Rattle.std.proofs.Common.{◌≡◌, [], ◌≢◌, length, inl, inr, true, refl, ap, sym, ◌∙◌, arith}
+use Rattle.std.proofs.lemmas.Grind.{common_steps}
 use Rattle.ion_symbols.specs.Output.{Output}
 use Rattle.ion_binary.specs.Writer.{held_in}
 use Rattle.ion_binary.proofs.WriterSteps.{forgotten, kept, same-held}
@@ -24,3 +25,6 @@ returns-else-begins-clause-held g c =
           let f : c.len-begins.result ≢ 0 = b.if-begins.false in
           sym (kept w.limits.symbols (held_in w) w.open_value.headers (inl (omega (arith, n, f))))
     ]
+
+pub returns-then-cost-self-clause-can_take : goal.returns-then-cost-self-clause-can_take
+returns-then-cost-self-clause-can_take g c = grind (arith, common_steps) steps 400000

@@ -1,4 +1,5 @@
 use Rattle.std.proofs.Common.{◌≡◌, ◌+◌, ◌++◌, List, ℕ, length, subst, sym, arith, length-append}
+use Rattle.std.proofs.lemmas.Grind.{common_steps}
 use Rattle.ion_meter.specs.Counts.{Grows}
 use Rattle.ion_value.specs.Value.{PlacedItem}
 use Rattle.ion_binary.specs.Plain.{as_item}
@@ -18,3 +19,12 @@ returns g c =
     let G : ℕ → Type 0 = λ n. Grows c.args.meter.now c.give_next.new.meter (16 + (length fresh.text.now + n)) in
     fresh-plain w c.give_next.new.self c.give_next.new.octets c.args.meter.now c.give_next.new.meter item c.give_next.result fresh c.args.note (front ++ rest)
     c.requires.can_put c.requires.octets k.new k.texts k.octets k.within (λ e. subst G long (k.grows e)) k.limit k.declines (omega (arith, s, long))
+
+pub returns-then-not-surely_fits : goal.returns-then-not-surely_fits
+returns-then-not-surely_fits g c = grind (arith, common_steps) steps 400000
+
+pub give_next-requires-clause-short : goal.give_next-requires-clause-short
+give_next-requires-clause-short g c = grind (arith, common_steps) steps 400000
+
+pub give_next-requires-clause-room : goal.give_next-requires-clause-room
+give_next-requires-clause-room g c = grind (arith, common_steps) steps 400000

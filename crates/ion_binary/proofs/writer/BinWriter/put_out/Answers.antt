@@ -1,5 +1,9 @@
-use Rattle.std.proofs.Common.{◌≡◌, ◌≤◌, ◌<◌, ◌^◌, ℕ, List, length, refl, ap, arith, rules}
-use Rattle.ion_binary.specs.Writer.{held_in}
+use Rattle.std.proofs.Common.{◌≡◌, ◌≤◌, ◌<◌, ◌^◌, ℕ, List, length, Err, refl, ap, sym, subst, arith, rules}
+use Rattle.std.proofs.lemmas.Grind.{common_steps}
+use Rattle.std.proofs.lemmas.Option.{none-some}
+use Rattle.ion_binary.specs.declared.headers.HeaderPlace.{HeaderPlace}
+use Rattle.ion_binary.specs.Held.{value_put}
+use Rattle.ion_binary.specs.Writer.{PutsOctets, held_in}
 use Rattle.ion_binary.proofs.DeclarationOctets.{few-texts}
 use Rattle.ion_binary.proofs.WriterSteps.{none-open, puts-nothing}
 use Rattle.ion_binary.proofs.writer.BinWriter.put_out.Goals as goal
@@ -49,7 +53,7 @@ returns-clause-taken g c =
       };
       limits = refl;
       failed = refl;
-      memory = record { memory = λ x. absurd (Prim.cc x); counted = λ x. c.clear.ensures.cost.refused };
+      memory = record { memory = λ x. absurd (none-some _ x); counted = λ x. c.clear.ensures.cost.refused };
       charges = record {
         held = omega (arith, ch, b, held);
         share = omega (arith, b, share, headers);
@@ -57,3 +61,32 @@ returns-clause-taken g c =
         rises = omega (arith, cp);
       };
     }
+
+pub returns-clause-open : goal.returns-clause-open
+returns-clause-open g c = grind (arith, common_steps) steps 400000
+
+pub returns-clause-puts : goal.returns-clause-puts
+returns-clause-puts g c = grind (arith, common_steps) steps 400000
+
+pub returns-clause-held : goal.returns-clause-held
+returns-clause-held g c = grind (arith, common_steps) steps 400000
+
+pub returns-clause-causes : goal.returns-clause-causes
+returns-clause-causes g c = grind (arith, common_steps) steps 400000
+
+pub returns-in-Err-clause-puts : goal.returns-in-Err-clause-puts
+returns-in-Err-clause-puts g c =
+    let v = c.args.self.now in
+    let e = c.len-is_open.ensures in
+    let t : c.len-is_open.result ≤ 0 = c.if-is_open.false in
+    let none = none-open v.open_value.headers (omega (arith, e, t)) in
+    subst (λ (hs : List HeaderPlace). PutsOctets g.O.Output c.args.sink.now c.put_value.new.sink (Err c.in-Err.fault) (value_put (held_in v) hs v.open_value.octets)) (sym none) c.in-Err.ensures.puts
+
+pub returns-in-Err-clause-taken : goal.returns-in-Err-clause-taken
+returns-in-Err-clause-taken g c = grind (arith, common_steps) steps 400000
+
+pub returns-clause-ended : goal.returns-clause-ended
+returns-clause-ended g c = grind (arith, common_steps) steps 400000
+
+pub returns-in-Err-clause-causes : goal.returns-in-Err-clause-causes
+returns-in-Err-clause-causes g c = grind (arith, common_steps) steps 400000

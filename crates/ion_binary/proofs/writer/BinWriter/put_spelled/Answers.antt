@@ -1,4 +1,5 @@
-use Rattle.std.proofs.Common.{◌∷◌, ◌++◌, [], List, ℕ, ap, ◌∙◌}
+use Rattle.std.proofs.Common.{◌∷◌, ◌++◌, [], List, ℕ, ap, ◌∙◌, arith}
+use Rattle.std.proofs.lemmas.Grind.{common_steps}
 use Rattle.ion_binary.specs.Canonical.{id_in}
 use Rattle.ion_binary.specs.Opening.{noted}
 use Rattle.ion_binary.proofs.writer.BinWriter.put_spelled.Goals as goal
@@ -14,3 +15,9 @@ give_fresh-requires-clause-octets g c new =
     ∙ (c.in-Some.ensures.octets
     ∙ (ap (λ (z : List ℕ). noted fresh.name note (z ++ lent)) c.as_slice.ensures.value
     ∙ ap (noted fresh.name note) (c.spell-spelled.ensures (id_in (texts ++ fresh.text.now ∷ [])) f.symbol)))
+
+pub returns-in_default : goal.returns-in_default
+returns-in_default g c = grind (arith, common_steps) steps 400000
+
+pub spell-spelled-requires : goal.spell-spelled-requires
+spell-spelled-requires g c = grind (arith, common_steps) steps 400000

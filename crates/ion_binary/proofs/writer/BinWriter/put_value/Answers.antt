@@ -1,4 +1,5 @@
 use Rattle.std.proofs.Common.{◌≡◌, List, ℕ, None, drop, subst, arith}
+use Rattle.std.proofs.lemmas.Grind.{common_steps}
 use Rattle.ion_meter.proofs.Putting.{put_cut, put_then}
 use Rattle.ion_meter.specs.Sinks.{IsPut}
 use Rattle.ion_binary.specs.Canonical.{declaration}
@@ -35,3 +36,12 @@ returns-clause-puts g c =
     let last = subst Q c.as_slice.ensures c.put.ensures in
     puts-octets g.O.Output c.args.sink.now c.put.new.sink c.put.result _ (λ e. put_then c.in_default.is (c.put_marker.ensures.put e) (put_then c.in_default-put_declaration.is put last)) (on-ok-const c.put.result well)
     (λ f e. absurd (none-not-some well e))
+
+pub returns-clause-causes : goal.returns-clause-causes
+returns-clause-causes g c = grind (arith, common_steps) steps 400000
+
+pub returns-in-Err-put_declaration-clause-causes : goal.returns-in-Err-put_declaration-clause-causes
+returns-in-Err-put_declaration-clause-causes g c = grind (arith, common_steps) steps 400000
+
+pub returns-in-Err-clause-causes : goal.returns-in-Err-clause-causes
+returns-in-Err-clause-causes g c = grind (arith, common_steps) steps 400000

@@ -1,4 +1,5 @@
-use Rattle.std.proofs.Common.{◌≡◌, Ok, refl, sym, subst, ◌∙◌}
+use Rattle.std.proofs.Common.{◌≡◌, Ok, refl, sym, subst, ◌∙◌, arith}
+use Rattle.std.proofs.lemmas.Grind.{common_steps}
 use Rattle.ion_value.specs.Items.{item_of}
 use Rattle.ion_value.specs.Value as value
 use Rattle.ion_value.specs.Value.{PlacedItem}
@@ -32,3 +33,30 @@ returns-then-end_later-clause-puts g c s comes =
 
 pub returns-in-Err-clause-puts : goal.returns-in-Err-clause-puts
 returns-in-Err-clause-puts g c s comes = puts-none g.O.Output c.args.sink.now c.in-Err.fault _
+
+pub returns-in-Err-clause-causes : goal.returns-in-Err-clause-causes
+returns-in-Err-clause-causes g c = grind (arith, common_steps) steps 400000
+
+pub take-requires-clause-can_take : goal.take-requires-clause-can_take
+take-requires-clause-can_take g c = grind (arith, common_steps) steps 400000
+
+pub returns-clause-causes : goal.returns-clause-causes
+returns-clause-causes g c = grind (arith, common_steps) steps 400000
+
+pub put_ended-requires-clause-open : goal.put_ended-requires-clause-open
+put_ended-requires-clause-open g c = grind (arith, common_steps) steps 400000
+
+pub returns-then-end_later-clause-causes : goal.returns-then-end_later-clause-causes
+returns-then-end_later-clause-causes g c = grind (arith, common_steps) steps 400000
+
+pub returns-in-Err-clause-taken : goal.returns-in-Err-clause-taken
+returns-in-Err-clause-taken g c = grind (arith, common_steps) steps 400000
+
+pub take-requires-clause-none : goal.take-requires-clause-none
+take-requires-clause-none g c = grind (arith, common_steps) steps 400000
+
+pub take-requires-clause-head : goal.take-requires-clause-head
+take-requires-clause-head g c = grind (arith, common_steps) steps 400000
+
+pub returns-in-Err-clause-still : goal.returns-in-Err-clause-still
+returns-in-Err-clause-still g c = grind (arith, common_steps) steps 400000

@@ -1,4 +1,5 @@
-use Rattle.std.proofs.Common.{rules, ◌≡◌, ℕ, List, None, Some, Err, Result, sym, subst, ◌∙◌}
+use Rattle.std.proofs.Common.{rules, ◌≡◌, ℕ, List, None, Some, Err, Result, sym, subst, ◌∙◌, arith}
+use Rattle.std.proofs.lemmas.Grind.{common_steps}
 use Rattle.ion_meter.specs.declared.fault.Fault.{Fault}
 use Rattle.ion_meter.specs.declared.fault.Fault.TheVariants.{Refused}
 use Rattle.ion_meter.specs.declared.fault.Reason.{Reason}
@@ -50,3 +51,18 @@ returns-clause-puts g c s comes =
     let none : item_refusal w.limits (held_in c.forget.new.self) item ≡ None = subst L c.forget.ensures.taken.limits c.in_default.ensures.passes in
     let P : List ℕ → Type 0 = λ os. PutsOctets g.O.Output c.args.sink.now c.put_out.new.sink c.put_out.result os in
     subst P (adds-are w c.add.new.self s item (held_in c.forget.new.self) comes b c.in_default.ensures.held none) c.put_out.ensures.puts
+
+pub put_out-requires-clause-can_put : goal.put_out-requires-clause-can_put
+put_out-requires-clause-can_put g c = grind (arith, common_steps) steps 400000
+
+pub returns-clause-causes : goal.returns-clause-causes
+returns-clause-causes g c = grind (arith, common_steps) steps 400000
+
+pub add-requires-clause-can_take : goal.add-requires-clause-can_take
+add-requires-clause-can_take g c = grind (arith, common_steps) steps 400000
+
+pub returns-in-Err-clause-still : goal.returns-in-Err-clause-still
+returns-in-Err-clause-still g c = grind (arith, common_steps) steps 400000
+
+pub put_out-requires-clause-open : goal.put_out-requires-clause-open
+put_out-requires-clause-open g c = grind (arith, common_steps) steps 400000

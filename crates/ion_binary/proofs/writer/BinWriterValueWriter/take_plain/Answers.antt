@@ -1,4 +1,5 @@
 use Rattle.std.proofs.Common.{◌≡◌, true, false, arith, ◌∙◌, List, ℕ, Bool, ◌++◌, ap, sym, subst, append-nil, rules}
+use Rattle.std.proofs.lemmas.Grind.{common_steps}
 use Rattle.std.specs.Prelude.{is_some}
 use Rattle.ion_value.specs.PlainItems.{placed_item}
 use Rattle.ion_value.specs.Value.{PlacedItem}
@@ -75,3 +76,90 @@ returns-then-len-eq1-clause-puts g c is path stands next =
     let P : PlacedItem → Bool → Type 0 = λ i b. EndsPlain w c.end_whole.new.self c.args.meter.now c.end_whole.new.meter i c.args.sink.now.pending c.end_whole.new.sink.pending b in
     let p = subst (λ (i : PlacedItem). P i true) (sym single) (subst (P (as_item c.single_of-single.result)) is c.end_whole.ensures.ends) in
     ends-puts w c.end_whole.new.self c.args.meter.now c.end_whole.new.meter (written_behind w.limits path) item c.args.sink.now.pending c.end_whole.new.sink.pending p (stands.holds, may-come w.limits path item next) none
+
+pub returns-then-len-eq1-clause-charges : goal.returns-then-len-eq1-clause-charges
+returns-then-len-eq1-clause-charges g c = grind (arith, common_steps) steps 400000
+
+pub returns-clause-declines : goal.returns-clause-declines
+returns-clause-declines g c = grind (arith, common_steps) steps 400000
+
+pub returns-then-len-eq1-clause-sound : goal.returns-then-len-eq1-clause-sound
+returns-then-len-eq1-clause-sound g c = grind (arith, common_steps) steps 400000
+
+pub returns-then-pair-clause-stands : goal.returns-then-pair-clause-stands
+returns-then-pair-clause-stands g c = grind (arith, common_steps) steps 400000
+
+pub returns-clause-charges : goal.returns-clause-charges
+returns-clause-charges g c = grind (arith, common_steps) steps 400000
+
+pub returns-clause-sound : goal.returns-clause-sound
+returns-clause-sound g c = grind (arith, common_steps) steps 400000
+
+pub returns-clause-counted : goal.returns-clause-counted
+returns-clause-counted g c = grind (arith, common_steps) steps 400000
+
+pub returns-then-len-eq1-clause-declines : goal.returns-then-len-eq1-clause-declines
+returns-then-len-eq1-clause-declines g c = grind (arith, common_steps) steps 400000
+
+pub returns-then-len-eq1-clause-counted : goal.returns-then-len-eq1-clause-counted
+returns-then-len-eq1-clause-counted g c = grind (arith, common_steps) steps 400000
+
+pub returns-then-waits-clause-stands : goal.returns-then-waits-clause-stands
+returns-then-waits-clause-stands g c = grind (arith, common_steps) steps 400000
+
+pub returns-clause-same : goal.returns-clause-same
+returns-clause-same g c = grind (arith, common_steps) steps 400000
+
+pub returns-then-waits-clause-sound : goal.returns-then-waits-clause-sound
+returns-then-waits-clause-sound g c = grind (arith, common_steps) steps 400000
+
+pub returns-then-pair-clause-declines : goal.returns-then-pair-clause-declines
+returns-then-pair-clause-declines g c = grind (arith, common_steps) steps 400000
+
+pub returns-clause-device : goal.returns-clause-device
+returns-clause-device g c = grind (arith, common_steps) steps 400000
+
+pub returns-then-waits-clause-declines : goal.returns-then-waits-clause-declines
+returns-then-waits-clause-declines g c = grind (arith, common_steps) steps 400000
+
+pub returns-then-waits-clause-device : goal.returns-then-waits-clause-device
+returns-then-waits-clause-device g c = grind (arith, common_steps) steps 400000
+
+pub returns-then-len-eq1-clause-device : goal.returns-then-len-eq1-clause-device
+returns-then-len-eq1-clause-device g c = grind (arith, common_steps) steps 400000
+
+pub end_whole-requires-clause-can_take : goal.end_whole-requires-clause-can_take
+end_whole-requires-clause-can_take g c = grind (arith, common_steps) steps 400000
+
+pub add_plain-requires-clause-can_take : goal.add_plain-requires-clause-can_take
+add_plain-requires-clause-can_take g c = grind (arith, common_steps) steps 400000
+
+pub returns-then-pair-clause-sound : goal.returns-then-pair-clause-sound
+returns-then-pair-clause-sound g c = grind (arith, common_steps) steps 400000
+
+pub returns-then-len-eq1-clause-same : goal.returns-then-len-eq1-clause-same
+returns-then-len-eq1-clause-same g c = grind (arith, common_steps) steps 400000
+
+pub returns-then-waits-clause-charges : goal.returns-then-waits-clause-charges
+returns-then-waits-clause-charges g c = grind (arith, common_steps) steps 400000
+
+pub returns-then-pair-clause-puts : goal.returns-then-pair-clause-puts
+returns-then-pair-clause-puts g c = grind (arith, common_steps) steps 400000
+
+pub returns-then-pair-clause-charges : goal.returns-then-pair-clause-charges
+returns-then-pair-clause-charges g c = grind (arith, common_steps) steps 400000
+
+pub returns-then-waits-clause-counted : goal.returns-then-waits-clause-counted
+returns-then-waits-clause-counted g c = grind (arith, common_steps) steps 400000
+
+pub returns-then-waits-clause-puts : goal.returns-then-waits-clause-puts
+returns-then-waits-clause-puts g c = grind (arith, common_steps) steps 400000
+
+pub end_whole-requires-clause-head : goal.end_whole-requires-clause-head
+end_whole-requires-clause-head g c = grind (arith, common_steps) steps 400000
+
+pub returns-then-waits-clause-same : goal.returns-then-waits-clause-same
+returns-then-waits-clause-same g c = grind (arith, common_steps) steps 400000
+
+pub returns-then-pair-clause-device : goal.returns-then-pair-clause-device
+returns-then-pair-clause-device g c = grind (arith, common_steps) steps 400000

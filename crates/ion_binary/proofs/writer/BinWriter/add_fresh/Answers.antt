@@ -1,0 +1,25 @@
+use Rattle.std.proofs.Common.{refl, arith}
+use Rattle.std.proofs.lemmas.Grind.{common_steps}
+use Rattle.ion_binary.proofs.writer.BinWriter.add_fresh.Goals as goal
+
+pub returns-in-None : goal.returns-in-None
+returns-in-None g c = grind (arith, common_steps) steps 400000
+
+pub returns-in_default : goal.returns-in_default
+returns-in_default g c = grind (arith, common_steps) steps 400000
+
+pub returns-then-not-is_scalar : goal.returns-then-not-is_scalar
+returns-then-not-is_scalar g c = grind (arith, common_steps) steps 400000
+
+pub put_fresh-requires : goal.put_fresh-requires
+put_fresh-requires g c = record {
+  can_put = record {
+    can_take = c.requires.can_take;
+    comes = c.requires.comes;
+    inside = omega (arith, c.if-len-eq0.false, c.len.ensures);
+    whole = c.if-not-is_scalar.ensures refl;
+    text = c.in-Some-fresh_of.ensures;
+    known = c.in-Some.ensures.known;
+    annotation = c.in-Some.ensures.octets;
+  };
+}

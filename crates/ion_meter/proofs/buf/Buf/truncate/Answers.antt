@@ -10,6 +10,3 @@ returns-clause-cost g c = grind (arith, common_steps)
 
 pub give_back-requires : goal.give_back-requires
 give_back-requires g c = grind (arith, common_steps)
-
-pub overflow_sub-before : goal.overflow_sub-before
-overflow_sub-before g c = grind (arith, common_steps)

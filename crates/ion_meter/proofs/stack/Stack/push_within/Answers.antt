@@ -6,4 +6,7 @@ pub returns-clause-ok : goal.returns-clause-ok
 returns-clause-ok g c = grind (arith, common_steps) steps 400000
 
 pub returns-clause-declines : goal.returns-clause-declines
-returns-clause-declines g c = grind (arith, common_steps)
+returns-clause-declines g c = grind (arith, common_steps) steps 400000
+
+pub returns-clause-cost : goal.returns-clause-cost
+returns-clause-cost g c = grind (arith, common_steps) steps 400000

@@ -20,9 +20,6 @@ add-requires g c = grind (arith, common_steps)
 pub returns-clause-added : goal.returns-clause-added
 returns-clause-added g c = grind (arith, common_steps)
 
-pub overflow_add-self-inside : goal.overflow_add-self-inside
-overflow_add-self-inside g c = grind (arith, common_steps)
-
 pub push_reserved-requires : goal.push_reserved-requires
 push_reserved-requires g c = grind (arith, common_steps)
 

@@ -9,4 +9,4 @@ pub returns-in-None-clause-range : goal.returns-in-None-clause-range
 returns-in-None-clause-range c = grind (arith, common_steps)
 
 pub returns-in-Some-clause-read : goal.returns-in-Some-clause-read
-returns-in-Some-clause-read c = grind (arith, common_steps)
+returns-in-Some-clause-read c = grind (arith, common_steps) steps 400000

@@ -334,8 +334,7 @@ impl<A: Allocator + Copy> Buf<A> {
         ensures bytes { self.new ≡ [] }
         ensures cost { Shrinks meter.old meter.new (length self.old) }
     {
-        meter.give_back(self.roomy.len() as u64);
-        self.roomy.truncate(0);
+        self.truncate(meter, 0);
     }
 
     /// Gives all back.

@@ -309,8 +309,7 @@ impl<T, A: Allocator + Copy> Table<T, A> {
         ensures cost { Shrinks meter.old meter.new (cost_of self.old) }
         ensures same_cost { self.new.cost ≡ self.old.cost }
     {
-        meter.give_back_each(self.cost, self.items.len());
-        self.items.clear();
+        self.truncate(meter, 0);
     }
 
     /// Gives all back.

@@ -1,5 +1,6 @@
 use Rattle.std.proofs.Common.{◌≡◌, ◌+◌, ◌-◌, ℕ, take, drop, ap, ◌∙◌, arith}
 use Rattle.ion_meter.proofs.Gaps.{gap_opened, gap_opened_by}
+use Rattle.std.proofs.lemmas.Grind.{common_steps}
 use Rattle.ion_meter.proofs.roomy.open_gap.Goals as goal
 
 pub returns-then-all-behind-ge-BLOCK-clause-moved : goal.returns-then-all-behind-ge-BLOCK-clause-moved
@@ -14,3 +15,9 @@ returns-then-all-behind-ge-BLOCK-clause-moved c =
 pub returns-clause-moved : goal.returns-clause-moved
 returns-clause-moved c =
     gap_opened c.args.all.now c.copy_within.new.self c.args.place c.args.end c.args.behind c.requires.order c.requires.upward c.requires.room c.copy_within.ensures.after
+
+pub returns-then-all-behind-ge-BLOCK-clause-len : goal.returns-then-all-behind-ge-BLOCK-clause-len
+returns-then-all-behind-ge-BLOCK-clause-len c = grind (arith, common_steps)
+
+pub shape_of-all-then-all-behind-ge-BLOCK : goal.shape_of-all-then-all-behind-ge-BLOCK
+shape_of-all-then-all-behind-ge-BLOCK c = grind (arith, common_steps)

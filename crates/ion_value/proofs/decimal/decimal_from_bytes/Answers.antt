@@ -2,6 +2,7 @@ use Rattle.std.proofs.Common.{◌<◌, Err, length, sym, ◌∙◌, ap, arith}
 use Rattle.std.proofs.lemmas.Bool.{eqb-true, eqb-false}
 use Rattle.std.proofs.lemmas.List.{take_rest}
 use Rattle.ion_value.proofs.DecimalOctets.{decimal_of_bytes-parts, decimal_of_bytes-unended, decimal_of_bytes-none}
+use Rattle.std.proofs.lemmas.Grind.{common_steps}
 use Rattle.ion_value.proofs.decimal.decimal_from_bytes.Goals as goal
 
 pub returns-then-is_empty-clause-read : goal.returns-then-is_empty-clause-read
@@ -24,3 +25,9 @@ returns-in-Err-clause-read c =
     let some : 0 < length b = omega arith in
     let refused = c.in-Err.ensures.refused in
     ap Err refused.0 ∙ sym (decimal_of_bytes-unended b some refused.1)
+
+pub returns-in-Ok-clause-refused : goal.returns-in-Ok-clause-refused
+returns-in-Ok-clause-refused c = grind (arith, common_steps)
+
+pub returns-in-Ok-clause-valid : goal.returns-in-Ok-clause-valid
+returns-in-Ok-clause-valid c = grind (arith, common_steps)

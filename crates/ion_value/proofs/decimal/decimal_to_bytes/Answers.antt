@@ -1,8 +1,9 @@
 use mir.Syntax.{w32}
 use mir.Val.{SFits}
-use Rattle.std.proofs.Common.{sym, ◌∙◌, rules}
+use Rattle.std.proofs.Common.{arith, sym, ◌∙◌, rules}
 use Rattle.std.proofs.lemmas.Int.{to_z-of_z}
 use Rattle.ion_value.proofs.DecimalOctets.{decimal_body-none, decimal_body-parts, decimal_body-octets}
+use Rattle.std.proofs.lemmas.Grind.{common_steps}
 use Rattle.ion_value.proofs.decimal.decimal_to_bytes.Goals as goal
 
 pub returns-then-is_plain_zero-clause-spelled : goal.returns-then-is_plain_zero-clause-spelled
@@ -18,3 +19,6 @@ returns-clause-spelled c =
 
 pub returns-clause-octets : goal.returns-clause-octets
 returns-clause-octets c = rw (returns-clause-spelled c) (decimal_body-octets c.args.decimal c.requires)
+
+pub returns-then-is_plain_zero-clause-octets : goal.returns-then-is_plain_zero-clause-octets
+returns-then-is_plain_zero-clause-octets c = grind (arith, common_steps)

@@ -19,3 +19,9 @@ returns-in-100 c =
 
 pub returns-in-101 : goal.returns-in-101
 returns-in-101 c = grind (arith, common_steps) steps 1500000
+
+pub returns-in_default : goal.returns-in_default
+returns-in_default c = grind (arith, common_steps)
+
+pub returns-in_default-read_exponent : goal.returns-in_default-read_exponent
+returns-in_default-read_exponent c = grind (arith, common_steps)

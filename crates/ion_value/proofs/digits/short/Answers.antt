@@ -1,6 +1,7 @@
 use Rattle.std.proofs.Common.{◌^◌, ◌<◌, ◌∙◌, sym, arith}
 use Rattle.ion_value.proofs.TextDigits.{in_128-small, room-digit, room-underscore, read-digit, read-underscore, read-nothing, read-other, read-bad}
 use Rattle.ion_value.proofs.digits.short.Goals.{in_default, in-len1-up+in-None-2, in-len1-up+in-None-2-2}
+use Rattle.std.proofs.lemmas.Grind.{common_steps}
 use Rattle.ion_value.proofs.digits.short.Goals as goal
 
 pub loop-rest-preserved-else-number : goal.loop-rest-preserved-else-number
@@ -32,3 +33,12 @@ returns g c =
       | in-len1-up+in-None-2-2 w ↦ rw (read-other g.row.BASE l.number l.count l.behind l.rest.now (omega arith) w.in-None.ensures w.if-byte-eq95.false) answer
     ]
     )
+
+pub returns-then-number : goal.returns-then-number
+returns-then-number g c = grind (arith, common_steps)
+
+pub overflow_add-number : goal.overflow_add-number
+overflow_add-number g c = grind (arith, common_steps)
+
+pub overflow_mul-number : goal.overflow_mul-number
+overflow_mul-number g c = grind (arith, common_steps)

@@ -1,7 +1,8 @@
-use Rattle.std.proofs.Common.{◌≡◌, Ok, sym, ◌∙◌}
+use Rattle.std.proofs.Common.{arith, ◌≡◌, Ok, sym, ◌∙◌}
 use Rattle.ion_value.specs.Timestamp.{utc_of, timestamp_body}
 use Rattle.ion_value.proofs.TimestampBodies.{utc-moment, body-whole, body-fraction, body-octets}
 use Rattle.ion_value.proofs.timestamp.timestamp_to_bytes.Goals.{After-with_fraction, In_default}
+use Rattle.std.proofs.lemmas.Grind.{common_steps}
 use Rattle.ion_value.proofs.timestamp.timestamp_to_bytes.Goals as goal
 
 fraction : (c : After-with_fraction) → c.with_fraction.result.items ≡ timestamp_body c.args.timestamp
@@ -28,3 +29,6 @@ whole c =
 
 pub returns-in_default : goal.returns-in_default
 returns-in_default c = record { body = whole c; octets = rw (whole c) (body-octets c.args.timestamp) }
+
+pub whole_body-body-requires-clause-moment : goal.whole_body-body-requires-clause-moment
+whole_body-body-requires-clause-moment c = grind (arith, common_steps)

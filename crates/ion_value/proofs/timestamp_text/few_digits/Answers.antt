@@ -1,5 +1,6 @@
 use Rattle.std.proofs.Common.{take, get_or, arith}
 use Rattle.ion_value.proofs.LeadingDigits.{digit-byte, digits-more, value-more, fits-more, prefix-within, prefix-byte}
+use Rattle.std.proofs.lemmas.Grind.{common_steps}
 use Rattle.ion_value.proofs.timestamp_text.few_digits.Goals as goal
 
 pub overflow_mul-number : goal.overflow_mul-number
@@ -24,3 +25,12 @@ loop-i-preserved c =
       value = value-more prefix c.loop-i.i c.loop-i.number _ c.loop-i-test.true c.loop-i.invariant.value digit.1;
       small = (fits-more c.loop-i.i c.loop-i.number _ few c.loop-i.invariant.small c.if-digit-gt9.false).1;
     }
+
+pub returns-then-digit-gt9-clause-digits : goal.returns-then-digit-gt9-clause-digits
+returns-then-digit-gt9-clause-digits c = grind (arith, common_steps)
+
+pub returns-clause-digits : goal.returns-clause-digits
+returns-clause-digits c = grind (arith, common_steps)
+
+pub returns-then-digit-gt9-clause-value : goal.returns-then-digit-gt9-clause-value
+returns-then-digit-gt9-clause-value c = grind (arith, common_steps)

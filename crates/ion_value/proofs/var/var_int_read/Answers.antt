@@ -4,6 +4,7 @@ use Rattle.std.proofs.lemmas.Bool.{le-leb}
 use Rattle.std.proofs.lemmas.Result.{err_from_is_err_and}
 use Rattle.ion_value.specs.Number.{var_uint}
 use Rattle.ion_value.proofs.Fields.{VarInt-minus}
+use Rattle.std.proofs.lemmas.Grind.{common_steps}
 use Rattle.ion_value.proofs.var.var_int_read.Goals as goal
 
 -- a VarInt's octets are a VarUInt too
@@ -25,3 +26,6 @@ returns-then-negative-clause-read c =
       read.0,
       VarInt-minus _ prefix (le-leb c.sign_bit-sign.result c.in_ok-value.value c.if-negative.true) spelled.short spelled.ends (rw len (omega (arith, sym spelled.value))),
     )
+
+pub returns-else-negative-clause-read : goal.returns-else-negative-clause-read
+returns-else-negative-clause-read c = grind (arith, common_steps)

@@ -4,3 +4,6 @@ use Rattle.ion_meter.proofs.buf.Buf.clear.Goals as goal
 
 pub returns-clause-bytes : goal.returns-clause-bytes
 returns-clause-bytes g c = grind (arith, common_steps) steps 400000
+
+pub returns-clause-cost : goal.returns-clause-cost
+returns-clause-cost g c = grind (arith, common_steps) steps 400000

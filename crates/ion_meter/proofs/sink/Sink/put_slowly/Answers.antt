@@ -22,3 +22,15 @@ loop-at-preserved g c =
       bytes = λ t. taken_part g.O.Output.written c.args.self.now c.loop-at.self c.make_room.new.self c.take-at.new.self c.args.bytes.now c.loop-at.at c.take-at.result
           (inv.bytes t) (c.in_ok-make_room.ensures.ok (inv.observable.1 t)) c.take-at.ensures.device c.take-at.ensures.pending;
     }
+
+pub returns-clause-puts : goal.returns-clause-puts
+returns-clause-puts g c = grind (arith, common_steps)
+
+pub loop-at-init : goal.loop-at-init
+loop-at-init g c = grind (arith, common_steps)
+
+pub returns-in-Some-clause-puts : goal.returns-in-Some-clause-puts
+returns-in-Some-clause-puts g c = grind (arith, common_steps)
+
+pub returns-clause-ok : goal.returns-clause-ok
+returns-clause-ok g c = grind (arith, common_steps)

@@ -11,3 +11,6 @@ returns g c =
     let all : AreBytes buffered = grind (arith, common_steps) in
     let bytes : (more : List ℕ) → AreBytes (drop c.args.count buffered ++ more) → AreBytes (buffered ++ more) = λ more. bytes-before buffered more c.args.count all in
     grind (arith, common_steps, bytes) steps 400000
+
+pub invariant_of-self : goal.invariant_of-self
+invariant_of-self g c = grind (arith, common_steps)

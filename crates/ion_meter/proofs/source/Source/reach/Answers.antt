@@ -19,3 +19,6 @@ returns-after-loop-self-clause-reached g c = grind (arith, common_steps)
 
 pub returns-in_err-fill-clause-needed : goal.returns-in_err-fill-clause-needed
 returns-in_err-fill-clause-needed g c = grind (arith, common_steps)
+
+pub returns-else-not-self-clause-reached : goal.returns-else-not-self-clause-reached
+returns-else-not-self-clause-reached g c = grind (arith, common_steps)

@@ -3,6 +3,7 @@ use Rattle.std.proofs.lemmas.Int.{ints}
 use Rattle.ion_value.specs.Timestamp.{offset_minutes, utc_of}
 use Rattle.ion_value.proofs.Days.{utc-is, utc-moved}
 use Rattle.ion_value.proofs.timestamp.Timestamp.to_utc.Goals.{After-moved_by}
+use Rattle.std.proofs.lemmas.Grind.{common_steps}
 use Rattle.ion_value.proofs.timestamp.Timestamp.to_utc.Goals as goal
 
 utc : (c : After-moved_by) → c.moved_by.result ≡ utc_of c.args.self
@@ -19,3 +20,9 @@ returns-clause-moved c = rw (utc c) (utc-is c.args.self c.requires.moment c.requ
 
 pub returns-clause-refused : goal.returns-clause-refused
 returns-clause-refused c = rw (utc c) (utc-is c.args.self c.requires.moment c.requires.offset).refused
+
+pub moved_by-requires-clause-latest : goal.moved_by-requires-clause-latest
+moved_by-requires-clause-latest c = grind (arith, common_steps)
+
+pub moved_by-requires-clause-earliest : goal.moved_by-requires-clause-earliest
+moved_by-requires-clause-earliest c = grind (arith, common_steps)

@@ -1,6 +1,6 @@
 -- Calls that read into a text one after the other: what they hold, and the causes of their faults.
-use Rattle.std.proofs.Common.{◌≡◌, ℕ, ◌+◌, ◌≤◌, List, length, Option, Some, None, Result, Ok, Err, refl, ap, ◌∙◌, arith}
-use Rattle.ion_meter.specs.Counts.{Counts}
+use Rattle.std.proofs.Common.{◌≡◌, ℕ, ◌+◌, ◌≤◌, List, [], length, Option, Some, None, Result, Ok, Err, refl, ap, ◌∙◌, arith}
+use Rattle.ion_meter.specs.Counts.{Counts, Shrinks}
 use Rattle.ion_meter.specs.declared.device.Input.{Ghosts as InputOf}
 use Rattle.ion_meter.specs.declared.fault.Fault.{Fault}
 use Rattle.ion_meter.specs.declared.fault.Fault.TheVariants.{Refused}
@@ -137,6 +137,19 @@ grown-held device s a b k l most fault stands g = record {
   };
   charges = g.charges;
 }
+
+-- a text was given back
+pub held-cleared : {I : Type 0} (device : InputOf I) (s : Incoming I) (text new : List ℕ) (a b : Counts) (most : ℕ) → Stands s → length text ≤ a.held → new ≡ [] → Shrinks a b (length text)
+    → Held device s s a b (length text) (length new) most None
+held-cleared device s text new a b most stands there is cost =
+    let held = cost.held in let peak = cost.peak in
+    let none = ap (λ (l : List ℕ). length l) is in
+    record {
+      stands = λ _. stands;
+      moves = moves-not device s;
+      causes = record { memory = λ e. absurd (cc e); counted = λ _. cost.refused; device = λ e. absurd (cc e); steady = λ _. refl; limit = λ e. absurd (cc e); no_writes = λ e. cc e };
+      charges = record { held = omega (arith, held, none); share = omega (arith, none); peak = omega (arith, peak); rises = omega (arith, peak) };
+    }
 
 -- ---- what the next call may do
 

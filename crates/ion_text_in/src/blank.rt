@@ -10,6 +10,7 @@ ghost use Rattle.ion_text_in.specs.Blanks.{is_white, blanks};
 ghost use Rattle.ion_text_in.specs.Places.{behind_run};
 ghost use Rattle.ion_text_in.specs.Overrun.{is_neither, within, overrun};
 
+use crate::peek::peek;
 use ion_meter::device::Input;
 use ion_meter::fault::{Fault, Reason};
 use ion_meter::source::Source;
@@ -99,7 +100,7 @@ pub(crate) fn pass_white<I: Input, A: Allocator + Copy>(
     ensures reads { Reads I.Input source.old source.new result }
 {
     'white: loop {
-        match source.peek(0) {
+        match peek(source, 0) {
             Err(fault) => return Err(fault),
             Ok(None) => return Ok(()),
             Ok(Some(_)) => {}
@@ -126,7 +127,7 @@ fn next_comment<I: Input, A: Allocator + Copy>(source: &mut Source<I, A>) -> Res
     ensures plain { (r : Reason) (p : ℕ) → result ≢ Err (Fault.Refused r p) }
     ensures reads { Reads I.Input source.old source.new result }
 {
-    match source.peek(0) {
+    match peek(source, 0) {
         Err(fault) => return Err(fault),
         Ok(None) => return Ok(Comment::None),
         Ok(Some(byte)) => {
@@ -135,7 +136,7 @@ fn next_comment<I: Input, A: Allocator + Copy>(source: &mut Source<I, A>) -> Res
             }
         }
     }
-    let second = match source.peek(1) {
+    let second = match peek(source, 1) {
         Err(fault) => return Err(fault),
         Ok(None) => return Ok(Comment::None),
         Ok(Some(byte)) => byte,
@@ -160,7 +161,7 @@ fn pass_line<I: Input, A: Allocator + Copy>(source: &mut Source<I, A>) -> Result
     ensures reads { Reads I.Input source.old source.new result }
 {
     'line: loop {
-        match source.peek(0) {
+        match peek(source, 0) {
             Err(fault) => return Err(fault),
             Ok(None) => return Ok(()),
             Ok(Some(_)) => {}
@@ -190,7 +191,7 @@ fn pass_block<I: Input, A: Allocator + Copy>(source: &mut Source<I, A>) -> Resul
     ensures reads { Reads I.Input source.old source.new result }
 {
     'block: loop {
-        match source.peek(0) {
+        match peek(source, 0) {
             Err(fault) => return Err(fault),
             Ok(None) => return Ok(false),
             Ok(Some(_)) => {}
@@ -224,7 +225,7 @@ fn pass_star<I: Input, A: Allocator + Copy>(source: &mut Source<I, A>) -> Result
     ensures plain { (r : Reason) (p : ℕ) → result ≢ Err (Fault.Refused r p) }
     ensures reads { Reads I.Input source.old source.new result }
 {
-    let second = match source.peek(1) {
+    let second = match peek(source, 1) {
         Err(fault) => return Err(fault),
         Ok(second) => second,
     };

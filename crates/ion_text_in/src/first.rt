@@ -9,6 +9,7 @@ ghost use Rattle.ion_text_in.specs.Blanks.{blanks};
 ghost use Rattle.ion_text_in.specs.Meaning.{at};
 ghost use Rattle.ion_text_in.specs.Token.{a_colon, first_at};
 
+use crate::peek::peek;
 use crate::run::{is_identifier_byte, is_operator_byte};
 use ion_meter::device::Input;
 use ion_meter::fault::{Fault, Reason};
@@ -192,7 +193,7 @@ fn look_ahead<I: Input, A: Allocator + Copy>(
 {
     let mut ahead = 0;
     'ahead: loop {
-        match source.peek(ahead) {
+        match peek(source, ahead) {
             Err(fault) => return Err(fault),
             Ok(None) => return Ok(ended_first(in_sexp, source.buffer())),
             Ok(Some(_)) => {}

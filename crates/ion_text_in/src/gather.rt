@@ -10,6 +10,7 @@ ghost use Rattle.ion_text_in.specs.Token.{bytes_of};
 ghost use Rattle.ion_text_in.specs.Views.{spelled};
 ghost use Rattle.ion_text_in.specs.Runs.{goes_on, opens_comment, GoesOver, IsAtSlash, with_run, CanAppend, IsAppended, IsOver};
 
+use crate::peek::peek;
 use crate::run::{Run, run_extent};
 use ion_meter::buf::Buf;
 use ion_meter::device::Input;
@@ -130,7 +131,7 @@ fn next_part<I: Input, A: Allocator + Copy>(
     ensures plain { (reason : Reason) (at : ℕ) → result ≡ Err (Fault.Refused reason at) → ⊥ }
     ensures reads { Reads I.Input source.old source.new result }
 {
-    match source.peek(0) {
+    match peek(source, 0) {
         Err(fault) => return Err(fault),
         Ok(None) => return Ok(0),
         Ok(Some(_)) => {}
@@ -155,7 +156,7 @@ fn slash<I: Input, A: Allocator + Copy>(source: &mut Source<I, A>, run: Run) -> 
     ensures plain { (reason : Reason) (at : ℕ) → result ≡ Err (Fault.Refused reason at) → ⊥ }
     ensures reads { Reads I.Input source.old source.new result }
 {
-    let next = match source.peek(1) {
+    let next = match peek(source, 1) {
         Err(fault) => return Err(fault),
         Ok(next) => next,
     };

@@ -11,6 +11,7 @@ pub mod laws;
 mod lob;
 mod number;
 mod operator;
+mod peek;
 mod piece;
 mod quick;
 mod quoted;

@@ -13,6 +13,7 @@ ghost use Rattle.ion_text_in.specs.Lobs.{CanTake, Closes, Continues, with_groups
 ghost use Rattle.ion_text_in.specs.Token.{a_lob, plain, token_of};
 
 use crate::blank::pass_white;
+use crate::peek::peek;
 use crate::quoted::Quote;
 use crate::text::{next_long_text, next_short_text, pass_quotes};
 use base64::engine::general_purpose::STANDARD;
@@ -91,7 +92,7 @@ fn pass_opening<I: Input, A: Allocator + Copy>(source: &mut Source<I, A>) -> Res
     ensures plain { (r : Reason) (p : ℕ) → result ≢ Err (Fault.Refused r p) }
     ensures reads { Reads I.Input source.old source.new result }
 {
-    match source.peek(0) {
+    match peek(source, 0) {
         Err(fault) => return Err(fault),
         Ok(None) => return Ok(Opening::None),
         Ok(Some(byte)) => {
@@ -178,7 +179,7 @@ fn are_cut_quotes<I: Input, A: Allocator + Copy>(source: &mut Source<I, A>) -> R
     ensures plain { (r : Reason) (p : ℕ) → result ≢ Err (Fault.Refused r p) }
     ensures reads { Reads I.Input source.old source.new result }
 {
-    match source.peek(0) {
+    match peek(source, 0) {
         Err(fault) => return Err(fault),
         Ok(None) => return Ok(false),
         Ok(Some(byte)) => {
@@ -187,7 +188,7 @@ fn are_cut_quotes<I: Input, A: Allocator + Copy>(source: &mut Source<I, A>) -> R
             }
         }
     }
-    match source.peek(1) {
+    match peek(source, 1) {
         Err(fault) => return Err(fault),
         Ok(None) => return Ok(true),
         Ok(Some(second)) => {
@@ -196,7 +197,7 @@ fn are_cut_quotes<I: Input, A: Allocator + Copy>(source: &mut Source<I, A>) -> R
             }
         }
     }
-    match source.peek(2) {
+    match peek(source, 2) {
         Err(fault) => Err(fault),
         Ok(None) => Ok(true),
         Ok(Some(_)) => Ok(false),
@@ -424,7 +425,7 @@ fn pass_braces<I: Input, A: Allocator + Copy>(
         place (closed_at (cursor I.Input source.old)) }
     ensures reads { Reads I.Input source.old source.new result }
 {
-    match source.peek(0) {
+    match peek(source, 0) {
         Err(fault) => return Err(fault),
         Ok(None) => return Err(Fault::Refused(Reason::Truncated, place)),
         Ok(Some(byte)) => {
@@ -433,7 +434,7 @@ fn pass_braces<I: Input, A: Allocator + Copy>(
             }
         }
     }
-    match source.peek(1) {
+    match peek(source, 1) {
         Err(fault) => return Err(fault),
         Ok(None) => return Err(Fault::Refused(Reason::Truncated, place)),
         Ok(Some(second)) => {
@@ -464,7 +465,7 @@ fn next_characters<I: Input, A: Allocator + Copy>(
         if let Err(fault) = pass_white(source) {
             return Err(fault);
         }
-        match source.peek(0) {
+        match peek(source, 0) {
             Err(fault) => return Err(fault),
             Ok(None) => return Ok(i),
             Ok(Some(byte)) => {

@@ -12,6 +12,7 @@ ghost use Rattle.ion_text_in.specs.Quotes.{quote_of};
 ghost use Rattle.ion_text_in.specs.Pieces.{piece_of, bytes_of_piece, taken_of, TakesSome};
 ghost use Rattle.ion_text_in.specs.Gathered.{CanGather, CanGrow, Grown, PutsOn, Goes, onward, with_segment};
 
+use crate::peek::peek;
 use crate::piece::{Piece, last_piece, quick_piece, scan_piece};
 use crate::quoted::{Quote, is_text, plain_length};
 use ion_meter::buf::Buf;
@@ -300,7 +301,7 @@ fn show_slowly<I: Input, A: Allocator + Copy>(
             Piece::Cut => {}
             piece => return Ok(piece),
         }
-        match source.peek(shown) {
+        match peek(source, shown) {
             Err(fault) => return Err(fault),
             Ok(None) => return Ok(last_piece(quote, source.buffer())),
             Ok(Some(_)) => {}

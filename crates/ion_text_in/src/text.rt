@@ -16,6 +16,7 @@ ghost use Rattle.ion_text_in.specs.Quotes.{quote_of};
 ghost use Rattle.ion_text_in.specs.Gathered.{CanGather, passed, Overruns};
 
 use crate::blank::{pass_blanks, pass_white};
+use crate::peek::peek;
 use crate::quoted::{Quote, scan_text};
 use crate::scanned::Scanned;
 use crate::segment::next_segment;
@@ -224,17 +225,17 @@ pub(crate) fn pass_quotes<I: Input, A: Allocator + Copy>(
     ensures plain { (r : Reason) (p : ℕ) → result ≢ Err (Fault.Refused r p) }
     ensures reads { Reads I.Input source.old source.new result }
 {
-    match source.peek(0) {
+    match peek(source, 0) {
         Err(fault) => return Err(fault),
         Ok(Some(b'\'')) => {}
         Ok(_) => return Ok(false),
     }
-    match source.peek(1) {
+    match peek(source, 1) {
         Err(fault) => return Err(fault),
         Ok(Some(b'\'')) => {}
         Ok(_) => return Ok(false),
     }
-    match source.peek(2) {
+    match peek(source, 2) {
         Err(fault) => return Err(fault),
         Ok(Some(b'\'')) => {}
         Ok(_) => return Ok(false),

@@ -14,6 +14,7 @@ ghost use Rattle.ion_text_in.specs.Symbols.{prepaid_word};
 ghost use Rattle.ion_text_in.specs.Views.{AreShown, IsWithin, id_in, is_point, may_be_keyword, shown_text, spelled, with_name, text_or_container, word_token_of};
 
 use crate::gather::{append, copy, gather, gather_token};
+use crate::peek::peek;
 use crate::run::{Run, word_run};
 use crate::scanned::Scanned;
 use ion_meter::buf::Buf;
@@ -289,7 +290,7 @@ fn gather_type<I: Input, A: Allocator + Copy>(
     ensures goes { GrowsWithin meter.old meter.new (length text.old) (length text.new)
         (8 * passed_over source.old source.new) }
 {
-    let next = match source.peek(0) {
+    let next = match peek(source, 0) {
         Err(fault) => return Err(fault),
         Ok(next) => next,
     };

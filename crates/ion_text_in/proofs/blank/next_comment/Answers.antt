@@ -13,31 +13,31 @@ returns-in-Ok-None-clause-begins g c = λ h dark.
     let s = c.args.source.now in
     let bytes : List ℕ = left g.I.Input.rest s in
     let found : slice_get bytes 0 ≡ _ = sym (c.in-Ok-None.ensures.gives h) ∙ c.in-Ok-None.field-0-is in
-    found-none s.place bytes found ∙ ap Ok (sym (cursor-extends g.I.Input s c.peek.new.self c.in-Ok-None.ensures.kept h))
+    found-none s.place bytes found ∙ ap Ok (sym (cursor-extends g.I.Input s c.peek.new.source c.in-Ok-None.ensures.kept h))
 
 pub returns-then-byte-ne47-clause-begins : goal.returns-then-byte-ne47-clause-begins
 returns-then-byte-ne47-clause-begins g c = λ h dark.
     let s = c.args.source.now in
     let bytes : List ℕ = left g.I.Input.rest s in
     let found : slice_get bytes 0 ≡ Some c.in-Ok-Some.byte = sym (c.in-Ok-Some.ensures.gives h) ∙ c.in-Ok-Some.field-0-is in
-    found-other s.place c.in-Ok-Some.byte bytes dark found c.if-byte-ne47.true ∙ ap Ok (sym (cursor-extends g.I.Input s c.peek.new.self c.in-Ok-Some.ensures.kept h))
+    found-other s.place c.in-Ok-Some.byte bytes dark found c.if-byte-ne47.true ∙ ap Ok (sym (cursor-extends g.I.Input s c.peek.new.source c.in-Ok-Some.ensures.kept h))
 
 pub returns-in-Ok-None-peek-clause-begins : goal.returns-in-Ok-None-peek-clause-begins
 returns-in-Ok-None-peek-clause-begins g c = λ h dark.
     let s = c.args.source.now in
-    let p = c.peek.new.self in
+    let p = c.peek.new.source in
     let bytes : List ℕ = left g.I.Input.rest s in
     let kept = c.in-Ok-Some.ensures.kept in
     let found : slice_get bytes 0 ≡ Some 47 = sym (c.in-Ok-Some.ensures.gives h) ∙ c.in-Ok-Some.field-0-is ∙ ap Some c.if-byte-ne47.false in
     let second : slice_get bytes 1 ≡ _ = ap (λ (l : List ℕ). slice_get l 1) (sym (kept.same_left h)) ∙ sym (c.in-Ok-None-peek.ensures.gives (kept.still_observable.1 h)) ∙ c.in-Ok-None-peek.field-0-is in
     slash-last s.place bytes found second
-    ∙ ap Ok (sym (cursor-extends g.I.Input s c.peek-2.new.self (extends-then g.I.Input s p c.peek-2.new.self kept c.in-Ok-None-peek.ensures.kept) h))
+    ∙ ap Ok (sym (cursor-extends g.I.Input s c.peek-2.new.source (extends-then g.I.Input s p c.peek-2.new.source kept c.in-Ok-None-peek.ensures.kept) h))
 
 pub returns-then-second-eq47-clause-begins : goal.returns-then-second-eq47-clause-begins
 returns-then-second-eq47-clause-begins g c = λ h dark.
     let s = c.args.source.now in
-    let p = c.peek.new.self in
-    let q = c.peek-2.new.self in
+    let p = c.peek.new.source in
+    let q = c.peek-2.new.source in
     let t = c.consume.new.self in
     let bytes : List ℕ = left g.I.Input.rest s in
     let kept = c.in-Ok-Some.ensures.kept in
@@ -52,8 +52,8 @@ returns-then-second-eq47-clause-begins g c = λ h dark.
 pub returns-then-second-eq42-clause-begins : goal.returns-then-second-eq42-clause-begins
 returns-then-second-eq42-clause-begins g c = λ h dark.
     let s = c.args.source.now in
-    let p = c.peek.new.self in
-    let q = c.peek-2.new.self in
+    let p = c.peek.new.source in
+    let q = c.peek-2.new.source in
     let t = c.consume-then-second-eq42.new.self in
     let bytes : List ℕ = left g.I.Input.rest s in
     let kept = c.in-Ok-Some.ensures.kept in
@@ -68,8 +68,8 @@ returns-then-second-eq42-clause-begins g c = λ h dark.
 pub returns-clause-begins : goal.returns-clause-begins
 returns-clause-begins g c = λ h dark.
     let s = c.args.source.now in
-    let p = c.peek.new.self in
-    let q = c.peek-2.new.self in
+    let p = c.peek.new.source in
+    let q = c.peek-2.new.source in
     let bytes : List ℕ = left g.I.Input.rest s in
     let kept = c.in-Ok-Some.ensures.kept in
     let peek = c.in-Ok-Some-peek.ensures in

@@ -25,7 +25,7 @@ pub pass_star-requires-clause-star : goal.pass_star-requires-clause-star
 pass_star-requires-clause-star g c =
     let bytes : List ℕ = c.buffer-bytes.result.now in
     let n = c.run_without-plain.result in
-    turn-first c.peek.new.self c.consume.new.self bytes n 42 c.buffer-bytes.ensures c.run_without-plain.ensures.within c.consume.ensures (star-stands bytes n (omega (arith, c.if-star.true)) c.run_without-plain.ensures.ends)
+    turn-first c.peek.new.source c.consume.new.self bytes n 42 c.buffer-bytes.ensures c.run_without-plain.ensures.within c.consume.ensures (star-stands bytes n (omega (arith, c.if-star.true)) c.run_without-plain.ensures.ends)
 
 pub returns-in-Ok-true-clause-closed : goal.returns-in-Ok-true-clause-closed
 returns-in-Ok-true-clause-closed g c = λ h same start.
@@ -36,7 +36,7 @@ returns-in-Ok-true-clause-closed g c = λ h same start.
     let bytes : List ℕ = c.buffer-bytes.result.now in
     let n = c.run_without-plain.result in
     let there = inv.gone.moves.still_observable.1 h in
-    let passed = turn g.I.Input s c.peek.new.self t bytes n inv.gone.stands peek.kept peek.well.1 (rw inv.gone.stands.well at peek.count) c.buffer-bytes.ensures c.run_without-plain.ensures.within c.consume.ensures in
+    let passed = turn g.I.Input s c.peek.new.source t bytes n inv.gone.stands peek.kept peek.well.1 (rw inv.gone.stands.well at peek.count) c.buffer-bytes.ensures c.run_without-plain.ensures.within c.consume.ensures in
     let over = block-over-run start s.place (take n bytes) (left g.I.Input.rest t) c.run_without-plain.ensures.run in
     inv.behind h start
     ∙ turn-then g.I.Input s t (take n bytes) (λ d. in_block start d.place d.rest) (λ d. in_block start d.place d.rest) passed there over
@@ -51,7 +51,7 @@ block-preserved-in-Ok-false g c =
     let peek = c.in-Ok-Some.ensures in
     let bytes : List ℕ = c.buffer-bytes.result.now in
     let n = c.run_without-plain.result in
-    let passed = turn g.I.Input s c.peek.new.self t bytes n inv.gone.stands peek.kept peek.well.1 (rw inv.gone.stands.well at peek.count) c.buffer-bytes.ensures c.run_without-plain.ensures.within c.consume.ensures in
+    let passed = turn g.I.Input s c.peek.new.source t bytes n inv.gone.stands peek.kept peek.well.1 (rw inv.gone.stands.well at peek.count) c.buffer-bytes.ensures c.run_without-plain.ensures.within c.consume.ensures in
     record {
       gone = gone-then g.I.Input c.args.source.now s u inv.gone
           (gone-then g.I.Input s t u passed.gone (reads-gone g.I.Input t u c.in-Ok-false.field-0 c.in-Ok-false.ensures.reads));
@@ -72,7 +72,7 @@ block-preserved g c =
     let bytes : List ℕ = c.buffer-bytes.result.now in
     let run = c.run_without-plain.ensures in
     let n = c.run_without-plain.result in
-    let passed = turn g.I.Input s c.peek.new.self t bytes n inv.gone.stands peek.kept peek.well.1 (rw inv.gone.stands.well at peek.count) c.buffer-bytes.ensures run.within c.consume.ensures in
+    let passed = turn g.I.Input s c.peek.new.source t bytes n inv.gone.stands peek.kept peek.well.1 (rw inv.gone.stands.well at peek.count) c.buffer-bytes.ensures run.within c.consume.ensures in
     record {
       gone = gone-then g.I.Input c.args.source.now s t inv.gone passed.gone;
       behind = λ h start.

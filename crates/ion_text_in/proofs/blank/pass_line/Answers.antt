@@ -19,7 +19,7 @@ returns-in-Ok-None-clause-behind g c = λ h.
     ∙ ap (λ (l : List ℕ). in_line s.place l) none
     ∙ line-end s.place
     ∙ ap (λ (l : List ℕ). blanks_at s.place l) (sym none)
-    ∙ ap (λ (d : Cursor). blanks d) (sym (cursor-extends g.I.Input s c.peek.new.self c.in-Ok-None.ensures.kept there))
+    ∙ ap (λ (d : Cursor). blanks d) (sym (cursor-extends g.I.Input s c.peek.new.source c.in-Ok-None.ensures.kept there))
 
 pub returns-then-line-bytes-clause-behind : goal.returns-then-line-bytes-clause-behind
 returns-then-line-bytes-clause-behind g c = λ h.
@@ -30,7 +30,7 @@ returns-then-line-bytes-clause-behind g c = λ h.
     let bytes : List ℕ = c.buffer-bytes.result.now in
     let n = c.run_without-line.result in
     let fits : n + 1 ≤ length bytes = omega (arith, c.if-line-bytes.true) in
-    let passed = turn g.I.Input s c.peek.new.self t bytes (n + 1) inv.gone.stands peek.kept peek.well.1 (rw inv.gone.stands.well at peek.count) c.buffer-bytes.ensures fits c.consume.ensures in
+    let passed = turn g.I.Input s c.peek.new.source t bytes (n + 1) inv.gone.stands peek.kept peek.well.1 (rw inv.gone.stands.well at peek.count) c.buffer-bytes.ensures fits c.consume.ensures in
     let over = line-over-end s.place n bytes (left g.I.Input.rest t) c.run_without-line.ensures.run c.if-line-bytes.true c.run_without-line.ensures.ends in
     inv.behind h ∙ turn-then g.I.Input s t (take (n + 1) bytes) (λ d. in_line d.place d.rest) (λ d. blanks d) passed (inv.gone.moves.still_observable.1 h) over
 
@@ -42,7 +42,7 @@ line-preserved g c =
     let peek = c.in-Ok-Some.ensures in
     let bytes : List ℕ = c.buffer-bytes.result.now in
     let n = c.run_without-line.result in
-    let passed = turn g.I.Input s c.peek.new.self t bytes n inv.gone.stands peek.kept peek.well.1 (rw inv.gone.stands.well at peek.count) c.buffer-bytes.ensures c.run_without-line.ensures.within c.consume-in-line.ensures in
+    let passed = turn g.I.Input s c.peek.new.source t bytes n inv.gone.stands peek.kept peek.well.1 (rw inv.gone.stands.well at peek.count) c.buffer-bytes.ensures c.run_without-line.ensures.within c.consume-in-line.ensures in
     let over = line-over-run s.place (take n bytes) (left g.I.Input.rest t) c.run_without-line.ensures.run in
     record {
       gone = gone-then g.I.Input c.args.source.now s t inv.gone passed.gone;

@@ -11,7 +11,7 @@ use Rattle.ion_text_in.proofs.blank.pass_star.Goals as goal
 pub returns-then-eq-clause-closed : goal.returns-then-eq-clause-closed
 returns-then-eq-clause-closed g c = λ h same start.
     let s = c.args.source.now in
-    let q = c.peek.new.self in
+    let q = c.peek.new.source in
     let bytes : List ℕ = left g.I.Input.rest s in
     let peek = c.in-Ok.ensures in
     let is : c.in-Ok.second ≡ Some 47 = found-is c.in-Ok.second 47 (sym c.eq.ensures ∙ c.if-eq.true) in
@@ -24,7 +24,7 @@ returns-then-eq-clause-closed g c = λ h same start.
 pub returns-clause-open : goal.returns-clause-open
 returns-clause-open g c = λ h same start.
     let s = c.args.source.now in
-    let q = c.peek.new.self in
+    let q = c.peek.new.source in
     let bytes : List ℕ = left g.I.Input.rest s in
     let peek = c.in-Ok.ensures in
     let first : slice_get bytes 0 ≡ Some 42 = first-shown s.buffered (g.I.Input.rest s.device) 42 c.requires.star in

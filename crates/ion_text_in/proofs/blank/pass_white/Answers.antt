@@ -15,7 +15,7 @@ returns-in-Ok-None-clause-behind g c = λ h.
     let s = c.white.source in
     let there = inv.gone.moves.still_observable.1 h in
     let none = no-byte (left g.I.Input.rest s) (sym (c.in-Ok-None.ensures.gives there) ∙ c.in-Ok-None.field-0-is) in
-    cursor-extends g.I.Input s c.peek.new.self c.in-Ok-None.ensures.kept there
+    cursor-extends g.I.Input s c.peek.new.source c.in-Ok-None.ensures.kept there
     ∙ sym (white-none s.place (left g.I.Input.rest s) (ap (λ (l : List ℕ). first_is is_white l) none))
     ∙ inv.behind h
 
@@ -23,7 +23,7 @@ pub returns-then-ends-clause-behind : goal.returns-then-ends-clause-behind
 returns-then-ends-clause-behind g c = λ h.
     let inv = c.white.invariant in
     let s = c.white.source in
-    let p = c.peek.new.self in
+    let p = c.peek.new.source in
     let t = c.consume.new.self in
     let peek = c.in-Ok-Some.ensures in
     let bytes : List ℕ = c.buffer-bytes.result.now in
@@ -44,7 +44,7 @@ white-preserved g c =
     let peek = c.in-Ok-Some.ensures in
     let bytes : List ℕ = c.buffer-bytes.result.now in
     let n = c.white_run-white.result in
-    let passed = turn g.I.Input s c.peek.new.self t bytes n inv.gone.stands peek.kept peek.well.1 (rw inv.gone.stands.well at peek.count) c.buffer-bytes.ensures c.white_run-white.ensures.within c.consume.ensures in
+    let passed = turn g.I.Input s c.peek.new.source t bytes n inv.gone.stands peek.kept peek.well.1 (rw inv.gone.stands.well at peek.count) c.buffer-bytes.ensures c.white_run-white.ensures.within c.consume.ensures in
     let over = white-behind s.place (take n bytes) (left g.I.Input.rest t) c.white_run-white.ensures.run in
     record {
       gone = gone-then g.I.Input c.args.source.now s t inv.gone passed.gone;

@@ -12,7 +12,7 @@ pub returns-in-Ok-None-clause-first : goal.returns-in-Ok-None-clause-first
 returns-in-Ok-None-clause-first g c = λ h.
     let inv = c.ahead.invariant in
     let s = c.ahead.source in
-    let p = c.peek.new.self in
+    let p = c.peek.new.source in
     let peek = rw c.in-Ok-None.field-0-is at c.in-Ok-None.ensures in
     let rest = g.I.Input.rest in
     let same = inv.kept.same_left h in
@@ -26,20 +26,20 @@ returns-in-Ok-None-clause-first g c = λ h.
 pub returns-in-Some-clause-first : goal.returns-in-Some-clause-first
 returns-in-Some-clause-first g c = λ h.
     let inv = c.ahead.invariant in
-    let p = c.peek.new.self in
+    let p = c.peek.new.source in
     let rest = g.I.Input.rest in
     let hs = inv.kept.still_observable.1 h in
     let all : left rest c.args.source.now ≡ left rest p = sym (inv.kept.same_left h) ∙ sym (c.in-Ok-Some.ensures.kept.same_left hs) in
     first-left c.args.in_sexp c.buffer-in-ahead.result.now (lent p) _ (left rest c.args.source.now) _ (all ∙ lent-left rest p) c.buffer-in-ahead.ensures c.in-Some.ensures.shows
 
 pub returns-in-Some-clause-kept : goal.returns-in-Some-clause-kept
-returns-in-Some-clause-kept g c = extends-then g.I.Input.rest g.I.Input.observable c.args.source.now c.ahead.source c.peek.new.self c.ahead.invariant.kept c.in-Ok-Some.ensures.kept
+returns-in-Some-clause-kept g c = extends-then g.I.Input.rest g.I.Input.observable c.args.source.now c.ahead.source c.peek.new.source c.ahead.invariant.kept c.in-Ok-Some.ensures.kept
 
 pub ahead-preserved : goal.ahead-preserved
 ahead-preserved g c =
     let inv = c.ahead.invariant in
     let peek = c.in-Ok-Some.ensures in
-    let p = c.peek.new.self in
+    let p = c.peek.new.source in
     let byte = rw c.in-Ok-Some.field-0-is at peek in
     let same = c.buffer-in-ahead.ensures in
     record {

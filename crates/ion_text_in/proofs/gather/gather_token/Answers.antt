@@ -1,4 +1,4 @@
-use Rattle.std.proofs.Common.{◌≡◌, ◌≤◌, ◌∙◌, ap, sym, ℕ, List, ◌++◌, length, take, Some, arith}
+use Rattle.std.proofs.Common.{◌≡◌, ◌≤◌, ◌∙◌, ap, sym, subst, ℕ, List, ◌++◌, length, take, Some, Ok, Err, arith}
 use Rattle.std.proofs.lemmas.Grind.{common_steps}
 use Rattle.ion_meter.specs.Windows.{left, lent}
 use Rattle.ion_meter.specs.Sources.{Cursor, cursor, skip}
@@ -6,6 +6,7 @@ use Rattle.ion_meter.proofs.Lent.{lent-take}
 use Rattle.ion_value.proofs.Passing.{lent-there, IsPassed-cursor}
 use Rattle.ion_text_in.specs.Runs.{with_run}
 use Rattle.ion_text_in.proofs.Gathered.{first-then, answers-same}
+use Rattle.ion_text_in.proofs.Holding.{held-cleared, into-held, reads-then}
 use Rattle.ion_text_in.proofs.ShownFurther.{on-ok}
 use Rattle.ion_text_in.proofs.gather.gather_token.Goals as goal
 
@@ -36,3 +37,31 @@ returns-clause-goes g c = grind (arith, common_steps) steps 400000
 
 pub returns-in-Err-clause-goes : goal.returns-in-Err-clause-goes
 returns-in-Err-clause-goes g c = grind (arith, common_steps) steps 400000
+
+pub returns-clause-reads : goal.returns-clause-reads
+returns-clause-reads g c =
+    let device = g.I.Input in
+    let s = c.args.source.now in
+    let t = c.append.new.source in
+    let u = c.gather.new.source in
+    let a = c.args.meter.now in
+    let b = c.clear.new.meter in
+    let most = c.args.limits.scalar in
+    let text : List ℕ = c.clear.new.self in
+    let can = c.requires.can_read in
+    let none = c.clear.ensures.bytes in
+    reads-then device s s u a b c.gather.new.meter (length c.args.text.now) (length text) (length c.gather.new.text) most c.gather.result can.holds
+    (held-cleared device s c.args.text.now text a b most can.stands can.holds none c.clear.ensures.cost)
+    (reads-then device s t u b c.append.new.meter c.gather.new.meter (length text) (length c.append.new.text) (length c.gather.new.text) most c.gather.result
+    (subst (λ (l : List ℕ). length l ≤ b.held) (sym none) (omega arith))
+    (into-held device s t b c.append.new.meter (length text) (length c.append.new.text) most (Ok tt) c.in_default.ensures.reads) c.gather.ensures.reads)
+
+pub returns-in-Err-clause-reads : goal.returns-in-Err-clause-reads
+returns-in-Err-clause-reads g c =
+    let device = g.I.Input in
+    let s = c.args.source.now in
+    let can = c.requires.can_read in
+    let most = c.args.limits.scalar in
+    let text : List ℕ = c.clear.new.self in
+    reads-then device s s c.append.new.source c.args.meter.now c.clear.new.meter c.append.new.meter (length c.args.text.now) (length text) (length c.append.new.text) most (Err c.in-Err.fault) can.holds
+    (held-cleared device s c.args.text.now text c.args.meter.now c.clear.new.meter most can.stands can.holds c.clear.ensures.bytes c.clear.ensures.cost) c.in-Err.ensures.reads

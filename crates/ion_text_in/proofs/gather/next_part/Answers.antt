@@ -13,7 +13,7 @@ returns-in-Ok-None-clause-ends g c = λ h e.
 
 pub returns-then-extent-clause-goes : goal.returns-then-extent-clause-goes
 returns-then-extent-clause-goes g c = λ h.
-    let p = c.peek.new.self in
+    let p = c.peek.new.source in
     let n = c.run_extent-extent.result.len in
     let test = goes_on c.args.run in
     let goes : GoOn test (lent p) n = subst (λ (l : List ℕ). GoOn test l n) c.buffer.ensures c.run_extent-extent.ensures.goes in
@@ -22,7 +22,7 @@ returns-then-extent-clause-goes g c = λ h.
 
 pub returns-then-extent-clause-ends : goal.returns-then-extent-clause-ends
 returns-then-extent-clause-ends g c = λ h e.
-    let p = c.peek.new.self in
+    let p = c.peek.new.source in
     let n = c.run_extent-extent.result.len in
     let test = goes_on c.args.run in
     let none : n ≡ 0 = cc e in

@@ -48,7 +48,7 @@ loop-i-preserved g c =
     let peek = c.in-Ok-Some.ensures in
     let given = (rw c.in-Ok-Some.field-0-is at peek.byte).0 in
     let white = reads-gone g.I.Input s w c.in_default.field-0 c.in_default.ensures.reads in
-    let one = gone-passed g.I.Input w c.peek.new.self t 0 white.stands peek.kept peek.well.1 (rw white.stands.well at peek.count) given c.advance.ensures in
+    let one = gone-passed g.I.Input w c.peek.new.source t 0 white.stands peek.kept peek.well.1 (rw white.stands.well at peek.count) given c.advance.ensures in
     let onward = white.moves.further in
     record {
       gone = gone-then g.I.Input c.args.source.now s t inv.gone (gone-then g.I.Input s w t white one.0);
@@ -60,7 +60,7 @@ loop-i-preserved g c =
           let at_white = white.moves.still_observable.1 there in
           let dark = ap (λ (d : Cursor). first_is is_white d.rest) behind ∙ white-ends s.place (left g.I.Input.rest s) in
           let found = sym (peek.gives at_white) ∙ c.in-Ok-Some.field-0-is in
-          let passed = passed-cursor g.I.Input w c.peek.new.self t 0 white.stands peek.kept peek.well.1 given c.advance.ensures at_white in
+          let passed = passed-cursor g.I.Input w c.peek.new.source t 0 white.stands peek.kept peek.well.1 given c.advance.ensures at_white in
           let rest : drop 1 (left g.I.Input.rest w) ≡ left g.I.Input.rest t = sym (ap (λ (d : Cursor). d.rest) passed) in
           let now : List ℕ = slice_set c.loop-i.group c.loop-i.i c.in-Ok-Some.byte in
           inv.group h

@@ -20,7 +20,7 @@ returns-in_default-clause-there g c =
 pub returns-in-Ok-None-clause-gives : goal.returns-in-Ok-None-clause-gives
 returns-in-Ok-None-clause-gives g c = λ h.
     let s = c.more.source in
-    let t = c.peek.new.self in
+    let t = c.peek.new.source in
     let seen = c.more.invariant.kept.still_observable.1 h in
     let gives = rw (c.in-Ok-None.field-0-is, c.buffer-bytes.ensures) at (c.in-Ok-None.ensures.gives seen) in
     c.last_piece.ensures

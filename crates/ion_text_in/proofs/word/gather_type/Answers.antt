@@ -14,7 +14,7 @@ use Rattle.ion_text_in.proofs.word.gather_type.Goals as goal
 pub returns-clause-gives : goal.returns-clause-gives
 returns-clause-gives g c = λ h.
     let s = c.args.source.now in
-    let p = c.peek.new.self in
+    let p = c.peek.new.source in
     let t = c.append.new.source in
     let peek = c.in-Ok.ensures in
     let added = c.in_default.ensures in

@@ -1,8 +1,9 @@
-use Rattle.std.proofs.Common.{arith, ◌≡◌, ◌∙◌, ap, sym, Some, true, List, ℕ, codes}
+use Rattle.std.proofs.Common.{arith, ◌≡◌, ◌∙◌, ap, sym, Some, Ok, true, List, ℕ, codes, length}
 use Rattle.std.proofs.lemmas.Grind.{common_steps}
 use Rattle.std.specs.Str.{bytes_eq}
 use Rattle.ion_meter.specs.Sources.{cursor}
 use Rattle.ion_text_in.proofs.Gathered.{answers-same}
+use Rattle.ion_text_in.proofs.Holding.{into-held, reads-then}
 use Rattle.ion_text_in.proofs.TypedWords.{null-spelled}
 use Rattle.ion_text_in.proofs.word.gather_typed.Goals as goal
 
@@ -33,3 +34,14 @@ returns-then-not-is_text-clause-further g c = grind (arith, common_steps) steps 
 
 pub returns-then-not-is_text-clause-fresh : goal.returns-then-not-is_text-clause-fresh
 returns-then-not-is_text-clause-fresh g c = grind (arith, common_steps) steps 400000
+
+pub returns-clause-reads : goal.returns-clause-reads
+returns-clause-reads g c =
+    let device = g.I.Input in
+    let s = c.args.source.now in
+    let t = c.gather_token.new.source in
+    let a = c.args.meter.now in
+    let b = c.gather_token.new.meter in
+    let most = c.args.limits.scalar in
+    reads-then device s t c.gather_type.new.source a b c.gather_type.new.meter (length c.args.text.now) (length c.gather_token.new.text) (length c.gather_type.new.text) most c.gather_type.result c.requires.can_read.holds
+    (into-held device s t a b (length c.args.text.now) (length c.gather_token.new.text) most (Ok tt) c.in_default.ensures.reads) c.gather_type.ensures.reads

@@ -3,6 +3,7 @@ use Rattle.std.proofs.lemmas.Grind.{common_steps}
 use Rattle.ion_text_in.specs.Feeding.{lane}
 use Rattle.ion_text_in.proofs.FeedLanes.{moved-none}
 use Rattle.ion_text_in.proofs.FeedNoted.{start-noted}
+use Rattle.ion_text_in.proofs.FeedIds.{found-read, moved-text, start-read}
 use Rattle.ion_text_in.proofs.feed.quotes.any_quoted.Goals as goal
 
 pub any_value-requires-clause-start : goal.any_value-requires-clause-start
@@ -27,3 +28,13 @@ returns-in-Some-clause-goes g c = grind (arith, common_steps) steps 400000
 
 pub returns-in-None-clause-falls : goal.returns-in-None-clause-falls
 returns-in-None-clause-falls g c = grind (arith, common_steps) steps 400000
+
+pub returns-in-Some-clause-moved : goal.returns-in-Some-clause-moved
+returns-in-Some-clause-moved g c =
+    moved-text g.W.ValueWriter c.args.limits c.args.end (lane c.args.kinds.now c.args.spot c.args.writer.now c.args.sink.now c.args.meter.now) (lane c.args.kinds.now c.scalar-more.new.at c.scalar-more.new.writer c.scalar-more.new.sink c.scalar-more.new.meter) c.requires.start c.in-Some.ensures.found c.scalar-more.ensures.moved
+
+pub scalar-requires-clause-start : goal.scalar-requires-clause-start
+scalar-requires-clause-start g c = start-read c.requires.start
+
+pub scalar-requires-clause-found : goal.scalar-requires-clause-found
+scalar-requires-clause-found g c = found-read c.in-Some.ensures.found

@@ -1,28 +1,50 @@
 """Runs the program by whole command lines and compares the exit status and both streams. `checks/run` calls it; its last
 line is `N passed, M failed`.
 
-A row has the words, standard input, and what must come: status, standard output, standard error. The answers are worked
-out by hand from README.md, docs/TEXT.md, docs/BINARY.md and docs/REFUSALS.md; what is printed of the command line itself
-(help, version, wrong words) is as it was seen. Each row runs in a folder of its own, which has the files below.
+A row has the words, standard input, and what must come: status, standard output, standard error. Of rows that are alike
+a table has what differs, and says it above. The answers are worked out by hand from README.md, docs/TEXT.md, docs/BINARY.md
+and docs/REFUSALS.md; what is printed of the command line itself (help, version, wrong words) is as it was seen. Each row
+runs in a folder of its own, which has the files below.
 """
+import contextlib
 import os
+import select
 import subprocess
 import sys
 import tempfile
+import time
+import tty
 
-MARKER = bytes.fromhex("E00100EA")
-SIX = MARKER + bytes.fromhex("0F 11 21 05 31 07 2F 10")
+
+def binary(octets):
+    """A version marker, and these octets behind it."""
+    return bytes.fromhex("E00100EA" + octets)
+
+
+MARKER = binary("")
+SIX = binary("0F 11 21 05 31 07 2F 10")
 LINES = b"null\ntrue\n5\n-7\nnull.int\nfalse\n"
+FIVE = binary("21 05")
+# a struct in binary, and the line of it
+STRUCT = binary("D8 84 B6 21 01 53 C2 80 96")
+LINE = b"{name:[1,-1.50]}\n"
+# what begins with a whole value, and ends in an open list
+CUT = b"5 [6, x"
 IMPORT = b'$ion_symbol_table::{imports:[{name:"x",version:1,max_id:2}]} $10 $11'
+IMPORT_AND_A = b'$ion_symbol_table::{imports:[{name:"x",version:1,max_id:2}],symbols:["a"]} $12 $10'
 # each value behind the declaration of its new text
 P_AND_Q = bytes.fromhex("EA 81 83 D7 86 71 03 87 B2 81 70 71 0A EA 81 83 D7 86 71 03 87 B2 81 71 71 0B")
 FILES = {
     "six.10n": SIX,
     "six.ion": b"null true 5 -7 null.int false",
+    "five.10n": FIVE,
+    "nested.10n": binary("B3 B2 21 05"),
+    "cut.10n": FIVE + b"\x82a",
     "empty": b"",
     "bad.ion": b"1 [2, 3] 4e0",
     "imports.ion": IMPORT,
     "tables.ion": b'$ion_shared_symbol_table::{name:"x",version:1,symbols:["p","q"]}',
+    "twice.ion": b'$ion_shared_symbol_table::{name:"x",version:1} $ion_shared_symbol_table::{name:"x"}',
     "notables.ion": b"$ion_shared_symbol_table::{name:5}",
     "limits.ion": b'[1,"abc"] a',
     "-dashed": b"7",
@@ -31,13 +53,13 @@ ALL_FOUR = ["--depth", "1", "--scalar", "3", "--symbols", "17", "--value", "7"]
 # [1,"abc"] in binary; then the declaration of `a` and its symbol
 WITHIN = MARKER + bytes.fromhex("B6 21 01 83 61 62 63 EA 81 83 D7 86 71 03 87 B2 81 61 71 0A")
 TRY = b"\nFor more information, try '--help'.\n"
-ANY = "any"
+# Seconds that a row may take, which takes some milliseconds.
+PATIENCE = 60
 
 ROWS = [
     ("no words", "", b"{a: 1, b: [2.50]}", 0, b"{a:1,b:[2.50]}\n", b""),
     ("show, standard input", "show", b"1 2", 0, b"1\n2\n", b""),
     ("show -", "show -", b"1 2", 0, b"1\n2\n", b""),
-    ("show, nothing", "show", b"", 0, b"", b""),
     ("show, a binary file", "show six.10n", b"not read", 0, LINES, b""),
     ("show, a text file", "show six.ion", b"", 0, LINES, b""),
     ("show, an empty file", "show empty", b"", 0, b"", b""),
@@ -45,12 +67,10 @@ ROWS = [
     ("check, standard input", "check", b"1 2", 0, b"ok 2 values\n", b""),
     ("check -", "check -", SIX, 0, b"ok 6 values\n", b""),
     ("check, a file", "check six.10n", b"", 0, b"ok 6 values\n", b""),
-    ("check, nothing", "check", b"", 0, b"ok 0 values\n", b""),
     ("convert, standard input", "convert", b"5", 0, MARKER + b"\x21\x05", b""),
     ("convert -, binary", "convert -", SIX, 0, LINES, b""),
     ("convert, a text file", "convert six.ion", b"", 0, SIX, b""),
     ("convert, a binary file", "convert six.10n", b"", 0, LINES, b""),
-    ("convert, nothing", "convert", b"", 0, MARKER, b""),
     ("to text, of text", "convert --to text six.ion", b"", 0, LINES, b""),
     ("to text, of binary", "convert --to text -", SIX, 0, LINES, b""),
     ("to binary, of text", "convert --to binary six.ion", b"", 0, SIX, b""),
@@ -80,10 +100,11 @@ ROWS = [
     ("a refusal in a container", "show", b"[1, 2", 1, b"[1,2", b"refused Truncated at 5\n"),
     ("no such file", "show nowhere.ion", b"1", 3, b"", b"cannot open nowhere.ion\n"),
     ("a folder", "check .", b"", 3, b"", b"read fault\n"),
+    ("a folder as a catalogue", "show --catalog . five.10n", b"", 3, b"", b"read fault\n"),
+    ("a folder, with a catalogue", "check --catalog empty .", b"", 3, b"", b"read fault\n"),
+    ("a folder behind a catalogue that is none", "show --catalog five.10n .", b"", 1, b"", b"catalog refused CatalogEntry at 4\n"),
     ("--version", "--version", b"", 0, b"ion 0.2.0, canonical text 2\n", b""),
-    ("--help", "--help", b"", 0, ANY, b""),
-    ("help", "help", b"", 0, ANY, b""),
-    ("show --help", "show --help", b"", 0, ANY, b""),
+    ("--version, over an input", "--version", IMPORT_AND_A, 0, b"ion 0.2.0, canonical text 2\n", b""),
     ("no such command", "frobnicate", b"1", 2, b"",
      b"error: unrecognized subcommand 'frobnicate'\n\nUsage: ion <show|check|convert> [OPTIONS] [FILE]\n"
      b"       as in: ion show data.ion\n" + TRY),
@@ -110,32 +131,274 @@ ROWS = [
      b"Usage: ion convert [OPTIONS] [FILE]\n" + TRY),
 ]
 
+# A stream, and what no words and `show` answer to it: status and both streams; then what `check` writes.
+SHOWN = [
+    (b"", 0, b"", b"", b"ok 0 values\n"),
+    (SIX, 0, LINES, b"", b"ok 6 values\n"),
+    (binary("D5 80 01 FF 84 11"), 0, b"{name:true}\n", b"", b"ok 1 values\n"),
+    (binary("EA 81 83 D7 87 B2 81 61 86 71 03 EA 81 83 D7 87 B2 81 62 86 71 03 71 0A 71 0B"), 0, b"a\nb\n", b"", b"ok 2 values\n"),
+    (binary("21 05 82 61"), 1, b"5\n", b"refused Truncated at 6\n", b""),
+    (binary("71 0A"), 1, b"", b"refused BadSymbol at 4\n", b""),
+    (binary("B1 B1 21"), 1, b"[", b"refused Overrun at 5\n", b""),
+    (b"5 [a,", 1, b"5\n[a", b"refused Truncated at 5\n", b""),
+]
+# A stream, and what `convert` answers to it: what is not whole at top level is not written as binary.
+CONVERTED = [
+    (b"", 0, MARKER, b""),
+    (b"{name: [1, -1.50]}", 0, STRUCT, b""),
+    (b"a a", 0, binary("EA 81 83 D7 86 71 03 87 B2 81 61 71 0A 71 0A"), b""),
+    (CUT, 1, FIVE, b"refused Truncated at 7\n"),
+    (binary("71 04 21 05"), 0, b"name\n5\n", b""),
+    (binary("B3 21 05 40"), 1, b"[5", b"refused Float at 7\n"),
+]
+# Decimals behind a version marker, and how `show` writes them: with a point where the exponent is from 0 down to -38.
+DECIMALS = [
+    ("52 C1 0F", b"1.5\n"),
+    ("52 C3 05", b"0.005\n"),
+    ("52 80 80", b"-0.\n"),
+    ("50", b"0.\n"),
+    ("51 C2", b"0.00\n"),
+    ("52 81 0F", b"15d1\n"),
+    ("52 E7 01", b"1d-39\n"),
+    ("C8 52 80 0F 52 80 80 71 04", b"(15. -0. name)\n"),
+    ("5E 92 E6 00" + "FF" * 16, b"3.40282366920938463463374607431768211455\n"),
+]
+# Words that name a form, over standard input, over a file and with a catalogue.
+FORMED = [
+    ("convert --to text", b"{name: [1, -1.50]}", 0, LINE, b""),
+    ("convert --to binary", LINE, 0, STRUCT, b""),
+    ("convert --to=text -", STRUCT, 0, LINE, b""),
+    ("convert --to=binary", STRUCT, 1, b"", b"refused SameForm at 0\n"),
+    ("convert --to binary nested.10n", LINE, 1, b"", b"refused SameForm at 0\n"),
+    ("convert --catalog tables.ion --to text", IMPORT_AND_A, 0, b"a\np\n", b""),
+    ("convert --to binary", CUT, 1, FIVE, b"refused Truncated at 7\n"),
+]
+# Words that name a file, with limits and without.
+FILED = [
+    ("show five.10n", b"", 0, b"5\n", b""),
+    ("show nested.10n", b"", 0, b"[[5]]\n", b""),
+    ("check nested.10n", b"", 0, b"ok 1 values\n", b""),
+    ("show --depth 2 nested.10n", b"", 0, b"[[5]]\n", b""),
+    ("show --depth 1 nested.10n", b"", 1, b"[", b"refused DepthLimit at 5\n"),
+    ("check --depth=0 nested.10n", b"", 1, b"", b"refused DepthLimit at 4\n"),
+    ("show --scalar 0 nested.10n", b"", 1, b"[[", b"refused ScalarLimit at 6\n"),
+    ("show cut.10n", b"\xE0", 1, b"5\n", b"refused Truncated at 6\n"),
+    ("show other", b"", 3, b"", b"cannot open other\n"),
+    ("show other.10n", b"\xE0", 3, b"", b"cannot open other.10n\n"),
+]
+# Words that name a catalogue, and the same stream without one.
+CATALOGUED = [
+    ("show --catalog tables.ion", IMPORT_AND_A, 0, b"a\np\n", b""),
+    ("check --catalog tables.ion -", IMPORT_AND_A, 0, b"ok 2 values\n", b""),
+    ("show --catalog tables.ion nested.10n", IMPORT_AND_A, 0, b"[[5]]\n", b""),
+    ("show", IMPORT_AND_A, 1, b"a\n", b"refused UnknownSymbol at 79\n"),
+    ("show --catalog twice.ion nested.10n", IMPORT_AND_A, 1, b"", b"catalog refused CatalogEntry at 47\n"),
+    ("show --catalog other nested.10n", IMPORT_AND_A, 3, b"", b"cannot open other\n"),
+    ("show --catalog tables.ion other", IMPORT_AND_A, 3, b"", b"cannot open other\n"),
+    ("show --catalog empty five.10n", b"", 0, b"5\n", b""),
+]
+# Words that ask for help, how it begins, and an example that it has.
+HELPED = [
+    ("--help", b"Shows", b"ion show data.ion"),
+    ("--help", b"Shows", b"ion check < data.10n"),
+    ("--help", b"Shows", b"ion convert data.ion > data.10n"),
+    ("-h", b"Shows", b"ion show data.ion"),
+    ("help", b"Shows", b"ion show data.ion"),
+    ("show --help", b"Writes", b"ion show data.ion"),
+    ("help show", b"Writes", b"ion show data.ion"),
+    ("check --help", b"Reads", b"ion check < data.10n"),
+    ("convert --help", b"Writes", b"ion convert --to binary data.ion > data.10n"),
+]
+# Words that are refused with status 2, as some of ROWS are; of what these print the first word alone is compared.
+USAGE = [
+    "x",
+    "write",
+    "--",
+    "--depth 3",
+    "help x",
+    "show --depth 65536",
+    "show --scalar x",
+    "show --to text",
+    "check --to binary",
+    "convert --to other",
+    "convert --to text --to text",
+]
+# Words, what standard input gives before a read of it fails, and what is written before `read fault`.
+INPUT_FAILS = [
+    ("", FIVE, b"5\n"),
+    ("show", FIVE, b"5\n"),
+    ("show", MARKER, b""),
+    ("show", b"5 [6,", b"5\n[6"),
+    ("check -", FIVE, b""),
+    ("check --catalog empty", FIVE, b""),
+    ("convert", FIVE, b"5\n"),
+    ("convert --to binary", b"5 [6,", FIVE),
+]
+# The same where it is the file FAILS, by which the words name the stream or the catalogue.
+FILE_FAILS = [
+    ("show FAILS", FIVE, b"5\n"),
+    ("show FAILS", MARKER, b""),
+    ("check --catalog empty FAILS", FIVE, b""),
+    ("show --catalog FAILS five.10n", MARKER, b""),
+    ("show --catalog FAILS five.10n", FILES["tables.ion"], b""),
+]
+# Words with a file whose first read fails.
+NOT_READ = [
+    "show /proc/self/mem",
+    "check --catalog empty /proc/self/mem",
+    "convert /proc/self/mem",
+    "show --catalog /proc/self/mem five.10n",
+]
 
-def run_row(program, row):
-    """What is wrong with the answer to a row, or nothing."""
-    name, words, given, status, out, errors = row
-    words = words.split() if isinstance(words, str) else words
+
+def compared_whole():
+    """The rows of ROWS and of the tables whose answers are compared whole."""
+    yield from ROWS
+    for given, status, out, errors, count in SHOWN:
+        yield "shown without words", "", given, status, out, errors
+        yield "shown", "show", given, status, out, errors
+        yield "checked", "check", given, status, count, errors
+    for given, status, out, errors in CONVERTED:
+        yield "converted", "convert", given, status, out, errors
+    for octets, out in DECIMALS:
+        yield "a decimal", "show", binary(octets), 0, out, b""
+    for row in FORMED:
+        yield "a form that is named", *row
+    for row in FILED:
+        yield "a file", *row
+    for row in CATALOGUED:
+        yield "a catalogue", *row
+
+
+@contextlib.contextmanager
+def folder_of_files():
+    """A folder that has FILES."""
     with tempfile.TemporaryDirectory() as folder:
         for file, content in FILES.items():
             with open(os.path.join(folder, file), "wb") as made:
                 made.write(content)
-        done = subprocess.run([program, *words], input=given, cwd=folder, capture_output=True, timeout=60)
-    got = (done.returncode, done.stdout if out != ANY or not done.stdout.startswith((b"Shows", b"Writes")) else ANY, done.stderr)
-    wanted = (status, out, errors)
-    return None if got == wanted else f"FAILED {name}: ion {' '.join(words)}\n  wanted: {wanted}\n  got:    {got}"
+        yield folder
+
+
+def answer(program, words, **given):
+    """Status and both streams; the words are a line, or a list of them."""
+    words = words.split() if isinstance(words, str) else words
+    with folder_of_files() as folder:
+        done = subprocess.run([program, *words], cwd=folder, capture_output=True, timeout=PATIENCE, **given)
+    return done.returncode, done.stdout, done.stderr
+
+
+def told(is_right, name, words, wanted, got):
+    """What is wrong with an answer, or nothing."""
+    words = words if isinstance(words, str) else " ".join(words)
+    return None if is_right else f"FAILED {name}: ion {words}\n  wanted: {wanted}\n  got:    {got}"
+
+
+def run_row(program, row):
+    """An answer that is compared whole."""
+    name, words, given, *wanted = row
+    got = answer(program, words, input=given)
+    return told(got == tuple(wanted), f"{name}, over {given}", words, tuple(wanted), got)
+
+
+def run_helped(program, row):
+    """Help on standard output."""
+    words, begins, example = row
+    status, out, errors = got = answer(program, words, input=b"")
+    is_right = (status, errors) == (0, b"") and out.startswith(begins) and b"Usage: ion" in out and example in out
+    return told(is_right, "help", words, row, got)
+
+
+def run_usage(program, words):
+    """Why the words are refused, on standard error."""
+    status, out, errors = got = answer(program, words, input=b"")
+    return told((status, out) == (2, b"") and errors.startswith(b"error: "), "refused words", words, "error: ..", got)
+
+
+def has_terminals():
+    """Whether a terminal can be made here, and opened by its name, and a process be looked at."""
+    try:
+        master, slave = os.openpty()
+        is_named = os.path.exists(os.ttyname(slave))
+    except OSError:
+        return False
+    os.close(master)
+    os.close(slave)
+    return is_named and os.path.exists("/proc/self/stat")
+
+
+def run_where_input_fails(program, row):
+    """Standard input is one end of a terminal, whose other end was closed behind what it wrote."""
+    words, given, out = row
+    master, slave = os.openpty()
+    tty.setraw(slave)
+    os.write(slave, given)
+    os.close(slave)
+    got = answer(program, words, stdin=master)
+    os.close(master)
+    return told(got == (3, out, b"read fault\n"), f"standard input fails behind {given}", words, (3, out), got)
+
+
+def sleeps(process):
+    """Whether it waits for an event, as in a read."""
+    with open(f"/proc/{process.pid}/stat", encoding="utf-8", errors="replace") as stat:
+        return stat.read().rpartition(")")[2].split()[0] == "S"
+
+
+def run_where_a_file_fails(program, row):
+    """FAILS is one end of a terminal, whose other end is closed when the program has read all and waits for more."""
+    words, given, out = row
+    master, slave = os.openpty()
+    tty.setraw(slave)
+    os.write(master, given)
+    select.select([slave], [], [], PATIENCE)
+    asked = [os.ttyname(slave) if word == "FAILS" else word for word in words.split()]
+    with folder_of_files() as folder:
+        pipe = subprocess.PIPE
+        process = subprocess.Popen([program, *asked], cwd=folder, stdin=subprocess.DEVNULL, stdout=pipe, stderr=pipe)
+        end = time.monotonic() + PATIENCE
+        while process.poll() is None and time.monotonic() < end:
+            if not select.select([slave], [], [], 0)[0] and sleeps(process):
+                break
+            time.sleep(0.001)
+        os.close(master)
+        os.close(slave)
+        try:
+            wrote, errors = process.communicate(timeout=PATIENCE)
+        finally:
+            process.kill()
+    got = process.returncode, wrote, errors
+    return told(got == (3, out, b"read fault\n"), f"a file fails behind {given}", words, (3, out), got)
+
+
+def run_not_read(program, words):
+    """A file whose first read fails; standard input is not read in its place."""
+    got = answer(program, words, input=b"7")
+    return told(got == (3, b"", b"read fault\n"), "a file that cannot be read", words, (3, b""), got)
 
 
 def run_on_a_full_device(program):
     """Output that cannot be written, by the device that is always full."""
     with open("/dev/full", "wb") as full:
-        done = subprocess.run([program, "show"], input=b"1", stdout=full, stderr=subprocess.PIPE, timeout=60)
+        done = subprocess.run([program, "show"], input=b"1", stdout=full, stderr=subprocess.PIPE, timeout=PATIENCE)
     got = (done.returncode, done.stderr)
     return None if got == (3, b"write fault\n") else f"FAILED show to /dev/full: {got}"
 
 
 def main():
     program = os.path.abspath(sys.argv[1])
-    wrong = [run_row(program, row) for row in ROWS]
+    wrong = [run_row(program, row) for row in compared_whole()]
+    wrong += [run_helped(program, row) for row in HELPED]
+    wrong += [run_usage(program, words) for words in USAGE]
+    if has_terminals():
+        wrong += [run_where_input_fails(program, row) for row in INPUT_FAILS]
+        wrong += [run_where_a_file_fails(program, row) for row in FILE_FAILS]
+    else:
+        print("skipped: openpty")
+    if os.path.exists("/proc/self/mem"):
+        wrong += [run_not_read(program, words) for words in NOT_READ]
+    else:
+        print("skipped: /proc/self/mem")
     if os.path.exists("/dev/full"):
         wrong.append(run_on_a_full_device(program))
     else:

@@ -37,15 +37,6 @@ impl<F: Read> UsedFile<F> {
     }
 }
 
-impl<F> UsedFile<F> {
-    /// How often a read of it failed.
-    pub fn failures(&self) -> u64
-        ensures { result ≡ self.now.failures }
-    {
-        self.failures
-    }
-}
-
 /// Where the files come from that the words name.
 pub trait FileSource {
     type File: Read + Drop;

@@ -425,6 +425,3 @@ pub fn serve<F: FileSource, I: Input + Drop, O: Output + Drop, E: Output + Drop>
     };
     (status, input, out, err)
 }
-
-#[cfg(test)]
-mod tests;

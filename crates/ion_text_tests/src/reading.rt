@@ -129,7 +129,7 @@ fn read_by<A: Allocator + Copy>(
     words_in: Global,
 ) -> Result<Told, Fail> {
     let mut running = start(rt, alloc, limits, input);
-    let words = running.read(rt, words_in)?;
+    let words = running.read(rt, words_in);
     let Running { reader, mut meter } = running;
     let most = 16u64.saturating_mul(u64::from(limits.depth));
     let most = limits.scalar.saturating_mul(3).saturating_add(most);
@@ -138,7 +138,7 @@ fn read_by<A: Allocator + Copy>(
     let _device = reader.release(&mut meter);
     assert!(rt; meter.held() == 0);
     Ok(Told {
-        words,
+        words: words?,
         held,
         refused: meter.refused(),
     })

@@ -18,7 +18,7 @@ returns-then-not-is_fraction c =
 
 pub in_local_time-requires : goal.in_local_time-requires
 in_local_time-requires c =
-    if_moment-some (utc_of_numbers c.args.numbers.now c.digits_behind-digits.result c.in-Some.fraction) c.in-Some-in_utc.utc (sym c.in-Some-in_utc.ensures)
+    if_moment-some (utc_of_numbers c.args.numbers.now _ _) c.in-Some-in_utc.utc (sym c.in-Some-in_utc.ensures)
 
 pub returns-in-Some-in_utc : goal.returns-in-Some-in_utc
 returns-in-Some-in_utc c =

@@ -1,4 +1,5 @@
 use Rattle.std.proofs.Common.{arith}
+use Rattle.std.proofs.lemmas.Grind.{common_steps}
 use Rattle.ion_value.specs.Items.{annotations_of}
 use Rattle.ion_text_out.proofs.Annotations.{annotations-next, annotations-cut}
 use Rattle.ion_meter.proofs.Putting.{put_nothing}
@@ -14,3 +15,9 @@ pub annotations-preserved : goal.annotations-preserved
 annotations-preserved g c =
     let put = annotations-next (annotations_of g.N.Names.text c.args.annotations.now) c.annotations.index c.in_default.is c.annotations.invariant.put c.put_annotation_at.ensures in
     record { within = omega (arith, c.annotations-test.true, c.len-count.ensures); well = put.well; put = put }
+
+pub returns : goal.returns
+returns g c = grind (arith, common_steps)
+
+pub overflow_add-index : goal.overflow_add-index
+overflow_add-index g c = grind (arith, common_steps)

@@ -1,3 +1,5 @@
+use Rattle.std.proofs.Common.{arith}
+use Rattle.std.proofs.lemmas.Grind.{common_steps}
 use Rattle.ion_value.specs.Items.{item_of, raw_head}
 use Rattle.ion_text_out.specs.Writing.{shown}
 use Rattle.ion_text_out.proofs.ItemParts.{item_first, item_middle, item_last}
@@ -19,3 +21,39 @@ returns-clause-puts g c well =
 
 pub returns-clause-cause : goal.returns-clause-cause
 returns-clause-cause g c = (c.put_last.ensures c.args.empty).cause
+
+pub returns-clause-passed : goal.returns-clause-passed
+returns-clause-passed g c = grind (arith, common_steps)
+
+pub returns-in-Err-put_middle-clause-passed : goal.returns-in-Err-put_middle-clause-passed
+returns-in-Err-put_middle-clause-passed g c = grind (arith, common_steps)
+
+pub returns-clause-well : goal.returns-clause-well
+returns-clause-well g c = grind (arith, common_steps)
+
+pub put_middle-requires-clause-range : goal.put_middle-requires-clause-range
+put_middle-requires-clause-range g c = grind (arith, common_steps)
+
+pub returns-in-Err-put_middle-clause-cause : goal.returns-in-Err-put_middle-clause-cause
+returns-in-Err-put_middle-clause-cause g c = grind (arith, common_steps)
+
+pub returns-in-Err-clause-passed : goal.returns-in-Err-clause-passed
+returns-in-Err-clause-passed g c = grind (arith, common_steps)
+
+pub returns-in-Err-clause-cause : goal.returns-in-Err-clause-cause
+returns-in-Err-clause-cause g c = grind (arith, common_steps)
+
+pub put_middle-requires-clause-well : goal.put_middle-requires-clause-well
+put_middle-requires-clause-well g c = grind (arith, common_steps)
+
+pub returns-in-Err-put_middle-clause-well : goal.returns-in-Err-put_middle-clause-well
+returns-in-Err-put_middle-clause-well g c = grind (arith, common_steps)
+
+pub returns-in-Err-clause-well : goal.returns-in-Err-clause-well
+returns-in-Err-clause-well g c = grind (arith, common_steps)
+
+pub put_middle-requires-clause-head : goal.put_middle-requires-clause-head
+put_middle-requires-clause-head g c = grind (arith, common_steps)
+
+pub put_last-requires : goal.put_last-requires
+put_last-requires g c = grind (arith, common_steps)

@@ -1,4 +1,5 @@
 use Rattle.std.proofs.Common.{length, ap, arith}
+use Rattle.std.proofs.lemmas.Grind.{common_steps}
 use Rattle.std.proofs.lemmas.List.{length-append}
 use Rattle.ion_text_out.specs.Writing.{shown}
 use Rattle.ion_text_out.proofs.Plain.{behind_end-short, closing-short}
@@ -20,3 +21,9 @@ put_mark-requires-2 g c =
       ap length (c.behind_end.ensures c.args.empty),
       behind_end-short cs,
     )
+
+pub returns-clause-declines : goal.returns-clause-declines
+returns-clause-declines g c = grind (arith, common_steps)
+
+pub returns-then-room-lt2-clause-puts : goal.returns-then-room-lt2-clause-puts
+returns-then-room-lt2-clause-puts g c = grind (arith, common_steps)

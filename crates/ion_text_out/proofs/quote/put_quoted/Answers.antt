@@ -1,3 +1,5 @@
+use Rattle.std.proofs.Common.{arith}
+use Rattle.std.proofs.lemmas.Grind.{common_steps}
 use Rattle.ion_meter.proofs.Putting.{put_cut, put_then}
 use Rattle.ion_text_out.proofs.quote.put_quoted.Goals as goal
 
@@ -9,3 +11,6 @@ returns-in-Err-put_inside g c = put_then c.in_default.is c.put.ensures (put_cut 
 
 pub returns : goal.returns
 returns g c = put_then c.in_default.is c.put.ensures (put_then c.in_default-put_inside.is c.put_inside.ensures c.put-2.ensures)
+
+pub put-requires-2 : goal.put-requires-2
+put-requires-2 g c = grind (arith, common_steps)

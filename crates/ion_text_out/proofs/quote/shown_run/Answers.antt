@@ -1,4 +1,5 @@
 use Rattle.std.proofs.Common.{arith}
+use Rattle.std.proofs.lemmas.Grind.{common_steps}
 use Rattle.std.proofs.lemmas.List.{take_rest}
 use Rattle.ion_text_out.specs.Escape.{is_shown}
 use Rattle.ion_text_out.proofs.ShownRuns.{over_block, to_hidden}
@@ -28,3 +29,9 @@ pub returns-clause-shown : goal.returns-clause-shown
 returns-clause-shown c =
     let few = rw (take_rest c.args.bytes.now c.skip.at) at c.few_shown.ensures.shown in
     all_behind (is_shown c.args.quote c.args.top) c.args.bytes.now c.skip.at c.few_shown.result c.skip.invariant.shown few
+
+pub returns-clause-ends : goal.returns-clause-ends
+returns-clause-ends c = grind (arith, common_steps)
+
+pub returns-clause-within : goal.returns-clause-within
+returns-clause-within c = grind (arith, common_steps)

@@ -1,3 +1,5 @@
+use Rattle.std.proofs.Common.{arith}
+use Rattle.std.proofs.lemmas.Grind.{common_steps}
 use Rattle.ion_meter.proofs.Putting.{put_cut, put_then}
 use Rattle.ion_text_out.proofs.scalar.put_clob.Goals as goal
 
@@ -6,3 +8,9 @@ returns-in-Err g c = put_cut _ c.in-Err.is c.put.ensures
 
 pub returns-in-Err-put_quoted : goal.returns-in-Err-put_quoted
 returns-in-Err-put_quoted g c = put_then c.in_default.is c.put.ensures (put_cut _ c.in-Err-put_quoted.is c.put_quoted.ensures)
+
+pub returns : goal.returns
+returns g c = put_then c.in_default.is c.put.ensures (put_then c.in_default-put_quoted.is c.put_quoted.ensures c.put-2.ensures)
+
+pub put-requires-2 : goal.put-requires-2
+put-requires-2 g c = grind (arith, common_steps)

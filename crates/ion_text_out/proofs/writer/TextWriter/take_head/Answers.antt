@@ -1,4 +1,5 @@
-use Rattle.std.proofs.Common.{eqb, not, refl, ap, subst, length}
+use Rattle.std.proofs.Common.{eqb, not, refl, ap, subst, length, arith}
+use Rattle.std.proofs.lemmas.Grind.{common_steps}
 use Rattle.std.specs.Prelude.{IfSome}
 use Rattle.ion_value.specs.Items.{raw_head, symbol_at}
 use Rattle.ion_value.specs.PlainItems.{IsTextOf}
@@ -59,3 +60,120 @@ returns-in-Some-clause-puts g c e =
     let a = c.args in
     let spelled : IfSome a.spelled (λ text. IsTextOf text.now (raw_head a.head)) = c.requires.spelled in
     puts_same a.sink.now _ _ _ (c.take_text.ensures.puts e) (spelled_put (shown a.self.now.kinds a.self.now.empty) (spelled_by (not (eqb g.row.SPELLS 0)) a.name.now) (spelled_by (not (eqb g.row.SPELLS 0)) a.note.now) c.in-Some.text.now (raw_head a.head) (rw c.in-Some.is at spelled))
+
+pub returns-in-Timestamp-clause-declines : goal.returns-in-Timestamp-clause-declines
+returns-in-Timestamp-clause-declines g c = grind (arith, common_steps)
+
+pub returns-in-Symbol-clause-declines : goal.returns-in-Symbol-clause-declines
+returns-in-Symbol-clause-declines g c = grind (arith, common_steps)
+
+pub returns-in-Null-clause-declines : goal.returns-in-Null-clause-declines
+returns-in-Null-clause-declines g c = grind (arith, common_steps)
+
+pub returns-in-Bool-clause-declines : goal.returns-in-Bool-clause-declines
+returns-in-Bool-clause-declines g c = grind (arith, common_steps)
+
+pub returns-in-String-clause-declines : goal.returns-in-String-clause-declines
+returns-in-String-clause-declines g c = grind (arith, common_steps)
+
+pub returns-in-Decimal-clause-declines : goal.returns-in-Decimal-clause-declines
+returns-in-Decimal-clause-declines g c = grind (arith, common_steps)
+
+pub returns-in-Int-clause-declines : goal.returns-in-Int-clause-declines
+returns-in-Int-clause-declines g c = grind (arith, common_steps)
+
+pub take_timestamp-requires : goal.take_timestamp-requires
+take_timestamp-requires g c = grind (arith, common_steps)
+
+pub returns-in-Some-clause-declines : goal.returns-in-Some-clause-declines
+returns-in-Some-clause-declines g c = grind (arith, common_steps)
+
+pub returns-in-End-clause-puts : goal.returns-in-End-clause-puts
+returns-in-End-clause-puts g c = grind (arith, common_steps)
+
+pub returns-in-Symbol-clause-opens : goal.returns-in-Symbol-clause-opens
+returns-in-Symbol-clause-opens g c = grind (arith, common_steps)
+
+pub returns-in_default-head-clause-puts : goal.returns-in_default-head-clause-puts
+returns-in_default-head-clause-puts g c = grind (arith, common_steps)
+
+pub returns-in-String-clause-opens : goal.returns-in-String-clause-opens
+returns-in-String-clause-opens g c = grind (arith, common_steps)
+
+pub returns-in-Bool-clause-opens : goal.returns-in-Bool-clause-opens
+returns-in-Bool-clause-opens g c = grind (arith, common_steps)
+
+pub returns-in-Timestamp-clause-opens : goal.returns-in-Timestamp-clause-opens
+returns-in-Timestamp-clause-opens g c = grind (arith, common_steps)
+
+pub take_decimal-requires : goal.take_decimal-requires
+take_decimal-requires g c = grind (arith, common_steps)
+
+pub returns-in-Null-clause-opens : goal.returns-in-Null-clause-opens
+returns-in-Null-clause-opens g c = grind (arith, common_steps)
+
+pub returns-in-Begin-clause-opens : goal.returns-in-Begin-clause-opens
+returns-in-Begin-clause-opens g c = grind (arith, common_steps)
+
+pub returns-in-Decimal-clause-opens : goal.returns-in-Decimal-clause-opens
+returns-in-Decimal-clause-opens g c = grind (arith, common_steps)
+
+pub returns-in-Int-clause-opens : goal.returns-in-Int-clause-opens
+returns-in-Int-clause-opens g c = grind (arith, common_steps)
+
+pub returns-in-End-clause-opens : goal.returns-in-End-clause-opens
+returns-in-End-clause-opens g c = grind (arith, common_steps)
+
+pub returns-in_default-head-clause-declines : goal.returns-in_default-head-clause-declines
+returns-in_default-head-clause-declines g c = grind (arith, common_steps)
+
+pub returns-in-Begin-clause-counted : goal.returns-in-Begin-clause-counted
+returns-in-Begin-clause-counted g c = grind (arith, common_steps)
+
+pub returns-in-Begin-clause-stepped : goal.returns-in-Begin-clause-stepped
+returns-in-Begin-clause-stepped g c = grind (arith, common_steps)
+
+pub returns-in-End-clause-counted : goal.returns-in-End-clause-counted
+returns-in-End-clause-counted g c = grind (arith, common_steps)
+
+pub returns-in-End-clause-stepped : goal.returns-in-End-clause-stepped
+returns-in-End-clause-stepped g c = grind (arith, common_steps)
+
+pub returns-in_default-head-clause-stepped : goal.returns-in_default-head-clause-stepped
+returns-in_default-head-clause-stepped g c = grind (arith, common_steps)
+
+pub returns-in-Symbol-clause-counted : goal.returns-in-Symbol-clause-counted
+returns-in-Symbol-clause-counted g c = grind (arith, common_steps)
+
+pub returns-in_default-head-clause-opens : goal.returns-in_default-head-clause-opens
+returns-in_default-head-clause-opens g c = grind (arith, common_steps)
+
+pub returns-in-Bool-clause-counted : goal.returns-in-Bool-clause-counted
+returns-in-Bool-clause-counted g c = grind (arith, common_steps)
+
+pub returns-in-Null-clause-counted : goal.returns-in-Null-clause-counted
+returns-in-Null-clause-counted g c = grind (arith, common_steps)
+
+pub returns-in-String-clause-counted : goal.returns-in-String-clause-counted
+returns-in-String-clause-counted g c = grind (arith, common_steps)
+
+pub returns-in-Timestamp-clause-counted : goal.returns-in-Timestamp-clause-counted
+returns-in-Timestamp-clause-counted g c = grind (arith, common_steps)
+
+pub returns-in-Decimal-clause-counted : goal.returns-in-Decimal-clause-counted
+returns-in-Decimal-clause-counted g c = grind (arith, common_steps)
+
+pub returns-in-Int-clause-counted : goal.returns-in-Int-clause-counted
+returns-in-Int-clause-counted g c = grind (arith, common_steps)
+
+pub returns-in-Some-clause-counted : goal.returns-in-Some-clause-counted
+returns-in-Some-clause-counted g c = grind (arith, common_steps)
+
+pub take_begin-requires-clause-can_step : goal.take_begin-requires-clause-can_step
+take_begin-requires-clause-can_step g c = grind (arith, common_steps)
+
+pub returns-in_default-head-clause-counted : goal.returns-in_default-head-clause-counted
+returns-in_default-head-clause-counted g c = grind (arith, common_steps)
+
+pub take_end-requires : goal.take_end-requires
+take_end-requires g c = grind (arith, common_steps)

@@ -1,4 +1,5 @@
-use Rattle.std.proofs.Common.{sym, ap, ◌∙◌}
+use Rattle.std.proofs.Common.{sym, ap, ◌∙◌, arith}
+use Rattle.std.proofs.lemmas.Grind.{common_steps}
 use Rattle.std.proofs.lemmas.Bool.{and_parts}
 use Rattle.ion_value.specs.PlainItems.{placed_item}
 use Rattle.ion_text_out.specs.Lane.{are_said_simple, notes_in, spelling, symbols_in}
@@ -49,3 +50,120 @@ returns-clause-puts g c e path stands continues =
     let notes = c.notes_in-note.ensures.text ∙ as_they_stand item.annotation item.second c.requires.simple.annotation c.requires.simple.second (sym c.notes_in-note.ensures.simple ∙ said.1) in
     adds_here w.limits w.kinds w.empty path item _ _ _ stands.1 (ap (λ s. s.pending) (c.take_head.ensures.puts e))
     (item_put (shown w.kinds w.empty) item c.text_in-name.result.0.now c.notes_in-note.result.0.now c.requires.simple.second name notes)
+
+pub returns-then-not-both-clause-stands : goal.returns-then-not-both-clause-stands
+returns-then-not-both-clause-stands g c = grind (arith, common_steps)
+
+pub returns-clause-stands : goal.returns-clause-stands
+returns-clause-stands g c = grind (arith, common_steps)
+
+pub returns-clause-device : goal.returns-clause-device
+returns-clause-device g c = grind (arith, common_steps)
+
+pub returns-then-not-has_spelling-2-clause-puts : goal.returns-then-not-has_spelling-2-clause-puts
+returns-then-not-has_spelling-2-clause-puts g c = grind (arith, common_steps)
+
+pub returns-then-not-both-clause-charges : goal.returns-then-not-both-clause-charges
+returns-then-not-both-clause-charges g c = grind (arith, common_steps)
+
+pub returns-then-not-both-clause-same : goal.returns-then-not-both-clause-same
+returns-then-not-both-clause-same g c = grind (arith, common_steps)
+
+pub returns-then-not-has_spelling-clause-puts : goal.returns-then-not-has_spelling-clause-puts
+returns-then-not-has_spelling-clause-puts g c = grind (arith, common_steps)
+
+pub returns-then-not-both-clause-sound : goal.returns-then-not-both-clause-sound
+returns-then-not-both-clause-sound g c = grind (arith, common_steps)
+
+pub returns-then-not-has_spelling-2-clause-declines : goal.returns-then-not-has_spelling-2-clause-declines
+returns-then-not-has_spelling-2-clause-declines g c = grind (arith, common_steps)
+
+pub returns-clause-charges : goal.returns-clause-charges
+returns-clause-charges g c = grind (arith, common_steps)
+
+pub returns-then-not-has_spelling-clause-declines : goal.returns-then-not-has_spelling-clause-declines
+returns-then-not-has_spelling-clause-declines g c = grind (arith, common_steps)
+
+pub returns-then-not-both-clause-counted : goal.returns-then-not-both-clause-counted
+returns-then-not-both-clause-counted g c = grind (arith, common_steps)
+
+pub returns-then-is_some-clause-declines : goal.returns-then-is_some-clause-declines
+returns-then-is_some-clause-declines g c = grind (arith, common_steps)
+
+pub returns-clause-sound : goal.returns-clause-sound
+returns-clause-sound g c = grind (arith, common_steps)
+
+pub returns-clause-same : goal.returns-clause-same
+returns-clause-same g c = grind (arith, common_steps)
+
+pub returns-then-not-has_spelling-2-clause-device : goal.returns-then-not-has_spelling-2-clause-device
+returns-then-not-has_spelling-2-clause-device g c = grind (arith, common_steps)
+
+pub returns-then-not-has_spelling-clause-device : goal.returns-then-not-has_spelling-clause-device
+returns-then-not-has_spelling-clause-device g c = grind (arith, common_steps)
+
+pub returns-clause-counted : goal.returns-clause-counted
+returns-clause-counted g c = grind (arith, common_steps)
+
+pub take_quoted_names-requires-clause-spelled : goal.take_quoted_names-requires-clause-spelled
+take_quoted_names-requires-clause-spelled g c = grind (arith, common_steps)
+
+pub returns-then-is_some-clause-device : goal.returns-then-is_some-clause-device
+returns-then-is_some-clause-device g c = grind (arith, common_steps)
+
+pub take_quoted_names-requires-clause-can_step : goal.take_quoted_names-requires-clause-can_step
+take_quoted_names-requires-clause-can_step g c = grind (arith, common_steps)
+
+pub returns-then-not-has_spelling-2-clause-stands : goal.returns-then-not-has_spelling-2-clause-stands
+returns-then-not-has_spelling-2-clause-stands g c = grind (arith, common_steps)
+
+pub returns-then-is_some-clause-puts : goal.returns-then-is_some-clause-puts
+returns-then-is_some-clause-puts g c = grind (arith, common_steps)
+
+pub returns-then-not-has_spelling-clause-stands : goal.returns-then-not-has_spelling-clause-stands
+returns-then-not-has_spelling-clause-stands g c = grind (arith, common_steps)
+
+pub returns-then-not-has_spelling-2-clause-sound : goal.returns-then-not-has_spelling-2-clause-sound
+returns-then-not-has_spelling-2-clause-sound g c = grind (arith, common_steps)
+
+pub returns-then-not-has_spelling-2-clause-same : goal.returns-then-not-has_spelling-2-clause-same
+returns-then-not-has_spelling-2-clause-same g c = grind (arith, common_steps)
+
+pub returns-then-not-has_spelling-2-clause-charges : goal.returns-then-not-has_spelling-2-clause-charges
+returns-then-not-has_spelling-2-clause-charges g c = grind (arith, common_steps)
+
+pub returns-then-not-has_spelling-clause-same : goal.returns-then-not-has_spelling-clause-same
+returns-then-not-has_spelling-clause-same g c = grind (arith, common_steps)
+
+pub returns-then-not-has_spelling-clause-sound : goal.returns-then-not-has_spelling-clause-sound
+returns-then-not-has_spelling-clause-sound g c = grind (arith, common_steps)
+
+pub returns-then-not-has_spelling-2-clause-counted : goal.returns-then-not-has_spelling-2-clause-counted
+returns-then-not-has_spelling-2-clause-counted g c = grind (arith, common_steps)
+
+pub returns-then-not-has_spelling-clause-charges : goal.returns-then-not-has_spelling-clause-charges
+returns-then-not-has_spelling-clause-charges g c = grind (arith, common_steps)
+
+pub returns-then-is_some-clause-stands : goal.returns-then-is_some-clause-stands
+returns-then-is_some-clause-stands g c = grind (arith, common_steps)
+
+pub take_head-requires-clause-spelled : goal.take_head-requires-clause-spelled
+take_head-requires-clause-spelled g c = grind (arith, common_steps)
+
+pub returns-then-not-has_spelling-clause-counted : goal.returns-then-not-has_spelling-clause-counted
+returns-then-not-has_spelling-clause-counted g c = grind (arith, common_steps)
+
+pub returns-then-is_some-clause-same : goal.returns-then-is_some-clause-same
+returns-then-is_some-clause-same g c = grind (arith, common_steps)
+
+pub returns-then-is_some-clause-sound : goal.returns-then-is_some-clause-sound
+returns-then-is_some-clause-sound g c = grind (arith, common_steps)
+
+pub returns-then-is_some-clause-charges : goal.returns-then-is_some-clause-charges
+returns-then-is_some-clause-charges g c = grind (arith, common_steps)
+
+pub take_head-requires-clause-can_step : goal.take_head-requires-clause-can_step
+take_head-requires-clause-can_step g c = grind (arith, common_steps)
+
+pub returns-then-is_some-clause-counted : goal.returns-then-is_some-clause-counted
+returns-then-is_some-clause-counted g c = grind (arith, common_steps)

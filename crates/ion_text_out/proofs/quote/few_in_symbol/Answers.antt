@@ -1,0 +1,12 @@
+use Rattle.std.proofs.Common.{arith}
+use Rattle.std.proofs.lemmas.Grind.{common_steps}
+use Rattle.ion_text_out.proofs.quote.few_in_symbol.Goals as goal
+
+pub returns-then-not-is_symbol_byte : goal.returns-then-not-is_symbol_byte
+returns-then-not-is_symbol_byte c = grind (arith, common_steps)
+
+pub bytes-preserved : goal.bytes-preserved
+bytes-preserved c = grind (arith, common_steps)
+
+pub returns : goal.returns
+returns c = grind (arith, common_steps)

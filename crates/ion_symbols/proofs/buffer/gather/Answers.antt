@@ -286,3 +286,12 @@ returns-clause-causes g c = grind (arith, common_steps)
 
 pub returns-clause-charges : goal.returns-clause-charges
 returns-clause-charges g c = grind (arith, common_steps)
+
+pub returns-in-Err-take-clause-gathered : goal.returns-in-Err-take-clause-gathered
+returns-in-Err-take-clause-gathered g c = grind (arith, common_steps)
+
+pub returns-in-Err-clause-gathered : goal.returns-in-Err-clause-gathered
+returns-in-Err-clause-gathered g c = grind (arith, common_steps)
+
+pub take-requires-clause-kept : goal.take-requires-clause-kept
+take-requires-clause-kept g c = grind (arith, common_steps)

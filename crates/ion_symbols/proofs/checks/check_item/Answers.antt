@@ -1,4 +1,5 @@
-use Rattle.std.proofs.Common.{Err, sym, ◌∙◌}
+use Rattle.std.proofs.lemmas.Grind.{common_steps}
+use Rattle.std.proofs.Common.{Err, sym, ◌∙◌, arith}
 use Rattle.ion_value.specs.Items.{raw_annotations, raw_field, raw_head, raw_item}
 use Rattle.ion_symbols.specs.Users.{or_else, field_checked, annotations_checked, head_checked}
 use Rattle.ion_symbols.proofs.Checking.{or_bad, or_fine, item_checked, plain_annotations, plain_head}
@@ -23,3 +24,6 @@ returns g c =
     (or_fine (field_checked t c.args.user (raw_field c.field.result)) (or_else (annotations_checked t c.args.user (raw_annotations c.annotations.result)) (head_checked t c.args.user (raw_head c.head.result)))
     c.check_head.result c.in_default.ensures
     (or_fine (annotations_checked t c.args.user (raw_annotations c.annotations.result)) (head_checked t c.args.user (raw_head c.head.result)) c.check_head.result c.in_default-check_annotations.ensures c.check_head.ensures))
+
+pub returns-in-Err : goal.returns-in-Err
+returns-in-Err g c = grind (arith, common_steps)

@@ -1,3 +1,4 @@
+use Rattle.std.proofs.lemmas.Grind.{common_steps}
 use Rattle.std.proofs.Common.{refl, arith}
 use Rattle.ion_symbols.proofs.Adding.{charges_within, given_over, given_push, nothing_charged, share_push}
 use Rattle.ion_symbols.proofs.KeptTexts.{same_share}
@@ -57,3 +58,9 @@ returns-in-Err-clause-over g c over = let f = c.is_over.ensures.fits c.if-is_ove
 
 pub returns-in-Err-clause-grows : goal.returns-in-Err-clause-grows
 returns-in-Err-clause-grows g c id e = absurd (err-not-ok _ _ e)
+
+pub returns-in-Err-clause-kept : goal.returns-in-Err-clause-kept
+returns-in-Err-clause-kept g c = grind (arith, common_steps)
+
+pub returns-in-Err-clause-order : goal.returns-in-Err-clause-order
+returns-in-Err-clause-order g c = grind (arith, common_steps)

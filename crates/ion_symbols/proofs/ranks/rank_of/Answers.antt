@@ -1,3 +1,4 @@
+use Rattle.std.proofs.lemmas.Grind.{common_steps}
 use Rattle.std.proofs.Common.{◌+◌, ◌-◌, ◌/◌, ◌<◌, ◌≡◌, length, arith}
 use Rattle.std.proofs.lemmas.List.{length-drop, length-map}
 use Rattle.ion_symbols.specs.Ranks.{key_of}
@@ -64,3 +65,6 @@ offset_bounds-tables-order g c =
     let l : middle < length c.args.order.now = omega (arith, c.loop-low-test.true, c.loop-low.invariant.within) in
     let p = place_in c.args.tables.now c.args.order.now middle c.requires l in
     omega (arith, p)
+
+pub overflow_add-low : goal.overflow_add-low
+overflow_add-low g c = grind (arith, common_steps)

@@ -1,4 +1,5 @@
-use Rattle.std.proofs.Common.{◌≡◌, ◌-◌, ℕ, List, length, take, drop, min, ap, sym, ◌∙◌, length-take}
+use Rattle.std.proofs.lemmas.Grind.{common_steps}
+use Rattle.std.proofs.Common.{◌≡◌, ◌-◌, ℕ, List, length, take, drop, min, ap, sym, ◌∙◌, length-take, arith}
 use Rattle.std.proofs.lemmas.List.{take_rest}
 use Rattle.std.proofs.lemmas.Slice.Eq.{bytes_eq-Decides}
 use Rattle.ion_symbols.proofs.SameEnds.{same-sixteens, tells}
@@ -19,3 +20,12 @@ returns-then-are_same_eights c =
     (λ e. same-sixteens t o c.requires.least c.requires.most ((bytes_eq-Decides (take 16 t) (take 16 o)).0 (sym c.are_same_eights.ensures ∙ c.if-are_same_eights.true))
     (sym tail_t ∙ (told.0 (sym c.are_same_eights-then-are_same_eights.ensures ∙ e) ∙ tail_o)))
     (λ e. c.are_same_eights-then-are_same_eights.ensures ∙ told.1 (tail_t ∙ (ap (drop last) e ∙ sym tail_o)))
+
+pub are_same_eights-requires-clause-least : goal.are_same_eights-requires-clause-least
+are_same_eights-requires-clause-least c = grind (arith, common_steps)
+
+pub are_same_eights-requires-clause-most : goal.are_same_eights-requires-clause-most
+are_same_eights-requires-clause-most c = grind (arith, common_steps)
+
+pub are_same_eights-requires-then-are_same_eights-clause-same : goal.are_same_eights-requires-then-are_same_eights-clause-same
+are_same_eights-requires-then-are_same_eights-clause-same c = grind (arith, common_steps)

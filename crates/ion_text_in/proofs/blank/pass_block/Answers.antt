@@ -110,3 +110,27 @@ block-smaller g c = grind (arith, common_steps) steps 400000
 
 pub returns-in-Err-pass_star-clause-plain : goal.returns-in-Err-pass_star-clause-plain
 returns-in-Err-pass_star-clause-plain g c = grind (arith, common_steps)
+
+pub returns-in-Err-clause-plain : goal.returns-in-Err-clause-plain
+returns-in-Err-clause-plain g c = grind (arith, common_steps)
+
+pub returns-in-Ok-None-clause-plain : goal.returns-in-Ok-None-clause-plain
+returns-in-Ok-None-clause-plain g c = grind (arith, common_steps)
+
+pub returns-in-Ok-true-clause-open : goal.returns-in-Ok-true-clause-open
+returns-in-Ok-true-clause-open g c = grind (arith, common_steps)
+
+pub returns-in-Err-pass_star-clause-open : goal.returns-in-Err-pass_star-clause-open
+returns-in-Err-pass_star-clause-open g c = grind (arith, common_steps)
+
+pub returns-in-Err-pass_star-clause-closed : goal.returns-in-Err-pass_star-clause-closed
+returns-in-Err-pass_star-clause-closed g c = grind (arith, common_steps)
+
+pub returns-in-Ok-true-clause-used_up : goal.returns-in-Ok-true-clause-used_up
+returns-in-Ok-true-clause-used_up g c = grind (arith, common_steps)
+
+pub returns-in-Err-pass_star-clause-used_up : goal.returns-in-Err-pass_star-clause-used_up
+returns-in-Err-pass_star-clause-used_up g c = grind (arith, common_steps)
+
+pub block-smaller-in-Ok-false : goal.block-smaller-in-Ok-false
+block-smaller-in-Ok-false g c = grind (arith, common_steps)

@@ -138,3 +138,6 @@ returns-in-Err-next_comment-clause-plain g c = grind (arith, common_steps) steps
 
 pub returns-in-Ok-None-clause-plain : goal.returns-in-Ok-None-clause-plain
 returns-in-Ok-None-clause-plain g c = grind (arith, common_steps) steps 400000
+
+pub returns-in-Ok-false-clause-used_up : goal.returns-in-Ok-false-clause-used_up
+returns-in-Ok-false-clause-used_up g c = grind (arith, common_steps)

@@ -69,3 +69,9 @@ returns-in-Ok-None-clause-reads g c = grind (arith, common_steps) steps 400000
 
 pub returns-then-line-bytes-clause-plain : goal.returns-then-line-bytes-clause-plain
 returns-then-line-bytes-clause-plain g c = grind (arith, common_steps) steps 400000
+
+pub returns-in-Err-clause-plain : goal.returns-in-Err-clause-plain
+returns-in-Err-clause-plain g c = grind (arith, common_steps)
+
+pub returns-in-Ok-None-clause-plain : goal.returns-in-Ok-None-clause-plain
+returns-in-Ok-None-clause-plain g c = grind (arith, common_steps)

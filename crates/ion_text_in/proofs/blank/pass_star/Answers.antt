@@ -49,3 +49,9 @@ returns-in-Err-clause-reads g c = grind (arith, common_steps) steps 400000
 
 pub returns-clause-plain : goal.returns-clause-plain
 returns-clause-plain g c = grind (arith, common_steps) steps 400000
+
+pub consume-requires : goal.consume-requires
+consume-requires g c = grind (arith, common_steps)
+
+pub returns-in-Err-clause-plain : goal.returns-in-Err-clause-plain
+returns-in-Err-clause-plain g c = grind (arith, common_steps)

@@ -19,3 +19,12 @@ returns-in_default-clause-falls g c = grind (arith, common_steps) steps 400000
 
 pub returns-in-Begin-clause-goes : goal.returns-in-Begin-clause-goes
 returns-in-Begin-clause-goes g c = grind (arith, common_steps) steps 400000
+
+pub returns-in-Begin-clause-moved : goal.returns-in-Begin-clause-moved
+returns-in-Begin-clause-moved g c = grind (arith, common_steps)
+
+pub overflow_sub-end : goal.overflow_sub-end
+overflow_sub-end g c = grind (arith, common_steps)
+
+pub begin-more-requires-clause-begins : goal.begin-more-requires-clause-begins
+begin-more-requires-clause-begins g c = grind (arith, common_steps)

@@ -116,3 +116,24 @@ returns-then-not-push_within-clause-falls g c = grind (arith, common_steps) step
 
 pub returns-then-from-as_slice-clause-falls : goal.returns-then-from-as_slice-clause-falls
 returns-then-from-as_slice-clause-falls g c = grind (arith, common_steps) steps 400000
+
+pub take_plain-requires-clause-simple : goal.take_plain-requires-clause-simple
+take_plain-requires-clause-simple g c = grind (arith, common_steps)
+
+pub take_plain-requires-clause-plain : goal.take_plain-requires-clause-plain
+take_plain-requires-clause-plain g c = grind (arith, common_steps)
+
+pub take_plain-requires-clause-spelled : goal.take_plain-requires-clause-spelled
+take_plain-requires-clause-spelled g c = grind (arith, common_steps)
+
+pub take_plain-requires-clause-well : goal.take_plain-requires-clause-well
+take_plain-requires-clause-well g c = grind (arith, common_steps)
+
+pub overflow_sub-place : goal.overflow_sub-place
+overflow_sub-place g c = grind (arith, common_steps)
+
+pub take_plain-requires-clause-fresh : goal.take_plain-requires-clause-fresh
+take_plain-requires-clause-fresh g c = grind (arith, common_steps)
+
+pub take_plain-requires-clause-sound : goal.take_plain-requires-clause-sound
+take_plain-requires-clause-sound g c = grind (arith, common_steps)

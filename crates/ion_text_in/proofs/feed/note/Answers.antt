@@ -21,3 +21,6 @@ returns-in-None-clause-falls g c = grind (arith, common_steps) steps 400000
 
 pub returns-in-Some-clause-goes : goal.returns-in-Some-clause-goes
 returns-in-Some-clause-goes g c = grind (arith, common_steps) steps 400000
+
+pub returns-in-Some-clause-moved : goal.returns-in-Some-clause-moved
+returns-in-Some-clause-moved g c = grind (arith, common_steps)

@@ -58,3 +58,21 @@ returns-in-None-clause-goes g c = grind (arith, common_steps) steps 400000
 
 pub returns-in_default-clause-goes : goal.returns-in_default-clause-goes
 returns-in_default-clause-goes g c = grind (arith, common_steps) steps 400000
+
+pub returns-in-None-clause-moved : goal.returns-in-None-clause-moved
+returns-in-None-clause-moved g c = grind (arith, common_steps)
+
+pub scalar-requires-in-Some-exponent-clause-start : goal.scalar-requires-in-Some-exponent-clause-start
+scalar-requires-in-Some-exponent-clause-start g c = grind (arith, common_steps)
+
+pub returns-in_default-clause-moved : goal.returns-in_default-clause-moved
+returns-in_default-clause-moved g c = grind (arith, common_steps)
+
+pub scalar-requires-clause-start : goal.scalar-requires-clause-start
+scalar-requires-clause-start g c = grind (arith, common_steps)
+
+pub scalar-requires-in-Some-exponent-clause-can : goal.scalar-requires-in-Some-exponent-clause-can
+scalar-requires-in-Some-exponent-clause-can g c = grind (arith, common_steps)
+
+pub scalar-requires-clause-can : goal.scalar-requires-clause-can
+scalar-requires-clause-can g c = grind (arith, common_steps)

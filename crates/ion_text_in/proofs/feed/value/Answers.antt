@@ -66,3 +66,72 @@ returns-in_default-clause-falls g c = grind (arith, common_steps) steps 400000
 
 pub returns-in-Some-Begin-clause-goes : goal.returns-in-Some-Begin-clause-goes
 returns-in-Some-Begin-clause-goes g c = grind (arith, common_steps) steps 400000
+
+pub returns-in-Some-String-clause-moved : goal.returns-in-Some-String-clause-moved
+returns-in-Some-String-clause-moved g c = grind (arith, common_steps)
+
+pub overflow_sub-place : goal.overflow_sub-place
+overflow_sub-place g c = grind (arith, common_steps)
+
+pub begin-requires-clause-found : goal.begin-requires-clause-found
+begin-requires-clause-found g c = grind (arith, common_steps)
+
+pub quoted_value-requires-clause-first : goal.quoted_value-requires-clause-first
+quoted_value-requires-clause-first g c = grind (arith, common_steps)
+
+pub begin-requires-clause-start : goal.begin-requires-clause-start
+begin-requires-clause-start g c = grind (arith, common_steps)
+
+pub string-requires-clause-first : goal.string-requires-clause-first
+string-requires-clause-first g c = grind (arith, common_steps)
+
+pub word-requires-clause-first : goal.word-requires-clause-first
+word-requires-clause-first g c = grind (arith, common_steps)
+
+pub number-requires-clause-first : goal.number-requires-clause-first
+number-requires-clause-first g c = grind (arith, common_steps)
+
+pub quoted_value-requires-clause-start : goal.quoted_value-requires-clause-start
+quoted_value-requires-clause-start g c = grind (arith, common_steps)
+
+pub begin-requires-clause-can : goal.begin-requires-clause-can
+begin-requires-clause-can g c = grind (arith, common_steps)
+
+pub begin_head-found-requires-clause-first : goal.begin_head-found-requires-clause-first
+begin_head-found-requires-clause-first g c = grind (arith, common_steps)
+
+pub string-requires-clause-start : goal.string-requires-clause-start
+string-requires-clause-start g c = grind (arith, common_steps)
+
+pub word-requires-clause-start : goal.word-requires-clause-start
+word-requires-clause-start g c = grind (arith, common_steps)
+
+pub begin-requires-clause-begins : goal.begin-requires-clause-begins
+begin-requires-clause-begins g c = grind (arith, common_steps)
+
+pub number-requires-clause-start : goal.number-requires-clause-start
+number-requires-clause-start g c = grind (arith, common_steps)
+
+pub quoted_value-requires-clause-can : goal.quoted_value-requires-clause-can
+quoted_value-requires-clause-can g c = grind (arith, common_steps)
+
+pub string-requires-clause-can : goal.string-requires-clause-can
+string-requires-clause-can g c = grind (arith, common_steps)
+
+pub word-requires-clause-can : goal.word-requires-clause-can
+word-requires-clause-can g c = grind (arith, common_steps)
+
+pub quoted_value-requires-clause-bare : goal.quoted_value-requires-clause-bare
+quoted_value-requires-clause-bare g c = grind (arith, common_steps)
+
+pub number-requires-clause-can : goal.number-requires-clause-can
+number-requires-clause-can g c = grind (arith, common_steps)
+
+pub word-requires-clause-bare : goal.word-requires-clause-bare
+word-requires-clause-bare g c = grind (arith, common_steps)
+
+pub begin_head-found-requires-clause-some : goal.begin_head-found-requires-clause-some
+begin_head-found-requires-clause-some g c = grind (arith, common_steps)
+
+pub begin_head-found-requires-clause-bare : goal.begin_head-found-requires-clause-bare
+begin_head-found-requires-clause-bare g c = grind (arith, common_steps)

@@ -79,3 +79,54 @@ returns-in-None-clause-goes g c = grind (arith, common_steps) steps 400000
 
 pub returns-in_default-clause-falls : goal.returns-in_default-clause-falls
 returns-in_default-clause-falls g c = grind (arith, common_steps) steps 400000
+
+pub returns-in-Whole-Bool-default-clause-moved : goal.returns-in-Whole-Bool-default-clause-moved
+returns-in-Whole-Bool-default-clause-moved g c = grind (arith, common_steps)
+
+pub returns-in-Whole-Null-default-clause-moved : goal.returns-in-Whole-Null-default-clause-moved
+returns-in-Whole-Null-default-clause-moved g c = grind (arith, common_steps)
+
+pub returns-in-Some-clause-moved : goal.returns-in-Some-clause-moved
+returns-in-Some-clause-moved g c = grind (arith, common_steps)
+
+pub scalar-requires-clause-whole : goal.scalar-requires-clause-whole
+scalar-requires-clause-whole g c = grind (arith, common_steps)
+
+pub scalar-requires-in-Whole-Bool-default-clause-whole : goal.scalar-requires-in-Whole-Bool-default-clause-whole
+scalar-requires-in-Whole-Bool-default-clause-whole g c = grind (arith, common_steps)
+
+pub scalar-requires-clause-found : goal.scalar-requires-clause-found
+scalar-requires-clause-found g c = grind (arith, common_steps)
+
+pub scalar-requires-in-Whole-Null-default-clause-whole : goal.scalar-requires-in-Whole-Null-default-clause-whole
+scalar-requires-in-Whole-Null-default-clause-whole g c = grind (arith, common_steps)
+
+pub scalar-requires-clause-start : goal.scalar-requires-clause-start
+scalar-requires-clause-start g c = grind (arith, common_steps)
+
+pub scalar-requires-in-Whole-Bool-default-clause-start : goal.scalar-requires-in-Whole-Bool-default-clause-start
+scalar-requires-in-Whole-Bool-default-clause-start g c = grind (arith, common_steps)
+
+pub scalar-requires-clause-can : goal.scalar-requires-clause-can
+scalar-requires-clause-can g c = grind (arith, common_steps)
+
+pub note-requires-clause-start : goal.note-requires-clause-start
+note-requires-clause-start g c = grind (arith, common_steps)
+
+pub scalar-requires-in-Whole-Null-default-clause-start : goal.scalar-requires-in-Whole-Null-default-clause-start
+scalar-requires-in-Whole-Null-default-clause-start g c = grind (arith, common_steps)
+
+pub note-requires-clause-can : goal.note-requires-clause-can
+note-requires-clause-can g c = grind (arith, common_steps)
+
+pub scalar-requires-in-Whole-Bool-default-clause-can : goal.scalar-requires-in-Whole-Bool-default-clause-can
+scalar-requires-in-Whole-Bool-default-clause-can g c = grind (arith, common_steps)
+
+pub note-requires-clause-bare : goal.note-requires-clause-bare
+note-requires-clause-bare g c = grind (arith, common_steps)
+
+pub scalar-requires-in-Whole-Null-default-clause-can : goal.scalar-requires-in-Whole-Null-default-clause-can
+scalar-requires-in-Whole-Null-default-clause-can g c = grind (arith, common_steps)
+
+pub note-requires-clause-first : goal.note-requires-clause-first
+note-requires-clause-first g c = grind (arith, common_steps)

@@ -74,3 +74,12 @@ returns-in-Some-clause-plain g c = grind (arith, common_steps) steps 400000
 
 pub returns-in-Ok-None-clause-wide : goal.returns-in-Ok-None-clause-wide
 returns-in-Ok-None-clause-wide g c = grind (arith, common_steps) steps 400000
+
+pub returns-in-Err-clause-plain : goal.returns-in-Err-clause-plain
+returns-in-Err-clause-plain g c = grind (arith, common_steps)
+
+pub returns-in-Ok-None-clause-plain : goal.returns-in-Ok-None-clause-plain
+returns-in-Ok-None-clause-plain g c = grind (arith, common_steps)
+
+pub ahead-init : goal.ahead-init
+ahead-init g c = grind (arith, common_steps)

@@ -22,3 +22,9 @@ returns-in-Err-clause-goes g c = grind (arith, common_steps) steps 400000
 
 pub returns-clause-appends : goal.returns-clause-appends
 returns-clause-appends g c = grind (arith, common_steps) steps 400000
+
+pub returns-then-limits-as_slice-clause-reads : goal.returns-then-limits-as_slice-clause-reads
+returns-then-limits-as_slice-clause-reads g c = grind (arith, common_steps)
+
+pub slice_bounds-bytes-end : goal.slice_bounds-bytes-end
+slice_bounds-bytes-end g c = grind (arith, common_steps)

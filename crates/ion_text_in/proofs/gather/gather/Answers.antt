@@ -100,3 +100,12 @@ parts-smaller g c = grind (arith, common_steps)
 
 pub returns-in-Err-clause-reads : goal.returns-in-Err-clause-reads
 returns-in-Err-clause-reads g c = grind (arith, common_steps)
+
+pub returns-in-Err-clause-goes : goal.returns-in-Err-clause-goes
+returns-in-Err-clause-goes g c = grind (arith, common_steps)
+
+pub returns-in-Ok-eq0-clause-goes : goal.returns-in-Ok-eq0-clause-goes
+returns-in-Ok-eq0-clause-goes g c = grind (arith, common_steps)
+
+pub parts-init : goal.parts-init
+parts-init g c = grind (arith, common_steps)

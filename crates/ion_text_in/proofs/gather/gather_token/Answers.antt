@@ -36,3 +36,9 @@ returns-clause-goes g c = grind (arith, common_steps) steps 400000
 
 pub returns-in-Err-clause-goes : goal.returns-in-Err-clause-goes
 returns-in-Err-clause-goes g c = grind (arith, common_steps) steps 400000
+
+pub returns-in-Err-clause-reads : goal.returns-in-Err-clause-reads
+returns-in-Err-clause-reads g c = grind (arith, common_steps)
+
+pub returns-clause-fresh : goal.returns-clause-fresh
+returns-clause-fresh g c = grind (arith, common_steps)

@@ -47,3 +47,12 @@ returns-clause-plain g c = grind (arith, common_steps) steps 400000
 
 pub returns-in-Err-clause-reads : goal.returns-in-Err-clause-reads
 returns-in-Err-clause-reads g c = grind (arith, common_steps) steps 400000
+
+pub returns-then-extent-clause-there : goal.returns-then-extent-clause-there
+returns-then-extent-clause-there g c = grind (arith, common_steps)
+
+pub returns-in-Err-clause-plain : goal.returns-in-Err-clause-plain
+returns-in-Err-clause-plain g c = grind (arith, common_steps)
+
+pub returns-in-Ok-None-clause-plain : goal.returns-in-Ok-None-clause-plain
+returns-in-Ok-None-clause-plain g c = grind (arith, common_steps)

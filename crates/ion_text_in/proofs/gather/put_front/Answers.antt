@@ -87,3 +87,6 @@ returns-in-Err-clause-still g c = grind (arith, common_steps) steps 400000
 
 pub returns-in-Err-clause-grown : goal.returns-in-Err-clause-grown
 returns-in-Err-clause-grown g c = grind (arith, common_steps) steps 400000
+
+pub returns-clause-still : goal.returns-clause-still
+returns-clause-still g c = grind (arith, common_steps)

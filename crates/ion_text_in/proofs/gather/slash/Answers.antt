@@ -37,3 +37,6 @@ returns-clause-plain g c = grind (arith, common_steps) steps 400000
 
 pub returns-then-opens_comment-clause-plain : goal.returns-then-opens_comment-clause-plain
 returns-then-opens_comment-clause-plain g c = grind (arith, common_steps) steps 400000
+
+pub returns-in-Err-clause-plain : goal.returns-in-Err-clause-plain
+returns-in-Err-clause-plain g c = grind (arith, common_steps)

@@ -97,3 +97,18 @@ returns-in-Err-pass_opening-clause-reads g c = grind (arith, common_steps)
 
 pub returns-in-Err-clause-reads : goal.returns-in-Err-clause-reads
 returns-in-Err-clause-reads g c = grind (arith, common_steps)
+
+pub returns-in-None-clause-goes : goal.returns-in-None-clause-goes
+returns-in-None-clause-goes g c = grind (arith, common_steps)
+
+pub returns-in-Long-clause-goes : goal.returns-in-Long-clause-goes
+returns-in-Long-clause-goes g c = grind (arith, common_steps)
+
+pub returns-in-Short-clause-goes : goal.returns-in-Short-clause-goes
+returns-in-Short-clause-goes g c = grind (arith, common_steps)
+
+pub returns-in-Err-pass_opening-clause-gives : goal.returns-in-Err-pass_opening-clause-gives
+returns-in-Err-pass_opening-clause-gives g c = grind (arith, common_steps)
+
+pub returns-in-Err-clause-gives : goal.returns-in-Err-clause-gives
+returns-in-Err-clause-gives g c = grind (arith, common_steps)

@@ -50,3 +50,21 @@ returns-in-Err-pass_braces-clause-reads g c = grind (arith, common_steps)
 
 pub returns-clause-reads : goal.returns-clause-reads
 returns-clause-reads g c = grind (arith, common_steps)
+
+pub returns-in-Err-pass_braces-clause-goes : goal.returns-in-Err-pass_braces-clause-goes
+returns-in-Err-pass_braces-clause-goes g c = grind (arith, common_steps)
+
+pub returns-clause-goes : goal.returns-clause-goes
+returns-clause-goes g c = grind (arith, common_steps)
+
+pub returns-in-Err-are_cut_quotes-clause-gives : goal.returns-in-Err-are_cut_quotes-clause-gives
+returns-in-Err-are_cut_quotes-clause-gives g c = grind (arith, common_steps)
+
+pub returns-in-Ok-true-clause-goes : goal.returns-in-Ok-true-clause-goes
+returns-in-Ok-true-clause-goes g c = grind (arith, common_steps)
+
+pub returns-in-Err-are_cut_quotes-clause-goes : goal.returns-in-Err-are_cut_quotes-clause-goes
+returns-in-Err-are_cut_quotes-clause-goes g c = grind (arith, common_steps)
+
+pub returns-in-Err-clause-gives : goal.returns-in-Err-clause-gives
+returns-in-Err-clause-gives g c = grind (arith, common_steps)

@@ -10,3 +10,21 @@ returns-clause-gives g c = grind (arith, common_steps) steps 400000
 
 pub returns-in-Err-pass_white-clause-reads : goal.returns-in-Err-pass_white-clause-reads
 returns-in-Err-pass_white-clause-reads g c = grind (arith, common_steps)
+
+pub returns-clause-reads : goal.returns-clause-reads
+returns-clause-reads g c = grind (arith, common_steps)
+
+pub returns-in-Err-pass_braces-clause-goes : goal.returns-in-Err-pass_braces-clause-goes
+returns-in-Err-pass_braces-clause-goes g c = grind (arith, common_steps)
+
+pub returns-clause-goes : goal.returns-clause-goes
+returns-clause-goes g c = grind (arith, common_steps)
+
+pub returns-in-Err-pass_white-clause-gives : goal.returns-in-Err-pass_white-clause-gives
+returns-in-Err-pass_white-clause-gives g c = grind (arith, common_steps)
+
+pub returns-in-Err-pass_white-clause-goes : goal.returns-in-Err-pass_white-clause-goes
+returns-in-Err-pass_white-clause-goes g c = grind (arith, common_steps)
+
+pub returns-in-Err-pass_braces-clause-reads : goal.returns-in-Err-pass_braces-clause-reads
+returns-in-Err-pass_braces-clause-reads g c = grind (arith, common_steps)

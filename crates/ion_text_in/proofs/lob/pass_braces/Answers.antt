@@ -25,3 +25,6 @@ consume-requires g c = grind (arith, common_steps) steps 400000
 
 pub returns-in-Err-peek-clause-gives : goal.returns-in-Err-peek-clause-gives
 returns-in-Err-peek-clause-gives g c = grind (arith, common_steps) steps 400000
+
+pub returns-in-Err-clause-gives : goal.returns-in-Err-clause-gives
+returns-in-Err-clause-gives g c = grind (arith, common_steps)

@@ -56,3 +56,18 @@ returns-in-Ok-Some-true-clause-reads g c =
     let one = into-held device s t c.pieces.meter c.take_block.new.meter (length c.pieces.text) (length c.take_block.new.text) most (Ok c.in-Ok-Some-true.field-0) c.in-Ok-Some-true.ensures.reads in
     held-into device first t c.args.meter.now c.take_block.new.meter before (length c.take_block.new.text) most (Ok true)
     (held-then device first s t c.args.meter.now c.pieces.meter c.take_block.new.meter before (length c.pieces.text) (length c.take_block.new.text) most None c.requires.can_take.holds held one)
+
+pub returns-in-Err-clause-goes : goal.returns-in-Err-clause-goes
+returns-in-Err-clause-goes g c = grind (arith, common_steps)
+
+pub pieces-smaller : goal.pieces-smaller
+pieces-smaller g c = grind (arith, common_steps)
+
+pub overflow_sub-run : goal.overflow_sub-run
+overflow_sub-run g c = grind (arith, common_steps)
+
+pub take_block-requires-clause-there : goal.take_block-requires-clause-there
+take_block-requires-clause-there g c = grind (arith, common_steps)
+
+pub returns-then-count-eq0-clause-plain : goal.returns-then-count-eq0-clause-plain
+returns-then-count-eq0-clause-plain g c = grind (arith, common_steps)

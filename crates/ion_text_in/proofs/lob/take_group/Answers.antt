@@ -132,3 +132,15 @@ slice_bounds-extend-end g c = grind (arith, common_steps) steps 400000
 
 pub returns-in_default-clause-reads : goal.returns-in_default-clause-reads
 returns-in_default-clause-reads g c = grind (arith, common_steps) steps 400000
+
+pub returns-clause-taken : goal.returns-clause-taken
+returns-clause-taken g c = grind (arith, common_steps)
+
+pub returns-then-count-lt4-clause-taken : goal.returns-then-count-lt4-clause-taken
+returns-then-count-lt4-clause-taken g c = grind (arith, common_steps)
+
+pub extend-requires-clause-countable : goal.extend-requires-clause-countable
+extend-requires-clause-countable g c = grind (arith, common_steps)
+
+pub slice_bounds-bytes-end : goal.slice_bounds-bytes-end
+slice_bounds-bytes-end g c = grind (arith, common_steps)

@@ -87,3 +87,6 @@ overflow_sub-left g c = grind (arith, common_steps) steps 400000
 
 pub returns-then-left-n-clause-plain : goal.returns-then-left-n-clause-plain
 returns-then-left-n-clause-plain g c = grind (arith, common_steps) steps 400000
+
+pub returns-in_default-clause-none : goal.returns-in_default-clause-none
+returns-in_default-clause-none g c = grind (arith, common_steps)

@@ -37,3 +37,12 @@ returns-in-Err-number_of-clause-reads g c = grind (arith, common_steps) steps 40
 
 pub returns-in-Ok-clause-further : goal.returns-in-Ok-clause-further
 returns-in-Ok-clause-further g c = grind (arith, common_steps) steps 400000
+
+pub returns-in-Err-number_of-clause-goes : goal.returns-in-Err-number_of-clause-goes
+returns-in-Err-number_of-clause-goes g c = grind (arith, common_steps)
+
+pub returns-in-Ok-clause-goes : goal.returns-in-Ok-clause-goes
+returns-in-Ok-clause-goes g c = grind (arith, common_steps)
+
+pub returns-in-Err-clause-goes : goal.returns-in-Err-clause-goes
+returns-in-Err-clause-goes g c = grind (arith, common_steps)

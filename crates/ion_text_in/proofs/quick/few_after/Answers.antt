@@ -28,3 +28,6 @@ returns-in-len3 c = grind (arith, common_steps)
 
 pub digit-requires : goal.digit-requires
 digit-requires c = grind (arith, common_steps)
+
+pub returns-in_default : goal.returns-in_default
+returns-in_default c = grind (arith, common_steps)

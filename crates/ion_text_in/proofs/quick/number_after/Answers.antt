@@ -1,3 +1,4 @@
+use Rattle.std.proofs.lemmas.Grind.{common_steps}
 use Rattle.std.proofs.Common.{◌+◌, ◌*◌, ◌^◌, ◌∙◌, arith}
 use Rattle.ion_text_in.proofs.DigitNumbers.{four-digits, four-number, four-room, room-after}
 use Rattle.ion_text_in.proofs.quick.number_after.Goals as goal
@@ -22,3 +23,6 @@ loop-rest-preserved c =
       digits = four-digits _ l.rest.now (omega arith) l.invariant.digits;
       room = room-after l.number (front * 100 + back) _ (2 ^ 64) l.rest.now long (omega arith) (omega (arith, c.pair-front.ensures.small, c.pair-back.ensures.small)) l.invariant.room;
     }
+
+pub loop-rest-smaller : goal.loop-rest-smaller
+loop-rest-smaller c = grind (arith, common_steps)

@@ -21,3 +21,6 @@ quick_mantissa-requires-clause-whole c =
 
 pub slice_bounds-number_by-end : goal.slice_bounds-number_by-end
 slice_bounds-number_by-end c = grind (arith, common_steps) steps 400000
+
+pub number_by-requires-clause-few : goal.number_by-requires-clause-few
+number_by-requires-clause-few c = grind (arith, common_steps)

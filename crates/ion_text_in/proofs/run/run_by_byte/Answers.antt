@@ -43,3 +43,6 @@ returns-in-Some-true-clause-behind c = grind (arith, common_steps) steps 400000
 
 pub returns-in-Some-true-clause-open : goal.returns-in-Some-true-clause-open
 returns-in-Some-true-clause-open c = grind (arith, common_steps) steps 400000
+
+pub returns-in-None-clause-behind : goal.returns-in-None-clause-behind
+returns-in-None-clause-behind c = grind (arith, common_steps)

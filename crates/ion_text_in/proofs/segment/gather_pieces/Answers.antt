@@ -250,3 +250,12 @@ returns-in-Err-put_piece-clause-reads g c =
     let grown = grown-held device u c.take_plain.new.meter c.put_piece.new.meter (length c.take_plain.new.text) (length c.put_piece.new.text) most (Some v) c.in-Ok.ensures.reads.stands c.in-Err-put_piece.ensures.grown in
     held-into device c.args.source.now u c.args.meter.now c.put_piece.new.meter (length c.args.text.now) (length c.put_piece.new.text) most (Err v)
     (held-then device c.args.source.now u u c.args.meter.now c.take_plain.new.meter c.put_piece.new.meter (length c.args.text.now) (length c.take_plain.new.text) (length c.put_piece.new.text) most (Some v) holds three grown)
+
+pub returns-in-Err-clause-goes : goal.returns-in-Err-clause-goes
+returns-in-Err-clause-goes g c = grind (arith, common_steps)
+
+pub returns-in-Err-clause-gives : goal.returns-in-Err-clause-gives
+returns-in-Err-clause-gives g c = grind (arith, common_steps)
+
+pub returns-in-Close-clause-longer : goal.returns-in-Close-clause-longer
+returns-in-Close-clause-longer g c = grind (arith, common_steps)

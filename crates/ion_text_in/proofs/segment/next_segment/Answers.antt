@@ -56,3 +56,15 @@ returns-then-not-is_text-clause-reads g c = grind (arith, common_steps) steps 40
 
 pub slice_bounds-is_text-start : goal.slice_bounds-is_text-start
 slice_bounds-is_text-start g c = grind (arith, common_steps) steps 400000
+
+pub returns-then-not-is_text-clause-goes : goal.returns-then-not-is_text-clause-goes
+returns-then-not-is_text-clause-goes g c = grind (arith, common_steps)
+
+pub returns-in-Err-clause-goes : goal.returns-in-Err-clause-goes
+returns-in-Err-clause-goes g c = grind (arith, common_steps)
+
+pub returns-clause-goes : goal.returns-clause-goes
+returns-clause-goes g c = grind (arith, common_steps)
+
+pub returns-clause-further : goal.returns-clause-further
+returns-clause-further g c = grind (arith, common_steps)

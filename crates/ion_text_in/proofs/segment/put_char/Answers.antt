@@ -10,3 +10,6 @@ returns-then-is_ascii-clause-grown g c = grind (arith, common_steps) steps 40000
 
 pub returns-then-is_ascii-clause-puts : goal.returns-then-is_ascii-clause-puts
 returns-then-is_ascii-clause-puts g c = grind (arith, common_steps)
+
+pub returns-clause-puts : goal.returns-clause-puts
+returns-clause-puts g c = grind (arith, common_steps)

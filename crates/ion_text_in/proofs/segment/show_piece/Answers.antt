@@ -16,3 +16,6 @@ returns-in_default-clause-there g c =
 
 pub returns-in_default-clause-looks : goal.returns-in_default-clause-looks
 returns-in_default-clause-looks g c = grind (arith, common_steps) steps 400000
+
+pub returns-in-Cut-clause-limit : goal.returns-in-Cut-clause-limit
+returns-in-Cut-clause-limit g c = grind (arith, common_steps)

@@ -55,3 +55,6 @@ returns-in-Ok-None-clause-limit g c = grind (arith, common_steps) steps 400000
 
 pub returns-in_default-clause-looks : goal.returns-in_default-clause-looks
 returns-in_default-clause-looks g c = grind (arith, common_steps) steps 400000
+
+pub returns-in_default-clause-limit : goal.returns-in_default-clause-limit
+returns-in_default-clause-limit g c = grind (arith, common_steps)

@@ -208,3 +208,6 @@ returns-in-Ok-false-clause-reads g c =
     let v = c.pass_quotes.new.source in
     let quotes = reads-held device u v m all most (Ok c.in-Ok-false.field-0) next.grows.share next.grows.holds c.in-Ok-false.ensures.reads in
     held-into device first v c.args.meter.now m before all most (Ok None) (held-then device first u v c.args.meter.now m m before all all most None can.grows.holds three quotes)
+
+pub returns-in-Err-clause-goes : goal.returns-in-Err-clause-goes
+returns-in-Err-clause-goes g c = grind (arith, common_steps)

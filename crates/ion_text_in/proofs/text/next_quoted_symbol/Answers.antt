@@ -1,3 +1,4 @@
+use Rattle.std.proofs.lemmas.Grind.{common_steps}
 use Rattle.std.proofs.Common.{◌≡◌, ℕ, ◌∙◌, List, Result, Some, true, sym, ap, subst, arith}
 use Rattle.ion_meter.specs.Sources.{Cursor, cursor}
 use Rattle.ion_meter.specs.declared.fault.Reason.{Reason}
@@ -31,3 +32,9 @@ returns-clause-further g c = λ _.
     let passed = c.advance.ensures.place in
     let further = c.next_short_text.ensures.reads.moves.further in
     on-ok c.next_short_text.result (omega (arith, passed, further))
+
+pub returns-clause-fresh : goal.returns-clause-fresh
+returns-clause-fresh g c = grind (arith, common_steps)
+
+pub returns-clause-goes : goal.returns-clause-goes
+returns-clause-goes g c = grind (arith, common_steps)

@@ -68,3 +68,12 @@ returns-in-Err-clause-goes g c = grind (arith, common_steps) steps 400000
 
 pub returns-in-Err-clause-gives : goal.returns-in-Err-clause-gives
 returns-in-Err-clause-gives g c = grind (arith, common_steps) steps 400000
+
+pub extend-requires-clause-room : goal.extend-requires-clause-room
+extend-requires-clause-room g c = grind (arith, common_steps)
+
+pub slice_bounds-extend-end : goal.slice_bounds-extend-end
+slice_bounds-extend-end g c = grind (arith, common_steps)
+
+pub returns-in-Fault-clause-goes : goal.returns-in-Fault-clause-goes
+returns-in-Fault-clause-goes g c = grind (arith, common_steps)

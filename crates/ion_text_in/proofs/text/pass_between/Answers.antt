@@ -7,3 +7,6 @@ returns-in-Err-clause-plain g c = grind (arith, common_steps) steps 400000
 
 pub returns-in-Ok-clause-plain : goal.returns-in-Ok-clause-plain
 returns-in-Ok-clause-plain g c = grind (arith, common_steps) steps 400000
+
+pub returns-clause-gives : goal.returns-clause-gives
+returns-clause-gives g c = grind (arith, common_steps)

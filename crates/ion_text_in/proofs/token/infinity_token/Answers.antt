@@ -22,3 +22,6 @@ returns-in-Err-clause-reads g c = grind (arith, common_steps) steps 400000
 
 pub returns-in-Ok-clause-gives : goal.returns-in-Ok-clause-gives
 returns-in-Ok-clause-gives g c = grind (arith, common_steps) steps 400000
+
+pub returns-in-Err-clause-gives : goal.returns-in-Err-clause-gives
+returns-in-Err-clause-gives g c = grind (arith, common_steps)

@@ -63,3 +63,24 @@ returns-in-End-clause-reads g c = grind (arith, common_steps)
 
 pub returns-in-Comma-clause-reads : goal.returns-in-Comma-clause-reads
 returns-in-Comma-clause-reads g c = grind (arith, common_steps)
+
+pub returns-in-Infinity-clause-gives : goal.returns-in-Infinity-clause-gives
+returns-in-Infinity-clause-gives g c = grind (arith, common_steps)
+
+pub returns-in-Operator-clause-gives : goal.returns-in-Operator-clause-gives
+returns-in-Operator-clause-gives g c = grind (arith, common_steps)
+
+pub returns-in-Lob-clause-gives : goal.returns-in-Lob-clause-gives
+returns-in-Lob-clause-gives g c = grind (arith, common_steps)
+
+pub returns-in-LongString-clause-gives : goal.returns-in-LongString-clause-gives
+returns-in-LongString-clause-gives g c = grind (arith, common_steps)
+
+pub returns-in-String-clause-gives : goal.returns-in-String-clause-gives
+returns-in-String-clause-gives g c = grind (arith, common_steps)
+
+pub returns-in-Number-clause-gives : goal.returns-in-Number-clause-gives
+returns-in-Number-clause-gives g c = grind (arith, common_steps)
+
+pub returns-in-Begin-clause-paid : goal.returns-in-Begin-clause-paid
+returns-in-Begin-clause-paid g c = grind (arith, common_steps)

@@ -46,3 +46,6 @@ append-requires-clause-there g c = grind (arith, common_steps) steps 400000
 
 pub returns-in-Err-append-clause-goes : goal.returns-in-Err-append-clause-goes
 returns-in-Err-append-clause-goes g c = grind (arith, common_steps) steps 400000
+
+pub returns-in-Err-clause-gives : goal.returns-in-Err-clause-gives
+returns-in-Err-clause-gives g c = grind (arith, common_steps)

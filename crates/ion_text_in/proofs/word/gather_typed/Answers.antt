@@ -33,3 +33,12 @@ returns-then-not-is_text-clause-further g c = grind (arith, common_steps) steps 
 
 pub returns-then-not-is_text-clause-fresh : goal.returns-then-not-is_text-clause-fresh
 returns-then-not-is_text-clause-fresh g c = grind (arith, common_steps) steps 400000
+
+pub returns-clause-goes : goal.returns-clause-goes
+returns-clause-goes g c = grind (arith, common_steps)
+
+pub returns-then-not-is_text-clause-goes : goal.returns-then-not-is_text-clause-goes
+returns-then-not-is_text-clause-goes g c = grind (arith, common_steps)
+
+pub returns-in-Err-clause-goes : goal.returns-in-Err-clause-goes
+returns-in-Err-clause-goes g c = grind (arith, common_steps)

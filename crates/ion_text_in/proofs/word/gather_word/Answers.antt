@@ -45,3 +45,15 @@ returns-in-Ok-clause-further g c = grind (arith, common_steps) steps 400000
 
 pub returns-in-Err-word_by-clause-reads : goal.returns-in-Err-word_by-clause-reads
 returns-in-Err-word_by-clause-reads g c = grind (arith, common_steps) steps 400000
+
+pub returns-in-Err-word_by-clause-goes : goal.returns-in-Err-word_by-clause-goes
+returns-in-Err-word_by-clause-goes g c = grind (arith, common_steps)
+
+pub returns-in-Ok-clause-goes : goal.returns-in-Ok-clause-goes
+returns-in-Ok-clause-goes g c = grind (arith, common_steps)
+
+pub returns-in-Err-clause-goes : goal.returns-in-Err-clause-goes
+returns-in-Err-clause-goes g c = grind (arith, common_steps)
+
+pub returns-in-Ok-clause-reads : goal.returns-in-Ok-clause-reads
+returns-in-Ok-clause-reads g c = grind (arith, common_steps)

@@ -1,4 +1,5 @@
-use Rattle.std.proofs.Common.{◌≡◌, ◌<◌, ◌+◌, ◌∙◌, sym, subst, ℕ, List, length, take, drop, codes, ◌&&◌, ◌==◌, true, false}
+use Rattle.std.proofs.lemmas.Grind.{common_steps}
+use Rattle.std.proofs.Common.{◌≡◌, ◌<◌, ◌+◌, ◌∙◌, sym, subst, ℕ, List, length, take, drop, codes, ◌&&◌, ◌==◌, true, false, arith}
 use Rattle.std.proofs.lemmas.Bool.{not-false}
 use Rattle.std.proofs.lemmas.List.{take_rest}
 use Rattle.std.specs.Str.{bytes_eq}
@@ -38,3 +39,9 @@ returns c =
     let there : m < length (drop (1 + n + 1) bytes) = subst (λ (l : List ℕ). m < length l) name (c.word_run-name.ensures.behind named) in
     let later : EndBehind in_word (drop (1 + n + 1) bytes) m = subst (λ (l : List ℕ). EndBehind in_word l m) name (c.word_run-name.ensures.ends named) in
     word-typed bytes n m c.in-len1-up.len_at_least within ends typed there later
+
+pub slice_bounds-word_run-start : goal.slice_bounds-word_run-start
+slice_bounds-word_run-start c = grind (arith, common_steps)
+
+pub slice_bounds-word_run-count : goal.slice_bounds-word_run-count
+slice_bounds-word_run-count c = grind (arith, common_steps)

@@ -36,3 +36,6 @@ overflow_add-self-2 g c = grind (arith, common_steps)
 
 pub push_text-requires-clause-can_grow : goal.push_text-requires-clause-can_grow
 push_text-requires-clause-can_grow g c = grind (arith, common_steps)
+
+pub returns-then-length-limit-clause-takes : goal.returns-then-length-limit-clause-takes
+returns-then-length-limit-clause-takes g c = grind (arith, common_steps)

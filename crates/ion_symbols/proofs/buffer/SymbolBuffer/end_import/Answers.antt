@@ -46,3 +46,12 @@ overflow_add-self-3 g c = grind (arith, common_steps)
 
 pub returns-in-Ignored-clause-pending : goal.returns-in-Ignored-clause-pending
 returns-in-Ignored-clause-pending g c = grind (arith, common_steps)
+
+pub push-requires-clause-room : goal.push-requires-clause-room
+push-requires-clause-room g c = grind (arith, common_steps)
+
+pub push-requires-clause-countable : goal.push-requires-clause-countable
+push-requires-clause-countable g c = grind (arith, common_steps)
+
+pub fits-requires : goal.fits-requires
+fits-requires g c = grind (arith, common_steps)

@@ -34,3 +34,24 @@ append-outcome-requires-clause-few g c = grind (arith, common_steps)
 
 pub returns-clause-table : goal.returns-clause-table
 returns-clause-table g c = grind (arith, common_steps)
+
+pub returns-clause-counted : goal.returns-clause-counted
+returns-clause-counted g c = grind (arith, common_steps)
+
+pub returns-clause-memory : goal.returns-clause-memory
+returns-clause-memory g c = grind (arith, common_steps)
+
+pub release-requires-3 : goal.release-requires-3
+release-requires-3 g c = grind (arith, common_steps)
+
+pub release-requires-2 : goal.release-requires-2
+release-requires-2 g c = grind (arith, common_steps)
+
+pub returns-clause-catalog : goal.returns-clause-catalog
+returns-clause-catalog g c = grind (arith, common_steps)
+
+pub returns-clause-err : goal.returns-clause-err
+returns-clause-err g c = grind (arith, common_steps)
+
+pub returns-then-not-keeps-clause-table : goal.returns-then-not-keeps-clause-table
+returns-then-not-keeps-clause-table g c = grind (arith, common_steps)

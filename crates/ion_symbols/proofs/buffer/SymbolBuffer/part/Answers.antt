@@ -13,3 +13,15 @@ returns-after-item_view-3-clause-pending g c = grind (arith, common_steps)
 
 pub returns-in-Text-clause-takes : goal.returns-in-Text-clause-takes
 returns-in-Text-clause-takes g c = grind (arith, common_steps)
+
+pub returns-after-item_view-3-clause-takes : goal.returns-after-item_view-3-clause-takes
+returns-after-item_view-3-clause-takes g c = grind (arith, common_steps)
+
+pub returns-after-item_view-4-clause-takes : goal.returns-after-item_view-4-clause-takes
+returns-after-item_view-4-clause-takes g c = grind (arith, common_steps)
+
+pub returns-then-self-3-clause-takes : goal.returns-then-self-3-clause-takes
+returns-then-self-3-clause-takes g c = grind (arith, common_steps)
+
+pub returns-then-self-2-clause-takes : goal.returns-then-self-2-clause-takes
+returns-then-self-2-clause-takes g c = grind (arith, common_steps)

@@ -111,3 +111,6 @@ returns-clause-charges g c = grind (arith, common_steps) steps 400000
 
 pub returns-clause-refuses : goal.returns-clause-refuses
 returns-clause-refuses g c = grind (arith, common_steps)
+
+pub returns-in-Ok-true-clause-level : goal.returns-in-Ok-true-clause-level
+returns-in-Ok-true-clause-level g c = grind (arith, common_steps)

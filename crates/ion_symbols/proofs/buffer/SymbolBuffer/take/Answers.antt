@@ -69,3 +69,9 @@ returns-in-Import-2-clause-nameless g c = search rules
 
 pub returns-in-Import-2-clause-takes : goal.returns-in-Import-2-clause-takes
 returns-in-Import-2-clause-takes g c = grind (arith, common_steps)
+
+pub returns-in-Import-2-clause-pending : goal.returns-in-Import-2-clause-pending
+returns-in-Import-2-clause-pending g c = grind (arith, common_steps)
+
+pub returns-in-Symbols-2-clause-pending : goal.returns-in-Symbols-2-clause-pending
+returns-in-Symbols-2-clause-pending g c = grind (arith, common_steps)

@@ -10,3 +10,12 @@ extend-requires-clause-room g c = grind (arith, common_steps)
 
 pub returns-clause-pending : goal.returns-clause-pending
 returns-clause-pending g c = grind (arith, common_steps)
+
+pub returns-clause-takes : goal.returns-clause-takes
+returns-clause-takes g c = grind (arith, common_steps)
+
+pub returns-clause-turn : goal.returns-clause-turn
+returns-clause-turn g c = grind (arith, common_steps)
+
+pub returns-then-not-fits-clause-takes : goal.returns-then-not-fits-clause-takes
+returns-then-not-fits-clause-takes g c = grind (arith, common_steps)

@@ -47,3 +47,24 @@ push_and_insert-requires-clause-countable g c = grind (arith, common_steps)
 
 pub returns-in-Err-push_and_insert-clause-is_text : goal.returns-in-Err-push_and_insert-clause-is_text
 returns-in-Err-push_and_insert-clause-is_text g c = grind (arith, common_steps)
+
+pub returns-in-Err-push_and_insert-clause-err : goal.returns-in-Err-push_and_insert-clause-err
+returns-in-Err-push_and_insert-clause-err g c = grind (arith, common_steps)
+
+pub returns-clause-ok : goal.returns-clause-ok
+returns-clause-ok g c = grind (arith, common_steps)
+
+pub push_and_insert-requires-clause-room : goal.push_and_insert-requires-clause-room
+push_and_insert-requires-clause-room g c = grind (arith, common_steps)
+
+pub returns-in-Err-push_and_insert-clause-returned : goal.returns-in-Err-push_and_insert-clause-returned
+returns-in-Err-push_and_insert-clause-returned g c = grind (arith, common_steps)
+
+pub same-self-in_default : goal.same-self-in_default
+same-self-in_default g c = grind (arith, common_steps)
+
+pub returns-in_default-clause-err : goal.returns-in_default-clause-err
+returns-in_default-clause-err g c = grind (arith, common_steps)
+
+pub returns-in_default-clause-returned : goal.returns-in_default-clause-returned
+returns-in_default-clause-returned g c = grind (arith, common_steps)

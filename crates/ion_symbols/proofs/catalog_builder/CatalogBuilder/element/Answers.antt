@@ -30,12 +30,15 @@ returns-clause-built g c =
     let more = counted-text (string_in t.what) (draft_of b) in
     let fits : counted (draft_of b) + (16 + text_length (string_in t.what)) ≤ b.limits.symbols = search rules in
     record {
-      building = record { checked = search rules; exact = search rules; cheap = search rules };
-      limits = search rules;
-      failed = search rules;
-      causes = search rules;
-      charges = search rules;
+      building = record { checked = grind (arith, common_steps); exact = grind (arith, common_steps); cheap = grind (arith, common_steps) };
+      limits = grind (arith, common_steps);
+      failed = grind (arith, common_steps);
+      causes = grind (arith, common_steps);
+      charges = grind (arith, common_steps);
     }
 
 pub push_bytes-requires-clause-room : goal.push_bytes-requires-clause-room
 push_bytes-requires-clause-room g c = grind (arith, common_steps)
+
+pub pass-requires : goal.pass-requires
+pass-requires g c = grind (arith, common_steps)

@@ -13,11 +13,11 @@ returns-clause-built g c =
     let same = counted-ended d stands in
     let held = held-ended d in
     record {
-      building = record { checked = search rules; exact = search rules; cheap = search rules };
-      limits = search rules;
-      failed = search rules;
-      causes = search rules;
-      charges = search rules;
+      building = record { checked = grind (arith, common_steps); exact = grind (arith, common_steps); cheap = grind (arith, common_steps) };
+      limits = grind (arith, common_steps);
+      failed = grind (arith, common_steps);
+      causes = grind (arith, common_steps);
+      charges = grind (arith, common_steps);
     }
 
 pub returns-in-Refused-clause-gives : goal.returns-in-Refused-clause-gives

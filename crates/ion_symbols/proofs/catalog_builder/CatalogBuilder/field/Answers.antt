@@ -13,3 +13,15 @@ returns-in-Name-clause-gives g c = grind (arith, common_steps)
 
 pub returns-in-Version-clause-gives : goal.returns-in-Version-clause-gives
 returns-in-Version-clause-gives g c = grind (arith, common_steps)
+
+pub returns-in_default-clause-gives : goal.returns-in_default-clause-gives
+returns-in_default-clause-gives g c = grind (arith, common_steps)
+
+pub returns-in_default-clause-built : goal.returns-in_default-clause-built
+returns-in_default-clause-built g c = grind (arith, common_steps)
+
+pub returns-in-Version-clause-built : goal.returns-in-Version-clause-built
+returns-in-Version-clause-built g c = grind (arith, common_steps)
+
+pub returns-in-Symbols-clause-built : goal.returns-in-Symbols-clause-built
+returns-in-Symbols-clause-built g c = grind (arith, common_steps)

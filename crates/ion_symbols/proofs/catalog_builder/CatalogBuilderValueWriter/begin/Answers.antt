@@ -16,3 +16,12 @@ returns-in_default-clause-part g c = grind (arith, common_steps) steps 400000
 
 pub returns-in-Err-clause-part : goal.returns-in-Err-clause-part
 returns-in-Err-clause-part g c = grind (arith, common_steps) steps 400000
+
+pub returns-in_default-clause-stands : goal.returns-in_default-clause-stands
+returns-in_default-clause-stands g c = grind (arith, common_steps)
+
+pub returns-in_default-clause-device : goal.returns-in_default-clause-device
+returns-in_default-clause-device g c = grind (arith, common_steps)
+
+pub returns-in_default-clause-steady : goal.returns-in_default-clause-steady
+returns-in_default-clause-steady g c = grind (arith, common_steps)

@@ -87,3 +87,18 @@ returns-in_default-outcome-clause-well g c = grind (arith, common_steps)
 
 pub returns-in_default-outcome-clause-again : goal.returns-in_default-outcome-clause-again
 returns-in_default-outcome-clause-again g c = grind (arith, common_steps)
+
+pub returns-in-Err-clause-charges : goal.returns-in-Err-clause-charges
+returns-in-Err-clause-charges g c = grind (arith, common_steps)
+
+pub returns-in_default-outcome-clause-charges : goal.returns-in_default-outcome-clause-charges
+returns-in_default-outcome-clause-charges g c = grind (arith, common_steps)
+
+pub returns-in_default-outcome-clause-sound : goal.returns-in_default-outcome-clause-sound
+returns-in_default-outcome-clause-sound g c = grind (arith, common_steps)
+
+pub returns-in_default-outcome-clause-refuses : goal.returns-in_default-outcome-clause-refuses
+returns-in_default-outcome-clause-refuses g c = grind (arith, common_steps)
+
+pub returns-in_default-outcome-clause-failed : goal.returns-in_default-outcome-clause-failed
+returns-in_default-outcome-clause-failed g c = grind (arith, common_steps)

@@ -32,3 +32,9 @@ bounds-self-inside-self-inside c = grind (arith, common_steps)
 
 pub bounds-self-inside-place : goal.bounds-self-inside-place
 bounds-self-inside-place c = grind (arith, common_steps)
+
+pub returns-clause-texts : goal.returns-clause-texts
+returns-clause-texts c = grind (arith, common_steps)
+
+pub returns-clause-ascend : goal.returns-clause-ascend
+returns-clause-ascend c = grind (arith, common_steps)

@@ -54,3 +54,15 @@ returns-in-Err-clause-memory g c = grind (arith, common_steps)
 
 pub overflow_cast-number : goal.overflow_cast-number
 overflow_cast-number g c = grind (arith, common_steps)
+
+pub returns-clause-grows : goal.returns-clause-grows
+returns-clause-grows g c = grind (arith, common_steps)
+
+pub returns-in-Err-clause-order : goal.returns-in-Err-clause-order
+returns-in-Err-clause-order g c = grind (arith, common_steps)
+
+pub returns-clause-kept : goal.returns-clause-kept
+returns-clause-kept g c = grind (arith, common_steps)
+
+pub returns-clause-order : goal.returns-clause-order
+returns-clause-order g c = grind (arith, common_steps)

@@ -33,3 +33,24 @@ returns-then-not-push_together-clause-kept g c = grind (arith, common_steps)
 
 pub returns-in_default : goal.returns-in_default
 returns-in_default g c = grind (arith, common_steps)
+
+pub returns-clause-octets : goal.returns-clause-octets
+returns-clause-octets g c = grind (arith, common_steps)
+
+pub returns-then-not-push_together-clause-octets : goal.returns-then-not-push_together-clause-octets
+returns-then-not-push_together-clause-octets g c = grind (arith, common_steps)
+
+pub returns-clause-order : goal.returns-clause-order
+returns-clause-order g c = grind (arith, common_steps)
+
+pub returns-clause-kept : goal.returns-clause-kept
+returns-clause-kept g c = grind (arith, common_steps)
+
+pub returns-then-not-push_together-clause-grows : goal.returns-then-not-push_together-clause-grows
+returns-then-not-push_together-clause-grows g c = grind (arith, common_steps)
+
+pub returns-then-not-push_together-clause-order : goal.returns-then-not-push_together-clause-order
+returns-then-not-push_together-clause-order g c = grind (arith, common_steps)
+
+pub returns-clause-declines : goal.returns-clause-declines
+returns-clause-declines g c = grind (arith, common_steps)

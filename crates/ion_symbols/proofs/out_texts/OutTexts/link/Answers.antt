@@ -25,3 +25,6 @@ bounds-as_slice-number g c = grind (arith, common_steps)
 
 pub bounds-as_slice-number-2 : goal.bounds-as_slice-number-2
 bounds-as_slice-number-2 g c = grind (arith, common_steps)
+
+pub returns-else-digits-eq0-clause-within : goal.returns-else-digits-eq0-clause-within
+returns-else-digits-eq0-clause-within g c = grind (arith, common_steps)

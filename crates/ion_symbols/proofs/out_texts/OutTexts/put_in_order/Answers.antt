@@ -20,3 +20,12 @@ returns-clause-kept g c =
 
 pub shift_in-requires-clause-order : goal.shift_in-requires-clause-order
 shift_in-requires-clause-order g c = grind (arith, common_steps)
+
+pub shift_in-requires-clause-within : goal.shift_in-requires-clause-within
+shift_in-requires-clause-within g c = grind (arith, common_steps)
+
+pub loop-count-smaller : goal.loop-count-smaller
+loop-count-smaller g c = grind (arith, common_steps)
+
+pub place_among-place-requires-clause-within : goal.place_among-place-requires-clause-within
+place_among-place-requires-clause-within g c = grind (arith, common_steps)

@@ -1,3 +1,4 @@
+use Rattle.std.proofs.lemmas.Grind.{common_steps}
 use Rattle.std.proofs.Common.{◌≡◌, ◌-◌, [], get_or, arith}
 use Rattle.ion_symbols.specs.OutTexts.{firsts, link_of, texts_of}
 use Rattle.ion_symbols.proofs.Positions.{compared_same, compared_other}
@@ -42,3 +43,6 @@ loop-left-preserved g c =
 
 pub returns : goal.returns
 returns g c = seek_end c.args.self.now c.args.text.now c.loop-left.at c.loop-left.left c.loop-left.digits c.loop-left.invariant (omega (arith, c.loop-left-test.false))
+
+pub link-next-requires-clause-within : goal.link-next-requires-clause-within
+link-next-requires-clause-within g c = grind (arith, common_steps)

@@ -125,3 +125,6 @@ returns-in-Err-clause-probes g c = grind (arith, common_steps)
 
 pub returns-in-Err-clause-limit : goal.returns-in-Err-clause-limit
 returns-in-Err-clause-limit g c = grind (arith, common_steps)
+
+pub returns-in-Err-clause-counted : goal.returns-in-Err-clause-counted
+returns-in-Err-clause-counted g c = grind (arith, common_steps)

@@ -49,3 +49,12 @@ returns-clause-probes g c = grind (arith, common_steps)
 
 pub returns-clause-limit : goal.returns-clause-limit
 returns-clause-limit g c = grind (arith, common_steps)
+
+pub returns-clause-grows : goal.returns-clause-grows
+returns-clause-grows g c = grind (arith, common_steps)
+
+pub returns-then-is_some-clause-within : goal.returns-then-is_some-clause-within
+returns-then-is_some-clause-within g c = grind (arith, common_steps)
+
+pub returns-then-is_over-clause-within : goal.returns-then-is_over-clause-within
+returns-then-is_over-clause-within g c = grind (arith, common_steps)

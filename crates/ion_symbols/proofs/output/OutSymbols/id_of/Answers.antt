@@ -175,3 +175,21 @@ returns-in-Ok-clause-system g c = grind (arith, common_steps)
 
 pub returns-in-Ok-clause-limit : goal.returns-in-Ok-clause-limit
 returns-in-Ok-clause-limit g c = grind (arith, common_steps)
+
+pub returns-in-Some-clause-searched : goal.returns-in-Some-clause-searched
+returns-in-Some-clause-searched g c = grind (arith, common_steps)
+
+pub add-requires-clause-small : goal.add-requires-clause-small
+add-requires-clause-small g c = grind (arith, common_steps)
+
+pub returns-in-Err-clause-counted : goal.returns-in-Err-clause-counted
+returns-in-Err-clause-counted g c = grind (arith, common_steps)
+
+pub returns-in-Some-clause-limit : goal.returns-in-Some-clause-limit
+returns-in-Some-clause-limit g c = grind (arith, common_steps)
+
+pub add-requires-clause-kept : goal.add-requires-clause-kept
+add-requires-clause-kept g c = grind (arith, common_steps)
+
+pub returns-in-Ok-clause-counted : goal.returns-in-Ok-clause-counted
+returns-in-Ok-clause-counted g c = grind (arith, common_steps)

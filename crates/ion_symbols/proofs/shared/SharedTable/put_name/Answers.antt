@@ -7,3 +7,9 @@ returns-clause-cost g c = grind (arith, common_steps) steps 400000
 
 pub overwrite-requires : goal.overwrite-requires
 overwrite-requires g c = grind (arith, common_steps)
+
+pub returns-clause-ok : goal.returns-clause-ok
+returns-clause-ok g c = grind (arith, common_steps)
+
+pub truncate-requires : goal.truncate-requires
+truncate-requires g c = grind (arith, common_steps)

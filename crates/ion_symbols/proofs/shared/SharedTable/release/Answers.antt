@@ -4,3 +4,6 @@ use Rattle.ion_symbols.proofs.shared.SharedTable.release.Goals as goal
 
 pub returns : goal.returns
 returns g c = grind (arith, common_steps) steps 400000
+
+pub release-requires-2 : goal.release-requires-2
+release-requires-2 g c = grind (arith, common_steps)

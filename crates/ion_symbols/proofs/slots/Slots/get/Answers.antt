@@ -1,5 +1,5 @@
 use Rattle.std.proofs.Common.{◌≡◌, ℕ, ◌<◌, false, List, length, Option, ap, arith}
-use Rattle.std.proofs.lemmas.Grind.{common_steps}
+use Rattle.std.proofs.lemmas.Grind.{common_steps, elements}
 use Rattle.ion_symbols.specs.Kept.{kept_slots}
 use Rattle.ion_symbols.specs.declared.slots.Part.{Part}
 use Rattle.ion_symbols.proofs.Keeping.{kept_count, tile_at}
@@ -23,3 +23,9 @@ bounds-as_slice-i g c = grind (arith, common_steps)
 
 pub offset_bounds-as_slice-i : goal.offset_bounds-as_slice-i
 offset_bounds-as_slice-i g c = grind (arith, common_steps)
+
+pub returns-then-part : goal.returns-then-part
+returns-then-part g c = grind (arith, elements)
+
+pub returns-else-part : goal.returns-else-part
+returns-else-part g c = grind (arith, elements)

@@ -40,3 +40,9 @@ returns-in-Err-extend-clause-err g c = grind (arith, common_steps)
 
 pub invariant_of-self : goal.invariant_of-self
 invariant_of-self g c = grind (arith, common_steps)
+
+pub returns-clause-cost : goal.returns-clause-cost
+returns-clause-cost g c = grind (arith, common_steps)
+
+pub returns-in-Err-clause-err : goal.returns-in-Err-clause-err
+returns-in-Err-clause-err g c = grind (arith, common_steps)

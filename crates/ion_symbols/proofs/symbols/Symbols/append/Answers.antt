@@ -1,3 +1,4 @@
+use Rattle.std.proofs.lemmas.Grind.{common_steps}
 use Rattle.std.proofs.Common.{◌≡◌, ◌+◌, length, ap, ◌∙◌, arith}
 use Rattle.ion_symbols.specs.Table.{count_of, most_slots}
 use Rattle.ion_symbols.specs.Present.{Present}
@@ -16,3 +17,9 @@ invariant_of-self g c =
       few = added_few c.append.result c.self.inside.slots c.args.more.now c.append.new.self c.self.inside.import_slots most_slots
           c.append.ensures.ok c.append.ensures.err (omega (arith, n, c.requires.few));
     }
+
+pub returns-clause-err : goal.returns-clause-err
+returns-clause-err g c = grind (arith, common_steps)
+
+pub returns-clause-ok : goal.returns-clause-ok
+returns-clause-ok g c = grind (arith, common_steps)

@@ -13,3 +13,6 @@ release-requires g c = grind (arith, common_steps)
 
 pub invariant_of-self : goal.invariant_of-self
 invariant_of-self g c = grind (arith, common_steps)
+
+pub returns-clause-table : goal.returns-clause-table
+returns-clause-table g c = grind (arith, common_steps)

@@ -13,3 +13,6 @@ clear-requires-2 g c = grind (arith, common_steps)
 
 pub clear-requires : goal.clear-requires
 clear-requires g c = grind (arith, common_steps)
+
+pub invariant_of-self : goal.invariant_of-self
+invariant_of-self g c = grind (arith, common_steps)

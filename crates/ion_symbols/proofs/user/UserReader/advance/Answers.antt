@@ -1,4 +1,4 @@
-use Rattle.std.proofs.Common.{rules, arith}
+use Rattle.std.proofs.Common.{arith}
 use Rattle.std.proofs.lemmas.Grind.{common_steps}
 use Rattle.ion_symbols.proofs.user.UserReader.advance.Goals as goal
 
@@ -6,7 +6,7 @@ pub loop-fault-init : goal.loop-fault-init
 loop-fault-init g c = grind (arith, common_steps)
 
 pub turn-requires : goal.turn-requires
-turn-requires g c = search rules
+turn-requires g c = grind (arith, common_steps)
 
 pub returns-in-Err-clause-gives : goal.returns-in-Err-clause-gives
 returns-in-Err-clause-gives g c = grind (arith, common_steps)
@@ -48,4 +48,4 @@ pub loop-fault-smaller : goal.loop-fault-smaller
 loop-fault-smaller g c = grind (arith, common_steps)
 
 pub loop-fault-preserved : goal.loop-fault-preserved
-loop-fault-preserved g c = search rules
+loop-fault-preserved g c = grind (arith, common_steps)

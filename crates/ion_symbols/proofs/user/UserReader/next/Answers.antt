@@ -46,3 +46,21 @@ returns-in_default-outcome-clause-level g c = grind (arith, common_steps)
 
 pub returns-in-Some-clause-comes : goal.returns-in-Some-clause-comes
 returns-in-Some-clause-comes g c = grind (arith, common_steps)
+
+pub returns-in-Err-clause-charges : goal.returns-in-Err-clause-charges
+returns-in-Err-clause-charges g c = grind (arith, common_steps)
+
+pub returns-in_default-outcome-clause-charges : goal.returns-in_default-outcome-clause-charges
+returns-in_default-outcome-clause-charges g c = grind (arith, common_steps)
+
+pub returns-in-Some-clause-refuses : goal.returns-in-Some-clause-refuses
+returns-in-Some-clause-refuses g c = grind (arith, common_steps)
+
+pub returns-in-Some-clause-ends : goal.returns-in-Some-clause-ends
+returns-in-Some-clause-ends g c = grind (arith, common_steps)
+
+pub returns-in-Err-clause-kept : goal.returns-in-Err-clause-kept
+returns-in-Err-clause-kept g c = grind (arith, common_steps)
+
+pub returns-in_default-outcome-clause-kept : goal.returns-in_default-outcome-clause-kept
+returns-in_default-outcome-clause-kept g c = grind (arith, common_steps)

@@ -1,4 +1,4 @@
-use Rattle.std.proofs.Common.{◌≡◌, false, true, Ok, ap, sym, subst, ◌∙◌, arith, rules, refl, length, Some}
+use Rattle.std.proofs.Common.{◌≡◌, false, true, Ok, ap, sym, subst, ◌∙◌, arith, refl, length, Some}
 use Rattle.std.proofs.lemmas.Grind.{common_steps, elements}
 use Rattle.ion_meter.specs.declared.fault.Fault.TheVariants.{Memory, ReadFault, Refused}
 use Rattle.ion_value.specs.Items.{raw_item}
@@ -108,7 +108,7 @@ pub returns-in-Err-clause-steps : goal.returns-in-Err-clause-steps
 returns-in-Err-clause-steps g c = grind (arith, common_steps)
 
 pub returns-in-Ok-false-clause-gives : goal.returns-in-Ok-false-clause-gives
-returns-in-Ok-false-clause-gives g c = search rules
+returns-in-Ok-false-clause-gives g c = grind (arith, common_steps)
 
 pub returns-in-Ok-false-clause-falls : goal.returns-in-Ok-false-clause-falls
 returns-in-Ok-false-clause-falls g c = grind (arith, common_steps)
@@ -117,7 +117,7 @@ pub returns-in-Ok-false-clause-causes : goal.returns-in-Ok-false-clause-causes
 returns-in-Ok-false-clause-causes g c = grind (arith, common_steps)
 
 pub returns-in-Ok-false-clause-steps : goal.returns-in-Ok-false-clause-steps
-returns-in-Ok-false-clause-steps g c = search rules
+returns-in-Ok-false-clause-steps g c = grind (arith, common_steps)
 
 pub returns-then-is_marker-clause-gives : goal.returns-then-is_marker-clause-gives
 returns-then-is_marker-clause-gives g c = grind (arith, common_steps)
@@ -232,3 +232,9 @@ returns-in-Err-clause-passes g c = grind (arith, common_steps)
 
 pub returns-in-Ok-false-clause-passes : goal.returns-in-Ok-false-clause-passes
 returns-in-Ok-false-clause-passes g c = grind (arith, common_steps)
+
+pub reset-requires : goal.reset-requires
+reset-requires g c = grind (arith, common_steps)
+
+pub returns-in-Err-read-clause-falls : goal.returns-in-Err-read-clause-falls
+returns-in-Err-read-clause-falls g c = grind (arith, common_steps)

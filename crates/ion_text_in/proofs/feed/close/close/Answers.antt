@@ -86,3 +86,24 @@ returns-in_default-clause-falls g c = grind (arith, common_steps) steps 400000
 
 pub returns-then-not-is_same-clause-falls : goal.returns-then-not-is_same-clause-falls
 returns-then-not-is_same-clause-falls g c = grind (arith, common_steps) steps 400000
+
+pub pass_value-requires-clause-few : goal.pass_value-requires-clause-few
+pass_value-requires-clause-few g c = grind (arith, common_steps)
+
+pub pass_value-requires-clause-inside : goal.pass_value-requires-clause-inside
+pass_value-requires-clause-inside g c = grind (arith, common_steps)
+
+pub pop-closed-requires : goal.pop-closed-requires
+pop-closed-requires g c = grind (arith, common_steps)
+
+pub take_plain-requires-clause-room : goal.take_plain-requires-clause-room
+take_plain-requires-clause-room g c = grind (arith, common_steps)
+
+pub take_plain-requires-clause-countable : goal.take_plain-requires-clause-countable
+take_plain-requires-clause-countable g c = grind (arith, common_steps)
+
+pub take_plain-requires-clause-held : goal.take_plain-requires-clause-held
+take_plain-requires-clause-held g c = grind (arith, common_steps)
+
+pub take_plain-requires-clause-well : goal.take_plain-requires-clause-well
+take_plain-requires-clause-well g c = grind (arith, common_steps)

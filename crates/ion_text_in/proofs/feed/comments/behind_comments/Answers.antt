@@ -33,3 +33,6 @@ blanks-preserved c =
 
 pub blanks-smaller : goal.blanks-smaller
 blanks-smaller c = grind (arith, common_steps) steps 400000
+
+pub returns-then-is_empty : goal.returns-then-is_empty
+returns-then-is_empty c = grind (arith, common_steps)

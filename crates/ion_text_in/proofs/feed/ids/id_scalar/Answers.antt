@@ -73,3 +73,18 @@ returns-clause-falls g c = grind (arith, common_steps)
 
 pub pass_value-requires-clause-few : goal.pass_value-requires-clause-few
 pass_value-requires-clause-few g c = grind (arith, common_steps) steps 400000
+
+pub take_plain-requires-clause-room : goal.take_plain-requires-clause-room
+take_plain-requires-clause-room g c = grind (arith, common_steps)
+
+pub take_plain-requires-clause-held : goal.take_plain-requires-clause-held
+take_plain-requires-clause-held g c = grind (arith, common_steps)
+
+pub take_plain-requires-clause-countable : goal.take_plain-requires-clause-countable
+take_plain-requires-clause-countable g c = grind (arith, common_steps)
+
+pub take_plain-requires-clause-simple : goal.take_plain-requires-clause-simple
+take_plain-requires-clause-simple g c = grind (arith, common_steps)
+
+pub take_plain-requires-clause-plain : goal.take_plain-requires-clause-plain
+take_plain-requires-clause-plain g c = grind (arith, common_steps)

@@ -13,3 +13,9 @@ returns-in-Some-clause-falls g c = grind (arith, common_steps) steps 400000
 
 pub returns-in-None-clause-falls : goal.returns-in-None-clause-falls
 returns-in-None-clause-falls g c = grind (arith, common_steps) steps 400000
+
+pub returns-in-Some-clause-moved : goal.returns-in-Some-clause-moved
+returns-in-Some-clause-moved g c = grind (arith, common_steps)
+
+pub id_scalar-requires-clause-whole : goal.id_scalar-requires-clause-whole
+id_scalar-requires-clause-whole g c = grind (arith, common_steps)

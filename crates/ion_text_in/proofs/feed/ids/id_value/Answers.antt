@@ -22,3 +22,9 @@ returns-then-begins_dollar-clause-goes g c = grind (arith, common_steps) steps 4
 
 pub returns-clause-falls : goal.returns-clause-falls
 returns-clause-falls g c = grind (arith, common_steps) steps 400000
+
+pub returns-then-begins_dollar-clause-moved : goal.returns-then-begins_dollar-clause-moved
+returns-then-begins_dollar-clause-moved g c = grind (arith, common_steps)
+
+pub returns-then-begins_dollar-2-clause-moved : goal.returns-then-begins_dollar-2-clause-moved
+returns-then-begins_dollar-2-clause-moved g c = grind (arith, common_steps)

@@ -30,3 +30,15 @@ returns-in_default-clause-falls g c = grind (arith, common_steps) steps 400000
 
 pub returns-in-Begin-clause-goes : goal.returns-in-Begin-clause-goes
 returns-in-Begin-clause-goes g c = grind (arith, common_steps) steps 400000
+
+pub id_scalar-requires-clause-whole : goal.id_scalar-requires-clause-whole
+id_scalar-requires-clause-whole g c = grind (arith, common_steps)
+
+pub returns-in-Begin-clause-moved : goal.returns-in-Begin-clause-moved
+returns-in-Begin-clause-moved g c = grind (arith, common_steps)
+
+pub id_scalar-requires-clause-can : goal.id_scalar-requires-clause-can
+id_scalar-requires-clause-can g c = grind (arith, common_steps)
+
+pub id_scalar-requires-clause-start : goal.id_scalar-requires-clause-start
+id_scalar-requires-clause-start g c = grind (arith, common_steps)

@@ -42,3 +42,9 @@ behind_second-requires c = grind (arith, common_steps) steps 400000
 
 pub overflow_add-note-2 : goal.overflow_add-note-2
 overflow_add-note-2 c = grind (arith, common_steps) steps 400000
+
+pub overflow_add-note : goal.overflow_add-note
+overflow_add-note c = grind (arith, common_steps)
+
+pub from_note-requires-clause-stands : goal.from_note-requires-clause-stands
+from_note-requires-clause-stands c = grind (arith, common_steps)

@@ -27,3 +27,21 @@ returns-in-Some-clause-goes g c = grind (arith, common_steps) steps 400000
 
 pub returns-in-None-clause-falls : goal.returns-in-None-clause-falls
 returns-in-None-clause-falls g c = grind (arith, common_steps) steps 400000
+
+pub returns-in-Some-clause-moved : goal.returns-in-Some-clause-moved
+returns-in-Some-clause-moved g c = grind (arith, common_steps)
+
+pub returns-in-Some-quoted_noted-clause-moved : goal.returns-in-Some-quoted_noted-clause-moved
+returns-in-Some-quoted_noted-clause-moved g c = grind (arith, common_steps)
+
+pub scalar-more-requires-clause-whole : goal.scalar-more-requires-clause-whole
+scalar-more-requires-clause-whole g c = grind (arith, common_steps)
+
+pub any_value-requires-clause-can : goal.any_value-requires-clause-can
+any_value-requires-clause-can g c = grind (arith, common_steps)
+
+pub scalar-more-requires-clause-found : goal.scalar-more-requires-clause-found
+scalar-more-requires-clause-found g c = grind (arith, common_steps)
+
+pub scalar-more-requires-clause-start : goal.scalar-more-requires-clause-start
+scalar-more-requires-clause-start g c = grind (arith, common_steps)

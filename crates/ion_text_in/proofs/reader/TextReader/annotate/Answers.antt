@@ -53,3 +53,15 @@ returns-in-Err-push-clause-gives g c = grind (arith, common_steps) steps 400000
 
 pub returns-in-Ok-push-clause-goes : goal.returns-in-Ok-push-clause-goes
 returns-in-Ok-push-clause-goes g c = grind (arith, common_steps)
+
+pub push-requires-clause-room : goal.push-requires-clause-room
+push-requires-clause-room g c = grind (arith, common_steps)
+
+pub push-requires-clause-countable : goal.push-requires-clause-countable
+push-requires-clause-countable g c = grind (arith, common_steps)
+
+pub returns-in-Err-clause-gives : goal.returns-in-Err-clause-gives
+returns-in-Err-clause-gives g c = grind (arith, common_steps)
+
+pub keep_text-requires-clause-room : goal.keep_text-requires-clause-room
+keep_text-requires-clause-room g c = grind (arith, common_steps)

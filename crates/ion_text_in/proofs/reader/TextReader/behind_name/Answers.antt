@@ -67,3 +67,12 @@ returns-in-Err-next_first-clause-gives g c = grind (arith, common_steps)
 
 pub at_colon-requires-clause-there : goal.at_colon-requires-clause-there
 at_colon-requires-clause-there g c = grind (arith, common_steps)
+
+pub returns-in-Err-clause-gives : goal.returns-in-Err-clause-gives
+returns-in-Err-clause-gives g c = grind (arith, common_steps)
+
+pub returns-in-Ok-None-next_first-clause-gives : goal.returns-in-Ok-None-next_first-clause-gives
+returns-in-Ok-None-next_first-clause-gives g c = grind (arith, common_steps)
+
+pub returns-in-Ok-Some-clause-gives : goal.returns-in-Ok-Some-clause-gives
+returns-in-Ok-Some-clause-gives g c = grind (arith, common_steps)

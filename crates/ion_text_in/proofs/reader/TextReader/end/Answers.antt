@@ -18,3 +18,6 @@ returns-then-is_annotated-clause-stepped g c = grind (arith, common_steps) steps
 
 pub returns-then-is_inside-clause-stepped : goal.returns-then-is_inside-clause-stepped
 returns-then-is_inside-clause-stepped g c = grind (arith, common_steps) steps 400000
+
+pub returns-in-Value-clause-ready : goal.returns-in-Value-clause-ready
+returns-in-Value-clause-ready g c = grind (arith, common_steps)

@@ -1,4 +1,5 @@
-use Rattle.std.proofs.Common.{◌≡◌, ◌∙◌, ℕ, ◌≤◌, ◌++◌, List, Ok, length, sym, ap, subst, false}
+use Rattle.std.proofs.lemmas.Grind.{common_steps}
+use Rattle.std.proofs.Common.{◌≡◌, ◌∙◌, ℕ, ◌≤◌, ◌++◌, List, Ok, length, sym, ap, subst, false, arith}
 use Rattle.ion_meter.specs.Sources.{cursor}
 use Rattle.ion_value.proofs.Passing.{lent-there}
 use Rattle.ion_text_in.specs.Blanks.{blanks}
@@ -23,3 +24,6 @@ returns-then-shows_colon-clause-gives g c = λ h d blank.
     gives-same device _ _ c.at_colon.new.self c.at_colon.result
     (name-here r c.args.symbol c.args.place d (cursor device s) (blank ∙ none) (lent-there device.rest s 1 some) (ap (λ (l : List ℕ). first_at false l) all ∙ first _))
     (c.at_colon.ensures.gives h)
+
+pub at_colon-requires-clause-there : goal.at_colon-requires-clause-there
+at_colon-requires-clause-there g c = grind (arith, common_steps)

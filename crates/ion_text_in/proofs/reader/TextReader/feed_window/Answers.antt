@@ -60,3 +60,6 @@ returns-clause-goes g c = grind (arith, common_steps)
 
 pub overflow_sub-taken : goal.overflow_sub-taken
 overflow_sub-taken g c = grind (arith, common_steps) steps 400000
+
+pub returns-clause-same : goal.returns-clause-same
+returns-clause-same g c = grind (arith, common_steps)

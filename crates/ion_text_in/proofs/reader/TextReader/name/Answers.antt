@@ -39,3 +39,9 @@ returns-in-Ok-clause-stepped g c =
     let can = c.requires.can_step in
     let read = reached-name g.I.Input r s t c.args.meter.now c.next_word.new.meter c.in-Ok.word can.sized can.held c.in-Ok.ensures.reads in
     stepped-behind g.I.Input step_result.Item r (record r { source = s; name = t }) c.word_field.new.self c.args.meter.now c.next_word.new.meter c.word_field.new.meter c.word_field.result can.held read c.word_field.ensures.stepped
+
+pub returns-in-Ok-clause-goes : goal.returns-in-Ok-clause-goes
+returns-in-Ok-clause-goes g c = grind (arith, common_steps)
+
+pub returns-in-Err-clause-goes : goal.returns-in-Err-clause-goes
+returns-in-Err-clause-goes g c = grind (arith, common_steps)

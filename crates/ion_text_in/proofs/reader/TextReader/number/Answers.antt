@@ -58,3 +58,9 @@ quick-requires-clause-inside g c = grind (arith, common_steps) steps 400000
 
 pub consume-requires : goal.consume-requires
 consume-requires g c = grind (arith, common_steps) steps 400000
+
+pub returns-in_default : goal.returns-in_default
+returns-in_default g c = grind (arith, common_steps)
+
+pub other-requires : goal.other-requires
+other-requires g c = grind (arith, common_steps)

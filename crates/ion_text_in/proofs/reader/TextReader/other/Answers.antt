@@ -30,3 +30,6 @@ returns-in-Ok-clause-stepped g c =
 
 pub returns-in-Err-clause-goes : goal.returns-in-Err-clause-goes
 returns-in-Err-clause-goes g c = grind (arith, common_steps) steps 400000
+
+pub returns-in-Ok-clause-ready : goal.returns-in-Ok-clause-ready
+returns-in-Ok-clause-ready g c = grind (arith, common_steps)

@@ -44,3 +44,9 @@ returns-in-Ok-clause-stepped g c =
 
 pub returns-in-Err-clause-goes : goal.returns-in-Err-clause-goes
 returns-in-Err-clause-goes g c = grind (arith, common_steps) steps 400000
+
+pub next_quoted_symbol-requires-clause-given : goal.next_quoted_symbol-requires-clause-given
+next_quoted_symbol-requires-clause-given g c = grind (arith, common_steps)
+
+pub returns-in-Ok-clause-ready : goal.returns-in-Ok-clause-ready
+returns-in-Ok-clause-ready g c = grind (arith, common_steps)

@@ -10,3 +10,6 @@ returns-clause-gives g c = λ h d blank.
 
 pub returns-clause-stepped : goal.returns-clause-stepped
 returns-clause-stepped g c = grind (arith, common_steps)
+
+pub returns-clause-ready : goal.returns-clause-ready
+returns-clause-ready g c = grind (arith, common_steps)

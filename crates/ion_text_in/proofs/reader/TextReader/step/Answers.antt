@@ -110,3 +110,15 @@ returns-in-Err-clause-further g c = grind (arith, common_steps) steps 400000
 
 pub returns-in-Ok-Some-clause-further : goal.returns-in-Ok-Some-clause-further
 returns-in-Ok-Some-clause-further g c = grind (arith, common_steps) steps 400000
+
+pub returns-in-Ok-Some-next_first-clause-goes : goal.returns-in-Ok-Some-next_first-clause-goes
+returns-in-Ok-Some-next_first-clause-goes g c = grind (arith, common_steps)
+
+pub returns-in-Err-next_first-clause-gives : goal.returns-in-Err-next_first-clause-gives
+returns-in-Err-next_first-clause-gives g c = grind (arith, common_steps)
+
+pub returns-in-Err-clause-gives : goal.returns-in-Err-clause-gives
+returns-in-Err-clause-gives g c = grind (arith, common_steps)
+
+pub returns-in-Ok-None-next_first-clause-ready : goal.returns-in-Ok-None-next_first-clause-ready
+returns-in-Ok-None-next_first-clause-ready g c = grind (arith, common_steps)

@@ -116,3 +116,30 @@ returns-then-is_colons-clause-stepped g c =
     let two = reached-look device mid t m c.in-Ok-next_first.found one.sized can.held c.in-Ok-next_first.ensures.reads in
     let both = reached-then device r mid last m m m can.held one two in
     stepped-behind device step_result.Item r last c.annotate.new.self m m c.annotate.new.meter c.annotate.result can.held both c.annotate.ensures.stepped
+
+pub returns-then-is_colons-clause-goes : goal.returns-then-is_colons-clause-goes
+returns-then-is_colons-clause-goes g c = grind (arith, common_steps)
+
+pub returns-then-told_first-gt0-clause-goes : goal.returns-then-told_first-gt0-clause-goes
+returns-then-told_first-gt0-clause-goes g c = grind (arith, common_steps)
+
+pub annotate-requires-clause-can_step : goal.annotate-requires-clause-can_step
+annotate-requires-clause-can_step g c = grind (arith, common_steps)
+
+pub symbol_value-requires-2-clause-sized : goal.symbol_value-requires-2-clause-sized
+symbol_value-requires-2-clause-sized g c = grind (arith, common_steps)
+
+pub returns-then-is_colons-clause-ready : goal.returns-then-is_colons-clause-ready
+returns-then-is_colons-clause-ready g c = grind (arith, common_steps)
+
+pub symbol_value-requires-2-clause-inside : goal.symbol_value-requires-2-clause-inside
+symbol_value-requires-2-clause-inside g c = grind (arith, common_steps)
+
+pub annotate-requires-clause-value : goal.annotate-requires-clause-value
+annotate-requires-clause-value g c = grind (arith, common_steps)
+
+pub returns-clause-ready : goal.returns-clause-ready
+returns-clause-ready g c = grind (arith, common_steps)
+
+pub symbol_value-requires-2-clause-value : goal.symbol_value-requires-2-clause-value
+symbol_value-requires-2-clause-value g c = grind (arith, common_steps)

@@ -28,3 +28,6 @@ returns-then-not-is_version_word-clause-stepped g c = grind (arith, common_steps
 
 pub returns-clause-ready : goal.returns-clause-ready
 returns-clause-ready g c = grind (arith, common_steps) steps 400000
+
+pub returns-then-not-is_version_word-clause-gives : goal.returns-then-not-is_version_word-clause-gives
+returns-then-not-is_version_word-clause-gives g c = grind (arith, common_steps)

@@ -14,3 +14,9 @@ returns-in_default g c = grind (arith, common_steps)
 pub returns-in-Symbol-clause-gives : goal.returns-in-Symbol-clause-gives
 unfolding take
 returns-in-Symbol-clause-gives g c = grind (arith, common_steps) steps 400000
+
+pub returns-in-String-None-clause-goes : goal.returns-in-String-None-clause-goes
+returns-in-String-None-clause-goes g c = grind (arith, common_steps)
+
+pub returns-in-Symbol-clause-goes : goal.returns-in-Symbol-clause-goes
+returns-in-Symbol-clause-goes g c = grind (arith, common_steps)

@@ -24,3 +24,6 @@ returns-in-Comma-clause-stepped g c = grind (arith, common_steps) steps 400000
 pub returns-in_default : goal.returns-in_default
 unfolding take
 returns-in_default g c = grind (arith, common_steps)
+
+pub returns-in-Comma-clause-ready : goal.returns-in-Comma-clause-ready
+returns-in-Comma-clause-ready g c = grind (arith, common_steps)

@@ -22,3 +22,18 @@ returns-in_default-clause-stepped g c = grind (arith, common_steps)
 pub returns-in-Begin-clause-gives : goal.returns-in-Begin-clause-gives
 unfolding take
 returns-in-Begin-clause-gives g c = grind (arith, common_steps) steps 400000
+
+pub returns-in-End-clause-gives : goal.returns-in-End-clause-gives
+returns-in-End-clause-gives g c = grind (arith, common_steps)
+
+pub returns-in-Symbol-clause-gives : goal.returns-in-Symbol-clause-gives
+returns-in-Symbol-clause-gives g c = grind (arith, common_steps)
+
+pub returns-in-Plain-clause-goes : goal.returns-in-Plain-clause-goes
+returns-in-Plain-clause-goes g c = grind (arith, common_steps)
+
+pub returns-in-Operator-clause-goes : goal.returns-in-Operator-clause-goes
+returns-in-Operator-clause-goes g c = grind (arith, common_steps)
+
+pub returns-in-String-clause-goes : goal.returns-in-String-clause-goes
+returns-in-String-clause-goes g c = grind (arith, common_steps)

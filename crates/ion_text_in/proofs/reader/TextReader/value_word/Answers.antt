@@ -38,3 +38,9 @@ returns-in-Ok-clause-stepped g c =
     let can = c.requires.can_step in
     let read = reached-text g.I.Input r s t c.args.meter.now c.next_word.new.meter c.in-Ok.word can.sized can.held c.in-Ok.ensures.reads in
     stepped-behind g.I.Input step_result.Item r (record r { source = s; text = t }) c.word_value.new.self c.args.meter.now c.next_word.new.meter c.word_value.new.meter c.word_value.result can.held read c.word_value.ensures.stepped
+
+pub returns-in-Ok-clause-goes : goal.returns-in-Ok-clause-goes
+returns-in-Ok-clause-goes g c = grind (arith, common_steps)
+
+pub returns-in-Err-clause-goes : goal.returns-in-Err-clause-goes
+returns-in-Err-clause-goes g c = grind (arith, common_steps)

@@ -1,4 +1,5 @@
-use Rattle.std.proofs.Common.{◌≡◌, ◌∙◌, ℕ, Bool, false, List, Option, refl, sym, ap}
+use Rattle.std.proofs.lemmas.Grind.{common_steps}
+use Rattle.std.proofs.Common.{◌≡◌, ◌∙◌, ℕ, Bool, false, List, Option, refl, sym, ap, arith}
 use Rattle.ion_meter.specs.declared.fault.Reason.TheVariants.{BadToken}
 use Rattle.ion_meter.specs.declared.limits.Limits.{Limits}
 use Rattle.ion_meter.specs.Sources.{Cursor, cursor}
@@ -25,3 +26,6 @@ returns-in-Separator-clause-gives g c = λ h.
     let r = c.args.self.now in
     let here = cursor g.I.Input r.source in
     part-refused r.limits (state_at here r) here a_word (no-word r.expected (field_in r) (annotations_in r) c.in-Separator.is) ∙ ap (λ (p : ℕ). Stopped BadToken p) (sym c.place.ensures)
+
+pub returns-in-Separator-clause-stepped : goal.returns-in-Separator-clause-stepped
+returns-in-Separator-clause-stepped g c = grind (arith, common_steps)

@@ -14,3 +14,9 @@ returns-in-Name-clause-gives g c = grind (arith, common_steps) steps 400000
 pub returns-in-Id-clause-gives : goal.returns-in-Id-clause-gives
 unfolding take
 returns-in-Id-clause-gives g c = grind (arith, common_steps) steps 400000
+
+pub returns-in-Id-clause-goes : goal.returns-in-Id-clause-goes
+returns-in-Id-clause-goes g c = grind (arith, common_steps)
+
+pub returns-in-Name-clause-goes : goal.returns-in-Name-clause-goes
+returns-in-Name-clause-goes g c = grind (arith, common_steps)

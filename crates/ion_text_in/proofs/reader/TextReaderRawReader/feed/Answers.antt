@@ -82,3 +82,18 @@ returns-clause-exceeds g c = grind (arith, common_steps)
 
 pub returns-then-self-clause-writer : goal.returns-then-self-clause-writer
 returns-then-self-clause-writer g c = grind (arith, common_steps) steps 400000
+
+pub returns-clause-same : goal.returns-clause-same
+returns-clause-same g c = grind (arith, common_steps)
+
+pub returns-then-self-clause-charges : goal.returns-then-self-clause-charges
+returns-then-self-clause-charges g c = grind (arith, common_steps)
+
+pub returns-clause-ended : goal.returns-clause-ended
+returns-clause-ended g c = grind (arith, common_steps)
+
+pub returns-then-self-clause-exceeds : goal.returns-then-self-clause-exceeds
+returns-then-self-clause-exceeds g c = grind (arith, common_steps)
+
+pub feed_window-values-requires-clause-stands : goal.feed_window-values-requires-clause-stands
+feed_window-values-requires-clause-stands g c = grind (arith, common_steps)

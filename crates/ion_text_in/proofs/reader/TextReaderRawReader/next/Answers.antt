@@ -55,3 +55,27 @@ returns-in-Some-clause-stays g c = grind (arith, common_steps) steps 400000
 
 pub returns-then-self-clause-again : goal.returns-then-self-clause-again
 returns-then-self-clause-again g c = grind (arith, common_steps) steps 400000
+
+pub returns-in-Ok-clause-ends : goal.returns-in-Ok-clause-ends
+returns-in-Ok-clause-ends g c = grind (arith, common_steps)
+
+pub returns-in-Err-clause-charges : goal.returns-in-Err-clause-charges
+returns-in-Err-clause-charges g c = grind (arith, common_steps)
+
+pub returns-in-Ok-clause-charges : goal.returns-in-Ok-clause-charges
+returns-in-Ok-clause-charges g c = grind (arith, common_steps)
+
+pub returns-in-Err-clause-refuses : goal.returns-in-Err-clause-refuses
+returns-in-Err-clause-refuses g c = grind (arith, common_steps)
+
+pub returns-in-Err-clause-goes : goal.returns-in-Err-clause-goes
+returns-in-Err-clause-goes g c = grind (arith, common_steps)
+
+pub returns-in-Ok-clause-goes : goal.returns-in-Ok-clause-goes
+returns-in-Ok-clause-goes g c = grind (arith, common_steps)
+
+pub returns-in-Some-clause-fits : goal.returns-in-Some-clause-fits
+returns-in-Some-clause-fits g c = grind (arith, common_steps)
+
+pub returns-then-self-clause-fits : goal.returns-then-self-clause-fits
+returns-then-self-clause-fits g c = grind (arith, common_steps)

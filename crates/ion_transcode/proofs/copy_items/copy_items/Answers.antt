@@ -1,4 +1,5 @@
 use Rattle.std.proofs.Common.{rules, ◌≡◌, ℕ, ◌+◌, ◌<◌, ◌≤◌, List, [], ◌∷◌, ◌++◌, length, Some, None, Ok, Err, true, refl, ap, sym, subst, ◌∙◌, add-zero, le_trans, arith}
+use Rattle.std.proofs.lemmas.Grind.{common_steps}
 use Rattle.std.proofs.lemmas.List.{append-nil}
 use Rattle.ion_meter.specs.Windows.{so_far, HasPrefix}
 use Rattle.ion_value.specs.Items.{item_of}
@@ -542,3 +543,54 @@ returns-clause-charges g c =
     let few = subst (λ n. w.own c.items.writer ≤ n) i.writer_most (g.met.W.ValueWriter.within c.items.writer i.writer).share in
     charges_read (owned_by r.own c.args.reader.now) (w.own c.args.writer.now) (owned_by r.own c.items.reader) (w.own c.items.writer) (owned_by r.own c.next.new.self) (share_of r.most c.args.reader.now) (w.most c.args.writer.now)
     i.charges c.next.ensures.charges share c.requires.room.held few
+
+pub items-init : goal.items-init
+items-init g c = grind (arith, common_steps)
+
+pub feed-fed-requires-clause-level : goal.feed-fed-requires-clause-level
+feed-fed-requires-clause-level g c = grind (arith, common_steps)
+
+pub values_behind-ended-requires : goal.values_behind-ended-requires
+values_behind-ended-requires g c = grind (arith, common_steps)
+
+pub returns-in_err-begin-clause-joined : goal.returns-in_err-begin-clause-joined
+returns-in_err-begin-clause-joined g c = grind (arith, common_steps)
+
+pub item-requires-clause-room : goal.item-requires-clause-room
+item-requires-clause-room g c = grind (arith, common_steps)
+
+pub item-requires-clause-held : goal.item-requires-clause-held
+item-requires-clause-held g c = grind (arith, common_steps)
+
+pub returns-in_err-begin-clause-charges : goal.returns-in_err-begin-clause-charges
+returns-in_err-begin-clause-charges g c = grind (arith, common_steps)
+
+pub returns-in_err-begin-clause-says : goal.returns-in_err-begin-clause-says
+returns-in_err-begin-clause-says g c = grind (arith, common_steps)
+
+pub next-requires-clause-room : goal.next-requires-clause-room
+next-requires-clause-room g c = grind (arith, common_steps)
+
+pub feed-fed-requires-clause-fresh : goal.feed-fed-requires-clause-fresh
+feed-fed-requires-clause-fresh g c = grind (arith, common_steps)
+
+pub feed-fed-requires-clause-ready : goal.feed-fed-requires-clause-ready
+feed-fed-requires-clause-ready g c = grind (arith, common_steps)
+
+pub returns-in-Err-flush_ended-clause-stands : goal.returns-in-Err-flush_ended-clause-stands
+returns-in-Err-flush_ended-clause-stands g c = grind (arith, common_steps)
+
+pub returns-in-Err-flush_ended-clause-bytes : goal.returns-in-Err-flush_ended-clause-bytes
+returns-in-Err-flush_ended-clause-bytes g c = grind (arith, common_steps)
+
+pub returns-in-Err-clause-stands : goal.returns-in-Err-clause-stands
+returns-in-Err-clause-stands g c = grind (arith, common_steps)
+
+pub returns-in-Err-clause-bytes : goal.returns-in-Err-clause-bytes
+returns-in-Err-clause-bytes g c = grind (arith, common_steps)
+
+pub item-requires-clause-sound : goal.item-requires-clause-sound
+item-requires-clause-sound g c = grind (arith, common_steps)
+
+pub next-requires-clause-held : goal.next-requires-clause-held
+next-requires-clause-held g c = grind (arith, common_steps)

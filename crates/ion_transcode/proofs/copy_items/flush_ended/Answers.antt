@@ -14,3 +14,12 @@ returns-in-Err-clause-well g c = grind (arith, common_steps) steps 400000
 
 pub returns-in-Err-clause-count : goal.returns-in-Err-clause-count
 returns-in-Err-clause-count g c = grind (arith, common_steps) steps 400000
+
+pub returns-in-Err-clause-puts : goal.returns-in-Err-clause-puts
+returns-in-Err-clause-puts g c = grind (arith, common_steps)
+
+pub returns-in-Ok-clause-puts : goal.returns-in-Ok-clause-puts
+returns-in-Ok-clause-puts g c = grind (arith, common_steps)
+
+pub returns-in-Ok-clause-count : goal.returns-in-Ok-clause-count
+returns-in-Ok-clause-count g c = grind (arith, common_steps)

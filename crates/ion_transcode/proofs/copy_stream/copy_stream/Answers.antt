@@ -1,4 +1,5 @@
-use Rattle.std.proofs.Common.{rules, ◌≡◌, [], refl, subst}
+use Rattle.std.proofs.Common.{rules, ◌≡◌, [], refl, subst, arith}
+use Rattle.std.proofs.lemmas.Grind.{common_steps}
 use Rattle.ion_meter.specs.Windows.{so_far}
 use Rattle.ion_value.specs.Reading.{Reading}
 use Rattle.ion_value.specs.Outcome.{output_behind}
@@ -36,3 +37,24 @@ returns-clause-causes g c =
       grown = λ o. prefix-then _ _ _ (finished.grown (copied.still_observable.1 o)) (copied.grown o);
       limit = search rules;
     }
+
+pub returns-clause-charges : goal.returns-clause-charges
+returns-clause-charges g c = grind (arith, common_steps)
+
+pub returns-clause-stands : goal.returns-clause-stands
+returns-clause-stands g c = grind (arith, common_steps)
+
+pub release-raw-requires : goal.release-raw-requires
+release-raw-requires g c = grind (arith, common_steps)
+
+pub returns-clause-input : goal.returns-clause-input
+returns-clause-input g c = grind (arith, common_steps)
+
+pub returns-clause-bytes : goal.returns-clause-bytes
+returns-clause-bytes g c = grind (arith, common_steps)
+
+pub copy_items-outcome-requires-clause-writer : goal.copy_items-outcome-requires-clause-writer
+copy_items-outcome-requires-clause-writer g c = grind (arith, common_steps)
+
+pub copy_items-outcome-requires-clause-reader : goal.copy_items-outcome-requires-clause-reader
+copy_items-outcome-requires-clause-reader g c = grind (arith, common_steps)

@@ -63,3 +63,24 @@ returns-in-Err-clause-causes g c =
 
 pub returns-in-Err-clause-charges : goal.returns-in-Err-clause-charges
 returns-in-Err-clause-charges g c = grind (arith, common_steps) steps 400000
+
+pub returns-in-Ok-clause-charges : goal.returns-in-Ok-clause-charges
+returns-in-Ok-clause-charges g c = grind (arith, common_steps)
+
+pub returns-in-Ok-clause-cheap : goal.returns-in-Ok-clause-cheap
+returns-in-Ok-clause-cheap g c = grind (arith, common_steps)
+
+pub release-requires-in-Err : goal.release-requires-in-Err
+release-requires-in-Err g c = grind (arith, common_steps)
+
+pub into_catalog-requires : goal.into_catalog-requires
+into_catalog-requires g c = grind (arith, common_steps)
+
+pub release-requires : goal.release-requires
+release-requires g c = grind (arith, common_steps)
+
+pub returns-in-Ok-clause-bytes : goal.returns-in-Ok-clause-bytes
+returns-in-Ok-clause-bytes g c = grind (arith, common_steps)
+
+pub copy_stream-outcome-requires-clause-writer : goal.copy_stream-outcome-requires-clause-writer
+copy_stream-outcome-requires-clause-writer g c = grind (arith, common_steps)

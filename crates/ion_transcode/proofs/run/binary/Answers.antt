@@ -4,3 +4,15 @@ use Rattle.ion_transcode.proofs.run.binary.Goals as goal
 
 pub returns-clause-charges : goal.returns-clause-charges
 returns-clause-charges g c = grind (arith, common_steps) steps 400000
+
+pub release-requires : goal.release-requires
+release-requires g c = grind (arith, common_steps)
+
+pub returns-clause-bytes : goal.returns-clause-bytes
+returns-clause-bytes g c = grind (arith, common_steps)
+
+pub write-outcome-requires-clause-reader : goal.write-outcome-requires-clause-reader
+write-outcome-requires-clause-reader g c = grind (arith, common_steps)
+
+pub returns-clause-input : goal.returns-clause-input
+returns-clause-input g c = grind (arith, common_steps)

@@ -1,4 +1,5 @@
-use Rattle.std.proofs.Common.{◌≡◌, ◌++◌, List, ℕ, subst}
+use Rattle.std.proofs.Common.{◌≡◌, ◌++◌, List, ℕ, subst, arith}
+use Rattle.std.proofs.lemmas.Grind.{common_steps}
 use Rattle.std.specs.Prelude.{OnOk}
 use Rattle.ion_meter.specs.Windows.{HasPrefix}
 use Rattle.ion_value.specs.Outcome.{Verdict}
@@ -35,3 +36,15 @@ returns-clause-prefix g c i o v out has_verdict =
     let bytes = g.I.Input.rest c.args.input in
     let same = (c.one_verdict.ensures c.args.catalog.now c.args.limits c.args.to bytes _ v _ out (c.streams_are_read.ensures c.args.catalog.now c.args.limits c.args.to bytes) has_verdict).1 in
     subst (λ (l : List ℕ). HasPrefix (g.O.Output.written c.args.output ++ l) (g.O.Output.written c.transcode.result.2)) same (c.transcode.ensures.writes i o).prefix
+
+pub returns-clause-peak_of_binary : goal.returns-clause-peak_of_binary
+returns-clause-peak_of_binary g c = grind (arith, common_steps)
+
+pub returns-clause-peak_of_form : goal.returns-clause-peak_of_form
+returns-clause-peak_of_form g c = grind (arith, common_steps)
+
+pub returns-clause-memory : goal.returns-clause-memory
+returns-clause-memory g c = grind (arith, common_steps)
+
+pub returns-clause-limit : goal.returns-clause-limit
+returns-clause-limit g c = grind (arith, common_steps)

@@ -1,0 +1,48 @@
+use Rattle.std.proofs.Common.{arith}
+use Rattle.std.proofs.lemmas.Grind.{common_steps}
+use Rattle.ion_transcode.proofs.run.transcode.Goals as goal
+
+pub returns-clause-causes : goal.returns-clause-causes
+returns-clause-causes g c = grind (arith, common_steps)
+
+pub returns-in-Err-new-clause-causes : goal.returns-in-Err-new-clause-causes
+returns-in-Err-new-clause-causes g c = grind (arith, common_steps)
+
+pub returns-in-Err-clause-causes : goal.returns-in-Err-clause-causes
+returns-in-Err-clause-causes g c = grind (arith, common_steps)
+
+pub returns-clause-gives_back : goal.returns-clause-gives_back
+returns-clause-gives_back g c = grind (arith, common_steps)
+
+pub returns-clause-writes : goal.returns-clause-writes
+returns-clause-writes g c = grind (arith, common_steps)
+
+pub returns-in-Err-new-clause-writes : goal.returns-in-Err-new-clause-writes
+returns-in-Err-new-clause-writes g c = grind (arith, common_steps)
+
+pub returns-in-Err-clause-writes : goal.returns-in-Err-clause-writes
+returns-in-Err-clause-writes g c = grind (arith, common_steps)
+
+pub returns-in-Err-new-clause-gives_back : goal.returns-in-Err-new-clause-gives_back
+returns-in-Err-new-clause-gives_back g c = grind (arith, common_steps)
+
+pub returns-clause-bytes : goal.returns-clause-bytes
+returns-clause-bytes g c = grind (arith, common_steps)
+
+pub returns-clause-input : goal.returns-clause-input
+returns-clause-input g c = grind (arith, common_steps)
+
+pub returns-in-Err-new-clause-input : goal.returns-in-Err-new-clause-input
+returns-in-Err-new-clause-input g c = grind (arith, common_steps)
+
+pub returns-clause-says : goal.returns-clause-says
+returns-clause-says g c = grind (arith, common_steps)
+
+pub returns-in-Err-clause-input : goal.returns-in-Err-clause-input
+returns-in-Err-clause-input g c = grind (arith, common_steps)
+
+pub returns-in-Err-clause-gives_back : goal.returns-in-Err-clause-gives_back
+returns-in-Err-clause-gives_back g c = grind (arith, common_steps)
+
+pub release-requires-2 : goal.release-requires-2
+release-requires-2 g c = grind (arith, common_steps)

@@ -270,9 +270,17 @@ step limits s = step_in limits s.frames s.top s.cursor
 abbrev pub size : State → ℕ
 size s = 2 * length s.cursor.rest + length s.frames
 
--- the state before the first of these bytes: nothing is open, and the place is 0
+-- the state in which a reading begins here: nothing is open
+abbrev pub start_at : Cursor → State
+start_at c = record { frames = []; top = 0; cursor = c }
+
+-- all that a reader gives from here on
+abbrev pub reading_from : Limits → Cursor → Reading
+reading_from limits c = reading_by (step limits) size (start_at c)
+
+-- the state before the first of these bytes, at place 0
 abbrev pub start : List ℕ → State
-start bytes = record { frames = []; top = 0; cursor = record { place = 0; rest = bytes } }
+start bytes = start_at (record { place = 0; rest = bytes })
 
 -- all that a reader gives of these bytes
 unfoldable pub reading : Limits → List ℕ → Reading

@@ -89,6 +89,10 @@ pub record PutsOctets {O T : Type 0} (device : OutputOf O) (old new : Outgoing O
 abbrev pub limits_of : {A : Type 0} → BinWriter A → Limits
 limits_of w = w.limits
 
+-- the fault that it answered
+abbrev pub failed_of : {A : Type 0} → BinWriter A → Option Fault
+failed_of w = w.failed
+
 -- nothing was put, and nothing is held
 pub record IsNew {A : Type 0} (w : BinWriter A) : Type 0 where
   pub well : w.failed ≡ None

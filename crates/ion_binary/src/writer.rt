@@ -12,7 +12,7 @@ ghost use Rattle.ion_value.specs.Value.{end};
 ghost use Rattle.ion_binary.specs.Canonical.{is_over, marker_if};
 ghost use Rattle.ion_binary.specs.Held.{closed_in, headers_around, texts_forgotten, value_held, value_put};
 ghost use Rattle.ion_binary.specs.Opening.{IsOpen, MayCome};
-ghost use Rattle.ion_binary.specs.Writer.{CanPut, CanTake, ComesAt, Follows, IsNew, IsSound, PutsOctets, Stands, Taken, added, adds_at, held_closed, held_in, item_refusal, limits_of, most_of, own_of};
+ghost use Rattle.ion_binary.specs.Writer.{CanPut, CanTake, ComesAt, Follows, IsNew, IsSound, PutsOctets, Stands, Taken, added, adds_at, failed_of, held_closed, held_in, item_refusal, limits_of, most_of, own_of};
 ghost use Rattle.ion_binary.specs.Writing.{Written, binary_adds, binary_puts, binary_refusal};
 ghost use Rattle.ion_binary.specs.ItemPuts.{binary_grows, binary_silent};
 ghost use Rattle.ion_binary.specs.WriterWithin.{binary-within};
@@ -362,11 +362,11 @@ impl<O: Output, A: Allocator + Copy> ValueWriter<O, A> for BinWriter<A> {
 
     ghost stands = { λ w path. Stands w path };
 
-    ghost failed = { λ w. w.failed };
+    ghost failed = { failed_of };
 
     ghost own = { own_of };
 
-    ghost most = { λ w. most_of w.limits };
+    ghost most = { λ w. most_of (limits_of w) };
 
     ghost sound = { λ w. IsSound w };
 

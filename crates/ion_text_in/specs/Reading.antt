@@ -264,9 +264,17 @@ step limits s = step_of (part_at limits s)
 abbrev pub size : State → ℕ
 size s = length s.cursor.rest
 
--- the state before the first of these bytes: nothing is open, the place is 0, and a value may come
+-- the state in which a reading begins here: nothing is open, and a value may come
+abbrev pub start_at : Cursor → State
+start_at c = record { kinds = []; top = 0; wants = a_value None []; cursor = c }
+
+-- all that a reader gives from here on
+abbrev pub reading_from : Limits → Cursor → Reading
+reading_from limits c = reading_by (step limits) size (start_at c)
+
+-- the state before the first of these bytes, at place 0
 abbrev pub start : List ℕ → State
-start bytes = record { kinds = []; top = 0; wants = a_value None []; cursor = record { place = 0; rest = bytes } }
+start bytes = start_at (record { place = 0; rest = bytes })
 
 -- all that a reader gives of these bytes
 unfoldable pub reading : Limits → List ℕ → Reading

@@ -1,5 +1,5 @@
 -- What is seen of the reader, and what one step of it asks for, gives, keeps and moves.
-use Rattle.std.specs.Prelude.{◌≡◌, ◌≢◌, ℕ, ◌+◌, ◌*◌, ◌-◌, ◌^◌, ◌<◌, ◌≤◌, Bool, true, List, [], length, reverse, Option, Some, None, Result, Ok, Err}
+use Rattle.std.specs.Prelude.{◌≡◌, ◌≢◌, ℕ, ◌+◌, ◌*◌, ◌-◌, ◌^◌, ◌<◌, ◌≤◌, Bool, true, false, List, [], length, reverse, Option, Some, None, Result, Ok, Err}
 use Rattle.std.proofs.Common.{arith}
 use Rattle.std.proofs.lemmas.List.{length-reverse}
 use Rattle.ion_meter.specs.Counts.{Counts}
@@ -10,7 +10,7 @@ use Rattle.ion_meter.specs.declared.fault.Reason.TheVariants.{Truncated}
 use Rattle.ion_meter.specs.declared.limits.Limits.{Limits}
 use Rattle.ion_meter.specs.Limits.{AreChecked}
 use Rattle.ion_meter.specs.Sources.{Cursor, cursor, Stands}
-use Rattle.ion_meter.specs.Windows.{left}
+use Rattle.ion_meter.specs.Windows.{Incoming, left}
 use Rattle.ion_value.specs.declared.ion_type.Kind.{Kind}
 use Rattle.ion_value.specs.Calls.{ReadsInto}
 use Rattle.ion_value.specs.Parts.{Placed, part}
@@ -57,6 +57,26 @@ lent_by r = record { field = field_in r; annotations = annotations_in r; head = 
 -- the kinds of its open containers, the innermost first
 abbrev pub opened_in : {I A : Type 0} → TextReader I A → List Kind
 opened_in r = reverse r.kinds
+
+-- the source that it reads
+abbrev pub source_of : {I A : Type 0} → TextReader I A → Incoming I
+source_of r = r.source
+
+-- its limits
+abbrev pub limits_of : {I A : Type 0} → TextReader I A → Limits
+limits_of r = r.limits
+
+-- the fault that it answered, which it answers again
+abbrev pub failed_of : {I A : Type 0} → TextReader I A → Option Fault
+failed_of r = r.failed
+
+-- it has answered that its stream ends
+abbrev pub HasEnded : {I A : Type 0} → TextReader I A → Type 0
+HasEnded r = r.done ≡ true
+
+-- its stream has neither ended nor failed
+abbrev pub IsGoing : {I A : Type 0} → TextReader I A → Type 0
+IsGoing r = (r.done ≡ false) × (r.failed ≡ None)
 
 -- the counted bytes that it holds
 abbrev pub held_by : {I A : Type 0} → TextReader I A → ℕ

@@ -12,12 +12,12 @@ ghost use Rattle.ion_value.specs.Shares.{GoesWithReading, GrowsWithin};
 ghost use Rattle.ion_text_in.specs.Blanks.{blanks};
 ghost use Rattle.ion_text_in.specs.Positions.{at, innermost, in_sexp};
 ghost use Rattle.ion_text_in.specs.Reading as reading;
-ghost use Rattle.ion_text_in.specs.Reading.{reading};
+ghost use Rattle.ion_text_in.specs.Reading.{reading, reading_from};
 ghost use Rattle.ion_text_in.specs.Token.{name};
 ghost use Rattle.ion_text_in.specs.Tokens.{as_symbol, going, token_view, BodyInRange};
 ghost use Rattle.ion_text_in.specs.Symbols.{is_annotated, kept_text};
 ghost use Rattle.ion_text_in.specs.Expecting.{wanted, MayExpect};
-ghost use Rattle.ion_text_in.specs.Steps.{annotations_in, closing, ending, given_by, held_by, left_to, lent_by, naming, naming_here, opened_in, opening, scalar_by, share_of, sound-within, taking, to_come_by, to_come_in, with_colons, without_colons, CanAdvance, CanStep, IsInside, IsReady, IsSized, IsSound, ReadyAfter, StepGives, Stepped};
+ghost use Rattle.ion_text_in.specs.Steps.{annotations_in, closing, ending, failed_of, given_by, held_by, left_to, lent_by, limits_of, naming, naming_here, opened_in, opening, scalar_by, share_of, sound-within, source_of, taking, to_come_by, to_come_in, with_colons, without_colons, CanAdvance, CanStep, HasEnded, IsGoing, IsInside, IsReady, IsSized, IsSound, ReadyAfter, StepGives, Stepped};
 
 mod lanes;
 mod lent;
@@ -107,9 +107,11 @@ impl<I: Input, A: Allocator + Copy> TextReader<I, A> {
         requires checked { AreChecked limits }
         requires stands { Stands source }
         ensures sound { IsSound result }
-        ensures source { (result.source ≡ source) × (result.limits ≡ limits) }
+        ensures source { (source_of result ≡ source) × (limits_of result ≡ limits) }
         ensures holds { held_by result ≡ 4096 }
-        ensures fresh { (result.done ≡ false) × (result.failed ≡ None) }
+        ensures fresh { IsGoing result }
+        ensures from { to_come_by I.Input result
+            ≡ reading_from limits (cursor I.Input source) }
         ensures reading { source.place ≡ 0
             → to_come_by I.Input result ≡ reading limits (left I.rest source) }
     {
@@ -135,7 +137,7 @@ impl<I: Input, A: Allocator + Copy> TextReader<I, A> {
     /// Gives back all that it holds, and hands out the device.
     pub fn release(self, meter: &mut Meter<A>) -> I
         requires { held_by self ≤ meter.old.held }
-        ensures device { result ≡ self.source.device }
+        ensures device { result ≡ (source_of self).device }
         ensures cost { Shrinks meter.old meter.new (held_by self) }
     {
         let TextReader {
@@ -626,7 +628,7 @@ impl<I: Input, A: Allocator + Copy> TextReader<I, A> {
 }
 
 impl<I: Input, A: Allocator + Copy> RawReader<A> for TextReader<I, A> {
-    ghost observable = { λ s. I.observable s.source.device };
+    ghost observable = { λ s. I.observable (source_of s).device };
 
     ghost reading = { to_come_by I.Input };
 
@@ -634,29 +636,29 @@ impl<I: Input, A: Allocator + Copy> RawReader<A> for TextReader<I, A> {
 
     ghost current = { lent_by };
 
-    ghost failed = { λ s. s.failed };
+    ghost failed = { failed_of };
 
-    ghost ended = { λ s. s.done ≡ true };
+    ghost ended = { HasEnded };
 
     ghost opened = { opened_in };
 
-    ghost depth = { λ s. s.limits.depth };
+    ghost depth = { λ s. (limits_of s).depth };
 
     ghost own = { held_by };
 
     ghost most = { share_of };
 
-    ghost failures = { λ s. I.failure_count s.source.device };
+    ghost failures = { λ s. I.failure_count (source_of s).device };
 
-    ghost exceeds = { λ s. Exceeds I.Input s.source };
+    ghost exceeds = { λ s. Exceeds I.Input (source_of s) };
 
-    ghost bytes_left = { λ s. BytesAreLeft I.Input s.source };
+    ghost bytes_left = { λ s. BytesAreLeft I.Input (source_of s) };
 
     ghost left = { left_to };
 
     ghost sound = { λ s. IsSound s
-        × (s.done ≡ true → I.observable s.source.device
-        → (to_come_by I.Input s ≡ Finished) × (left I.rest s.source ≡ [])) };
+        × (HasEnded s → I.observable (source_of s).device
+        → (to_come_by I.Input s ≡ Finished) × (left I.rest (source_of s) ≡ [])) };
 
     fn next(&mut self, meter: &mut Meter<A>) -> Result<bool, Fault> {
         if let Some(fault) = self.failed {

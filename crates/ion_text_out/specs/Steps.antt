@@ -1,21 +1,38 @@
 -- What one step of the writer asks for, puts, keeps and moves.
-use Rattle.std.specs.Prelude.{◌≡◌, ℕ, ◌*◌, ◌-◌, ◌^◌, ◌<◌, ◌≤◌, List, length, ◌++◌, Some, None, Result, Err, OnOk}
+use Rattle.std.specs.Prelude.{◌≡◌, ℕ, ◌*◌, ◌-◌, ◌^◌, ◌<◌, ◌≤◌, List, [], length, ◌++◌, Option, Some, None, Result, Err, OnOk}
 use Rattle.ion_meter.specs.Counts.{Counts}
 use Rattle.ion_meter.specs.Windows.{Outgoing, so_far, Puts, PutsPart}
 use Rattle.ion_meter.specs.declared.device.Output.{Ghosts as OutputOf}
 use Rattle.ion_meter.specs.declared.fault.Fault.{Fault}
 use Rattle.ion_meter.specs.declared.fault.Fault.TheVariants.{Memory}
+use Rattle.ion_meter.specs.declared.limits.Limits.{Limits}
 use Rattle.ion_value.specs.Shares.{Charges}
 use Rattle.ion_value.specs.Standing.{HeadInRange}
 use Rattle.ion_value.specs.Value.{Head, PlacedItem}
 use Rattle.ion_text_out.specs.declared.writer.TextWriter.{TextWriter}
 use Rattle.ion_text_out.specs.Text.{Open, item_text}
-use Rattle.ion_text_out.specs.Writing.{shown, HasRoom, IsReady}
+use Rattle.ion_text_out.specs.Writing.{shown, HasRoom, IsReady, Shows}
 use Rattle.ion_value.specs.Value.{user_item}
 
 -- the containers that it has open
 abbrev pub opened_in : {A : Type 0} → TextWriter A → Open
 opened_in w = shown w.kinds w.empty
+
+-- its limits
+abbrev pub limits_of : {A : Type 0} → TextWriter A → Limits
+limits_of w = w.limits
+
+-- the fault that it answered
+abbrev pub failed_of : {A : Type 0} → TextWriter A → Option Fault
+failed_of w = w.failed
+
+-- what it has put is these items
+abbrev pub HasShown : {A : Type 0} → TextWriter A → List PlacedItem → Type 0
+HasShown w path = (w.failed ≡ None) × Shows w.kinds w.empty path
+
+-- it has put nothing, and nothing has failed
+abbrev pub HasPutNothing : {A : Type 0} → TextWriter A → Type 0
+HasPutNothing w = (w.kinds ≡ []) × (w.failed ≡ None)
 
 -- the counted bytes that it holds
 abbrev pub held_by : {A : Type 0} → TextWriter A → ℕ

@@ -14,10 +14,10 @@ ghost use Rattle.ion_value.specs.Shares.{MemoryCauses, WriteCauses, fault_of};
 ghost use Rattle.ion_text_out.specs.Escape.{between_quotes};
 ghost use Rattle.ion_text_out.specs.Text.{end_text, head_text, open_after, opener, symbol_text, with_member};
 ghost use Rattle.ion_text_out.specs.Lane.{plain_begin, plain_front, plain_scalar, spelled_by, spelling};
-ghost use Rattle.ion_text_out.specs.Writing.{text_puts, text_adds, text_refusal, IsReady, Shows};
+ghost use Rattle.ion_text_out.specs.Writing.{text_puts, text_adds, text_refusal};
 ghost use Rattle.ion_value.specs.Value.{user_symbol, user_symbol_at};
 ghost use Rattle.ion_value.specs.Standing.{HeadInRange};
-ghost use Rattle.ion_text_out.specs.Steps.{CanStep, HasRoomFor, MayCome, PutsText, Stepped, held_by, opened_in, share_of, text_of};
+ghost use Rattle.ion_text_out.specs.Steps.{CanStep, HasPutNothing, HasRoomFor, HasShown, IsSound, MayCome, PutsText, Stepped, failed_of, held_by, limits_of, opened_in, share_of, text_of};
 ghost use Rattle.ion_text_out.specs.Written.{text_grows, text-within};
 
 use crate::bare::is_bare;
@@ -61,9 +61,9 @@ impl<A: Allocator + Copy> TextWriter<A> {
     /// A writer that has put nothing. It takes no memory.
     pub fn new(meter: &Meter<A>, limits: Limits) -> TextWriter<A>
         requires checked { AreChecked limits }
-        ensures limits { result.limits ≡ limits }
-        ensures nothing { (result.kinds ≡ []) × (result.failed ≡ None) }
-        ensures ready { IsReady result.limits (length result.kinds) }
+        ensures limits { limits_of result ≡ limits }
+        ensures nothing { HasPutNothing result }
+        ensures ready { IsSound result }
     {
         TextWriter {
             limits,
@@ -75,8 +75,8 @@ impl<A: Allocator + Copy> TextWriter<A> {
 
     /// Gives back what it holds.
     pub fn release(self, meter: &mut Meter<A>)
-        requires { 16 * length self.kinds ≤ meter.old.held }
-        ensures { Shrinks meter.old meter.new (16 * length self.kinds) }
+        requires { held_by self ≤ meter.old.held }
+        ensures { Shrinks meter.old meter.new (held_by self) }
     {
         let TextWriter {
             limits: _,
@@ -498,19 +498,19 @@ impl<O: Output, A: Allocator + Copy> ValueWriter<O, A> for TextWriter<A> {
 
     ghost refusal = { text_refusal };
 
-    ghost limits = { λ w. w.limits };
+    ghost limits = { limits_of };
 
-    ghost is_new = { λ w. (w.kinds ≡ []) × (w.failed ≡ None) };
+    ghost is_new = { HasPutNothing };
 
-    ghost stands = { λ w path. (w.failed ≡ None) × Shows w.kinds w.empty path };
+    ghost stands = { HasShown };
 
-    ghost failed = { λ w. w.failed };
+    ghost failed = { failed_of };
 
     ghost own = { held_by };
 
     ghost most = { share_of };
 
-    ghost sound = { λ w. IsReady w.limits (length w.kinds) };
+    ghost sound = { IsSound };
 
     fn begin(&mut self, sink: &mut Sink<O, A>) -> Result<(), Fault> {
         let outcome = sink.put(b"");

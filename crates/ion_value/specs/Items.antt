@@ -49,6 +49,14 @@ raw_head code.Marker = value.marker
 abbrev pub raw_annotations : {N : Type 0} → Annotations N → List SymbolAt
 raw_annotations annotations = map (raw_annotation annotations.texts.now) annotations.entries.now
 
+-- what has the texts of their ids
+abbrev pub names_of : {N : Type 0} → Annotations N → N
+names_of annotations = annotations.names.now
+
+-- and those of an item's
+abbrev pub item_names : {N : Type 0} → Item N → N
+item_names item = names_of item.annotations
+
 -- the item with its ids as they are
 abbrev pub raw_item : {N : Type 0} → Item N → PlacedItem
 raw_item item = record {
@@ -79,11 +87,11 @@ named_item texts item = map_item (named_at texts) (λ place. place) item
 
 -- the annotations of an item in order, each id that has a text by the item's own names being that text
 abbrev pub annotations_of : {N : Type 0} → (N → ℕ → Option (List ℕ)) → Annotations N → List SymbolAt
-annotations_of text annotations = map (named_at (text annotations.names.now)) (raw_annotations annotations)
+annotations_of text annotations = map (named_at (text (names_of annotations))) (raw_annotations annotations)
 
 -- the item by the texts that its own names have for ids
 abbrev pub item_of : {N : Type 0} → (N → ℕ → Option (List ℕ)) → Item N → PlacedItem
-item_of text item = named_item (text item.annotations.names.now) (raw_item item)
+item_of text item = named_item (text (item_names item)) (raw_item item)
 
 -- whether a list has no element
 abbrev pub is_none_left : {T : Type 0} → List T → Bool

@@ -1,6 +1,6 @@
 //! Items: what readers give and writers take, one at a time.
 ghost use Rattle.std.specs.Prelude.{◌≡◌, ⊤, map, length, slice_get, slice_range};
-ghost use Rattle.ion_value.specs.Items.{symbol_at, named_at, raw_field, raw_head, raw_annotation, raw_annotations, raw_item, named_item, annotations_of, item_of, is_none_left};
+ghost use Rattle.ion_value.specs.Items.{symbol_at, named_at, raw_field, raw_head, raw_annotation, raw_annotations, raw_item, named_item, annotations_of, item_names, item_of, names_of, is_none_left};
 
 use crate::decimal::Decimal;
 use crate::int::Int;
@@ -129,7 +129,7 @@ impl<'a, N: Names> Annotations<'a, N> {
     #[inline]
     pub fn new(entries: &'a [Annotation], texts: &'a [u8], names: &'a N) -> Annotations<'a, N>
         ensures entries { raw_annotations result ≡ map (raw_annotation texts.now) entries.now }
-        ensures names { result.names.now ≡ names.now }
+        ensures names { names_of result ≡ names.now }
     {
         Annotations {
             entries,
@@ -204,7 +204,7 @@ impl<'a, N: Names> Item<'a, N> {
           place = place;
           top = top;
         } }
-        ensures names { result.annotations.names.now ≡ annotations.entry.names.now }
+        ensures names { item_names result ≡ names_of annotations.entry }
     {
         Item {
             field,

@@ -40,8 +40,9 @@ pub record AnswersWith (tables : List Shared) (limits : Limits) (to : To) (strea
   pub long : status ≡ 3 → limits.input < length stream
   pub known : status ≤ 4
   pub room_kept : 1 < status → after ≡ before
+  pub accepted_keeps : status ≡ 0 → new ≡ record old { values = new.values; needed = new.needed }
+  pub refused_keeps : status ≡ 1 → new ≡ record old { reason = new.reason; place = new.place; needed = new.needed }
   pub answer_kept : 1 < status → new ≡ old
-  pub size_kept : new.size ≡ old.size
 
 -- a status of a call, the answer beside it, and what was left in the room: that of the stream with the tables of the catalogue, and beside these
 -- 3: the catalogue is longer than the limit on the input; 5: structs of another size, or limits above their maxima; 6: the catalogue is refused
@@ -56,5 +57,7 @@ pub record Answers (limits : CozgeltLimits) (to : To) (catalog stream : List ℕ
   pub catalog_refused : status ≡ 6 → (r : Reason) × (new.reason ≡ number_of r) × HasCatalogVerdict (limits_of limits) catalog (Rejected r new.place)
   pub known : status ≤ 6
   pub room_kept : 1 < status → after ≡ before
+  pub accepted_keeps : status ≡ 0 → new ≡ record old { values = new.values; needed = new.needed }
+  pub refused_keeps : status ≡ 1 → new ≡ record old { reason = new.reason; place = new.place; needed = new.needed }
+  pub catalog_keeps : status ≡ 6 → new ≡ record old { reason = new.reason; place = new.place }
   pub answer_kept : 1 < status → status ≢ 6 → new ≡ old
-  pub size_kept : new.size ≡ old.size

@@ -3,7 +3,7 @@
 //! `bindings/c/cozgelt.h` declares them, and says what a caller has to keep that no contract can say.
 #![tactic(auto)]
 
-ghost use Rattle.std.specs.Prelude.{◌≡◌, ◌≤◌, ◌<◌, ◌-◌, ◌^◌, ◌++◌, length, drop, None, IfSome};
+ghost use Rattle.std.specs.Prelude.{◌≡◌, ◌≢◌, ◌≤◌, ◌<◌, ◌-◌, ◌^◌, ◌++◌, length, drop, None, IfSome};
 ghost use Rattle.ion_meter.specs.Limits.{AreChecked};
 ghost use Rattle.ion_meter.specs.Reasons.{number_of};
 ghost use Rattle.ion_transcode.specs.declared.to.To.TheVariants as to;
@@ -126,6 +126,7 @@ fn convert_with(
     ensures answers { AnswersWith tables.now limits to stream.now result
         answer.old answer.new room.old room.new }
     ensures held { meter.new.held ≡ meter.old.held }
+    ensures counted { result ≢ 2 → meter.new.refused ≡ meter.old.refused }
 {
     let reader = FromRead::new(stream);
     let writer = ToWrite::new(Vec::new(alloc));

@@ -17,7 +17,7 @@ sys.dont_write_bytecode = True
 sys.path[:0] = ["packaging", "checks"]
 import linked
 import make_dist
-from counts import Counts
+from counts import Counts, files_of
 
 WHEN = datetime.datetime.fromtimestamp(1, datetime.timezone.utc)
 COMMIT = types.SimpleNamespace(number="0" * 40, time=1, when=WHEN, version="0.2.0~19700101.000000000")
@@ -59,6 +59,28 @@ def judge_tarball(counts, given, folder):
         counts.judge({(entry.mtime, entry.uid, entry.uname) for entry in entries.values()} == {(1, 0, "root")}, "times and owners")
         with open(given.program, "rb") as program:
             counts.judge(tar.extractfile("cozgelt/bin/ion").read() == program.read(), "the program as it was built")
+
+
+def judge_emptied(counts, folder):
+    """A folder of an earlier run is emptied; one that holds anything else stays as it is."""
+    version, sum = COMMIT.version, "0" * 64
+    own = {f"cozgelt_{version}_amd64.deb", f"cozgelt-{version}-linux-amd64.tar.gz", f"cozgelt-{version}.spdx.json"}
+    own = {name: b"" for name in own} | {"SHA256SUMS": "".join(f"{sum}  {name}\n" for name in own).encode()}
+    for number, (what, more) in enumerate({
+        "what a run made": {}, "a text": {"mine.txt": b"x"}, "a hidden file": {".git": b"x"}, "a folder": {"library/lib.a": b"x"},
+        "a folder of such a name": {"cozgelt_1_amd64.deb/mine": b"x"}, "a package of another": {"other_1_amd64.deb": b"x"},
+        "sums of others": {"SHA256SUMS": f"{sum}  mine.txt\n".encode()},
+    }.items()):
+        out = f"{folder}/out{number}"
+        make_dist.emptied(out)
+        for name, data in {**own, **more}.items():
+            make_dist.write(f"{out}/{name}", 0o644, data)
+        before = files_of(out)
+        try:
+            make_dist.emptied(out)
+            counts.judge(not more and not os.listdir(out), f"emptied: {what}", os.listdir(out))
+        except SystemExit:
+            counts.judge(more and files_of(out) == before, f"kept: {what}", files_of(out))
 
 
 def linked_by(name):
@@ -108,6 +130,7 @@ def main():
         given = types.SimpleNamespace(program=os.path.abspath(sys.argv[1]), library=stand_in(folder + "/library"), kit=kit)
         judge_tarball(counts, given, folder)
         judge_control(counts, given)
+        judge_emptied(counts, folder)
     judge_linked(counts)
     return counts.close()
 

@@ -7,7 +7,8 @@ that is linked (SPDX), and SHA256SUMS.
 PREFIX is where `make -C bindings/c install PREFIX=..` has put the library for C, PROGRAM is
 crates/ion_tool/out/ion_tool where it is not named, and KIT, of which the licence texts are taken, /opt/rattle. The same
 program, library and commit give the same bytes, whenever and wherever it is run: times are the commit's, and owners
-root. docs/INSTALL.md says where each file goes.
+root. What an earlier run made in FOLDER goes; where anything else is there, nothing is done. docs/INSTALL.md says where
+each file goes.
 """
 import argparse
 import datetime
@@ -17,7 +18,6 @@ import io
 import json
 import os
 import re
-import shutil
 import subprocess
 import sys
 import tarfile
@@ -36,6 +36,8 @@ transcoder for Amazon Ion 1.0, proved
  The program ion shows, checks and converts streams of Amazon Ion 1.0, text or
  binary, in small and bounded memory. What it writes and what it refuses is
  proved to be what its definitions say. With the library for C."""
+# The names that a run gives; those of SHA256SUMS are such.
+MADE = rf"{NAME}(_\d\S*_amd64\.deb|-\d\S*(-linux-amd64\.tar\.gz|\.spdx\.json))"
 # In Debian's folders; a tarball is unpacked below a prefix, where zsh looks elsewhere.
 ZSH = {"deb": "share/zsh/vendor-completions/_ion", "tar": "share/zsh/site-functions/_ion"}
 
@@ -154,6 +156,26 @@ def shlibs(commit, listed):
     return f"libcozgelt {next(filter(None, numbers))[1]} {NAME} (>= {commit.version})\n"
 
 
+def is_made(path):
+    """Whether this is a file that a run makes."""
+    if os.path.islink(path) or not os.path.isfile(path):
+        return False
+    if os.path.basename(path) == "SHA256SUMS":
+        return re.fullmatch(rf"([0-9a-f]{{64}}  {MADE}\n)+", read(path).decode("utf-8", "replace"))
+    return re.fullmatch(MADE, os.path.basename(path))
+
+
+def emptied(folder):
+    """Makes the folder, or takes away what an earlier run made there. Where anything else is in it, nothing is done."""
+    os.makedirs(folder, exist_ok=True)
+    paths = [os.path.join(folder, name) for name in sorted(os.listdir(folder))]
+    for path in paths:
+        if not is_made(path):
+            sys.exit(f"{path} was not made by this, so nothing in its folder is touched")
+    for path in paths:
+        os.remove(path)
+
+
 def make_package(path, listed, commit, libc):
     with tempfile.TemporaryDirectory() as root:
         os.chmod(root, 0o755)
@@ -194,8 +216,7 @@ def main():
     kit_line = read(f"{given.kit}/KIT-ID").decode().strip()
     listing = linked.spdx(commit.version, commit.number, f"{commit.when:%Y-%m-%dT%H:%M:%SZ}", kit_line, libc)
     spdx = (json.dumps(listing, indent=1) + "\n").encode()
-    shutil.rmtree(given.out, ignore_errors=True)
-    os.makedirs(given.out)
+    emptied(given.out)
     top = f"{NAME}-{commit.version}"
     made = [f"{NAME}_{commit.version}_amd64.deb", f"{top}-linux-amd64.tar.gz", f"{top}.spdx.json"]
     make_package(f"{given.out}/{made[0]}", list(files("deb", given, commit, spdx)), commit, libc)

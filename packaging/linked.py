@@ -33,11 +33,13 @@ def package(name, version, licence, text="NOASSERTION"):
     }
 
 
-def spdx(version, commit, made, kit_line, libc):
-    """The list. `made` is the time of the commit, and `libc` the oldest C library that has all names that are used."""
+def spdx(version, commit, made, kit_line, libc, gcc):
+    """The list. `made` is the time of the commit, `libc` the oldest C library that has all names that are used, and `gcc` the
+    compilers whose libgcc is linked."""
     own = package("cozgelt", version, "Apache-2.0", "Copyright 2026 the Cozgelt authors")
     static = [package(name, number, licence.replace(" or ", " OR ")) for name, number, licence, _ in crates()]
     static.append(package("rattle-kit", kit_line, "NOASSERTION"))
+    static.append(package("libgcc", gcc, "GPL-3.0-or-later WITH GCC-exception-3.1"))
     system = package("glibc", f"{libc} or newer", "LGPL-2.1-or-later")
     relations = [("SPDXRef-DOCUMENT", "DESCRIBES", own["SPDXID"])]
     relations += [(own["SPDXID"], "STATIC_LINK", each["SPDXID"]) for each in static]

@@ -7,7 +7,8 @@ that is linked (SPDX), and SHA256SUMS.
 PREFIX is where `make -C bindings/c install PREFIX=..` has put the library for C, PROGRAM is
 crates/ion_tool/out/ion_tool where it is not named, and KIT, of which the licence texts are taken, /opt/rattle. The same
 program, library and commit give the same bytes, whenever and wherever it is run: times are the commit's, and owners
-root. docs/INSTALL.md says where each file goes.
+root. What an earlier run made in FOLDER goes; where anything else is there, nothing is done. docs/INSTALL.md says where
+each file goes.
 """
 import argparse
 import datetime
@@ -17,7 +18,6 @@ import io
 import json
 import os
 import re
-import shutil
 import subprocess
 import sys
 import tarfile
@@ -35,7 +35,13 @@ DESCRIPTION = """\
 transcoder for Amazon Ion 1.0, proved
  The program ion shows, checks and converts streams of Amazon Ion 1.0, text or
  binary, in small and bounded memory. What it writes and what it refuses is
- proved to be what its definitions say. With the library for C."""
+ proved to be what its definitions say. A float other than null.float is
+ refused.
+ .
+ With a library for C that does the same in memory. No value can be read from
+ it but out of what it writes."""
+# The names that a run gives; those of SHA256SUMS are such.
+MADE = rf"{NAME}(_\d\S*_amd64\.deb|-\d\S*(-linux-amd64\.tar\.gz|\.spdx\.json))"
 # In Debian's folders; a tarball is unpacked below a prefix, where zsh looks elsewhere.
 ZSH = {"deb": "share/zsh/vendor-completions/_ion", "tar": "share/zsh/site-functions/_ion"}
 
@@ -65,6 +71,12 @@ def oldest_libc(paths):
     return ".".join(map(str, max(tuple(map(int, number.split(b"."))) for number in found)))
 
 
+def compilers(paths):
+    """The versions of gcc that these files say: its code for division by 128 bits is in them."""
+    found = {number.decode() for path in paths for number in re.findall(rb"GCC: \([^)\0]*\) (\d+(?:\.\d+)+)", read(path))}
+    return ", ".join(sorted(found)) or "NOASSERTION"
+
+
 def packed(data):
     made = io.BytesIO()
     with gzip.GzipFile("", "wb", 9, made, mtime=0) as file:
@@ -83,8 +95,8 @@ def library_files(prefix):
     shared = [name for name in names if re.fullmatch(r"libcozgelt\.so(\.\d+)+", name)]
     if len(shared) != 1 or "libcozgelt.a" not in names:
         sys.exit(f"{prefix}/lib has no libcozgelt.a, or not one libcozgelt.so.N")
-    yield "include/cozgelt.h", 0o644, read(f"{prefix}/include/cozgelt.h")
-    yield "lib/libcozgelt.a", 0o644, read(f"{prefix}/lib/libcozgelt.a")
+    for name in ("include/cozgelt.h", "lib/libcozgelt.a", "lib/pkgconfig/cozgelt.pc"):
+        yield name, 0o644, read(f"{prefix}/{name}")
     yield f"lib/{shared[0]}", 0o644, read(f"{prefix}/lib/{shared[0]}")
     yield "lib/libcozgelt.so", None, shared[0]
 
@@ -99,8 +111,10 @@ def files(form, given, commit, spdx):
     yield ZSH[form], 0o644, read(f"{pages}/_ion")
     yield "share/fish/vendor_completions.d/ion.fish", 0o644, read(f"{pages}/ion.fish")
     yield f"{DOC}/changelog.gz", 0o644, packed(read(f"{ROOT}/CHANGELOG.md"))
-    for page in ("REFUSALS.md", "DIFFERENCES.md"):
+    for page in ("REFUSALS.md", "DIFFERENCES.md", "LIBRARY.md"):
         yield f"{DOC}/{page}", 0o644, read(f"{ROOT}/docs/{page}")
+    for name in ("example.c", "stream.c"):
+        yield f"{DOC}/examples/{name}", 0o644, read(f"{ROOT}/bindings/c/{name}")
     for name, path in linked.licence_texts(given.kit):
         yield f"{DOC}/licences/{name}", 0o644, read(path)
     yield f"{DOC}/{NAME}.spdx.json", 0o644, spdx
@@ -143,7 +157,7 @@ def write(path, mode, data):
 def control(commit, listed, libc):
     room = sum((len(data) + 1023) // 1024 for _, _, data in listed)
     lines = [f"Package: {NAME}", f"Version: {commit.version}", "Architecture: amd64", f"Maintainer: {MAINTAINER}"]
-    lines += [f"Installed-Size: {room}", f"Depends: libc6 (>= {libc})", "Section: utils", "Priority: optional"]
+    lines += [f"Installed-Size: {room}", f"Depends: libc6 (>= {libc}), sse4.2-support", "Section: utils", "Priority: optional"]
     lines += [f"Description: {DESCRIPTION}"]
     return "\n".join(lines) + "\n"
 
@@ -152,6 +166,26 @@ def shlibs(commit, listed):
     """What a package that links the shared library depends on."""
     numbers = [re.fullmatch(r"lib/libcozgelt\.so\.([\d.]+)", name) for name, _, _ in listed]
     return f"libcozgelt {next(filter(None, numbers))[1]} {NAME} (>= {commit.version})\n"
+
+
+def is_made(path):
+    """Whether this is a file that a run makes."""
+    if os.path.islink(path) or not os.path.isfile(path):
+        return False
+    if os.path.basename(path) == "SHA256SUMS":
+        return re.fullmatch(rf"([0-9a-f]{{64}}  {MADE}\n)+", read(path).decode("utf-8", "replace"))
+    return re.fullmatch(MADE, os.path.basename(path))
+
+
+def emptied(folder):
+    """Makes the folder, or takes away what an earlier run made there. Where anything else is in it, nothing is done."""
+    os.makedirs(folder, exist_ok=True)
+    paths = [os.path.join(folder, name) for name in sorted(os.listdir(folder))]
+    for path in paths:
+        if not is_made(path):
+            sys.exit(f"{path} was not made by this, so nothing in its folder is touched")
+    for path in paths:
+        os.remove(path)
 
 
 def make_package(path, listed, commit, libc):
@@ -190,12 +224,11 @@ def main():
     subprocess.run([sys.executable, "packaging/make_pages.py", "--check", given.program], check=True)
     commit = Commit(given.program)
     shared = [f"{given.library}/lib/{name}" for name in os.listdir(f"{given.library}/lib") if ".so." in name]
-    libc = oldest_libc([given.program, *shared])
+    libc, gcc = oldest_libc([given.program, *shared]), compilers([given.program, *shared])
     kit_line = read(f"{given.kit}/KIT-ID").decode().strip()
-    listing = linked.spdx(commit.version, commit.number, f"{commit.when:%Y-%m-%dT%H:%M:%SZ}", kit_line, libc)
+    listing = linked.spdx(commit.version, commit.number, f"{commit.when:%Y-%m-%dT%H:%M:%SZ}", kit_line, libc, gcc)
     spdx = (json.dumps(listing, indent=1) + "\n").encode()
-    shutil.rmtree(given.out, ignore_errors=True)
-    os.makedirs(given.out)
+    emptied(given.out)
     top = f"{NAME}-{commit.version}"
     made = [f"{NAME}_{commit.version}_amd64.deb", f"{top}-linux-amd64.tar.gz", f"{top}.spdx.json"]
     make_package(f"{given.out}/{made[0]}", list(files("deb", given, commit, spdx)), commit, libc)

@@ -1,6 +1,6 @@
 #!/usr/bin/env python3
-"""Writes the man page and the completions of bash, zsh and fish from what the program says of itself, or checks that they
-are so.
+"""Writes the man page and the completions of bash, zsh and fish from what the program says of itself, and the crate for Rust
+of the reasons, or checks that they are so.
 
     packaging/make_pages.py PROGRAM           writes packaging/pages/{ion.1,ion.bash,_ion,ion.fish}
     packaging/make_pages.py --check PROGRAM   says which of them differ; the status is then 1
@@ -13,7 +13,10 @@ import re
 import subprocess
 import sys
 
-FOLDER = os.path.join(os.path.dirname(os.path.abspath(__file__)), "pages")
+HERE = os.path.dirname(os.path.abspath(__file__))
+FOLDER = os.path.join(HERE, "pages")
+# where each reason stands with a sentence, by number
+REASONS = os.path.join(HERE, "../bindings/rust/src/reason.rs")
 HEADINGS = ("Usage", "Arguments", "Commands", "Options", "Exit status", "Examples", "Example")
 # What an option takes, by the name of its value in the help: files, any number, or one of these words.
 FILES, NUMBER, FORMS = "FILE", "N", "FORM"
@@ -30,6 +33,8 @@ stream then has a name:
 A stream is binary where its first byte is E0, whatever the file is called. A script that may run twice says --to, since convert
 alone would turn everything back. Binary is not written again as binary: that is refused as SameForm at 0.
 
+A float other than null.float is refused, as Float. JSON is read as text, but for a number with an exponent, which is a float.
+
 Where the reader of a pipe ends before the output does, as head does, the next write fails, and ion ends with "write
 fault" and status 3. Nothing is wrong with the stream then, and what head has printed is right:
 
@@ -40,11 +45,21 @@ stands before it. In a pipe "set -o pipefail" keeps the status."""
 
 DIAGNOSTICS = (
     ("refused REASON at PLACE",
-     "The stream is not valid, or passes a limit. PLACE is the number of bytes before the faulty part. Status 1."),
+     "The stream is not valid, passes a limit or has a float. PLACE is the number of bytes before the faulty part. Status 1."),
     ("catalog refused REASON at PLACE", "The same of the file behind --catalog. Status 1."),
     ("cannot open FILE", "The file is not there, or may not be read. Status 3."),
     ("no memory, read fault, write fault", "The system failed; nothing is said of the stream. Status 3."),
 )
+
+BUGS = """\
+A file whose name is not UTF-8 is read by standard input alone. What is said of a stream names neither the file nor the line:
+
+  head -c PLACE FILE | wc -l
+
+counts the line ends before the fault. Controls from U+0080 to U+009F and marks of direction in a text are shown as they are."""
+SEE_ALSO = """\
+share/doc/cozgelt below /usr, or below the prefix of a tarball: REFUSALS.md has an input for each reason, DIFFERENCES.md what other
+readers of Ion do, LIBRARY.md the same calls from C, Rust and Python."""
 
 
 def said(program, *words):
@@ -116,7 +131,7 @@ class Help:
                 found.setdefault((tuple(names), value, meaning), []).append(name)
         for names, value, meaning in self.top_options:
             found.setdefault((tuple(names), value, meaning), [])
-        return found
+        return dict(sorted(found.items(), key=lambda row: row[0][0][-1] in ("--help", "--version")))
 
 
 # ---- the man page
@@ -153,6 +168,12 @@ def ended(text):
     return roff(text.rstrip(".") + ".")
 
 
+def reasons():
+    """The name of each reason, and what it says."""
+    with open(REASONS, encoding="utf-8") as file:
+        return re.findall(r'^ {4}(\w+) = \d+ "(.+)",$', file.read(), re.M)
+
+
 def man_page(said_by):
     lines = [f'.TH ION 1 "" "{said_by.title}" "User Commands"', ".SH NAME"]
     lines += ["ion \\- shows, checks and converts Amazon Ion 1.0", ".SH SYNOPSIS"]
@@ -169,7 +190,9 @@ def man_page(said_by):
     lines += [".SH NOTES", *paragraphs(NOTES.splitlines())]
     lines += [".SH EXIT STATUS", *entries((name, ended(meaning)) for name, meaning in said_by.statuses)]
     lines += [".SH DIAGNOSTICS", "On standard error:", *entries((name, roff(meaning)) for name, meaning in DIAGNOSTICS)]
+    lines += [".SH REASONS", *entries((name, roff(meaning.replace("`", ""))) for name, meaning in reasons())]
     lines += [".SH EXAMPLES", ".nf", *map(roff, said_by.examples), ".fi"]
+    lines += [".SH BUGS", *paragraphs(BUGS.splitlines()), ".SH SEE ALSO", *paragraphs(SEE_ALSO.splitlines())]
     return without_twice(lines)
 
 

@@ -1,4 +1,5 @@
-/* Amazon Ion 1.0 in the caller's memory, text or binary: as canonical text, as binary, or checked.
+/* Amazon Ion 1.0 in the caller's memory, text or binary: as canonical text, as binary, or checked. It is a transcoder: no value can
+ * be read from it but out of what it writes. A float other than null.float is refused (Float, 11).
  *
  * What a call answers, and every byte that it writes, is proved (crates/cozgelt_c), of callers that keep what no proof sees of C:
  *  - each pointer is not null, also where its length is 0, and points at as many bytes as its length says;
@@ -6,6 +7,7 @@
  *  - room and answer overlap neither one another nor limits, catalog or stream (these may overlap one another), and nobody else
  *    uses them during the call, nor changes limits, catalog or stream;
  *  - malloc, realloc and free belong together, and malloc aligns as C asks of it;
+ *  - the CPU is an x86-64-v2 (SSE4.2), and the stack has 24 KB left;
  *  - no call is made from a signal handler, nor in a forked child of a process that had threads.
  *
  * A call keeps nothing. It takes memory by malloc, for the whole output too, and gives all of it back before it returns. There is
@@ -13,8 +15,11 @@
  *
  * The statuses 2 and 4 come where malloc gave nothing; no proof sees malloc, so that this is only tested.
  *
+ * libcozgelt.a is linked with libgcc too (-lgcc), which a compiler adds by itself.
+ *
  * What does not lie in memory is for the program: a stream of any length goes through `ion show`, `ion convert` or `ion check` by a
- * pipe. stream.c, beside this file, does that; docs/LIBRARY.md has the whole. */
+ * pipe. An example, stream.c, does that. It and LIBRARY.md, which has the whole, are installed in share/doc/cozgelt; in the
+ * repository they are bindings/c/stream.c and docs/LIBRARY.md. */
 #ifndef COZGELT_H
 #define COZGELT_H
 
@@ -80,7 +85,7 @@ uint32_t cozgelt_to_binary(const CozgeltLimits *limits, const uint8_t *catalog, 
 uint32_t cozgelt_check(const CozgeltLimits *limits, const uint8_t *catalog, size_t catalog_len, const uint8_t *stream,
                        size_t stream_len, uint8_t *room, size_t room_len, CozgeltAnswer *answer);
 
-/* The name of a reason, as docs/REFUSALS.md has it; "" of any other number. */
+/* The name of a reason, as REFUSALS.md has it; "" of any other number. */
 static inline const char *cozgelt_reason(uint32_t number) {
     static const char *const names[] = {
         "", "Truncated", "BadDescriptor", "BadVar", "Overrun", "BadVersion", "BadAnnotation", "BadNumber", "BadTimestamp",

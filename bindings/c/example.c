@@ -15,10 +15,18 @@ static Call *call_of(const char *word) {
     return strcmp(word, "check") ? 0 : cozgelt_check;
 }
 
-/* All bytes of a file, which is then closed; null where it is not there or there is no memory. */
-static uint8_t *read_all(FILE *from, size_t *length) {
+/* Says what failed; the status of all that is no verdict. */
+static int fault(const char *what, const char *name) {
+    fprintf(stderr, "%s%s\n", what, name);
+    return 3;
+}
+
+/* All bytes of a file, or of standard input where it has no name, which are to be freed; null where they can't be had. */
+static uint8_t *read_all(const char *name, size_t *length) {
+    FILE *from = name ? fopen(name, "rb") : stdin;
+    if (!from) return fault("cannot open ", name), NULL;
     size_t size = 1 << 16, got;
-    uint8_t *bytes = from ? malloc(size) : 0;
+    uint8_t *bytes = malloc(size);
     *length = 0;
     while (bytes && (got = fread(bytes + *length, 1, size - *length, from)) > 0) {
         *length += got;
@@ -28,8 +36,11 @@ static uint8_t *read_all(FILE *from, size_t *length) {
             bytes = more;
         }
     }
-    if (from) fclose(from);
-    return bytes;
+    int failed = ferror(from); /* fread gives nothing at the end, and where it fails */
+    if (name) fclose(from);
+    if (bytes && !failed) return bytes;
+    free(bytes);
+    return fault(failed ? "read fault" : "no memory", ""), NULL;
 }
 
 /* The status, and all of the output, which is to be freed: one call that asks for its length, and one with so much room. */
@@ -43,34 +54,34 @@ static uint32_t convert(Call *call, const uint8_t *catalog, size_t catalog_len, 
     return call(&limits, catalog, catalog_len, stream, stream_len, *room, answer->needed, answer);
 }
 
+/* Says what the answer is; the status. */
+static int tell(uint32_t status, const CozgeltAnswer *answer) {
+    unsigned long long place = answer->place;
+    if (status == COZGELT_ACCEPTED) return 0;
+    if (status == COZGELT_NO_MEMORY || status == COZGELT_NO_OUTPUT_MEMORY) return fault("no memory", "");
+    if (status != COZGELT_REFUSED && status != COZGELT_CATALOG_REFUSED) return fault("no limits of this library", "");
+    const char *of = status == COZGELT_REFUSED ? "" : "catalog ";
+    fprintf(stderr, "%srefused %s at %llu\n", of, cozgelt_reason(answer->reason), place);
+    return 1;
+}
+
 int main(int words, char **word) {
-    Call *call = words > 1 ? call_of(word[1]) : 0;
+    Call *call = words > 1 && words < 5 ? call_of(word[1]) : 0;
     if (!call || cozgelt_version() != COZGELT_VERSION) return 2;
     size_t stream_len, catalog_len = 0;
-    uint8_t *stream = read_all(words > 2 ? fopen(word[2], "rb") : stdin, &stream_len), *output;
-    uint8_t *catalog = words > 3 ? read_all(fopen(word[3], "rb"), &catalog_len) : calloc(1, 1);
-    if (!stream || !catalog) {
-        free(stream), free(catalog);
-        return 3;
-    }
-
+    uint8_t none = 0, *catalog = &none, *output;
+    if (words > 3 && !(catalog = read_all(word[3], &catalog_len))) return 3;
+    uint8_t *stream = read_all(words > 2 ? word[2] : 0, &stream_len);
     CozgeltAnswer answer = COZGELT_ANSWER;
-    uint32_t status = convert(call, catalog, catalog_len, stream, stream_len, &output, &answer);
-    free(stream), free(catalog);
+    uint32_t status = stream ? convert(call, catalog, catalog_len, stream, stream_len, &output, &answer) : COZGELT_NO_MEMORY;
+    if (words > 3) free(catalog);
+    if (!stream) return 3;
+    free(stream);
+
     if (status <= COZGELT_REFUSED) fwrite(output, 1, answer.needed, stdout);
+    if (call == cozgelt_check && status == COZGELT_ACCEPTED) printf("ok %llu values\n", (unsigned long long)answer.values);
     free(output);
-    switch (status) {
-    case COZGELT_ACCEPTED:
-        if (call == cozgelt_check) printf("ok %llu values\n", (unsigned long long)answer.values);
-        return 0;
-    case COZGELT_REFUSED:
-        fprintf(stderr, "refused %s at %llu\n", cozgelt_reason(answer.reason), (unsigned long long)answer.place);
-        return 1;
-    case COZGELT_CATALOG_REFUSED:
-        fprintf(stderr, "catalog refused %s at %llu\n", cozgelt_reason(answer.reason), (unsigned long long)answer.place);
-        return 1;
-    default:
-        fprintf(stderr, "status %u\n", (unsigned)status);
-        return 3;
-    }
+    int failed = ferror(stdout); /* a write may fail as late as the file is closed */
+    if (fclose(stdout) || failed) return fault("write fault", "");
+    return tell(status, &answer);
 }

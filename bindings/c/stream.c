@@ -14,9 +14,11 @@ int main(int words, char **word) {
     if (!values) return 3;
     char *line = 0;
     size_t size = 0, count = 0;
-    while (getline(&line, &size, values) > 0) count++; /* `line` is a value. The stream may still be refused behind it. */
+    while (getline(&line, &size, values) > 0) count++; /* `line` is a value. The stream may still be refused after it. */
     free(line);
+    int failed = !feof(values); /* getline gives nothing at the end, and where it fails */
     int status = pclose(values);
-    printf("%zu lines\n", count);
-    return WIFEXITED(status) ? WEXITSTATUS(status) : 3;
+    failed |= printf("%zu lines\n", count) < 0;
+    failed |= fclose(stdout) != 0 || !WIFEXITED(status) || WEXITSTATUS(status) > 3; /* 127: there is no `ion` */
+    return failed ? 3 : WEXITSTATUS(status);
 }

@@ -14,13 +14,16 @@ cozgelt.Refused: refused DepthLimit at 1
 >>> to_text(b'$ion_symbol_table::{imports: [{name: "x", version: 1, max_id: 2}]} $10 $11', catalog=tables)
 b'p\\nq\\n'
 
-Catalogue and limits go by keyword, with the defaults of the program. libcozgelt.so is looked for at the path in
-COZGELT_LIBRARY, then beside this file, then where the system looks. Any number of threads may call at once.
+It is a transcoder: no value can be read from it but out of what it writes. A float other than null.float is refused (Float).
+
+Catalogue and limits go by keyword, with the defaults of the program. Stream and catalogue are bytes, or a bytearray or
+memoryview, of which a call takes a copy. libcozgelt.so is looked for at the path in COZGELT_LIBRARY, then beside this file, then
+where the system looks. Any number of threads may call at once.
 """
 import ctypes
 import ctypes.util
 import os
-from typing import Tuple
+from typing import Any, Tuple, Union
 
 __all__ = ["to_text", "to_binary", "check", "version", "Refused", "CatalogRefused", "InputLimit", "Invalid"]
 
@@ -28,6 +31,7 @@ _REASONS = ("", "Truncated", "BadDescriptor", "BadVar", "Overrun", "BadVersion",
             "Range", "BadText", "Float", "BadToken", "BadLob", "DepthLimit", "ScalarLimit", "AnnotationLimit", "BadSymbol",
             "UnknownSymbol", "BadTable", "SymbolLimit", "ValueLimit", "SameForm", "CatalogEntry")
 _VERSION = 200  # of cozgelt.h, which this module goes with
+_Bytes = Union[bytes, bytearray, memoryview]
 
 
 class Refused(ValueError):
@@ -40,6 +44,9 @@ class Refused(ValueError):
         self.place = place
         self.output = output
 
+    def __reduce__(self) -> Tuple[Any, ...]:
+        return type(self), (self.reason, self.place, self.output), self.__dict__
+
 
 class CatalogRefused(ValueError):
     """The catalogue is refused; reason and place are of it."""
@@ -48,6 +55,9 @@ class CatalogRefused(ValueError):
         super().__init__(f"catalog refused {reason} at {place}")
         self.reason = reason
         self.place = place
+
+    def __reduce__(self) -> Tuple[Any, ...]:
+        return type(self), (self.reason, self.place), self.__dict__
 
 
 class InputLimit(ValueError):
@@ -89,18 +99,25 @@ def _load() -> ctypes.CDLL:
 _library = _load()
 
 
-def _call(name: str, stream: bytes, catalog: bytes, limits: Tuple[int, int, int, int, int], guess: int) -> Tuple[bytes, int]:
-    """The output, and how many values there are. guess: how long the output may be at the first try."""
-    for what, given_bytes in (("the stream", stream), ("the catalog", catalog)):
-        if not isinstance(given_bytes, bytes):
-            raise TypeError(f"{what} is {type(given_bytes).__name__}, not bytes")
+def _fixed(what: str, given: _Bytes) -> bytes:
+    """These bytes, which nobody changes during a call: a copy, unless they are of the type bytes itself. A subclass may say of its
+    length what it likes, so the buffer is asked."""
+    if not isinstance(given, (bytes, bytearray, memoryview)):
+        raise TypeError(f"{what} is {type(given).__name__}, not bytes")
+    return given if type(given) is bytes else memoryview(given).tobytes()
+
+
+def _call(name: str, stream: _Bytes, catalog: _Bytes, limits: Tuple[int, int, int, int, int], times: int) -> Tuple[bytes, int]:
+    """The output, and how many values there are. times: how many times as long as the stream the output may be at the first try."""
+    stream, catalog = _fixed("the stream", stream), _fixed("the catalog", catalog)
+    guess = times * len(stream) + 64
     for number, most in zip(limits, (65535, 1 << 30, 1 << 30, 1 << 30, 1 << 48)):
         if not 0 <= number <= most:
             raise Invalid(f"{number} is no limit from 0 to {most}")
     given = _Limits(ctypes.sizeof(_Limits), *limits)
     answer = _Answer(ctypes.sizeof(_Answer))
     while True:
-        room = ctypes.create_string_buffer(max(guess, 1))
+        room = ctypes.create_string_buffer(guess)
         status = getattr(_library, name)(given, catalog, len(catalog), stream, len(stream), room, guess, answer)
         if status > 1 or answer.needed <= guess:
             break
@@ -113,26 +130,26 @@ def _call(name: str, stream: bytes, catalog: bytes, limits: Tuple[int, int, int,
         raise Invalid("a limit is above its maximum")
     if status == 6:
         raise CatalogRefused(_REASONS[answer.reason], answer.place)
-    output = ctypes.string_at(room, answer.needed)
+    output = memoryview(room)[:answer.needed].tobytes()  # string_at would cut its length to a C int
     if status == 1:
         raise Refused(_REASONS[answer.reason], answer.place, output)
     return output, answer.values
 
 
-def to_text(stream: bytes, *, catalog: bytes = b"", depth: int = 64, scalar: int = 1 << 20, symbols: int = 1 << 20,
+def to_text(stream: _Bytes, *, catalog: _Bytes = b"", depth: int = 64, scalar: int = 1 << 20, symbols: int = 1 << 20,
             value: int = 1 << 24, input: int = 1 << 48) -> bytes:
     """The stream, text or binary, as canonical text: each value at top level is a line. catalog: a stream of shared symbol
     tables, for the imports of the other."""
-    return _call("cozgelt_to_text", stream, catalog, (depth, scalar, symbols, value, input), 2 * len(stream) + 64)[0]
+    return _call("cozgelt_to_text", stream, catalog, (depth, scalar, symbols, value, input), 2)[0]
 
 
-def to_binary(stream: bytes, *, catalog: bytes = b"", depth: int = 64, scalar: int = 1 << 20, symbols: int = 1 << 20,
+def to_binary(stream: _Bytes, *, catalog: _Bytes = b"", depth: int = 64, scalar: int = 1 << 20, symbols: int = 1 << 20,
               value: int = 1 << 24, input: int = 1 << 48) -> bytes:
     """The stream, a text, as canonical binary. One that is binary is refused as SameForm."""
-    return _call("cozgelt_to_binary", stream, catalog, (depth, scalar, symbols, value, input), len(stream) + 64)[0]
+    return _call("cozgelt_to_binary", stream, catalog, (depth, scalar, symbols, value, input), 1)[0]
 
 
-def check(stream: bytes, *, catalog: bytes = b"", depth: int = 64, scalar: int = 1 << 20, symbols: int = 1 << 20,
+def check(stream: _Bytes, *, catalog: _Bytes = b"", depth: int = 64, scalar: int = 1 << 20, symbols: int = 1 << 20,
           value: int = 1 << 24, input: int = 1 << 48) -> int:
     """How many values the stream has at top level."""
     return _call("cozgelt_check", stream, catalog, (depth, scalar, symbols, value, input), 0)[1]

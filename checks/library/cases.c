@@ -1,8 +1,24 @@
-/* Answers calls that it reads from standard input, as common.py says. */
+/* Answers calls that it reads from standard input, as common.py says. Each call is made on a stack that has 24 KB, as cozgelt.h asks,
+ * with a page below that nobody may touch. */
+#define _DEFAULT_SOURCE
 #include "cozgelt.h"
 #include <stdio.h>
 #include <stdlib.h>
 #include <string.h>
+#include <sys/mman.h>
+#include <ucontext.h>
+
+#define PAGE 4096
+#define STACK (24 << 10)
+
+static CozgeltLimits limits = COZGELT_LIMITS;
+static CozgeltAnswer answer;
+static char name[16];
+static unsigned long long catalog_len, stream_len;
+static uint8_t *catalog, *stream, *room;
+static size_t size;
+static uint32_t status;
+static ucontext_t here, there;
 
 static uint8_t *read_bytes(size_t length) {
     uint8_t *bytes = malloc(length + 1);
@@ -10,25 +26,38 @@ static uint8_t *read_bytes(size_t length) {
     return bytes;
 }
 
+static void on_small_stack(void) {
+    status = !strcmp(name, "check")     ? cozgelt_check(&limits, catalog, catalog_len, stream, stream_len, room, size, &answer)
+             : !strcmp(name, "to_text") ? cozgelt_to_text(&limits, catalog, catalog_len, stream, stream_len, room, size, &answer)
+                                        : cozgelt_to_binary(&limits, catalog, catalog_len, stream, stream_len, room, size, &answer);
+}
+
+static void make_call(uint8_t *stack) {
+    CozgeltAnswer none = COZGELT_ANSWER;
+    answer = none;
+    if (getcontext(&there)) exit(3);
+    there.uc_stack.ss_sp = stack;
+    there.uc_stack.ss_size = STACK;
+    there.uc_link = &here;
+    makecontext(&there, on_small_stack, 0);
+    if (swapcontext(&here, &there)) exit(3);
+}
+
 int main(void) {
-    char name[16];
-    CozgeltLimits limits = COZGELT_LIMITS;
     unsigned depth;
-    unsigned long long n[4], catalog_len, stream_len;
+    unsigned long long n[4];
+    uint8_t *low = mmap(0, PAGE + STACK, PROT_READ | PROT_WRITE, MAP_PRIVATE | MAP_ANONYMOUS, -1, 0);
+    if (low == MAP_FAILED || mprotect(low, PAGE, PROT_NONE)) return 3;
     while (scanf("%15s %u %llu %llu %llu %llu %llu %llu", name, &depth, n, n + 1, n + 2, n + 3, &catalog_len, &stream_len) ==
                8 &&
            getchar() == '\n') {
         limits.depth = depth, limits.scalar = n[0], limits.symbols = n[1], limits.value = n[2], limits.input = n[3];
-        uint8_t *catalog = read_bytes(catalog_len), *stream = read_bytes(stream_len), none = 0, *room = &none;
-        CozgeltAnswer answer = COZGELT_ANSWER;
-        uint32_t status = 0;
-        for (size_t size = 0;; size = answer.needed) {
-            if (size && !(room = malloc(size))) exit(3);
-            status = !strcmp(name, "check")
-                         ? cozgelt_check(&limits, catalog, catalog_len, stream, stream_len, room, size, &answer)
-                     : !strcmp(name, "to_text")
-                         ? cozgelt_to_text(&limits, catalog, catalog_len, stream, stream_len, room, size, &answer)
-                         : cozgelt_to_binary(&limits, catalog, catalog_len, stream, stream_len, room, size, &answer);
+        catalog = read_bytes(catalog_len), stream = read_bytes(stream_len);
+        uint8_t none = 0;
+        room = &none;
+        for (size = 0;; size = answer.needed) {
+            if (size && !(room = malloc(size))) return 3;
+            make_call(low + PAGE);
             if (status > COZGELT_REFUSED || answer.needed == size) break;
         }
         const char *reason = cozgelt_reason(answer.reason);

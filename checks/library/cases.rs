@@ -9,7 +9,7 @@ fn main() -> io::Result<()> {
         let mut words = line.split_whitespace();
         let name = words.next().unwrap();
         let n: Vec<u64> = words.map(|word| word.parse().unwrap()).collect();
-        let limits = Limits { depth: n[0] as u32, scalar: n[1], symbols: n[2], value: n[3], input: n[4] };
+        let limits = Limits::default().depth(n[0] as u32).scalar(n[1]).symbols(n[2]).value(n[3]).input(n[4]);
         let (mut catalog, mut stream) = (vec![0; n[5] as usize], vec![0; n[6] as usize]);
         input.read_exact(&mut catalog)?;
         input.read_exact(&mut stream)?;

@@ -1,6 +1,9 @@
 //! Amazon Ion 1.0 over slices, text or binary: as canonical text, as binary, or checked, by the proved library of
 //! Cozgelt. What is accepted, what is refused, why and where, and every byte of the output are what its definitions say.
 //!
+//! It is a transcoder: no value can be read from it but out of what it writes. A float other than `null.float` is refused
+//! ([`Reason::Float`]).
+//!
 //! ```
 //! use cozgelt::{check, to_binary, to_text, Error, Limits, Reason};
 //!
@@ -8,7 +11,7 @@
 //! let binary = to_binary(b"{a: 1.50}", &[], &limits)?;
 //! assert_eq!(to_text(&binary, &[], &limits)?, b"{a:1.50}\n");
 //! assert_eq!(check(b"1 2 3", &[], &limits)?, 3);
-//! let Err(Error::Refused(refusal)) = check(b"[[1]]", &[], &Limits { depth: 1, ..limits }) else { panic!() };
+//! let Err(Error::Refused(refusal)) = check(b"[[1]]", &[], &limits.depth(1)) else { panic!() };
 //! assert_eq!((refusal.reason, refusal.place), (Reason::DepthLimit, 1));
 //! # Ok::<(), Error>(())
 //! ```
@@ -24,8 +27,18 @@ mod reason;
 
 pub use reason::Reason;
 
-/// How much a call may take.
+/// How much a call may take: as the program has it by `Limits::default()`, and else by calls on that. A later version may have more
+/// fields, so no list of them makes one:
+///
+/// ```
+/// let limits = cozgelt::Limits::default().depth(100).value(1 << 20);
+/// assert_eq!((limits.depth, limits.value), (100, 1 << 20));
+/// ```
+/// ```compile_fail
+/// let limits = cozgelt::Limits { depth: 100, ..cozgelt::Limits::default() };
+/// ```
 #[derive(Clone, Copy, Debug, PartialEq, Eq, Hash)]
+#[non_exhaustive]
 pub struct Limits {
     /// Containers open at once: at most 65,535.
     pub depth: u32,
@@ -52,8 +65,24 @@ impl Default for Limits {
     }
 }
 
+macro_rules! changed {
+    ($($field:ident: $number:ty),*) => {
+        impl Limits {
+            $(#[doc = concat!("These limits, with another `", stringify!($field), "`.")]
+            #[must_use]
+            pub const fn $field(mut self, most: $number) -> Limits {
+                self.$field = most;
+                self
+            })*
+        }
+    };
+}
+
+changed! { depth: u32, scalar: u64, symbols: u64, value: u64, input: u64 }
+
 /// A refusal of a stream.
 #[derive(Clone, Debug, PartialEq, Eq)]
+#[non_exhaustive]
 pub struct Refusal {
     /// Why.
     pub reason: Reason,

@@ -32,7 +32,7 @@ reasons! {
     BadAnnotation = 6 "An annotation wrapper that is malformed.",
     BadNumber = 7 "A negative int of magnitude zero.",
     BadTimestamp = 8 "A date, time, fraction or offset that does not exist.",
-    Range = 9 "A number that Ion has and this library has not.",
+    Range = 9 "A number that Ion has and Cozgelt has not.",
     BadText = 10 "A string or a symbol that is no UTF-8, or has a bad escape.",
     Float = 11 "A float other than `null.float`.",
     BadToken = 12 "Text that is no token, or one that cannot stand at its place.",

@@ -35,7 +35,7 @@ fn refusals_have_a_place_and_what_stands_before() {
         refused(to_binary(b"\xE0\x01\x00\xEA", &[], &limits)),
         (Reason::SameForm, 0, Vec::new())
     );
-    let why = check(b"[[1]]", &[], &Limits { depth: 1, ..limits }).unwrap_err();
+    let why = check(b"[[1]]", &[], &limits.depth(1)).unwrap_err();
     assert_eq!(why.to_string(), "refused DepthLimit at 1");
 }
 
@@ -68,23 +68,32 @@ fn an_output_longer_than_guessed() {
 }
 
 #[test]
+fn each_limit_is_changed_alone() {
+    let limits = Limits::default();
+    let all = limits.depth(1).scalar(2).symbols(3).value(4).input(5);
+    assert_eq!(
+        (all.depth, all.scalar, all.symbols, all.value, all.input),
+        (1, 2, 3, 4, 5)
+    );
+    assert_eq!(
+        limits.depth(1).depth(limits.depth),
+        limits.value(2).value(limits.value)
+    );
+}
+
+#[test]
 fn wrong_calls() {
     let limits = Limits::default();
-    assert_eq!(
-        check(
-            b"1",
-            &[],
-            &Limits {
-                depth: 65_536,
-                ..limits
-            }
-        ),
-        Err(Error::Invalid)
-    );
-    assert_eq!(
-        check(b"1 2", &[], &Limits { input: 2, ..limits }),
-        Err(Error::InputLimit)
-    );
+    assert_eq!(check(b"1", &[], &limits.depth(65_536)), Err(Error::Invalid));
+    for many in [
+        limits.scalar((1 << 30) + 1),
+        limits.symbols((1 << 30) + 1),
+        limits.value((1 << 30) + 1),
+        limits.input((1 << 48) + 1),
+    ] {
+        assert_eq!(check(b"1", &[], &many), Err(Error::Invalid));
+    }
+    assert_eq!(check(b"1 2", &[], &limits.input(2)), Err(Error::InputLimit));
 }
 
 #[test]

@@ -161,6 +161,8 @@ def run(words):
 
 def rows_in(report):
     """The last row on each file in a report, by the file's name."""
+    if not os.path.exists(report):
+        return {}
     with open(report, "rb") as lines:
         return {row["file"]: row for row in map(json.loads, lines)}
 
@@ -306,10 +308,10 @@ def judge_bounds(counts, program, folder):
     status, said = run([*words, program, "--most-output", "9", *rest])
     counts.judge(status == 1 and said.startswith("1 done before, 2 to do"), "by another bound", (status, said))
     version = f'[ "$1" = --version ] && exec "{program}" "$1"\n'
-    endless = put_program(folder, "endless", version + 'yes 2> /dev/null\necho write fault >&2\nexit 3\n')
-    status, said = run([*words, endless, "--most-output", "100000", *rest])
-    counts.judge(status == 1 and rows_in(report)["a.ion"].get("bound") == 100000, "an endless output", (status, said))
-    slow = put_program(folder, "slow", version + f'[ -e "{folder}/hurry" ] || exec sleep 100\nexec "{program}" "$@"\n')
+    large = put_program(folder, "large", version + "head -c 9000000 /dev/zero 2> /dev/null\necho write fault >&2\nexit 3\n")
+    status, said = run([*words, large, "--most-output", "100000", *rest])
+    counts.judge(status == 1 and rows_in(report)["a.ion"].get("bound") == 100000, "a far longer output", (status, said))
+    slow = put_program(folder, "slow", version + f'[ -e "{folder}/hurry" ] || exec sleep 9\nexec "{program}" "$@"\n')
     status, said = run([*words, slow, "--timeout", "1", *rest])
     row = rows_in(report)["a.ion"]
     told = row["status"], row.get("reason"), row.get("bound")

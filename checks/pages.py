@@ -63,7 +63,7 @@ def blocks_of(text):
 
 def missing_tool(command):
     """The name of a program in the command that is not there, if one is."""
-    begins = r"(?:^|[|;({\n]|\bdo |\bthen |&& |xargs (?:-\S+ )*)\s*(?:[A-Z_]+=\S* )*([A-Za-z][\w.-]*)"
+    begins = r"(?:^|[|;({\n]|\bdo |\bthen |&& |xargs (?:-\S+ )*)\s*(?:[A-Z_]+=\S* )*([A-Za-z][\w.-]*)(?![\w.-]*=)"
     for word in re.findall(begins, re.sub(r"'[^']*'|\"[^\"]*\"", "''", command)):
         if word not in EVERYWHERE and shutil.which(word) is None:
             return word

@@ -15,6 +15,7 @@ import base64
 import json
 import os
 import random
+import shutil
 import subprocess
 import sys
 
@@ -262,10 +263,14 @@ def main(words):
         print(__doc__)
         return 2
     folder, size = words[0], int(float(words[1] if len(words) > 1 else 100) * 1000 * 1000)
-    os.makedirs(folder, exist_ok=True)
-    for kind in words[2:] or KINDS:
+    kinds = words[2:] or KINDS
+    for kind in kinds:
         if kind not in KINDS + MORE:
             sys.exit(f'there is no kind {kind}')
+    if set(kinds) != {'json'} and not shutil.which(YARD):
+        sys.exit(f'there is no program {YARD}, which makes the binary: (cd bench/yard && cargo build --release --offline) builds it')
+    os.makedirs(folder, exist_ok=True)
+    for kind in kinds:
         r = random.Random('yard ' + kind.replace('json', 'log'))
         path = os.path.join(folder, 'log.json' if kind == 'json' else kind + '.ion')
         fill(path, size, maker_of(kind, r))

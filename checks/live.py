@@ -1,21 +1,27 @@
 """Sends blocks to `ion` through a pipe, as the C library does, and waits: each value that is whole has to come before more
-is sent. `checks/run` calls it. Its last line is `N passed, M failed`.
+is sent. Of a file, which stands whole before it, it counts the writes. `checks/run` calls it. Its last line is
+`N passed, M failed`.
 
 A row is a command, values as pairs of what is sent and what has to be written, and the lengths of the blocks. After each
 block the output has to begin with the values that are whole; of a container that is open there may be more. Then the rest
 is sent, and the input ends. Nothing that is compared comes from `ion`: this program writes the canonical text and the octets.
 """
+import contextlib
 import os
 import queue
 import select
+import socket
 import subprocess
 import sys
+import tempfile
 import threading
 import time
 
 MARKER = b"\xe0\x01\x00\xea"
 # Seconds. What comes at all comes in some milliseconds; what is late waits for more input, which is not sent.
 PATIENCE = 5
+# The bytes that `ion` reads and writes at once.
+WINDOW = 4096
 
 
 def texts(sizes):
@@ -176,6 +182,24 @@ def rows():
     yield from cut_in_each(OCTETS_OF_MANY_KINDS)
 
 
+# Before each of these the output is written: that what may be a declaration stands whole is not seen ahead of it.
+WRITTEN_BEFORE = (b"$ion_symbol_table::{", b"'$ion_1_0' ", b"\xE4\x81\x83")
+
+
+def files():
+    """The name of each file, its command, what stands in it, and what has to be written, None where that is not worked out."""
+    for size in (80000, 300000):
+        for command, pairs in (("show", lines_of_four(size)), ("convert", ints_to_binary(size))):
+            sent, written = zip(*pairs)
+            yield f"a file of {size} bytes, four to a value", command, b"".join(sent), b"".join(written)
+    for before, kinds in ((b"", TEXTS_OF_MANY_KINDS), (MARKER, OCTETS_OF_MANY_KINDS)):
+        for sent, written in kinds:
+            if not sent.startswith(WRITTEN_BEFORE):
+                name = f"a file of 3,000 times {sent}"
+                yield name, "show", before + 3000 * sent, 3000 * written
+                yield name, "convert", before + 3000 * sent, 3000 * written if before else None
+
+
 def whole_at(pairs, length):
     """What has to be written of the values that are whole in so many bytes."""
     whole = b""
@@ -232,26 +256,53 @@ def converse(child, pairs, blocks):
     return None
 
 
-def judge(program, words, pairs, blocks):
-    """What is wrong with a session, if anything is."""
-    child = subprocess.Popen([program] + words, stdin=subprocess.PIPE, stdout=subprocess.PIPE, stderr=subprocess.PIPE, bufsize=0)
-    guard = threading.Timer(4 * PATIENCE, child.kill)
+@contextlib.contextmanager
+def started(program, words, given, taken):
+    """A process of the program, which is ended in any case."""
+    child = subprocess.Popen([program] + words, stdin=given, stdout=taken, stderr=subprocess.PIPE, bufsize=0)
+    guard = threading.Timer(12 * PATIENCE, child.kill)
     guard.start()
     try:
-        return converse(child, pairs, blocks)
+        yield child
     finally:
         guard.cancel()
         child.kill()
         child.wait()
 
 
+def wrong_session(program, words, pairs, blocks):
+    """What is wrong with a session, if anything is."""
+    with started(program, words, subprocess.PIPE, subprocess.PIPE) as child:
+        return converse(child, pairs, blocks)
+
+
+def wrong_writes(program, words, sent, written):
+    """What is wrong with the writes for a file, if anything is. It may do one for each window of the input and of the output,
+    and two more. A socket of packets keeps each apart."""
+    ours, its = socket.socketpair(socket.AF_UNIX, socket.SOCK_SEQPACKET)
+    with ours, tempfile.TemporaryFile() as file:
+        file.write(sent)
+        file.seek(0)
+        with started(program, words, file, its) as child:
+            its.close()
+            writes = list(iter(lambda: ours.recv(1 << 20), b""))
+            said = child.stderr.read()
+            status = child.wait()
+    got = b"".join(writes)
+    most = len(sent) // WINDOW + len(got) // WINDOW + 2
+    if (status, said) != (0, b"") or written is not None and got != written:
+        return f"status {status}, {len(got)} bytes, and {said!r}"
+    return f"{len(writes)} writes of {len(got)} bytes, where {most} are enough" if len(writes) > most else None
+
+
 def main():
     program = os.path.abspath(sys.argv[1])
     passed = failed = 0
-    for name, command, pairs, blocks in rows():
-        # the second one is a pipe that a word names, as the shell's <(..) is
+    sessions = [(wrong_session, *row) for row in rows()]
+    for wrong_in, name, command, *more in sessions + [(wrong_writes, *row) for row in files()]:
+        # the second one is a pipe or a file that a word names, as the shell's <(..) is
         for words in ([command], [command, "/dev/stdin"]):
-            wrong = judge(program, words, pairs, blocks)
+            wrong = wrong_in(program, words, *more)
             passed += not wrong
             failed += bool(wrong)
             if wrong:

@@ -3,7 +3,9 @@
 
 In a page a block that begins with ```console is one session of a shell: a line `$ COMMAND`, lines `> MORE` that
 continue it, and what it prints, standard error among it, up to the next command. `$ echo $?` behind a command shows its
-status, which is 0 where nothing shows it. In a table whose header is `| Input | Answer | Why |` a row has an
+status, which is 0 where nothing shows it. Each command runs in a shell of its own, which begins in the folder where the
+one before it ended, so that a `cd` holds to the end of the page; the first begins in the root, where no command may
+leave anything. In a table whose header is `| Input | Answer | Why |` a row has an
 input for `ion show` (a text, or octets in hexadecimal behind `hex` or behind the version marker `M`), options
 or another command in a second code span, and the lines that are printed, a code span each.
 """
@@ -14,6 +16,8 @@ import shutil
 import subprocess
 import sys
 import tempfile
+
+from counts import files_of
 
 MARKER = "E00100EA"
 # Programs that every system has; each other one is looked for.
@@ -59,11 +63,25 @@ def blocks_of(text):
 
 def missing_tool(command):
     """The name of a program in the command that is not there, if one is."""
-    begins = r"(?:^|[|;({\n]|\bdo |\bthen |&& |xargs (?:-\S+ )*)\s*(?:[A-Z_]+=\S* )*([A-Za-z][\w.-]*)"
+    begins = r"(?:^|[|;({\n]|\bdo |\bthen |&& |xargs (?:-\S+ )*)\s*(?:[A-Z_]+=\S* )*([A-Za-z][\w.-]*)(?![\w.-]*=)"
     for word in re.findall(begins, re.sub(r"'[^']*'|\"[^\"]*\"", "''", command)):
         if word not in EVERYWHERE and shutil.which(word) is None:
             return word
     return None
+
+
+def run_command(command, folder, environment):
+    """Status and output of a command that begins in the folder which a file names, and where it ended is named there then."""
+    # a file that is followed has no end, so such a command is ended when it has written what there is
+    bounded = re.sub(r"\btail (-c \+1 )?-f\b", r"timeout 1 tail \1-f", command)
+    # what shows progress does so on standard error, with times
+    errors = subprocess.DEVNULL if command.startswith("pv ") else subprocess.STDOUT
+    place = os.path.join(folder, "place")
+    with open(place, encoding="utf-8") as file:
+        at = file.read().rstrip("\n")
+    done = subprocess.run(["sh", "-c", f"trap 'pwd > \"{place}\"' EXIT\n{bounded}"], cwd=at, env=environment,
+                          stdin=subprocess.DEVNULL, stdout=subprocess.PIPE, stderr=errors, timeout=60)
+    return done.returncode, done.stdout.decode("utf-8", "replace").rstrip("\n")
 
 
 def run_session(page, block, folder, environment):
@@ -82,14 +100,27 @@ def run_session(page, block, folder, environment):
         if tool:
             print(f"skipped: {tool} ({page.name}: {command})")
             continue
-        # a file that is followed has no end, so such a command is ended when it has written what there is
-        bounded = re.sub(r"\btail (-c \+1 )?-f\b", r"timeout 1 tail \1-f", command)
-        # what shows progress does so on standard error, with times
-        errors = subprocess.DEVNULL if command.startswith("pv ") else subprocess.STDOUT
-        done = subprocess.run(["sh", "-c", bounded], cwd=folder, env=environment, stdin=subprocess.DEVNULL,
-                              stdout=subprocess.PIPE, stderr=errors, timeout=60)
-        got = (done.returncode, done.stdout.decode("utf-8", "replace").rstrip("\n"))
+        got = run_command(command, folder, environment)
         page.judge(got == (status, "\n".join(lines).rstrip("\n")), command, (status, "\n".join(lines)), got)
+
+
+def run_blocks(page, text, program):
+    """Runs the commands of a page, in folders that are removed then."""
+    with tempfile.TemporaryDirectory() as folder:
+        root = folder + "/at"
+        for name in ("bin", "tmp"):
+            os.mkdir(os.path.join(folder, name))
+        os.symlink(program, folder + "/bin/ion")
+        shutil.copytree("examples", root + "/examples")
+        with open(folder + "/place", "w", encoding="utf-8") as file:
+            file.write(root)
+        path = folder + "/bin:" + os.environ.get("PATH", "")
+        environment = dict(os.environ, PATH=path, LC_ALL="C.UTF-8", TMPDIR=folder + "/tmp")
+        before = files_of(root)
+        for block in blocks_of(text):
+            run_session(page, block, folder, environment)
+        left = sorted(files_of(root) - before)
+        page.judge(not left, "what the commands leave in the root", [], left)
 
 
 def spans(cell):
@@ -159,13 +190,7 @@ def main():
         check_links(page, text)
         if name not in ("README.md", "docs/DIFFERENCES.md") and not name.startswith("examples/"):
             continue
-        with tempfile.TemporaryDirectory() as folder:
-            os.mkdir(folder + "/bin")
-            os.symlink(program, folder + "/bin/ion")
-            shutil.copytree("examples", folder + "/at/examples")
-            environment = dict(os.environ, PATH=folder + "/bin:" + os.environ.get("PATH", ""), LC_ALL="C.UTF-8")
-            for block in blocks_of(text):
-                run_session(page, block, folder + "/at", environment)
+        run_blocks(page, text, program)
         for cells in rows_of(text):
             run_row(page, cells, program)
         print(f"{name}: {page.passed} as shown, {page.failed} not")

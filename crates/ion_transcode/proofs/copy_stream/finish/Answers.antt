@@ -13,3 +13,6 @@ returns-in-Err-flush-clause-grown g c = grind (arith, common_steps)
 
 pub returns-in-Err-flush-clause-still_observable : goal.returns-in-Err-flush-clause-still_observable
 returns-in-Err-flush-clause-still_observable g c = grind (arith, common_steps)
+
+pub returns-in-Err-clause-passes : goal.returns-in-Err-clause-passes
+returns-in-Err-clause-passes g c = grind (arith, common_steps) steps 400000

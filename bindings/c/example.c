@@ -59,7 +59,7 @@ static int tell(uint32_t status, const CozgeltAnswer *answer) {
     unsigned long long place = answer->place;
     if (status == COZGELT_ACCEPTED) return 0;
     if (status == COZGELT_NO_MEMORY || status == COZGELT_NO_OUTPUT_MEMORY) return fault("no memory", "");
-    if (status != COZGELT_REFUSED && status != COZGELT_CATALOG_REFUSED) return fault("no limits of this library", "");
+    if (status != COZGELT_REFUSED && status != COZGELT_CATALOG_REFUSED) return fault("an unexpected status", "");
     const char *of = status == COZGELT_REFUSED ? "" : "catalog ";
     fprintf(stderr, "%srefused %s at %llu\n", of, cozgelt_reason(answer->reason), place);
     return 1;

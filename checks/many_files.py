@@ -167,6 +167,12 @@ def rows_in(report):
         return {row["file"]: row for row in map(json.loads, lines)}
 
 
+def told_of(report, name):
+    """What the last row on a file says of its end."""
+    row = rows_in(report).get(name, {})
+    return row.get("status"), row.get("reason"), row.get("bound")
+
+
 def put_files(folder, files):
     """Files by their names, as bytes."""
     for name, content in files.items():
@@ -300,9 +306,8 @@ def judge_bounds(counts, program, folder):
     words, rest = ["--to", "text", "--ion"], [source, dest, report]
     status, said = run([*words, program, "--most-output", "8", *rest])
     # seven digits and a line's end are as many as may be
-    told = {name: (row["status"], row.get("reason"), row.get("bound")) for name, row in rows_in(report).items()}
-    over = ("refused", "most-output", 8)
-    counts.judge((status, told) == (1, {"a.ion": over, "b.ion": ("ok", None, None), "c.ion": over}), "a long output", (said, told))
+    told, over = [told_of(report, name) for name in ("a.ion", "b.ion", "c.ion")], ("refused", "most-output", 8)
+    counts.judge((status, told) == (1, [over, ("ok", None, None), over]), "a long output", (status, said, told))
     counts.judge(files_of(dest) == {"b.ion"}, "nothing is left of it", files_of(dest))
     counts.judge(run([*words, program, "--most-output", "8", *rest])[1] == "3 done before, 0 to do\n", "by the same bound")
     status, said = run([*words, program, "--most-output", "9", *rest])
@@ -310,13 +315,13 @@ def judge_bounds(counts, program, folder):
     version = f'[ "$1" = --version ] && exec "{program}" "$1"\n'
     large = put_program(folder, "large", version + "head -c 9000000 /dev/zero 2> /dev/null\necho write fault >&2\nexit 3\n")
     status, said = run([*words, large, "--most-output", "100000", *rest])
-    counts.judge(status == 1 and rows_in(report)["a.ion"].get("bound") == 100000, "a far longer output", (status, said))
+    counts.judge(status == 1 and told_of(report, "a.ion") == ("refused", "most-output", 100000), "a far longer output", (status, said))
+    for name in ("b.ion", "c.ion"):
+        os.unlink(os.path.join(source, name))
     slow = put_program(folder, "slow", version + f'[ -e "{folder}/hurry" ] || exec sleep 9\nexec "{program}" "$@"\n')
     status, said = run([*words, slow, "--timeout", "1", *rest])
-    row = rows_in(report)["a.ion"]
-    told = row["status"], row.get("reason"), row.get("bound")
-    counts.judge((status, told) == (1, ("refused", "timeout", 1)), "a long time", (status, said, told))
-    counts.judge(run([*words, slow, "--timeout", "1", *rest])[1] == "3 done before, 0 to do\n", "by the same time")
+    counts.judge(status == 1 and told_of(report, "a.ion") == ("refused", "timeout", 1), "a long time", (status, said))
+    counts.judge(run([*words, slow, "--timeout", "1", *rest])[1] == "1 done before, 0 to do\n", "by the same time")
     put_files(folder, {b"hurry": b""})
     counts.judge(run([*words, slow, "--timeout", "60", *rest])[0] == 0, "by another time")
     for words in (["--most-output", "0"], ["--timeout", "x"], ["--batch", "0"]):

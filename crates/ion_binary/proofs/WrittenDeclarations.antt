@@ -8,7 +8,8 @@ use Rattle.ion_value.specs.declared.ion_type.Kind.TheVariants as kind
 use Rattle.ion_value.specs.Value as value
 use Rattle.ion_value.specs.Value.{Symbol, Id, SymbolAt, UserSymbol, Known, Unknown, Scalar, Value, Members, scalar, container, nothing, member, map_scalar, map_value, map_members, no_place}
 use Rattle.ion_value.specs.Writable.{AreWritable, IsWritable}
-use Rattle.ion_symbols.specs.Output.{position, system_texts, or_given}
+use Rattle.ion_value.specs.Number.{uint_octets}
+use Rattle.ion_symbols.specs.Output.{position, system_id, system_texts, or_given}
 use Rattle.ion_symbols.specs.Declaration.{Ground}
 use Rattle.ion_symbols.specs.Laws.{IsCostly, IsDoubled, SomeAbove}
 use Rattle.ion_symbols.specs.Table.{Shared, Slots, Table, text_at, slots_cost}
@@ -18,9 +19,9 @@ use Rattle.ion_symbols.proofs.DeclarationMeaning.{what_is_said, why_it_is_refuse
 use Rattle.ion_symbols.proofs.Keeping.{cost_append}
 use Rattle.ion_binary.specs.Canonical.{declaration, declaring, id_in, string_members}
 use Rattle.ion_binary.specs.Spelling.{IsDeclared, DeclarationsAreAccepted, WrittenDeclarationsAreRead, HasRoom, bare_symbol, with_id, with_texts}
-use Rattle.ion_binary.specs.WrittenLimits.{AllowDeclarations, MembersFit, ValueFits}
+use Rattle.ion_binary.specs.WrittenLimits.{AllowDeclarations, IdFits, MembersFit, ValueFits, id_size}
 use Rattle.ion_binary.proofs.Fitting.{BinFits}
-use Rattle.ion_binary.proofs.WrittenSpelled.{SpelledWithin, value-spelled}
+use Rattle.ion_binary.proofs.WrittenSpelled.{IdsFit, SpelledWithin, uint-short, value-spelled}
 
 -- ---- ids are small
 
@@ -44,6 +45,24 @@ pub id_in-lt : (texts : List (List ℕ)) (s : UserSymbol) → id_in texts s < le
 unfolding id_in
 id_in-lt texts (Known t) = given-lt (position system_texts t) (position texts t) (length texts) (λ m e. position-lt system_texts t m e) (λ m e. position-lt texts t m e)
 id_in-lt texts Unknown = omega arith
+
+-- they fit where those of their symbols do
+given-fit : (most : ℕ) (system p : Option ℕ) → ((m : ℕ) → system ≡ Some m → m < 9) → ((m : ℕ) → p ≡ Some m → m < 2 ^ 30)
+    → id_size (option_map (λ place. place + 1) system) ≤ most → length (uint_octets (unwrap_or (or_given (option_map (λ place. place + 1) system) p) 0)) ≤ most
+given-fit most (Some m) p f g h =
+    let few = uint-short (m + 1) (0 ∷ []) (omega (arith, f m refl)) in
+    omega (arith, few, h)
+given-fit most None (Some m) f g h =
+    let few = uint-short (m + 10) (0 ∷ 0 ∷ 0 ∷ 0 ∷ []) (omega (arith, g m refl)) in
+    omega (arith, few, h)
+given-fit most None None f g h = let few = uint-short 0 [] (omega arith) in omega (arith, few)
+
+pub ids-fit : (texts : List (List ℕ)) → length texts ≤ 2 ^ 30 → (limits : Limits) → IdsFit (id_in texts) limits
+unfolding id_in
+ids-fit texts few limits (Known t) h =
+    given-fit limits.scalar (position system_texts t) (position texts t) (λ m e. position-lt system_texts t m e)
+    (λ m e. let less = position-lt texts t m e in omega (arith, less, few)) h
+ids-fit texts few limits Unknown h = let none = uint-short 0 [] (omega arith) in omega (arith, none)
 
 -- ---- the tree of a declaration
 
@@ -403,9 +422,14 @@ strings-fit : (limits : Limits) (depth : ℕ) (before : Members UserSymbol ⊤) 
 strings-fit limits depth before [] fits texts = fits
 strings-fit limits depth before (t ∷ ts) fits texts = strings-fit limits depth (member before None [] tt (scalar (value.string t))) ts (fits, omega arith, texts.0) texts.1
 
+table-fits : (limits : Limits) → AllowDeclarations limits → IdFits limits (Known (codes "$ion_symbol_table"))
+table-fits limits allow =
+    let one : id_size (system_id (codes "$ion_symbol_table")) ≡ 1 = refl in
+    omega (arith, one, allow.scalar)
+
 declaring-fits : (limits : Limits) (texts : List (List ℕ)) → AllowDeclarations limits → TextsFit limits texts → ValueFits limits 0 (declaring texts)
 declaring-fits limits texts allow fits =
-    (omega (arith, allow.depth), ((tt, omega arith, tt), omega arith, (omega (arith, allow.depth), strings-fit limits 2 nothing texts tt fits)))
+    (omega (arith, allow.depth), ((tt, omega arith, table-fits limits allow), omega arith, (omega (arith, allow.depth), strings-fit limits 2 nothing texts tt fits)))
 
 -- what is written of a declaration is one, within limits that allow declarations and its texts
 pub record DeclaredWithin (catalog : List Shared) (old : Table) (q : ℕ) (texts : List (List ℕ)) : Type 0 where
@@ -428,7 +452,7 @@ declared-within catalog old q (t ∷ ts) some h short =
         is_declaration = s.is_declaration;
         leaves = s.leaves;
       };
-      fits = λ limits allow fits. d.fits limits 0 allow.scalar (omega (arith, allow.scalar)) (declaring-fits limits (t ∷ ts) allow fits);
+      fits = λ limits allow fits. d.fits limits 0 (ids-fit [] (omega arith) limits) (omega (arith, allow.scalar)) (declaring-fits limits (t ∷ ts) allow fits);
     }
 
 pub written_declarations_are_read : WrittenDeclarationsAreRead

@@ -26,7 +26,7 @@ use Rattle.ion_binary.specs.Positions.{symbol_id, placed_scalar}
 use Rattle.ion_binary.specs.Grammar.{Descriptor, IsNullOf, Body, Plain, Ids, Field, Header, Wrapper, Annotated, Bin, Inside, type_code}
 use Rattle.ion_binary.specs.Canonical.{annotation_octets, field_octets, header, headed, id_octets, length_octets, members_octets, scalar_octets, value_octets, wrapped}
 use Rattle.ion_binary.specs.Spelling.{IsSpelledAt, ValuesAreSpelled, bare_symbol, with_id}
-use Rattle.ion_binary.specs.WrittenLimits.{AnnotationsFit, MembersFit, ScalarFits, ValueFits}
+use Rattle.ion_binary.specs.WrittenLimits.{AnnotationsFit, IdFits, MembersFit, ScalarFits, ValueFits}
 use Rattle.ion_binary.proofs.Fitting.{BinFits, InsideFits, PlainFits}
 use Rattle.ion_binary.proofs.TimestampsRead.{timestamp_of_bytes-body}
 
@@ -97,37 +97,35 @@ null-code type.List = refl
 null-code type.Sexp = refl
 null-code type.Struct = refl
 
+-- ids are no longer than the limit on scalars where those of their symbols may be so long
+abbrev pub IdsFit : (UserSymbol → ℕ) → Limits → Type 0
+IdsFit ids limits = (s : UserSymbol) → IdFits limits s → length (uint_octets (ids s)) ≤ limits.scalar
+
 -- octets are a scalar, within the limits within which a scalar of a user is
-record PlainAt (u : Scalar UserSymbol) (v : Scalar Symbol) (x : List ℕ) : Type 0 where
+record PlainAt (ids : UserSymbol → ℕ) (u : Scalar UserSymbol) (v : Scalar Symbol) (x : List ℕ) : Type 0 where
   pub spells : Plain v x
-  pub fits : (limits : Limits) → 16 ≤ limits.scalar → ScalarFits limits u → PlainFits limits spells
+  pub fits : (limits : Limits) → IdsFit ids limits → ScalarFits limits u → PlainFits limits spells
 
 -- a body behind its header
-headed-Plain : (u : Scalar UserSymbol) (t : ℕ) (v : Scalar Symbol) (b : List ℕ) → Body t v b → length (headed t b) < 2 ^ 62
-    → ((limits : Limits) → 16 ≤ limits.scalar → ScalarFits limits u → length b ≤ limits.scalar) → PlainAt u v (headed t b)
-headed-Plain u t v b spells short fits = record {
+headed-Plain : (ids : UserSymbol → ℕ) (u : Scalar UserSymbol) (t : ℕ) (v : Scalar Symbol) (b : List ℕ) → Body t v b → length (headed t b) < 2 ^ 62
+    → ((limits : Limits) → IdsFit ids limits → ScalarFits limits u → length b ≤ limits.scalar) → PlainAt ids u v (headed t b)
+headed-Plain ids u t v b spells short fits = record {
   spells = Plain.body t v (header t (length b)) b (header-Descriptor t (length b) (omega (arith, short, headed-length t b))) spells;
   fits = fits;
 }
 
--- a number below 256^k has k octets at most: an id four, an int 16
-uint-short : (n : ℕ) (octets : List ℕ) → n < 256 ^ length octets → length (uint_octets n) ≤ length octets
+-- a number below 256^k has k octets at most
+pub uint-short : (n : ℕ) (octets : List ℕ) → n < 256 ^ length octets → length (uint_octets n) ≤ length octets
 uint-short n octets small = Digits-fewest 256 n (uint_octets n) octets (digits_in-Digits 256 n (omega arith)) small
 
-id-short : (n : ℕ) → n < 2 ^ 31 → length (uint_octets n) ≤ 4
-id-short n small = uint-short n (0 ∷ 0 ∷ 0 ∷ 0 ∷ []) (omega (arith, small))
-
-int-short : (i : Int) → IsInt i → length (uint_octets i.magnitude) ≤ 16
-int-short i range = uint-short i.magnitude (0 ∷ 0 ∷ 0 ∷ 0 ∷ 0 ∷ 0 ∷ 0 ∷ 0 ∷ 0 ∷ 0 ∷ 0 ∷ 0 ∷ 0 ∷ 0 ∷ 0 ∷ 0 ∷ []) (omega (arith, range.fits))
-
-int-Plain : (sign : Bool) (i : Int) → i.negative ≡ sign → IsInt i → length (headed (if sign then 3 else 2) (uint_octets i.magnitude)) < 2 ^ 62
-    → PlainAt (value.int i) (value.int i) (headed (if sign then 3 else 2) (uint_octets i.magnitude))
-int-Plain true i e range short =
-    headed-Plain (value.int i) 3 (value.int i) (uint_octets i.magnitude) (Body.negative i (uint_octets i.magnitude) e (sym (uint-back i.magnitude)) range) short
-    (λ limits least fits. omega (arith, least, int-short i range))
-int-Plain false i e range short =
-    headed-Plain (value.int i) 2 (value.int i) (uint_octets i.magnitude) (Body.positive i (uint_octets i.magnitude) e (sym (uint-back i.magnitude)) range) short
-    (λ limits least fits. omega (arith, least, int-short i range))
+int-Plain : (ids : UserSymbol → ℕ) (sign : Bool) (i : Int) → i.negative ≡ sign → IsInt i → length (headed (if sign then 3 else 2) (uint_octets i.magnitude)) < 2 ^ 62
+    → PlainAt ids (value.int i) (value.int i) (headed (if sign then 3 else 2) (uint_octets i.magnitude))
+int-Plain ids true i e range short =
+    headed-Plain ids (value.int i) 3 (value.int i) (uint_octets i.magnitude) (Body.negative i (uint_octets i.magnitude) e (sym (uint-back i.magnitude)) range) short
+    (λ limits least fits. fits)
+int-Plain ids false i e range short =
+    headed-Plain ids (value.int i) 2 (value.int i) (uint_octets i.magnitude) (Body.positive i (uint_octets i.magnitude) e (sym (uint-back i.magnitude)) range) short
+    (λ limits least fits. fits)
 
 symbol-Body : (n : ℕ) → n < 2 ^ 31 → Body 7 (value.symbol (Id n)) (uint_octets n)
 symbol-Body n small =
@@ -138,22 +136,22 @@ abbrev AreSmall : (UserSymbol → ℕ) → Type 0
 AreSmall ids = (s : UserSymbol) → ids s < 2 ^ 31
 
 scalar-Plain : (ids : UserSymbol → ℕ) (v : Scalar UserSymbol) → AreSmall ids → InRange v → HasText v → length (scalar_octets ids v) < 2 ^ 62
-    → PlainAt v (map_scalar (with_id ids) v) (scalar_octets ids v)
+    → PlainAt ids v (map_scalar (with_id ids) v) (scalar_octets ids v)
 scalar-Plain ids (value.null t) small range text short = record { spells = Plain.null t (numbered.type_code t) (null-code t); fits = λ limits least fits. tt }
 scalar-Plain ids (value.bool true) small range text short = record { spells = Plain.yes; fits = λ limits least fits. tt }
 scalar-Plain ids (value.bool false) small range text short = record { spells = Plain.no; fits = λ limits least fits. tt }
-scalar-Plain ids (value.int i) small range text short = int-Plain i.negative i refl range short
+scalar-Plain ids (value.int i) small range text short = int-Plain ids i.negative i refl range short
 scalar-Plain ids (value.decimal d) small range text short =
-    headed-Plain (value.decimal d) 5 (value.decimal d) (decimal_body d) (Body.decimal d (decimal_body d) (decimal_body-DecimalBody d range) range) short (λ limits least fits. fits)
+    headed-Plain ids (value.decimal d) 5 (value.decimal d) (decimal_body d) (Body.decimal d (decimal_body d) (decimal_body-DecimalBody d range) range) short (λ limits least fits. fits)
 scalar-Plain ids (value.timestamp t) small range text short =
-    headed-Plain (value.timestamp t) 6 (value.timestamp t) (timestamp_body t) (Body.timestamp t (timestamp_body t) (timestamp_of_bytes-body t (timestamp_body t) (bytes-back t range))) short
+    headed-Plain ids (value.timestamp t) 6 (value.timestamp t) (timestamp_body t) (Body.timestamp t (timestamp_body t) (timestamp_of_bytes-body t (timestamp_body t) (bytes-back t range))) short
     (λ limits least fits. fits)
 scalar-Plain ids (value.symbol s) small range text short =
-    headed-Plain (value.symbol s) 7 (value.symbol (Id (ids s))) (uint_octets (ids s)) (symbol-Body (ids s) (small s)) short
-    (λ limits least fits. omega (arith, least, id-short (ids s) (small s)))
-scalar-Plain ids (value.string b) small range text short = headed-Plain (value.string b) 8 (value.string b) b (Body.string b text) short (λ limits least fits. fits)
-scalar-Plain ids (value.clob b) small range text short = headed-Plain (value.clob b) 9 (value.clob b) b (Body.clob b) short (λ limits least fits. fits)
-scalar-Plain ids (value.blob b) small range text short = headed-Plain (value.blob b) 10 (value.blob b) b (Body.blob b) short (λ limits least fits. fits)
+    headed-Plain ids (value.symbol s) 7 (value.symbol (Id (ids s))) (uint_octets (ids s)) (symbol-Body (ids s) (small s)) short
+    (λ limits least fits. least s fits)
+scalar-Plain ids (value.string b) small range text short = headed-Plain ids (value.string b) 8 (value.string b) b (Body.string b text) short (λ limits least fits. fits)
+scalar-Plain ids (value.clob b) small range text short = headed-Plain ids (value.clob b) 9 (value.clob b) b (Body.clob b) short (λ limits least fits. fits)
+scalar-Plain ids (value.blob b) small range text short = headed-Plain ids (value.blob b) 10 (value.blob b) b (Body.blob b) short (λ limits least fits. fits)
 
 -- each value has an octet
 headed-some : (t : ℕ) (b : List ℕ) → 0 < length (headed t b)
@@ -297,21 +295,21 @@ record MembersAt {P : Type 0} (ids : UserSymbol → ℕ) (k : Kind) (q : ℕ) (m
   pub raw : Members SymbolAt ℕ
   pub spells : Inside k q raw (members_octets ids ms)
   pub are : map_members bare_symbol no_place raw ≡ map_members (with_id ids) no_place ms
-  pub fits : (limits : Limits) (depth : ℕ) → 16 ≤ limits.scalar → MembersFit limits depth ms → InsideFits limits depth spells
+  pub fits : (limits : Limits) (depth : ℕ) → IdsFit ids limits → MembersFit limits depth ms → InsideFits limits depth spells
 
 -- so many annotations, and no others
 few-own : (ids : UserSymbol → ℕ) (own : List SymbolAt) (annotations : List UserSymbol) → map bare_symbol own ≡ map (with_id ids) annotations → length own ≡ length annotations
 few-own ids own annotations are = sym (length-map own bare_symbol) ∙ ap length are ∙ length-map annotations (with_id ids)
 
 -- octets are a value, within the limits within which a value of a user is
-record BinAt {P : Type 0} (annotations : List UserSymbol) (x : Value UserSymbol P) (q : ℕ) (own : List SymbolAt) (place : ℕ) (raw : Value SymbolAt ℕ) (bytes : List ℕ) : Type 0 where
+record BinAt {P : Type 0} (ids : UserSymbol → ℕ) (annotations : List UserSymbol) (x : Value UserSymbol P) (q : ℕ) (own : List SymbolAt) (place : ℕ) (raw : Value SymbolAt ℕ) (bytes : List ℕ) : Type 0 where
   pub spells : Bin q own place raw bytes
-  pub fits : (limits : Limits) (depth : ℕ) → 16 ≤ limits.scalar → AnnotationsFit limits annotations → ValueFits limits depth x → BinFits limits depth spells
+  pub fits : (limits : Limits) (depth : ℕ) → IdsFit ids limits → AnnotationsFit limits annotations → ValueFits limits depth x → BinFits limits depth spells
 
 -- what is written of a value is spelled, within the limits within which the value is
 pub record SpelledWithin {P : Type 0} (ids : UserSymbol → ℕ) (q : ℕ) (annotations : List UserSymbol) (x : Value UserSymbol P) (bytes : List ℕ) : Type 0 where
   pub at : IsSpelledAt ids q annotations x bytes
-  pub fits : (limits : Limits) (depth : ℕ) → 16 ≤ limits.scalar → AnnotationsFit limits annotations → ValueFits limits depth x → BinFits limits depth at.spells
+  pub fits : (limits : Limits) (depth : ℕ) → IdsFit ids limits → AnnotationsFit limits annotations → ValueFits limits depth x → BinFits limits depth at.spells
 
 mutual
   pub value-spelled : {P : Type 0} (ids : UserSymbol → ℕ) (q : ℕ) (annotations : List UserSymbol) (x : Value UserSymbol P) → AreSmall ids → IsWritable x
@@ -325,11 +323,11 @@ mutual
       let raw : Value SymbolAt ℕ = scalar (placed_scalar place (map_scalar (with_id ids) v)) in
       let p = scalar-Plain ids v small w.0 w.1 fits in
       let own_few = few-own ids a.own annotations a.are in
-      let here : BinAt {P = P} annotations (scalar v) q a.own place raw (a.before ++ o) = record {
+      let here : BinAt {P = P} ids annotations (scalar v) q a.own place raw (a.before ++ o) = record {
         spells = Bin.scalar q a.own (map_scalar (with_id ids) v) a.before o a.spells p.spells;
         fits = λ limits depth least few body. (omega (arith, own_few, few), p.fits limits least body);
       } in
-      let there = subst (λ (b : List ℕ). BinAt {P = P} annotations (scalar v) q a.own place raw b) (sym a.is) here in
+      let there = subst (λ (b : List ℕ). BinAt {P = P} ids annotations (scalar v) q a.own place raw b) (sym a.is) here in
       record {
         at = record {
           own = a.own;
@@ -351,11 +349,11 @@ mutual
       let raw : Value SymbolAt ℕ = container k m.raw (q + length ((a.before ++ h) ++ c)) in
       let before : Annotated q a.own (length h + length c) a.before = subst (λ (n : ℕ). Annotated q a.own n a.before) (length-append h c) a.spells in
       let own_few = few-own ids a.own annotations a.are in
-      let here : BinAt annotations (container k ms last) q a.own (q + length a.before) raw ((a.before ++ h) ++ c) = record {
+      let here : BinAt ids annotations (container k ms last) q a.own (q + length a.before) raw ((a.before ++ h) ++ c) = record {
         spells = Bin.container q a.own k m.raw a.before h c before (header-Header k (length c) (not_one ids k ms w) (omega (arith, inside))) m.spells;
         fits = λ limits depth least few deep. (omega (arith, own_few, few), deep.0, m.fits limits (suc depth) least deep.1);
       } in
-      let there = subst (λ (b : List ℕ). BinAt annotations (container k ms last) q a.own (q + length a.before) raw b) (append_assoc a.before h c ∙ sym a.is) here in
+      let there = subst (λ (b : List ℕ). BinAt ids annotations (container k ms last) q a.own (q + length a.before) raw b) (append_assoc a.before h c ∙ sym a.is) here in
       record {
         at = record {
           own = a.own;

@@ -25,14 +25,14 @@ use Rattle.ion_binary.specs.Grammar.{Bin, Stream, Tops}
 use Rattle.ion_binary.specs.Laws.{Bodies}
 use Rattle.ion_binary.specs.Canonical.{binary, declaration, id_in, is_over, marker_if, marker_octets, member_octets, octets_behind, texts_kept, tree_octets, value_octets, with_symbol, with_symbols, with_text}
 use Rattle.ion_binary.specs.Spelling.{AreShort, IsDeclared, TheFormIsRead, bare_symbol, with_id, with_texts}
-use Rattle.ion_binary.specs.WrittenLimits.{AllowDeclarations, FitsBinary, SymbolFits, WhatIsWrittenIsWithinLimits}
+use Rattle.ion_binary.specs.WrittenLimits.{AllowDeclarations, FitsBinary, MayBeDeclared, SymbolFits, WhatIsWrittenIsWithinLimits}
 use Rattle.ion_binary.proofs.Complete.{Shrinking, fitting_streams, one_stream}
 use Rattle.ion_binary.proofs.Elements.{all-append, all-left, all-right}
 use Rattle.ion_binary.proofs.Fitting.{BinFits, TopsFit}
 use Rattle.ion_binary.proofs.ShortValues.{what_is_within_is_short}
 use Rattle.ion_binary.proofs.KnownIds.{AreKnown, IsKnown, all_known, known_left}
 use Rattle.ion_binary.proofs.WrittenSpelled.{same_member, value-spelled}
-use Rattle.ion_binary.proofs.WrittenDeclarations.{TextsFit, declared-within, id_in-lt, position-lt}
+use Rattle.ion_binary.proofs.WrittenDeclarations.{TextsFit, declared-within, id_in-lt, ids-fit, position-lt}
 
 -- ---- the table of texts, in which their ids stand for them
 
@@ -240,15 +240,20 @@ leads-value catalog t p h own raw none more = rw (none, user_tops) refl
 
 -- ---- a value more
 
--- the new texts of symbols, which are no longer than limits that the symbols are within
+-- limits allow the declaration of each of these texts
+abbrev AreAllowed : Limits → List (List ℕ) → Type 0
+AreAllowed limits texts = AllByRecursion (λ (t : List ℕ). AllowDeclarations limits) texts
+
+-- the new texts of symbols, which are no longer than limits that the symbols are within, and may be declared where these may
 pub record News (kept all : List (List ℕ)) (ss : List UserSymbol) : Type 0 where
   pub more : List (List ℕ)
   pub is : all ≡ kept ++ more
   pub texts : AllByRecursion IsUtf8 more
   pub fits : (limits : Limits) → AllByRecursion (SymbolFits limits) ss → TextsFit limits more
+  pub allowed : (limits : Limits) → AllByRecursion (MayBeDeclared limits) ss → AreAllowed limits more
 
 no-news : (kept : List (List ℕ)) (ss : List UserSymbol) → News kept kept ss
-no-news kept ss = record { more = []; is = sym (append-nil kept); texts = tt; fits = λ limits h. tt }
+no-news kept ss = record { more = []; is = sym (append-nil kept); texts = tt; fits = λ limits h. tt; allowed = λ limits h. tt }
 
 not-given : (s p : Option ℕ) → or_given s p ≡ None → s ≡ None
 not-given None p e = refl
@@ -256,7 +261,9 @@ not-given (Some n) p e = absurd (cc e)
 
 news-text : (kept : List (List ℕ)) (t : List ℕ) (id : Option ℕ) → known_id kept t ≡ id → IsUtf8 t → News kept (with_text kept t id) (Known t ∷ [])
 news-text kept t (Some id) e h = no-news kept (Known t ∷ [])
-news-text kept t None e h = record { more = t ∷ []; is = refl; texts = (h, tt); fits = λ limits fits. (fits.0 (not-given (system_id t) (position kept t) e), tt) }
+news-text kept t None e h =
+    let none : system_id t ≡ None = not-given (system_id t) (position kept t) e in
+    record { more = t ∷ []; is = refl; texts = (h, tt); fits = λ limits fits. (fits.0 none, tt); allowed = λ limits may. (may.0 none, tt) }
 
 news-with : (kept : List (List ℕ)) (s : UserSymbol) → IsText s → News kept (with_symbol kept s) (s ∷ [])
 unfolding with_symbol
@@ -273,6 +280,7 @@ news kept (s ∷ ss) h =
       is = b.is ∙ (ap (λ w. w ++ b.more) a.is ∙ append_assoc kept a.more b.more);
       texts = all-append IsUtf8 a.more b.more a.texts b.texts;
       fits = λ limits fits. all-append (λ t. length t ≤ limits.scalar) a.more b.more (a.fits limits (fits.0, tt)) (b.fits limits fits.1);
+      allowed = λ limits may. all-append (λ (t : List ℕ). AllowDeclarations limits) a.more b.more (a.allowed limits (may.0, tt)) (b.allowed limits may.1);
     }
 
 pub table-more : (kept new : List (List ℕ)) → with_texts (table_of kept) new ≡ table_of (kept ++ new)
@@ -349,7 +357,7 @@ same-value texts q first place annotations x own h raw k n e =
 
 -- ---- all values, under limits that they are within where that is wanted
 
-module _ (limits : Limits) (Wanted : Type 0) (allow : Wanted → AllowDeclarations limits) where
+module _ (limits : Limits) (Wanted : Type 0) where
   -- the bytes so far spell a stream, within the limits where that is wanted; these values were written, and the table behind them is this one
   record Sofar (catalog : List Shared) (t : Table) (b : List ℕ) (done : List (Top UserSymbol ℕ)) : Type 0 where
     pub raw : List (Top SymbolAt ℕ)
@@ -403,13 +411,13 @@ module _ (limits : Limits) (Wanted : Type 0) (allow : Wanted → AllowDeclaratio
       subst (λ w. Sofar catalog w c all) e (subst (λ x. Sofar catalog t x all) f (subst (λ l. Sofar catalog t b l) g s))
 
   with-news : (catalog : List Shared) (kept new : List (List ℕ)) (b : List ℕ) (done : List (Top UserSymbol ℕ)) → AllByRecursion IsUtf8 new → length (declaration new) < 2 ^ 62
-      → (Wanted → TextsFit limits new)
+      → (Wanted → TextsFit limits new) → (Wanted → AreAllowed limits new)
       → Sofar catalog (table_of kept) b done → Sofar catalog (table_of (kept ++ new)) (b ++ declaration new) done
-  with-news catalog kept [] b done h short within s =
+  with-news catalog kept [] b done h short within allowed s =
       moved catalog _ _ _ _ _ _ (ap table_of (sym (append-nil kept))) (sym (append-nil b) ∙ ap (λ x. b ++ x) (sym no-declaration)) refl s
-  with-news catalog kept (t ∷ ts) b done h short within s =
+  with-news catalog kept (t ∷ ts) b done h short within allowed s =
       let d = declared-within catalog (table_of kept) (length b) (t ∷ ts) (omega arith) h short in
-      moved catalog _ _ _ _ _ _ (table-more kept (t ∷ ts)) refl refl (with-declaration catalog (table_of kept) b done (t ∷ ts) d.at (λ wanted. d.fits limits (allow wanted) (within wanted)) s)
+      moved catalog _ _ _ _ _ _ (table-more kept (t ∷ ts)) refl refl (with-declaration catalog (table_of kept) b done (t ∷ ts) d.at (λ wanted. let allow = allowed wanted in d.fits limits allow.0 (within wanted)) s)
 
   with-tree : (catalog : List Shared) (kept : List (List ℕ)) (annotations : List UserSymbol) (x : Value UserSymbol ℕ) (first place : ℕ) (b : List ℕ) (done : List (Top UserSymbol ℕ))
       → IsUser (tree first annotations place x) → (Wanted → FitsBinary limits (tree first annotations place x))
@@ -427,14 +435,14 @@ module _ (limits : Limits) (Wanted : Type 0) (allow : Wanted → AllowDeclaratio
       let before : Sofar catalog (table_of all) (b ++ declared) done =
       moved catalog _ _ _ _ _ _ (ap table_of (sym new.is)) (ap (λ (n : List (List ℕ)). b ++ declaration n) (sym new_is)) refl
       (with-news catalog kept new.more b done new.texts (subst (λ (n : List (List ℕ)). length (declaration n) < 2 ^ 62) new_is short_declaration)
-      (λ wanted. let fits = within wanted in new.fits limits fits.2) s)
+      (λ wanted. let fits = within wanted in new.fits limits fits.2) (λ wanted. let fits = within wanted in new.allowed limits fits.3) s)
       in
       let known : AreKnown all symbols = all_known kept symbols in
       let small : (u : UserSymbol) → id_in all u < 2 ^ 31 = λ u. omega (arith, id_in-lt all u, few) in
       let v = value-spelled (id_in all) (length (b ++ declared)) annotations x small user.0 short in
       moved catalog _ _ _ _ _ _ refl (append_assoc b declared octets) refl
       (with-value catalog (table_of all) (b ++ declared) octets done v.at.own v.at.place v.at.raw (tree first annotations place x) v.at.spells
-      (λ wanted. let fits = within wanted in v.fits limits 0 (allow wanted).scalar fits.0 fits.1)
+      (λ wanted. let fits = within wanted in v.fits limits 0 (ids-fit all few limits) fits.0 fits.1)
       (declares-none all v.at.own v.at.raw annotations x v.at.annotations_are v.at.value_is (known-annotations all annotations x known) user.1.1)
       (same-value all (length (b ++ declared)) first place annotations x v.at.own v.at.place v.at.raw known v.at.annotations_are v.at.value_is)
       before)
@@ -474,16 +482,16 @@ module _ (limits : Limits) (Wanted : Type 0) (allow : Wanted → AllowDeclaratio
   }
 
 -- the stream of all values, under any limits
-whole : (limits : Limits) (Wanted : Type 0) (allow : Wanted → AllowDeclarations limits) (catalog : List Shared) (limit : ℕ) (tops : List (Top UserSymbol ℕ))
+whole : (limits : Limits) (Wanted : Type 0) (catalog : List Shared) (limit : ℕ) (tops : List (Top UserSymbol ℕ))
     → AllByRecursion IsUser tops → (Wanted → AllByRecursion (FitsBinary limits) tops) → AreShort limit [] tops
-    → (t : Table) × Sofar limits Wanted allow catalog t (binary limit tops) tops
-whole limits Wanted allow catalog limit tops users within short =
-    stream limits Wanted allow catalog limit [] marker_octets [] tops users within short (at-start limits Wanted allow catalog)
+    → (t : Table) × Sofar limits Wanted catalog t (binary limit tops) tops
+whole limits Wanted catalog limit tops users within short =
+    stream limits Wanted catalog limit [] marker_octets [] tops users within short (at-start limits Wanted catalog)
 
 pub the_form_is_read : TheFormIsRead
 the_form_is_read catalog limit tops users short =
     let none : Limits = record { depth = 0; scalar = 0; symbols = 0; value = 0; input = 0 } in
-    let r = (whole none ⊥ (λ wanted. absurd wanted) catalog limit tops users (λ wanted. absurd wanted) short).1 in
+    let r = (whole none ⊥ catalog limit tops users (λ wanted. absurd wanted) short).1 in
     record {
       raw = r.raw;
       users = r.users ++ [];
@@ -494,8 +502,8 @@ the_form_is_read catalog limit tops users short =
 
 -- what is written of values that fit is read to its end
 pub what_is_written_is_within_limits : Bodies → Shrinking → WhatIsWrittenIsWithinLimits
-what_is_written_is_within_limits bodies shrinks limits us raw checked allow users within fits stream =
-    let r = (whole limits ⊤ (λ wanted. allow) [] limits.symbols us users (λ wanted. fits) (what_is_within_is_short limits us checked within)).1 in
+what_is_written_is_within_limits bodies shrinks limits us raw checked users within fits stream =
+    let r = (whole limits ⊤ [] limits.symbols us users (λ wanted. fits) (what_is_within_is_short limits us checked within)).1 in
     let spelled : Stream (binary limits.symbols us) r.raw = record { begins = stream.begins; spells = r.spells } in
     let same : r.raw ≡ raw = one_stream bodies shrinks (binary limits.symbols us) r.raw raw spelled stream in
     fitting_streams bodies shrinks limits (binary limits.symbols us) r.raw r.spells (r.fits tt)

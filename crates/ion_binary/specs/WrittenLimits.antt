@@ -1,11 +1,12 @@
 -- What is written is read again under the limits of its writer: which values these allow, by lengths and numbers alone.
-use Rattle.std.specs.Prelude.{◌≡◌, ℕ, suc, ◌*◌, ◌<◌, ◌≤◌, List, [], length, None, ⊤}
+use Rattle.std.specs.Prelude.{◌≡◌, ℕ, suc, ◌*◌, ◌<◌, ◌≤◌, List, [], length, Option, Some, None, ⊤}
 use Rattle.std.specs.List.{AllByRecursion}
 use Rattle.ion_meter.specs.Limits.{AreChecked}
 use Rattle.ion_meter.specs.declared.limits.Limits.{Limits}
 use Rattle.ion_value.specs.declared.decimal.Decimal.{Decimal}
 use Rattle.ion_value.specs.declared.timestamp.Timestamp.{Timestamp}
 use Rattle.ion_value.specs.Decimal.{IsDecimal, decimal_body}
+use Rattle.ion_value.specs.Number.{uint_octets}
 use Rattle.ion_value.specs.Path.{closed, path_items}
 use Rattle.ion_value.specs.Reading.{Finished, behind}
 use Rattle.ion_value.specs.Timestamp.{IsTimestamp, timestamp_body}
@@ -19,14 +20,24 @@ use Rattle.ion_binary.specs.Reading.{reading}
 use Rattle.ion_binary.specs.Canonical.{binary}
 use Rattle.ion_binary.specs.Refusals.{AreWithin}
 
--- the body of a scalar is no longer than the limit on scalars; an int has 16 octets at most, and the id of a symbol four
+-- the most octets that the id of a text has: one of the system symbol table's, and four of one that is declared
+abbrev pub id_size : Option ℕ → ℕ
+id_size (Some id) = 1
+id_size None = 4
+
+-- the id of a symbol is no longer than the limit on scalars; that of unknown text has no octets
+abbrev pub IdFits : Limits → UserSymbol → Type 0
+IdFits limits (Known t) = id_size (system_id t) ≤ limits.scalar
+IdFits limits Unknown = ⊤
+
+-- the body of a scalar is no longer than that limit
 abbrev pub ScalarFits : Limits → Scalar UserSymbol → Type 0
 ScalarFits limits (value.null type) = ⊤
 ScalarFits limits (value.bool truth) = ⊤
-ScalarFits limits (value.int number) = ⊤
+ScalarFits limits (value.int number) = length (uint_octets number.magnitude) ≤ limits.scalar
 ScalarFits limits (value.decimal number) = length (decimal_body number) ≤ limits.scalar
 ScalarFits limits (value.timestamp moment) = length (timestamp_body moment) ≤ limits.scalar
-ScalarFits limits (value.symbol name) = ⊤
+ScalarFits limits (value.symbol name) = IdFits limits name
 ScalarFits limits (value.string bytes) = length bytes ≤ limits.scalar
 ScalarFits limits (value.clob bytes) = length bytes ≤ limits.scalar
 ScalarFits limits (value.blob bytes) = length bytes ≤ limits.scalar
@@ -60,20 +71,26 @@ abbrev pub SymbolFits : Limits → UserSymbol → Type 0
 SymbolFits limits (Known t) = system_id t ≡ None → length t ≤ limits.scalar
 SymbolFits limits Unknown = ⊤
 
--- a value at top level fits, with all its symbols
-abbrev pub FitsBinary : {P : Type 0} → Limits → Top UserSymbol P → Type 0
-FitsBinary limits (version place) = ⊤
-FitsBinary limits (tree first annotations place x) =
-    AnnotationsFit limits annotations × ValueFits limits 0 x × AllByRecursion (SymbolFits limits) (value_symbols None annotations x)
-
--- limits under which a declaration is read, which opens two containers and has one annotation; ints and ids fit these too
+-- limits under which a declaration is read, which opens two containers and has one annotation
 pub record AllowDeclarations (limits : Limits) : Type 0 where
   pub depth : 2 ≤ limits.depth
   pub scalar : 16 ≤ limits.scalar
 
+-- limits allow the declaration of a text that the system symbol table has not
+abbrev pub MayBeDeclared : Limits → UserSymbol → Type 0
+MayBeDeclared limits (Known t) = system_id t ≡ None → AllowDeclarations limits
+MayBeDeclared limits Unknown = ⊤
+
+-- a value at top level fits, with all its symbols
+abbrev pub FitsBinary : {P : Type 0} → Limits → Top UserSymbol P → Type 0
+FitsBinary limits (version place) = ⊤
+FitsBinary limits (tree first annotations place x) =
+    let symbols = value_symbols None annotations x in
+    AnnotationsFit limits annotations × ValueFits limits 0 x × AllByRecursion (SymbolFits limits) symbols × AllByRecursion (MayBeDeclared limits) symbols
+
 -- where a writer refuses nothing, and the values fit, what is written of them is read to its end under the same limits
 abbrev pub WhatIsWrittenIsWithinLimits : Type 0
 WhatIsWrittenIsWithinLimits =
-    (limits : Limits) (us : List (Top UserSymbol ℕ)) (raw : List (Top SymbolAt ℕ)) → AreChecked limits → AllowDeclarations limits
+    (limits : Limits) (us : List (Top UserSymbol ℕ)) (raw : List (Top SymbolAt ℕ)) → AreChecked limits
     → AllByRecursion IsUser us → AreWithin limits [] us → AllByRecursion (FitsBinary limits) us → Stream (binary limits.symbols us) raw
     → reading limits (binary limits.symbols us) ≡ behind (path_items (closed raw)) Finished

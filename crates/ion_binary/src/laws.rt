@@ -210,7 +210,8 @@ pub fn numbers_fit()
 
 /// What is written of values is read to its end under the limits of the writer, where it refuses
 /// nothing of them and they fit: by the depth of their containers, the length of their scalars and
-/// of the texts of their symbols, and the number of annotations of each.
+/// of the texts of their symbols, and the number of annotations of each; where one of these texts is
+/// declared, the limits allow a declaration.
 pub fn what_is_written_is_within_limits()
     ensures { WhatIsWrittenIsWithinLimits }
 {}

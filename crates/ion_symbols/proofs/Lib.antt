@@ -25,6 +25,7 @@ mod StandingSymbols
 mod IdsAbove
 mod Accepted
 mod Costly
+pub mod CountedTrees
 mod UserReadings
 mod ResolvedUsers
 pub mod OtherSymbols

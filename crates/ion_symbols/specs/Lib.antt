@@ -6,6 +6,7 @@ pub mod UserValues
 pub mod TextsOfUsers
 pub mod Output
 pub mod Laws
+pub mod Counted
 pub mod Resolved
 pub mod Kept
 pub mod Catalogue

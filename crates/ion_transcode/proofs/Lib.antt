@@ -29,6 +29,7 @@ mod TextWithoutPlaces
 mod ReadAgain
 mod NoneRefused
 mod Accepted
+mod AcceptedTrees
 mod ReadWhole
 mod OpenContainers
 mod NoDeeper
@@ -37,4 +38,5 @@ mod WrittenAccepted
 mod AcceptedAgain
 mod TopRows
 mod WrittenRows
+mod TreeRows
 mod ShownRows

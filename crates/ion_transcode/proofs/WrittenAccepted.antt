@@ -1,5 +1,5 @@
 -- What was written as binary is accepted under the limits of its run, and shows what the text shows.
-use Rattle.std.proofs.Common.{◌≡◌, ℕ, List, [], length, Some, refl, ap, sym, ◌∙◌, subst, subst₂}
+use Rattle.std.proofs.Common.{◌≡◌, inl, inr, ℕ, List, [], length, Some, refl, ap, sym, ◌∙◌, subst, subst₂}
 use Rattle.std.specs.List.{AllByRecursion}
 use Rattle.ion_meter.specs.declared.limits.Limits.{Limits}
 use Rattle.ion_value.specs.Outcome.{Accepted}
@@ -56,7 +56,7 @@ module _ (is_read : WhatIsAcceptedIsRead) (accepted : WhatIsReadIsAccepted) (val
     (texts : TextsOfUsersAreShort) (room : TextsWithinFit) (is_binary : TheFormIsRead) (short : WhatIsWithinIsShort) (within : WhatIsWrittenIsWithinLimits) (stands : WhatIsWrittenIsResolved)
     (numbers : NumbersInTextFit) where
   pub written-binary : WrittenBinaryIsAccepted
-  written-binary catalog other limits asked bytes written n is_text checked allow declared to_is verdict =
+  written-binary catalog other limits asked bytes written n is_text checked allowed to_is verdict =
       let f : Form = form_of bytes in
       let w = is_read catalog limits asked bytes target.Binary n written to_is verdict in
       let f_is : f ≡ form.Text = of-text f asked to_is in
@@ -67,9 +67,12 @@ module _ (is_read : WhatIsAcceptedIsRead) (accepted : WhatIsReadIsAccepted) (val
       let raw_are = raw bytes w.tops stream in
       let are : AreUsers us = values catalog w.tops us is_text raw_are w.users_are in
       let fits : AllByRecursion (FitsBinary limits) us =
-      users-of-read-fit limits numbers allow.scalar texts room catalog w.tops us declared raw_are (kept limits bytes w.tops stream read) w.taken w.users_are in
+      elim (allowed w.tops us stream w.users_are) [
+        | inl enough ↦ users-of-read-fit limits numbers enough.0 texts room catalog w.tops us enough.1 raw_are (kept limits bytes w.tops stream read) w.taken w.users_are
+        | inr own ↦ own
+      ] in
       let r = is_binary other limits.symbols us are.0 (short limits us checked w.taken) in
-      let read_again = within limits us r.raw checked allow are.0 w.taken fits r.stream in
+      let read_again = within limits us r.raw checked are.0 w.taken fits r.stream in
       let resolved_again = stands other limits us r.raw checked are.0 w.taken r.stream in
       let same : text r.users ≡ text us = same-text r.users us r.same in
       let again = read-again accepted other limits us r read_again resolved_again in

@@ -5,19 +5,24 @@ use Rattle.std.specs.Bool.{⊤}
 use Rattle.std.proofs.lemmas.List.Sums.{sum_by-cons}
 use Rattle.ion_meter.specs.declared.limits.Limits.{Limits}
 use Rattle.ion_value.specs.declared.ion_type.Kind.{Kind}
+use Rattle.ion_value.specs.declared.int.Int.{Int}
+use Rattle.ion_value.specs.Int.{IsInt}
+use Rattle.ion_value.specs.Number.{uint_octets}
 use Rattle.ion_value.specs.Standing.{InRange}
 use Rattle.ion_value.specs.Value as value
 use Rattle.ion_value.specs.Value.{Symbol, SymbolAt, UserSymbol, Known, Unknown, Scalar, Value, Members, scalar, container, nothing, member, Top, version, tree, map_scalar, map_value, map_members}
 use Rattle.ion_value.specs.Writable.{IsWritable, AreWritable, IsRaw, value_symbols}
+use Rattle.ion_value.proofs.Octets.{Digits-fewest, digits_in-Digits}
+use Rattle.ion_symbols.specs.Output.{system_id}
 use Rattle.ion_symbols.specs.Table.{Shared, Table, system, text_at}
 use Rattle.ion_symbols.specs.TextsOfUsers.{SymbolHas, ScalarHas, ValueHas, MembersHave, TopHas, UserHas, UserTopHas, IsShort, TextsOfUsersAreShort}
 use Rattle.ion_symbols.specs.Tree.{user_at, declares_table, next_table, user_tops}
 use Rattle.ion_binary.specs.Refusals.{AreWithin}
 use Rattle.ion_binary.specs.WrittenNumbers.{NumbersInTextFit}
 use Rattle.ion_binary.specs.WrittenSymbols.{SymbolsFit, TextsWithinFit}
-use Rattle.ion_binary.specs.WrittenLimits.{ScalarFits, AnnotationsFit, ValueFits, MembersFit, SymbolFits, FitsBinary}
+use Rattle.ion_binary.specs.WrittenLimits.{AllowDeclarations, id_size, IdFits, ScalarFits, AnnotationsFit, ValueFits, MembersFit, SymbolFits, MayBeDeclared, FitsBinary}
 use Rattle.ion_text_in.specs.Reading.{cost}
-use Rattle.ion_transcode.specs.WrittenAgain.{TextsFit}
+use Rattle.ion_transcode.specs.WrittenAgain.{IsSystem, DeclareNothing, TextsFit, DeclarationsFit}
 use Rattle.ion_text_in.specs.ReadWithin.{SymbolIsWithin, ScalarIsWithin, AnnotationsAreWithin, ValueIsWithin, MembersAreWithin, TopIsWithin}
 
 -- ---- texts
@@ -68,14 +73,30 @@ module _ (limits : Limits) where
 
   -- ---- values
 
+  -- an int has 16 octets at most, and an id four
+  int-fits : (i : Int) → IsInt i → 16 ≤ limits.scalar → ScalarFits limits (value.int i)
+  int-fits i range enough =
+      let sixteen : List ℕ = 0 ∷ 0 ∷ 0 ∷ 0 ∷ 0 ∷ 0 ∷ 0 ∷ 0 ∷ 0 ∷ 0 ∷ 0 ∷ 0 ∷ 0 ∷ 0 ∷ 0 ∷ 0 ∷ [] in
+      let few : length (uint_octets i.magnitude) ≤ length sixteen =
+      Digits-fewest 256 i.magnitude (uint_octets i.magnitude) sixteen (digits_in-Digits 256 i.magnitude (omega arith)) (omega (arith, range.fits)) in
+      omega (arith, few, enough)
+
+  size-few : (id : Option ℕ) → id_size id ≤ 4
+  size-few (Some id) = omega arith
+  size-few None = omega arith
+
+  id-fits : (s : UserSymbol) → 16 ≤ limits.scalar → IdFits limits s
+  id-fits (Known t) enough = omega (arith, size-few (system_id t), enough)
+  id-fits Unknown enough = tt
+
   module _ (numbers : NumbersInTextFit) (enough : 16 ≤ limits.scalar) (f : SymbolAt → UserSymbol) where
     scalar-fits : (body : Scalar SymbolAt) → InRange body → ScalarIsWithin limits body → ScalarFits limits (map_scalar f body)
     scalar-fits (value.null type) range h = tt
     scalar-fits (value.bool truth) range h = tt
-    scalar-fits (value.int number) range h = tt
+    scalar-fits (value.int number) range h = int-fits number range enough
     scalar-fits (value.decimal number) range h = (numbers limits enough).0 number h.0 range h.1 h.2
     scalar-fits (value.timestamp moment) range h = (numbers limits enough).1 moment h.0 range h.1 h.2
-    scalar-fits (value.symbol name) range h = tt
+    scalar-fits (value.symbol name) range h = id-fits (f name) enough
     scalar-fits (value.string bytes) range h = h
     scalar-fits (value.clob bytes) range h = h
     scalar-fits (value.blob bytes) range h = h
@@ -157,19 +178,53 @@ module _ (limits : Limits) where
   symbols-fit (version place ∷ us) h = (tt, symbols-fit us h.1)
   symbols-fit (tree first annotations place x ∷ us) h = (users-fit (value_symbols None annotations x) h.0, symbols-fit us h.1)
 
-  both-fit : (us : List (Top UserSymbol ℕ)) → TopsFit us → AllByRecursion (SymbolsFit limits) us → AllByRecursion (FitsBinary limits) us
-  both-fit [] h k = tt
-  both-fit (version place ∷ us) h k = (tt, both-fit us h.1 k.1)
-  both-fit (tree first annotations place x ∷ us) h k = ((h.0.0, h.0.1, k.0), both-fit us h.1 k.1)
+  -- a text that is not declared is not too long, and needs no leave
+  system-symbols : (ss : List UserSymbol) → AllByRecursion (UserHas IsSystem) ss
+      → AllByRecursion (SymbolFits limits) ss × AllByRecursion (MayBeDeclared limits) ss
+  system-symbols [] h = (tt, tt)
+  system-symbols (Known t ∷ ss) h =
+      let others = system-symbols ss h.1 in
+      let fits : SymbolFits limits (Known t) = λ e. absurd (h.0 e) in
+      let may : MayBeDeclared limits (Known t) = λ e. absurd (h.0 e) in
+      ((fits, others.0), (may, others.1))
+  system-symbols (Unknown ∷ ss) h =
+      let others = system-symbols ss h.1 in ((tt, others.0), (tt, others.1))
+
+  undeclared-fit : (us : List (Top UserSymbol ℕ)) → TopsFit us → DeclareNothing us → AllByRecursion (FitsBinary limits) us
+  undeclared-fit [] h none = tt
+  undeclared-fit (version place ∷ us) h none = (tt, undeclared-fit us h.1 none.1)
+  undeclared-fit (tree first annotations place x ∷ us) h none =
+      let symbols = system-symbols (value_symbols None annotations x) none.0 in
+      ((h.0.0, h.0.1, symbols.0, symbols.1), undeclared-fit us h.1 none.1)
+
+  -- where declarations are allowed, each text may be declared
+  all-may : AllowDeclarations limits → (ss : List UserSymbol) → AllByRecursion (MayBeDeclared limits) ss
+  all-may allow [] = tt
+  all-may allow (Known t ∷ ss) = ((λ e. allow), all-may allow ss)
+  all-may allow (Unknown ∷ ss) = (tt, all-may allow ss)
+
+  declared-fit : AllowDeclarations limits → (us : List (Top UserSymbol ℕ)) → TopsFit us → AllByRecursion (SymbolsFit limits) us → AllByRecursion (FitsBinary limits) us
+  declared-fit allow [] h k = tt
+  declared-fit allow (version place ∷ us) h k = (tt, declared-fit allow us h.1 k.1)
+  declared-fit allow (tree first annotations place x ∷ us) h k =
+      ((h.0.0, h.0.1, k.0, all-may allow (value_symbols None annotations x)), declared-fit allow us h.1 k.1)
 
   -- what was read within the limits has user values that fit them, where their declared texts do
   pub users-of-read-fit : NumbersInTextFit → 16 ≤ limits.scalar → TextsOfUsersAreShort → TextsWithinFit
-      → (catalog : List Shared) (tops : List (Top SymbolAt ℕ)) (us : List (Top UserSymbol ℕ)) → TextsFit limits catalog
+      → (catalog : List Shared) (tops : List (Top SymbolAt ℕ)) (us : List (Top UserSymbol ℕ)) → DeclarationsFit limits catalog us
       → AllByRecursion IsRaw tops → AllByRecursion (TopIsWithin limits) tops → AreWithin limits [] us → user_tops catalog system tops ≡ Some us
       → AllByRecursion (FitsBinary limits) us
-  users-of-read-fit numbers enough short fit catalog tops us texts raw h within e =
-      both-fit us (subst (λ o. IfSome o TopsFit) e (tops-fit numbers enough catalog tops raw h system)) (by texts)
+  users-of-read-fit numbers enough short fit catalog tops us declared raw h within e =
+      by declared
     where
-      by : TextsFit limits catalog → AllByRecursion (SymbolsFit limits) us
-      by (inl c) = symbols-fit us (short limits.scalar catalog tops us c (tops-short tops h) e)
-      by (inr room) = fit limits us room within
+      values : TopsFit us
+      values = subst (λ o. IfSome o TopsFit) e (tops-fit numbers enough catalog tops raw h system)
+
+      fit-by : TextsFit limits catalog us → AllByRecursion (SymbolsFit limits) us
+      fit-by (inl s) = symbols-fit us s
+      fit-by (inr (inl c)) = symbols-fit us (short limits.scalar catalog tops us c (tops-short tops h) e)
+      fit-by (inr (inr room)) = fit limits us room within
+
+      by : DeclarationsFit limits catalog us → AllByRecursion (FitsBinary limits) us
+      by (inl none) = undeclared-fit us values none
+      by (inr d) = declared-fit d.0 us values (fit-by d.1)

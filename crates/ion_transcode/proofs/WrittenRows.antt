@@ -1,10 +1,17 @@
 -- Worked rows of binary that was written and is read again under the same limits: the least limits under which it is accepted.
-use Rattle.std.specs.Prelude.{◌≡◌, refl, codes, ℕ, List, [], ◌∷◌, ◌++◌, Some}
+use Rattle.std.proofs.Common.{inl, inr, arith}
+use Rattle.std.specs.Prelude.{◌≡◌, refl, codes, ℕ, false, List, [], ◌∷◌, ◌++◌, length, Some, None}
 use Rattle.ion_meter.specs.declared.fault.Reason.TheVariants.{AnnotationLimit, DepthLimit, ScalarLimit}
 use Rattle.ion_meter.specs.declared.limits.Limits.{Limits}
+use Rattle.ion_value.specs.declared.ion_type.Kind.TheVariants as kind
+use Rattle.ion_value.specs.Number.{digits_within, uint_octets}
 use Rattle.ion_value.specs.Outcome.{Accepted, Rejected}
-use Rattle.ion_symbols.specs.Table.{Shared}
+use Rattle.ion_value.specs.Value as value
+use Rattle.ion_value.specs.Value.{UserSymbol, Known, Value, Top, container, nothing, member, tree}
+use Rattle.ion_symbols.specs.Table.{Shared, system}
+use Rattle.ion_symbols.specs.Tree.{user_tops}
 use Rattle.ion_transcode.specs.declared.to.To.TheVariants as to
+use Rattle.ion_transcode.specs.WrittenAgain.{WrittenFits}
 use Rattle.ion_transcode.proofs.TopRows.{told, octets, usual}
 
 abbrev within : ℕ → ℕ → ℕ → Limits
@@ -56,3 +63,54 @@ a_long_text_converted = refl
 it_is_too_long : told long_text (within 3 16 33) to.Other long_in_binary ≡ ([], Rejected ScalarLimit 16)
 unfolding told
 it_is_too_long = refl
+
+-- ---- what the law asks of limits, met by values that declare nothing, or nothing long
+
+abbrev an_int : {S : Type 0} → ℕ → Value S ℕ
+an_int n = value.scalar (value.int (record { negative = false; magnitude = n }))
+
+abbrev a_list : {S : Type 0} → List (Top S ℕ)
+a_list = tree 0 [] 0 (container kind.List (member nothing None [] 1 (an_int 1)) 2) ∷ []
+
+a_list_converted : told [] (within 1 16 64) to.Other (codes "[1]") ≡ (octets "E0 01 00 EA B2 21 01", Accepted 1)
+unfolding told
+a_list_converted = refl
+
+a_list_shown : told [] (within 1 16 64) to.Other (octets "E0 01 00 EA B2 21 01") ≡ (codes "[1]\n", Accepted 1)
+unfolding told
+a_list_shown = refl
+
+its_user_values : user_tops [] system a_list ≡ Some a_list
+its_user_values = refl
+
+it_declares_nothing : WrittenFits (within 1 16 64) [] a_list
+it_declares_nothing = inl (omega arith, inl (tt, tt))
+
+-- the catalogue has a text that is too long, and no value uses it
+a_five_converted : told long_text (within 2 16 33) to.Other (codes "5") ≡ (octets "E0 01 00 EA 21 05", Accepted 1)
+unfolding told
+a_five_converted = refl
+
+abbrev just_five : List (Top UserSymbol ℕ)
+just_five = tree 0 [] 0 (an_int 5) ∷ []
+
+a_five : WrittenFits (within 2 16 33) long_text just_five
+a_five = inl (omega arith, inl (tt, tt))
+
+-- and under the least limits, by its one octet
+a_five_at_the_least : told [] (within 0 1 0) to.Other (codes "5") ≡ (octets "E0 01 00 EA 21 05", Accepted 1)
+unfolding told
+a_five_at_the_least = refl
+
+five_octets : length (uint_octets 5) ≡ 1
+unfolding digits_within
+five_octets = refl
+
+by_its_octet : WrittenFits (within 0 1 0) [] just_five
+by_its_octet = inr ((omega arith, omega (arith, five_octets), tt, tt), tt)
+
+abbrev just_a : Value UserSymbol ℕ
+just_a = value.scalar (value.symbol (Known (codes "a")))
+
+a_short_text : WrittenFits (within 2 16 33) long_text (tree 0 [] 0 just_a ∷ [])
+a_short_text = inl (omega arith, inr (record { depth = omega arith; scalar = omega arith }, inl ((λ e. omega arith, tt), tt)))

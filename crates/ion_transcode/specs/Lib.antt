@@ -12,6 +12,7 @@ pub mod Laws
 pub mod UserPaths
 pub mod RoundTrip
 pub mod Acceptance
+pub mod AcceptedTrees
 pub mod Depth
 pub mod WrittenAgain
 pub mod ShownAgain

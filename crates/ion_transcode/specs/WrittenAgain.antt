@@ -1,14 +1,16 @@
 -- What was written as binary is accepted under the limits of its run, and shows what the text shows. Laws that contracts cite.
-use Rattle.std.specs.Prelude.{◌≡◌, ◌⊎◌, ℕ, ◌≤◌, List, [], Some}
+use Rattle.std.specs.Prelude.{◌≡◌, ◌⊎◌, ℕ, ◌≤◌, List, [], Some, None}
+use Rattle.std.specs.List.{AllByRecursion}
 use Rattle.ion_meter.specs.Limits.{AreChecked}
 use Rattle.ion_meter.specs.declared.limits.Limits.{Limits}
 use Rattle.ion_value.specs.Outcome.{Accepted}
 use Rattle.ion_value.specs.Value.{SymbolAt, UserSymbol, Top}
 use Rattle.ion_symbols.specs.Table.{Shared, system}
-use Rattle.ion_symbols.specs.TextsOfUsers.{CatalogHas, IsShort}
+use Rattle.ion_symbols.specs.Output.{system_id}
+use Rattle.ion_symbols.specs.TextsOfUsers.{CatalogHas, IsShort, UserTopHas}
 use Rattle.ion_symbols.specs.Tree.{user_tops}
 use Rattle.ion_symbols.specs.UserValues.{CatalogIsText}
-use Rattle.ion_binary.specs.WrittenLimits.{AllowDeclarations}
+use Rattle.ion_binary.specs.WrittenLimits.{AllowDeclarations, FitsBinary}
 use Rattle.ion_text_in.specs.Grammar as text_grammar
 use Rattle.ion_text_out.specs.Text.{text}
 use Rattle.ion_transcode.specs.declared.to.Target.TheVariants as target
@@ -18,10 +20,37 @@ use Rattle.ion_transcode.specs.Forms.{form_of}
 use Rattle.ion_transcode.specs.Outputs.{resolved}
 use Rattle.ion_transcode.specs.Verdict.{HasVerdict}
 
--- no text that a declaration may have is longer than the limit on scalars: since none of the catalogue's is, or since the limit on
--- symbols is no higher
-abbrev pub TextsFit : Limits → List Shared → Type 0
-TextsFit limits catalog = CatalogHas (IsShort limits.scalar) catalog ⊎ limits.symbols ≤ limits.scalar
+-- ---- what is declared when values are written as binary: each text of their symbols that the system symbol table has not
+
+-- a text that it has
+abbrev pub IsSystem : List ℕ → Type 0
+IsSystem bytes = system_id bytes ≡ None → ⊥
+
+-- no symbol of these values has another
+abbrev pub DeclareNothing : List (Top UserSymbol ℕ) → Type 0
+DeclareNothing us = AllByRecursion (UserTopHas IsSystem) us
+
+-- no text that is declared is longer than the limit on scalars: since no other of the values' symbols is, or no other of the
+-- catalogue's, or since the limit on symbols is no higher
+abbrev pub TextsFit : Limits → List Shared → List (Top UserSymbol ℕ) → Type 0
+TextsFit limits catalog us =
+    AllByRecursion (UserTopHas (IsShort limits.scalar)) us ⊎ (CatalogHas (IsShort limits.scalar) catalog ⊎ limits.symbols ≤ limits.scalar)
+
+-- limits allow what is declared, if anything is
+abbrev pub DeclarationsFit : Limits → List Shared → List (Top UserSymbol ℕ) → Type 0
+DeclarationsFit limits catalog us = DeclareNothing us ⊎ (AllowDeclarations limits × TextsFit limits catalog us)
+
+-- limits allow what is written of these values: 16 octets of a scalar, so that each number fits that a text has, and each id, and
+-- what is declared, if anything is; or, whatever the limits are, the values fit by their own lengths and numbers
+abbrev pub WrittenFits : Limits → List Shared → List (Top UserSymbol ℕ) → Type 0
+WrittenFits limits catalog us = ((16 ≤ limits.scalar) × DeclarationsFit limits catalog us) ⊎ AllByRecursion (FitsBinary limits) us
+
+-- something is true of the user values of a text
+abbrev pub OfUsers : List Shared → List ℕ → (List (Top UserSymbol ℕ) → Type 0) → Type 0
+OfUsers catalog bytes P =
+    (tops : List (Top SymbolAt ℕ)) (us : List (Top UserSymbol ℕ)) → text_grammar.Stream bytes tops → user_tops catalog system tops ≡ Some us → P us
+
+-- ---- the law
 
 -- of a text with these user values: a run to text accepts it, and writes their canonical text; so does one over the binary that was
 -- written of it, whatever the catalogue is by which that is read; and one to nothing accepts it too. All count as many values
@@ -35,10 +64,10 @@ pub record IsAcceptedAgain (catalog other : List Shared) (limits : Limits) (byte
   pub as_other : HasVerdict other limits to.Other written (Accepted n) (text us)
   pub as_nothing : HasVerdict other limits to.Nothing written (Accepted n) []
 
--- so it is with each run to binary that accepts its text, under checked limits that allow declarations and their texts
+-- so it is with each run to binary that accepts its text, under checked limits that allow what is written
 abbrev pub WrittenBinaryIsAccepted : Type 0
 WrittenBinaryIsAccepted =
     (catalog other : List Shared) (limits : Limits) (asked : To) (bytes written : List ℕ) (n : ℕ)
-    → CatalogIsText catalog → AreChecked limits → AllowDeclarations limits → TextsFit limits catalog
+    → CatalogIsText catalog → AreChecked limits → OfUsers catalog bytes (WrittenFits limits catalog)
     → resolved (form_of bytes) asked ≡ Some target.Binary → HasVerdict catalog limits asked bytes (Accepted n) written
     → IsAcceptedAgain catalog other limits bytes written n

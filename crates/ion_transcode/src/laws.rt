@@ -1,5 +1,6 @@
 //! Laws of the verdicts of streams, each the contract of a function that does nothing.
 ghost use Rattle.ion_transcode.specs.Acceptance.{GoodStreamsAreAccepted, WhatIsAcceptedIsRead, WhatIsReadIsAccepted};
+ghost use Rattle.ion_transcode.specs.AcceptedTrees.{TreesInOrderAreAccepted};
 ghost use Rattle.ion_transcode.specs.Catalogues.{CatalogVerdictsAreRead, CatalogsAreLoaded, CatalogsAreText, OneCatalog, OneCatalogVerdict, TablesAreCatalogs};
 ghost use Rattle.ion_transcode.specs.Depth.{WhatIsReadIsNoDeeper};
 ghost use Rattle.ion_transcode.specs.Forms.{binary_encoding, text_encoding};
@@ -13,7 +14,7 @@ use ion_binary::laws as binary;
 use ion_symbols::laws::{
     catalogs_are_read, catalogs_are_tables, open_users_are_read, tables_of_users_are_text,
     texts_of_users_are_short, users_are_read, users_of_raw_values, what_is_accepted_is_resolved,
-    what_is_resolved_is_accepted,
+    what_is_declared, what_is_resolved_is_accepted, why_refused,
 };
 use ion_text_in::laws as text;
 use ion_text_out::laws::{path_text_is_that_of_items, text_is_that_of_items};
@@ -268,6 +269,17 @@ pub fn good_streams_are_accepted()
     text::streams_within_limits_are_read();
 }
 
+/// So, told by its trees alone, is each stream of the grammar of its form that passes no limit, of whose
+/// declarations each is in order and finds its tables, whose other symbols stand in the table at their
+/// place, and of whose values the writer refuses nothing.
+pub fn trees_in_order_are_accepted()
+    ensures { TreesInOrderAreAccepted }
+{
+    good_streams_are_accepted();
+    why_refused();
+    what_is_declared();
+}
+
 /// And no other stream is accepted: each that is, is read to its end, has its symbols resolved, and
 /// values of which the writer refuses nothing.
 pub fn what_is_accepted_is_read()
@@ -328,7 +340,9 @@ pub fn what_is_shown_is_accepted()
 
 /// Where a run to binary accepts a text, a run over what it wrote accepts that too, under the same
 /// limits and whatever the catalogue, and writes what a run to text over the text does: under checked
-/// limits that allow a declaration and its texts.
+/// limits of 16 or more for a scalar, where no symbol of the values has a text that is none of the
+/// system symbol table, or the limits allow a declaration and these texts; and under any that the
+/// values fit by their own lengths and numbers.
 pub fn written_binary_is_accepted()
     ensures { WrittenBinaryIsAccepted }
 {

@@ -5,9 +5,10 @@ use ion_transcode::laws::{
     catalogs_are_loaded, catalogs_are_text, faultless_paths_are_read, good_streams_are_accepted,
     one_catalog, one_catalog_verdict, one_spelling, one_verdict, refused_output_is_that_of_a_path,
     round_trip, show_once, streams_are_read, tables_are_catalogs, text_is_complete, text_is_read,
-    text_is_read_within, text_is_sound, text_is_spelled_once, there_and_back, values_of_streams,
-    what_is_accepted_is_read, what_is_read_is_accepted, what_is_read_is_no_deeper,
-    what_is_shown_is_accepted, written_binary_is_accepted,
+    text_is_read_within, text_is_sound, text_is_spelled_once, there_and_back,
+    trees_in_order_are_accepted, values_of_streams, what_is_accepted_is_read,
+    what_is_read_is_accepted, what_is_read_is_no_deeper, what_is_shown_is_accepted,
+    written_binary_is_accepted,
 };
 
 #[test]
@@ -36,6 +37,7 @@ fn states_laws() {
     there_and_back();
     what_is_read_is_accepted();
     good_streams_are_accepted();
+    trees_in_order_are_accepted();
     what_is_accepted_is_read();
     what_is_read_is_no_deeper();
     text_is_read_within();

@@ -72,7 +72,9 @@ fn main(rt: HostRuntime) -> io::Result<ExitCode> {
         return Ok(ExitCode::from(report(Err(Fault::Memory), &mut err)));
     };
     let mut meter = Meter::new(alloc);
+    let mut tables = Meter::new(alloc);
     let mut files = RealFiles { rt };
-    let (status, _, _, _) = serve(alloc, &mut meter, words, &mut files, input, out, err);
+    let served = serve(alloc, &mut meter, &mut tables, words, &mut files, input, out, err);
+    let (status, _, _, _) = served;
     Ok(ExitCode::from(status))
 }

@@ -5,8 +5,8 @@ are so.
     packaging/make_pages.py PROGRAM           writes packaging/pages/{ion.1,ion.bash,_ion,ion.fish}
     packaging/make_pages.py --check PROGRAM   says which of them differ; the status is then 1
 
-Whoever changes the help runs it and commits what it wrote: `checks/manual.py`, which the gate runs, refuses pages that
-differ. What it finds in the help and does not understand is an error, and never left out.
+The reasons of refusals are those of docs/REFUSALS.md. Whoever changes the help or these runs it and commits what it wrote:
+`checks/manual.py`, which the gate runs, refuses pages that differ. What it finds in the help and does not understand is an error, and never left out.
 """
 import os
 import re
@@ -14,6 +14,7 @@ import subprocess
 import sys
 
 FOLDER = os.path.join(os.path.dirname(os.path.abspath(__file__)), "pages")
+REFUSALS = os.path.join(os.path.dirname(FOLDER), "..", "docs", "REFUSALS.md")
 HEADINGS = ("Usage", "Arguments", "Commands", "Options", "Exit status", "Examples", "Example")
 # What an option takes, by the name of its value in the help: files, any number, or one of these words.
 FILES, NUMBER, FORMS = "FILE", "N", "FORM"
@@ -40,10 +41,21 @@ stands before it. In a pipe "set -o pipefail" keeps the status."""
 
 DIAGNOSTICS = (
     ("refused REASON at PLACE",
-     "The stream is not valid, or passes a limit. PLACE is the number of bytes before the faulty part. Status 1."),
+     "The stream is not valid, passes a limit or has a float. PLACE is the number of bytes before the faulty part. Status 1."),
     ("catalog refused REASON at PLACE", "The same of the file behind --catalog. Status 1."),
     ("cannot open FILE", "The file is not there, or may not be read. Status 3."),
     ("no memory, read fault, write fault", "The system failed; nothing is said of the stream. Status 3."),
+)
+
+BUGS = """\
+Floats are refused, but for null.float, and so is an int of 2^128 or more; nothing here converts them.
+
+Where both streams are one terminal, the line on standard error stands right behind the output, which may have no end of line."""
+
+SEE_ALSO = (
+    "jq(1), xxd(1)",
+    "REFUSALS.md and DIFFERENCES.md in the folder share/doc/cozgelt have an input for each reason, and where other programs differ.",
+    "Ion is described at https://amazon-ion.github.io/ion-docs/",
 )
 
 
@@ -169,8 +181,19 @@ def man_page(said_by):
     lines += [".SH NOTES", *paragraphs(NOTES.splitlines())]
     lines += [".SH EXIT STATUS", *entries((name, ended(meaning)) for name, meaning in said_by.statuses)]
     lines += [".SH DIAGNOSTICS", "On standard error:", *entries((name, roff(meaning)) for name, meaning in DIAGNOSTICS)]
+    lines += [".SH REASONS", "Of a refusal:", *entries(reasons()), ".SH BUGS", *paragraphs(BUGS.splitlines())]
     lines += [".SH EXAMPLES", ".nf", *map(roff, said_by.examples), ".fi"]
+    lines += [".SH SEE ALSO", roff(SEE_ALSO[0]), *(line for more in SEE_ALSO[1:] for line in (".PP", roff(more)))]
     return without_twice(lines)
+
+
+def reasons():
+    """Each reason of a refusal with its meaning, as the page on refusals has them."""
+    with open(REFUSALS, encoding="utf-8") as page:
+        found = re.findall(r"^\| \d+ \| `(\w+)` \| (.*?) \|", page.read(), re.M)
+    if not found:
+        sys.exit(f"no reasons in {REFUSALS}")
+    return [(name, ended(re.sub(r" Here: .*", "", meaning.replace("`", "")))) for name, meaning in found]
 
 
 # ---- completions

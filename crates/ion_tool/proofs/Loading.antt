@@ -47,8 +47,8 @@ given_back : (limits : Limits) (kept : ℕ) (old loaded new : Counts) → LoadCh
     → (new.held ≡ old.held) × (new.peak ≤ max old.peak (old.held + load_bound limits))
 given_back limits kept old loaded new charges shrinks = (
   let held : loaded.held ≡ old.held + kept = charges.held in
-  let back : new.held + kept ≡ loaded.held = shrinks.held in
-  omega arith,
+      let back : new.held + kept ≡ loaded.held = shrinks.held in
+      omega arith,
   subst (λ (n : ℕ). n ≤ max old.peak (old.held + load_bound limits)) (sym shrinks.peak) charges.peak,
 )
 

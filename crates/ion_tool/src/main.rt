@@ -19,8 +19,8 @@ use std::fs::File;
 use std::io::BufReader;
 use std::process::ExitCode;
 use std::rt::Files;
-use streams::{Escaped, Retried};
 use std::{env, fs, io};
+use streams::{Escaped, Retried};
 
 /// How many bytes are read at a time, where there is memory for so many.
 const AHEAD: usize = 65_536;
@@ -89,7 +89,16 @@ fn main(rt: HostRuntime) -> io::Result<ExitCode> {
     let mut meter = Meter::new(alloc);
     let mut tables = Meter::new(alloc);
     let mut files = RealFiles { rt };
-    let served = serve(alloc, &mut meter, &mut tables, words, &mut files, input, out, err);
+    let served = serve(
+        alloc,
+        &mut meter,
+        &mut tables,
+        words,
+        &mut files,
+        input,
+        out,
+        err,
+    );
     let (status, _, _, _) = served;
     let mut err = ToWrite::new(Escaped::new(Retried::new(files.rt.stderr())));
     Ok(ExitCode::from(report_close(status, close_output(), &mut err)))

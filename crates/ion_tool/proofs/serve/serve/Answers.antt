@@ -84,15 +84,18 @@ returns-clause-catalog g c action limits name file run =
     elim c.match-read_words.branch [
       | in-Ok-Help w ↦ let asks = rw (w.in-Ok-Help.field-0-is, c.as_slice.ensures.value) at w.in-Ok-Help.ensures.asks in elim (asks.0 (action, limits, Some name, file, run)) [ ]
       | in-Ok-Usage w ↦ let asks = rw (w.in-Ok-Usage.field-0-is, c.as_slice.ensures.value) at w.in-Ok-Usage.ensures.asks in elim (asks.0 (action, limits, Some name, file, run)) [ ]
-      | in-Err w ↦ inr (search rules, record {
-        some_words = rw c.as_slice.ensures.value at w.in-Err.ensures.some_words;
-        status_is = search rules;
-        memory = search rules;
-        files = search rules;
-        input = search rules;
-        output = search rules;
-        said = search rules;
-      })
+      | in-Err w ↦ inr (
+        search rules,
+        record {
+          some_words = rw c.as_slice.ensures.value at w.in-Err.ensures.some_words;
+          status_is = search rules;
+          memory = search rules;
+          files = search rules;
+          input = search rules;
+          output = search rules;
+          said = search rules;
+        },
+      )
     ]
 
 pub returns-clause-other : goal.returns-clause-other

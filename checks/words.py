@@ -9,6 +9,9 @@ runs in a folder of its own, which has the files below.
 import contextlib
 import os
 import select
+import signal
+import socket
+import struct
 import subprocess
 import sys
 import tempfile
@@ -48,6 +51,9 @@ FILES = {
     "notables.ion": b"$ion_shared_symbol_table::{name:5}",
     "limits.ion": b'[1,"abc"] a',
     "-dashed": b"7",
+    "ends in a blank ": b"8",
+    "ends in a line\n": b"9",
+    "\ttables ": b'$ion_shared_symbol_table::{name:"x",version:1,symbols:["r","s"]}',
 }
 ALL_FOUR = ["--depth", "1", "--scalar", "3", "--symbols", "17", "--value", "7"]
 # [1,"abc"] in binary; then the declaration of `a` and its symbol
@@ -64,6 +70,10 @@ ROWS = [
     ("show, a text file", "show six.ion", b"", 0, LINES, b""),
     ("show, an empty file", "show empty", b"", 0, b"", b""),
     ("show, behind --", "show -- -dashed", b"", 0, b"7\n", b""),
+    ("a name that ends in a blank", ["show", "ends in a blank "], b"", 0, b"8\n", b""),
+    ("a name that ends in a line's end", ["show", "ends in a line\n"], b"", 0, b"9\n", b""),
+    ("a catalogue's name in blanks", ["show", "--catalog", "\ttables ", "imports.ion"], b"", 0, b"r\ns\n", b""),
+    ("a name that is not there with a blank", ["show", "five.10n "], b"", 3, b"", b"cannot open five.10n \n"),
     ("check, standard input", "check", b"1 2", 0, b"ok 2 values\n", b""),
     ("check -", "check -", SIX, 0, b"ok 6 values\n", b""),
     ("check, a file", "check six.10n", b"", 0, b"ok 6 values\n", b""),
@@ -90,6 +100,8 @@ ROWS = [
     ("all four limits, to text", ["show", *ALL_FOUR], FILES["limits.ion"], 0, b'[1,"abc"]\na\n', b""),
     ("all four limits, checked", ["check", *ALL_FOUR, "-"], FILES["limits.ion"], 0, b"ok 2 values\n", b""),
     ("all four and a catalogue, twelve words", ["convert", "--catalog", "empty", *ALL_FOUR, "limits.ion"], b"", 0, WITHIN, b""),
+    ("limits of nothing", "check --depth 0 --scalar 0 --symbols 0 --value 0 empty", b"", 0, b"ok 0 values\n", b""),
+    ("a scalar past nothing", "check --scalar 0 five.10n", b"", 1, b"", b"refused ScalarLimit at 4\n"),
     ("too deep", ["convert", *ALL_FOUR], b"[[1]]", 1, MARKER, b"refused DepthLimit at 1\n"),
     ("too long a scalar", ["convert", *ALL_FOUR], b'1 "abcd"', 1, MARKER + b"\x21\x01", b"refused ScalarLimit at 2\n"),
     ("too many symbols", ["convert", *ALL_FOUR], b"[a,b]", 1, MARKER, b"refused SymbolLimit at 3\n"),
@@ -106,8 +118,11 @@ ROWS = [
     ("--version", "--version", b"", 0, b"ion 0.2.0, canonical text 2\n", b""),
     ("--version, over an input", "--version", IMPORT_AND_A, 0, b"ion 0.2.0, canonical text 2\n", b""),
     ("no such command", "frobnicate", b"1", 2, b"",
-     b"error: unrecognized subcommand 'frobnicate'\n\nUsage: ion <show|check|convert> [OPTIONS] [FILE]\n"
+     b"error: unrecognized subcommand 'frobnicate'\n\n  tip: to show a file, use 'ion show frobnicate'\n\nUsage: ion <show|check|convert> [OPTIONS] [FILE]\n"
      b"       as in: ion show data.ion\n" + TRY),
+    ("a file in the place of a command", "six.ion", b"1", 2, b"",
+     b"error: unrecognized subcommand 'six.ion'\n\n  tip: to show a file, use 'ion show six.ion'\n\n"
+     b"Usage: ion <show|check|convert> [OPTIONS] [FILE]\n       as in: ion show data.ion\n" + TRY),
     ("two files", "show six.ion six.10n", b"", 2, b"",
      b"error: unexpected argument 'six.10n' found\n\nUsage: ion show [OPTIONS] [FILE]\n" + TRY),
     ("a limit without a number", "check --depth", b"1", 2, b"",
@@ -202,6 +217,8 @@ HELPED = [
     ("--help", b"Shows", b"ion show data.ion"),
     ("--help", b"Shows", b"ion check < data.10n"),
     ("--help", b"Shows", b"ion convert data.ion > data.10n"),
+    ("--help", b"Shows", b"has a float is refused"),
+    ("--help", b"Shows", b"JSON is read too, but for numbers with an exponent"),
     ("-h", b"Shows", b"ion show data.ion"),
     ("help", b"Shows", b"ion show data.ion"),
     ("show --help", b"Writes", b"ion show data.ion"),
@@ -371,6 +388,58 @@ def run_where_a_file_fails(program, row):
     return told(got == (3, out, b"read fault\n"), f"a file fails behind {given}", words, (3, out), got)
 
 
+def stopped_and_continued(process):
+    """Stops the process where it waits, and has it go on."""
+    end = time.monotonic() + PATIENCE
+    while not sleeps(process) and time.monotonic() < end:
+        time.sleep(0.001)
+    process.send_signal(signal.SIGSTOP)
+    os.waitpid(process.pid, os.WUNTRACED)
+    process.send_signal(signal.SIGCONT)
+
+
+def with_time_limit(option):
+    """Both ends of a socket; a call on the second that waits ends with EINTR where the process was stopped, as `signal(7)` says."""
+    ours, its = socket.socketpair()
+    its.setsockopt(socket.SOL_SOCKET, option, struct.pack("ll", PATIENCE, 0))
+    return ours, its
+
+
+def run_read_interrupted(program):
+    """A signal interrupts a read of standard input."""
+    ours, its = with_time_limit(socket.SO_RCVTIMEO)
+    pipe = subprocess.PIPE
+    with ours, subprocess.Popen([program, "show"], stdin=its, stdout=pipe, stderr=pipe) as process:
+        its.close()
+        ours.sendall(b"5 ")
+        first = process.stdout.readline()
+        stopped_and_continued(process)
+        with contextlib.suppress(OSError):  # where it ended
+            ours.sendall(b"6 ")
+            ours.shutdown(socket.SHUT_WR)
+        out, errors = process.communicate(timeout=PATIENCE)
+    got = process.returncode, first + out, errors
+    return told(got == (0, b"5\n6\n", b""), "a read that a signal interrupts", "show", (0, b"5\n6\n", b""), got)
+
+
+def run_write_interrupted(program):
+    """A signal interrupts a write of standard output, which takes no more."""
+    ours, its = with_time_limit(socket.SO_SNDTIMEO)
+    values = 1_000_000
+    with tempfile.TemporaryFile() as given, ours:
+        given.write(b"7 " * values)
+        given.seek(0)
+        with subprocess.Popen([program, "show"], stdin=given, stdout=its, stderr=subprocess.PIPE) as process:
+            its.close()
+            stopped_and_continued(process)
+            length = 0
+            while part := ours.recv(65_536):
+                length += len(part)
+            errors = process.communicate(timeout=PATIENCE)[1]
+    got = process.returncode, length, errors
+    return told(got == (0, 2 * values, b""), "a write that a signal interrupts", "show", (0, 2 * values, b""), got)
+
+
 def run_not_read(program, words):
     """A file whose first read fails; standard input is not read in its place."""
     got = answer(program, words, input=b"7")
@@ -395,6 +464,10 @@ def main():
         wrong += [run_where_a_file_fails(program, row) for row in FILE_FAILS]
     else:
         print("skipped: openpty")
+    if os.path.exists("/proc/self/stat") and hasattr(socket, "SO_RCVTIMEO"):
+        wrong += [run_read_interrupted(program), run_write_interrupted(program)]
+    else:
+        print("skipped: /proc/self/stat")
     if os.path.exists("/proc/self/mem"):
         wrong += [run_not_read(program, words) for words in NOT_READ]
     else:

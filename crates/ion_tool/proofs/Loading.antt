@@ -1,7 +1,8 @@
 -- What is answered where a catalogue is loaded.
-use Rattle.std.proofs.Common.{arith, ◌≡◌, ℕ, ◌<◌, ◌≤◌, List, length, Result, Ok, Err, refl, ap, ap₂, subst, ◌∙◌}
-use Rattle.std.specs.Prelude.{IfOk}
-use Rattle.ion_meter.specs.Counts.{Counts}
+use Rattle.std.proofs.Common.{arith, ◌≡◌, ℕ, ◌+◌, ◌<◌, ◌≤◌, List, length, Option, Result, Ok, Err, refl, sym, subst, ◌∙◌}
+use Rattle.std.specs.Prelude.{IfOk, max}
+use Rattle.ion_meter.specs.Counts.{Counts, Shrinks}
+use Rattle.ion_meter.specs.Devices.{Counted}
 use Rattle.ion_meter.specs.declared.device.Input.{Ghosts as InputOf}
 use Rattle.ion_meter.specs.declared.fault.Fault.{Fault}
 use Rattle.ion_meter.specs.declared.fault.Fault.TheVariants.{Refused, Memory, ReadFault, WriteFault, InputLimit}
@@ -9,8 +10,8 @@ use Rattle.ion_meter.specs.declared.fault.Reason.{Reason}
 use Rattle.ion_meter.specs.declared.limits.Limits.{Limits}
 use Rattle.ion_value.specs.Outcome.{Rejected}
 use Rattle.ion_symbols.specs.Table.{Shared, catalog_cost}
-use Rattle.ion_transcode.specs.Catalogues.{HasCatalogVerdict, IsCatalog, kept_in}
-use Rattle.ion_tool.specs.Serving.{fresh_counts, IsLoaded, SaysTables}
+use Rattle.ion_transcode.specs.Catalogues.{HasCatalogVerdict, IsCatalog, LoadCauses, LoadCharges, kept_in, load_bound}
+use Rattle.ion_tool.specs.Serving.{file_input, just_opened, Closing, IsFileLoaded, IsLoaded, SaysTables}
 
 -- what loading says of the bytes
 pub says_tables : (limits : Limits) (bytes : List ℕ) (answer : Result (List Shared) Fault)
@@ -30,19 +31,49 @@ pub loaded_from : {I : Type 0} (input : InputOf I) (limits : Limits) (old new : 
     → IsLoaded input limits old new device after answer → IsLoaded input limits old new opened after answer
 loaded_from {I} input limits old new device opened after answer e is = subst (λ (d : I). IsLoaded input limits old new d after answer) e is
 
-abbrev counts : ℕ → ℕ → ℕ → Counts
-counts held peak refused = record { held = held; peak = peak; refused = refused }
+-- what was blamed stays so, where the meter gives something back
+blamed : (answer : Result (List Shared) Fault) (old loaded new : Counts) (before after : ℕ) (exceeds : Type 0) → new.refused ≡ loaded.refused
+    → LoadCauses answer old loaded before after exceeds → LoadCauses answer old new before after exceeds
+blamed answer old loaded new before after exceeds same causes = record {
+  memory = λ e. subst (λ (n : ℕ). old.refused < n) (sym same) (causes.memory e);
+  counted = λ e. same ∙ causes.counted e;
+  read = causes.read;
+  reads_steady = causes.reads_steady;
+  no_writes = causes.no_writes;
+  limit = causes.limit;
+}
 
-fresh : (own : Counts) → own.held ≡ 0 → own.peak ≡ 0 → own.refused ≡ 0 → own ≡ fresh_counts
-fresh own held peak refused = ap₂ (λ h p. counts h p own.refused) held peak ∙ ap (counts 0 0) refused
+given_back : (limits : Limits) (kept : ℕ) (old loaded new : Counts) → LoadCharges limits kept old loaded → Shrinks loaded new kept
+    → (new.held ≡ old.held) × (new.peak ≤ max old.peak (old.held + load_bound limits))
+given_back limits kept old loaded new charges shrinks = (
+  let held : loaded.held ≡ old.held + kept = charges.held in
+      let back : new.held + kept ≡ loaded.held = shrinks.held in
+      omega arith,
+  subst (λ (n : ℕ). n ≤ max old.peak (old.held + load_bound limits)) (sym shrinks.peak) charges.peak,
+)
 
--- what was said of a meter that had counted nothing
-pub loaded_by : {I : Type 0} (input : InputOf I) (limits : Limits) (own new : Counts) (before after : I) (result answer : Result (List Shared) Fault)
-    → own.held ≡ 0 → own.peak ≡ 0 → own.refused ≡ 0 → result ≡ answer
-    → IsLoaded input limits own new before after result → IsLoaded input limits fresh_counts new before after answer
-loaded_by {I} input limits own new before after result answer held peak refused e is =
-    subst (λ (a : Result (List Shared) Fault). IsLoaded input limits fresh_counts new before after a) e
-    (subst (λ (m : Counts). IsLoaded input limits m new before after result) (fresh own held peak refused) is)
+-- a file of which a catalogue was loaded, behind the tables that were given back
+pub file_loaded : {S F : Type 0} (closes : Closing S F) (remaining : F → Option (List ℕ)) (limits : Limits) (file : F) (opened closed : S) (after : Counted F)
+    (old loaded new : Counts) (result answer : Result (List Shared) Fault) → result ≡ answer → closes opened after closed
+    → IsLoaded (file_input remaining) limits old loaded (just_opened file) after result → Shrinks loaded new (kept_in answer)
+    → IsFileLoaded closes remaining limits file opened closed old new answer
+file_loaded {S} {F} closes remaining limits file opened closed after old loaded new result answer e back is shrinks =
+    let input = file_input remaining in
+    let own : IsLoaded input limits old loaded (just_opened file) after answer =
+    subst (λ (a : Result (List Shared) Fault). IsLoaded input limits old loaded (just_opened file) after a) e is in
+    let moved = given_back limits (kept_in answer) old loaded new own.charges shrinks in
+    record {
+      after = after;
+      handed_back = back;
+      says = own.says;
+      causes = blamed answer old loaded new _ _ _ shrinks.refused own.causes;
+      held = moved.0;
+      peak = moved.1;
+    }
+
+-- a fault gives nothing back
+pub nothing_back : (counts : Counts) → Shrinks counts counts 0
+nothing_back counts = record { held = omega arith; peak = refl; refused = refl }
 
 -- the tables that are kept cost no more than the limit, and a fault keeps none
 pub kept_cheap : (limits : Limits) (answer : Result (List Shared) Fault) → IfOk answer (λ tables. catalog_cost tables ≤ limits.symbols) → kept_in answer ≤ limits.symbols

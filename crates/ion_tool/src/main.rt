@@ -6,18 +6,21 @@ ghost use Rattle.std.specs.Prelude.{⊤};
 mod act;
 mod files;
 mod serve;
+mod streams;
 mod words;
 
 use files::{FileSource, UsedFile};
+use ion_meter::device::Broken;
 use ion_meter::fault::Fault;
 use ion_meter::meter::Meter;
 use ion_meter::stream::{FromRead, ToWrite};
-use serve::{give_usage, report, serve};
+use serve::{give_usage, report, report_close, serve};
 use std::fs::File;
 use std::io::BufReader;
 use std::process::ExitCode;
 use std::rt::Files;
 use std::{env, fs, io};
+use streams::{Escaped, Retried};
 
 /// How many bytes are read at a time, where there is memory for so many.
 const AHEAD: usize = 65_536;
@@ -29,34 +32,46 @@ struct RealFiles {
 }
 
 impl FileSource for RealFiles {
-    type File = BufReader<File>;
+    type File = BufReader<Retried<File>>;
 
     ghost gives = { λ files name found after. ⊤ };
 
     ghost closes = { λ files file after. ⊤ };
 
-    fn open_named(&mut self, name: &str) -> Option<BufReader<File>> {
-        let file = fs::open(&self.rt, name).ok()?;
+    fn open_named(&mut self, name: &str) -> Option<BufReader<Retried<File>>> {
+        let file = Retried::new(fs::open(&self.rt, name).ok()?);
         if let Ok(file) = BufReader::with_capacity(self.rt.alloc(), AHEAD, file) {
             return Some(file);
         }
-        let file = fs::open(&self.rt, name).ok()?;
+        let file = Retried::new(fs::open(&self.rt, name).ok()?);
         BufReader::with_capacity(self.rt.alloc(), 0, file).ok()
     }
 
-    fn close(&mut self, _file: UsedFile<BufReader<File>>)
+    fn close(&mut self, _file: UsedFile<BufReader<Retried<File>>>)
         ensures { ⊤ }
     {}
 }
 
+/// Closes standard output, where a file may first tell that bytes did not arrive. Where there is
+/// none, and where a signal came while it was closed, nothing is said.
+fn close_output() -> Result<(), Broken> {
+    if libc::close(libc::STDOUT_FILENO) == 0 {
+        return Ok(());
+    }
+    match os::errno() {
+        libc::EBADF | libc::EINTR => Ok(()),
+        _ => Err(Broken),
+    }
+}
+
 fn main(rt: HostRuntime) -> io::Result<ExitCode> {
     let alloc = rt.alloc();
-    let input = match BufReader::with_capacity(alloc, AHEAD, rt.stdin()) {
+    let input = match BufReader::with_capacity(alloc, AHEAD, Retried::new(rt.stdin())) {
         Ok(input) => FromRead::new(input),
-        Err(_) => FromRead::new(BufReader::with_capacity(alloc, 0, rt.stdin())?),
+        Err(_) => FromRead::new(BufReader::with_capacity(alloc, 0, Retried::new(rt.stdin()))?),
     };
-    let out = ToWrite::new(rt.stdout());
-    let mut err = ToWrite::new(rt.stderr());
+    let out = ToWrite::new(Retried::new(rt.stdout()));
+    let mut err = ToWrite::new(Escaped::new(Retried::new(rt.stderr())));
     let words = match env::args(&rt) {
         Ok(mut words) => {
             let _program = words.next();
@@ -72,7 +87,19 @@ fn main(rt: HostRuntime) -> io::Result<ExitCode> {
         return Ok(ExitCode::from(report(Err(Fault::Memory), &mut err)));
     };
     let mut meter = Meter::new(alloc);
+    let mut tables = Meter::new(alloc);
     let mut files = RealFiles { rt };
-    let (status, _, _, _) = serve(alloc, &mut meter, words, &mut files, input, out, err);
-    Ok(ExitCode::from(status))
+    let served = serve(
+        alloc,
+        &mut meter,
+        &mut tables,
+        words,
+        &mut files,
+        input,
+        out,
+        err,
+    );
+    let (status, _, _, _) = served;
+    let mut err = ToWrite::new(Escaped::new(Retried::new(files.rt.stderr())));
+    Ok(ExitCode::from(report_close(status, close_output(), &mut err)))
 }

@@ -1,5 +1,5 @@
 //! A run of the program over given devices.
-ghost use Rattle.std.specs.Prelude.{◌≡◌, ◌+◌, ◌-◌, ◌^◌, ◌<◌, ◌≤◌, ◌⊎◌, ◌++◌};
+ghost use Rattle.std.specs.Prelude.{◌≡◌, ◌≢◌, ◌+◌, ◌-◌, ◌^◌, ◌<◌, ◌≤◌, ◌⊎◌, ◌++◌, OnErr, OnOk};
 ghost use Rattle.std.specs.Prelude.{List, [], ℕ, Option, None, Some, Err, length, map, option_map, string_bytes};
 ghost use Rattle.ion_meter.specs.Devices.{Counted};
 ghost use Rattle.ion_meter.specs.declared.fault.Fault.{Fault};
@@ -145,6 +145,26 @@ fn give_help<O: Output, E: Output>(text: &[u8], out: &mut O, err: &mut E) -> u8
     }
 }
 
+/// Says that output did not arrive, where it was seen when that was closed and nothing was said of
+/// the system before, and gives the status.
+pub fn report_close<E: Output>(status: u8, closed: Result<(), Broken>, err: &mut E) -> u8
+    requires { E.failure_count err.old < 2 ^ 64 - 1 }
+    ensures closed { OnOk closed ((result ≡ status) × (err.new ≡ err.old)) }
+    ensures broken { OnErr closed (result ≡ 3) }
+    ensures said { OnErr closed (status ≢ 3 → Gets E.Output (fault_line Fault.WriteFault) err.old err.new) }
+    ensures silent { status ≡ 3 → err.new ≡ err.old }
+{
+    match closed {
+        Ok(()) => status,
+        Err(Broken) => {
+            if status != 3 {
+                return report(Err(Fault::WriteFault), err);
+            }
+            status
+        }
+    }
+}
+
 /// Says what is wrong with the words, and gives the status.
 pub fn give_usage<E: Output>(text: &[u8], err: &mut E) -> u8
     requires { E.failure_count err.old < 2 ^ 64 - 1 }
@@ -278,11 +298,11 @@ fn load_file<F: FileSource>(
     loaded
 }
 
-/// Loads the catalogue of this name, with a meter of its own, and runs with its tables.
+/// Loads the catalogue of this name, by its meter, and runs with its tables, which it gives back.
 fn serve_named<F: FileSource, I: Input, O: Output, E: Output>(
-    alloc: Global,
     meter: &mut Meter<Global>,
-    tables: &str,
+    tables: &mut Meter<Global>,
+    name: &str,
     job: Job,
     files: &mut F,
     input: I,
@@ -294,21 +314,21 @@ fn serve_named<F: FileSource, I: Input, O: Output, E: Output>(
     requires out_failures { O.failure_count out < 2 ^ 64 - 1 }
     requires err_failures { E.failure_count err < 2 ^ 64 - 1 }
     requires checked { AreChecked job.limits }
+    requires tables_room { HasRoom (2 ^ 48) 0 tables.old }
     ensures served { IsCatalogServed F.gives F.closes F.File.remaining I.Input O.Output E.Output
-        job.action job.limits tables.now (option_map string_bytes job.file)
-        meter.old meter.new files.old files.new
+        job.action job.limits name.now (option_map string_bytes job.file)
+        tables.old tables.new meter.old meter.new files.old files.new
         input result.1 out result.2 err result.3 result.0 }
     ensures status { (result.0 ≡ 0) ⊎ ((result.0 ≡ 1) ⊎ (result.0 ≡ 3)) }
 {
-    let Some(file) = files.open_named(tables) else {
-        say_unopened(tables, &mut err);
+    let Some(file) = files.open_named(name) else {
+        say_unopened(name, &mut err);
         return (3, input, out, err);
     };
-    let mut own = Meter::new(alloc);
-    match load_file(&mut own, job.limits, files, file) {
+    match load_file(tables, job.limits, files, file) {
         Ok(catalog) => {
             let served = serve_job(meter, &catalog, job, files, input, out, err);
-            catalog.release(&mut own);
+            catalog.release(tables);
             served
         }
         Err(fault) => (report_catalog(fault, &mut err), input, out, err),
@@ -317,9 +337,9 @@ fn serve_named<F: FileSource, I: Input, O: Output, E: Output>(
 
 /// Runs with the tables of the catalogue that was named, or with none.
 fn serve_run<F: FileSource, I: Input, O: Output, E: Output>(
-    alloc: Global,
     meter: &mut Meter<Global>,
-    tables: Option<String>,
+    tables: &mut Meter<Global>,
+    catalog: Option<String>,
     job: Job,
     files: &mut F,
     input: I,
@@ -331,32 +351,35 @@ fn serve_run<F: FileSource, I: Input, O: Output, E: Output>(
     requires out_failures { O.failure_count out < 2 ^ 64 - 1 }
     requires err_failures { E.failure_count err < 2 ^ 64 - 1 }
     requires checked { AreChecked job.limits }
-    ensures plain { tables ≡ None
-        → IsJobServed F.gives F.closes F.File.remaining I.Input O.Output E.Output
+    requires tables_room { HasRoom (2 ^ 48) 0 tables.old }
+    ensures plain { catalog ≡ None
+        → (tables.new ≡ tables.old)
+        × IsJobServed F.gives F.closes F.File.remaining I.Input O.Output E.Output
         [] job.action job.limits (option_map string_bytes job.file)
         meter.old meter.new files.old files.new
         input result.1 out result.2 err result.3 result.0 }
-    ensures catalog { (name : List ℕ) → option_map string_bytes tables ≡ Some name
+    ensures named { (name : List ℕ) → option_map string_bytes catalog ≡ Some name
         → IsCatalogServed F.gives F.closes F.File.remaining I.Input O.Output E.Output
         job.action job.limits name (option_map string_bytes job.file)
-        meter.old meter.new files.old files.new
+        tables.old tables.new meter.old meter.new files.old files.new
         input result.1 out result.2 err result.3 result.0 }
     ensures status { (result.0 ≡ 0) ⊎ ((result.0 ≡ 1) ⊎ (result.0 ≡ 3)) }
 {
-    let Some(name) = tables else {
+    let Some(name) = catalog else {
         let none = Catalog::new(meter);
         return serve_job(meter, &none, job, files, input, out, err);
     };
-    serve_named(alloc, meter, name.as_str(), job, files, input, out, err)
+    serve_named(meter, tables, name.as_str(), job, files, input, out, err)
 }
 
 /// Runs the program: does what the words after its name ask for, over these devices.
 ///
-/// The devices are handed back beside the status. All that a run holds is counted by the meter; the
-/// words are read beside it.
+/// The devices are handed back beside the status. All that a run holds is counted by `meter`, and
+/// what a catalogue holds by `tables`; the words are read beside them.
 pub fn serve<F: FileSource, I: Input + Drop, O: Output + Drop, E: Output + Drop>(
     alloc: Global,
     meter: &mut Meter<Global>,
+    tables: &mut Meter<Global>,
     words: Vec<String>,
     files: &mut F,
     input: I,
@@ -365,6 +388,7 @@ pub fn serve<F: FileSource, I: Input + Drop, O: Output + Drop, E: Output + Drop>
 ) -> (u8, I, O, E)
     requires held { meter.old.held ≤ 2 ^ 48 }
     requires countable { meter.old.refused < 2 ^ 64 - 1 }
+    requires tables_room { HasRoom (2 ^ 48) 0 tables.old }
     requires in_failures { I.failure_count input < 2 ^ 64 - 1 }
     requires out_failures { O.failure_count out < 2 ^ 64 - 1 }
     requires err_failures { E.failure_count err < 2 ^ 64 - 1 }
@@ -393,19 +417,25 @@ pub fn serve<F: FileSource, I: Input + Drop, O: Output + Drop, E: Output + Drop>
 
     // Words that name a catalogue: by what its name opens to, a run is served with its tables, over
     // the input or over the file that is named too, or a line says why there are none, and nothing
-    // else is done. The catalogue's file is handed back before.
+    // else is done. The catalogue's file is handed back before. Its meter, which nothing else moves,
+    // has counted a refusal where memory is blamed, and holds in the end what it held.
+    ensures uncatalogued { (action : Action) (limits : Limits) (file : Option (List ℕ))
+        → IsRun (map string_bytes words.items) action limits None file
+        → tables.new ≡ tables.old }
     ensures catalog { (action : Action) (limits : Limits) (name : List ℕ) (file : Option (List ℕ))
         → IsRun (map string_bytes words.items) action limits (Some name) file
         → IsCatalogServed F.gives F.closes F.File.remaining I.Input O.Output E.Output
-        action limits name file meter.old meter.new files.old files.new
+        action limits name file tables.old tables.new meter.old meter.new files.old files.new
         input result.1 out result.2 err result.3 result.0
-        ⊎ IsUnread E.Output (map string_bytes words.items) meter.old meter.new files.old files.new
-        input result.1 out result.2 err result.3 result.0 }
+        ⊎ ((tables.new ≡ tables.old)
+        × IsUnread E.Output (map string_bytes words.items) meter.old meter.new files.old files.new
+        input result.1 out result.2 err result.3 result.0) }
 
     // Other words: help on standard output, or on standard error why there is nothing to do, or
     // that the words could not be read.
     ensures unread { ¬ AsksRun (map string_bytes words.items)
-        → (result.1 ≡ input) × (meter.new ≡ meter.old) × (files.new ≡ files.old) }
+        → (result.1 ≡ input) × (files.new ≡ files.old)
+        × (meter.new ≡ meter.old) × (tables.new ≡ tables.old) }
     ensures other { ¬ AsksRun (map string_bytes words.items)
         → IsHelped O.Output E.Output (map string_bytes words.items)
         out result.2 err result.3 result.0
@@ -416,8 +446,8 @@ pub fn serve<F: FileSource, I: Input + Drop, O: Output + Drop, E: Output + Drop>
         × IsUsageError E.Output (map string_bytes words.items) out result.2 err result.3 result.0 }
 {
     let status = match read_words(alloc, words.as_slice()) {
-        Ok(Request::Run(tables, job)) => {
-            return serve_run(alloc, meter, tables, job, files, input, out, err);
+        Ok(Request::Run(catalog, job)) => {
+            return serve_run(meter, tables, catalog, job, files, input, out, err);
         }
         Ok(Request::Help(text)) => give_help(text.as_bytes(), &mut out, &mut err),
         Ok(Request::Usage(text)) => give_usage(text.as_bytes(), &mut err),

@@ -56,8 +56,9 @@ struct Asked<'a> {
 const ABOUT: &str = "Shows, checks and converts Amazon Ion 1.0, a data format like JSON with more
 types and a binary form. A stream that begins with the byte E0 is binary.
 
-Memory stays small and bounded. A stream that is not valid, or that passes a
-limit, is refused: standard error then says why, and at which byte offset.";
+Memory stays small and bounded. A stream that is not valid, passes a limit or
+has a float is refused: standard error then says why, and at which byte offset.
+JSON is read too, but for numbers with an exponent, as 1e3: these are floats.";
 
 /// How the program is called, which `clap` also says of wrong words.
 const USAGE: &str = "ion <show|check|convert> [OPTIONS] [FILE]
@@ -68,6 +69,9 @@ const WRONG: &str = "error: '--to <FORM>' takes text or binary
 
 For more information, try '--help'.
 ";
+
+/// What stands in an error of `clap` before how the program is called.
+const BEFORE_USAGE: &str = "\n\nUsage: ";
 
 const AFTER: &str = "Without a command and arguments, ion shows standard input.
 
@@ -238,8 +242,48 @@ fn text_of(alloc: Global, error: &Error, other: &str) -> Result<String, AllocErr
     Ok(text)
 }
 
+/// What `clap` says of a first word that is no command, and how a file of that name is shown.
+fn with_tip(alloc: Global, text: &str, word: &str) -> Result<String, AllocError>
+    requires { text.now ≢ [] }
+    ensures { IfOk result (λ hinted. string_bytes hinted ≢ []) }
+{
+    let Some((first, usage)) = text.split_once(BEFORE_USAGE) else {
+        return String::from_str(alloc, text);
+    };
+    // It may have a tip already, that another command has such a name.
+    let gap = if first.contains("\n  tip: ") {
+        "\n"
+    } else {
+        "\n\n"
+    };
+    let mut hinted = String::from_str(alloc, first)?;
+    hinted.push_str(gap)?;
+    hinted.push_str("  tip: to show a file, use 'ion show ")?;
+    hinted.push_str(word)?;
+    hinted.push_str("'")?;
+    hinted.push_str(BEFORE_USAGE)?;
+    hinted.push_str(usage)?;
+    if hinted.is_empty() {
+        return String::from_str(alloc, text);
+    }
+    Ok(hinted)
+}
+
+/// What is said of wrong words.
+fn usage_of(alloc: Global, error: &Error, words: &[String]) -> Result<String, AllocError>
+    ensures { IfOk result (λ text. string_bytes text ≢ []) }
+{
+    let text = text_of(alloc, error, WRONG)?;
+    match (error.kind(), words) {
+        (ErrorKind::InvalidSubcommand, [word, ..]) if word.as_str() != "help" => {
+            with_tip(alloc, text.as_str(), word.as_str())
+        }
+        _ => Ok(text),
+    }
+}
+
 /// What is answered where there are no matches.
-fn request_of(alloc: Global, error: &Error) -> Result<Request, AllocError>
+fn request_of(alloc: Global, error: &Error, words: &[String]) -> Result<Request, AllocError>
     ensures { IfOk result (AnswersError (kind_of error.now)) }
 {
     match error.kind() {
@@ -247,7 +291,7 @@ fn request_of(alloc: Global, error: &Error) -> Result<Request, AllocError>
         ErrorKind::DisplayHelp | ErrorKind::DisplayVersion => {
             Ok(Request::Help(text_of(alloc, error, ABOUT)?))
         }
-        _ => Ok(Request::Usage(text_of(alloc, error, WRONG)?)),
+        _ => Ok(Request::Usage(usage_of(alloc, error, words)?)),
     }
 }
 
@@ -381,7 +425,7 @@ pub fn read_words(alloc: Global, words: &[String]) -> Result<Request, AllocError
     }
     let matches = match matches_of(alloc, words) {
         Ok(matches) => matches,
-        Err(error) => return request_of(alloc, &error),
+        Err(error) => return request_of(alloc, &error, words),
     };
     match asked_by(&matches) {
         Some(asked) => request_for(alloc, asked),

@@ -8,30 +8,38 @@ use Rattle.ion_tool.proofs.serve.serve.Goals as goal
 pub returns-in-Ok-Run-clause-ran : goal.returns-in-Ok-Run-clause-ran
 returns-in-Ok-Run-clause-ran g c action limits run =
     let job = c.in-Ok-Run.job in
-    let tables = c.in-Ok-Run.tables in
+    let catalog = c.in-Ok-Run.catalog in
     let asks = rw (c.in-Ok-Run.field-0-is, c.as_slice.ensures.value) at c.in-Ok-Run.ensures.asks in
-    let same = one_run _ action job.action limits job.limits None (option_map string_bytes tables) None (option_map string_bytes job.file) run asks.0 in
-    let served = c.serve_run.ensures.plain (no_file string_bytes tables same.2) in
+    let same = one_run _ action job.action limits job.limits None (option_map string_bytes catalog) None (option_map string_bytes job.file) run asks.0 in
+    let served = (c.serve_run.ensures.plain (no_file string_bytes catalog same.2)).1 in
     let plain = rw (← same.3) at served in
     (plain.0, inl (rw (same.0, same.1) plain.1))
 
 pub returns-in-Ok-Run-clause-file : goal.returns-in-Ok-Run-clause-file
 returns-in-Ok-Run-clause-file g c action limits name run =
     let job = c.in-Ok-Run.job in
-    let tables = c.in-Ok-Run.tables in
+    let catalog = c.in-Ok-Run.catalog in
     let asks = rw (c.in-Ok-Run.field-0-is, c.as_slice.ensures.value) at c.in-Ok-Run.ensures.asks in
-    let same = one_run _ action job.action limits job.limits None (option_map string_bytes tables) (Some name) (option_map string_bytes job.file) run asks.0 in
-    let served = c.serve_run.ensures.plain (no_file string_bytes tables same.2) in
+    let same = one_run _ action job.action limits job.limits None (option_map string_bytes catalog) (Some name) (option_map string_bytes job.file) run asks.0 in
+    let served = (c.serve_run.ensures.plain (no_file string_bytes catalog same.2)).1 in
     let named = rw (← same.3) at served in
     (named.0, inl (rw (same.0, same.1) named.1))
+
+pub returns-in-Ok-Run-clause-uncatalogued : goal.returns-in-Ok-Run-clause-uncatalogued
+returns-in-Ok-Run-clause-uncatalogued g c action limits file run =
+    let job = c.in-Ok-Run.job in
+    let catalog = c.in-Ok-Run.catalog in
+    let asks = rw (c.in-Ok-Run.field-0-is, c.as_slice.ensures.value) at c.in-Ok-Run.ensures.asks in
+    let same = one_run _ action job.action limits job.limits None (option_map string_bytes catalog) file (option_map string_bytes job.file) run asks.0 in
+    (c.serve_run.ensures.plain (no_file string_bytes catalog same.2)).0
 
 pub returns-in-Ok-Run-clause-catalog : goal.returns-in-Ok-Run-clause-catalog
 returns-in-Ok-Run-clause-catalog g c action limits name file run =
     let job = c.in-Ok-Run.job in
-    let tables = c.in-Ok-Run.tables in
+    let catalog = c.in-Ok-Run.catalog in
     let asks = rw (c.in-Ok-Run.field-0-is, c.as_slice.ensures.value) at c.in-Ok-Run.ensures.asks in
-    let same = one_run _ action job.action limits job.limits (Some name) (option_map string_bytes tables) file (option_map string_bytes job.file) run asks.0 in
-    inl (rw (same.0, same.1, same.3) (c.serve_run.ensures.catalog name (sym same.2)))
+    let same = one_run _ action job.action limits job.limits (Some name) (option_map string_bytes catalog) file (option_map string_bytes job.file) run asks.0 in
+    inl (rw (same.0, same.1, same.3) (c.serve_run.ensures.named name (sym same.2)))
 
 pub returns-clause-ran : goal.returns-clause-ran
 returns-clause-ran g c action limits run =
@@ -76,15 +84,18 @@ returns-clause-catalog g c action limits name file run =
     elim c.match-read_words.branch [
       | in-Ok-Help w ↦ let asks = rw (w.in-Ok-Help.field-0-is, c.as_slice.ensures.value) at w.in-Ok-Help.ensures.asks in elim (asks.0 (action, limits, Some name, file, run)) [ ]
       | in-Ok-Usage w ↦ let asks = rw (w.in-Ok-Usage.field-0-is, c.as_slice.ensures.value) at w.in-Ok-Usage.ensures.asks in elim (asks.0 (action, limits, Some name, file, run)) [ ]
-      | in-Err w ↦ inr (record {
-        some_words = rw c.as_slice.ensures.value at w.in-Err.ensures.some_words;
-        status_is = search rules;
-        memory = search rules;
-        files = search rules;
-        input = search rules;
-        output = search rules;
-        said = search rules;
-      })
+      | in-Err w ↦ inr (
+        search rules,
+        record {
+          some_words = rw c.as_slice.ensures.value at w.in-Err.ensures.some_words;
+          status_is = search rules;
+          memory = search rules;
+          files = search rules;
+          input = search rules;
+          output = search rules;
+          said = search rules;
+        },
+      )
     ]
 
 pub returns-clause-other : goal.returns-clause-other

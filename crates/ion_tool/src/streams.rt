@@ -1,0 +1,106 @@
+//! What stands between the program and the streams of the system.
+
+ghost use Rattle.std.specs.Prelude.{◌<◌, ◌≤◌, length};
+
+use std::io;
+use std::io::{ErrorKind, Read, Write};
+
+/// A reader or a writer whose calls are made again where a signal interrupts them.
+#[derive(Drop)]
+pub struct Retried<D> {
+    device: D,
+}
+
+impl<D> Retried<D> {
+    /// This reader or writer.
+    pub fn new(device: D) -> Retried<D> {
+        Retried { device }
+    }
+}
+
+impl<D: Read> Read for Retried<D> {
+    fn read(&mut self, into: &mut [u8]) -> io::Result<usize> {
+        for _ in 0..u64::MAX {
+            match self.device.read(into) {
+                Ok(count) => return Ok(count),
+                Err(error) => {
+                    if error.kind() != ErrorKind::Interrupted {
+                        return Err(error);
+                    }
+                }
+            }
+        }
+        self.device.read(into)
+    }
+}
+
+impl<D: Write> Write for Retried<D> {
+    fn write(&mut self, bytes: &[u8]) -> io::Result<usize> {
+        for _ in 0..u64::MAX {
+            match self.device.write(bytes) {
+                Ok(count) => return Ok(count),
+                Err(error) => {
+                    if error.kind() != ErrorKind::Interrupted {
+                        return Err(error);
+                    }
+                }
+            }
+        }
+        self.device.write(bytes)
+    }
+
+    fn flush(&mut self) -> io::Result<()> {
+        self.device.flush()
+    }
+}
+
+/// A writer to which control characters, but for ends of lines, go by their numbers, as `\x1b`: on a
+/// terminal they would be followed.
+#[derive(Drop)]
+pub struct Escaped<W> {
+    writer: W,
+}
+
+impl<W> Escaped<W> {
+    /// This writer.
+    pub fn new(writer: W) -> Escaped<W> {
+        Escaped { writer }
+    }
+}
+
+/// The digit of a number below 16.
+fn digit(number: u8) -> u8
+    requires { number < 16 }
+{
+    if number < 10 {
+        b'0' + number
+    } else {
+        b'a' + (number - 10)
+    }
+}
+
+/// How many bytes go as they are before the first that does not.
+fn plain_length(bytes: &[u8]) -> usize
+    ensures { result ≤ length bytes.now }
+{
+    let found = bytes
+        .iter()
+        .position(|byte| byte.is_ascii_control() && *byte != b'\n');
+    found.unwrap_or(bytes.len()).min(bytes.len())
+}
+
+impl<W: Write> Write for Escaped<W> {
+    fn write(&mut self, bytes: &[u8]) -> io::Result<usize> {
+        let plain = plain_length(bytes);
+        if plain > 0 || bytes.is_empty() {
+            return self.writer.write(&bytes[..plain]);
+        }
+        let number = [b'\\', b'x', digit(bytes[0] / 16), digit(bytes[0] % 16)];
+        self.writer.write_all(&number)?;
+        Ok(1)
+    }
+
+    fn flush(&mut self) -> io::Result<()> {
+        self.writer.flush()
+    }
+}

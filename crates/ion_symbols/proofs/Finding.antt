@@ -65,6 +65,11 @@ pub found_at : (texts : List (List ℕ)) (order order2 : List ℕ) (searched : L
 found_at texts order order2 searched t place k o h =
     found_position texts order t place k.orders (subst (λ ts. slice_get ts place ≡ Some t) k.are h) ∙ ap (λ (ids : List ℕ). Some (get_or ids place 0)) (sym o)
 
+-- so is one that was read there
+pub found_number : (texts : List (List ℕ)) (order : List ℕ) (searched : List (List ℕ)) (t : List ℕ) (place number : ℕ) → AreSearched texts order searched → slice_get searched place ≡ Some t
+    → number ≡ get_or order place 0 → position texts t ≡ Some number
+found_number texts order searched t place number k h n = found_at texts order order searched t place k refl h ∙ ap (λ (i : ℕ). Some i) (sym n)
+
 -- a text that was not found is new
 pub found_new : (texts : List (List ℕ)) (order : List ℕ) (searched : List (List ℕ)) (t : List ℕ) (place : ℕ) → AreSearched texts order searched → None ≡ system_id t → Belongs searched t place → IsNew texts t
 found_new texts order searched t place k s b =

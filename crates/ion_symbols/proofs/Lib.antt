@@ -44,6 +44,7 @@ mod Orders
 mod Adding
 mod Finding
 mod KeptTexts
+mod Counted
 mod SameEnds
 mod Linking
 mod Positions

@@ -1,18 +1,21 @@
 //! The texts of an output, as they are kept and found.
-ghost use Rattle.std.specs.Prelude.{◌≡◌, ◌+◌, ◌^◌, ◌<◌, ◌≤◌, ◌++◌, ◌∷◌, [], length, take, slice_index_or, true, false, Some, None, IfOk, IfErr, OnOk};
+ghost use Rattle.std.specs.Prelude.{◌≡◌, ◌+◌, ◌^◌, ◌<◌, ◌≤◌, ◌++◌, ◌∷◌, [], length, take, drop, slice_index, slice_index_or, true, false, Some, None, IfOk, IfErr, OnOk};
 ghost use Rattle.ion_meter.specs.Additions.{added_cost};
 ghost use Rattle.ion_meter.specs.Counts.{Grows, Shrinks};
 ghost use Rattle.ion_meter.specs.declared.fault.Fault.TheVariants.{Memory};
 ghost use Rattle.ion_value.specs.Shares.{Charges};
-ghost use Rattle.ion_symbols.specs.Hash.{hash_of};
-ghost use Rattle.ion_symbols.specs.Output.{Belongs, CanAdd, IsNew, position, system_id, texts_cost};
+ghost use Rattle.ion_symbols.specs.Output.{Belongs, CanAdd, IsNew, binary_digits, position, system_id, texts_cost};
 ghost use Rattle.ion_symbols.specs.Ordered.{Orders, in_order};
-ghost use Rattle.ion_symbols.specs.OutTexts.{AreDistinct, AreKept, CanLink, IsSpot, Links, Seeks, entry_at, firsts, link_of, texts_of};
+ghost use Rattle.ion_symbols.specs.OutTexts.{AreDistinct, AreKept, CanLink, IsSpot, Links, entry_at, texts_of};
 
-use crate::hash::{BUCKETS, bucket, digits, hash, no_buckets};
+pub(crate) mod counted;
+
+use crate::hash::{BUCKETS, bucket, hash, no_buckets};
+use crate::lookup::seek;
 use crate::ordered::{Place, Search};
-use crate::same::{SHORT, is_same, is_same_short};
 use crate::search::place_of;
+use crate::texts::Texts;
+use counted::Probe;
 use ion_meter::buf::{Added, Buf};
 use ion_meter::fault::Fault;
 use ion_meter::meter::Meter;
@@ -25,10 +28,6 @@ const PLACE_COST: u64 = 12;
 /// The cost of an id, or of a link, in counted bytes.
 const ID_COST: u64 = 4;
 
-/// The most texts that are passed on the way to one: where it would take more, all are put in
-/// order.
-const MOST_PASSED: u32 = 32;
-
 /// Texts, no two alike and none of the system table, in order of id.
 ///
 /// While they are linked, the texts of a bucket are a tree: each links to two others, and which of
@@ -37,16 +36,16 @@ const MOST_PASSED: u32 = 32;
 /// order of bytes, and stay so until all are taken away.
 #[derive(Drop)]
 pub(crate) struct OutTexts<A: Allocator + Copy> {
-    /// Their bytes in order of id.
-    pub bytes: Buf<A>,
-    /// Where each stands among the bytes, and the first of its links.
-    pub places: Table<Place, A>,
-    /// While they are linked the second link of each, and else their numbers in order of bytes.
-    pub ids: Table<u32, A>,
-    /// One more than the number of the first text of each bucket, or 0. They do not grow.
-    pub buckets: [u32; BUCKETS],
-    /// Whether they are in order.
-    pub is_ordered: bool,
+    // Their bytes in order of id.
+    bytes: Buf<A>,
+    // Where each stands among the bytes, and the first of its links.
+    places: Table<Place, A>,
+    // While they are linked the second link of each, and else their numbers in order of bytes.
+    ids: Table<u32, A>,
+    // One more than the number of the first text of each bucket, or 0. They do not grow.
+    buckets: [u32; BUCKETS],
+    // Whether they are in order.
+    is_ordered: bool,
 }
 
 /// Where a text that is new comes to stand.
@@ -116,97 +115,38 @@ impl<A: Allocator + Copy> OutTexts<A> {
         16 * self.places.as_slice().len() as u64 + self.bytes.as_slice().len() as u64
     }
 
-    // The text of a number.
-    #[inline(always)]
-    fn text(&self, number: u32) -> &[u8]
-        requires kept { AreKept self.now }
-        requires within { number < length (texts_of self.now) }
-        ensures { result.now ≡ slice_index_or (texts_of self.now) number [] }
-    {
-        let place = self.places.as_slice()[number as usize];
-        &self.bytes.as_slice()[place.from as usize..place.to as usize]
-    }
-
-    // The link of a text that the last of these digits says: one more than a number, or 0.
-    #[inline(always)]
-    fn link(&self, number: u32, digits: u64) -> u32
-        requires kept { AreKept self.now }
-        requires linked { self.now.is_ordered ≡ false }
-        requires within { number < length (texts_of self.now) }
-        ensures link { result
-            ≡ link_of (firsts self.now.places.items) self.now.ids.items number digits }
-        ensures within { result ≤ length (texts_of self.now) }
-    {
-        let first = self.places.as_slice()[number as usize].next;
-        let second = self.ids.as_slice()[number as usize];
-        if digits % 2 == 0 { first } else { second }
-    }
-
-    /// The number of a text, if it is there. It is compared with the first of its bucket at once.
+    /// Whether they are in order.
     #[inline]
-    pub fn find(&self, text: &[u8]) -> Option<u32>
-        requires kept { AreKept self.now }
-        ensures { result ≡ position (texts_of self.now) text.now }
+    pub fn is_ordered(&self) -> bool
+        ensures { result ≡ self.now.is_ordered }
     {
-        let hash = hash(text);
-        let front = self.buckets[bucket(hash)];
-        if front > 0 && text.len() <= SHORT {
-            if is_same_short(self.text(front - 1), text) {
-                return Some(front - 1);
-            }
-        }
-        self.find_onward(text, hash)
+        self.is_ordered
     }
 
-    // The same, by the links or by halving.
-    #[inline(never)]
-    fn find_onward(&self, text: &[u8], hash: u64) -> Option<u32>
-        requires kept { AreKept self.now }
-        requires hash { hash ≡ hash_of text.now }
-        ensures { result ≡ position (texts_of self.now) text.now }
+    /// The number of the text at a place in order of bytes.
+    pub fn number_at(&self, place: u32) -> u32
+        requires within { place < length self.now.ids.items }
+        ensures { result ≡ slice_index self.now.ids.items place }
     {
-        if self.is_ordered {
-            return match self.halve(text) {
-                Ok(number) => Some(number),
-                Err(_) => None,
-            };
-        }
-        match self.seek(text, hash) {
-            Sought::At(number) => Some(number),
-            Sought::Free(_) | Sought::TooFar => None,
-        }
+        self.ids.as_slice()[place as usize]
     }
 
-    // Looks for a text by the links.
-    fn seek(&self, text: &[u8], hash: u64) -> Sought
+    /// The texts of this number and of greater ones, in order of id.
+    pub fn since(&self, first: usize) -> Texts<'_>
         requires kept { AreKept self.now }
-        requires linked { self.now.is_ordered ≡ false }
-        requires hash { hash ≡ hash_of text.now }
-        ensures { Seeks self.now text.now result }
+        ensures { result ≡ drop first (texts_of self.now) }
     {
-        let mut at = self.buckets[bucket(hash)];
-        if at == 0 {
-            return Sought::Free(Spot::First);
-        }
-        let mut digits = digits(hash);
-        let mut left = MOST_PASSED;
-        while left > 0 {
-            let number = at - 1;
-            if is_same(self.text(number), text) {
-                return Sought::At(number);
-            }
-            let next = self.link(number, digits);
-            if next == 0 {
-                if left == 1 {
-                    return Sought::TooFar;
-                }
-                return Sought::Free(Spot::Behind(number, digits));
-            }
-            at = next;
-            digits /= 2;
-            left -= 1;
-        }
-        Sought::TooFar
+        let places = self.places.as_slice();
+        Texts::new(self.bytes.as_slice(), &places[first.min(places.len())..])
+    }
+
+    /// The texts, among which one is looked for.
+    #[inline(always)]
+    pub fn probe(&self) -> Probe<'_, A>
+        ensures of { result.kept.now ≡ self.now }
+        ensures probes { result.probes ≡ 0 }
+    {
+        Probe::new(self)
     }
 
     /// A search of the texts, which are in order.
@@ -223,27 +163,9 @@ impl<A: Allocator + Copy> OutTexts<A> {
         )
     }
 
-    // Looks for a text by halving.
-    #[cold]
-    #[inline(never)]
-    fn halve(&self, text: &[u8]) -> Result<u32, Spot>
-        requires kept { AreKept self.now }
-        requires ordered { self.now.is_ordered ≡ true }
-        ensures there { IfOk result (λ number.
-            position (texts_of self.now) text.now ≡ Some number) }
-        ensures new { IfErr result (λ spot. (position (texts_of self.now) text.now ≡ None)
-            × IsSpot self.now text.now spot) }
-    {
-        let mut search = self.search();
-        match place_of(&mut search, text) {
-            Ok(place) => Ok(self.ids.as_slice()[place as usize]),
-            Err(place) => Err(Spot::InOrder(place)),
-        }
-    }
-
-    /// The number of a text, or the spot where it comes to stand. Where the way to it would be too
-    /// long, the texts are put in order.
-    pub fn spot(&mut self, text: &[u8]) -> Result<u32, Spot>
+    /// The number of a text, or the spot where it comes to stand, and with how many others it was
+    /// compared. Where the way to it would be too long, the texts are put in order.
+    pub fn spot(&mut self, text: &[u8], probes: &mut u32) -> Result<u32, Spot>
         requires kept { AreKept self.old }
         ensures kept { AreKept self.new }
         ensures texts { self.new ≡ record self.old {
@@ -255,16 +177,41 @@ impl<A: Allocator + Copy> OutTexts<A> {
         ensures new { IfErr result (λ spot. (position (texts_of self.old) text.now ≡ None)
             × IsSpot self.new text.now spot) }
         ensures ordered { self.old.is_ordered ≡ true → self.new.is_ordered ≡ true }
+        ensures probes { probes.new ≤ 32 + binary_digits (length (texts_of self.old)) }
     {
-        if !self.is_ordered {
-            match self.seek(text, hash(text)) {
-                Sought::At(number) => return Ok(number),
-                Sought::Free(spot) => return Err(spot),
-                Sought::TooFar => {}
+        *probes = 0;
+        if self.is_ordered {
+            return self.halve(text, probes);
+        }
+        let mut probe = self.probe();
+        let sought = seek(&mut probe, text, hash(text));
+        *probes = probe.probes();
+        match sought {
+            Sought::At(number) => Ok(number),
+            Sought::Free(spot) => Err(spot),
+            Sought::TooFar => {
+                self.put_in_order();
+                self.halve(text, probes)
             }
         }
-        self.put_in_order();
-        self.halve(text)
+    }
+
+    // The same by halving, where they are in order. Those that it is compared with are counted as well.
+    fn halve(&self, text: &[u8], probes: &mut u32) -> Result<u32, Spot>
+        requires kept { AreKept self.now }
+        requires ordered { self.now.is_ordered ≡ true }
+        requires few { probes.old ≤ 32 }
+        ensures there { IfOk result (λ number.
+            position (texts_of self.now) text.now ≡ Some number) }
+        ensures new { IfErr result (λ spot. (position (texts_of self.now) text.now ≡ None)
+            × IsSpot self.now text.now spot) }
+        ensures probes { probes.new
+            ≤ probes.old + binary_digits (length (texts_of self.now)) }
+    {
+        let mut probe = self.probe();
+        let found = probe.halve(text);
+        *probes += probe.probes();
+        found
     }
 
     /// Puts the texts in order of bytes. It takes no memory.
@@ -371,7 +318,8 @@ impl<A: Allocator + Copy> OutTexts<A> {
         if self.is_ordered {
             return false;
         }
-        let Sought::Free(spot) = self.seek(added.bytes, hash(added.bytes)) else {
+        let mut probe = self.probe();
+        let Sought::Free(spot) = seek(&mut probe, added.bytes, hash(added.bytes)) else {
             return false;
         };
         let from = self.bytes.as_slice().len();

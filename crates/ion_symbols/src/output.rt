@@ -9,10 +9,12 @@ ghost use Rattle.ion_value.specs.Items.{is_none_left};
 ghost use Rattle.ion_symbols.specs.Output.{CanAdd, IsNew, IsSorted, binary_digits, id_given, known_id, probes_for, system_id, texts_cost};
 ghost use Rattle.ion_symbols.specs.OutTexts.{AreKept, IsSpot, texts_of};
 
-use crate::ordered::{Place, Search};
+use crate::lookup::find;
+use crate::ordered::Search;
 use crate::out_texts::{OutTexts, Spot};
 use crate::search::place_of;
 use crate::system::system_id;
+pub use crate::texts::Texts;
 use ion_meter::buf::{Added, Buf};
 use ion_meter::fault::Fault;
 use ion_meter::limits::Limits;
@@ -36,13 +38,6 @@ pub struct OutSymbols<A: Allocator + Copy> {
     probes: u32,
 }
 
-/// Texts in order of id, lent.
-#[derive(Drop)]
-pub struct Texts<'a> {
-    bytes: &'a [u8],
-    places: &'a [Place],
-}
-
 impl<A: Allocator + Copy> Model for OutSymbols<A> {
     ghost use Rattle.std.specs.Prelude.{◌^◌, ◌≤◌};
     ghost use Rattle.ion_symbols.specs.Output.{Output, texts_cost};
@@ -59,17 +54,6 @@ impl<A: Allocator + Copy> Model for OutSymbols<A> {
 
     ghost invariant = { λ s. AreKept s.kept × (texts_cost (texts_of s.kept) ≤ s.limit)
         × (s.limit ≤ 2 ^ 30) };
-}
-
-impl<'a> Model for Texts<'a> {
-    ghost use Rattle.std.specs.Prelude.{List, ℕ};
-    ghost use Rattle.ion_symbols.specs.Ordered.{From, texts_in};
-
-    ghost Value = { List (List ℕ) };
-
-    ghost view = { λ s. texts_in s.bytes.now s.places.now };
-
-    ghost invariant = { λ s. From s.bytes.now s.places.now };
 }
 
 impl<A: Allocator + Copy> OutSymbols<A> {
@@ -137,7 +121,7 @@ impl<A: Allocator + Copy> OutSymbols<A> {
         let found = place_of(&mut search, text);
         self.probes = search.probes();
         match found {
-            Ok(place) => Ok(Some(FIRST_ID + self.kept.ids.as_slice()[place as usize])),
+            Ok(place) => Ok(Some(FIRST_ID + self.kept.number_at(place))),
             Err(place) => add(
                 &mut self.kept,
                 meter,
@@ -154,9 +138,22 @@ impl<A: Allocator + Copy> OutSymbols<A> {
     pub fn known(&self, text: &[u8]) -> Option<u32>
         ensures { result ≡ known_id self.now.texts text.now }
     {
-        match self.kept.find(text) {
-            Some(number) => Some(FIRST_ID + number),
-            None => system_id(text),
+        self.known_probes(text).0
+    }
+
+    /// As `known`, and with how many texts this one was compared: at most 32 and as many as the number
+    /// of texts has binary digits.
+    #[inline]
+    pub fn known_probes(&self, text: &[u8]) -> (Option<u32>, u32)
+        ensures known { result.0 ≡ known_id self.now.texts text.now }
+        ensures probes { result.1 ≤ 32 + binary_digits (length self.now.texts) }
+    {
+        let mut probe = self.kept.probe();
+        let found = find(&mut probe, text);
+        let probes = probe.probes();
+        match found {
+            Some(number) => (Some(FIRST_ID + number), probes),
+            None => (system_id(text), probes),
         }
     }
 
@@ -189,7 +186,8 @@ impl<A: Allocator + Copy> OutSymbols<A> {
         if let Some(id) = system_id(text) {
             return Ok(Some(id));
         }
-        match self.kept.spot(text) {
+        let mut probes = 0;
+        match self.kept.spot(text, &mut probes) {
             Ok(number) => Ok(Some(FIRST_ID + number)),
             Err(spot) => add(&mut self.kept, meter, limit, spot, text),
         }
@@ -235,12 +233,7 @@ impl<A: Allocator + Copy> OutSymbols<A> {
     pub fn new_since(&self, id: u32) -> Texts<'_>
         ensures { result ≡ drop (id - 10) self.now.texts }
     {
-        let places = self.kept.places.as_slice();
-        let first = (id.saturating_sub(FIRST_ID) as usize).min(places.len());
-        Texts {
-            bytes: self.kept.bytes.as_slice(),
-            places: &places[first..],
-        }
+        self.kept.since(id.saturating_sub(FIRST_ID) as usize)
     }
 
     /// What the texts cost: 16 each, and their lengths, in counted bytes.
@@ -266,7 +259,7 @@ impl<A: Allocator + Copy> OutSymbols<A> {
         ensures texts { IfSome result (λ search. IsSorted search.texts self.now.texts) }
         ensures probes { IfSome result (λ search. search.probes ≡ 0) }
     {
-        if !self.kept.is_ordered {
+        if !self.kept.is_ordered() {
             return None;
         }
         Some(self.kept.search())
@@ -305,31 +298,6 @@ impl<A: Allocator + Copy> OutSymbols<A> {
             probes: _,
         } = self;
         kept.release(meter);
-    }
-}
-
-impl<'a> Texts<'a> {
-    /// How many texts there are.
-    pub fn len(&self) -> usize
-        ensures { result ≡ length self.now }
-    {
-        self.places.len()
-    }
-
-    /// Whether there is none.
-    pub fn is_empty(&self) -> bool
-        ensures { result ≡ is_none_left self.now }
-    {
-        self.places.is_empty()
-    }
-
-    /// The text at a place of the list, counted from 0, or none past its end.
-    pub fn get(&self, index: usize) -> Option<&'a [u8]>
-        ensures { MatchOption result (slice_get self.now index ≡ None)
-            (λ text. slice_get self.now index ≡ Some text.now) }
-    {
-        let place = self.places.get(index)?;
-        Some(&self.bytes[place.from as usize..place.to as usize])
     }
 }
 

@@ -105,3 +105,29 @@ fn a_copy_fits_into_a_heap(rt: HostRuntime) -> Result<(), Fail> {
     same(&rt, heap.used(), 0);
     Ok(())
 }
+
+/// Grows a buffer by these bytes, 1,000, and then by single ones to 1,500.
+fn grow_to_1500<A: Allocator + Copy>(rt: &impl Abort, inner: A, bytes: &[u8]) {
+    let mut meter = Meter::new(inner);
+    let mut buf = Buf::new(&meter);
+    assert!(rt; bytes.len() == 1_000);
+    assert!(rt; buf.extend(&mut meter, bytes).is_ok());
+    for _ in 0..500 {
+        counts_of(rt, &meter);
+        same(rt, buf.push(&mut meter, 7), Ok(()));
+    }
+    same(rt, (buf.as_slice().len(), meter.held()), (1_500, 1_500));
+    assert!(rt; buf.as_slice().len() as u64 <= meter.held());
+    buf.release(&mut meter);
+    same(rt, meter.held(), 0);
+}
+
+// At most 1,000 and 2,000 bytes are asked for, and held at once while they are moved.
+#[test]
+fn a_buffer_grows_in_a_heap_of_4096(rt: HostRuntime) -> Result<(), Fail> {
+    let bytes = many_bytes(rt.alloc(), 1_000)?;
+    let heap = LocalHeap::new(rt.alloc(), 4_096)?;
+    grow_to_1500(&rt, &heap, bytes.as_slice());
+    same(&rt, heap.used(), 0);
+    Ok(())
+}

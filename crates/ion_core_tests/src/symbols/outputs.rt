@@ -238,6 +238,13 @@ impl Texting {
         }
     }
 
+    // Asserts the id that a text has, and that it is found in at most so many comparisons.
+    fn expect_soon(&self, rt: &impl Abort, text: &str, id: Option<u32>, most: u32) {
+        let (known, probes) = self.texts.known_probes(text.as_bytes());
+        same(rt, (text, known), (text, id));
+        same(rt, (text, probes.max(most)), (text, most));
+    }
+
     // Gives all back, after which nothing is held.
     fn finish(self, rt: &impl Abort)
         requires { texts_cost self.texts.texts ≤ self.meter.held }
@@ -510,6 +517,22 @@ fn a_place_is_found_with_few_probes(rt: HostRuntime) -> Result<(), Fail> {
     }
     same(&rt, texting.texts.new_since(10).len(), 4_096);
     texting.expect_each(&rt, FEW_PROBES);
+    // The first of its bucket may be another.
+    texting.expect_soon(&rt, "text 0", Some(10), 14);
+    texting.finish(&rt);
+    Ok(())
+}
+
+#[test]
+fn a_text_of_many_is_known_in_few_probes(rt: HostRuntime) -> Result<(), Fail> {
+    let mut texting = start(&rt, rt.alloc(), 1_048_576);
+    for number in 0..4_096_u32 {
+        let text = format!(in rt.alloc(); "text {number}")?;
+        let id = Some(number + 10);
+        texting.expect_soon(&rt, text.as_str(), None, 12);
+        texting.expect_id(&rt, text.as_str(), id, false);
+        texting.expect_soon(&rt, text.as_str(), id, 12);
+    }
     texting.finish(&rt);
     Ok(())
 }

@@ -5,7 +5,7 @@ use Rattle.ion_value.specs.Shares.{Charges}
 use Rattle.ion_symbols.specs.Output.{Output, Belongs, IsSorted, id_given, known_id, texts_cost}
 use Rattle.ion_symbols.specs.OutTexts.{texts_of}
 use Rattle.ion_symbols.proofs.Adding.{can_add, new_unknown}
-use Rattle.ion_symbols.proofs.Finding.{found_at, found_new, found_within, id_answered, known_given, probes_sorted, system_known}
+use Rattle.ion_symbols.proofs.Finding.{found_new, found_number, found_within, id_answered, known_given, probes_sorted, system_known}
 use Rattle.ion_symbols.proofs.KeptTexts.{known_kept, number_few, same_charges, same_share, same_texts, searched_kept}
 use Rattle.ion_symbols.proofs.Answering.{none-not-some, some-not-none}
 use Rattle.ion_symbols.proofs.output.OutSymbols.id_of.Goals as goal
@@ -26,15 +26,15 @@ returns-in-Some-clause-charges g c =
 
 -- ---- one that is there
 
-pub bounds-as_slice-place : goal.bounds-as_slice-place
-bounds-as_slice-place g c =
+pub number_at-requires : goal.number_at-requires
+number_at-requires g c =
     let k = searched_kept _ _ c.put_in_order.ensures.kept c.put_in_order.ensures.ordered c.search-search.ensures.texts in
-    found_within _ _ _ _ c.args.text.now _ k c.in-Ok.ensures.found c.as_slice.ensures
+    record { within = found_within _ _ _ _ c.args.text.now _ k c.in-Ok.ensures.found refl }
 
 pub overflow_add-result : goal.overflow_add-result
 overflow_add-result g c =
     let k = searched_kept _ _ c.put_in_order.ensures.kept c.put_in_order.ensures.ordered c.search-search.ensures.texts in
-    omega (arith, number_few _ c.args.text.now _ c.put_in_order.ensures.kept (found_at _ _ _ _ _ _ k c.as_slice.ensures c.in-Ok.ensures.found))
+    omega (arith, number_few _ c.args.text.now _ c.put_in_order.ensures.kept (found_number _ _ _ _ _ _ k c.in-Ok.ensures.found c.number_at.ensures))
 
 pub invariant_of-self-in-Ok : goal.invariant_of-self-in-Ok
 invariant_of-self-in-Ok g c =
@@ -45,13 +45,13 @@ returns-in-Ok-clause-gives g c =
     let same = same_texts c.self.inside.kept _ _ c.put_in_order.ensures.texts (ap (λ (s : Output). s.texts) c.self.view_is) in
     let k = searched_kept _ _ c.put_in_order.ensures.kept c.put_in_order.ensures.ordered c.search-search.ensures.texts in
     known_given c.args.self.now.limit _ c.args.self.now.texts c.args.text.now _ same
-    (known_kept _ _ _ _ c.put_in_order.ensures.kept same (found_at _ _ _ _ _ _ k c.as_slice.ensures c.in-Ok.ensures.found))
+    (known_kept _ _ _ _ c.put_in_order.ensures.kept same (found_number _ _ _ _ _ _ k c.in-Ok.ensures.found c.number_at.ensures))
 
 pub returns-in-Ok-clause-found : goal.returns-in-Ok-clause-found
 returns-in-Ok-clause-found g c id known =
     let same = same_texts c.self.inside.kept _ _ c.put_in_order.ensures.texts (ap (λ (s : Output). s.texts) c.self.view_is) in
     let k = searched_kept _ _ c.put_in_order.ensures.kept c.put_in_order.ensures.ordered c.search-search.ensures.texts in
-    let found = known_kept _ _ _ _ c.put_in_order.ensures.kept same (found_at _ _ _ _ _ _ k c.as_slice.ensures c.in-Ok.ensures.found) in
+    let found = known_kept _ _ _ _ c.put_in_order.ensures.kept same (found_number _ _ _ _ _ _ k c.in-Ok.ensures.found c.number_at.ensures) in
     (id_answered c.args.self.now.texts c.args.text.now _ id found known, same, refl)
 
 pub returns-in-Ok-clause-charges : goal.returns-in-Ok-clause-charges
@@ -135,13 +135,13 @@ pub returns-in-Ok-clause-over : goal.returns-in-Ok-clause-over
 returns-in-Ok-clause-over g c none over =
     let same = same_texts c.self.inside.kept _ _ c.put_in_order.ensures.texts (ap (λ (s : Output). s.texts) c.self.view_is) in
     let k = searched_kept _ _ c.put_in_order.ensures.kept c.put_in_order.ensures.ordered c.search-search.ensures.texts in
-    absurd (some-not-none _ (known_kept _ _ _ _ c.put_in_order.ensures.kept same (found_at _ _ _ _ _ _ k c.as_slice.ensures c.in-Ok.ensures.found) ∙ none))
+    absurd (some-not-none _ (known_kept _ _ _ _ c.put_in_order.ensures.kept same (found_number _ _ _ _ _ _ k c.in-Ok.ensures.found c.number_at.ensures) ∙ none))
 
 pub returns-in-Ok-clause-grows : goal.returns-in-Ok-clause-grows
 returns-in-Ok-clause-grows g c id none is =
     let same = same_texts c.self.inside.kept _ _ c.put_in_order.ensures.texts (ap (λ (s : Output). s.texts) c.self.view_is) in
     let k = searched_kept _ _ c.put_in_order.ensures.kept c.put_in_order.ensures.ordered c.search-search.ensures.texts in
-    absurd (some-not-none _ (known_kept _ _ _ _ c.put_in_order.ensures.kept same (found_at _ _ _ _ _ _ k c.as_slice.ensures c.in-Ok.ensures.found) ∙ none))
+    absurd (some-not-none _ (known_kept _ _ _ _ c.put_in_order.ensures.kept same (found_number _ _ _ _ _ _ k c.in-Ok.ensures.found c.number_at.ensures) ∙ none))
 
 pub returns-in-Ok-clause-ordered : goal.returns-in-Ok-clause-ordered
 returns-in-Ok-clause-ordered g c none = c.put_in_order.ensures.ordered

@@ -1,6 +1,6 @@
 use Rattle.std.proofs.Common.{arith}
 use Rattle.std.proofs.lemmas.Grind.{common_steps}
-use Rattle.ion_symbols.proofs.output.Texts.is_empty.Goals as goal
+use Rattle.ion_symbols.proofs.texts.Texts.len.Goals as goal
 
 pub returns : goal.returns
 returns c = grind (arith, common_steps)

@@ -1,8 +1,8 @@
 /* A library to preload, for `diff/faults`: it counts the calls of a process that take memory, read, write, open and
    close, and lets those between two numbers fail. It shares nothing with crates/: the program is only run under it.
 
-   FAULTS is `KIND FIRST LAST HOW`: KIND is one of alloc, read, write1, write2, open, close1, close2 (write2 is a
-   write to standard error, close1 a close of standard output), FIRST and LAST are numbers of calls counted from 1, HOW is an errno, 0 to answer 0, or -1 to move one
+   FAULTS is `KIND FIRST LAST HOW`: KIND is one of alloc, read, write1, write2, open, close (write2 is a write to
+   standard error), FIRST and LAST are numbers of calls counted from 1, HOW is an errno, 0 to answer 0, or -1 to move one
    byte alone. At the end of the process it writes to the descriptor FAULTS_REPORT how many calls failed and how many
    calls of each kind there were. */
 #define _GNU_SOURCE
@@ -21,8 +21,8 @@ extern void *__libc_calloc(size_t, size_t);
 extern void *__libc_realloc(void *, size_t);
 extern void *__libc_memalign(size_t, size_t);
 
-enum { ALLOC, READ, WRITE1, WRITE2, OPEN, CLOSE1, CLOSE2, KINDS };
-static const char *const names[KINDS] = {"alloc", "read", "write1", "write2", "open", "close1", "close2"};
+enum { ALLOC, READ, WRITE1, WRITE2, OPEN, CLOSE, KINDS };
+static const char *const names[KINDS] = {"alloc", "read", "write1", "write2", "open", "close"};
 static long calls[KINDS], fired, first = 1, last;
 static int planned = -1, how, report = -1;
 
@@ -42,8 +42,8 @@ __attribute__((constructor)) static void begin(void)
 __attribute__((destructor)) static void end(void)
 {
     char text[160];
-    int n = snprintf(text, sizeof text, "%ld %ld %ld %ld %ld %ld %ld %ld\n", fired, calls[0], calls[1], calls[2], calls[3],
-                     calls[4], calls[5], calls[6]);
+    int n = snprintf(text, sizeof text, "%ld %ld %ld %ld %ld %ld %ld\n", fired, calls[0], calls[1], calls[2], calls[3],
+                     calls[4], calls[5]);
     if (report >= 0)
         syscall(SYS_write, report, text, n);
 }
@@ -112,7 +112,7 @@ int open(const char *name, int flags, ...)
 int close(int fd)
 {
     int done = syscall(SYS_close, fd);
-    if (fails(fd == 1 ? CLOSE1 : CLOSE2)) {
+    if (fails(CLOSE)) {
         errno = how;
         return -1;
     }

@@ -10,11 +10,10 @@ mod streams;
 mod words;
 
 use files::{FileSource, UsedFile};
-use ion_meter::device::Broken;
 use ion_meter::fault::Fault;
 use ion_meter::meter::Meter;
 use ion_meter::stream::{FromRead, ToWrite};
-use serve::{give_usage, report, report_close, serve};
+use serve::{give_usage, report, serve};
 use std::fs::File;
 use std::io::BufReader;
 use std::process::ExitCode;
@@ -50,18 +49,6 @@ impl FileSource for RealFiles {
     fn close(&mut self, _file: UsedFile<BufReader<Retried<File>>>)
         ensures { ⊤ }
     {}
-}
-
-/// Closes standard output, where a file may first tell that bytes did not arrive. Where there is
-/// none, and where a signal came while it was closed, nothing is said.
-fn close_output() -> Result<(), Broken> {
-    if libc::close(libc::STDOUT_FILENO) == 0 {
-        return Ok(());
-    }
-    match os::errno() {
-        libc::EBADF | libc::EINTR => Ok(()),
-        _ => Err(Broken),
-    }
 }
 
 fn main(rt: HostRuntime) -> io::Result<ExitCode> {
@@ -100,6 +87,5 @@ fn main(rt: HostRuntime) -> io::Result<ExitCode> {
         err,
     );
     let (status, _, _, _) = served;
-    let mut err = ToWrite::new(Escaped::new(Retried::new(files.rt.stderr())));
-    Ok(ExitCode::from(report_close(status, close_output(), &mut err)))
+    Ok(ExitCode::from(status))
 }

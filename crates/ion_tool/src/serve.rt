@@ -1,5 +1,5 @@
 //! A run of the program over given devices.
-ghost use Rattle.std.specs.Prelude.{◌≡◌, ◌≢◌, ◌+◌, ◌-◌, ◌^◌, ◌<◌, ◌≤◌, ◌⊎◌, ◌++◌, OnErr, OnOk};
+ghost use Rattle.std.specs.Prelude.{◌≡◌, ◌+◌, ◌-◌, ◌^◌, ◌<◌, ◌≤◌, ◌⊎◌, ◌++◌};
 ghost use Rattle.std.specs.Prelude.{List, [], ℕ, Option, None, Some, Err, length, map, option_map, string_bytes};
 ghost use Rattle.ion_meter.specs.Devices.{Counted};
 ghost use Rattle.ion_meter.specs.declared.fault.Fault.{Fault};
@@ -142,26 +142,6 @@ fn give_help<O: Output, E: Output>(text: &[u8], out: &mut O, err: &mut E) -> u8
     match write_all(out, text) {
         Ok(()) => 0,
         Err(Broken) => report(Err(Fault::WriteFault), err),
-    }
-}
-
-/// Says that output did not arrive, where it was seen when that was closed and nothing was said of
-/// the system before, and gives the status.
-pub fn report_close<E: Output>(status: u8, closed: Result<(), Broken>, err: &mut E) -> u8
-    requires { E.failure_count err.old < 2 ^ 64 - 1 }
-    ensures closed { OnOk closed ((result ≡ status) × (err.new ≡ err.old)) }
-    ensures broken { OnErr closed (result ≡ 3) }
-    ensures said { OnErr closed (status ≢ 3 → Gets E.Output (fault_line Fault.WriteFault) err.old err.new) }
-    ensures silent { status ≡ 3 → err.new ≡ err.old }
-{
-    match closed {
-        Ok(()) => status,
-        Err(Broken) => {
-            if status != 3 {
-                return report(Err(Fault::WriteFault), err);
-            }
-            status
-        }
     }
 }
 

@@ -1,5 +1,5 @@
 -- A writer can take what comes behind the items that were handed on.
-use Rattle.std.proofs.Common.{◌≡◌, ℕ, List, [], ◌∷◌, ◌++◌, ap, sym, ◌∙◌}
+use Rattle.std.proofs.Common.{◌≡◌, ℕ, List, [], ◌∷◌, ◌++◌, None, ap, sym, subst, ◌∙◌}
 use Rattle.ion_meter.specs.Counts.{Counts}
 use Rattle.ion_meter.specs.Windows.{Outgoing}
 use Rattle.ion_meter.specs.declared.limits.Limits.{Limits}
@@ -7,7 +7,8 @@ use Rattle.ion_value.specs.declared.ion_type.Kind.{Kind}
 use Rattle.ion_value.specs.declared.writer.ValueWriter.{Ghosts as WriterOf}
 use Rattle.ion_value.specs.Value.{PlacedItem}
 use Rattle.ion_value.specs.Feeding.{CanTake, Joint, Feeds, nothing, more, StaysWell}
-use Rattle.ion_value.specs.Standing.{open_after, open_behind}
+use Rattle.ion_value.specs.Standing.{Continues, Fits, is_marker, open_after, open_behind}
+use Rattle.ion_symbols.specs.User.{MayCome}
 use Rattle.ion_value.proofs.Outcomes.{open_behind-append}
 
 -- a writer stands behind items that leave these containers open
@@ -37,3 +38,31 @@ takes-fed w reads old new depth depth_then from to earlier later t feeds s e =
       depth_of = ap (λ (l : Limits). l.depth) s.limits ∙ (t.depth_of ∙ sym e);
       behind = stands-fed w reads old new feeds t.behind;
     }
+
+-- what comes behind these containers may be put
+pub may-go-on : {W O A : Type 0} (w : WriterOf W O A) {depth : ℕ} {opened then : List Kind} {old : W} {from : Outgoing O} {item own : PlacedItem}
+    → (t : CanTake w depth opened old from) → own ≡ item → MayCome depth opened then item → Continues (w.limits old) t.behind.0 own
+may-go-on w {depth} {opened} {then} {old} {from} {item} {own} t same comes =
+    let as_item : Fits depth opened own = subst (λ (i : PlacedItem). Fits depth opened i) (sym same) comes.fits in
+    let as_path : Fits depth (open_behind [] t.behind.0) own = subst (λ (k : List Kind). Fits depth k own) (sym t.behind.2) as_item in
+    record {
+      fits = subst (λ (n : ℕ). Fits n (open_behind [] t.behind.0) own) (sym t.depth_of) as_path;
+      value = ap (λ (i : PlacedItem). is_marker i.head) same ∙ comes.value;
+    }
+
+-- and behind it the next one can be taken
+pub takes-put : {W O A : Type 0} (w : WriterOf W O A) {depth depth_then : ℕ} {opened then : List Kind} {old new : W} {from to : Outgoing O} {item own : PlacedItem}
+    → (t : CanTake w depth opened old from) → MayCome depth opened then item → own ≡ item → depth_then ≡ depth
+    → w.sound new → w.failed new ≡ None → to.fault ≡ None → w.limits new ≡ w.limits old → w.stands new (t.behind.0 ++ own ∷ [])
+    → CanTake w depth_then then new to
+takes-put w {depth} {depth_then} {opened} {then} {old} {new} {from} {to} {item} {own} t comes same e sound fresh well limits stands = record {
+  sound = sound;
+  fresh = fresh;
+  well = well;
+  depth_of = ap (λ (l : Limits). l.depth) limits ∙ (t.depth_of ∙ sym e);
+  behind = (
+    t.behind.0 ++ own ∷ [],
+    stands,
+    open_behind-append [] t.behind.0 own ∙ (ap (λ k. open_after k own.head) t.behind.2 ∙ (ap (λ (i : PlacedItem). open_after opened i.head) same ∙ sym comes.opens)),
+  );
+}

@@ -62,7 +62,7 @@ fn turn<R: RawReader<A>, W: ValueWriter<O, A>, O: Output, A: Allocator + Copy>(
     }
     expect_little(rt, meter);
     let item = reader.item();
-    if let Err(_) = writer.item(meter, sink, &item) {
+    if let Err(_fault) = writer.item(meter, sink, &item) {
         panic!(rt; "an item is refused")
     }
     expect_little(rt, meter);
@@ -87,7 +87,7 @@ fn turns<R: RawReader<A>, W: ValueWriter<O, A>, O: Output, A: Allocator + Copy>(
     requires held { 4096 + owned_by R.own reader.old + W.own writer.old ≤ meter.old.held }
     ensures held { 4096 + owned_by R.own reader.new + W.own writer.new ≤ meter.new.held }
 {
-    if let Err(_) = writer.begin(sink) {
+    if let Err(_fault) = writer.begin(sink) {
         panic!(rt; "nothing is written")
     }
     'items: for n in 0..MANY {

@@ -1,5 +1,6 @@
 //! Tests of `ion_binary` through its public calls: what is read of worked streams, in whatever
-//! pieces they come, how reading ends, and what is written.
+//! pieces they come, how reading ends, and what is written; and, with the readers and writers of text,
+//! which items go from a window to a writer.
 //!
 //! A crate with tests is proved once without and once with them, so these stand in a crate of their
 //! own, over the library that they test. It has nothing else.
@@ -17,6 +18,8 @@ mod drawn;
 mod endings;
 #[cfg(test)]
 mod ends;
+#[cfg(test)]
+mod fast_path;
 #[cfg(test)]
 mod hex;
 #[cfg(test)]

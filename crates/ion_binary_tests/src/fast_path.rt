@@ -4,6 +4,7 @@
 //! `simple_text` answers a text, and without them a run gives what it gives with them, in many times
 //! the time. So a table says of each kind of item how many are put one at a time today.
 ghost use Rattle.std.specs.Prelude.{◌≡◌, ◌+◌, ◌≤◌, [], None, true};
+ghost use Rattle.ion_meter.specs.Limits.{AreChecked};
 ghost use Rattle.ion_meter.specs.Sources.{Stands};
 ghost use Rattle.ion_symbols.specs.User.{IsReady, answered_by, owned_by, raw_of};
 ghost use Rattle.ion_value.specs.Feeding.{CanTake};
@@ -16,6 +17,7 @@ use crate::same::same;
 use ion_binary::reader::BinReader;
 use ion_binary::writer::BinWriter;
 use ion_meter::device::{Input, Output};
+use ion_meter::limits::Limits;
 use ion_meter::meter::Meter;
 use ion_meter::sink::Sink;
 use ion_meter::source::Source;
@@ -26,7 +28,7 @@ use ion_text_in::reader::TextReader;
 use ion_text_out::writer::TextWriter;
 use ion_value::reader::RawReader;
 use ion_value::writer::ValueWriter;
-use std::alloc::{Allocator, Global};
+use std::alloc::Global;
 use std::process::Abort;
 
 // More items than any stream here has.
@@ -34,23 +36,23 @@ const MANY: u64 = 1_000;
 
 // Puts the next item, and hands on those after it that lie in the window, as a run does. False at the
 // end.
-fn turn<R: RawReader<A>, W: ValueWriter<O, A>, O: Output, A: Allocator + Copy>(
+fn turn<R: RawReader<Global>, W: ValueWriter<O, Global>, O: Output>(
     rt: &impl Abort,
-    meter: &mut Meter<A>,
-    reader: &mut UserReader<'_, R, A>,
+    meter: &mut Meter<Global>,
+    reader: &mut UserReader<'_, R, Global>,
     writer: &mut W,
-    sink: &mut Sink<O, A>,
+    sink: &mut Sink<O, Global>,
 ) -> bool
     requires ready { IsReady R.sound R.opened R.failed R.ended reader.old }
     requires going { answered_by reader.old ≡ None }
     requires writer { CanTake W.ValueWriter (R.depth (raw_of reader.old))
         (R.opened (raw_of reader.old)) writer.old sink.old }
-    requires held { 4096 + owned_by R.own reader.old + W.own writer.old ≤ meter.old.held }
+    requires held { owned_by R.own reader.old + W.own writer.old ≤ meter.old.held }
     ensures ready { IsReady R.sound R.opened R.failed R.ended reader.new }
     ensures going { result ≡ true → answered_by reader.new ≡ None }
     ensures writer { result ≡ true → CanTake W.ValueWriter (R.depth (raw_of reader.new))
         (R.opened (raw_of reader.new)) writer.new sink.new }
-    ensures held { 4096 + owned_by R.own reader.new + W.own writer.new ≤ meter.new.held }
+    ensures held { owned_by R.own reader.new + W.own writer.new ≤ meter.new.held }
 {
     expect_little(rt, meter);
     match reader.next(meter) {
@@ -71,25 +73,20 @@ fn turn<R: RawReader<A>, W: ValueWriter<O, A>, O: Output, A: Allocator + Copy>(
 }
 
 // How many items are put one at a time.
-fn turns<R: RawReader<A>, W: ValueWriter<O, A>, O: Output, A: Allocator + Copy>(
+fn turns<R: RawReader<Global>, W: ValueWriter<O, Global>, O: Output>(
     rt: &impl Abort,
-    meter: &mut Meter<A>,
-    reader: &mut UserReader<'_, R, A>,
+    meter: &mut Meter<Global>,
+    reader: &mut UserReader<'_, R, Global>,
     writer: &mut W,
-    sink: &mut Sink<O, A>,
+    sink: &mut Sink<O, Global>,
 ) -> u64
     requires ready { IsReady R.sound R.opened R.failed R.ended reader.old }
     requires going { answered_by reader.old ≡ None }
-    requires level { R.opened (raw_of reader.old) ≡ [] }
-    requires sound { W.sound writer.old }
-    requires fresh { W.is_new writer.old }
-    requires depth { (W.limits writer.old).depth ≡ R.depth (raw_of reader.old) }
-    requires held { 4096 + owned_by R.own reader.old + W.own writer.old ≤ meter.old.held }
-    ensures held { 4096 + owned_by R.own reader.new + W.own writer.new ≤ meter.new.held }
+    requires writer { CanTake W.ValueWriter (R.depth (raw_of reader.old))
+        (R.opened (raw_of reader.old)) writer.old sink.old }
+    requires held { owned_by R.own reader.old + W.own writer.old ≤ meter.old.held }
+    ensures held { owned_by R.own reader.new ≤ meter.new.held }
 {
-    if let Err(_fault) = writer.begin(sink) {
-        panic!(rt; "nothing is written")
-    }
     'items: for n in 0..MANY {
         if !turn(rt, meter, reader, writer, sink) {
             return n;
@@ -98,28 +95,46 @@ fn turns<R: RawReader<A>, W: ValueWriter<O, A>, O: Output, A: Allocator + Copy>(
     panic!(rt; "the stream has no end")
 }
 
-// How many items of a raw reader, which is handed out, are put one at a time by a writer.
-fn turns_by<R: RawReader<A>, W: ValueWriter<O, A>, O: Output, A: Allocator + Copy>(
+// Begins to write.
+fn begin<W: ValueWriter<O, Global>, O: Output>(
     rt: &impl Abort,
-    meter: &mut Meter<A>,
+    writer: &mut W,
+    sink: &mut Sink<O, Global>,
+)
+    requires sound { W.sound writer.old }
+    requires fresh { W.is_new writer.old }
+    ensures writer { CanTake W.ValueWriter (W.limits writer.old).depth [] writer.new sink.new }
+    ensures own { W.own writer.new ≡ W.own writer.old }
+{
+    if let Err(_fault) = writer.begin(sink) {
+        panic!(rt; "nothing is written")
+    }
+}
+
+// How many items of a raw reader are put one at a time by a writer.
+fn turns_by<R: RawReader<Global> + Drop, W: ValueWriter<O, Global>, O: Output>(
+    rt: &impl Abort,
+    meter: &mut Meter<Global>,
+    limits: Limits,
     raw: R,
     writer: &mut W,
-    sink: &mut Sink<O, A>,
-) -> (u64, R)
+    sink: &mut Sink<O, Global>,
+) -> u64
+    requires checked { AreChecked limits }
     requires reader { R.sound raw }
     requires level { R.opened raw ≡ [] }
     requires well { R.failed raw ≡ None }
     requires sound { W.sound writer.old }
     requires fresh { W.is_new writer.old }
     requires depth { (W.limits writer.old).depth ≡ R.depth raw }
-    requires held { 4096 + R.own raw + W.own writer.old ≤ meter.old.held }
-    ensures held { 4096 + R.own result.1 + W.own writer.new ≤ meter.new.held }
+    requires held { R.own raw + W.own writer.old ≤ meter.old.held }
 {
-    assert!(rt; LIMITS.check());
+    begin(rt, writer, sink);
     let catalog = Catalog::new(meter);
-    let mut reader = UserReader::new(meter, LIMITS, raw, &catalog);
+    let mut reader = UserReader::new(meter, limits, raw, &catalog);
     let count = turns(rt, meter, &mut reader, writer, sink);
-    (count, reader.release(meter))
+    let _raw = reader.release(meter);
+    count
 }
 
 // What items are written as.
@@ -129,65 +144,60 @@ enum Target {
     Binary,
 }
 
-// How many items of a raw reader, which is handed out, are put one at a time.
-fn turns_to<R: RawReader<A>, O: Output, A: Allocator + Copy>(
+// How many items of a raw reader are put one at a time.
+fn turns_to<R: RawReader<Global> + Drop, O: Output>(
     rt: &impl Abort,
-    meter: &mut Meter<A>,
+    meter: &mut Meter<Global>,
+    limits: Limits,
     raw: R,
     target: Target,
-    sink: &mut Sink<O, A>,
-) -> (u64, R)
+    sink: &mut Sink<O, Global>,
+) -> u64
+    requires checked { AreChecked limits }
     requires reader { R.sound raw }
     requires level { R.opened raw ≡ [] }
     requires well { R.failed raw ≡ None }
-    requires depth { R.depth raw ≡ 64 }
-    requires held { 4096 + R.own raw ≤ meter.old.held }
-    ensures held { 4096 + R.own result.1 ≤ meter.new.held }
+    requires depth { R.depth raw ≡ limits.depth }
+    requires held { R.own raw ≤ meter.old.held }
 {
-    assert!(rt; LIMITS.check());
     match target {
         Target::Text => {
-            let mut writer = TextWriter::new(meter, LIMITS);
-            let turns = turns_by(rt, meter, raw, &mut writer, sink);
-            writer.release(meter);
-            turns
+            let mut writer = TextWriter::new(meter, limits);
+            turns_by(rt, meter, limits, raw, &mut writer, sink)
         }
         Target::Binary => {
-            let mut writer = BinWriter::new(meter, LIMITS);
-            let turns = turns_by(rt, meter, raw, &mut writer, sink);
-            writer.release(meter);
-            turns
+            let mut writer = BinWriter::new(meter, limits);
+            turns_by(rt, meter, limits, raw, &mut writer, sink)
         }
     }
 }
 
 // How many items of a source are put one at a time.
-fn turns_of<I: Input, O: Output, A: Allocator + Copy>(
+fn turns_of<I: Input + Drop, O: Output>(
     rt: &impl Abort,
-    meter: &mut Meter<A>,
+    meter: &mut Meter<Global>,
+    limits: Limits,
     is_binary: bool,
-    source: Source<I, A>,
+    source: Source<I, Global>,
     target: Target,
-    sink: &mut Sink<O, A>,
-) -> (u64, I)
+    sink: &mut Sink<O, Global>,
+) -> u64
+    requires checked { AreChecked limits }
     requires stands { Stands source }
-    requires held { 8192 ≤ meter.old.held }
-    ensures held { 4096 ≤ meter.new.held }
+    requires held { 4096 ≤ meter.old.held }
 {
-    assert!(rt; LIMITS.check());
     if is_binary {
-        let raw = BinReader::new(meter, LIMITS, source);
-        let (count, raw) = turns_to(rt, meter, raw, target, sink);
-        (count, raw.release(meter))
+        let raw = BinReader::new(meter, limits, source);
+        turns_to(rt, meter, limits, raw, target, sink)
     } else {
-        let raw = TextReader::new(meter, LIMITS, source);
-        let (count, raw) = turns_to(rt, meter, raw, target, sink);
-        (count, raw.release(meter))
+        let raw = TextReader::new(meter, limits, source);
+        turns_to(rt, meter, limits, raw, target, sink)
     }
 }
 
 // How many items of a stream that lies whole in the window are put one at a time.
 fn count(rt: &impl Abort, alloc: Global, stream: &[u8], target: Target) -> u64 {
+    assert!(rt; LIMITS.check());
     let mut meter = Meter::new(alloc);
     let Ok(source) = Source::new(&mut meter, LIMITS, FromRead::new(stream)) else {
         panic!(rt; "no window")
@@ -196,9 +206,7 @@ fn count(rt: &impl Abort, alloc: Global, stream: &[u8], target: Target) -> u64 {
         panic!(rt; "no window")
     };
     let is_binary = stream.starts_with(MARKER);
-    let (count, _input) = turns_of(rt, &mut meter, is_binary, source, target, &mut sink);
-    let _output = sink.release(&mut meter);
-    count
+    turns_of(rt, &mut meter, LIMITS, is_binary, source, target, &mut sink)
 }
 
 // What stands before each text: a value for which the writer of binary makes more room than a row

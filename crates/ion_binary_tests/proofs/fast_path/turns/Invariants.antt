@@ -11,5 +11,5 @@ invariant-items g l =
       ready : IsReady r.sound r.opened r.failed r.ended l.reader;
       going : l.reader.failed ≡ None;
       writer : CanTake w (r.depth l.reader.raw) (r.opened l.reader.raw) l.writer l.sink;
-      held : 4096 + owned_by r.own l.reader + w.own l.writer ≤ l.meter.held;
+      held : owned_by r.own l.reader + w.own l.writer ≤ l.meter.held;
     }

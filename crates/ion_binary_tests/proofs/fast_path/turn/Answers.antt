@@ -1,12 +1,4 @@
-use Rattle.std.proofs.Common.{rules, ◌≡◌, Ok, true, List, [], ◌∷◌, ◌++◌, ap, sym, subst, ◌∙◌}
-use Rattle.ion_meter.specs.declared.limits.Limits.{Limits}
-use Rattle.ion_symbols.specs.Table.{text_at}
-use Rattle.ion_symbols.specs.User.{lent_by}
-use Rattle.ion_value.specs.Items.{item_of}
-use Rattle.ion_value.specs.Standing.{Continues, open_after}
-use Rattle.ion_value.specs.Value.{PlacedItem}
-use Rattle.ion_value.specs.Feeding.{CanTake}
-use Rattle.ion_value.proofs.Outcomes.{open_behind-append}
+use Rattle.std.proofs.Common.{rules, ◌≡◌, Ok, true}
 use Rattle.ion_binary_tests.proofs.Handed.{takes-fed, may-go-on, takes-put}
 use Rattle.ion_binary_tests.proofs.fast_path.turn.Goals as goal
 

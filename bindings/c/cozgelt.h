@@ -1,7 +1,8 @@
 /* Amazon Ion 1.0 in the caller's memory, text or binary: as canonical text, as binary, or checked. It is a transcoder: no value can
  * be read from it but out of what it writes. A float other than null.float is refused (Float, 11).
  *
- * What a call answers, and every byte that it writes, is proved (crates/cozgelt_c), of callers that keep what no proof sees of C:
+ * What a call answers (but for want of memory), and every byte that it writes, is proved (crates/cozgelt_c), of callers that keep what no
+ * proof sees of C:
  *  - each pointer is not null, also where its length is 0, and points at as many bytes as its length says;
  *  - limits and answer point at whole structs, which were set as COZGELT_LIMITS and COZGELT_ANSWER set them;
  *  - room and answer overlap neither one another nor limits, catalog or stream (these may overlap one another), and nobody else

@@ -72,29 +72,6 @@ fn turn<R: RawReader<Global>, W: ValueWriter<O, Global>, O: Output>(
     true
 }
 
-// How many items are put one at a time.
-fn turns<R: RawReader<Global>, W: ValueWriter<O, Global>, O: Output>(
-    rt: &impl Abort,
-    meter: &mut Meter<Global>,
-    reader: &mut UserReader<'_, R, Global>,
-    writer: &mut W,
-    sink: &mut Sink<O, Global>,
-) -> u64
-    requires ready { IsReady R.sound R.opened R.failed R.ended reader.old }
-    requires going { answered_by reader.old ≡ None }
-    requires writer { CanTake W.ValueWriter (R.depth (raw_of reader.old))
-        (R.opened (raw_of reader.old)) writer.old sink.old }
-    requires held { owned_by R.own reader.old + W.own writer.old ≤ meter.old.held }
-    ensures held { owned_by R.own reader.new ≤ meter.new.held }
-{
-    'items: for n in 0..MANY {
-        if !turn(rt, meter, reader, writer, sink) {
-            return n;
-        }
-    }
-    panic!(rt; "the stream has no end")
-}
-
 // Begins to write.
 fn begin<W: ValueWriter<O, Global>, O: Output>(
     rt: &impl Abort,
@@ -132,9 +109,13 @@ fn turns_by<R: RawReader<Global> + Drop, W: ValueWriter<O, Global>, O: Output>(
     begin(rt, writer, sink);
     let catalog = Catalog::new(meter);
     let mut reader = UserReader::new(meter, limits, raw, &catalog);
-    let count = turns(rt, meter, &mut reader, writer, sink);
-    let _raw = reader.release(meter);
-    count
+    'items: for n in 0..MANY {
+        if !turn(rt, meter, &mut reader, writer, sink) {
+            let _raw = reader.release(meter);
+            return n;
+        }
+    }
+    panic!(rt; "the stream has no end")
 }
 
 // What items are written as.

@@ -1,7 +1,7 @@
 use Rattle.std.proofs.Common.{◌≡◌, ◌+◌, ◌≤◌, None}
 use Rattle.ion_symbols.specs.User.{IsReady, owned_by}
 use Rattle.ion_value.specs.Feeding.{CanTake}
-use Rattle.ion_binary_tests.proofs.fast_path.turns.Given as goal
+use Rattle.ion_binary_tests.proofs.fast_path.turns_by.Given as goal
 
 abbrev pub invariant-items : goal.invariant-items
 invariant-items g l =

@@ -80,7 +80,7 @@ def sized(descriptor, inside):
 
 
 def long_in_binary(length):
-    """The same in binary."""
+    """Sessions in binary: what has come is written before more is read."""
     x = b"x" * length
     table = b"\x81\x83" + sized(0xDE, b"\x87" + sized(0xBE, sized(0x8E, x)))
     return {

@@ -251,7 +251,7 @@ INPUT_FAILS = [
     ("convert", FIVE, b"5\n"),
     ("convert --to binary", b"5 [6,", FIVE),
 ]
-# The same where it is the file FAILS, by which the words name the stream or the catalogue.
+# Where it is the file FAILS that cannot be read, by which the words name the stream or the catalogue.
 FILE_FAILS = [
     ("show FAILS", FIVE, b"5\n"),
     ("show FAILS", MARKER, b""),

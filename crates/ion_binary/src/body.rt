@@ -84,7 +84,7 @@ pub(crate) fn uint_id(octets: &[u8]) -> u32
     long_id(octets)
 }
 
-// The same of octets of any number.
+// The id that a UInt of any number of octets spells.
 #[inline(never)]
 fn long_id(octets: &[u8]) -> u32
     ensures { result ≡ raw_id (uint octets.now) }

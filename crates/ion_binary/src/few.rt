@@ -55,7 +55,7 @@ impl Few {
         self.word.to_le_bytes()
     }
 
-    /// The same octets.
+    /// A copy of the octets.
     #[inline(always)]
     pub fn same(&self) -> Few
         ensures { result ≡ self.now }
@@ -145,7 +145,7 @@ pub(crate) fn noted_front(front: &Few, more: usize, name: u32, note: u32) -> Opt
     None
 }
 
-// The same without a field.
+// The octets of an annotation's id in its wrapper, and the first of a value, without a field.
 #[inline(always)]
 fn wrapped_front(front: &Few, more: usize, note: u32) -> Option<Few>
     requires few { length front.now ≤ 2 }

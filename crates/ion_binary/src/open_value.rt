@@ -662,7 +662,7 @@ fn insert_header<A: Allocator + Copy>(
     insert_long_header(octets, meter, code, place, inside)
 }
 
-// The same of any header.
+// Puts any header of a body of so many octets in at a place, where there is room for it.
 #[inline(never)]
 fn insert_long_header<A: Allocator + Copy>(
     octets: &mut Buf<A>,

@@ -206,7 +206,7 @@ fn next_container<I: Input, A: Allocator + Copy>(
     }
 }
 
-// The same of a struct whose fields are in order, which is not empty.
+// The place of the end of a struct whose fields are in order, which is not empty.
 fn next_sorted<I: Input, A: Allocator + Copy>(
     source: &mut Source<I, A>,
     around: Around,

@@ -59,7 +59,7 @@ pub const NEW_TEXTS: &[Row] = &[
         "E0 01 00 EA EE 95 81 83 DE 91 86 71 03 87 BC 81 61 81 78 81 62 81 79 81 7A 81 63 DE \
          8F 8A 71 0B 8C 71 0A 8A 71 0D 84 71 0E 8F 71 0F",
     ),
-    // The same with annotations.
+    // New symbols after fields, with annotations.
     (
         VALUE,
         SYMBOLS,

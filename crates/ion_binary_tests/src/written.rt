@@ -280,7 +280,7 @@ pub fn put<D: Write + Drop>(
     put_so(rt, alloc, limits, way, want, device)
 }
 
-/// The same, where plain items are put by `take_plain`, if the writer takes them so.
+/// Puts items to a device, plain ones by `take_plain` where the writer takes them so.
 pub fn put_plainly<D: Write + Drop>(
     rt: &impl Abort,
     alloc: Global,

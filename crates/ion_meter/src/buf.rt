@@ -187,7 +187,7 @@ impl<A: Allocator + Copy> Buf<A> {
         true
     }
 
-    /// The same of the first bytes of two blocks.
+    /// Adds the first bytes of two blocks at the end, where there is room for both whole blocks.
     #[inline(always)]
     pub fn extend_blocks_if_room(
         &mut self,

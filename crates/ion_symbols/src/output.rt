@@ -141,8 +141,9 @@ impl<A: Allocator + Copy> OutSymbols<A> {
         self.known_probes(text).0
     }
 
-    /// As `known`, and with how many texts this one was compared: at most 32 and as many as the number
-    /// of texts has binary digits.
+    /// As `known`, and the comparisons that were counted: at most 32 and as many as the number of texts
+    /// has binary digits. The contract says this bound alone; that each comparison is counted is kept
+    /// by the private fields of what the texts are reached by.
     #[inline]
     pub fn known_probes(&self, text: &[u8]) -> (Option<u32>, u32)
         ensures known { result.0 ≡ known_id self.now.texts text.now }

@@ -21,7 +21,7 @@ pub(crate) fn is_same(text: &[u8], other: &[u8]) -> bool
     text == other
 }
 
-/// The same where the second is short.
+/// Whether a text is this one, which is short.
 #[inline(always)]
 pub(crate) fn is_same_short(text: &[u8], other: &[u8]) -> bool
     requires { length other.now ≤ SHORT }
@@ -40,7 +40,7 @@ pub(crate) fn is_same_short(text: &[u8], other: &[u8]) -> bool
     }
 }
 
-// The same of texts of 8 to 16 bytes: by the first eight and the last.
+// Whether two texts of 8 to 16 bytes, equally long, are the same: by the first eight and the last.
 #[inline(always)]
 fn are_same_eights(text: &[u8], other: &[u8]) -> bool
     requires same { length text.now ≡ length other.now }
@@ -55,7 +55,8 @@ fn are_same_eights(text: &[u8], other: &[u8]) -> bool
     eight(text, last) == eight(other, last)
 }
 
-// The same of texts of 17 to 32 bytes: by the first sixteen and the last.
+// Whether two texts of 17 to 32 bytes, equally long, are the same: by the first sixteen and the
+// last.
 #[inline(always)]
 fn are_same_sixteens(text: &[u8], other: &[u8]) -> bool
     requires same { length text.now ≡ length other.now }
@@ -71,7 +72,7 @@ fn are_same_sixteens(text: &[u8], other: &[u8]) -> bool
     }
 }
 
-// The same of texts of 4 to 8 bytes: by the first four and the last.
+// Whether two texts of 4 to 8 bytes, equally long, are the same: by the first four and the last.
 #[inline(always)]
 fn are_same_fours(text: &[u8], other: &[u8]) -> bool
     requires same { length text.now ≡ length other.now }

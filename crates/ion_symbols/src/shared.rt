@@ -90,7 +90,7 @@ impl<A: Allocator + Copy> SharedTable<A> {
         }
     }
 
-    /// The same, the text's bytes being in UTF-8.
+    /// Adds a slot with this text, whose bytes are UTF-8, or without one.
     pub(crate) fn push_bytes(
         &mut self,
         meter: &mut Meter<A>,
@@ -133,7 +133,7 @@ impl<A: Allocator + Copy> SharedTable<A> {
         self.put_name(meter, name.as_bytes())
     }
 
-    /// The same, the name's bytes being in UTF-8.
+    /// Puts a name, whose bytes are UTF-8, in place of its own.
     pub(crate) fn put_name(&mut self, meter: &mut Meter<A>, bytes: &[u8]) -> Result<(), Fault>
         requires room { meter.old.held + length bytes.now < 2 ^ 63 }
         requires held { shared_cost self.old ≤ meter.old.held }

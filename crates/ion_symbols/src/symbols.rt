@@ -110,8 +110,8 @@ fn system_simple(id: u32) -> Option<&'static [u8]>
     }
 }
 
-// The same text. What a call that is not in line answered is built anew, so that where none is called
-// the answer does not go by memory.
+// The text as it is. What a call that is not in line answered is built anew, so that where none is
+// called the answer does not go by memory.
 #[inline(always)]
 fn handed_on(text: Option<&[u8]>) -> Option<&[u8]>
     ensures { result ≡ text.entry }
@@ -278,7 +278,7 @@ impl<'c, A: Allocator + Copy> Symbols<'c, A> {
         handed_on(self.early_simple_text(id))
     }
 
-    // The same as a call of its own.
+    // The simple text of an id of the system table or of an import, by a call that is not in line.
     #[inline(never)]
     fn early_simple_text(&self, id: u32) -> Option<&[u8]>
         ensures { IfSome result (λ t. (text_at self.now.table id ≡ Some t.now)

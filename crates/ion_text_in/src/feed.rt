@@ -226,7 +226,7 @@ pub(crate) fn place_behind(place: u64, spot: Spot<'_>, next: Next<'_>) -> u64
     place + spot.rest.len().saturating_sub(next.rest.len()) as u64
 }
 
-// The same where no name must come.
+// What a value begins with where no name must come before it.
 #[inline(always)]
 fn value_start<'a>(next: Next<'a>) -> Option<Start<'a>>
     ensures field { IfSome result (λ s. s.field ≡ None) }
@@ -421,7 +421,7 @@ fn any_value<'a, W: ValueWriter<O, A>, O: Output, A: Allocator + Copy>(
     }
 }
 
-// The same for what is rare: it is a call, over a copy of where the lane stands.
+// Hands on a value of a rare kind: it is a call, over a copy of where the lane stands.
 #[inline(always)]
 fn rare<'a, W: ValueWriter<O, A>, O: Output, A: Allocator + Copy>(
     at: &mut Spot<'a>,

@@ -172,7 +172,7 @@ pub(crate) fn next_first<I: Input, A: Allocator + Copy>(
     look_ahead(source, in_sexp)
 }
 
-// The same where the window does not show it.
+// Which kind of token begins here, where the window does not show it.
 #[cold]
 #[inline(never)]
 fn look_ahead<I: Input, A: Allocator + Copy>(
@@ -220,7 +220,8 @@ fn ended_first(in_sexp: bool, bytes: &[u8]) -> Option<First>
     }
 }
 
-// The same of fewer than five bytes: a byte that goes on with none of them changes nothing.
+// What begins at fewer than five bytes at the input's end: a byte that goes on with none of them
+// changes nothing.
 fn short_first(in_sexp: bool, bytes: &[u8]) -> First
     requires some { 1 ≤ length bytes.now }
     requires few { length bytes.now < 5 }

@@ -142,7 +142,7 @@ fn next_part<I: Input, A: Allocator + Copy>(
     slash(source, run)
 }
 
-// The same at a slash that is the last byte of the window.
+// How many bytes go on with a token at a slash that is the last byte of the window.
 fn slash<I: Input, A: Allocator + Copy>(source: &mut Source<I, A>, run: Run) -> Result<usize, Fault>
     requires stands { Stands source.old }
     requires at_slash { IsAtSlash run (lent source.old) }

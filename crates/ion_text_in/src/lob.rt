@@ -137,7 +137,7 @@ fn next_short_clob<I: Input, A: Allocator + Copy>(
     Ok(Lob::Clob)
 }
 
-// The same behind three single quotes.
+// The text of a clob after three single quotes, and what closes the clob, which begins at a place.
 fn next_long_clob<I: Input, A: Allocator + Copy>(
     source: &mut Source<I, A>,
     text: &mut Buf<A>,
@@ -207,7 +207,8 @@ fn are_cut_quotes<I: Input, A: Allocator + Copy>(source: &mut Source<I, A>) -> R
 // `base64` nothing beside all of it, and its room less to make.
 const BLOCK: usize = 2048;
 
-// The same of a line or a short blob, for which much less room is made.
+// How many characters of a line or a short blob are decoded at once, for which much less room is
+// made.
 const LINE: usize = 256;
 
 // The bytes of a blob behind its opening braces and white space, read up to and with the closing
@@ -310,7 +311,7 @@ fn take_block<I: Input, A: Allocator + Copy>(
     take_groups(source, text, count, &mut [0; BLOCK / 4 * 3], limits, meter)
 }
 
-// The same by some room for their bytes.
+// Takes so many characters of the window, with this room for their bytes.
 fn take_groups<I: Input, A: Allocator + Copy>(
     source: &mut Source<I, A>,
     text: &mut Buf<A>,

@@ -89,7 +89,7 @@ pub(crate) fn next_number<I: Input, A: Allocator + Copy>(
     }
 }
 
-// The same where the window's end cuts it.
+// The number or timestamp that begins here, where the window's end cuts it.
 #[cold]
 #[inline(never)]
 fn gather_number<I: Input, A: Allocator + Copy>(

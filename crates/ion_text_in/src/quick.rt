@@ -53,7 +53,7 @@ pub(crate) fn scan_quick(limit: u64, bytes: &[u8]) -> Option<Quick>
     Some(quick)
 }
 
-// The same whatever the limit.
+// The int or decimal at the front of these bytes, whatever the limit.
 #[inline(always)]
 fn quick_number(bytes: &[u8]) -> Option<Quick>
     ensures shown { IfSome result (λ x. AreShown (bytes_of in_run) bytes.now x.count) }
@@ -91,7 +91,7 @@ fn sign(bytes: &[u8]) -> (bool, &[u8])
     }
 }
 
-// The same behind the sign.
+// The int or decimal that these digits begin, which stand after its sign.
 #[inline(always)]
 fn quick_digits(negative: bool, digits: &[u8]) -> Option<Quick>
     ensures { IfSome result (λ x. IsQuick negative digits.now x) }
@@ -279,7 +279,7 @@ fn number_by(digits: &[u8]) -> u128
     }
 }
 
-// The same of digits of which 64 bits may not hold it.
+// The number that digits spell which 64 bits may not hold.
 #[inline(always)]
 fn wide_number(digits: &[u8]) -> u128
     requires digits { all_are is_digit digits.now ≡ true }
@@ -314,7 +314,7 @@ fn number_after(start: u64, digits: &[u8]) -> u64
     few_after(number, rest)
 }
 
-// The same of fewer than four digits.
+// The number that fewer than four digits spell after another.
 #[inline(always)]
 fn few_after(start: u64, digits: &[u8]) -> u64
     requires digits { all_are is_digit digits.now ≡ true }
@@ -370,7 +370,7 @@ fn digit_run(bytes: &[u8]) -> usize
     many_digits(bytes)
 }
 
-// The same block by block.
+// How many digits stand at the front of these bytes, block by block.
 #[inline(always)]
 fn many_digits(bytes: &[u8]) -> usize
     ensures within { result ≤ length bytes.now }

@@ -103,7 +103,7 @@ fn ascii_text(quote: Quote, bytes: &[u8]) -> Option<usize>
     Some(plain)
 }
 
-// The same of any text.
+// What a slice shows of a text between quotes, whatever stands in it: how many bytes it has.
 #[inline(always)]
 fn any_text(quote: Quote, limit: u64, bytes: &[u8]) -> Scanned<usize>
     ensures shows { Shows (λ n. take n bytes.now) bytes.now result

@@ -402,7 +402,8 @@ impl<I: Input, A: Allocator + Copy> TextReader<I, A> {
         self.behind_name(symbol, place)
     }
 
-    // The same where its text is the name already.
+    // Takes a symbol as the name of a field, where its text is the name already: a colon has to
+    // follow.
     #[inline(never)]
     fn behind_name(&mut self, symbol: Symbol, place: u64) -> Result<StepResult, Fault>
         requires value { self.old.expected ≡ Expected.Field }
@@ -428,7 +429,7 @@ impl<I: Input, A: Allocator + Copy> TextReader<I, A> {
         }
     }
 
-    // The same at the colon.
+    // Takes a symbol as the name of a field, at the colon.
     #[inline(always)]
     fn at_colon(&mut self, symbol: Symbol, place: u64) -> Result<StepResult, Fault>
         requires value { self.old.expected ≡ Expected.Field }

@@ -47,7 +47,7 @@ pub(crate) fn run_extent(run: Run, bytes: &[u8]) -> Extent
     }
 }
 
-// The same byte by byte.
+// How far a token goes on in a slice, looked at byte by byte.
 #[inline(always)]
 fn run_by_byte(run: Run, bytes: &[u8]) -> Extent
     ensures within { result.len ≤ length bytes.now }

@@ -279,7 +279,7 @@ fn show_piece<I: Input, A: Allocator + Copy>(
     }
 }
 
-// The same for any piece.
+// The piece at the present place, whatever it is.
 fn show_slowly<I: Input, A: Allocator + Copy>(
     source: &mut Source<I, A>,
     quote: Quote,

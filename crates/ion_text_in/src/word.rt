@@ -132,7 +132,7 @@ fn begun_keyword(limit: u64, count: usize, bytes: &[u8]) -> Scanned<Word>
     }
 }
 
-// The same of a null with the name of a type.
+// What a slice shows of a null with the name of a type.
 #[inline(never)]
 fn typed_null(limit: u64, bytes: &[u8]) -> Scanned<Word>
     ensures shows { Shows (word_token_of (shown_text bytes.now result)) bytes.now result
@@ -214,7 +214,7 @@ pub(crate) fn next_word<I: Input, A: Allocator + Copy>(
     }
 }
 
-// The same where the window's end cuts it.
+// The word that begins here, where the window's end cuts it.
 #[cold]
 #[inline(never)]
 fn gather_word<I: Input, A: Allocator + Copy>(
@@ -382,7 +382,7 @@ fn has_dollar(word: &[u8]) -> bool
     matches!(word, [b'$', ..])
 }
 
-// The same of one that begins as a keyword does.
+// What a word is that begins as a keyword does.
 #[inline(always)]
 fn keyword_or_name(word: &[u8]) -> Result<Word, Reason>
     requires { first_is (λ b. b == 36) word.now ≡ false }
@@ -478,7 +478,7 @@ fn type_named(name: &[u8]) -> Option<IonType>
     text_or_container(name)
 }
 
-// The same of a name that is none of those before.
+// The type of a name that is that of a text, a lob or a container.
 fn text_or_container(name: &[u8]) -> Option<IonType>
     ensures { result ≡ text_or_container name.now }
 {

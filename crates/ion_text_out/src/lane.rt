@@ -31,7 +31,8 @@ pub fn text_in(at: Option<TextAt<'_>>) -> (&[u8], bool)
     }
 }
 
-/// The same of annotations: of two it is that of both as they stand, which are known to be simple.
+/// The text of annotations, and whether it is simple: of two that of both as they stand, which are
+/// known to be so.
 #[inline(always)]
 pub fn notes_in<'a>(
     annotation: Option<TextAt<'a>>,

@@ -255,7 +255,7 @@ impl<A: Allocator + Copy> TextWriter<A> {
         self.take_narrow_int::<O, SPELLS>(sink, name, note, int.negative, int.magnitude as u64)
     }
 
-    // The same of one with this sign and a magnitude that 64 bits hold.
+    // An int with this sign and a magnitude that 64 bits hold.
     #[inline(never)]
     fn take_narrow_int<O: Output, const SPELLS: bool>(
         &mut self,
@@ -459,7 +459,7 @@ impl<A: Allocator + Copy> TextWriter<A> {
         }
     }
 
-    // The same of an item whose name or annotation may stand between quotes. It is marked as cold, so that
+    // A head whose name or annotation may stand between quotes. It is marked as cold, so that
     // what leads to it stands apart from what is frequent, and takes no register from it.
     #[cold]
     #[inline(never)]

@@ -19,6 +19,7 @@ impl<D> Retried<D> {
 }
 
 impl<D: Read> Read for Retried<D> {
+    // A `for` has a measure, which a loop that signals can keep up has not.
     fn read(&mut self, into: &mut [u8]) -> io::Result<usize> {
         for _ in 0..u64::MAX {
             match self.device.read(into) {

@@ -47,7 +47,8 @@ pub fn binary_is_complete()
     binary::rightly_refused();
 }
 
-/// The same of text.
+/// Under limits that allow as many bytes as there are, what text spells is read, and where a
+/// reading stops for another reason than a limit, the input is no text.
 pub fn text_is_complete()
     ensures { TextIsComplete }
 {

@@ -163,7 +163,7 @@ pub fn answer<R: Read + Drop, W: Write + Drop>(
     answer_by(rt, alloc, &catalog, limits, to, reader, writer)
 }
 
-/// The same by a catalogue.
+/// What a run by a catalogue answers, and the writer.
 pub fn answer_by<R: Read + Drop, W: Write + Drop>(
     rt: &impl Abort,
     alloc: Global,

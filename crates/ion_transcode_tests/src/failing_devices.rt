@@ -240,7 +240,8 @@ fn count_reads(rt: &impl Abort, alloc: Global, row: Row) -> usize {
     panic!(rt; "each run met a failure")
 }
 
-/// The same of the output.
+/// How many calls of the output of a run fail, where the first one does, then the second, and so
+/// on.
 fn count_writes(rt: &impl Abort, alloc: Global, row: Row, most: usize, failing: Failing) -> usize {
     for call in 1..10_000 {
         if !fails_writing(rt, alloc, row, most, call, failing) {

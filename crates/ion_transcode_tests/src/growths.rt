@@ -140,7 +140,7 @@ fn refuse_each(rt: &impl Abort, alloc: Global, heap: &LocalHeap, case: Case) -> 
     panic!(rt; "each run met a refusal")
 }
 
-/// The same of a stream that is shown, checked and written as binary.
+/// Refuses each growth in turn of a stream that is shown, checked and written as binary.
 fn refuse_each_way(rt: &impl Abort, alloc: Global, heap: &LocalHeap, row: Row) -> u64 {
     let mut refused: u64 = 0;
     for (to, verdict, output) in [
@@ -161,7 +161,7 @@ fn refuse_each_way(rt: &impl Abort, alloc: Global, heap: &LocalHeap, row: Row) -
     refused
 }
 
-/// The same of the stream of a row.
+/// Refuses each growth in turn of the stream of a row.
 fn refuse_stream(rt: &impl Abort, alloc: Global, heap: &LocalHeap, row: &str) -> u64 {
     let mut fields = Fields::of(row);
     let input = fields.bytes(rt, alloc);
@@ -188,7 +188,7 @@ enum Kind {
     Catalogues,
 }
 
-/// The same of each row of a table.
+/// Refuses each growth in turn of each row of a table.
 fn refuse_rows(rt: &impl Abort, alloc: Global, kind: Kind, table: &str) -> Result<u64, Fail> {
     let heap = LocalHeap::new(alloc, 1 << 20)?;
     let mut refused: u64 = 0;
@@ -305,7 +305,7 @@ fn refuse_each_of_load(rt: &impl Abort, heap: &LocalHeap, text: &str, verdict: V
     panic!(rt; "each run met a refusal")
 }
 
-/// The same of the catalogue of a row.
+/// Refuses each growth in turn of the loading of a row's catalogue.
 fn refuse_catalogue(rt: &impl Abort, heap: &LocalHeap, row: &str) -> u64 {
     let mut fields = Fields::of(row);
     let text = fields.text(rt);

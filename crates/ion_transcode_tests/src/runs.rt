@@ -330,7 +330,7 @@ fn what_is_ignored_is_not_held(rt: HostRuntime) {
     assert!(rt; out.is_empty());
 }
 
-// The same in text.
+// As text a declaration with as many ints in a field that is ignored.
 #[test]
 fn what_text_ignores_is_not_held(rt: HostRuntime) -> Result<(), Fail> {
     let alloc = rt.alloc();

@@ -8,7 +8,8 @@ pub fn same<T: PartialEq + Debug + Copy>(rt: &impl Abort, given: T, wanted: T) {
     assert_eq!(rt; given, wanted);
 }
 
-/// The same, and names the sentence, the row and the place where it is not.
+/// Asserts that what a call gave is what is wanted, and names the sentence, the row and the place
+/// where it is not.
 pub fn same_at<T: PartialEq + Debug + Copy>(
     rt: &impl Abort,
     sentence: &str,

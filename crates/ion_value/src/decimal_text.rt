@@ -125,7 +125,7 @@ fn exponent_behind(mantissa: Mantissa<'_>) -> Result<Option<i32>, Reason>
     }
 }
 
-// The same where no exponent is written.
+// The exponent of a mantissa without one: less the number of digits after the point.
 #[inline]
 fn without_power(pointed: bool, places: usize) -> Result<Option<i32>, Reason>
     ensures { ReadsPower places pointed [] result }
@@ -281,7 +281,7 @@ fn push_pointed(text: &mut ArrayString<64>, number: u128, places: u8)
     }
 }
 
-// The same in 64 bits.
+// Adds a number of 64 bits with a point before its last digits.
 #[inline]
 fn push_short(text: &mut ArrayString<64>, number: u64, places: u8)
     requires room { array_string_len text.old ≤ 1 }
@@ -296,7 +296,7 @@ fn push_short(text: &mut ArrayString<64>, number: u64, places: u8)
     push_digits(text, places, number % power);
 }
 
-// The same in 128 bits.
+// Adds a number of 128 bits with a point before its last digits.
 #[cold]
 #[inline(never)]
 fn push_long(text: &mut ArrayString<64>, number: u128, places: u8)

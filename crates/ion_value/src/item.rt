@@ -261,7 +261,7 @@ impl<'a, N: Names> Item<'a, N> {
 }
 
 impl<'a> Item<'a, NoNames> {
-    /// The same item, whose ids have the texts that these names have for them.
+    /// This item, whose ids have the texts that these names have for them.
     #[inline]
     pub fn with_names<N: Names>(self, names: &'a N) -> Item<'a, N>
         ensures { item_of N.text result ≡ named_item (N.text names.now) (raw_item self.entry) }

@@ -27,7 +27,7 @@ pub enum Precision {
     Minute,
     /// A date, hour, minute and second.
     Second,
-    /// The same with so many digits behind the second's point, 1 to 38.
+    /// A date, hour, minute, second and so many digits after the second's point, 1 to 38.
     Fraction(u8),
 }
 
@@ -80,7 +80,7 @@ impl Precision {
 }
 
 impl Timestamp {
-    /// The same moment with its fields in local time, where they are in UTC (Ion specification,
+    /// This moment with its fields in local time, where they are in UTC (Ion specification,
     /// "Timestamps"). An offset that is unknown counts as 0.
     ///
     /// It is a `BadTimestamp` where the local year is not one of 1 to 9999.
@@ -95,7 +95,7 @@ impl Timestamp {
         self.moved_by(self.offset.unwrap_or(0))
     }
 
-    /// The same moment with its fields in UTC, where they are in local time (Ion specification,
+    /// This moment with its fields in UTC, where they are in local time (Ion specification,
     /// "Timestamps"). An offset that is unknown counts as 0.
     ///
     /// It is a `BadTimestamp` where the year in UTC is not one of 1 to 9999.
@@ -152,7 +152,7 @@ impl Timestamp {
         }
     }
 
-    // The same at this minute of the day.
+    // These fields at this minute of the day.
     fn at(self, minute: u16) -> Timestamp
         requires { minute < 1440 }
         ensures { result ≡ at_minute self minute }
@@ -164,7 +164,7 @@ impl Timestamp {
         }
     }
 
-    // The same on this day, of a year from 1 on.
+    // These fields on this day, of a year from 1 on.
     fn on(self, date: Date) -> Timestamp
         requires { pos 1 ≤ℤ date.year }
         ensures same { result ≡ on_day self result.year result.month result.day }

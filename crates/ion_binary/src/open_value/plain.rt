@@ -36,7 +36,7 @@ impl<A: Allocator + Copy> OpenValue<A> {
         self.put_few(meter, limits, name, note, &front, [0; 8], 0)
     }
 
-    /// The same of a scalar whose body is a number of 64 bits.
+    /// Adds a scalar whose body is a number of 64 bits.
     #[inline(always)]
     pub fn put_number(
         &mut self,
@@ -69,7 +69,7 @@ impl<A: Allocator + Copy> OpenValue<A> {
         )
     }
 
-    /// The same of a decimal that is not zero: the octet of its exponent, and a coefficient of 63 bits.
+    /// Adds a decimal that is not zero: the octet of its exponent, and a coefficient of 63 bits.
     #[inline(never)]
     pub fn put_decimal(
         &mut self,
@@ -100,7 +100,7 @@ impl<A: Allocator + Copy> OpenValue<A> {
         self.put_few(meter, limits, name, note, &front, body, size)
     }
 
-    /// The same of a string.
+    /// Adds a string.
     #[inline(never)]
     pub fn put_text(
         &mut self,
@@ -132,7 +132,7 @@ impl<A: Allocator + Copy> OpenValue<A> {
             .extend_block_if_room(meter, front.block(), front.len(), text)
     }
 
-    // The same of one that is long, or behind long ids.
+    // Adds a string that is long, or stands after long ids.
     #[cold]
     #[inline(never)]
     fn put_long(
@@ -160,7 +160,7 @@ impl<A: Allocator + Copy> OpenValue<A> {
         self.put_octets(meter, limits, name, note, &octets)
     }
 
-    // The same of a scalar of these octets and the first of a body, so many.
+    // Adds a scalar of these octets and the first of a body, so many.
     #[inline(always)]
     fn put_few(
         &mut self,
@@ -193,7 +193,7 @@ impl<A: Allocator + Copy> OpenValue<A> {
             .extend_blocks_if_room(meter, whole.block(), whole.len(), body, size)
     }
 
-    // The same behind long ids.
+    // Adds such a scalar after long ids.
     #[cold]
     #[inline(never)]
     fn put_behind_long(

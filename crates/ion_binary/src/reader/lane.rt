@@ -488,9 +488,9 @@ impl<I: Input, A: Allocator + Copy> BinReader<I, A> {
         self.hand_head::<N, W, O, false>(around, front, meter, names, writer, sink)
     }
 
-    // The same of an item with this front. Each frequent shape of a head has a call of its own, so that
-    // what is read of it and written of it is compiled for it alone; and each of the two loops has this
-    // function for itself, by `OTHERS`, so that it has one caller, in which it is put in line.
+    // Hands on an item with this front. Each frequent shape of a head has a call of its own, so that
+    // it is compiled for that shape alone; and each of the two loops has this function for itself, by
+    // `OTHERS`, so that it has one caller, in which it is put in line.
     #[inline(always)]
     pub(super) fn hand_head<N: Names, W: ValueWriter<O, A>, O: Output, const OTHERS: bool>(
         &mut self,
@@ -552,7 +552,7 @@ impl<I: Input, A: Allocator + Copy> BinReader<I, A> {
         }
     }
 
-    // The same of a scalar with a body, by its type code. Lobs are not handed on.
+    // Hands on a scalar with a body, by its type code. Lobs are not handed on.
     #[inline(always)]
     fn hand_body<N: Names, W: ValueWriter<O, A>, O: Output, const OTHERS: bool>(
         &mut self,
@@ -658,7 +658,7 @@ impl<I: Input, A: Allocator + Copy> BinReader<I, A> {
         self.source.consume(count);
     }
 
-    // The same of a head whose descriptor has this shape.
+    // Hands on an item whose descriptor has this shape.
     #[inline(always)]
     pub(super) fn hand_shape<N: Names, W: ValueWriter<O, A>, O: Output>(
         &mut self,

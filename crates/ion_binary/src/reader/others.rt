@@ -68,8 +68,8 @@ impl<I: Input, A: Allocator + Copy> BinReader<I, A> {
         self.hand_noted(&mut around, meter, names, writer, sink)
     }
 
-    // The same of a member of the innermost container, or of a value at top level. All shapes of a head share
-    // a call here.
+    // Hands on a member of the innermost container, or a value at top level. All shapes of a head
+    // share a call here.
     #[inline(always)]
     fn hand_noted<N: Names, W: ValueWriter<O, A>, O: Output>(
         &mut self,

@@ -86,7 +86,7 @@ impl<A: Allocator + Copy> BinWriter<A> {
         self.give_fresh(meter, item, fresh, note, &octets)
     }
 
-    // The same of any scalar.
+    // Puts a scalar of any kind after the ids of its field and of its annotation.
     #[inline(never)]
     fn put_spelled(
         &mut self,

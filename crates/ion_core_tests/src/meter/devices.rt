@@ -221,7 +221,8 @@ fn read_on<I: Input + Drop>(
     source.release(&mut meter)
 }
 
-/// The same of the text, of which each call gives one byte and one call fails. In the end there were so many calls and failures.
+/// Reads the text by a device of which each call gives one byte and one call fails. In the end
+/// there were so many calls and failures.
 fn read_drip(
     rt: &impl Abort,
     alloc: Global,

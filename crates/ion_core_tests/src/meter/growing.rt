@@ -180,7 +180,7 @@ fn grow<A: Allocator + Copy>(
     grow_from(rt, meter, grown, call, contents.as_slice());
 }
 
-/// The same, where it has these contents.
+/// Makes the call on a value that has these contents, and once more where it is refused.
 fn grow_from<A: Allocator + Copy>(
     rt: &impl Abort,
     meter: &mut Meter<A>,

@@ -58,7 +58,7 @@ fn call_buf(rt: &impl Abort, meter: &mut Meter<Global>, buf: &mut Buf<Global>, c
     }
 }
 
-/// The same, where it puts bytes between others.
+/// Makes a call that puts bytes between others, and is not refused.
 fn put_in(rt: &impl Abort, meter: &mut Meter<Global>, buf: &mut Buf<Global>, call: ByteCall) {
     counts_of(rt, meter);
     let length = buf.as_slice().len();
@@ -81,7 +81,7 @@ fn put_in(rt: &impl Abort, meter: &mut Meter<Global>, buf: &mut Buf<Global>, cal
     }
 }
 
-/// The same, where it sets bytes or takes them off.
+/// Makes a call that sets bytes or takes them off.
 fn change(rt: &impl Abort, meter: &mut Meter<Global>, buf: &mut Buf<Global>, call: ByteCall) {
     let length = buf.as_slice().len();
     assert!(rt; length as u64 <= meter.held());

@@ -18,7 +18,7 @@ fn at(minute: Minute, offset: Option<i16>) -> Timestamp {
     told(Precision::Minute, date, (hour, minute, 0), 0, offset)
 }
 
-/// The same, read from its body, since a call that moves it asks that there be such a day.
+/// A minute, read from its body, since a call that moves it asks that there be such a day.
 fn moment(rt: &impl Abort, minute: Minute, offset: Option<i16>) -> Timestamp
     ensures moment { IsMoment result }
     ensures offset { IsOffset result.offset }

@@ -21,7 +21,7 @@ pub(super) fn behind_blanks(bytes: &[u8]) -> &[u8]
     behind(white, bytes)
 }
 
-// The same where a comment may begin among them.
+// After blanks among which a comment may begin; nothing where the bytes show no end of them.
 #[inline(never)]
 fn behind_comments(bytes: &[u8]) -> &[u8]
     ensures { 0 < length result.now → PassesBlanks bytes.now result.now }

@@ -5,7 +5,7 @@ use super::{Next, Spot, Start};
 use ion_meter::limits::Limits;
 use ion_value::plain_item::TextAt;
 
-/// The same limits.
+/// A copy of limits.
 #[inline(always)]
 pub(super) fn limits_for_call(limits: Limits) -> Limits
     ensures { result ≡ limits }
@@ -19,7 +19,7 @@ pub(super) fn limits_for_call(limits: Limits) -> Limits
     }
 }
 
-/// The same place in a lane.
+/// A copy of a place in a lane.
 #[inline(always)]
 pub(super) fn spot_for_call<'a>(spot: Spot<'a>) -> Spot<'a>
     ensures { result ≡ spot.entry }
@@ -33,7 +33,7 @@ pub(super) fn spot_for_call<'a>(spot: Spot<'a>) -> Spot<'a>
     }
 }
 
-/// The same beginning of a value.
+/// A copy of what a value begins with.
 #[inline(always)]
 pub(super) fn start_for_call<'a>(start: Start<'a>) -> Start<'a>
     ensures { result ≡ start.entry }
@@ -48,7 +48,7 @@ pub(super) fn start_for_call<'a>(start: Start<'a>) -> Start<'a>
     }
 }
 
-// The same text, if there is one.
+// A copy of a text, if there is one.
 #[inline(always)]
 fn text_for_call<'a>(text: Option<TextAt<'a>>) -> Option<TextAt<'a>>
     ensures { result ≡ text.entry }

@@ -169,7 +169,7 @@ fn id_field<'a, N: Names>(
     field_start(next, limits, place)
 }
 
-// The same behind an id.
+// What the value begins with after a field's name that is an id.
 #[inline(always)]
 fn id_name<'a, N: Names>(
     bytes: &'a [u8],

@@ -35,7 +35,7 @@ pub(super) fn field_start<'a>(next: Next<'a>, limits: Limits, place: u64) -> Opt
     behind_name(name, behind(count, next.rest))
 }
 
-/// The same behind a name between quotes.
+/// What the value begins with after a field's name between quotes.
 #[inline(always)]
 pub(super) fn quoted_start<'a>(next: Next<'a>, limits: Limits, place: u64) -> Option<Start<'a>>
     requires begins { Begins next }
@@ -48,7 +48,7 @@ pub(super) fn quoted_start<'a>(next: Next<'a>, limits: Limits, place: u64) -> Op
     }
 }
 
-// The same behind a symbol in quotes of plain bytes alone.
+// What the value begins with after a field's name that is a symbol in quotes of plain bytes alone.
 #[inline(always)]
 fn symbol_start<'a>(limits: Limits, place: u64, bytes: &'a [u8]) -> Option<Start<'a>>
     requires bare { IsBare bytes.now }
@@ -68,7 +68,7 @@ fn symbol_start<'a>(limits: Limits, place: u64, bytes: &'a [u8]) -> Option<Start
     }
 }
 
-// The same behind a string of plain bytes alone.
+// What the value begins with after a field's name that is a string of plain bytes alone.
 #[inline(always)]
 fn string_start<'a>(limits: Limits, place: u64, bytes: &'a [u8]) -> Option<Start<'a>>
     requires bare { IsBare bytes.now }

@@ -35,7 +35,8 @@ pub(super) fn noted<'a>(
     behind_note(start, note, behind(count, start.next.rest), limits)
 }
 
-/// The same behind a symbol in quotes of plain bytes alone that does not begin with a dollar sign.
+/// After an annotation in quotes of plain bytes alone that does not begin with a dollar sign: where
+/// two colons follow, and a value begins after them.
 #[inline(never)]
 pub(super) fn quoted_noted<'a>(start: Start<'a>, limits: Limits, place: u64) -> Option<Start<'a>>
     requires begins { Begins start.next }
@@ -119,7 +120,7 @@ pub(super) fn with_second<'a>(
     }
 }
 
-// The same where there is such a second annotation.
+// After a second annotation, where there is one.
 #[inline(always)]
 fn second_start<'a>(
     spot: Spot<'a>,

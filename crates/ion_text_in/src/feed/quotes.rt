@@ -143,7 +143,8 @@ pub(super) fn quoted_value<'a, W: ValueWriter<O, A>, O: Output, A: Allocator + C
     turned.more
 }
 
-// The same as the call does it.
+// Hands on a symbol in quotes, or the value after it where it is an annotation, from a copy of the
+// spot.
 #[inline(never)]
 fn any_quoted<'a, W: ValueWriter<O, A>, O: Output, A: Allocator + Copy>(
     spot: Spot<'a>,

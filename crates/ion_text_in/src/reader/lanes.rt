@@ -51,7 +51,7 @@ impl<I: Input, A: Allocator + Copy> TextReader<I, A> {
         }
     }
 
-    // The same by way of a token, of what is neither a word nor a symbol in quotes.
+    // Reads a token that is neither a word nor a symbol in quotes, and takes it.
     #[inline(never)]
     fn other(&mut self, first: First, meter: &mut Meter<A>) -> Result<StepResult, Fault>
         requires can_step { CanStep self.old meter.old }
@@ -97,7 +97,7 @@ impl<I: Input, A: Allocator + Copy> TextReader<I, A> {
         }
     }
 
-    // The same where a value may stand.
+    // Reads the word that begins where a value may stand, and takes it.
     #[inline(always)]
     fn value_word(&mut self, meter: &mut Meter<A>) -> Result<StepResult, Fault>
         requires can_step { CanStep self.old meter.old }
@@ -119,7 +119,7 @@ impl<I: Input, A: Allocator + Copy> TextReader<I, A> {
         }
     }
 
-    // The same where a field may begin: the word is read into the field's name.
+    // Reads the word that begins where a field may, into the field's name, and takes it.
     #[inline(always)]
     fn name(&mut self, meter: &mut Meter<A>) -> Result<StepResult, Fault>
         requires can_step { CanStep self.old meter.old }

@@ -44,7 +44,7 @@ mod Orders
 mod Adding
 mod Finding
 mod KeptTexts
-mod Counted
+mod FewProbes
 mod SameEnds
 mod Linking
 mod Positions

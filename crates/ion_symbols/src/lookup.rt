@@ -5,7 +5,7 @@ ghost use Rattle.ion_symbols.specs.Output.{binary_digits, position};
 ghost use Rattle.ion_symbols.specs.OutTexts.{AreKept, Seeks, texts_of};
 
 use crate::hash::{bucket, digits, hash};
-use crate::out_texts::counted::Probe;
+use crate::out_texts::probe::Probe;
 use crate::out_texts::{Sought, Spot};
 use crate::same::SHORT;
 use std::alloc::Allocator;
@@ -34,7 +34,7 @@ pub(crate) fn find<A: Allocator + Copy>(probe: &mut Probe<'_, A>, text: &[u8]) -
     find_onward(probe, text, hash)
 }
 
-// The same, by the links or by halving.
+// The number of a text, if it is there, by the links or by halving.
 #[inline(never)]
 fn find_onward<A: Allocator + Copy>(probe: &mut Probe<'_, A>, text: &[u8], hash: u64) -> Option<u32>
     requires kept { AreKept probe.old.kept.now }

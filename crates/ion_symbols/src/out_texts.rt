@@ -8,18 +8,18 @@ ghost use Rattle.ion_symbols.specs.Output.{Belongs, CanAdd, IsNew, binary_digits
 ghost use Rattle.ion_symbols.specs.Ordered.{Orders, in_order};
 ghost use Rattle.ion_symbols.specs.OutTexts.{AreDistinct, AreKept, CanLink, IsSpot, Links, entry_at, texts_of};
 
-pub(crate) mod counted;
+pub(crate) mod probe;
 
 use crate::hash::{BUCKETS, bucket, hash, no_buckets};
 use crate::lookup::seek;
 use crate::ordered::{Place, Search};
 use crate::search::place_of;
 use crate::texts::Texts;
-use counted::Probe;
 use ion_meter::buf::{Added, Buf};
 use ion_meter::fault::Fault;
 use ion_meter::meter::Meter;
 use ion_meter::table::Table;
+use probe::Probe;
 use std::alloc::Allocator;
 
 /// The cost of a place, in counted bytes.
@@ -196,7 +196,8 @@ impl<A: Allocator + Copy> OutTexts<A> {
         }
     }
 
-    // The same by halving, where they are in order. Those that it is compared with are counted as well.
+    // The number of a text, or its spot, by halving where they are in order. What it is compared
+    // with is counted on top.
     fn halve(&self, text: &[u8], probes: &mut u32) -> Result<u32, Spot>
         requires kept { AreKept self.now }
         requires ordered { self.now.is_ordered ≡ true }

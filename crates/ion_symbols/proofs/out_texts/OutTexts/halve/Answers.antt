@@ -1,6 +1,6 @@
 use Rattle.std.proofs.Common.{◌-◌, sym, subst, arith}
 use Rattle.ion_symbols.specs.OutTexts.{AreKept}
-use Rattle.ion_symbols.proofs.Counted.{few_probes}
+use Rattle.ion_symbols.proofs.FewProbes.{few_probes}
 use Rattle.ion_symbols.proofs.out_texts.OutTexts.halve.Goals as goal
 
 pub overflow_add-probes : goal.overflow_add-probes

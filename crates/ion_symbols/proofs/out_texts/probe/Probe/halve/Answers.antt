@@ -1,9 +1,9 @@
 use Rattle.std.proofs.Common.{◌≡◌, ℕ, slice_get, Some, ap, sym, subst, ◌∙◌, arith}
 use Rattle.ion_symbols.specs.Output.{Belongs}
 use Rattle.ion_symbols.specs.OutTexts.{texts_of}
-use Rattle.ion_symbols.proofs.Counted.{few_probes, halved_probes}
+use Rattle.ion_symbols.proofs.FewProbes.{few_probes, halved_probes}
 use Rattle.ion_symbols.proofs.Orders.{found_position, belongs_none}
-use Rattle.ion_symbols.proofs.out_texts.counted.Probe.halve.Goals as goal
+use Rattle.ion_symbols.proofs.out_texts.probe.Probe.halve.Goals as goal
 
 pub overflow_add-self : goal.overflow_add-self
 overflow_add-self g c =

@@ -259,6 +259,13 @@ FILE_FAILS = [
     ("show --catalog FAILS five.10n", MARKER, b""),
     ("show --catalog FAILS five.10n", FILES["tables.ion"], b""),
 ]
+# Words, standard input, and what a terminal shows where both streams go to it: a message begins a line of its own.
+ON_A_TERMINAL = [
+    ("show", b"{a:1, b:4e0}", b"{a:1\nrefused Float at 8\n"),
+    ("show", b"5 4e0", b"5\nrefused Float at 2\n"),
+    ("check", b"[4e0", b"refused Float at 1\n"),
+    ("convert --to text --depth 1", b"[[", b"[\nrefused DepthLimit at 1\n"),
+]
 # Words with a file whose first read fails.
 NOT_READ = [
     "show /proc/self/mem",
@@ -354,6 +361,31 @@ def run_where_input_fails(program, row):
     got = answer(program, words, stdin=master)
     os.close(master)
     return told(got == (3, out, b"read fault\n"), f"standard input fails behind {given}", words, (3, out), got)
+
+
+def run_on_a_terminal(program, row):
+    """Both streams go to a terminal."""
+    words, given, wanted = row
+    master, slave = os.openpty()
+    tty.setraw(slave)
+    done = subprocess.run([program, *words.split()], input=given, stdout=slave, stderr=slave, timeout=PATIENCE)
+    os.close(slave)
+    got = done.returncode, os.read(master, 65_536)
+    os.close(master)
+    return told(got == (1, wanted), f"on a terminal, of {given}", words, (1, wanted), got)
+
+
+def run_beside_a_terminal(program):
+    """Messages alone go to a terminal: no line is added."""
+    master, slave = os.openpty()
+    tty.setraw(slave)
+    pipe = subprocess.PIPE
+    done = subprocess.run([program, "show"], input=b"{a:1, b:4e0}", stdout=pipe, stderr=slave, timeout=PATIENCE)
+    os.close(slave)
+    got = done.stdout, os.read(master, 65_536)
+    os.close(master)
+    wanted = b"{a:1", b"refused Float at 8\n"
+    return told(got == wanted, "messages on a terminal", "show", wanted, got)
 
 
 def sleeps(process):
@@ -462,6 +494,8 @@ def main():
     if has_terminals():
         wrong += [run_where_input_fails(program, row) for row in INPUT_FAILS]
         wrong += [run_where_a_file_fails(program, row) for row in FILE_FAILS]
+        wrong += [run_on_a_terminal(program, row) for row in ON_A_TERMINAL]
+        wrong.append(run_beside_a_terminal(program))
     else:
         print("skipped: openpty")
     if os.path.exists("/proc/self/stat") and hasattr(socket, "SO_RCVTIMEO"):

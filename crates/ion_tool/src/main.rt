@@ -14,12 +14,13 @@ use ion_meter::fault::Fault;
 use ion_meter::meter::Meter;
 use ion_meter::stream::{FromRead, ToWrite};
 use serve::{give_usage, report, serve};
+use std::cell::Cell;
 use std::fs::File;
-use std::io::BufReader;
+use std::io::{BufReader, IsTerminal};
 use std::process::ExitCode;
 use std::rt::Files;
 use std::{env, fs, io};
-use streams::{Escaped, Retried};
+use streams::{Escaped, Lines, OwnLine, Retried};
 
 /// How many bytes are read at a time, where there is memory for so many.
 const AHEAD: usize = 65_536;
@@ -57,8 +58,11 @@ fn main(rt: HostRuntime) -> io::Result<ExitCode> {
         Ok(input) => FromRead::new(input),
         Err(_) => FromRead::new(BufReader::with_capacity(alloc, 0, Retried::new(rt.stdin()))?),
     };
-    let out = ToWrite::new(Retried::new(rt.stdout()));
-    let mut err = ToWrite::new(Escaped::new(Retried::new(rt.stderr())));
+    let is_open = Cell::new(false);
+    let out = ToWrite::new(Lines::new(Retried::new(rt.stdout()), &is_open));
+    let shared = rt.stdout().is_terminal() && rt.stderr().is_terminal();
+    let messages = OwnLine::new(Retried::new(rt.stderr()), shared.then_some(&is_open));
+    let mut err = ToWrite::new(Escaped::new(messages));
     let words = match env::args(&rt) {
         Ok(mut words) => {
             let _program = words.next();

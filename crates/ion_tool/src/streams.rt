@@ -2,6 +2,7 @@
 
 ghost use Rattle.std.specs.Prelude.{◌<◌, ◌≤◌, length};
 
+use std::cell::Cell;
 use std::io;
 use std::io::{ErrorKind, Read, Write};
 
@@ -99,6 +100,63 @@ impl<W: Write> Write for Escaped<W> {
         let number = [b'\\', b'x', digit(bytes[0] / 16), digit(bytes[0] % 16)];
         self.writer.write_all(&number)?;
         Ok(1)
+    }
+
+    fn flush(&mut self) -> io::Result<()> {
+        self.writer.flush()
+    }
+}
+
+/// The output on a terminal, of which it is kept whether its last line is open.
+#[derive(Drop)]
+pub struct Lines<'a, W> {
+    writer: W,
+    is_open: &'a Cell<bool>,
+}
+
+impl<'a, W> Lines<'a, W> {
+    /// This writer, which says there whether its last line is open.
+    pub fn new(writer: W, is_open: &'a Cell<bool>) -> Lines<'a, W> {
+        Lines { writer, is_open }
+    }
+}
+
+impl<'a, W: Write> Write for Lines<'a, W> {
+    fn write(&mut self, bytes: &[u8]) -> io::Result<usize> {
+        let count = self.writer.write(bytes)?;
+        if let Some(last) = bytes.iter().take(count).last() {
+            self.is_open.set(*last != b'\n');
+        }
+        Ok(count)
+    }
+
+    fn flush(&mut self) -> io::Result<()> {
+        self.writer.flush()
+    }
+}
+
+/// Messages, which begin a line of their own where the output on the same terminal left one open.
+#[derive(Drop)]
+pub struct OwnLine<'a, W> {
+    writer: W,
+    is_open: Option<&'a Cell<bool>>,
+}
+
+impl<'a, W> OwnLine<'a, W> {
+    /// This writer, and where it stands whether the output's last line is open, if both are terminals.
+    pub fn new(writer: W, is_open: Option<&'a Cell<bool>>) -> OwnLine<'a, W> {
+        OwnLine { writer, is_open }
+    }
+}
+
+impl<'a, W: Write> Write for OwnLine<'a, W> {
+    fn write(&mut self, bytes: &[u8]) -> io::Result<usize> {
+        if let Some(is_open) = self.is_open {
+            if is_open.replace(false) {
+                self.writer.write_all(b"\n")?;
+            }
+        }
+        self.writer.write(bytes)
     }
 
     fn flush(&mut self) -> io::Result<()> {

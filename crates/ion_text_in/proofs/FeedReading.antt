@@ -36,7 +36,6 @@ use Rattle.ion_text_in.specs.Token as tokens
 use Rattle.ion_text_in.specs.Token.{First, Token, first_at, token_of}
 use Rattle.ion_text_in.proofs.BlankTurns.{no-slash}
 use Rattle.ion_text_in.proofs.BlankRuns.{white-over}
-use Rattle.ion_text_in.proofs.ReaderLanes.{may-comma, may-end}
 use Rattle.ion_text_in.proofs.ReaderSteps.{blanks-going, later-moved, part-token, step-part}
 
 -- ---- what stands behind some bytes
@@ -185,6 +184,18 @@ plain-taken : (limits : Limits) (kinds : List Kind) (top place : ℕ) (field : O
     ≡ More (item_in kinds top field annotations place (value.whole body)) (later limits (record { kinds = kinds; top = top_of kinds top annotations place; wants = behind_member (innermost kinds); cursor = c }))
 unfolding taken
 plain-taken limits kinds top place field annotations body c = refl
+
+pub may-comma : (w : Wants) → may_come w tokens.a_comma ≡ true
+unfolding may_come
+may-comma (a_value field annotations) = refl
+may-comma a_field = refl
+may-comma a_separator = refl
+
+pub may-end : (kind : Kind) (w : Wants) → may_come w (tokens.an_end kind) ≡ true
+unfolding may_come
+may-end kind (a_value field annotations) = refl
+may-end kind a_field = refl
+may-end kind a_separator = refl
 
 pub may-value : (field : Option SymbolAt) (annotations : List SymbolAt) (first : First) → may_come (a_value field annotations) first ≡ true
 unfolding may_come

@@ -69,7 +69,7 @@ pub mod ReaderTokens
 pub mod ShownFurther
 pub mod ReaderSymbols
 pub mod ReaderTakes
-pub mod ReaderLanes
+pub mod ReaderNames
 pub mod LobTurns
 mod RunCuts
 mod Prepaid

@@ -53,7 +53,7 @@ GrowsBy old new text (symbol.Id id) = new ≡ old
 -- how many counted bytes may be taken when a token has been read: an annotation's text is kept, and a container is opened
 abbrev pub prepaid : List ℕ → Token → ℕ
 prepaid text (token.Plain body) = 0
-prepaid text token.Symbol = length text
+prepaid text (token.Symbol symbol quoted) = length (kept_text text symbol)
 prepaid text (token.String start) = 0
 prepaid text token.Operator = 0
 prepaid text token.NoNumber = 0

@@ -46,7 +46,7 @@ as_scalar text place body.Blob = value.blob text
 -- a token from the code: `text` has its bytes, and `place` is where it begins
 abbrev pub token_view : List ℕ → ℕ → Token → tokens.Token
 token_view text place (code.Plain scalar) = tokens.plain (as_scalar text place scalar)
-token_view text place code.Symbol = tokens.name true (value.Text text)
+token_view text place (code.Symbol symbol quoted) = tokens.name quoted (as_symbol text symbol)
 token_view text place (code.String start) = tokens.text text
 token_view text place code.Operator = tokens.operator text
 token_view text place code.NoNumber = tokens.no_number
@@ -71,7 +71,7 @@ BodyInRange body.Blob = ⊤
 -- so are those of a token
 abbrev pub TokenInRange : Token → Type 0
 TokenInRange (code.Plain scalar) = BodyInRange scalar
-TokenInRange code.Symbol = ⊤
+TokenInRange (code.Symbol symbol quoted) = ⊤
 TokenInRange (code.String start) = ⊤
 TokenInRange code.Operator = ⊤
 TokenInRange code.NoNumber = ⊤
@@ -86,7 +86,7 @@ TokenInRange code.Colons = ⊤
 -- where a comment begins among them that does not end
 abbrev pub overrun_of : Token → Option ℕ
 overrun_of (code.Plain scalar) = None
-overrun_of code.Symbol = None
+overrun_of (code.Symbol symbol quoted) = None
 overrun_of (code.String start) = start
 overrun_of code.Operator = None
 overrun_of code.NoNumber = None

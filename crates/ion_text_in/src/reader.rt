@@ -19,13 +19,13 @@ ghost use Rattle.ion_text_in.specs.Symbols.{is_annotated, kept_text};
 ghost use Rattle.ion_text_in.specs.Expecting.{wanted, MayExpect};
 ghost use Rattle.ion_text_in.specs.Steps.{annotations_in, closing, ending, failed_of, given_by, held_by, left_to, lent_by, limits_of, naming, naming_here, opened_in, opening, scalar_by, share_of, sound-within, source_of, taking, to_come_by, to_come_in, with_colons, without_colons, CanAdvance, CanStep, HasEnded, IsGoing, IsInside, IsReady, IsSized, IsSound, ReadyAfter, StepGives, Stepped};
 
-mod lanes;
 mod lent;
+mod taking;
 mod window;
 
 use crate::blank::pass_blanks;
 use crate::expected::{Expected, at_member, behind_member, is_colons, is_same};
-use crate::first::{First, next_first, told_first};
+use crate::first::{First, next_first};
 use crate::operator::{pass_colons, pass_mark};
 use crate::symbol::{FieldName, annotation_place, keep_text, lent_field};
 use crate::token::{Body, Symbol, Token};
@@ -368,9 +368,6 @@ impl<I: Input, A: Allocator + Copy> TextReader<I, A> {
         ensures goes { GrowsWithin meter.old meter.new (held_by self.old) (held_by self.new)
             (length (kept_text self.old.text symbol) + 16 * passed_over self.old.source self.new.source) }
     {
-        if told_first(self.source.buffer()) > 0 {
-            return self.symbol_value(symbol, quoted, place, None);
-        }
         let unfinished = match pass_blanks(&mut self.source) {
             Err(fault) => return Err(fault),
             Ok(unfinished) => unfinished,

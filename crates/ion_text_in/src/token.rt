@@ -1,23 +1,24 @@
 //! Tokens, each read by the kind that its first bytes tell (Ion specification, "Text Encoding").
-ghost use Rattle.std.specs.Prelude.{◌≡◌, ◌≢◌, ◌≤◌, ◌+◌, ◌*◌, ℕ, List, Some, length, IfOk};
+ghost use Rattle.std.specs.Prelude.{◌≡◌, ◌≤◌, ◌+◌, ◌*◌, ℕ, List, None, Some, length, IfOk};
 ghost use Rattle.ion_meter.specs.Sources.{cursor};
 ghost use Rattle.ion_meter.specs.Windows.{lent};
 ghost use Rattle.ion_value.specs.Calls.{CanRead, passed_over};
 ghost use Rattle.ion_value.specs.Standing.{InRange};
 ghost use Rattle.ion_value.specs.Shares.{GrowsWithin};
-ghost use Rattle.ion_text_in.specs.Symbols.{prepaid};
+ghost use Rattle.ion_text_in.specs.Symbols.{prepaid, prepaid_word};
 ghost use Rattle.ion_text_in.specs.Firsts.{first_of, width};
 ghost use Rattle.ion_text_in.specs.Token as tokens;
 ghost use Rattle.ion_text_in.specs.Token.{token_of};
 ghost use Rattle.ion_text_in.specs.Lobs.{lob_of};
-ghost use Rattle.ion_text_in.specs.Tokens.{as_scalar, BodyInRange, ReadsToken, TokenGives};
-ghost use Rattle.ion_text_in.specs.Views.{as_number};
+ghost use Rattle.ion_text_in.specs.Tokens.{overrun_of, token_view, ReadsToken, TokenGives, TokenInRange};
+ghost use Rattle.ion_text_in.specs.Views.{as_number, number_token, word_token_of};
 
 use crate::first::First;
 use crate::lob::{Lob, next_lob};
 use crate::number::{Number, next_number};
 use crate::operator::{next_infinity, next_operator, pass_colons, pass_mark};
-use crate::text::{next_long_string, next_short_string};
+use crate::text::{next_long_string, next_quoted_symbol, next_short_string};
+use crate::word::{Word, next_word};
 use ion_meter::buf::Buf;
 use ion_meter::device::Input;
 use ion_meter::fault::{Fault, Reason};
@@ -62,19 +63,19 @@ pub(crate) enum Body {
     Blob,
 }
 
-/// A token that is no word. The bytes of a symbol's text, a string, a lob or an operator stand beside it.
+/// A token. The bytes of a symbol's text, a string, a lob or an operator stand beside it.
 #[derive(Clone, Copy)]
 pub(crate) enum Token {
     /// A scalar that is neither a symbol nor a string.
     Plain(Body),
-    /// A symbol in quotes.
-    Symbol,
+    /// A symbol, and whether it stands in quotes.
+    Symbol(Symbol, bool),
     /// A string. Behind a long one blanks were passed over: `Some` is the place where a comment
     /// begins among them that does not end.
     String(Option<u64>),
     /// An operator.
     Operator,
-    /// `+inf` or `-inf`.
+    /// `nan`, `+inf` or `-inf`.
     NoNumber,
     /// A container begins.
     Begin(Kind),
@@ -89,7 +90,7 @@ pub(crate) enum Token {
 }
 
 /// Reads the token whose kind was told by its first bytes, which stand in the window. The bytes of
-/// a text, a lob or an operator are copied to `text`. Words and symbols in quotes are not read here.
+/// a text, a lob or an operator are copied to `text`.
 ///
 /// Each fault stands at the token's first byte.
 pub(crate) fn next_token<I: Input, A: Allocator + Copy>(
@@ -101,7 +102,6 @@ pub(crate) fn next_token<I: Input, A: Allocator + Copy>(
 ) -> Result<Token, Fault>
     requires can_read { CanRead limits limits.scalar source.old text.old meter.old }
     requires there { width (first_of first) ≤ length (lent source.old) }
-    requires other { (first ≢ First.Word) × (first ≢ First.QuotedSymbol) }
     ensures gives { I.observable source.old.device → TokenGives text.new source.old.place result
         (cursor I.Input source.new)
         (token_of (Some limits.scalar) (first_of first) (cursor I.Input source.old)) }
@@ -113,12 +113,26 @@ pub(crate) fn next_token<I: Input, A: Allocator + Copy>(
         ≤ length text.old + 16 * passed_over source.old source.new) }
 {
     match first {
-        First::Number => number_token(source, text, limits, meter),
-        First::String => string_token(source, text, limits, meter),
-        First::LongString => long_string_token(source, text, limits, meter),
-        First::Lob => lob_token(source, text, limits, meter),
-        First::Operator => operator_token(source, text, limits, meter),
-        First::Infinity => infinity_token(source, text, limits, meter),
+        First::Word => Ok(word_token(next_word(source, text, limits, meter)?)),
+        First::Number => Ok(number_token(next_number(source, text, limits, meter)?)),
+        First::Lob => Ok(lob_token(next_lob(source, text, limits, meter)?)),
+        First::LongString => Ok(Token::String(next_long_string(source, text, limits, meter)?)),
+        First::String => {
+            next_short_string(source, text, limits, meter)?;
+            Ok(Token::String(None))
+        }
+        First::QuotedSymbol => {
+            next_quoted_symbol(source, text, limits, meter)?;
+            Ok(Token::Symbol(Symbol::Text, true))
+        }
+        First::Operator => {
+            next_operator(source, text, limits, meter)?;
+            Ok(Token::Operator)
+        }
+        First::Infinity => {
+            next_infinity(source, limits)?;
+            Ok(Token::NoNumber)
+        }
         First::Begin(kind) => {
             pass_mark(source);
             Ok(Token::Begin(kind))
@@ -140,187 +154,52 @@ pub(crate) fn next_token<I: Input, A: Allocator + Copy>(
             Ok(Token::Colons)
         }
         First::Nothing => Err(Fault::Refused(Reason::BadToken, source.place())),
-        First::Word | First::QuotedSymbol => unreachable!(),
     }
 }
 
-// The number or timestamp that begins here.
-#[inline]
-fn number_token<I: Input, A: Allocator + Copy>(
-    source: &mut Source<I, A>,
-    text: &mut Buf<A>,
-    limits: Limits,
-    meter: &mut Meter<A>,
-) -> Result<Token, Fault>
-    requires can_read { CanRead limits limits.scalar source.old text.old meter.old }
-    requires there { 1 ≤ length (lent source.old) }
-    ensures gives { I.observable source.old.device → TokenGives text.new source.old.place result
-        (cursor I.Input source.new)
-        (token_of (Some limits.scalar) tokens.a_run (cursor I.Input source.old)) }
-    ensures reads { ReadsToken I.Input limits source.old source.new meter.old meter.new
-        text.old text.new result }
-    ensures goes { GrowsWithin meter.old meter.new (length text.old) (length text.new)
-        (16 * passed_over source.old source.new) }
-    ensures paid { IfOk result (λ token. length text.new + prepaid text.new token
-        ≤ length text.old + 16 * passed_over source.old source.new) }
-{
-    match next_number(source, text, limits, meter) {
-        Err(fault) => Err(fault),
-        Ok(number) => Ok(Token::Plain(number_body(number))),
-    }
-}
-
-// The string that begins here.
-#[inline]
-fn string_token<I: Input, A: Allocator + Copy>(
-    source: &mut Source<I, A>,
-    text: &mut Buf<A>,
-    limits: Limits,
-    meter: &mut Meter<A>,
-) -> Result<Token, Fault>
-    requires can_read { CanRead limits limits.scalar source.old text.old meter.old }
-    requires there { 1 ≤ length (lent source.old) }
-    ensures gives { I.observable source.old.device → TokenGives text.new source.old.place result
-        (cursor I.Input source.new)
-        (token_of (Some limits.scalar) tokens.a_short (cursor I.Input source.old)) }
-    ensures reads { ReadsToken I.Input limits source.old source.new meter.old meter.new
-        text.old text.new result }
-    ensures goes { GrowsWithin meter.old meter.new (length text.old) (length text.new)
-        (16 * passed_over source.old source.new) }
-    ensures paid { IfOk result (λ token. length text.new + prepaid text.new token
-        ≤ length text.old + 16 * passed_over source.old source.new) }
-{
-    match next_short_string(source, text, limits, meter) {
-        Err(fault) => Err(fault),
-        Ok(()) => Ok(Token::String(None)),
-    }
-}
-
-// The long string that begins here.
-#[inline]
-fn long_string_token<I: Input, A: Allocator + Copy>(
-    source: &mut Source<I, A>,
-    text: &mut Buf<A>,
-    limits: Limits,
-    meter: &mut Meter<A>,
-) -> Result<Token, Fault>
-    requires can_read { CanRead limits limits.scalar source.old text.old meter.old }
-    requires there { 3 ≤ length (lent source.old) }
-    ensures gives { I.observable source.old.device → TokenGives text.new source.old.place result
-        (cursor I.Input source.new)
-        (token_of (Some limits.scalar) tokens.a_long (cursor I.Input source.old)) }
-    ensures reads { ReadsToken I.Input limits source.old source.new meter.old meter.new
-        text.old text.new result }
-    ensures goes { GrowsWithin meter.old meter.new (length text.old) (length text.new)
-        (16 * passed_over source.old source.new) }
-    ensures paid { IfOk result (λ token. length text.new + prepaid text.new token
-        ≤ length text.old + 16 * passed_over source.old source.new) }
-{
-    match next_long_string(source, text, limits, meter) {
-        Err(fault) => Err(fault),
-        Ok(start) => Ok(Token::String(start)),
-    }
-}
-
-// The lob that begins here.
-#[inline]
-fn lob_token<I: Input, A: Allocator + Copy>(
-    source: &mut Source<I, A>,
-    text: &mut Buf<A>,
-    limits: Limits,
-    meter: &mut Meter<A>,
-) -> Result<Token, Fault>
-    requires can_read { CanRead limits limits.scalar source.old text.old meter.old }
-    requires there { 2 ≤ length (lent source.old) }
-    ensures gives { I.observable source.old.device → TokenGives text.new source.old.place result
-        (cursor I.Input source.new)
-        (token_of (Some limits.scalar) tokens.a_lob (cursor I.Input source.old)) }
-    ensures reads { ReadsToken I.Input limits source.old source.new meter.old meter.new
-        text.old text.new result }
-    ensures goes { GrowsWithin meter.old meter.new (length text.old) (length text.new)
-        (16 * passed_over source.old source.new) }
-    ensures paid { IfOk result (λ token. length text.new + prepaid text.new token
-        ≤ length text.old + 16 * passed_over source.old source.new) }
-{
-    match next_lob(source, text, limits, meter) {
-        Err(fault) => Err(fault),
-        Ok(lob) => Ok(Token::Plain(lob_body(lob))),
-    }
-}
-
-// The operator that begins here.
-#[inline]
-fn operator_token<I: Input, A: Allocator + Copy>(
-    source: &mut Source<I, A>,
-    text: &mut Buf<A>,
-    limits: Limits,
-    meter: &mut Meter<A>,
-) -> Result<Token, Fault>
-    requires can_read { CanRead limits limits.scalar source.old text.old meter.old }
-    requires there { 1 ≤ length (lent source.old) }
-    ensures gives { I.observable source.old.device → TokenGives text.new source.old.place result
-        (cursor I.Input source.new)
-        (token_of (Some limits.scalar) tokens.an_operator (cursor I.Input source.old)) }
-    ensures reads { ReadsToken I.Input limits source.old source.new meter.old meter.new
-        text.old text.new result }
-    ensures goes { GrowsWithin meter.old meter.new (length text.old) (length text.new)
-        (16 * passed_over source.old source.new) }
-    ensures paid { IfOk result (λ token. length text.new + prepaid text.new token
-        ≤ length text.old + 16 * passed_over source.old source.new) }
-{
-    match next_operator(source, text, limits, meter) {
-        Err(fault) => Err(fault),
-        Ok(()) => Ok(Token::Operator),
-    }
-}
-
-// `+inf` or `-inf`.
-#[inline]
-fn infinity_token<I: Input, A: Allocator + Copy>(
-    source: &mut Source<I, A>,
-    text: &mut Buf<A>,
-    limits: Limits,
-    meter: &mut Meter<A>,
-) -> Result<Token, Fault>
-    requires can_read { CanRead limits limits.scalar source.old text.old meter.old }
-    requires there { 4 ≤ length (lent source.old) }
-    ensures gives { I.observable source.old.device → TokenGives text.new source.old.place result
-        (cursor I.Input source.new)
-        (token_of (Some limits.scalar) tokens.an_infinity (cursor I.Input source.old)) }
-    ensures reads { ReadsToken I.Input limits source.old source.new meter.old meter.new
-        text.old text.new result }
-    ensures goes { GrowsWithin meter.old meter.new (length text.old) (length text.new)
-        (16 * passed_over source.old source.new) }
-    ensures paid { IfOk result (λ token. length text.new + prepaid text.new token
-        ≤ length text.old + 16 * passed_over source.old source.new) }
-{
-    match next_infinity(source, limits) {
-        Err(fault) => Err(fault),
-        Ok(()) => Ok(Token::NoNumber),
-    }
-}
-
-// A number or a timestamp as a scalar.
+// A word as a token.
 #[inline(always)]
-fn number_body(number: Number) -> Body
-    ensures is { (bytes : List ℕ) (place : ℕ) → as_scalar bytes place result ≡ as_number number }
-    ensures range { InRange (as_number number) → BodyInRange result }
+fn word_token(word: Word) -> Token
+    ensures is { (text : List ℕ) (place : ℕ) → token_view text place result ≡ word_token_of text word }
+    ensures range { TokenInRange result }
+    ensures alone { overrun_of result ≡ None }
+    ensures paid { (text : List ℕ) → prepaid text result ≡ prepaid_word text word }
+{
+    match word {
+        Word::Name => Token::Symbol(Symbol::Text, false),
+        Word::Id(id) => Token::Symbol(Symbol::Id(id), false),
+        Word::Null(ion_type) => Token::Plain(Body::Null(ion_type)),
+        Word::Bool(truth) => Token::Plain(Body::Bool(truth)),
+        Word::NoNumber => Token::NoNumber,
+    }
+}
+
+// A number or a timestamp as a token.
+#[inline(always)]
+fn number_token(number: Number) -> Token
+    ensures is { (text : List ℕ) (place : ℕ) → token_view text place result ≡ number_token number }
+    ensures range { InRange (as_number number) → TokenInRange result }
+    ensures alone { overrun_of result ≡ None }
+    ensures paid { (text : List ℕ) → prepaid text result ≡ 0 }
 {
     match number {
-        Number::Int(int) => Body::Int(int),
-        Number::Decimal(decimal) => Body::Decimal(decimal),
-        Number::Timestamp(timestamp) => Body::Timestamp(timestamp),
+        Number::Int(int) => Token::Plain(Body::Int(int)),
+        Number::Decimal(decimal) => Token::Plain(Body::Decimal(decimal)),
+        Number::Timestamp(timestamp) => Token::Plain(Body::Timestamp(timestamp)),
     }
 }
 
-// A lob as a scalar.
-#[inline]
-fn lob_body(lob: Lob) -> Body
-    ensures is { (bytes : List ℕ) (place : ℕ) → as_scalar bytes place result ≡ lob_of lob bytes }
-    ensures range { BodyInRange result }
+// A lob as a token.
+#[inline(always)]
+fn lob_token(lob: Lob) -> Token
+    ensures is { (text : List ℕ) (place : ℕ)
+        → token_view text place result ≡ tokens.plain (lob_of lob text) }
+    ensures range { TokenInRange result }
+    ensures alone { overrun_of result ≡ None }
+    ensures paid { (text : List ℕ) → prepaid text result ≡ 0 }
 {
     match lob {
-        Lob::Clob => Body::Clob,
-        Lob::Blob => Body::Blob,
+        Lob::Clob => Token::Plain(Body::Clob),
+        Lob::Blob => Token::Plain(Body::Blob),
     }
 }

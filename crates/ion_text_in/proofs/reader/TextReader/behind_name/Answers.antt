@@ -9,7 +9,7 @@ use Rattle.ion_text_in.specs.Firsts.{first_of, width}
 use Rattle.ion_text_in.specs.Steps.{naming_here}
 use Rattle.ion_text_in.specs.Token.{a_colon, first_at}
 use Rattle.ion_text_in.proofs.ReaderCalls.{reached-look, reached-then, stepped-behind}
-use Rattle.ion_text_in.proofs.ReaderLanes.{name-here}
+use Rattle.ion_text_in.proofs.ReaderNames.{name-here}
 use Rattle.ion_text_in.proofs.ReaderSteps.{gives-same, width-some}
 use Rattle.ion_text_in.proofs.reader.TextReader.behind_name.Goals as goal
 

@@ -2,7 +2,7 @@ use Rattle.std.proofs.Common.{◌≡◌, arith, ap, length, ℕ, List}
 use Rattle.std.proofs.lemmas.Grind.{common_steps}
 use Rattle.ion_text_in.specs.declared.reader.StepResult.TheVariants as step_result
 use Rattle.ion_text_in.proofs.ReaderCalls.{stepped-behind}
-use Rattle.ion_text_in.proofs.ReaderLanes.{reached-swapped}
+use Rattle.ion_text_in.proofs.ReaderNames.{reached-swapped}
 use Rattle.ion_text_in.proofs.reader.TextReader.named.Goals as goal
 
 pub returns-clause-stepped : goal.returns-clause-stepped

@@ -18,22 +18,6 @@ use Rattle.ion_text_in.proofs.ReaderSteps.{blanks-overrun, colons-none, colons-s
 use Rattle.ion_text_in.proofs.ReaderCalls.{reached-look, reached-then, stepped-behind}
 use Rattle.ion_text_in.proofs.reader.TextReader.symbol.Goals as goal
 
-pub returns-then-told_first-gt0-clause-gives : goal.returns-then-told_first-gt0-clause-gives
-returns-then-told_first-gt0-clause-gives g c = λ h d blank.
-    let device = g.I.Input in
-    let r = c.args.self.now in
-    let s = r.source in
-    let told = c.told_first in
-    let sexp = in_sexp (innermost (opened_in r)) in
-    let bare = subst (λ (l : List ℕ). (place : ℕ) (more : List ℕ) → blanks (at place (l ++ more)) ≡ Ok (at place (l ++ more))) c.buffer.ensures (told.ensures.bare c.if-told_first-gt0.true) in
-    let all = lent-left device.rest s in
-    let none : blanks (cursor device s) ≡ Ok (cursor device s) = subst (λ (l : List ℕ). blanks (at s.place l) ≡ Ok (at s.place l)) (sym all) (bare s.place _) in
-    let tells = subst (λ (l : List ℕ). (in_sexp : Bool) (more : List ℕ) → first_at in_sexp (l ++ more) ≡ numbered told.result) c.buffer.ensures (told.ensures.tells c.if-told_first-gt0.true) in
-    let first : first_at sexp (left device.rest s) ≡ numbered told.result = ap (λ (l : List ℕ). first_at sexp l) all ∙ tells sexp _ in
-    let alone : behind_colons sexp d ≡ None = ap (colons_behind sexp) (blank ∙ none) ∙ (ap (λ (f : First). colons_at f (cursor device s)) first ∙ no-colons told.result (cursor device s)) in
-    gives-same device _ _ c.symbol_value.new.self c.symbol_value.result (symbol-alone device r c.args.symbol c.args.quoted c.args.place d c.requires.value alone)
-    (c.symbol_value.ensures.gives h d blank)
-
 pub returns-then-is_colons-clause-gives : goal.returns-then-is_colons-clause-gives
 returns-then-is_colons-clause-gives g c = λ h d blank.
     let device = g.I.Input in
@@ -65,9 +49,9 @@ returns-clause-gives g c = λ h d blank.
     let found = subst (λ (b : Bool). MatchOption c.in-Ok-next_first.found (left device.rest s ≡ []) (λ f. first_at b (left device.rest s) ≡ first_of f)) c.in_sexp-in_sexp.ensures (c.in-Ok-next_first.ensures.first hs) in
     let all = blank ∙ c.in-Ok.ensures.gives h in
     let alone = colons-none sexp d (cursor device s) c.in-Ok.unfinished c.in-Ok-next_first.found all found (c.is_colons.ensures.none c.if-is_colons.false) in
-    gives-same device _ _ c.symbol_value-2.new.self c.symbol_value-2.result
+    gives-same device _ _ c.symbol_value.new.self c.symbol_value.result
     (symbol-alone device r c.args.symbol c.args.quoted c.args.place d c.requires.value alone)
-    (c.symbol_value-2.ensures.gives ht d (blanks-overrun c.in-Ok.unfinished d (cursor device s) (cursor device t) all (sym here)))
+    (c.symbol_value.ensures.gives ht d (blanks-overrun c.in-Ok.unfinished d (cursor device s) (cursor device t) all (sym here)))
 
 pub returns-clause-stepped : goal.returns-clause-stepped
 returns-clause-stepped g c =
@@ -82,7 +66,7 @@ returns-clause-stepped g c =
     let one = reached-look device r s m c.in-Ok.unfinished can.sized can.held c.in-Ok.ensures.reads in
     let two = reached-look device mid t m c.in-Ok-next_first.found one.sized can.held c.in-Ok-next_first.ensures.reads in
     let both = reached-then device r mid last m m m can.held one two in
-    stepped-behind device step_result.Item r last c.symbol_value-2.new.self m m m c.symbol_value-2.result can.held both (c.symbol_value-2.ensures.stepped m can.held)
+    stepped-behind device step_result.Item r last c.symbol_value.new.self m m m c.symbol_value.result can.held both (c.symbol_value.ensures.stepped m can.held)
 
 pub returns-in-Err-clause-stepped : goal.returns-in-Err-clause-stepped
 returns-in-Err-clause-stepped g c = grind (arith, common_steps) steps 400000
@@ -120,20 +104,17 @@ returns-then-is_colons-clause-stepped g c =
 pub returns-then-is_colons-clause-goes : goal.returns-then-is_colons-clause-goes
 returns-then-is_colons-clause-goes g c = grind (arith, common_steps)
 
-pub returns-then-told_first-gt0-clause-goes : goal.returns-then-told_first-gt0-clause-goes
-returns-then-told_first-gt0-clause-goes g c = grind (arith, common_steps)
-
 pub annotate-requires-clause-can_step : goal.annotate-requires-clause-can_step
 annotate-requires-clause-can_step g c = grind (arith, common_steps)
 
-pub symbol_value-requires-2-clause-sized : goal.symbol_value-requires-2-clause-sized
-symbol_value-requires-2-clause-sized g c = grind (arith, common_steps)
+pub symbol_value-requires-clause-sized : goal.symbol_value-requires-clause-sized
+symbol_value-requires-clause-sized g c = grind (arith, common_steps)
 
 pub returns-then-is_colons-clause-ready : goal.returns-then-is_colons-clause-ready
 returns-then-is_colons-clause-ready g c = grind (arith, common_steps)
 
-pub symbol_value-requires-2-clause-inside : goal.symbol_value-requires-2-clause-inside
-symbol_value-requires-2-clause-inside g c = grind (arith, common_steps)
+pub symbol_value-requires-clause-inside : goal.symbol_value-requires-clause-inside
+symbol_value-requires-clause-inside g c = grind (arith, common_steps)
 
 pub annotate-requires-clause-value : goal.annotate-requires-clause-value
 annotate-requires-clause-value g c = grind (arith, common_steps)
@@ -141,5 +122,5 @@ annotate-requires-clause-value g c = grind (arith, common_steps)
 pub returns-clause-ready : goal.returns-clause-ready
 returns-clause-ready g c = grind (arith, common_steps)
 
-pub symbol_value-requires-2-clause-value : goal.symbol_value-requires-2-clause-value
-symbol_value-requires-2-clause-value g c = grind (arith, common_steps)
+pub symbol_value-requires-clause-value : goal.symbol_value-requires-clause-value
+symbol_value-requires-clause-value g c = grind (arith, common_steps)

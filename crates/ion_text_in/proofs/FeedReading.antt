@@ -148,6 +148,18 @@ comma-taken : (limits : Limits) (kinds : List Kind) (top place : ℕ) (c : Curso
 unfolding taken
 comma-taken limits kinds top place c = refl
 
+pub may-comma : (w : Wants) → may_come w tokens.a_comma ≡ true
+unfolding may_come
+may-comma (a_value field annotations) = refl
+may-comma a_field = refl
+may-comma a_separator = refl
+
+pub may-end : (kind : Kind) (w : Wants) → may_come w (tokens.an_end kind) ≡ true
+unfolding may_come
+may-end kind (a_value field annotations) = refl
+may-end kind a_field = refl
+may-end kind a_separator = refl
+
 pub onward-comma : (limits : Limits) (kinds : List Kind) (top place : ℕ) (bytes : List ℕ) → IsBare bytes → 0 < length bytes
     → ((in_sexp : Bool) (more : List ℕ) → first_at in_sexp (bytes ++ more) ≡ tokens.a_comma) → Onward limits kinds top place a_separator bytes (at_member (innermost kinds)) (drop 1 bytes)
 onward-comma limits kinds top place bytes bare some begins =
@@ -184,18 +196,6 @@ plain-taken : (limits : Limits) (kinds : List Kind) (top place : ℕ) (field : O
     ≡ More (item_in kinds top field annotations place (value.whole body)) (later limits (record { kinds = kinds; top = top_of kinds top annotations place; wants = behind_member (innermost kinds); cursor = c }))
 unfolding taken
 plain-taken limits kinds top place field annotations body c = refl
-
-pub may-comma : (w : Wants) → may_come w tokens.a_comma ≡ true
-unfolding may_come
-may-comma (a_value field annotations) = refl
-may-comma a_field = refl
-may-comma a_separator = refl
-
-pub may-end : (kind : Kind) (w : Wants) → may_come w (tokens.an_end kind) ≡ true
-unfolding may_come
-may-end kind (a_value field annotations) = refl
-may-end kind a_field = refl
-may-end kind a_separator = refl
 
 pub may-value : (field : Option SymbolAt) (annotations : List SymbolAt) (first : First) → may_come (a_value field annotations) first ≡ true
 unfolding may_come

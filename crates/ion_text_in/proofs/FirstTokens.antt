@@ -225,3 +225,12 @@ brace-first (a ∷ b ∷ bytes) two first other sexp more =
     ap (λ (x : ℕ). first_at sexp (x ∷ b ∷ (bytes ++ more))) first ∙ one-brace sexp b (bytes ++ more) (ne_eqb 123 b (λ e. other (sym e)))
 
 -- ---- no kind that is told is a colon
+
+no-colons-if : (b : Bool) (f g : First) (c : Cursor) → colons_at f c ≡ None → colons_at g c ≡ None → colons_at (if b then f else g) c ≡ None
+no-colons-if true f g c one other = one
+no-colons-if false f g c one other = other
+
+pub no-colons : (n : ℕ) (c : Cursor) → colons_at (numbered n) c ≡ None
+no-colons n c =
+    no-colons-if (n == 1) _ _ c refl (no-colons-if (n == 2) _ _ c refl (no-colons-if (n == 3) _ _ c refl (no-colons-if (n == 4) _ _ c refl
+    (no-colons-if (n == 5) _ _ c refl (no-colons-if (n == 6) _ _ c refl (no-colons-if (n == 7) _ _ c refl (no-colons-if (n == 8) _ _ c refl (no-colons-if (n == 10) _ _ c refl refl))))))))

@@ -4,14 +4,9 @@ use Rattle.ion_meter.specs.Sources.{Cursor, cursor, skip}
 use Rattle.ion_meter.specs.Windows.{left}
 use Rattle.ion_text_in.specs.declared.first.First as code_first
 use Rattle.ion_text_in.specs.declared.reader.StepResult.TheVariants as step_result
-use Rattle.ion_text_in.specs.Blanks.{blanks}
-use Rattle.ion_text_in.specs.Firsts.{first_of, numbered}
-use Rattle.ion_text_in.specs.Meaning.{at}
+use Rattle.ion_text_in.specs.Firsts.{first_of}
 use Rattle.ion_text_in.specs.Positions.{innermost, in_sexp}
-use Rattle.ion_text_in.specs.Reading.{behind_colons, colons_at, colons_behind}
-use Rattle.ion_text_in.specs.Token.{First, first_at}
-use Rattle.ion_text_in.proofs.FirstTokens.{no-colons}
-use Rattle.ion_text_in.proofs.Shown.{lent-left}
+use Rattle.ion_text_in.specs.Token.{first_at}
 use Rattle.ion_text_in.specs.Steps.{opened_in, with_colons}
 use Rattle.ion_value.proofs.Cursors.{cursor-extends}
 use Rattle.ion_text_in.proofs.ReaderSteps.{blanks-overrun, colons-none, colons-some, gives-same, symbol-alone, symbol-colons}

@@ -368,15 +368,9 @@ impl<I: Input, A: Allocator + Copy> TextReader<I, A> {
         ensures goes { GrowsWithin meter.old meter.new (held_by self.old) (held_by self.new)
             (length (kept_text self.old.text symbol) + 16 * passed_over self.old.source self.new.source) }
     {
-        let unfinished = match pass_blanks(&mut self.source) {
-            Err(fault) => return Err(fault),
-            Ok(unfinished) => unfinished,
-        };
+        let unfinished = pass_blanks(&mut self.source)?;
         let in_sexp = self.in_sexp();
-        let found = match next_first(&mut self.source, in_sexp) {
-            Err(fault) => return Err(fault),
-            Ok(found) => found,
-        };
+        let found = next_first(&mut self.source, in_sexp)?;
         if is_colons(found) {
             return self.annotate(symbol, place, meter);
         }
@@ -413,16 +407,13 @@ impl<I: Input, A: Allocator + Copy> TextReader<I, A> {
         ensures stepped { (m : Counts) → held_by self.old ≤ m.held
             → Stepped I.Input StepResult.Item self.old self.new m m result }
     {
-        match pass_blanks(&mut self.source) {
-            Err(fault) => return Err(fault),
-            Ok(Some(start)) => return Err(Fault::Refused(Reason::Truncated, start)),
-            Ok(None) => {}
+        if let Some(start) = pass_blanks(&mut self.source)? {
+            return Err(Fault::Refused(Reason::Truncated, start));
         }
-        match next_first(&mut self.source, false) {
-            Err(fault) => Err(fault),
-            Ok(None) => Err(Fault::Refused(Reason::Truncated, self.source.place())),
-            Ok(Some(First::Colon)) => self.at_colon(symbol, place),
-            Ok(Some(_)) => Err(Fault::Refused(Reason::BadToken, self.source.place())),
+        match next_first(&mut self.source, false)? {
+            None => Err(Fault::Refused(Reason::Truncated, self.source.place())),
+            Some(First::Colon) => self.at_colon(symbol, place),
+            Some(_) => Err(Fault::Refused(Reason::BadToken, self.source.place())),
         }
     }
 
@@ -563,16 +554,13 @@ impl<I: Input, A: Allocator + Copy> TextReader<I, A> {
         ensures goes { GoesWithReading meter.old meter.new
             (held_by self.old) (held_by self.new) (left_to self.old) (left_to self.new) }
     {
-        match pass_blanks(&mut self.source) {
-            Err(fault) => return Err(fault),
-            Ok(Some(start)) => return Err(Fault::Refused(Reason::Truncated, start)),
-            Ok(None) => {}
+        if let Some(start) = pass_blanks(&mut self.source)? {
+            return Err(Fault::Refused(Reason::Truncated, start));
         }
         let in_sexp = self.in_sexp();
-        match next_first(&mut self.source, in_sexp) {
-            Err(fault) => Err(fault),
-            Ok(None) => self.end(),
-            Ok(Some(first)) => self.part(first, meter),
+        match next_first(&mut self.source, in_sexp)? {
+            None => self.end(),
+            Some(first) => self.part(first, meter),
         }
     }
 

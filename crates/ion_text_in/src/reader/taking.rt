@@ -38,10 +38,8 @@ impl<I: Input, A: Allocator + Copy> TextReader<I, A> {
         if !may_come(self.expected, first) {
             return Err(Fault::Refused(Reason::BadToken, place));
         }
-        match next_token(&mut self.source, &mut self.text, first, self.limits, meter) {
-            Err(fault) => Err(fault),
-            Ok(token) => self.take(token, place, meter),
-        }
+        let token = next_token(&mut self.source, &mut self.text, first, self.limits, meter)?;
+        self.take(token, place, meter)
     }
 
     // Takes the token that was read.

@@ -19,13 +19,13 @@ returns-then-is_colons-clause-gives g c = λ h d blank.
     let r = c.args.self.now in
     let s = c.pass_blanks.new.source in
     let t = c.next_first.new.source in
-    let hs = c.in-Ok.ensures.reads.moves.still_observable.1 h in
-    let ht = c.in-Ok-next_first.ensures.reads.moves.still_observable.1 hs in
+    let hs = c.in_ok-unfinished.ensures.reads.moves.still_observable.1 h in
+    let ht = c.in_ok-found.ensures.reads.moves.still_observable.1 hs in
     let sexp = in_sexp (innermost (opened_in r)) in
-    let here = cursor-extends device s t c.in-Ok-next_first.ensures.kept hs in
-    let found = subst (λ (o : Option code_first.First). MatchOption o (left device.rest s ≡ []) (λ f. first_at c.in_sexp-in_sexp.result (left device.rest s) ≡ first_of f)) (c.is_colons.ensures.some c.if-is_colons.true) (c.in-Ok-next_first.ensures.first hs) in
+    let here = cursor-extends device s t c.in_ok-found.ensures.kept hs in
+    let found = subst (λ (o : Option code_first.First). MatchOption o (left device.rest s ≡ []) (λ f. first_at c.in_sexp-in_sexp.result (left device.rest s) ≡ first_of f)) (c.is_colons.ensures.some c.if-is_colons.true) (c.in_ok-found.ensures.first hs) in
     let first = ap (λ (b : Bool). first_at b (left device.rest s)) (sym c.in_sexp-in_sexp.ensures) ∙ found in
-    let behind = colons-some sexp d (cursor device s) c.in-Ok.unfinished (blank ∙ c.in-Ok.ensures.gives h) (c.in-Ok.ensures.used_up h) first in
+    let behind = colons-some sexp d (cursor device s) c.in_ok-unfinished.unfinished (blank ∙ c.in_ok-unfinished.ensures.gives h) (c.in_ok-unfinished.ensures.used_up h) first in
     gives-same device _ _ c.annotate.new.self c.annotate.result
     (symbol-colons device r c.args.symbol c.args.quoted c.args.place d (skip 2 (cursor device s)) c.requires.value behind
     ∙ ap (λ (b : Cursor). with_colons r c.args.symbol c.args.place (skip 2 b)) (sym here))
@@ -37,16 +37,16 @@ returns-clause-gives g c = λ h d blank.
     let r = c.args.self.now in
     let s = c.pass_blanks.new.source in
     let t = c.next_first.new.source in
-    let hs = c.in-Ok.ensures.reads.moves.still_observable.1 h in
-    let ht = c.in-Ok-next_first.ensures.reads.moves.still_observable.1 hs in
+    let hs = c.in_ok-unfinished.ensures.reads.moves.still_observable.1 h in
+    let ht = c.in_ok-found.ensures.reads.moves.still_observable.1 hs in
     let sexp = in_sexp (innermost (opened_in r)) in
-    let here = cursor-extends device s t c.in-Ok-next_first.ensures.kept hs in
-    let found = subst (λ (b : Bool). MatchOption c.in-Ok-next_first.found (left device.rest s ≡ []) (λ f. first_at b (left device.rest s) ≡ first_of f)) c.in_sexp-in_sexp.ensures (c.in-Ok-next_first.ensures.first hs) in
-    let all = blank ∙ c.in-Ok.ensures.gives h in
-    let alone = colons-none sexp d (cursor device s) c.in-Ok.unfinished c.in-Ok-next_first.found all found (c.is_colons.ensures.none c.if-is_colons.false) in
+    let here = cursor-extends device s t c.in_ok-found.ensures.kept hs in
+    let found = subst (λ (b : Bool). MatchOption c.in_ok-found.found (left device.rest s ≡ []) (λ f. first_at b (left device.rest s) ≡ first_of f)) c.in_sexp-in_sexp.ensures (c.in_ok-found.ensures.first hs) in
+    let all = blank ∙ c.in_ok-unfinished.ensures.gives h in
+    let alone = colons-none sexp d (cursor device s) c.in_ok-unfinished.unfinished c.in_ok-found.found all found (c.is_colons.ensures.none c.if-is_colons.false) in
     gives-same device _ _ c.symbol_value.new.self c.symbol_value.result
     (symbol-alone device r c.args.symbol c.args.quoted c.args.place d c.requires.value alone)
-    (c.symbol_value.ensures.gives ht d (blanks-overrun c.in-Ok.unfinished d (cursor device s) (cursor device t) all (sym here)))
+    (c.symbol_value.ensures.gives ht d (blanks-overrun c.in_ok-unfinished.unfinished d (cursor device s) (cursor device t) all (sym here)))
 
 pub returns-clause-stepped : goal.returns-clause-stepped
 returns-clause-stepped g c =
@@ -58,28 +58,16 @@ returns-clause-stepped g c =
     let can = c.requires.can_step in
     let mid = record r { source = s } in
     let last = record r { source = t } in
-    let one = reached-look device r s m c.in-Ok.unfinished can.sized can.held c.in-Ok.ensures.reads in
-    let two = reached-look device mid t m c.in-Ok-next_first.found one.sized can.held c.in-Ok-next_first.ensures.reads in
+    let one = reached-look device r s m c.in_ok-unfinished.unfinished can.sized can.held c.in_ok-unfinished.ensures.reads in
+    let two = reached-look device mid t m c.in_ok-found.found one.sized can.held c.in_ok-found.ensures.reads in
     let both = reached-then device r mid last m m m can.held one two in
     stepped-behind device step_result.Item r last c.symbol_value.new.self m m m c.symbol_value.result can.held both (c.symbol_value.ensures.stepped m can.held)
-
-pub returns-in-Err-clause-stepped : goal.returns-in-Err-clause-stepped
-returns-in-Err-clause-stepped g c = grind (arith, common_steps) steps 400000
-
-pub returns-in-Err-clause-gives : goal.returns-in-Err-clause-gives
-returns-in-Err-clause-gives g c = grind (arith, common_steps) steps 400000
 
 pub returns-clause-goes : goal.returns-clause-goes
 returns-clause-goes g c = grind (arith, common_steps)
 
-pub returns-in-Err-next_first-clause-gives : goal.returns-in-Err-next_first-clause-gives
-returns-in-Err-next_first-clause-gives g c = grind (arith, common_steps)
-
 pub annotate-requires-clause-colons : goal.annotate-requires-clause-colons
 annotate-requires-clause-colons g c = grind (arith, common_steps)
-
-pub returns-in-Err-next_first-clause-stepped : goal.returns-in-Err-next_first-clause-stepped
-returns-in-Err-next_first-clause-stepped g c = grind (arith, common_steps)
 
 pub returns-then-is_colons-clause-stepped : goal.returns-then-is_colons-clause-stepped
 returns-then-is_colons-clause-stepped g c =
@@ -91,8 +79,8 @@ returns-then-is_colons-clause-stepped g c =
     let can = c.requires.can_step in
     let mid = record r { source = s } in
     let last = record r { source = t } in
-    let one = reached-look device r s m c.in-Ok.unfinished can.sized can.held c.in-Ok.ensures.reads in
-    let two = reached-look device mid t m c.in-Ok-next_first.found one.sized can.held c.in-Ok-next_first.ensures.reads in
+    let one = reached-look device r s m c.in_ok-unfinished.unfinished can.sized can.held c.in_ok-unfinished.ensures.reads in
+    let two = reached-look device mid t m c.in_ok-found.found one.sized can.held c.in_ok-found.ensures.reads in
     let both = reached-then device r mid last m m m can.held one two in
     stepped-behind device step_result.Item r last c.annotate.new.self m m c.annotate.new.meter c.annotate.result can.held both c.annotate.ensures.stepped
 

@@ -1,14 +1,14 @@
 //! What stands after an ending, and endings that are no fault of the stream.
 
-use crate::hex::{MARKER, octets};
+use crate::hex::{MARKER, octets, row_octets};
 use crate::limits::LIMITS;
 use crate::pieces::{Pieces, in_pieces, whole};
 use crate::reading::{Outcome, read, read_to};
-use crate::rows::{is_row, row_octets};
 use crate::same::same;
 use crate::tables::RAW;
 use ion_meter::fault::Fault;
 use ion_meter::limits::Limits;
+use ion_test_support::fields::is_row;
 use std::alloc::Global;
 use std::process::Abort;
 

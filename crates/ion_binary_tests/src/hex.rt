@@ -1,5 +1,6 @@
 //! Octets as the tables write them.
 
+use ion_test_support::fields::Fields;
 use std::alloc::Global;
 use std::process::Abort;
 
@@ -12,6 +13,14 @@ pub fn octets(rt: &impl Abort, alloc: Global, front: &[u8], text: &str) -> Vec<u
     add(rt, &mut octets, front);
     add_digits(rt, &mut octets, text);
     octets
+}
+
+/// The octets of a row's first field behind some others.
+pub fn row_octets(rt: &impl Abort, alloc: Global, front: &[u8], row: &str) -> Vec<u8> {
+    let mut fields = Fields::of(row);
+    let text = fields.text();
+    assert!(rt; fields.is_right());
+    octets(rt, alloc, front, text)
 }
 
 /// Adds the octets of a text.

@@ -3,12 +3,13 @@ ghost use Rattle.std.specs.Prelude.{◌≤◌};
 ghost use Rattle.ion_symbols.specs.Table.{shared_cost};
 
 use crate::hex::{MARKER, octets};
+use crate::limits::LIMITS;
 use crate::reading::{expect_little, read_each_way};
-use crate::rows::{Fields, is_row};
 use crate::{containers, declarations, imports, scalars, streams, wrappers};
 use ion_meter::meter::Meter;
 use ion_symbols::catalog::Catalog;
 use ion_symbols::shared::SharedTable;
+use ion_test_support::fields::{Fields, is_row};
 use std::alloc::Global;
 use std::process::Abort;
 
@@ -129,9 +130,11 @@ fn expect_row(
 ) {
     let (front, before, _) = form;
     let mut fields = Fields::of(row);
-    let octets = octets(rt, alloc, front, fields.text(rt));
-    let words = fields.text(rt);
-    let all = read_each_way(rt, alloc, fields.limits(rt), catalog, octets.as_slice());
+    let octets = octets(rt, alloc, front, fields.text());
+    let words = fields.text();
+    let limits = fields.limits(LIMITS);
+    assert!(rt; fields.is_read());
+    let all = read_each_way(rt, alloc, limits, catalog, octets.as_slice());
     all.expect(rt, alloc, before, words);
 }
 

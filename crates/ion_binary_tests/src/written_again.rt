@@ -9,8 +9,6 @@ use crate::hex::{MARKER, add, add_digits, octets};
 use crate::limits::LIMITS;
 use crate::pieces::{Pieces, in_pieces, whole};
 use crate::reading::{MANY, Outcome, expect_little};
-use crate::refusing::Refusing;
-use crate::rows::{Fields, is_row};
 use crate::same::same;
 use crate::tables::catalog_of;
 use crate::written_rows::{DRAWN, SPELLINGS, SYMBOLS, TIMESTAMPS, UNKNOWN};
@@ -24,6 +22,8 @@ use ion_meter::source::Source;
 use ion_meter::stream::{FromRead, ToWrite};
 use ion_symbols::catalog::Catalog;
 use ion_symbols::user::UserReader;
+use ion_test_support::fields::{Fields, is_row};
+use ion_test_support::refusing::Refusing;
 use ion_value::reader::RawReader;
 use ion_value::writer::ValueWriter;
 use std::alloc::{Allocator, Global};
@@ -238,9 +238,9 @@ fn expect_written(
 /// they are known, and else as many.
 fn expect_row(rt: &impl Abort, alloc: Global, row: &str, known: bool) {
     let mut fields = Fields::of(row);
-    let input = fields.text(rt);
-    let want = fields.text(rt);
-    fields.end(rt);
+    let input = fields.text();
+    let want = fields.text();
+    assert!(rt; fields.is_read());
     let told = expect_written(rt, alloc, 1, input, want);
     let again = expect_written(rt, alloc, 0, want, want);
     same(rt, (input, again.tops.len()), (input, told.tops.len()));
@@ -445,9 +445,10 @@ fn a_stream_that_breaks_off_has_its_whole_values(rt: HostRuntime) {
         if is_row(row) {
             let mut fields = Fields::of(row);
             let before = input.len();
-            add_digits(&rt, &mut input, fields.text(&rt));
+            add_digits(&rt, &mut input, fields.text());
             expect_broken(&rt, rt.alloc(), input.as_slice(), before, want.as_slice());
-            add_digits(&rt, &mut want, fields.text(&rt));
+            add_digits(&rt, &mut want, fields.text());
+            assert!(&rt; fields.is_read());
         }
     }
     let ending = ending_of(&rt, rt.alloc(), whole(input.as_slice()), want.as_slice());

@@ -4,6 +4,7 @@ ghost use Rattle.std.specs.Prelude.{◌≡◌, ◌^◌, ◌<◌};
 use crate::same::same;
 use ion_meter::limits::Limits;
 use ion_meter::meter::Meter;
+use ion_test_support::refusing::Refusing;
 use std::alloc::{Allocator, Global};
 use std::process::Abort;
 use std::test::Fail;
@@ -11,12 +12,9 @@ use std::test::Fail;
 mod devices;
 mod growing;
 mod heap;
-pub(crate) mod refusing;
 mod shapes;
 mod std_devices;
 mod windows;
-
-use refusing::Refusing;
 
 /// Limits that short texts keep.
 const LIMITS: Limits = Limits {

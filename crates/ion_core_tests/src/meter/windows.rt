@@ -2,7 +2,6 @@
 ghost use Rattle.std.specs.Prelude.{◌≡◌};
 
 use super::devices::{Call, make, sink_on, source_on};
-use super::refusing::Refusing;
 use super::{LIMITS, counts_of, is_refused};
 use crate::same::same;
 use ion_meter::device::{Input, Output};
@@ -10,6 +9,7 @@ use ion_meter::meter::Meter;
 use ion_meter::sink::Sink;
 use ion_meter::source::Source;
 use ion_meter::stream::{FromRead, ToWrite};
+use ion_test_support::refusing::Refusing;
 use std::alloc::Allocator;
 use std::process::Abort;
 

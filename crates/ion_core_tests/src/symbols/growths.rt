@@ -5,7 +5,6 @@ ghost use Rattle.ion_symbols.specs.Output.{texts_cost};
 
 use super::outputs::expect_since;
 use super::shared_tables::{expect_table, push};
-use crate::meter::refusing::Refusing;
 use crate::meter::{Counted, counts_of, is_refused};
 use crate::same::same;
 use ion_meter::fault::Fault;
@@ -14,6 +13,7 @@ use ion_meter::meter::Meter;
 use ion_symbols::catalog::Catalog;
 use ion_symbols::output::OutSymbols;
 use ion_symbols::shared::SharedTable;
+use ion_test_support::refusing::Refusing;
 use std::alloc::{Allocator, Global};
 use std::process::Abort;
 

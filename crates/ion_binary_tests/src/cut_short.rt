@@ -4,7 +4,7 @@ use crate::hex::{MARKER, row_octets};
 use crate::limits::LIMITS;
 use crate::pieces::whole;
 use crate::reading::{Outcome, read, read_each_way};
-use crate::same::same;
+use crate::same::{holds, same};
 use crate::streams;
 use crate::tables::RAW;
 use ion_meter::fault::{Fault, Reason};
@@ -76,7 +76,7 @@ fn expect_narrower(rt: &impl Abort, narrow: &Outcome, all: &Outcome) {
         _ => false,
     };
     let begins = all.items.as_str().starts_with(narrow.items.as_str());
-    assert!(rt; begins && (is_cut || narrow.is_same(all)));
+    holds(rt, begins && (is_cut || narrow.is_same(all)));
 }
 
 // Asserts that small limits only cut the reading of these octets short.

@@ -4,6 +4,7 @@ use crate::cut_short::expect_prefixes;
 use crate::hex::octets;
 use crate::limits::LIMITS;
 use crate::reading::read_each_way;
+use crate::same::holds;
 use ion_test_support::fields::{Fields, is_row};
 use std::alloc::Global;
 use std::process::Abort;
@@ -68,7 +69,7 @@ fn expect_refused(rt: &impl Abort, alloc: Global, row: &str) {
     let octets = octets(rt, alloc, b"", fields.text());
     let ending = fields.text();
     let limits = fields.limits(LIMITS);
-    assert!(rt; fields.is_read());
+    holds(rt, fields.is_read());
     let all = read_each_way(rt, alloc, limits, None, octets.as_slice());
     all.expect_end(rt, alloc, ending);
     expect_prefixes(rt, alloc, limits, octets.as_slice());

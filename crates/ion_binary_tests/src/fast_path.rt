@@ -12,7 +12,7 @@ ghost use Rattle.ion_value.specs.Feeding.{CanTake};
 use crate::hex::{MARKER, add, add_digits, octets};
 use crate::limits::LIMITS;
 use crate::reading::expect_little;
-use crate::same::same;
+use crate::same::{holds, same};
 use ion_binary::reader::BinReader;
 use ion_binary::writer::BinWriter;
 use ion_meter::device::{Input, Output};
@@ -178,14 +178,12 @@ fn turns_of<I: Input + Drop, O: Output>(
 
 // How many items of a stream that lies whole in the window are put one at a time.
 fn count(rt: &impl Abort, alloc: Global, stream: &[u8], target: Target) -> u64 {
-    assert!(rt; LIMITS.check());
+    holds(rt, LIMITS.check());
     let mut meter = Meter::new(alloc);
-    let Ok(source) = Source::new(&mut meter, LIMITS, FromRead::new(stream)) else {
-        panic!(rt; "no window")
-    };
-    let Ok(mut sink) = Sink::new(&mut meter, ToWrite::new(Vec::new(alloc))) else {
-        panic!(rt; "no window")
-    };
+    let source = Source::new(&mut meter, LIMITS, FromRead::new(stream));
+    let source = source.ok().expect(rt, "a window");
+    let sink = Sink::new(&mut meter, ToWrite::new(Vec::new(alloc)));
+    let mut sink = sink.ok().expect(rt, "a window");
     let is_binary = stream.starts_with(MARKER);
     turns_of(rt, &mut meter, LIMITS, is_binary, source, target, &mut sink)
 }
@@ -347,7 +345,7 @@ fn expect_text(rt: &impl Abort, alloc: Global, row: &str) {
     same(rt, (row, text), (row, fields.number()));
     let binary = count(rt, alloc, stream.as_slice(), Target::Binary);
     same(rt, (row, binary), (row, fields.number()));
-    assert!(rt; fields.is_read());
+    holds(rt, fields.is_read());
 }
 
 // Asserts how many items of octets are put one at a time.
@@ -358,7 +356,7 @@ fn expect_octets(rt: &impl Abort, alloc: Global, row: &str) {
     add(rt, &mut stream, b"\x20");
     let text = count(rt, alloc, stream.as_slice(), Target::Text);
     same(rt, (row, text), (row, fields.number()));
-    assert!(rt; fields.is_read());
+    holds(rt, fields.is_read());
 }
 
 #[test]

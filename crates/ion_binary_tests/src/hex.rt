@@ -1,5 +1,6 @@
 //! Octets as the tables write them.
 
+use crate::same::holds;
 use ion_test_support::fields::Fields;
 use std::alloc::Global;
 use std::process::Abort;
@@ -19,7 +20,7 @@ pub fn octets(rt: &impl Abort, alloc: Global, front: &[u8], text: &str) -> Vec<u
 pub fn row_octets(rt: &impl Abort, alloc: Global, front: &[u8], row: &str) -> Vec<u8> {
     let mut fields = Fields::of(row);
     let text = fields.text();
-    assert!(rt; fields.is_right());
+    holds(rt, fields.is_right());
     octets(rt, alloc, front, text)
 }
 
@@ -32,13 +33,10 @@ pub fn add_digits(rt: &impl Abort, octets: &mut Vec<u8>, text: &str) {
 
 // The octet of two digits.
 fn octet_of(rt: &impl Abort, digits: &str) -> u8 {
-    let Ok(octet) = u8::from_str_radix(digits, 16) else {
-        panic!(rt; "no octet: {digits}")
-    };
-    octet
+    u8::from_str_radix(digits, 16).ok().expect(rt, digits)
 }
 
 /// Adds octets.
 pub fn add(rt: &impl Abort, octets: &mut Vec<u8>, more: &[u8]) {
-    assert!(rt; octets.extend_from_slice(more).is_ok());
+    holds(rt, octets.extend_from_slice(more).is_ok());
 }

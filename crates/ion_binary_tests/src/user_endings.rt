@@ -6,7 +6,7 @@ use crate::imports::{FOUND, NOT_FOUND};
 use crate::limits::LIMITS;
 use crate::pieces::{Pieces, in_pieces, whole};
 use crate::reading::{Outcome, read, read_each_way};
-use crate::same::same;
+use crate::same::{holds, same};
 use crate::tables::catalog_of;
 use ion_meter::fault::Fault;
 use ion_meter::limits::Limits;
@@ -137,8 +137,8 @@ fn a_read_that_fails_ends_a_declaration(rt: HostRuntime) {
 
 // Asserts what a symbol table cost, and that the raw reader held what it holds alone.
 fn expect_costs(rt: &impl Abort, told: &Outcome, raw: &Outcome, cost: u64) {
-    assert!(rt; told.held == told.raw_held.saturating_add(cost));
-    assert!(rt; raw.raw_held == told.raw_held || told.ending.is_err());
+    holds(rt, told.held == told.raw_held.saturating_add(cost));
+    holds(rt, raw.raw_held == told.raw_held || told.ending.is_err());
 }
 
 // Octets, what their symbol table costs, and their words.
@@ -161,7 +161,7 @@ fn expect_given_back(rt: &impl Abort, alloc: Global, catalog: &Catalog<Global>, 
     let input = whole(octets.as_slice());
     let told = read(rt, alloc, LIMITS, Some(catalog), input);
     told.expect(rt, alloc, "", fields.text());
-    assert!(rt; fields.is_read());
+    holds(rt, fields.is_read());
     let raw = read(rt, alloc, LIMITS, None, input);
     expect_costs(rt, &told, &raw, cost);
 }

@@ -9,7 +9,7 @@ use crate::hex::{MARKER, add, add_digits, octets};
 use crate::limits::LIMITS;
 use crate::pieces::{Pieces, in_pieces, whole};
 use crate::reading::{MANY, Outcome, expect_little};
-use crate::same::same;
+use crate::same::{holds, same};
 use crate::tables::catalog_of;
 use crate::written_rows::{DRAWN, SPELLINGS, SYMBOLS, TIMESTAMPS, UNKNOWN};
 use ion_binary::reader::BinReader;
@@ -123,7 +123,7 @@ fn copy_stream<R: RawReader<A>, W: ValueWriter<O, A>, O: Output, A: Allocator + 
     requires held { 4096 + R.own raw + W.own writer.old ≤ meter.old.held }
     ensures held { 4096 + R.own result + W.own writer.new ≤ meter.new.held }
 {
-    assert!(rt; LIMITS.check());
+    holds(rt, LIMITS.check());
     let mut reader = UserReader::new(meter, LIMITS, raw, catalog);
     let answer = copy_all(rt, meter, &mut reader, writer, sink, told);
     let flushed = sink.flush();
@@ -145,7 +145,7 @@ fn write_between<P: Read + Drop, Q: Write + Drop, A: Allocator + Copy>(
     requires stands { Stands source }
     requires held { 8192 ≤ meter.old.held }
 {
-    assert!(rt; LIMITS.check());
+    holds(rt, LIMITS.check());
     let raw = BinReader::new(meter, LIMITS, source);
     let mut writer = BinWriter::new(meter, LIMITS);
     let raw = copy_stream(rt, meter, catalog, raw, &mut writer, &mut sink, told);
@@ -189,7 +189,7 @@ fn write_again<P: Read + Drop, Q: Write + Drop, A: Allocator + Copy>(
     output: Q,
     told: &mut Outcome,
 ) -> Q {
-    assert!(rt; LIMITS.check());
+    holds(rt, LIMITS.check());
     expect_little(rt, meter);
     told.ending = Err(Fault::Memory);
     match Source::new(meter, LIMITS, FromRead::new(input)) {
@@ -240,7 +240,7 @@ fn expect_row(rt: &impl Abort, alloc: Global, row: &str, known: bool) {
     let mut fields = Fields::of(row);
     let input = fields.text();
     let want = fields.text();
-    assert!(rt; fields.is_read());
+    holds(rt, fields.is_read());
     let told = expect_written(rt, alloc, 1, input, want);
     let again = expect_written(rt, alloc, 0, want, want);
     same(rt, (input, again.tops.len()), (input, told.tops.len()));
@@ -315,7 +315,7 @@ fn expect_failing(rt: &impl Abort, alloc: Global, octets: &[u8], room: usize, it
     };
     let given = (room, told.ending, told.tops.len(), device.taken.len());
     same(rt, given, (room, want, items, room));
-    assert!(rt; octets.starts_with(device.taken.as_slice()));
+    holds(rt, octets.starts_with(device.taken.as_slice()));
 }
 
 /// Rooms of a device, each with how many of three long strings were put.
@@ -355,7 +355,7 @@ fn a_device_that_fails_has_the_bytes_before(rt: HostRuntime) {
 
 /// Asserts how a run ends that has met a refusal, or has not, and what is written.
 fn expect_refused(rt: &impl Abort, told: &Outcome, octets: &[u8], output: &[u8], is_met: bool) {
-    assert!(rt; octets.starts_with(output));
+    holds(rt, octets.starts_with(output));
     if is_met {
         same(rt, told.ending, Err(Fault::Memory));
     } else {

@@ -1,7 +1,7 @@
 // What no contract says: that the calls succeed, also right after a refusal or beside a device that fails, and what they print.
 ghost use Rattle.std.specs.Prelude.{◌≡◌, ◌^◌, ◌<◌};
 
-use crate::same::same;
+use crate::same::{holds, same};
 use ion_meter::limits::Limits;
 use ion_meter::meter::Meter;
 use ion_test_support::refusing::Refusing;
@@ -80,8 +80,8 @@ pub(crate) fn counts_of<A: Allocator + Copy>(rt: &impl Abort, meter: &Meter<A>) 
         peak: meter.peak(),
         refused: meter.refused(),
     };
-    assert!(rt; counted.held < 1 << 32);
-    assert!(rt; counted.refused < 1 << 32);
+    holds(rt, counted.held < 1 << 32);
+    holds(rt, counted.refused < 1 << 32);
     counted
 }
 

@@ -1,15 +1,15 @@
 //! Streams that are cut short, and small limits.
 
-use crate::hex::MARKER;
+use crate::hex::{MARKER, row_octets};
 use crate::limits::LIMITS;
 use crate::pieces::whole;
 use crate::reading::{Outcome, read, read_each_way};
-use crate::rows::{is_row, row_octets};
-use crate::same::same;
+use crate::same::{holds, same};
 use crate::streams;
 use crate::tables::RAW;
 use ion_meter::fault::{Fault, Reason};
 use ion_meter::limits::Limits;
+use ion_test_support::fields::is_row;
 use std::alloc::Global;
 use std::process::Abort;
 
@@ -76,7 +76,7 @@ fn expect_narrower(rt: &impl Abort, narrow: &Outcome, all: &Outcome) {
         _ => false,
     };
     let begins = all.items.as_str().starts_with(narrow.items.as_str());
-    assert!(rt; begins && (is_cut || narrow.is_same(all)));
+    holds(rt, begins && (is_cut || narrow.is_same(all)));
 }
 
 // Asserts that small limits only cut the reading of these octets short.

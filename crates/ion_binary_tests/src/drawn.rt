@@ -2,8 +2,10 @@
 
 use crate::cut_short::expect_prefixes;
 use crate::hex::octets;
+use crate::limits::LIMITS;
 use crate::reading::read_each_way;
-use crate::rows::{Fields, is_row};
+use crate::same::holds;
+use ion_test_support::fields::{Fields, is_row};
 use std::alloc::Global;
 use std::process::Abort;
 
@@ -64,9 +66,10 @@ E0 01 00 EA DE 00 95 87 CE 92 EE 90 81 80 6D 40 80 4E 8F 8C 00 9C 8C 00 9E 00 80
 // Asserts how a stream ends, in whatever pieces it comes, and cut short at each place.
 fn expect_refused(rt: &impl Abort, alloc: Global, row: &str) {
     let mut fields = Fields::of(row);
-    let octets = octets(rt, alloc, b"", fields.text(rt));
-    let ending = fields.text(rt);
-    let limits = fields.limits(rt);
+    let octets = octets(rt, alloc, b"", fields.text());
+    let ending = fields.text();
+    let limits = fields.limits(LIMITS);
+    holds(rt, fields.is_read());
     let all = read_each_way(rt, alloc, limits, None, octets.as_slice());
     all.expect_end(rt, alloc, ending);
     expect_prefixes(rt, alloc, limits, octets.as_slice());

@@ -1,14 +1,14 @@
 //! What stands after an ending, and endings that are no fault of the stream.
 
-use crate::hex::{MARKER, octets};
+use crate::hex::{MARKER, octets, row_octets};
 use crate::limits::LIMITS;
 use crate::pieces::{Pieces, in_pieces, whole};
 use crate::reading::{Outcome, read, read_to};
-use crate::rows::{is_row, row_octets};
-use crate::same::same;
+use crate::same::{holds, same};
 use crate::tables::RAW;
 use ion_meter::fault::Fault;
 use ion_meter::limits::Limits;
+use ion_test_support::fields::is_row;
 use std::alloc::Global;
 use std::process::Abort;
 
@@ -28,7 +28,7 @@ fn read_past_end(rt: &impl Abort, alloc: Global, limits: Limits, input: Pieces<'
     let mut once = Outcome::new(alloc, 0, 0);
     read_to(rt, alloc, limits, None, input, &mut once);
     let again = read(rt, alloc, limits, None, input);
-    assert!(rt; again.is_same(&once));
+    holds(rt, again.is_same(&once));
     same(rt, (again.left, again.reads), (once.left, once.reads));
     again
 }
@@ -71,7 +71,7 @@ fn expect_failing_reads(rt: &impl Abort, alloc: Global, octets: &[u8]) {
         sound: all.reads,
         ..input
     };
-    assert!(rt; read_past_end(rt, alloc, LIMITS, late).is_same(&all));
+    holds(rt, read_past_end(rt, alloc, LIMITS, late).is_same(&all));
 }
 
 #[test]

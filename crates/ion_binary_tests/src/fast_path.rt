@@ -12,8 +12,7 @@ ghost use Rattle.ion_value.specs.Feeding.{CanTake};
 use crate::hex::{MARKER, add, add_digits, octets};
 use crate::limits::LIMITS;
 use crate::reading::expect_little;
-use crate::rows::{Fields, is_row};
-use crate::same::same;
+use crate::same::{holds, same};
 use ion_binary::reader::BinReader;
 use ion_binary::writer::BinWriter;
 use ion_meter::device::{Input, Output};
@@ -24,6 +23,7 @@ use ion_meter::source::Source;
 use ion_meter::stream::{FromRead, ToWrite};
 use ion_symbols::catalog::Catalog;
 use ion_symbols::user::UserReader;
+use ion_test_support::fields::{Fields, is_row};
 use ion_text_in::reader::TextReader;
 use ion_text_out::writer::TextWriter;
 use ion_value::reader::RawReader;
@@ -178,14 +178,12 @@ fn turns_of<I: Input + Drop, O: Output>(
 
 // How many items of a stream that lies whole in the window are put one at a time.
 fn count(rt: &impl Abort, alloc: Global, stream: &[u8], target: Target) -> u64 {
-    assert!(rt; LIMITS.check());
+    holds(rt, LIMITS.check());
     let mut meter = Meter::new(alloc);
-    let Ok(source) = Source::new(&mut meter, LIMITS, FromRead::new(stream)) else {
-        panic!(rt; "no window")
-    };
-    let Ok(mut sink) = Sink::new(&mut meter, ToWrite::new(Vec::new(alloc))) else {
-        panic!(rt; "no window")
-    };
+    let source = Source::new(&mut meter, LIMITS, FromRead::new(stream));
+    let source = source.ok().expect(rt, "a window");
+    let sink = Sink::new(&mut meter, ToWrite::new(Vec::new(alloc)));
+    let mut sink = sink.ok().expect(rt, "a window");
     let is_binary = stream.starts_with(MARKER);
     turns_of(rt, &mut meter, LIMITS, is_binary, source, target, &mut sink)
 }
@@ -342,23 +340,23 @@ fn lines(rt: &impl Abort, alloc: Global, text: &str) -> Vec<u8> {
 // Asserts how many items of a text are put one at a time.
 fn expect_text(rt: &impl Abort, alloc: Global, row: &str) {
     let mut fields = Fields::of(row);
-    let stream = lines(rt, alloc, fields.text(rt));
+    let stream = lines(rt, alloc, fields.text());
     let text = count(rt, alloc, stream.as_slice(), Target::Text);
-    same(rt, (row, text), (row, fields.number(rt)));
+    same(rt, (row, text), (row, fields.number()));
     let binary = count(rt, alloc, stream.as_slice(), Target::Binary);
-    same(rt, (row, binary), (row, fields.number(rt)));
-    fields.end(rt);
+    same(rt, (row, binary), (row, fields.number()));
+    holds(rt, fields.is_read());
 }
 
 // Asserts how many items of octets are put one at a time.
 fn expect_octets(rt: &impl Abort, alloc: Global, row: &str) {
     let mut fields = Fields::of(row);
     let mut stream = octets(rt, alloc, MARKER, "B1 20");
-    add_digits(rt, &mut stream, fields.text(rt));
+    add_digits(rt, &mut stream, fields.text());
     add(rt, &mut stream, b"\x20");
     let text = count(rt, alloc, stream.as_slice(), Target::Text);
-    same(rt, (row, text), (row, fields.number(rt)));
-    fields.end(rt);
+    same(rt, (row, text), (row, fields.number()));
+    holds(rt, fields.is_read());
 }
 
 #[test]

@@ -1,5 +1,7 @@
 //! Octets as the tables write them.
 
+use crate::same::holds;
+use ion_test_support::fields::Fields;
 use std::alloc::Global;
 use std::process::Abort;
 
@@ -14,6 +16,14 @@ pub fn octets(rt: &impl Abort, alloc: Global, front: &[u8], text: &str) -> Vec<u
     octets
 }
 
+/// The octets of a row's first field behind some others.
+pub fn row_octets(rt: &impl Abort, alloc: Global, front: &[u8], row: &str) -> Vec<u8> {
+    let mut fields = Fields::of(row);
+    let text = fields.text();
+    holds(rt, fields.is_right());
+    octets(rt, alloc, front, text)
+}
+
 /// Adds the octets of a text.
 pub fn add_digits(rt: &impl Abort, octets: &mut Vec<u8>, text: &str) {
     for digits in text.split_whitespace() {
@@ -23,13 +33,10 @@ pub fn add_digits(rt: &impl Abort, octets: &mut Vec<u8>, text: &str) {
 
 // The octet of two digits.
 fn octet_of(rt: &impl Abort, digits: &str) -> u8 {
-    let Ok(octet) = u8::from_str_radix(digits, 16) else {
-        panic!(rt; "no octet: {digits}")
-    };
-    octet
+    u8::from_str_radix(digits, 16).ok().expect(rt, digits)
 }
 
 /// Adds octets.
 pub fn add(rt: &impl Abort, octets: &mut Vec<u8>, more: &[u8]) {
-    assert!(rt; octets.extend_from_slice(more).is_ok());
+    holds(rt, octets.extend_from_slice(more).is_ok());
 }

@@ -41,10 +41,6 @@ mod plainly;
 #[cfg(test)]
 mod reading;
 #[cfg(test)]
-mod refusing;
-#[cfg(test)]
-mod rows;
-#[cfg(test)]
 mod same;
 #[cfg(test)]
 mod scalars;

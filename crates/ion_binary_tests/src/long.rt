@@ -4,7 +4,7 @@ use crate::hex::{MARKER, add, octets};
 use crate::limits::LIMITS;
 use crate::pieces::{Pieces, in_pieces, whole};
 use crate::reading::{Outcome, read, read_to};
-use crate::same::same;
+use crate::same::{holds, same};
 use crate::tables::catalog_of;
 use ion_meter::limits::Limits;
 use ion_value::var::var_uint_write;
@@ -147,11 +147,11 @@ fn after(octet: u8) -> u8 {
 }
 
 fn add_words(rt: &impl Abort, words: &mut String, more: &str) {
-    assert!(rt; words.push_str(more).is_ok());
+    holds(rt, words.push_str(more).is_ok());
 }
 
 fn add_octet(rt: &impl Abort, words: &mut String, octet: u8) {
-    assert!(rt; write!(words, " {octet:02X}").is_ok());
+    holds(rt, write!(words, " {octet:02X}").is_ok());
 }
 
 fn blob_words(rt: &impl Abort, alloc: Global) -> String {
@@ -250,7 +250,7 @@ fn expect_late(rt: &impl Abort, alloc: Global, zeros: &[u8], stream: &[u8], word
 
 // Asserts that a stream is read to the same words at each place of the first window's end.
 fn expect_in_two_windows(rt: &impl Abort, alloc: Global, stream: &[u8]) {
-    assert!(rt; stream.len() <= 1_000);
+    holds(rt, stream.len() <= 1_000);
     let words = read(rt, alloc, LIMITS, None, whole(stream)).words(rt, alloc);
     for before in 0..=stream.len() {
         expect_late(rt, alloc, &ZEROS[before..], stream, words.as_str());

@@ -7,8 +7,7 @@ use crate::hex::octets;
 use crate::limits::LIMITS;
 use crate::pieces::whole;
 use crate::reading::expect_little;
-use crate::refusing::Refusing;
-use crate::same::same;
+use crate::same::{holds, same};
 use ion_binary::reader::BinReader;
 use ion_meter::fault::Fault;
 use ion_meter::meter::Meter;
@@ -17,6 +16,7 @@ use ion_meter::stream::FromRead;
 use ion_symbols::buffer::SymbolBuffer;
 use ion_symbols::catalog::Catalog;
 use ion_symbols::symbols::{Slot, Symbols};
+use ion_test_support::refusing::Refusing;
 use ion_value::ion_type::Kind;
 use ion_value::item::Head;
 use ion_value::reader::RawReader;
@@ -152,11 +152,10 @@ fn has_growth(
     onward: bool,
 ) -> bool {
     refusing.refuse(0, false);
-    assert!(rt; LIMITS.check());
+    holds(rt, LIMITS.check());
     let mut meter = Meter::new(refusing);
-    let Ok(source) = Source::new(&mut meter, LIMITS, FromRead::new(whole(octets))) else {
-        panic!(rt; "no memory for the window")
-    };
+    let source = Source::new(&mut meter, LIMITS, FromRead::new(whole(octets)));
+    let source = source.ok().expect(rt, "memory for the window");
     let mut raw = BinReader::new(&meter, LIMITS, source);
     let is_met = is_met(rt, &mut meter, &mut raw, refusing, nth, onward);
     let _device = raw.release(&mut meter);

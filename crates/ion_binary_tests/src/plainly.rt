@@ -7,6 +7,7 @@ ghost use Rattle.ion_value.specs.Standing.{Fits, HeadInRange, is_marker, open_be
 ghost use Rattle.ion_value.specs.Value.{PlacedItem, Text};
 
 use crate::reading::expect_little;
+use crate::same::holds;
 use crate::written::{FIELDS, Step, TEXTS, go_on};
 use ion_meter::device::Output;
 use ion_meter::meter::Meter;
@@ -163,7 +164,7 @@ pub fn is_put<W: ValueWriter<O, Global>, O: Output>(
     ensures held { meter.new.held ≡ 4096 + W.own writer.new }
 {
     expect_little(rt, meter);
-    assert!(rt; may_stand(depth, kinds.as_slice(), &item));
+    holds(rt, may_stand(depth, kinds.as_slice(), &item));
     if !writer.take_plain(meter, sink, item) {
         return false;
     }

@@ -4,7 +4,7 @@ ghost use Rattle.ion_meter.specs.Limits.{AreChecked};
 ghost use Rattle.ion_symbols.specs.User.{IsReady, owned_by};
 
 use crate::pieces::{Pieces, in_pieces, whole};
-use crate::same::same;
+use crate::same::{holds, same};
 use crate::telling::tell_item;
 use ion_binary::reader::BinReader;
 use ion_meter::fault::Fault;
@@ -73,9 +73,9 @@ impl Outcome {
 
     /// Adds an item.
     pub fn add<N: Names>(&mut self, rt: &impl Abort, item: &Item<'_, N>) {
-        assert!(rt; self.ends == 0);
-        assert!(rt; tell_item(&mut self.items, item, self.from).is_ok());
-        assert!(rt; self.tops.push(item.top()).is_ok());
+        holds(rt, self.ends == 0);
+        holds(rt, tell_item(&mut self.items, item, self.from).is_ok());
+        holds(rt, self.tops.push(item.top()).is_ok());
         match item.head() {
             Head::Begin(_) => self.open = self.open.saturating_add(1),
             Head::End => self.open = self.open.saturating_sub(1),
@@ -111,10 +111,7 @@ impl Outcome {
 
     /// The words of the items and of the ending: "end", or a reason and a place.
     pub fn words(&self, rt: &impl Abort, alloc: Global) -> String {
-        let Ok(words) = self.told(alloc) else {
-            panic!(rt; "no memory")
-        };
-        words
+        self.told(alloc).expect(rt, "memory")
     }
 
     /// Asserts the words, behind those before.
@@ -150,8 +147,8 @@ pub fn expect_little<A: Allocator + Copy>(rt: &impl Abort, meter: &Meter<A>)
     ensures held { meter.now.held < 2 ^ 32 }
     ensures refused { meter.now.refused < 2 ^ 32 }
 {
-    assert!(rt; meter.held() < 1 << 32);
-    assert!(rt; meter.refused() < 1 << 32);
+    holds(rt, meter.held() < 1 << 32);
+    holds(rt, meter.refused() < 1 << 32);
 }
 
 // Reads raw items to the end.
@@ -249,18 +246,20 @@ pub fn read_to(
     input: Pieces<'_>,
     told: &mut Outcome,
 ) {
-    assert!(rt; limits.check());
+    holds(rt, limits.check());
     let mut meter = Meter::new(alloc);
-    let Ok(source) = Source::new(&mut meter, limits, FromRead::new(input)) else {
-        panic!(rt; "no memory for the window")
-    };
+    let made = Source::new(&mut meter, limits, FromRead::new(input));
+    let source = made.ok().expect(rt, "memory for the window");
     let raw = BinReader::new(&meter, limits, source);
     let raw = read_by(rt, &mut meter, limits, catalog, raw, told);
     told.raw_held = meter.held();
     told.peak = meter.peak();
     let symbols = if catalog.is_some() { limits.symbols } else { 0 };
     let most = 4096 + 16 * limits.depth as u64 + 3 * limits.scalar;
-    assert!(rt; told.peak <= most.saturating_add(symbols.saturating_mul(2)));
+    holds(
+        rt,
+        told.peak <= most.saturating_add(symbols.saturating_mul(2)),
+    );
     let device = raw.release(&mut meter).into_inner();
     same(rt, meter.held(), 0);
     told.reads = device.reads;

@@ -3,12 +3,14 @@ ghost use Rattle.std.specs.Prelude.{◌≤◌};
 ghost use Rattle.ion_symbols.specs.Table.{shared_cost};
 
 use crate::hex::{MARKER, octets};
+use crate::limits::LIMITS;
 use crate::reading::{expect_little, read_each_way};
-use crate::rows::{Fields, is_row};
+use crate::same::holds;
 use crate::{containers, declarations, imports, scalars, streams, wrappers};
 use ion_meter::meter::Meter;
 use ion_symbols::catalog::Catalog;
 use ion_symbols::shared::SharedTable;
+use ion_test_support::fields::{Fields, is_row};
 use std::alloc::Global;
 use std::process::Abort;
 
@@ -89,17 +91,15 @@ fn push(rt: &impl Abort, meter: &mut Meter<Global>, table: &mut SharedTable<Glob
     ensures held { shared_cost table.new ≤ meter.new.held }
 {
     expect_little(rt, meter);
-    assert!(rt; text.len() < 100);
+    holds(rt, text.len() < 100);
     let pushed = table.push(meter, Some(text));
-    assert!(rt; pushed.is_ok());
+    holds(rt, pushed.is_ok());
 }
 
 // This version of the shared table x.
 fn table_of(rt: &impl Abort, alloc: Global, version: u32, texts: &[&str]) -> SharedTable<Global> {
     let mut meter = Meter::new(alloc);
-    let Ok(mut table) = SharedTable::new(&mut meter, "x", version) else {
-        panic!(rt; "no memory")
-    };
+    let mut table = SharedTable::new(&mut meter, "x", version).expect(rt, "memory");
     for text in texts {
         push(rt, &mut meter, &mut table, text);
     }
@@ -114,7 +114,7 @@ pub fn catalog_of(rt: &impl Abort, alloc: Global, versions: usize) -> Catalog<Gl
         let table = table_of(rt, alloc, *version, texts);
         expect_little(rt, &meter);
         let added = catalog.add(&mut meter, table);
-        assert!(rt; added.is_ok());
+        holds(rt, added.is_ok());
     }
     catalog
 }
@@ -129,9 +129,11 @@ fn expect_row(
 ) {
     let (front, before, _) = form;
     let mut fields = Fields::of(row);
-    let octets = octets(rt, alloc, front, fields.text(rt));
-    let words = fields.text(rt);
-    let all = read_each_way(rt, alloc, fields.limits(rt), catalog, octets.as_slice());
+    let octets = octets(rt, alloc, front, fields.text());
+    let words = fields.text();
+    let limits = fields.limits(LIMITS);
+    holds(rt, fields.is_read());
+    let all = read_each_way(rt, alloc, limits, catalog, octets.as_slice());
     all.expect(rt, alloc, before, words);
 }
 
@@ -150,7 +152,7 @@ fn expect_rows(
             is_met = true;
         }
     }
-    assert!(rt; is_met);
+    holds(rt, is_met);
 }
 
 // Asserts what is read of the rows of tables.

@@ -1,17 +1,17 @@
 //! How a reader of user values ends beside the raw one, and what it gives back then.
 
 use crate::declarations::{APPENDED, DECLARED, PLAIN, REFUSED};
-use crate::hex::{MARKER, octets};
+use crate::hex::{MARKER, octets, row_octets};
 use crate::imports::{FOUND, NOT_FOUND};
 use crate::limits::LIMITS;
 use crate::pieces::{Pieces, in_pieces, whole};
 use crate::reading::{Outcome, read, read_each_way};
-use crate::rows::{Fields, is_row, row_octets};
-use crate::same::same;
+use crate::same::{holds, same};
 use crate::tables::catalog_of;
 use ion_meter::fault::Fault;
 use ion_meter::limits::Limits;
 use ion_symbols::catalog::Catalog;
+use ion_test_support::fields::{Fields, is_row};
 use std::alloc::Global;
 use std::process::Abort;
 
@@ -137,8 +137,8 @@ fn a_read_that_fails_ends_a_declaration(rt: HostRuntime) {
 
 // Asserts what a symbol table cost, and that the raw reader held what it holds alone.
 fn expect_costs(rt: &impl Abort, told: &Outcome, raw: &Outcome, cost: u64) {
-    assert!(rt; told.held == told.raw_held.saturating_add(cost));
-    assert!(rt; raw.raw_held == told.raw_held || told.ending.is_err());
+    holds(rt, told.held == told.raw_held.saturating_add(cost));
+    holds(rt, raw.raw_held == told.raw_held || told.ending.is_err());
 }
 
 // Octets, what their symbol table costs, and their words.
@@ -156,12 +156,12 @@ E7 81 83 D4 87 B2 81 61 EC 81 83 D9 87 B2 81 62 87 B2 81 63 20|17|BadTable at 20
 // Asserts that the symbol table of a row is given back, and then what the raw reader holds.
 fn expect_given_back(rt: &impl Abort, alloc: Global, catalog: &Catalog<Global>, row: &str) {
     let mut fields = Fields::of(row);
-    let octets = octets(rt, alloc, MARKER, fields.text(rt));
-    let cost = fields.number(rt);
+    let octets = octets(rt, alloc, MARKER, fields.text());
+    let cost = fields.number();
     let input = whole(octets.as_slice());
     let told = read(rt, alloc, LIMITS, Some(catalog), input);
-    told.expect(rt, alloc, "", fields.text(rt));
-    fields.end(rt);
+    told.expect(rt, alloc, "", fields.text());
+    holds(rt, fields.is_read());
     let raw = read(rt, alloc, LIMITS, None, input);
     expect_costs(rt, &told, &raw, cost);
 }

@@ -8,7 +8,7 @@ ghost use Rattle.ion_value.specs.Value.{PlacedItem};
 
 use crate::plainly::{is_put, plain_of};
 use crate::reading::expect_little;
-use crate::same::same;
+use crate::same::{holds, same};
 use ion_binary::writer::BinWriter;
 use ion_meter::device::Output;
 use ion_meter::fault::Fault;
@@ -200,7 +200,7 @@ fn put_one<W: ValueWriter<O, Global>, O: Output, N: Names>(
     ensures held { meter.new.held ≡ 4096 + W.own writer.new }
 {
     expect_little(rt, meter);
-    assert!(rt; may_stand(depth, kinds.as_slice(), item));
+    holds(rt, may_stand(depth, kinds.as_slice(), item));
     if let Err(fault) = writer.item(meter, sink, item) {
         expect_little(rt, meter);
         same(rt, writer.item(meter, sink, item), Err(fault));
@@ -243,9 +243,7 @@ fn put_all<W: ValueWriter<O, Global>, O: Output>(
     'steps: for (place, step) in way.steps.iter().enumerate() {
         let (field, annotations, part) = *step;
         let place = place as u64;
-        let Some(head) = head_of(part, place) else {
-            panic!(rt; "no value")
-        };
+        let head = head_of(part, place).expect(rt, "a value");
         let field = match field {
             Some(text) => Some(symbol(text, place.saturating_add(FIELDS))),
             None => None,
@@ -305,11 +303,10 @@ fn put_so<D: Write + Drop>(
     want: Result<(), Fault>,
     device: D,
 ) -> D {
-    assert!(rt; limits.check());
+    holds(rt, limits.check());
     let mut meter = Meter::new(alloc);
-    let Ok(mut sink) = Sink::new(&mut meter, ToWrite::new(device)) else {
-        panic!(rt; "no window")
-    };
+    let sink = Sink::new(&mut meter, ToWrite::new(device));
+    let mut sink = sink.ok().expect(rt, "a window");
     let mut writer = BinWriter::new(&meter, limits);
     let depth = limits.depth;
     let answer = put_all(rt, alloc, &mut meter, &mut sink, &mut writer, depth, way);
@@ -321,7 +318,7 @@ fn put_so<D: Write + Drop>(
     );
     writer.release(&mut meter);
     let most = 4096 + 16 * limits.depth as u64 + limits.value + limits.symbols;
-    assert!(rt; meter.peak() <= most);
+    holds(rt, meter.peak() <= most);
     let device = sink.release(&mut meter).into_inner();
     same(rt, meter.held(), 0);
     device

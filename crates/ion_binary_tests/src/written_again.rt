@@ -9,9 +9,7 @@ use crate::hex::{MARKER, add, add_digits, octets};
 use crate::limits::LIMITS;
 use crate::pieces::{Pieces, in_pieces, whole};
 use crate::reading::{MANY, Outcome, expect_little};
-use crate::refusing::Refusing;
-use crate::rows::{Fields, is_row};
-use crate::same::same;
+use crate::same::{holds, same};
 use crate::tables::catalog_of;
 use crate::written_rows::{DRAWN, SPELLINGS, SYMBOLS, TIMESTAMPS, UNKNOWN};
 use ion_binary::reader::BinReader;
@@ -24,6 +22,8 @@ use ion_meter::source::Source;
 use ion_meter::stream::{FromRead, ToWrite};
 use ion_symbols::catalog::Catalog;
 use ion_symbols::user::UserReader;
+use ion_test_support::fields::{Fields, is_row};
+use ion_test_support::refusing::Refusing;
 use ion_value::reader::RawReader;
 use ion_value::writer::ValueWriter;
 use std::alloc::{Allocator, Global};
@@ -123,7 +123,7 @@ fn copy_stream<R: RawReader<A>, W: ValueWriter<O, A>, O: Output, A: Allocator + 
     requires held { 4096 + R.own raw + W.own writer.old ≤ meter.old.held }
     ensures held { 4096 + R.own result + W.own writer.new ≤ meter.new.held }
 {
-    assert!(rt; LIMITS.check());
+    holds(rt, LIMITS.check());
     let mut reader = UserReader::new(meter, LIMITS, raw, catalog);
     let answer = copy_all(rt, meter, &mut reader, writer, sink, told);
     let flushed = sink.flush();
@@ -145,7 +145,7 @@ fn write_between<P: Read + Drop, Q: Write + Drop, A: Allocator + Copy>(
     requires stands { Stands source }
     requires held { 8192 ≤ meter.old.held }
 {
-    assert!(rt; LIMITS.check());
+    holds(rt, LIMITS.check());
     let raw = BinReader::new(meter, LIMITS, source);
     let mut writer = BinWriter::new(meter, LIMITS);
     let raw = copy_stream(rt, meter, catalog, raw, &mut writer, &mut sink, told);
@@ -189,7 +189,7 @@ fn write_again<P: Read + Drop, Q: Write + Drop, A: Allocator + Copy>(
     output: Q,
     told: &mut Outcome,
 ) -> Q {
-    assert!(rt; LIMITS.check());
+    holds(rt, LIMITS.check());
     expect_little(rt, meter);
     told.ending = Err(Fault::Memory);
     match Source::new(meter, LIMITS, FromRead::new(input)) {
@@ -238,9 +238,9 @@ fn expect_written(
 /// they are known, and else as many.
 fn expect_row(rt: &impl Abort, alloc: Global, row: &str, known: bool) {
     let mut fields = Fields::of(row);
-    let input = fields.text(rt);
-    let want = fields.text(rt);
-    fields.end(rt);
+    let input = fields.text();
+    let want = fields.text();
+    holds(rt, fields.is_read());
     let told = expect_written(rt, alloc, 1, input, want);
     let again = expect_written(rt, alloc, 0, want, want);
     same(rt, (input, again.tops.len()), (input, told.tops.len()));
@@ -315,7 +315,7 @@ fn expect_failing(rt: &impl Abort, alloc: Global, octets: &[u8], room: usize, it
     };
     let given = (room, told.ending, told.tops.len(), device.taken.len());
     same(rt, given, (room, want, items, room));
-    assert!(rt; octets.starts_with(device.taken.as_slice()));
+    holds(rt, octets.starts_with(device.taken.as_slice()));
 }
 
 /// Rooms of a device, each with how many of three long strings were put.
@@ -355,7 +355,7 @@ fn a_device_that_fails_has_the_bytes_before(rt: HostRuntime) {
 
 /// Asserts how a run ends that has met a refusal, or has not, and what is written.
 fn expect_refused(rt: &impl Abort, told: &Outcome, octets: &[u8], output: &[u8], is_met: bool) {
-    assert!(rt; octets.starts_with(output));
+    holds(rt, octets.starts_with(output));
     if is_met {
         same(rt, told.ending, Err(Fault::Memory));
     } else {
@@ -445,9 +445,10 @@ fn a_stream_that_breaks_off_has_its_whole_values(rt: HostRuntime) {
         if is_row(row) {
             let mut fields = Fields::of(row);
             let before = input.len();
-            add_digits(&rt, &mut input, fields.text(&rt));
+            add_digits(&rt, &mut input, fields.text());
             expect_broken(&rt, rt.alloc(), input.as_slice(), before, want.as_slice());
-            add_digits(&rt, &mut want, fields.text(&rt));
+            add_digits(&rt, &mut want, fields.text());
+            assert!(&rt; fields.is_read());
         }
     }
     let ending = ending_of(&rt, rt.alloc(), whole(input.as_slice()), want.as_slice());

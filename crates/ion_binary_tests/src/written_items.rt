@@ -3,7 +3,7 @@
 use crate::hex::{MARKER, add, octets};
 use crate::limits::LIMITS;
 use crate::new_texts::NEW_TEXTS;
-use crate::same::same;
+use crate::same::{holds, same};
 use crate::written::{Part, Step, put, put_plainly};
 use crate::written_again::FailingOnce;
 use ion_meter::fault::{Fault, Reason};
@@ -644,7 +644,7 @@ fn a_long_text_is_declared(rt: HostRuntime) {
 
 // Adds items.
 fn add_steps(rt: &impl Abort, steps: &mut Vec<Step<'static>>, more: &[Step<'static>]) {
-    assert!(rt; steps.extend_from_slice(more).is_ok());
+    holds(rt, steps.extend_from_slice(more).is_ok());
 }
 
 // Asserts how the octets end that are written of items, in both ways.
@@ -652,7 +652,7 @@ fn expect_end(rt: &impl Abort, alloc: Global, steps: &[Step<'_>], end: &[u8]) {
     let written = put(rt, alloc, LIMITS, steps, Ok(()), Vec::new(alloc));
     let plainly = put_plainly(rt, alloc, LIMITS, steps, Ok(()), Vec::new(alloc));
     same(rt, written.as_slice(), plainly.as_slice());
-    assert!(rt; written.as_slice().ends_with(end));
+    holds(rt, written.as_slice().ends_with(end));
 }
 
 // Texts of the ids from 10 to 256, of symbols and of fields.

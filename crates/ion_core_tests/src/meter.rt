@@ -1,9 +1,10 @@
 // What no contract says: that the calls succeed, also right after a refusal or beside a device that fails, and what they print.
 ghost use Rattle.std.specs.Prelude.{◌≡◌, ◌^◌, ◌<◌};
 
-use crate::same::same;
+use crate::same::{holds, same};
 use ion_meter::limits::Limits;
 use ion_meter::meter::Meter;
+use ion_test_support::refusing::Refusing;
 use std::alloc::{Allocator, Global};
 use std::process::Abort;
 use std::test::Fail;
@@ -11,12 +12,9 @@ use std::test::Fail;
 mod devices;
 mod growing;
 mod heap;
-pub(crate) mod refusing;
 mod shapes;
 mod std_devices;
 mod windows;
-
-use refusing::Refusing;
 
 /// Limits that short texts keep.
 const LIMITS: Limits = Limits {
@@ -82,8 +80,8 @@ pub(crate) fn counts_of<A: Allocator + Copy>(rt: &impl Abort, meter: &Meter<A>) 
         peak: meter.peak(),
         refused: meter.refused(),
     };
-    assert!(rt; counted.held < 1 << 32);
-    assert!(rt; counted.refused < 1 << 32);
+    holds(rt, counted.held < 1 << 32);
+    holds(rt, counted.refused < 1 << 32);
     counted
 }
 

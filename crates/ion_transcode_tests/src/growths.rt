@@ -4,8 +4,7 @@ ghost use Rattle.ion_symbols.specs.Table.{catalog_cost};
 
 use super::devices::answer;
 use super::growth_rows::{CATALOGS, IMPORTS, LIMITED, OCTETS, TEXTS};
-use super::refusing::Refusing;
-use super::rows::{Fields, Verdict, answer_of, form_of, is_row};
+use super::rows::{Verdict, answer_of, form_of, next_bytes, next_verdict};
 use super::runs::LIMITS;
 use super::same::same;
 use super::to_binary::{NESTED, nested_strings};
@@ -14,6 +13,8 @@ use ion_meter::limits::Limits;
 use ion_meter::meter::Meter;
 use ion_meter::stream::{FromRead, ToWrite};
 use ion_symbols::catalog::Catalog;
+use ion_test_support::fields::{Fields, is_row};
+use ion_test_support::refusing::Refusing;
 use ion_transcode::load::load_catalog;
 use ion_transcode::run::{bound, run};
 use ion_transcode::to::{Form, Summary, To};
@@ -164,20 +165,21 @@ fn refuse_each_way(rt: &impl Abort, alloc: Global, heap: &LocalHeap, row: Row) -
 /// Refuses each growth in turn of the stream of a row.
 fn refuse_stream(rt: &impl Abort, alloc: Global, heap: &LocalHeap, row: &str) -> u64 {
     let mut fields = Fields::of(row);
-    let input = fields.bytes(rt, alloc);
-    let verdict = fields.verdict(rt);
-    let shown = fields.bytes(rt, alloc);
-    let verdict_to_binary = fields.verdict(rt);
-    let octets = fields.bytes(rt, alloc);
+    let input = next_bytes(rt, alloc, &mut fields);
+    let verdict = next_verdict(rt, &mut fields);
+    let shown = next_bytes(rt, alloc, &mut fields);
+    let verdict_to_binary = next_verdict(rt, &mut fields);
+    let octets = next_bytes(rt, alloc, &mut fields);
     let row = Row {
-        catalog: fields.text(rt),
+        catalog: fields.text(),
         input: input.as_slice(),
-        limits: fields.limits(rt),
+        limits: fields.limits(LIMITS),
         verdict,
         shown: shown.as_slice(),
         verdict_to_binary,
         octets: octets.as_slice(),
     };
+    assert!(rt; fields.is_read());
     refuse_each_way(rt, alloc, heap, row)
 }
 
@@ -308,8 +310,8 @@ fn refuse_each_of_load(rt: &impl Abort, heap: &LocalHeap, text: &str, verdict: V
 /// Refuses each growth in turn of the loading of a row's catalogue.
 fn refuse_catalogue(rt: &impl Abort, heap: &LocalHeap, row: &str) -> u64 {
     let mut fields = Fields::of(row);
-    let text = fields.text(rt);
-    let verdict = fields.verdict(rt);
-    fields.end(rt);
+    let text = fields.text();
+    let verdict = next_verdict(rt, &mut fields);
+    assert!(rt; fields.is_read());
     refuse_each_of_load(rt, heap, text, verdict)
 }

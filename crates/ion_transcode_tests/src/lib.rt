@@ -20,8 +20,6 @@ mod heaps;
 #[cfg(test)]
 mod laws;
 #[cfg(test)]
-mod refusing;
-#[cfg(test)]
 mod round_trip;
 #[cfg(test)]
 mod rows;

@@ -2,9 +2,10 @@
 
 use super::catalogs::expect_load;
 use super::round_trip::{expect_by, expect_round_trip};
-use super::rows::{Fields, answer_of, is_row};
-use super::runs::{Case, expect_octets, expect_text};
+use super::rows::{answer_of, next_bytes, next_verdict};
+use super::runs::{Case, LIMITS, expect_octets, expect_text};
 use super::to_binary::expect_converted;
+use ion_test_support::fields::{Fields, is_row};
 use std::alloc::Global;
 use std::process::Abort;
 
@@ -30,18 +31,21 @@ pub enum Kind {
 /// Asserts what comes of the stream of a row.
 fn expect_row(rt: &impl Abort, alloc: Global, kind: Kind, row: &str) {
     let mut fields = Fields::of(row);
-    let input = fields.bytes(rt, alloc);
-    let verdict = fields.verdict(rt);
+    let input = next_bytes(rt, alloc, &mut fields);
+    let verdict = next_verdict(rt, &mut fields);
     let output = match kind {
-        Kind::Canonical | Kind::Catalogues | Kind::RoundTrips => Fields::of(row).bytes(rt, alloc),
-        _ => fields.bytes(rt, alloc),
+        Kind::Canonical | Kind::Catalogues | Kind::RoundTrips => {
+            next_bytes(rt, alloc, &mut Fields::of(row))
+        }
+        _ => next_bytes(rt, alloc, &mut fields),
     };
     let case = Case {
         row,
-        limits: fields.limits(rt),
+        limits: fields.limits(LIMITS),
         input: input.as_slice(),
         want: answer_of(input.as_slice(), verdict),
     };
+    assert!(rt; fields.is_read());
     expect(rt, alloc, kind, case, output.as_slice());
 }
 

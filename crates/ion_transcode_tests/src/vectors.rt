@@ -23,13 +23,14 @@ mod text_tokens;
 
 use super::devices;
 use super::devices::Giving;
-use super::rows::{Fields, Verdict, is_row};
+use super::rows::{Verdict, next_bytes, next_checksum, next_verdict};
 use super::runs::{LIMITS, refused, text};
 use super::same::{same, same_at};
 use ion_meter::fault::{Fault, Reason};
 use ion_meter::limits::Limits;
 use ion_meter::meter::Meter;
 use ion_meter::stream::{FromRead, ToWrite};
+use ion_test_support::fields::{Fields, is_row};
 use ion_transcode::load::load_catalog;
 use ion_transcode::run::run;
 use ion_transcode::to::{Form, Summary, To};
@@ -271,13 +272,13 @@ fn expect_mangled(
 /// Asserts what comes of the input of a row, whole and mangled.
 fn expect_row(rt: &impl Abort, alloc: Global, beside: Beside<'_>, sentence: &str, row: &str) {
     let mut fields = Fields::of(row);
-    let input = fields.bytes(rt, alloc);
-    let verdict = fields.verdict(rt);
-    let shown = fields.bytes(rt, alloc);
-    let converted = fields.bytes(rt, alloc);
-    let whole = fields.checksum(rt);
-    let marks = fields.text(rt).as_bytes();
-    fields.end(rt);
+    let input = next_bytes(rt, alloc, &mut fields);
+    let verdict = next_verdict(rt, &mut fields);
+    let shown = next_bytes(rt, alloc, &mut fields);
+    let converted = next_bytes(rt, alloc, &mut fields);
+    let whole = next_checksum(rt, &mut fields);
+    let marks = fields.text().as_bytes();
+    assert!(rt; fields.is_read());
     let vector = Vector {
         sentence,
         row,
@@ -289,7 +290,7 @@ fn expect_row(rt: &impl Abort, alloc: Global, beside: Beside<'_>, sentence: &str
         marks,
     };
     expect_whole(rt, alloc, beside, vector);
-    let mut octets = Fields::of(row).bytes(rt, alloc);
+    let mut octets = next_bytes(rt, alloc, &mut Fields::of(row));
     expect_mangled(rt, alloc, beside, vector, octets.as_mut_slice());
 }
 

@@ -2,7 +2,7 @@
 ghost use Rattle.std.specs.Prelude.{◌≡◌, ◌≤◌};
 
 use super::{LIMITS, counts_of, many_bytes};
-use crate::same::same;
+use crate::same::{holds, same};
 use ion_meter::device::{Broken, Input, Output};
 use ion_meter::fault::Fault;
 use ion_meter::limits::Limits;
@@ -140,11 +140,8 @@ pub fn source_on<I: Input + Drop, A: Allocator + Copy>(
     ensures { 4096 ≤ meter.new.held }
 {
     counts_of(rt, meter);
-    assert!(rt; limits.check());
-    let Ok(source) = Source::new(meter, limits, device) else {
-        panic!(rt; "no memory")
-    };
-    source
+    holds(rt, limits.check());
+    Source::new(meter, limits, device).ok().expect(rt, "memory")
 }
 
 /// A window on this output.
@@ -157,18 +154,13 @@ pub fn sink_on<O: Output + Drop, A: Allocator + Copy>(
     ensures { 4096 ≤ meter.new.held }
 {
     counts_of(rt, meter);
-    let Ok(sink) = Sink::new(meter, device) else {
-        panic!(rt; "no memory")
-    };
-    sink
+    Sink::new(meter, device).ok().expect(rt, "memory")
 }
 
 /// Passes over the next byte, which has to be this one.
 fn pass<I: Input, A: Allocator + Copy>(rt: &impl Abort, source: &mut Source<I, A>, byte: u8) {
-    let Ok(Some(found)) = source.peek(0) else {
-        panic!(rt; "the input has ended")
-    };
-    same(rt, found, byte);
+    let peeked = source.peek(0).expect(rt, "an input");
+    same(rt, peeked.expect(rt, "an input that has not ended"), byte);
     source.advance();
 }
 
@@ -189,7 +181,7 @@ enum Ask<'a> {
 fn answers<I: Input, A: Allocator + Copy>(rt: &impl Abort, source: &mut Source<I, A>, ask: Ask) {
     match ask {
         Ask::Peek(ahead, want) => {
-            assert!(rt; ahead < 16);
+            holds(rt, ahead < 16);
             same(rt, source.peek(ahead), want);
         }
         Ask::Lent(bytes) => same(rt, source.buffer(), bytes),
@@ -309,7 +301,7 @@ fn an_input_may_be_as_long_as_its_limit_and_no_longer(rt: HostRuntime) {
 
 /// Asserts that the input has not ended.
 pub fn has_more<I: Input, A: Allocator + Copy>(rt: &impl Abort, source: &mut Source<I, A>) {
-    assert!(rt; matches!(source.peek(0), Ok(Some(_))));
+    holds(rt, matches!(source.peek(0), Ok(Some(_))));
 }
 
 /// A call on a window on an output, and what it answers.
@@ -327,7 +319,7 @@ pub fn make<O: Output, A: Allocator + Copy>(rt: &impl Abort, sink: &mut Sink<O, 
         Call::Put(bytes, want) => same(rt, sink.put(bytes), want),
         Call::Flush(want) => same(rt, sink.flush(), want),
         Call::Within(bytes, room) => {
-            assert!(rt; bytes.len() < sink.room());
+            holds(rt, bytes.len() < sink.room());
             sink.put_byte(b'>');
             sink.put_within(bytes);
             same(rt, sink.room(), room);

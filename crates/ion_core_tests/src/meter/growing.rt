@@ -2,7 +2,7 @@
 ghost use Rattle.std.specs.Prelude.{◌≡◌, ◌<◌};
 
 use super::{Script, counts_of, is_refused, refuse_each};
-use crate::same::same;
+use crate::same::{holds, same};
 use ion_meter::buf::Buf;
 use ion_meter::fault::Fault;
 use ion_meter::meter::Meter;
@@ -37,11 +37,11 @@ impl<A: Allocator + Copy> Growing<A> for Buf<A> {
         match call {
             Call::Push(byte) => self.push(meter, byte),
             Call::Extend(bytes) => {
-                assert!(rt; bytes.len() < 1_000);
+                holds(rt, bytes.len() < 1_000);
                 self.extend(meter, bytes)
             }
             Call::Insert(place, byte) => {
-                assert!(rt; place <= self.as_slice().len());
+                holds(rt, place <= self.as_slice().len());
                 self.insert(meter, place, byte)
             }
         }
@@ -58,11 +58,11 @@ impl<A: Allocator + Copy> Growing<A> for Stack<u8, A> {
         match call {
             Call::Push(entry) => handed_back(rt, self.push(meter, entry), entry),
             Call::Extend(entries) => {
-                assert!(rt; entries.len() < 1_000);
+                holds(rt, entries.len() < 1_000);
                 self.extend(meter, entries)
             }
             Call::Insert(place, entry) => {
-                assert!(rt; place <= self.as_slice().len());
+                holds(rt, place <= self.as_slice().len());
                 handed_back(rt, self.insert(meter, place, entry), entry)
             }
         }
@@ -86,11 +86,11 @@ impl<A: Allocator + Copy> Growing<A> for Priced<A> {
         match call {
             Call::Push(entry) => handed_back(rt, self.table.push(meter, entry), entry),
             Call::Extend(entries) => {
-                assert!(rt; entries.len() < 1_000);
+                holds(rt, entries.len() < 1_000);
                 self.table.extend(meter, entries)
             }
             Call::Insert(place, entry) => {
-                assert!(rt; place <= self.table.as_slice().len());
+                holds(rt, place <= self.table.as_slice().len());
                 handed_back(rt, self.table.insert(meter, place, entry), entry)
             }
         }
@@ -142,11 +142,11 @@ impl<A: Allocator + Copy> Growing<A> for Spliced<A> {
         match call {
             Call::Push(byte) => self.buf.insert_slice(meter, end, &[byte]),
             Call::Extend(bytes) => {
-                assert!(rt; bytes.len() < 1_000);
+                holds(rt, bytes.len() < 1_000);
                 self.buf.insert_slice(meter, end, bytes)
             }
             Call::Insert(place, byte) => {
-                assert!(rt; place <= end);
+                holds(rt, place <= end);
                 if let Err(fault) = self.buf.extend_zeros(meter, 1) {
                     return Err(fault);
                 }
@@ -174,9 +174,7 @@ fn grow<A: Allocator + Copy>(
     grown: &mut impl Growing<A>,
     call: Call,
 ) {
-    let Ok(contents) = grown.contents().to_vec(alloc) else {
-        panic!(rt; "no memory")
-    };
+    let contents = grown.contents().to_vec(alloc).expect(rt, "memory");
     grow_from(rt, meter, grown, call, contents.as_slice());
 }
 

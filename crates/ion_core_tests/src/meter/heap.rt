@@ -3,7 +3,7 @@ ghost use Rattle.std.specs.Prelude.{◌≡◌};
 
 use super::devices::{has_more, sink_on, source_on};
 use super::{LIMITS, counts_of, many_bytes};
-use crate::same::same;
+use crate::same::{holds, same};
 use ion_meter::buf::Buf;
 use ion_meter::device::{Input, Output};
 use ion_meter::limits::Limits;
@@ -36,11 +36,11 @@ fn copy_window<I: Input, O: Output, A: Allocator + Copy>(
     let lent = source.buffer();
     let count = lent.len();
     same(rt, count, length);
-    assert!(rt; count <= 4_096);
-    assert!(rt; buf.extend(meter, lent).is_ok());
+    holds(rt, count <= 4_096);
+    holds(rt, buf.extend(meter, lent).is_ok());
     source.consume(count);
     put_each(rt, sink, buf.as_slice());
-    assert!(rt; buf.as_slice().len() as u64 <= meter.held());
+    holds(rt, buf.as_slice().len() as u64 <= meter.held());
     buf.clear(meter);
 }
 
@@ -58,7 +58,7 @@ fn copy_all<I: Input, O: Output, A: Allocator + Copy>(
     }
     same(rt, (source.peek(0), source.place()), (Ok(None), 10_000));
     same(rt, sink.flush(), Ok(()));
-    assert!(rt; buf.as_slice().is_empty());
+    holds(rt, buf.as_slice().is_empty());
     buf.release(meter);
     same(rt, meter.peak(), 12_288);
 }
@@ -81,7 +81,7 @@ fn copy_between<I: Input + Drop, O: Output + Drop, A: Allocator + Copy>(
     let mut source = source_on(rt, &mut meter, limits, input);
     let mut sink = sink_on(rt, &mut meter, output);
     copy_all(rt, &mut meter, &mut source, &mut sink);
-    assert!(rt; meter.held() == 8_192);
+    holds(rt, meter.held() == 8_192);
     let input = source.release(&mut meter);
     same(rt, meter.held(), 4_096);
     let output = sink.release(&mut meter);
@@ -110,14 +110,14 @@ fn a_copy_fits_into_a_heap(rt: HostRuntime) -> Result<(), Fail> {
 fn grow_to_1500<A: Allocator + Copy>(rt: &impl Abort, inner: A, bytes: &[u8]) {
     let mut meter = Meter::new(inner);
     let mut buf = Buf::new(&meter);
-    assert!(rt; bytes.len() == 1_000);
-    assert!(rt; buf.extend(&mut meter, bytes).is_ok());
+    holds(rt, bytes.len() == 1_000);
+    holds(rt, buf.extend(&mut meter, bytes).is_ok());
     for _ in 0..500 {
         counts_of(rt, &meter);
         same(rt, buf.push(&mut meter, 7), Ok(()));
     }
     same(rt, (buf.as_slice().len(), meter.held()), (1_500, 1_500));
-    assert!(rt; buf.as_slice().len() as u64 <= meter.held());
+    holds(rt, buf.as_slice().len() as u64 <= meter.held());
     buf.release(&mut meter);
     same(rt, meter.held(), 0);
 }

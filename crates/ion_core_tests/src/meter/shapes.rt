@@ -2,7 +2,7 @@
 ghost use Rattle.std.specs.Prelude.{◌≡◌};
 
 use super::{LIMITS, counts_of};
-use crate::same::same;
+use crate::same::{holds, same};
 use ion_meter::buf::Buf;
 use ion_meter::fault::{Fault, Reason};
 use ion_meter::limits::Limits;
@@ -42,16 +42,16 @@ fn call_buf(rt: &impl Abort, meter: &mut Meter<Global>, buf: &mut Buf<Global>, c
     match call {
         ByteCall::Push(byte) => same(rt, buf.push(meter, byte), Ok(())),
         ByteCall::Extend(bytes) => {
-            assert!(rt; bytes.len() < 1_000);
+            holds(rt, bytes.len() < 1_000);
             same(rt, buf.extend(meter, bytes), Ok(()));
         }
         ByteCall::ExtendZeros(count) => {
-            assert!(rt; count < 1_000);
+            holds(rt, count < 1_000);
             same(rt, buf.extend_zeros(meter, count), Ok(()));
         }
         ByteCall::ExtendIfRoom(bytes, more, added) => {
-            assert!(rt; bytes.len() < 1_000);
-            assert!(rt; more.len() < 1_000);
+            holds(rt, bytes.len() < 1_000);
+            holds(rt, more.len() < 1_000);
             same(rt, buf.extend_if_room(meter, bytes, more), added);
         }
         _ => put_in(rt, meter, buf, call),
@@ -64,17 +64,17 @@ fn put_in(rt: &impl Abort, meter: &mut Meter<Global>, buf: &mut Buf<Global>, cal
     let length = buf.as_slice().len();
     match call {
         ByteCall::Insert(place, byte) => {
-            assert!(rt; place <= length);
+            holds(rt, place <= length);
             same(rt, buf.insert(meter, place, byte), Ok(()));
         }
         ByteCall::InsertSlice(place, bytes) => {
-            assert!(rt; place <= length);
-            assert!(rt; bytes.len() < 1_000);
+            holds(rt, place <= length);
+            holds(rt, bytes.len() < 1_000);
             same(rt, buf.insert_slice(meter, place, bytes), Ok(()));
         }
         ByteCall::InsertIfRoom(place, bytes, added) => {
-            assert!(rt; place <= length);
-            assert!(rt; bytes.len() < 1_000);
+            holds(rt, place <= length);
+            holds(rt, bytes.len() < 1_000);
             same(rt, buf.insert_if_room(meter, place, bytes), added);
         }
         _ => change(rt, meter, buf, call),
@@ -84,14 +84,17 @@ fn put_in(rt: &impl Abort, meter: &mut Meter<Global>, buf: &mut Buf<Global>, cal
 /// Makes a call that sets bytes or takes them off.
 fn change(rt: &impl Abort, meter: &mut Meter<Global>, buf: &mut Buf<Global>, call: ByteCall) {
     let length = buf.as_slice().len();
-    assert!(rt; length as u64 <= meter.held());
+    holds(rt, length as u64 <= meter.held());
     match call {
         ByteCall::MoveBehind(place, end, gap, bytes) => {
-            assert!(rt; place <= end && end <= length && gap <= length - end && bytes.len() <= gap);
+            holds(
+                rt,
+                place <= end && end <= length && gap <= length - end && bytes.len() <= gap,
+            );
             buf.move_behind(place, end, gap, bytes);
         }
         ByteCall::Set(place, byte) => {
-            assert!(rt; place < length);
+            holds(rt, place < length);
             buf.set(place, byte);
         }
         ByteCall::Pop(byte) => same(rt, buf.pop(meter), byte),
@@ -123,7 +126,7 @@ fn follow_buf(rt: &impl Abort, alloc: Global, calls: &[(ByteCall, &[u8])], peak:
     let mut buf = Buf::new(&meter);
     make_all(rt, &mut meter, &mut buf, calls);
     same(rt, meter.peak(), peak);
-    assert!(rt; buf.as_slice().len() as u64 <= meter.held());
+    holds(rt, buf.as_slice().len() as u64 <= meter.held());
     buf.release(&mut meter);
     let found = (meter.held(), meter.peak(), meter.refused());
     same(rt, found, (0, peak, 0));
@@ -199,21 +202,21 @@ fn call_stack(
 ) {
     counts_of(rt, meter);
     let length = stack.as_slice().len();
-    assert!(rt; length < 1_000);
-    assert!(rt; 16 * length as u64 <= meter.held());
+    holds(rt, length < 1_000);
+    holds(rt, 16 * length as u64 <= meter.held());
     match call {
         EntryCall::Push(entry) => same(rt, stack.push(meter, entry), Ok(())),
         EntryCall::PushWithin(entry, added) => same(rt, stack.push_within(meter, entry), added),
         EntryCall::Extend(entries) => {
-            assert!(rt; entries.len() < 1_000);
+            holds(rt, entries.len() < 1_000);
             same(rt, stack.extend(meter, entries), Ok(()));
         }
         EntryCall::Insert(place, entry) => {
-            assert!(rt; place <= length);
+            holds(rt, place <= length);
             same(rt, stack.insert(meter, place, entry), Ok(()));
         }
         EntryCall::Set(place, entry) => {
-            assert!(rt; place < length);
+            holds(rt, place < length);
             stack.set(place, entry);
         }
         EntryCall::Pop(entry) => same(rt, stack.pop(meter), entry),
@@ -262,21 +265,21 @@ fn call_table(
 {
     counts_of(rt, meter);
     let length = table.as_slice().len();
-    assert!(rt; length < 1_000);
-    assert!(rt; 24 * length as u64 <= meter.held());
+    holds(rt, length < 1_000);
+    holds(rt, 24 * length as u64 <= meter.held());
     match call {
         EntryCall::Push(entry) => same(rt, table.push(meter, entry), Ok(())),
         EntryCall::PushWithin(entry, added) => same(rt, table.push_within(meter, entry), added),
         EntryCall::Extend(entries) => {
-            assert!(rt; entries.len() < 1_000);
+            holds(rt, entries.len() < 1_000);
             same(rt, table.extend(meter, entries), Ok(()));
         }
         EntryCall::Insert(place, entry) => {
-            assert!(rt; place <= length);
+            holds(rt, place <= length);
             same(rt, table.insert(meter, place, entry), Ok(()));
         }
         EntryCall::Set(place, entry) => {
-            assert!(rt; place < length);
+            holds(rt, place < length);
             table.set(place, entry);
         }
         EntryCall::Pop(entry) => same(rt, table.pop(meter), entry),

@@ -1,6 +1,6 @@
 // The devices over readers and writers of std, that they fail at no length.
 use super::many_bytes;
-use crate::same::same;
+use crate::same::{holds, same};
 use ion_meter::device::{Input, Output};
 use ion_meter::stream::{FromRead, ToWrite};
 use std::alloc::Global;
@@ -13,9 +13,9 @@ const LENGTHS: [usize; 8] = [1, 2, 3, 700, 4_001, 4_095, 4_097, 10_000];
 /// Reads these pieces by one call each, and then the end.
 fn read_by(rt: &impl Abort, into: &mut [u8], bytes: &[u8], length: usize) {
     let mut device = FromRead::new(bytes);
-    assert!(rt; length > 0);
+    holds(rt, length > 0);
     for piece in bytes.chunks(length) {
-        assert!(rt; piece.len() <= into.len());
+        holds(rt, piece.len() <= into.len());
         read_piece(rt, &mut device, &mut into[..piece.len()], piece);
     }
     read_piece(rt, &mut device, into, b"");
@@ -23,29 +23,29 @@ fn read_by(rt: &impl Abort, into: &mut [u8], bytes: &[u8], length: usize) {
 
 /// Reads this piece by one call.
 fn read_piece<I: Input>(rt: &impl Abort, device: &mut I, into: &mut [u8], piece: &[u8]) {
-    assert!(rt; device.failures() == 0);
+    holds(rt, device.failures() == 0);
     let read = device.read(into);
-    assert!(rt; matches!(read, Ok(count) if count == piece.len()));
-    assert!(rt; piece.len() <= into.len());
+    holds(rt, matches!(read, Ok(count) if count == piece.len()));
+    holds(rt, piece.len() <= into.len());
     same(rt, &into[..piece.len()], piece);
 }
 
 /// Writes this piece by one call.
 fn write_piece<O: Output>(rt: &impl Abort, device: &mut O, piece: &[u8]) {
-    assert!(rt; device.failures() == 0);
+    holds(rt, device.failures() == 0);
     let written = device.write(piece);
-    assert!(rt; matches!(written, Ok(count) if count == piece.len()));
+    holds(rt, matches!(written, Ok(count) if count == piece.len()));
 }
 
 /// Writes the bytes in pieces of this length.
 fn write_by(rt: &impl Abort, alloc: Global, bytes: &[u8], length: usize) {
     let mut device = ToWrite::new(Vec::new(alloc));
-    assert!(rt; length > 0);
+    holds(rt, length > 0);
     for piece in bytes.chunks(length) {
         write_piece(rt, &mut device, piece);
     }
     write_piece(rt, &mut device, b"");
-    assert!(rt; device.failures() == 0);
+    holds(rt, device.failures() == 0);
     same(rt, device.into_inner().as_slice(), bytes);
 }
 

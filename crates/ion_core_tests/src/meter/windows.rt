@@ -2,14 +2,14 @@
 ghost use Rattle.std.specs.Prelude.{◌≡◌};
 
 use super::devices::{Call, make, sink_on, source_on};
-use super::refusing::Refusing;
 use super::{LIMITS, counts_of, is_refused};
-use crate::same::same;
+use crate::same::{holds, same};
 use ion_meter::device::{Input, Output};
 use ion_meter::meter::Meter;
 use ion_meter::sink::Sink;
 use ion_meter::source::Source;
 use ion_meter::stream::{FromRead, ToWrite};
+use ion_test_support::refusing::Refusing;
 use std::alloc::Allocator;
 use std::process::Abort;
 
@@ -19,10 +19,9 @@ fn read_byte<I: Input + Drop, A: Allocator + Copy>(rt: &impl Abort, inner: A, de
 {
     let mut meter = Meter::new(inner);
     let before = counts_of(rt, &meter);
-    assert!(rt; LIMITS.check());
-    let Err(device) = Source::new(&mut meter, LIMITS, device) else {
-        panic!(rt; "it was not refused")
-    };
+    holds(rt, LIMITS.check());
+    let made = Source::new(&mut meter, LIMITS, device);
+    let device = made.err().expect(rt, "a refusal");
     is_refused(rt, &meter, before);
     let mut source = source_on(rt, &mut meter, LIMITS, device);
     same(rt, (meter.held(), source.peek(0)), (4096, Ok(Some(b'a'))));
@@ -36,9 +35,7 @@ fn put_bytes<O: Output + Drop, A: Allocator + Copy>(rt: &impl Abort, inner: A, d
 {
     let mut meter = Meter::new(inner);
     let before = counts_of(rt, &meter);
-    let Err(device) = Sink::new(&mut meter, device) else {
-        panic!(rt; "it was not refused")
-    };
+    let device = Sink::new(&mut meter, device).err().expect(rt, "a refusal");
     is_refused(rt, &meter, before);
     let mut sink = sink_on(rt, &mut meter, device);
     make(rt, &mut sink, Call::Put(b"ab", Ok(())));

@@ -3,7 +3,7 @@ ghost use Rattle.std.specs.Prelude.{◌+◌, ◌^◌, ◌<◌, ◌≤◌};
 ghost use Rattle.ion_symbols.specs.Table.{catalog_cost, shared_cost};
 
 use super::shared_tables::expect_table;
-use crate::same::same;
+use crate::same::{holds, same};
 use ion_meter::fault::{Fault, Reason};
 use ion_meter::meter::Meter;
 use ion_symbols::catalog::Catalog;
@@ -55,10 +55,9 @@ impl Shelf {
         ensures held { catalog_cost self.new.catalog + shared_cost result ≤ self.new.meter.held }
     {
         self.expect_little(rt);
-        assert!(rt; name.len() < 100);
-        let Ok(mut table) = SharedTable::new(&mut self.meter, name, version) else {
-            panic!(rt; "no memory")
-        };
+        holds(rt, name.len() < 100);
+        let made = SharedTable::new(&mut self.meter, name, version);
+        let mut table = made.expect(rt, "a table");
         for text in slots {
             self.push(rt, &mut table, *text);
         }
@@ -75,7 +74,7 @@ impl Shelf {
     {
         self.expect_little(rt);
         if let Some(text) = text {
-            assert!(rt; text.len() < 100);
+            holds(rt, text.len() < 100);
         }
         same(rt, table.push(&mut self.meter, text), Ok(()));
     }
@@ -85,8 +84,8 @@ impl Shelf {
         ensures held { self.now.meter.held < 2 ^ 32 }
         ensures refused { self.now.meter.refused < 2 ^ 32 }
     {
-        assert!(rt; self.meter.held() < 1 << 32);
-        assert!(rt; self.meter.refused() < 1 << 32);
+        holds(rt, self.meter.held() < 1 << 32);
+        holds(rt, self.meter.refused() < 1 << 32);
     }
 
     // Adds such a table.
@@ -98,9 +97,10 @@ impl Shelf {
         let table = self.table(rt, name, version, slots);
         self.expect_little(rt);
         let held = self.meter.held();
-        let Ok(()) = self.catalog.add(&mut self.meter, table) else {
-            panic!(rt; "{name} {version} was not added")
-        };
+        self.catalog
+            .add(&mut self.meter, table)
+            .ok()
+            .expect(rt, name);
         same(rt, self.meter.held(), held + 32);
     }
 
@@ -113,9 +113,8 @@ impl Shelf {
         let count = self.catalog.len();
         let table = self.table(rt, name, version, &[Some("new")]);
         self.expect_little(rt);
-        let Err((table, fault)) = self.catalog.add(&mut self.meter, table) else {
-            panic!(rt; "{name} {version} was added")
-        };
+        let added = self.catalog.add(&mut self.meter, table);
+        let (table, fault) = added.err().expect(rt, name);
         same(rt, fault, Fault::Refused(Reason::CatalogEntry, 0));
         expect_table(rt, &table, name, version, &[Some("new")]);
         table.release(&mut self.meter);
@@ -125,9 +124,7 @@ impl Shelf {
 
     // Asserts that there is a table of this name and version, with these slots.
     fn expect_found(&self, rt: &impl Abort, name: &str, version: u32, slots: &[Option<&str>]) {
-        let Some(table) = self.catalog.find(name, version) else {
-            panic!(rt; "no {name} {version}")
-        };
+        let table = self.catalog.find(name, version).expect(rt, name);
         expect_table(rt, table, name, version, slots);
     }
 
@@ -308,9 +305,7 @@ fn rank_in(order: Order, number: usize) -> usize
 
 /// The name and the version at a rank. Versions are even.
 fn table_at(rt: &impl Abort, rank: usize) -> (&'static str, u32) {
-    let Some(name) = NAMES.get(rank / OF_ONE_NAME) else {
-        panic!(rt; "no rank {rank}")
-    };
+    let name = NAMES.get(rank / OF_ONE_NAME).expect(rt, "a rank");
     (*name, (rank % OF_ONE_NAME) as u32 * 2 + 2)
 }
 

@@ -5,15 +5,15 @@ ghost use Rattle.ion_symbols.specs.Output.{texts_cost};
 
 use super::outputs::expect_since;
 use super::shared_tables::{expect_table, push};
-use crate::meter::refusing::Refusing;
 use crate::meter::{Counted, counts_of, is_refused};
-use crate::same::same;
+use crate::same::{holds, same};
 use ion_meter::fault::Fault;
 use ion_meter::limits::Limits;
 use ion_meter::meter::Meter;
 use ion_symbols::catalog::Catalog;
 use ion_symbols::output::OutSymbols;
 use ion_symbols::shared::SharedTable;
+use ion_test_support::refusing::Refusing;
 use std::alloc::{Allocator, Global};
 use std::process::Abort;
 
@@ -52,7 +52,7 @@ fn expect_first<A: Allocator + Copy>(
     name: &str,
     count: usize,
 ) {
-    assert!(rt; count <= SLOTS.len());
+    holds(rt, count <= SLOTS.len());
     expect_table(rt, table, name, 1, &SLOTS[..count]);
 }
 
@@ -65,7 +65,10 @@ fn is_undone<A: Allocator + Copy>(rt: &impl Abort, meter: &Meter<A>, before: Cou
         (after.held, after.refused),
         (before.held, before.refused.saturating_add(1)),
     );
-    assert!(rt; after.peak <= before.peak.max(before.held.saturating_add(most)));
+    holds(
+        rt,
+        after.peak <= before.peak.max(before.held.saturating_add(most)),
+    );
 }
 
 /// Pushes a slot, and once more where that is refused; a table without it has so many slots. Whether
@@ -101,7 +104,7 @@ fn new_table<A: Allocator + Copy>(
     ensures held { MatchOption result (meter.new.held ≡ meter.old.held)
         (λ table. meter.new.held ≡ meter.old.held + shared_cost table) }
 {
-    assert!(rt; name.len() < 100);
+    holds(rt, name.len() < 100);
     let before = counts_of(rt, meter);
     match SharedTable::new(meter, name, 1) {
         Ok(table) => return Some(table),
@@ -169,7 +172,7 @@ fn add_again<A: Allocator + Copy>(
     is_refused(rt, meter, before);
     expect_table(rt, &table, name, 1, &[]);
     same(rt, catalog.len(), count);
-    assert!(rt; catalog.find(name, 1).is_none());
+    holds(rt, catalog.find(name, 1).is_none());
     match catalog.add(meter, table) {
         Ok(()) => true,
         Err((table, _)) => {
@@ -226,7 +229,7 @@ fn expect_texts<A: Allocator + Copy>(
     texts: &OutSymbols<A>,
     count: usize,
 ) {
-    assert!(rt; count <= TEXTS.len());
+    holds(rt, count <= TEXTS.len());
     expect_since(rt, texts, 10, &TEXTS[..count]);
     same(rt, meter.held(), texts.cost());
 }
@@ -262,7 +265,7 @@ fn id_again<A: Allocator + Copy>(
     requires held { texts_cost texts.old.texts ≤ meter.old.held }
     ensures held { texts_cost texts.new.texts ≤ meter.new.held }
 {
-    assert!(rt; count < 1_000);
+    holds(rt, count < 1_000);
     let want = Ok(Some(10 + count as u32));
     let before = counts_of(rt, meter);
     let given = give(rt, meter, texts, text, in_order);
@@ -277,7 +280,7 @@ fn id_again<A: Allocator + Copy>(
 
 /// Texts, each of which may be refused an id.
 fn grow_texts<A: Allocator + Copy>(rt: &impl Abort, meter: &mut Meter<A>, in_order: bool) {
-    assert!(rt; LIMITS.check());
+    holds(rt, LIMITS.check());
     let mut texts = OutSymbols::new(meter, LIMITS);
     let count = give_all(rt, meter, &mut texts, in_order);
     expect_texts(rt, meter, &texts, count);

@@ -4,7 +4,7 @@ ghost use Rattle.ion_symbols.specs.Output.{texts_cost};
 
 use super::growths::give;
 use crate::meter::counts_of;
-use crate::same::same;
+use crate::same::{holds, same};
 use ion_meter::buf::{Added, Buf};
 use ion_meter::limits::Limits;
 use ion_meter::meter::Meter;
@@ -27,7 +27,7 @@ pub fn expect_since<A: Allocator + Copy>(
     let mut place = 0;
     for text in wanted {
         same(rt, (id, since.get(place)), (id, Some(text.as_bytes())));
-        assert!(rt; place < 1_000);
+        holds(rt, place < 1_000);
         place += 1;
     }
     same(rt, since.get(place), None);
@@ -51,7 +51,7 @@ fn start(rt: &impl Abort, alloc: Global, symbols: u64) -> Texting
         value: 64,
         input: 64,
     };
-    assert!(rt; limits.check());
+    holds(rt, limits.check());
     let meter = Meter::new(alloc);
     let texts = OutSymbols::new(&meter, limits);
     Texting { texts, meter }
@@ -86,9 +86,9 @@ enum Step<'a> {
 // Makes room for so many octets, of which none stands there then.
 fn make_room(rt: &impl Abort, meter: &mut Meter<Global>, octets: &mut Buf<Global>, room: usize) {
     counts_of(rt, meter);
-    assert!(rt; room < 1_000);
+    holds(rt, room < 1_000);
     same(rt, octets.extend_zeros(meter, room), Ok(()));
-    assert!(rt; octets.as_slice().len() as u64 <= meter.held());
+    holds(rt, octets.as_slice().len() as u64 <= meter.held());
     octets.clear(meter);
 }
 
@@ -100,7 +100,7 @@ fn expect_both(
     text: &str,
     is_given: bool,
 ) {
-    assert!(rt; texting.meter.held() < 1 << 33);
+    holds(rt, texting.meter.held() < 1 << 33);
     let bytes = text.as_bytes();
     let id = texting.texts.next_id();
     same(rt, (text, texting.texts.known(bytes)), (text, None));
@@ -138,9 +138,9 @@ impl Texting {
         let mut octets = Buf::new(&self.meter);
         make_room(rt, &mut self.meter, &mut octets, room);
         expect_both(rt, self, &mut octets, text, is_given);
-        assert!(rt; octets.as_slice().len() as u64 <= self.meter.held());
+        holds(rt, octets.as_slice().len() as u64 <= self.meter.held());
         octets.release(&mut self.meter);
-        assert!(rt; self.texts.cost() <= self.meter.held());
+        holds(rt, self.texts.cost() <= self.meter.held());
     }
 
     // Asserts where a text stands in order of bytes, or where it belongs.
@@ -149,9 +149,7 @@ impl Texting {
         ensures held { texts_cost self.new.texts.texts ≤ self.new.meter.held }
     {
         self.texts.put_in_order();
-        let Some(mut search) = self.texts.search() else {
-            panic!(rt; "not in order")
-        };
+        let mut search = self.texts.search().expect(rt, "an order");
         same(rt, search.probes(), 0);
         same(rt, (text, place_of(&mut search, text)), (text, place));
     }
@@ -184,7 +182,7 @@ impl Texting {
             Step::Peak(peak) => same(rt, self.meter.peak(), peak),
             Step::Probes(least, most) => {
                 let probes = self.texts.last_probes();
-                assert!(rt; least <= probes && probes <= most);
+                holds(rt, least <= probes && probes <= most);
             }
             _ => panic!(rt; "a call that changes the texts"),
         }
@@ -213,9 +211,8 @@ impl Texting {
         requires held { texts_cost self.old.texts.texts ≤ self.old.meter.held }
         ensures held { texts_cost self.new.texts.texts ≤ self.new.meter.held }
     {
-        let Ok(text) = format!(in alloc; "aaaaaaaaaaaaaaaa{number}bbbbbbbbbbbbbbbb") else {
-            panic!(rt; "no memory")
-        };
+        let text = format!(in alloc; "aaaaaaaaaaaaaaaa{number}bbbbbbbbbbbbbbbb");
+        let text = text.expect(rt, "memory");
         same(
             rt,
             (number, self.texts.known(text.as_bytes())),

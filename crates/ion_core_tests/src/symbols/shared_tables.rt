@@ -3,7 +3,7 @@ ghost use Rattle.std.specs.Prelude.{◌≤◌};
 ghost use Rattle.ion_symbols.specs.Table.{shared_cost};
 
 use crate::meter::counts_of;
-use crate::same::same;
+use crate::same::{holds, same};
 use ion_meter::fault::Fault;
 use ion_meter::meter::Meter;
 use ion_symbols::shared::SharedTable;
@@ -31,7 +31,7 @@ pub fn push<A: Allocator + Copy>(
 {
     counts_of(rt, meter);
     if let Some(text) = slot {
-        assert!(rt; text.len() < 100);
+        holds(rt, text.len() < 100);
     }
     table.push(meter, slot)
 }
@@ -45,7 +45,7 @@ fn make(rt: &impl Abort, meter: &mut Meter<Global>, table: &mut SharedTable<Glob
         Change::Push(text) => same(rt, push(rt, meter, table, text), Ok(())),
         Change::Rename(name) => {
             counts_of(rt, meter);
-            assert!(rt; name.len() < 100);
+            holds(rt, name.len() < 100);
             same(rt, table.set_name(meter, name), Ok(()));
         }
         Change::Version(version) => table.set_version(version),
@@ -70,7 +70,7 @@ pub fn expect_table<A: Allocator + Copy>(
             None => None,
         };
         same(rt, (place, table.get(place)), (place, want));
-        assert!(rt; place < 1_000);
+        holds(rt, place < 1_000);
         place += 1;
     }
     same(rt, table.get(place), None);
@@ -103,9 +103,7 @@ fn follow(
     peak: u64,
 ) {
     let mut meter = Meter::new(alloc);
-    let Ok(mut table) = SharedTable::new(&mut meter, "x", 1) else {
-        panic!(rt; "no memory")
-    };
+    let mut table = SharedTable::new(&mut meter, "x", 1).expect(rt, "a table");
     expect_table(rt, &table, "x", 1, &[]);
     same(rt, meter.held(), 1);
     make_all(rt, &mut meter, &mut table, calls);

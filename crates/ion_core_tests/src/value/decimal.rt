@@ -1,7 +1,7 @@
 //! Decimals in octets and as text, and that texts spell.
 ghost use Rattle.std.specs.Prelude.{◌≡◌};
 
-use crate::same::same;
+use crate::same::{holds, same};
 use arrayvec::ArrayVec;
 use ion_meter::fault::Reason;
 use ion_value::decimal::{
@@ -68,7 +68,7 @@ fn expect(rt: &impl Abort, call: Call) {
         }
         Call::NoText(run, reason) => same(rt, decimal_from_text(run), Err(reason)),
         Call::Text(negative, coefficient, exponent, want) => {
-            assert!(rt; exponent > i32::MIN);
+            holds(rt, exponent > i32::MIN);
             let value = decimal(negative, coefficient, exponent);
             same(rt, decimal_to_text(value).as_str(), want);
             same(rt, decimal_from_text(want.as_bytes()), Ok(value));

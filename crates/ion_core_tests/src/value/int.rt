@@ -1,6 +1,6 @@
 //! Ints in octets and as text, and that texts spell.
 
-use crate::same::same;
+use crate::same::{holds, same};
 use ion_meter::fault::Reason;
 use ion_value::int::{Int, int_from_bytes, int_from_text, int_to_bytes, int_to_text};
 use std::process::Abort;
@@ -33,7 +33,7 @@ fn expect(rt: &impl Abort, call: Call) {
         }
         Call::Refused(run, reason) => same(rt, int_from_text(run), Err(reason)),
         Call::Text(negative, magnitude, text) => {
-            assert!(rt; !negative || magnitude > 0);
+            holds(rt, !negative || magnitude > 0);
             let int = Int {
                 negative,
                 magnitude,

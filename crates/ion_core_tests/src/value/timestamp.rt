@@ -1,7 +1,7 @@
 //! Timestamps in octets and as text, that texts spell, and in their time and UTC.
 ghost use Rattle.ion_value.specs.Timestamp.{IsMoment, IsOffset};
 
-use crate::same::same;
+use crate::same::{holds, same};
 use arrayvec::ArrayVec;
 use ion_meter::fault::Reason;
 use ion_value::timestamp::{
@@ -35,7 +35,7 @@ fn moment(rt: &impl Abort, minute: Minute, offset: Option<i16>) -> Timestamp
     ];
     let read = timestamp_from_bytes(&body).expect(rt, "a date and time");
     let minutes = offset.unwrap_or(0);
-    assert!(rt; -1_440 < minutes && minutes < 1_440);
+    holds(rt, -1_440 < minutes && minutes < 1_440);
     let moment = Timestamp { offset, ..read };
     same(rt, moment, at(minute, offset));
     moment

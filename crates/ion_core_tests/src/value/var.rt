@@ -1,7 +1,7 @@
 //! VarUInts and VarInts.
 ghost use Rattle.std.specs.Prelude.{◌≡◌};
 
-use crate::same::same;
+use crate::same::{holds, same};
 use ion_meter::fault::Reason;
 use ion_value::var::{Signed, var_int_read, var_int_write, var_uint_read, var_uint_write};
 use std::process::Abort;
@@ -43,7 +43,7 @@ fn expect(rt: &impl Abort, call: Call) {
     match call {
         Call::UInt(octets, want) => same(rt, var_uint_read(octets), want),
         Call::WrittenUInt(n, want) => {
-            assert!(rt; n < 0x8000_0000_0000_0000);
+            holds(rt, n < 0x8000_0000_0000_0000);
             same(rt, var_uint_write(n).as_slice(), want);
             same(rt, var_uint_read(want), Ok((n, want.len())));
         }
@@ -53,12 +53,12 @@ fn expect(rt: &impl Abort, call: Call) {
         }
         Call::Endless(octets) => same(rt, var_int_read(octets), Err(Reason::BadVar)),
         Call::WrittenInt(negative, magnitude, want) => {
-            assert!(rt; magnitude < 0x4000_0000_0000_0000);
+            holds(rt, magnitude < 0x4000_0000_0000_0000);
             let octets = var_int_write(signed(negative, magnitude));
             same(rt, octets.as_slice(), want);
         }
         Call::Again(negative, magnitude, count) => {
-            assert!(rt; magnitude < 0x4000_0000_0000_0000);
+            holds(rt, magnitude < 0x4000_0000_0000_0000);
             let z = signed(negative, magnitude);
             let octets = var_int_write(z);
             same(rt, var_int_read(octets.as_slice()), Ok((z, count)));

@@ -61,7 +61,6 @@ pub mod WordTokens
 pub mod FirstTokens
 pub mod TypedWords
 pub mod Held
-pub mod Versions
 pub mod ReaderSteps
 pub mod ReaderAnnotations
 pub mod ReaderCalls

@@ -9,11 +9,12 @@ ghost use Rattle.ion_text_in.specs.Blanks.{blanks};
 ghost use Rattle.ion_text_in.specs.Meaning.{at};
 ghost use Rattle.ion_text_in.specs.Token.{a_colon, first_at};
 
-use crate::run::{is_identifier_byte, is_operator_byte};
+use crate::run::is_operator_byte;
 use ion_meter::device::Input;
 use ion_meter::fault::{Fault, Reason};
 use ion_meter::source::Source;
 use ion_value::ion_type::Kind;
+use ion_value::name::is_identifier_byte;
 use std::alloc::Allocator;
 
 /// A kind of token.

@@ -21,6 +21,5 @@ mod segment;
 mod symbol;
 mod text;
 mod token;
-mod version;
 mod waiting;
 mod word;

@@ -1,7 +1,8 @@
-//! Texts of symbols that are written without quotes.
+//! Identifiers, and which texts of symbols are written without quotes (Ion specification, "Symbols").
 ghost use Rattle.std.specs.Prelude.{◌≡◌, ◌==◌, ◌&&◌, true, not, drop, is_none};
+ghost use Rattle.std.specs.Str.{bytes_eq};
 ghost use Rattle.ion_value.specs.Digits.{all_are, cut_at, first_is, is_digit};
-ghost use Rattle.ion_value.specs.Name.{is_id, is_identifier, is_identifier_byte, is_identifier_start, is_number, is_plain, is_simple, is_version, keyword};
+ghost use Rattle.ion_value.specs.Name.{is_id, is_identifier, is_identifier_byte, is_identifier_start, is_number, is_plain, is_simple, is_version, keyword, version_word};
 
 /// Whether a text is written as a symbol without quotes: an identifier that means nothing else.
 #[inline]
@@ -62,17 +63,18 @@ static IDENTIFIER_BYTES: [u8; 256] = [
     0, 0, 0, 0, 0, 0, 0, 0, 0, 0, 0, 0, 0, 0, 0, 0, 0, 0, 0, 0, 0, 0, 0, 0, 0, 0, 0, 0, 0, 0, 0, 0,
 ];
 
-// Whether this byte can stand in an identifier.
+/// Whether this byte can stand in an identifier: an ASCII letter, a digit, a dollar sign or an
+/// underscore (Ion specification, "Symbols").
 #[inline(always)]
-fn is_identifier_byte(byte: u8) -> bool
+pub fn is_identifier_byte(byte: u8) -> bool
     ensures { result ≡ is_identifier_byte byte }
 {
     IDENTIFIER_BYTES[byte as usize] > 0
 }
 
-// Whether each of these bytes can stand in an identifier.
-#[inline]
-fn all_identifier_bytes(bytes: &[u8]) -> bool
+/// Whether each of these bytes can stand in an identifier.
+#[inline(always)]
+pub fn all_identifier_bytes(bytes: &[u8]) -> bool
     ensures { result ≡ all_are is_identifier_byte bytes.now }
 {
     'bytes: for byte in bytes {
@@ -106,9 +108,18 @@ fn is_id(word: &[u8]) -> bool
     }
 }
 
-// Whether a word is that of a version: `$ion_`, digits, `_` and digits.
+/// Whether a word is that of the one version that is read, `$ion_1_0`.
 #[inline]
-fn is_version(word: &[u8]) -> bool
+pub fn is_version_word(word: &[u8]) -> bool
+    ensures { result ≡ bytes_eq version_word word.now }
+{
+    word == b"$ion_1_0".as_slice()
+}
+
+/// Whether a word is that of a version: `$ion_`, the digits of its major version, `_` and those of
+/// its minor version (Ion specification, "Ion Version Markers").
+#[inline]
+pub fn is_version(word: &[u8]) -> bool
     ensures { result ≡ is_version word.now }
 {
     match word {

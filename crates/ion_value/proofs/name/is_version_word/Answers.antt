@@ -1,6 +1,6 @@
 use Rattle.std.proofs.Common.{arith}
 use Rattle.std.proofs.lemmas.Grind.{common_steps}
-use Rattle.ion_text_in.proofs.version.is_version_word.Goals as goal
+use Rattle.ion_value.proofs.name.is_version_word.Goals as goal
 
 pub returns : goal.returns
 returns c = grind (arith, common_steps)

@@ -1,8 +1,8 @@
 //! A lane for items that lie whole in the window: they go to the writer as they are read.
-ghost use Rattle.std.specs.Prelude.{◌≡◌, ◌≢◌, ◌+◌, ◌-◌, ◌^◌, ◌<◌, ◌≤◌, ℕ, Bool, List, [], ◌∷◌, ◌++◌, take, drop, length, reverse, true, false, None, Some, Ok, option_map, IfSome};
+ghost use Rattle.std.specs.Prelude.{◌≡◌, ◌≢◌, ◌+◌, ◌-◌, ◌^◌, ◌<◌, ◌≤◌, ℕ, Bool, List, [], ◌∷◌, ◌++◌, take, drop, length, reverse, true, false, Option, None, Some, Ok, option_map, IfSome};
 ghost use Rattle.ion_value.specs.declared.ion_type.Kind as kind_of;
 ghost use Rattle.ion_text_in.specs.Expecting.{kind_in, wanted, MayExpect};
-ghost use Rattle.ion_text_in.specs.Feeding.{expected_of, lane, notes, Begins, CanFeed, IsFound, IsFurther, IsNext, IsSimpleWord, IsStart, Moved, MovedBy, Onward, PassesBlanks};
+ghost use Rattle.ion_text_in.specs.Feeding.{expected_of, lane, notes, Begins, CanFeed, IsFoundBy, IsFoundRead, IsNext, IsSimpleWord, IsStart, IsStartBy, IsStartRead, Moved, MovedBy, Onward, PassesBlanks};
 ghost use Rattle.ion_text_in.specs.Firsts.{numbered};
 ghost use Rattle.ion_text_in.specs.Reading.{top_of};
 ghost use Rattle.ion_text_in.specs.Token.{a_comma, a_run, a_short, a_word, an_end, first_at};
@@ -279,7 +279,7 @@ fn top_at(top: u64, inner: Option<Kind>, note: Option<TextAt<'_>>, place: u64) -
     }
 }
 
-// Hands on a container's beginning, and says whether it did.
+// Hands on a container's beginning, whose name may be an id, and says whether it did.
 #[inline(always)]
 fn begin<'a, W: ValueWriter<O, A>, O: Output, A: Allocator + Copy>(
     at: &mut Spot<'a>,
@@ -296,10 +296,15 @@ fn begin<'a, W: ValueWriter<O, A>, O: Output, A: Allocator + Copy>(
 ) -> bool
     requires can { CanFeed W.ValueWriter limits end
         (lane kinds.old at.old writer.old sink.old meter.old) }
-    requires start { IsFurther second limits at.old (end - length at.old.rest.now) start }
-    requires found { IsFound limits (end - length start.next.rest.now) start.next.rest.now found }
+    requires start { IsStartRead second limits at.old (end - length at.old.rest.now) start }
+    requires found { IsFoundRead limits (end - length start.next.rest.now)
+        start.next.rest.now found }
     requires begins { found.head ≡ Head.Begin kind }
-    ensures moved { Moved W.ValueWriter limits end
+    ensures moved { (texts : ℕ → Option (List ℕ))
+        → IsStartBy texts second.entry limits at.old (end - length at.old.rest.now) start.entry
+        → IsFoundBy texts limits (end - length start.entry.next.rest.now)
+        start.entry.next.rest.now found.entry
+        → MovedBy W.ValueWriter limits end texts
         (lane kinds.old at.old writer.old sink.old meter.old)
         (lane kinds.new at.new writer.new sink.new meter.new) }
     ensures goes { length kinds.new + length at.new.rest.now
@@ -334,7 +339,7 @@ fn begin<'a, W: ValueWriter<O, A>, O: Output, A: Allocator + Copy>(
     true
 }
 
-// Hands on a scalar, and says whether it did.
+// Hands on a scalar, whose name may be an id, or it itself, and says whether it did.
 #[inline(always)]
 fn scalar<'a, W: ValueWriter<O, A>, O: Output, A: Allocator + Copy>(
     at: &mut Spot<'a>,
@@ -350,12 +355,18 @@ fn scalar<'a, W: ValueWriter<O, A>, O: Output, A: Allocator + Copy>(
 ) -> bool
     requires can { CanFeed W.ValueWriter limits end
         (lane kinds.now at.old writer.old sink.old meter.old) }
-    requires start { IsFurther second limits at.old (end - length at.old.rest.now) start }
-    requires found { IsFound limits (end - length start.next.rest.now) start.next.rest.now found }
+    requires start { IsStartRead second limits at.old (end - length at.old.rest.now) start }
+    requires found { IsFoundRead limits (end - length start.next.rest.now)
+        start.next.rest.now found }
     requires whole { (kind : kind_of.Kind) → found.head ≢ Head.Begin kind }
-    ensures moved { Moved W.ValueWriter limits end
+    ensures moved { (texts : ℕ → Option (List ℕ))
+        → IsStartBy texts second.entry limits at.old (end - length at.old.rest.now) start.entry
+        → IsFoundBy texts limits (end - length start.entry.next.rest.now)
+        start.entry.next.rest.now found.entry
+        → MovedBy W.ValueWriter limits end texts
         (lane kinds.now at.old writer.old sink.old meter.old)
         (lane kinds.now at.new writer.new sink.new meter.new) }
+    ensures goes { length at.new.rest.now ≤ length at.old.rest.now }
     ensures falls { result ≡ true → length at.new.rest.now < length at.old.rest.now }
 {
     let inner = innermost(kinds);

@@ -14,8 +14,11 @@ returns-in-Some-clause-falls g c = grind (arith, common_steps) steps 400000
 pub returns-in-None-clause-falls : goal.returns-in-None-clause-falls
 returns-in-None-clause-falls g c = grind (arith, common_steps) steps 400000
 
-pub returns-in-Some-clause-moved : goal.returns-in-Some-clause-moved
-returns-in-Some-clause-moved g c = grind (arith, common_steps)
+pub scalar-requires-clause-start : goal.scalar-requires-clause-start
+scalar-requires-clause-start g c = record { raw = c.requires.start.raw; read = c.requires.start.read }
 
-pub id_scalar-requires-clause-whole : goal.id_scalar-requires-clause-whole
-id_scalar-requires-clause-whole g c = grind (arith, common_steps)
+pub scalar-requires-clause-found : goal.scalar-requires-clause-found
+scalar-requires-clause-found g c = record { raw = c.in-Some.ensures.found.raw; head = c.in-Some.ensures.found.head; spelled = c.in-Some.ensures.found.spelled }
+
+pub returns-in-Some-clause-moved : goal.returns-in-Some-clause-moved
+returns-in-Some-clause-moved g c = c.scalar.ensures.moved (g.N.Names.text c.args.names.now) c.requires.start c.in-Some.ensures.found

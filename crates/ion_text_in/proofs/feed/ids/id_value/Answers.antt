@@ -23,8 +23,11 @@ returns-then-begins_dollar-clause-goes g c = grind (arith, common_steps) steps 4
 pub returns-clause-falls : goal.returns-clause-falls
 returns-clause-falls g c = grind (arith, common_steps) steps 400000
 
-pub returns-then-begins_dollar-clause-moved : goal.returns-then-begins_dollar-clause-moved
-returns-then-begins_dollar-clause-moved g c = grind (arith, common_steps)
+pub other_value-requires-clause-start : goal.other_value-requires-clause-start
+other_value-requires-clause-start g c = record { raw = c.requires.start.raw; read = c.requires.start.read }
 
 pub returns-then-begins_dollar-2-clause-moved : goal.returns-then-begins_dollar-2-clause-moved
-returns-then-begins_dollar-2-clause-moved g c = grind (arith, common_steps)
+returns-then-begins_dollar-2-clause-moved g c = c.other_value.ensures.moved (g.N.Names.text c.args.names.now) c.requires.start
+
+pub returns-then-begins_dollar-clause-moved : goal.returns-then-begins_dollar-clause-moved
+returns-then-begins_dollar-clause-moved g c = grind (arith, common_steps)

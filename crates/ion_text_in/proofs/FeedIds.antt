@@ -13,7 +13,7 @@ use Rattle.ion_value.specs.Items.{named_at, raw_head, text_or_id}
 use Rattle.ion_value.specs.Name.{is_simple}
 use Rattle.ion_value.specs.PlainItems.{placed_text}
 use Rattle.ion_value.specs.Value as value
-use Rattle.ion_value.specs.Value.{Head, Symbol, SymbolAt, map_head}
+use Rattle.ion_value.specs.Value.{SymbolAt, map_head}
 use Rattle.ion_text_in.specs.Blanks.{blanks}
 use Rattle.ion_text_in.specs.declared.expected.Expected.TheVariants as codes_of
 use Rattle.ion_text_in.specs.declared.feed.Found.{Found}
@@ -129,10 +129,13 @@ start-named texts limits spot place named next (Some s) field is here h = record
   read = start-as limits spot place named next h.text h.raw s field is here h.name;
 }
 
--- the same where the name is a text, if there is one
+-- the name is a text, if there is one
+text-start : (texts : ℕ → Option (List ℕ)) {pair : Option SecondAt} {limits : Limits} {spot : Spot} {place : ℕ} {start : Start} → IsFurther pair limits spot place start → IsStartBy texts pair limits spot place start
+text-start texts {start} h = record { raw = option_map placed_text start.field; seen = text-seen texts start.field; read = h }
+
 pub start-text : (texts : ℕ → Option (List ℕ)) (limits : Limits) (spot : Spot) (place : ℕ) (start : Option Start) → IfSome start (IsStart limits spot place) → IfSome start (IsStartBy texts None limits spot place)
 start-text texts limits spot place None h = tt
-start-text texts limits spot place (Some s) h = record { raw = option_map placed_text s.field; seen = text-seen texts s.field; read = h }
+start-text texts limits spot place (Some s) h = text-start texts h
 
 -- ---- a value
 
@@ -179,7 +182,7 @@ pub moved-text : {W O A : Type 0} {w : WriterOf W O A} {limits : Limits} {end : 
     → IsFurther pair limits spot before start → IsFound limits place bytes found
     → ((texts : ℕ → Option (List ℕ)) → IsStartBy texts pair limits spot before start → IsFoundBy texts limits place bytes found → MovedBy w limits end texts l n) → Moved w limits end l n
 moved-text {limits} {place} {start} {bytes} {found} s f moves =
-    let by = λ (texts : ℕ → Option (List ℕ)). moves texts (record { raw = option_map placed_text start.field; seen = text-seen texts start.field; read = s }) (found-text texts limits place bytes found f) in
+    let by = λ (texts : ℕ → Option (List ℕ)). moves texts (text-start texts s) (found-text texts limits place bytes found f) in
     let one = by (λ id. None) in
     record {
       feeds = λ texts _ more. (by texts).feeds texts refl more;

@@ -94,32 +94,6 @@ fn id_turn<'a, N: Names, W: ValueWriter<O, A>, O: Output, A: Allocator + Copy>(
     ensures falls { result ≡ true → length at.new.rest.now < length at.old.rest.now }
 {
     let next = to_member(at);
-    id_member(at, next, names, limits, end, kinds, meter, writer, sink)
-}
-
-// Hands on the member here, where it has an id.
-#[inline(always)]
-fn id_member<'a, N: Names, W: ValueWriter<O, A>, O: Output, A: Allocator + Copy>(
-    at: &mut Spot<'a>,
-    next: Next<'a>,
-    names: &'a N,
-    limits: Limits,
-    end: u64,
-    kinds: &mut Stack<Kind, A>,
-    meter: &mut Meter<A>,
-    writer: &mut W,
-    sink: &mut Sink<O, A>,
-) -> bool
-    requires can { CanFeed W.ValueWriter limits end
-        (lane kinds.old at.old writer.old sink.old meter.old) }
-    requires next { IsNext at.old.rest.now next }
-    ensures moved { MovedBy W.ValueWriter limits end (N.text names.now)
-        (lane kinds.old at.old writer.old sink.old meter.old)
-        (lane kinds.new at.new writer.new sink.new meter.new) }
-    ensures goes { length kinds.new + length at.new.rest.now
-        ≤ length kinds.old + length at.old.rest.now }
-    ensures falls { result ≡ true → length at.new.rest.now < length at.old.rest.now }
-{
     match id_start(*at, next, names, limits, end - at.rest.len() as u64) {
         Some(start) => id_value(
             at, next.rest, start, names, limits, end, kinds, meter, writer, sink,

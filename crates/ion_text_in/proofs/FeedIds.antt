@@ -130,7 +130,7 @@ start-named texts limits spot place named next (Some s) field is here h = record
 }
 
 -- the name is a text, if there is one
-text-start : (texts : ℕ → Option (List ℕ)) {pair : Option SecondAt} {limits : Limits} {spot : Spot} {place : ℕ} {start : Start} → IsFurther pair limits spot place start → IsStartBy texts pair limits spot place start
+pub text-start : (texts : ℕ → Option (List ℕ)) {pair : Option SecondAt} {limits : Limits} {spot : Spot} {place : ℕ} {start : Start} → IsFurther pair limits spot place start → IsStartBy texts pair limits spot place start
 text-start texts {start} h = record { raw = option_map placed_text start.field; seen = text-seen texts start.field; read = h }
 
 pub start-text : (texts : ℕ → Option (List ℕ)) (limits : Limits) (spot : Spot) (place : ℕ) (start : Option Start) → IfSome start (IsStart limits spot place) → IfSome start (IsStartBy texts None limits spot place)
@@ -156,8 +156,8 @@ pub head-id-seen : (texts : ℕ → Option (List ℕ)) (id place : ℕ) (text : 
 head-id-seen texts id place text has = ap (λ (a : SymbolAt). value.whole (value.symbol a)) (id-seen texts id place text has)
 
 -- a head that is no id
-pub found-text : (texts : ℕ → Option (List ℕ)) (limits : Limits) (place : ℕ) (bytes : List ℕ) (found : Found) → IsFound limits place bytes found → IsFoundBy texts limits place bytes found
-found-text texts limits place bytes found h = record { raw = raw_head found.head; seen = head-seen texts (raw_head found.head) h.head.known; head = h.head; spelled = h.spelled }
+pub found-text : (texts : ℕ → Option (List ℕ)) {limits : Limits} {place : ℕ} {bytes : List ℕ} {found : Found} → IsFound limits place bytes found → IsFoundBy texts limits place bytes found
+found-text texts {found} h = record { raw = raw_head found.head; seen = head-seen texts (raw_head found.head) h.head.known; head = h.head; spelled = h.spelled }
 
 -- ---- by the texts that ids have
 
@@ -177,12 +177,9 @@ start-read {start} h = record { raw = option_map placed_text start.field; read =
 pub found-read : {limits : Limits} {place : ℕ} {bytes : List ℕ} {found : Found} → IsFound limits place bytes found → IsFoundRead limits place bytes found
 found-read {found} h = record { raw = raw_head found.head; head = h.head; spelled = h.spelled }
 
--- what is moved by any texts, where name and head are texts themselves, is moved whatever they are
-pub moved-text : {W O A : Type 0} {w : WriterOf W O A} {limits : Limits} {end : ℕ} {l n : Lane W O} {pair : Option SecondAt} {spot : Spot} {before place : ℕ} {start : Start} {bytes : List ℕ} {found : Found}
-    → IsFurther pair limits spot before start → IsFound limits place bytes found
-    → ((texts : ℕ → Option (List ℕ)) → IsStartBy texts pair limits spot before start → IsFoundBy texts limits place bytes found → MovedBy w limits end texts l n) → Moved w limits end l n
-moved-text {limits} {place} {start} {bytes} {found} s f moves =
-    let by = λ (texts : ℕ → Option (List ℕ)). moves texts (text-start texts s) (found-text texts limits place bytes found f) in
+-- what is moved by any texts is moved whatever they are
+pub moved-any : {W O A : Type 0} {w : WriterOf W O A} {limits : Limits} {end : ℕ} {l n : Lane W O} → ((texts : ℕ → Option (List ℕ)) → MovedBy w limits end texts l n) → Moved w limits end l n
+moved-any by =
     let one = by (λ id. None) in
     record {
       feeds = λ texts _ more. (by texts).feeds texts refl more;
@@ -197,3 +194,9 @@ moved-text {limits} {place} {start} {bytes} {found} s f moves =
       stays = one.stays;
       charges = one.charges;
     }
+
+-- so is what name and head are read of, where both are texts
+pub moved-text : {W O A : Type 0} {w : WriterOf W O A} {limits : Limits} {end : ℕ} {l n : Lane W O} {pair : Option SecondAt} {spot : Spot} {before place : ℕ} {start : Start} {bytes : List ℕ} {found : Found}
+    → IsFurther pair limits spot before start → IsFound limits place bytes found
+    → ((texts : ℕ → Option (List ℕ)) → IsStartBy texts pair limits spot before start → IsFoundBy texts limits place bytes found → MovedBy w limits end texts l n) → Moved w limits end l n
+moved-text s f moves = moved-any (λ texts. moves texts (text-start texts s) (found-text texts f))

@@ -388,6 +388,46 @@ fn scalar<'a, W: ValueWriter<O, A>, O: Output, A: Allocator + Copy>(
     true
 }
 
+// Hands on the value that begins here, whatever it is but an id, behind its name, which may be one, and
+// its annotations, and says whether it did.
+#[inline(always)]
+fn by_head<'a, W: ValueWriter<O, A>, O: Output, A: Allocator + Copy>(
+    at: &mut Spot<'a>,
+    start: Start<'a>,
+    second: Option<SecondAt<'a>>,
+    limits: Limits,
+    end: u64,
+    kinds: &mut Stack<Kind, A>,
+    meter: &mut Meter<A>,
+    writer: &mut W,
+    sink: &mut Sink<O, A>,
+) -> bool
+    requires can { CanFeed W.ValueWriter limits end
+        (lane kinds.old at.old writer.old sink.old meter.old) }
+    requires start { IsStartRead second limits at.old (end - length at.old.rest.now) start }
+    ensures moved { (texts : ℕ → Option (List ℕ))
+        → IsStartBy texts second.entry limits at.old (end - length at.old.rest.now) start.entry
+        → MovedBy W.ValueWriter limits end texts
+        (lane kinds.old at.old writer.old sink.old meter.old)
+        (lane kinds.new at.new writer.new sink.new meter.new) }
+    ensures goes { length kinds.new + length at.new.rest.now
+        ≤ length kinds.old + length at.old.rest.now }
+    ensures falls { result ≡ true → length at.new.rest.now < length at.old.rest.now }
+{
+    let place = end - start.next.rest.len() as u64;
+    let Some(found) = scan_head(limits, place, start.next) else {
+        return false;
+    };
+    match found.head {
+        Head::Begin(kind) => begin(
+            at, start, second, found, kind, limits, end, kinds, meter, writer, sink,
+        ),
+        _ => scalar(
+            at, start, second, found, limits, end, kinds, meter, writer, sink,
+        ),
+    }
+}
+
 // Hands on the value that begins here, whatever it is, behind its field's name and its annotation.
 // A second annotation may stand here first.
 #[inline(never)]
@@ -413,23 +453,10 @@ fn any_value<'a, W: ValueWriter<O, A>, O: Output, A: Allocator + Copy>(
 {
     let mut at = spot;
     let Further { start, second } = with_second(spot, start, limits, end);
-    let Some(found) = scan_head(limits, end - start.next.rest.len() as u64, start.next) else {
-        return Turned { spot, more: false };
-    };
-    match found.head {
-        Head::Begin(kind) => {
-            let more = begin(
-                &mut at, start, second, found, kind, limits, end, kinds, meter, writer, sink,
-            );
-            Turned { spot: at, more }
-        }
-        _ => {
-            let more = scalar(
-                &mut at, start, second, found, limits, end, kinds, meter, writer, sink,
-            );
-            Turned { spot: at, more }
-        }
-    }
+    let more = by_head(
+        &mut at, start, second, limits, end, kinds, meter, writer, sink,
+    );
+    Turned { spot: at, more }
 }
 
 // Hands on a value of a rare kind: it is a call, over a copy of where the lane stands.

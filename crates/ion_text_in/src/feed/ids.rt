@@ -8,7 +8,7 @@ use super::heads::scan_head;
 use super::names::{behind_name, field_start};
 use super::noted::begins_dollar;
 use super::{
-    Found, Next, Spot, Start, begin, behind, next_told, place_behind, scalar, to_member,
+    Found, Next, Spot, Start, begin, behind, by_head, next_told, place_behind, scalar, to_member,
     value_start,
 };
 use crate::blank::run_without;
@@ -206,82 +206,18 @@ fn id_value<'a, N: Names, W: ValueWriter<O, A>, O: Output, A: Allocator + Copy>(
     ensures falls { result ≡ true → length at.new.rest.now < length at.old.rest.now }
 {
     if begins_dollar(start.next.rest) {
-        return id_symbol(at, start, names, limits, end, kinds, meter, writer, sink);
+        let place = end - start.next.rest.len() as u64;
+        return match id_head(start.next.rest, names, limits, place) {
+            Some(found) => scalar(
+                at, start, None, found, limits, end, kinds, meter, writer, sink,
+            ),
+            None => false,
+        };
     }
     if begins_dollar(name) {
-        return other_value(at, start, limits, end, kinds, meter, writer, sink);
+        return by_head(at, start, None, limits, end, kinds, meter, writer, sink);
     }
     false
-}
-
-// Hands on the id that stands here as a symbol.
-#[inline(always)]
-fn id_symbol<'a, N: Names, W: ValueWriter<O, A>, O: Output, A: Allocator + Copy>(
-    at: &mut Spot<'a>,
-    start: Start<'a>,
-    names: &'a N,
-    limits: Limits,
-    end: u64,
-    kinds: &Stack<Kind, A>,
-    meter: &mut Meter<A>,
-    writer: &mut W,
-    sink: &mut Sink<O, A>,
-) -> bool
-    requires can { CanFeed W.ValueWriter limits end
-        (lane kinds.now at.old writer.old sink.old meter.old) }
-    requires start { IsStartBy (N.text names.now) None limits at.old
-        (end - length at.old.rest.now) start }
-    requires dollar { first_is (λ b. b == 36) start.next.rest.now ≡ true }
-    ensures moved { MovedBy W.ValueWriter limits end (N.text names.now)
-        (lane kinds.now at.old writer.old sink.old meter.old)
-        (lane kinds.now at.new writer.new sink.new meter.new) }
-    ensures falls { result ≡ true → length at.new.rest.now < length at.old.rest.now }
-{
-    let place = end - start.next.rest.len() as u64;
-    match id_head(start.next.rest, names, limits, place) {
-        Some(found) => scalar(
-            at, start, None, found, limits, end, kinds, meter, writer, sink,
-        ),
-        None => false,
-    }
-}
-
-// Hands on the value that begins here and is no id.
-#[inline(always)]
-fn other_value<'a, W: ValueWriter<O, A>, O: Output, A: Allocator + Copy>(
-    at: &mut Spot<'a>,
-    start: Start<'a>,
-    limits: Limits,
-    end: u64,
-    kinds: &mut Stack<Kind, A>,
-    meter: &mut Meter<A>,
-    writer: &mut W,
-    sink: &mut Sink<O, A>,
-) -> bool
-    requires can { CanFeed W.ValueWriter limits end
-        (lane kinds.old at.old writer.old sink.old meter.old) }
-    requires start { IsStartRead None limits at.old (end - length at.old.rest.now) start }
-    ensures moved { (texts : ℕ → Option (List ℕ))
-        → IsStartBy texts None limits at.old (end - length at.old.rest.now) start.entry
-        → MovedBy W.ValueWriter limits end texts
-        (lane kinds.old at.old writer.old sink.old meter.old)
-        (lane kinds.new at.new writer.new sink.new meter.new) }
-    ensures goes { length kinds.new + length at.new.rest.now
-        ≤ length kinds.old + length at.old.rest.now }
-    ensures falls { result ≡ true → length at.new.rest.now < length at.old.rest.now }
-{
-    let place = end - start.next.rest.len() as u64;
-    let Some(found) = scan_head(limits, place, start.next) else {
-        return false;
-    };
-    match found.head {
-        Head::Begin(kind) => begin(
-            at, start, None, found, kind, limits, end, kinds, meter, writer, sink,
-        ),
-        _ => scalar(
-            at, start, None, found, limits, end, kinds, meter, writer, sink,
-        ),
-    }
 }
 
 // A symbol that is an id, where a token is told behind it that is no two colons.

@@ -1,9 +1,9 @@
-use Rattle.std.proofs.Common.{◌-◌, length, arith}
+use Rattle.std.proofs.Common.{◌-◌, arith}
 use Rattle.std.proofs.lemmas.Grind.{common_steps}
 use Rattle.ion_text_in.specs.Feeding.{lane}
 use Rattle.ion_text_in.proofs.FeedIds.{found-text, found-read}
 use Rattle.ion_text_in.proofs.FeedLanes.{moved-none}
-use Rattle.ion_text_in.proofs.feed.ids.other_value.Goals as goal
+use Rattle.ion_text_in.proofs.feed.by_head.Goals as goal
 
 pub returns-in_default-clause-moved : goal.returns-in_default-clause-moved
 returns-in_default-clause-moved g c = λ texts start.
@@ -20,16 +20,14 @@ returns-in-Begin-clause-goes g c = grind (arith, common_steps) steps 400000
 
 pub returns-in-Begin-clause-moved : goal.returns-in-Begin-clause-moved
 returns-in-Begin-clause-moved g c = λ texts start.
-    let bytes = c.args.start.next.rest.now in
-    c.begin.ensures.moved texts start (found-text texts c.args.limits (c.args.end - length bytes) bytes c.in-Some.found c.in-Some.ensures)
+    c.begin.ensures.moved texts start (found-text texts c.in-Some.ensures)
 
 pub begin-requires-clause-found : goal.begin-requires-clause-found
 begin-requires-clause-found g c = found-read c.in-Some.ensures
 
 pub returns-in_default-head-clause-moved : goal.returns-in_default-head-clause-moved
 returns-in_default-head-clause-moved g c = λ texts start.
-    let bytes = c.args.start.next.rest.now in
-    c.scalar.ensures.moved texts start (found-text texts c.args.limits (c.args.end - length bytes) bytes c.in-Some.found c.in-Some.ensures)
+    c.scalar.ensures.moved texts start (found-text texts c.in-Some.ensures)
 
 pub scalar-requires-clause-found : goal.scalar-requires-clause-found
 scalar-requires-clause-found g c = found-read c.in-Some.ensures

@@ -16,6 +16,7 @@ use Rattle.ion_value.specs.Value as value
 use Rattle.ion_value.specs.Value.{Scalar, Symbol, SymbolAt}
 use Rattle.ion_text_in.specs.declared.feed.Next.{Next}
 use Rattle.ion_text_in.specs.declared.scanned.Scanned.TheVariants.{Whole}
+use Rattle.ion_text_in.specs.declared.word.Word.{Word}
 use Rattle.ion_text_in.specs.Feeding.{item_in, IsBare, IsBehind, IsHead, IsHeadAs, IsNext, IsSimpleWord}
 use Rattle.ion_text_in.specs.Meaning.{at}
 use Rattle.ion_text_in.specs.Positions as positions
@@ -26,9 +27,11 @@ use Rattle.ion_text_in.specs.Scanners.{Shows}
 use Rattle.ion_text_in.specs.Steps.{comes, later}
 use Rattle.ion_text_in.specs.Token as tokens
 use Rattle.ion_text_in.specs.Token.{First, Token, first_at, token_of}
+use Rattle.ion_text_in.specs.Views.{word_token_of}
 use Rattle.ion_text_in.proofs.FeedNames.{dollar-version}
 use Rattle.ion_text_in.proofs.FeedReading.{behind-then, later-token, mark-behind, may-value, plain-gives, some-behind}
 use Rattle.ion_text_in.proofs.FirstTokens.{no-colons}
+use Rattle.ion_text_in.proofs.ShownFurther.{shown-some}
 
 -- ---- scalars that are no text and no symbol
 
@@ -48,6 +51,16 @@ head-plain limits place n first body bytes rest known range behind counts within
           let q_is : place + n ≡ q = omega (arith, e, long, within) in
           plain-gives limits place q first body bytes (drop n bytes) bare some begins kinds top field annotations more (shown place more ∙ ap (λ (k : ℕ). Ok (tokens.plain body, at k (drop n bytes ++ more))) q_is);
     })
+
+-- a null or a bool, as the code reads it of a word
+pub head-keyword : {limits : Limits} {place n : ℕ} {x known : Word} {body : Scalar SymbolAt} {bytes rest : List ℕ} → x ≡ known → word_token_of (take n bytes) known ≡ tokens.plain body → IsKnownScalar body → InRange body
+    → rest ≡ drop n bytes → Shows (word_token_of (take n bytes)) bytes (Whole x n) (token_of (Some limits.scalar) tokens.a_word)
+    → IsBare bytes → 0 < length bytes → ((in_sexp : Bool) (more : List ℕ) → first_at in_sexp (bytes ++ more) ≡ tokens.a_word) → IsHead limits place bytes (value.whole body) rest
+head-keyword {limits} {place} {n} {x} {body} {bytes} {rest} is says known range behind shows bare some begins =
+    let counts = shown-some (word_token_of (take n bytes)) bytes x n (Some limits.scalar) tokens.a_word shows some in
+    let token = ap (λ (w : Word). word_token_of (take n bytes) w) is ∙ says in
+    head-plain limits place n tokens.a_word body bytes rest known range behind (omega (arith, counts)) shows.0
+    (λ place more. shows.1 place more ∙ ap (λ (t : Token). Ok (t, at (place + n) (drop n bytes ++ more))) token) bare some begins
 
 -- ---- strings
 

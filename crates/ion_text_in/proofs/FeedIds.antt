@@ -5,13 +5,15 @@ use Rattle.std.proofs.lemmas.List.{length-drop}
 use Rattle.ion_meter.specs.Sources.{Cursor}
 use Rattle.ion_meter.specs.declared.limits.Limits.{Limits}
 use Rattle.ion_value.specs.declared.ion_type.Kind.{Kind}
+use Rattle.ion_value.specs.declared.plain_item.SecondAt.{SecondAt}
 use Rattle.ion_value.specs.declared.plain_item.TextAt.{TextAt}
+use Rattle.ion_value.specs.declared.writer.ValueWriter.{Ghosts as WriterOf}
 use Rattle.ion_value.specs.Digits.{first_is}
 use Rattle.ion_value.specs.Items.{named_at, raw_head, text_or_id}
 use Rattle.ion_value.specs.Name.{is_simple}
 use Rattle.ion_value.specs.PlainItems.{placed_text}
 use Rattle.ion_value.specs.Value as value
-use Rattle.ion_value.specs.Value.{Head, Symbol, SymbolAt, map_head}
+use Rattle.ion_value.specs.Value.{SymbolAt, map_head}
 use Rattle.ion_text_in.specs.Blanks.{blanks}
 use Rattle.ion_text_in.specs.declared.expected.Expected.TheVariants as codes_of
 use Rattle.ion_text_in.specs.declared.feed.Found.{Found}
@@ -21,7 +23,7 @@ use Rattle.ion_text_in.specs.declared.feed.Start.{Start}
 use Rattle.ion_text_in.specs.declared.scanned.Scanned.TheVariants.{Whole}
 use Rattle.ion_text_in.specs.declared.word.Word.{Word}
 use Rattle.ion_text_in.specs.declared.word.Word.TheVariants as word
-use Rattle.ion_text_in.specs.Feeding.{expected_of, IsBare, IsBehindName, IsFound, IsFoundBy, IsHeadAs, IsIdOf, IsNamed, IsNamedBy, IsNext, IsStart, IsStartBy}
+use Rattle.ion_text_in.specs.Feeding.{expected_of, IsBare, IsBehindName, IsFound, IsFoundBy, IsFoundRead, IsFurther, IsHeadAs, IsIdOf, IsNamed, IsNamedBy, IsNext, IsStart, IsStartBy, IsStartRead, Lane, Moved, MovedBy}
 use Rattle.ion_text_in.specs.Meaning.{at}
 use Rattle.ion_text_in.specs.Positions as positions
 use Rattle.ion_text_in.specs.Positions.{a_field}
@@ -119,7 +121,7 @@ named-text texts limits place bytes None h = tt
 named-text texts limits place bytes (Some s) h = record { text = h.text; raw = placed_text h.text; seen = refl; name = h.name }
 
 pub start-named : (texts : ℕ → Option (List ℕ)) (limits : Limits) (spot : Spot) (place named : ℕ) (next : Next) (start : Option Start) → expected_of spot ≡ codes_of.Field → IsNext spot.rest.now next
-    → named ≡ place + (length spot.rest.now - length next.rest.now) → IfSome start (IsNamedBy texts limits named next.rest.now) → IfSome start (IsStartBy texts limits spot place)
+    → named ≡ place + (length spot.rest.now - length next.rest.now) → IfSome start (IsNamedBy texts limits named next.rest.now) → IfSome start (IsStartBy texts None limits spot place)
 start-named texts limits spot place named next None field is here h = tt
 start-named texts limits spot place named next (Some s) field is here h = record {
   raw = Some h.raw;
@@ -127,10 +129,13 @@ start-named texts limits spot place named next (Some s) field is here h = record
   read = start-as limits spot place named next h.text h.raw s field is here h.name;
 }
 
--- the same where the name is a text, if there is one
-pub start-text : (texts : ℕ → Option (List ℕ)) (limits : Limits) (spot : Spot) (place : ℕ) (start : Option Start) → IfSome start (IsStart limits spot place) → IfSome start (IsStartBy texts limits spot place)
+-- the name is a text, if there is one
+pub text-start : (texts : ℕ → Option (List ℕ)) {pair : Option SecondAt} {limits : Limits} {spot : Spot} {place : ℕ} {start : Start} → IsFurther pair limits spot place start → IsStartBy texts pair limits spot place start
+text-start texts {start} h = record { raw = option_map placed_text start.field; seen = text-seen texts start.field; read = h }
+
+pub start-text : (texts : ℕ → Option (List ℕ)) (limits : Limits) (spot : Spot) (place : ℕ) (start : Option Start) → IfSome start (IsStart limits spot place) → IfSome start (IsStartBy texts None limits spot place)
 start-text texts limits spot place None h = tt
-start-text texts limits spot place (Some s) h = record { raw = option_map placed_text s.field; seen = text-seen texts s.field; read = h }
+start-text texts limits spot place (Some s) h = text-start texts h
 
 -- ---- a value
 
@@ -151,15 +156,47 @@ pub head-id-seen : (texts : ℕ → Option (List ℕ)) (id place : ℕ) (text : 
 head-id-seen texts id place text has = ap (λ (a : SymbolAt). value.whole (value.symbol a)) (id-seen texts id place text has)
 
 -- a head that is no id
-pub found-text : (texts : ℕ → Option (List ℕ)) (limits : Limits) (place : ℕ) (bytes : List ℕ) (found : Found) → IsFound limits place bytes found → IsFoundBy texts limits place bytes found
-found-text texts limits place bytes found h = record { raw = raw_head found.head; seen = head-seen texts (raw_head found.head) h.head.known; head = h.head; spelled = h.spelled }
+pub found-text : (texts : ℕ → Option (List ℕ)) {limits : Limits} {place : ℕ} {bytes : List ℕ} {found : Found} → IsFound limits place bytes found → IsFoundBy texts limits place bytes found
+found-text texts {found} h = record { raw = raw_head found.head; seen = head-seen texts (raw_head found.head) h.head.known; head = h.head; spelled = h.spelled }
 
 -- ---- by the texts that ids have
 
-pub start-seen : {texts : ℕ → Option (List ℕ)} {limits : Limits} {spot : Spot} {place : ℕ} {start : Start} (s : IsStartBy texts limits spot place start) (t : ℕ → Option (List ℕ)) → t ≡ texts
+pub start-seen : {texts : ℕ → Option (List ℕ)} {pair : Option SecondAt} {limits : Limits} {spot : Spot} {place : ℕ} {start : Start} (s : IsStartBy texts pair limits spot place start) (t : ℕ → Option (List ℕ)) → t ≡ texts
     → option_map (named_at t) s.raw ≡ option_map placed_text start.field
 start-seen {start} s t is = subst (λ (x : ℕ → Option (List ℕ)). option_map (named_at x) s.raw ≡ option_map placed_text start.field) (sym is) s.seen
 
 pub found-seen : {texts : ℕ → Option (List ℕ)} {limits : Limits} {place : ℕ} {bytes : List ℕ} {found : Found} (f : IsFoundBy texts limits place bytes found) (t : ℕ → Option (List ℕ)) → t ≡ texts
     → map_head (named_at t) f.raw ≡ raw_head found.head
 found-seen {found} f t is = subst (λ (x : ℕ → Option (List ℕ)). map_head (named_at x) f.raw ≡ raw_head found.head) (sym is) f.seen
+
+-- ---- however they are read
+
+pub start-read : {pair : Option SecondAt} {limits : Limits} {spot : Spot} {place : ℕ} {start : Start} → IsFurther pair limits spot place start → IsStartRead pair limits spot place start
+start-read {start} h = record { raw = option_map placed_text start.field; read = h }
+
+pub found-read : {limits : Limits} {place : ℕ} {bytes : List ℕ} {found : Found} → IsFound limits place bytes found → IsFoundRead limits place bytes found
+found-read {found} h = record { raw = raw_head found.head; head = h.head; spelled = h.spelled }
+
+-- what is moved by any texts is moved whatever they are
+pub moved-any : {W O A : Type 0} {w : WriterOf W O A} {limits : Limits} {end : ℕ} {l n : Lane W O} → ((texts : ℕ → Option (List ℕ)) → MovedBy w limits end texts l n) → Moved w limits end l n
+moved-any by =
+    let one = by (λ id. None) in
+    record {
+      feeds = λ texts _ more. (by texts).feeds texts refl more;
+      falls = one.falls;
+      part = one.part;
+      fewer = one.fewer;
+      few = one.few;
+      kind = one.kind;
+      expects = one.expects;
+      takes = one.takes;
+      share = one.share;
+      stays = one.stays;
+      charges = one.charges;
+    }
+
+-- so is what name and head are read of, where both are texts
+pub moved-text : {W O A : Type 0} {w : WriterOf W O A} {limits : Limits} {end : ℕ} {l n : Lane W O} {pair : Option SecondAt} {spot : Spot} {before place : ℕ} {start : Start} {bytes : List ℕ} {found : Found}
+    → IsFurther pair limits spot before start → IsFound limits place bytes found
+    → ((texts : ℕ → Option (List ℕ)) → IsStartBy texts pair limits spot before start → IsFoundBy texts limits place bytes found → MovedBy w limits end texts l n) → Moved w limits end l n
+moved-text s f moves = moved-any (λ texts. moves texts (text-start texts s) (found-text texts f))

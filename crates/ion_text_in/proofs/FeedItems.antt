@@ -27,13 +27,12 @@ use Rattle.ion_text_in.specs.declared.feed.Next.{Next}
 use Rattle.ion_text_in.specs.declared.feed.Spot.{Spot}
 use Rattle.ion_text_in.specs.declared.feed.Start.{Start}
 use Rattle.ion_text_in.specs.Expecting.{expected_in, is_separated, kind_in, wanted, MayExpect}
-use Rattle.ion_text_in.specs.Feeding.{behind_head, expected_of, lane, notes, state, CanFeed, IsBehind, IsHead, IsFurther, IsHeadAs, IsNext, IsStartAs, Moved, MovedFor, Onward}
+use Rattle.ion_text_in.specs.Feeding.{behind_head, expected_of, lane, notes, state, CanFeed, IsBehind, IsHeadAs, IsNext, IsStartAs, Moved, MovedFor, Onward}
 use Rattle.ion_text_in.specs.Firsts.{numbered}
 use Rattle.ion_text_in.specs.Positions.{innermost}
 use Rattle.ion_text_in.specs.Reading.{at_member, behind_member, is_same, item_of, top_of}
 use Rattle.ion_text_in.specs.Steps.{later}
 use Rattle.ion_text_in.specs.Token as tokens
-use Rattle.ion_text_in.specs.Token.{first_at}
 use Rattle.ion_text_in.proofs.FeedReading.{behind-then, none-behind, some-behind, end-gives, onward-blanks, MayEnd, at_value, at_field, at_separator}
 use Rattle.ion_text_in.proofs.FeedLanes.{moved-item, moved-none, moved-onward}
 
@@ -143,16 +142,19 @@ module _ {W O A : Type 0} (w : WriterOf W O A) (limits : Limits) (end : ℕ) whe
       rw (writes, sinks, counts) (moved-stopped kinds spot now writer sink m same can)
 
   -- to where a member may begin
-  pub moved-member : (kinds : List Kind) (spot now : Spot) (writer : W) (sink : Outgoing O) (m : Counts) → now ≡ record spot { rest = now.rest; separator = now.separator }
-      → CanFeed w limits end (lane kinds spot writer sink m) → MayExpect (expected_of now) (reverse kinds) None []
-      → Onward limits (reverse kinds) spot.top (end - length spot.rest.now) (wanted (expected_of spot) None []) spot.rest.now (wanted (expected_of now) None []) now.rest.now
-      → Moved w limits end (lane kinds spot writer sink m) (lane kinds now writer sink m)
-  moved-member kinds spot now writer sink m same can may onward =
+  pub moved-member : {kinds : List Kind} {writer : W} {sink : Outgoing O} {m : Counts} (spot now : Spot) → now ≡ record spot { rest = now.rest; separator = now.separator }
+      → ((opened : List Kind) → kind_in opened ≡ spot.kind → MayExpect (expected_of spot) opened None [] → MayExpect (expected_of now) opened None [])
+      → ((limits : Limits) (opened : List Kind) (place : ℕ) → kind_in opened ≡ spot.kind
+      → Onward limits opened spot.top place (wanted (expected_of spot) None []) spot.rest.now (wanted (expected_of now) None []) now.rest.now)
+      → CanFeed w limits end (lane kinds spot writer sink m) → Moved w limits end (lane kinds spot writer sink m) (lane kinds now writer sink m)
+  moved-member {kinds} {writer} {sink} {m} spot now same expects onward can =
       let l = lane kinds spot writer sink m in
+      let opened = reverse kinds in
       let there : Spot = record spot { rest = now.rest; separator = now.separator } in
       subst (λ (s : Spot). Moved w limits end l (lane kinds s writer sink m)) (sym same)
-      (moved-onward w limits end l (expected_of there) now.rest.now can (subst (λ (s : Spot). MayExpect (expected_of s) (reverse kinds) None []) same may)
-      (subst (λ (s : Spot). Onward limits (reverse kinds) spot.top (end - length spot.rest.now) (wanted (expected_of spot) None []) spot.rest.now (wanted (expected_of s) None []) now.rest.now) same onward))
+      (moved-onward w limits end l (expected_of there) now.rest.now can (subst (λ (s : Spot). MayExpect (expected_of s) opened None []) same (expects opened can.kind can.expects))
+      (subst (λ (s : Spot). Onward limits opened spot.top (end - length spot.rest.now) (wanted (expected_of spot) None []) spot.rest.now (wanted (expected_of s) None []) now.rest.now) same
+      (onward limits opened (end - length spot.rest.now) can.kind)))
 
   -- ---- a container's end
 
@@ -266,20 +268,6 @@ module _ {W O A : Type 0} (w : WriterOf W O A) (limits : Limits) (end : ℕ) whe
       to_start.same place more (omega (arith, fewer, within))
       ∙ (head_is.gives (reverse kinds) spot.top (end - length new.rest.now) raw_name (with_second (notes start.note) pair) more fits (omega (arith, fewer, less, within))
       ∙ rw (opened, at_top, wants) refl))
-
-  -- both are texts
-  pub moved-head : {pair : Option SecondAt} (kinds left : List Kind) (spot new : Spot) (start : Start) (head : Head SymbolAt) (writer after : W) (sink behind : Outgoing O) (m y : Counts)
-      → CanFeed w limits end (lane kinds spot writer sink m) → IsFurther pair limits spot (end - length spot.rest.now) start
-      → IsHead limits (end - length start.next.rest.now) start.next.rest.now head new.rest.now → HasPlace limits.depth (reverse kinds) head
-      → reverse left ≡ open_after (reverse kinds) head → new.top ≡ top_of (reverse kinds) spot.top (notes start.note) (end - length start.next.rest.now)
-      → kind_in (reverse left) ≡ new.kind → wanted (expected_of new) None [] ≡ behind_head (reverse kinds) head → MayExpect (expected_of new) (reverse left) None []
-      → new.values ≡ spot.values + one_if_closed (reverse left) → length left ≤ limits.depth
-      → Took w (item_of new.top (option_map placed_text start.field) (with_second (notes start.note) pair) (end - length start.next.rest.now) head) writer after sink behind m y
-      → w.own after ≤ w.most writer
-      → Charges m y (16 * length kinds + w.own writer) (16 * length left + w.own after) (16 * limits.depth + w.most writer)
-      → Moved w limits end (lane kinds spot writer sink m) (lane left new after behind y)
-  moved-head kinds left spot new start head writer after sink behind m y can start_is head_is =
-      moved-seen kinds left spot new start head writer after sink behind m y (λ texts _. text-seen texts start.field) (λ texts _. head-seen texts head head_is.known) can start_is head_is
 
   -- ---- memory
 

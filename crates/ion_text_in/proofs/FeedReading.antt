@@ -9,8 +9,9 @@ use Rattle.ion_value.specs.Digits.{all_are, first_is}
 use Rattle.ion_value.specs.Parts.{part, refuse, ◌>>◌}
 use Rattle.ion_value.specs.Reading.{Gives, More}
 use Rattle.ion_value.specs.Value as value
-use Rattle.ion_value.specs.Value.{SymbolAt, Scalar, Head, PlacedItem}
+use Rattle.ion_value.specs.Value.{SymbolAt, Scalar, Head}
 use Rattle.ion_text_in.specs.Blanks.{blanks, is_white}
+use Rattle.ion_text_in.specs.declared.feed.Found.{Found}
 use Rattle.ion_text_in.specs.declared.feed.Next.{Next}
 use Rattle.ion_text_in.specs.declared.feed.Spot.{Spot}
 use Rattle.ion_text_in.specs.declared.feed.Start.{Start}
@@ -24,9 +25,10 @@ use Rattle.ion_text_in.specs.Expecting.{wanted, MayExpect}
 use Rattle.ion_text_in.specs.Quick.{as_quick}
 use Rattle.ion_text_in.specs.Scanners.{Shows}
 use Rattle.ion_text_in.specs.Views.{as_number, number_token}
-use Rattle.ion_value.specs.PlainItems.{IsKnownScalar}
+use Rattle.ion_value.specs.Items.{raw_head}
+use Rattle.ion_value.specs.PlainItems.{IsKnownScalar, IsTextOf}
 use Rattle.ion_value.specs.Standing.{InRange}
-use Rattle.ion_text_in.specs.Feeding.{expected_of, item_in, state, Begins, IsBare, IsBehind, IsHead, IsNext, IsStart, Onward, PassesBlanks}
+use Rattle.ion_text_in.specs.Feeding.{expected_of, item_in, state, Begins, IsBare, IsBehind, IsFound, IsHead, IsNext, IsStart, Onward, PassesBlanks}
 use Rattle.ion_text_in.specs.Meaning.{at}
 use Rattle.ion_text_in.specs.Positions.{Wants, a_value, a_field, a_separator, innermost, in_sexp}
 use Rattle.ion_text_in.specs.Reading.{take as taken, may_come, at_member, behind_member, is_same, item_step, item_of, member_of, top_of}
@@ -271,7 +273,7 @@ number-simple (numbers.Int i) = tt
 number-simple (numbers.Decimal d) = tt
 number-simple (numbers.Timestamp t) = tt
 
-pub head-number : (limits : Limits) (place : ℕ) (x : Quick) (bytes rest : List ℕ) (head : Head SymbolAt) → head ≡ value.whole (as_number (as_quick x)) → rest ≡ drop x.count bytes → 0 < x.count
+head-number : (limits : Limits) (place : ℕ) (x : Quick) (bytes rest : List ℕ) (head : Head SymbolAt) → head ≡ value.whole (as_number (as_quick x)) → rest ≡ drop x.count bytes → 0 < x.count
     → Shows number_token bytes (Whole (as_quick x) x.count) (token_of (Some limits.scalar) tokens.a_run) → InRange (as_number (as_quick x))
     → IsBare bytes → 0 < length bytes → ((in_sexp : Bool) (more : List ℕ) → first_at in_sexp (bytes ++ more) ≡ tokens.a_run) → IsHead limits place bytes head rest
 head-number limits place x bytes rest head is behind counts shows range bare some begins =
@@ -290,6 +292,15 @@ head-number limits place x bytes rest head is behind counts shows range bare som
           plain-gives limits place q tokens.a_run (as_number (as_quick x)) bytes (drop x.count bytes) bare some begins kinds top field annotations more
           (shows.1 place more ∙ ap (λ (k : ℕ). Ok (number_token (as_quick x), at k (drop x.count bytes ++ more))) q_is);
     }))
+
+-- the code found a number that it read in one pass
+pub found-number : {limits : Limits} {place : ℕ} {bytes : List ℕ} {found : Found} (x : Quick) → raw_head found.head ≡ value.whole (as_number (as_quick x)) → found.rest.now ≡ drop x.count bytes → 0 < x.count
+    → IfSome found.spelled (λ text. IsTextOf text.now (value.whole (as_number (as_quick x)))) → Shows number_token bytes (Whole (as_quick x) x.count) (token_of (Some limits.scalar) tokens.a_run) → InRange (as_number (as_quick x))
+    → IsBare bytes → 0 < length bytes → ((in_sexp : Bool) (more : List ℕ) → first_at in_sexp (bytes ++ more) ≡ tokens.a_run) → IsFound limits place bytes found
+found-number {limits} {place} {bytes} {found} x is behind counts spelled shows range bare some begins = record {
+  head = head-number limits place x bytes found.rest.now (raw_head found.head) is behind counts shows range bare some begins;
+  spelled = subst (λ (h : Head SymbolAt). IfSome found.spelled (λ text. IsTextOf text.now h)) (sym is) spelled;
+}
 
 -- ---- where a value begins
 

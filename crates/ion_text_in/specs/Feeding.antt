@@ -251,11 +251,16 @@ IsFurther pair limits spot place start = IsStartAs (option_map placed_text start
 abbrev pub IsStart : Limits → Spot → ℕ → Start → Type 0
 IsStart limits spot place start = IsFurther None limits spot place start
 
+-- however the name is read
+pub record IsStartRead (pair : Option SecondAt) (limits : Limits) (spot : Spot) (place : ℕ) (start : Start) : Type 0 where
+  pub raw : Option SymbolAt
+  pub read : IsStartAs raw pair limits spot place start
+
 -- the name is a text, or an id of this text
-pub record IsStartBy (texts : ℕ → Option (List ℕ)) (limits : Limits) (spot : Spot) (place : ℕ) (start : Start) : Type 0 where
+pub record IsStartBy (texts : ℕ → Option (List ℕ)) (pair : Option SecondAt) (limits : Limits) (spot : Spot) (place : ℕ) (start : Start) : Type 0 where
   pub raw : Option SymbolAt
   pub seen : option_map (named_at texts) raw ≡ option_map placed_text start.field
-  pub read : IsStartAs raw None limits spot place start
+  pub read : IsStartAs raw pair limits spot place start
 
 -- a head stands at the front of some bytes, and these behind it; it is read as `raw`
 pub record IsHeadAs (raw : Head SymbolAt) (limits : Limits) (place : ℕ) (bytes : List ℕ) (head : Head SymbolAt) (rest : List ℕ) : Type 0 where
@@ -276,6 +281,12 @@ IsHead limits place bytes head rest = IsHeadAs head limits place bytes head rest
 -- the same of what the code found, with the head's canonical text where it has that
 pub record IsFound (limits : Limits) (place : ℕ) (bytes : List ℕ) (found : Found) : Type 0 where
   pub head : IsHead limits place bytes (raw_head found.head) found.rest.now
+  pub spelled : IfSome found.spelled (λ text. IsTextOf text.now (raw_head found.head))
+
+-- the same, however it is read
+pub record IsFoundRead (limits : Limits) (place : ℕ) (bytes : List ℕ) (found : Found) : Type 0 where
+  pub raw : Head SymbolAt
+  pub head : IsHeadAs raw limits place bytes (raw_head found.head) found.rest.now
   pub spelled : IfSome found.spelled (λ text. IsTextOf text.now (raw_head found.head))
 
 -- the same where a symbol may be read as an id of its text

@@ -1,8 +1,8 @@
 //! A lane for items that lie whole in the window: they go to the writer as they are read.
-ghost use Rattle.std.specs.Prelude.{◌≡◌, ◌≢◌, ◌+◌, ◌-◌, ◌^◌, ◌<◌, ◌≤◌, ℕ, Bool, List, [], ◌∷◌, ◌++◌, take, drop, length, reverse, true, false, None, Some, Ok, option_map, IfSome};
+ghost use Rattle.std.specs.Prelude.{◌≡◌, ◌≢◌, ◌+◌, ◌-◌, ◌^◌, ◌<◌, ◌≤◌, ℕ, Bool, List, [], ◌∷◌, ◌++◌, take, drop, length, reverse, true, false, Option, None, Some, Ok, option_map, IfSome};
 ghost use Rattle.ion_value.specs.declared.ion_type.Kind as kind_of;
 ghost use Rattle.ion_text_in.specs.Expecting.{kind_in, wanted, MayExpect};
-ghost use Rattle.ion_text_in.specs.Feeding.{expected_of, lane, notes, Begins, CanFeed, IsFound, IsFurther, IsNext, IsSimpleWord, IsStart, Moved, MovedBy, Onward, PassesBlanks};
+ghost use Rattle.ion_text_in.specs.Feeding.{expected_of, lane, notes, Begins, CanFeed, IsFoundBy, IsFoundRead, IsNext, IsSimpleWord, IsStart, IsStartBy, IsStartRead, Moved, MovedBy, Onward, PassesBlanks};
 ghost use Rattle.ion_text_in.specs.Firsts.{numbered};
 ghost use Rattle.ion_text_in.specs.Reading.{top_of};
 ghost use Rattle.ion_text_in.specs.Token.{a_comma, a_run, a_short, a_word, an_end, first_at};
@@ -279,7 +279,7 @@ fn top_at(top: u64, inner: Option<Kind>, note: Option<TextAt<'_>>, place: u64) -
     }
 }
 
-// Hands on a container's beginning, and says whether it did.
+// Hands on a container's beginning, whose name may be an id, and says whether it did.
 #[inline(always)]
 fn begin<'a, W: ValueWriter<O, A>, O: Output, A: Allocator + Copy>(
     at: &mut Spot<'a>,
@@ -296,10 +296,15 @@ fn begin<'a, W: ValueWriter<O, A>, O: Output, A: Allocator + Copy>(
 ) -> bool
     requires can { CanFeed W.ValueWriter limits end
         (lane kinds.old at.old writer.old sink.old meter.old) }
-    requires start { IsFurther second limits at.old (end - length at.old.rest.now) start }
-    requires found { IsFound limits (end - length start.next.rest.now) start.next.rest.now found }
+    requires start { IsStartRead second limits at.old (end - length at.old.rest.now) start }
+    requires found { IsFoundRead limits (end - length start.next.rest.now)
+        start.next.rest.now found }
     requires begins { found.head ≡ Head.Begin kind }
-    ensures moved { Moved W.ValueWriter limits end
+    ensures moved { (texts : ℕ → Option (List ℕ))
+        → IsStartBy texts second.entry limits at.old (end - length at.old.rest.now) start.entry
+        → IsFoundBy texts limits (end - length start.entry.next.rest.now)
+        start.entry.next.rest.now found.entry
+        → MovedBy W.ValueWriter limits end texts
         (lane kinds.old at.old writer.old sink.old meter.old)
         (lane kinds.new at.new writer.new sink.new meter.new) }
     ensures goes { length kinds.new + length at.new.rest.now
@@ -334,7 +339,7 @@ fn begin<'a, W: ValueWriter<O, A>, O: Output, A: Allocator + Copy>(
     true
 }
 
-// Hands on a scalar, and says whether it did.
+// Hands on a scalar, whose name may be an id, or it itself, and says whether it did.
 #[inline(always)]
 fn scalar<'a, W: ValueWriter<O, A>, O: Output, A: Allocator + Copy>(
     at: &mut Spot<'a>,
@@ -350,12 +355,18 @@ fn scalar<'a, W: ValueWriter<O, A>, O: Output, A: Allocator + Copy>(
 ) -> bool
     requires can { CanFeed W.ValueWriter limits end
         (lane kinds.now at.old writer.old sink.old meter.old) }
-    requires start { IsFurther second limits at.old (end - length at.old.rest.now) start }
-    requires found { IsFound limits (end - length start.next.rest.now) start.next.rest.now found }
+    requires start { IsStartRead second limits at.old (end - length at.old.rest.now) start }
+    requires found { IsFoundRead limits (end - length start.next.rest.now)
+        start.next.rest.now found }
     requires whole { (kind : kind_of.Kind) → found.head ≢ Head.Begin kind }
-    ensures moved { Moved W.ValueWriter limits end
+    ensures moved { (texts : ℕ → Option (List ℕ))
+        → IsStartBy texts second.entry limits at.old (end - length at.old.rest.now) start.entry
+        → IsFoundBy texts limits (end - length start.entry.next.rest.now)
+        start.entry.next.rest.now found.entry
+        → MovedBy W.ValueWriter limits end texts
         (lane kinds.now at.old writer.old sink.old meter.old)
         (lane kinds.now at.new writer.new sink.new meter.new) }
+    ensures goes { length at.new.rest.now ≤ length at.old.rest.now }
     ensures falls { result ≡ true → length at.new.rest.now < length at.old.rest.now }
 {
     let inner = innermost(kinds);
@@ -375,6 +386,46 @@ fn scalar<'a, W: ValueWriter<O, A>, O: Output, A: Allocator + Copy>(
     }
     pass_value(at, found.rest, top, inner);
     true
+}
+
+// Hands on the value that begins here, whatever it is but an id, behind its name, which may be one, and
+// its annotations, and says whether it did.
+#[inline(always)]
+fn by_head<'a, W: ValueWriter<O, A>, O: Output, A: Allocator + Copy>(
+    at: &mut Spot<'a>,
+    start: Start<'a>,
+    second: Option<SecondAt<'a>>,
+    limits: Limits,
+    end: u64,
+    kinds: &mut Stack<Kind, A>,
+    meter: &mut Meter<A>,
+    writer: &mut W,
+    sink: &mut Sink<O, A>,
+) -> bool
+    requires can { CanFeed W.ValueWriter limits end
+        (lane kinds.old at.old writer.old sink.old meter.old) }
+    requires start { IsStartRead second limits at.old (end - length at.old.rest.now) start }
+    ensures moved { (texts : ℕ → Option (List ℕ))
+        → IsStartBy texts second.entry limits at.old (end - length at.old.rest.now) start.entry
+        → MovedBy W.ValueWriter limits end texts
+        (lane kinds.old at.old writer.old sink.old meter.old)
+        (lane kinds.new at.new writer.new sink.new meter.new) }
+    ensures goes { length kinds.new + length at.new.rest.now
+        ≤ length kinds.old + length at.old.rest.now }
+    ensures falls { result ≡ true → length at.new.rest.now < length at.old.rest.now }
+{
+    let place = end - start.next.rest.len() as u64;
+    let Some(found) = scan_head(limits, place, start.next) else {
+        return false;
+    };
+    match found.head {
+        Head::Begin(kind) => begin(
+            at, start, second, found, kind, limits, end, kinds, meter, writer, sink,
+        ),
+        _ => scalar(
+            at, start, second, found, limits, end, kinds, meter, writer, sink,
+        ),
+    }
 }
 
 // Hands on the value that begins here, whatever it is, behind its field's name and its annotation.
@@ -402,23 +453,10 @@ fn any_value<'a, W: ValueWriter<O, A>, O: Output, A: Allocator + Copy>(
 {
     let mut at = spot;
     let Further { start, second } = with_second(spot, start, limits, end);
-    let Some(found) = scan_head(limits, end - start.next.rest.len() as u64, start.next) else {
-        return Turned { spot, more: false };
-    };
-    match found.head {
-        Head::Begin(kind) => {
-            let more = begin(
-                &mut at, start, second, found, kind, limits, end, kinds, meter, writer, sink,
-            );
-            Turned { spot: at, more }
-        }
-        _ => {
-            let more = scalar(
-                &mut at, start, second, found, limits, end, kinds, meter, writer, sink,
-            );
-            Turned { spot: at, more }
-        }
-    }
+    let more = by_head(
+        &mut at, start, second, limits, end, kinds, meter, writer, sink,
+    );
+    Turned { spot: at, more }
 }
 
 // Hands on a value of a rare kind: it is a call, over a copy of where the lane stands.

@@ -1,15 +1,14 @@
 //! Members in a lane that have an id: their name is one, or they are one.
-ghost use Rattle.std.specs.Prelude.{◌≡◌, ◌≢◌, ◌+◌, ◌-◌, ◌^◌, ◌<◌, ◌≤◌, ◌==◌, true, length, IfSome};
+ghost use Rattle.std.specs.Prelude.{◌≡◌, ◌≢◌, ◌+◌, ◌-◌, ◌^◌, ◌<◌, ◌≤◌, ◌==◌, ℕ, List, Option, None, true, length, IfSome};
 ghost use Rattle.ion_value.specs.declared.ion_type.Kind as kind_of;
 ghost use Rattle.ion_value.specs.Digits.{first_is};
-ghost use Rattle.ion_text_in.specs.Feeding.{lane, Begins, CanFeed, IsFoundBy, IsIdOf, IsNamedBy, IsNext, IsStartBy, MovedBy};
+ghost use Rattle.ion_text_in.specs.Feeding.{lane, Begins, CanFeed, IsFoundBy, IsIdOf, IsNamedBy, IsNext, IsStartBy, IsStartRead, MovedBy};
 
-use super::close::pass_value;
 use super::heads::scan_head;
 use super::names::{behind_name, field_start};
 use super::noted::begins_dollar;
 use super::{
-    Found, Next, Spot, Start, behind, innermost, next_told, place_behind, to_member, top_at,
+    Found, Next, Spot, Start, begin, behind, by_head, next_told, place_behind, scalar, to_member,
     value_start,
 };
 use crate::blank::run_without;
@@ -23,7 +22,7 @@ use ion_meter::stack::Stack;
 use ion_value::ion_type::Kind;
 use ion_value::item::{Head, Sym, SymAt};
 use ion_value::names::Names;
-use ion_value::plain_item::{PlainItem, TextAt};
+use ion_value::plain_item::TextAt;
 use ion_value::writer::ValueWriter;
 use std::alloc::Allocator;
 
@@ -95,32 +94,6 @@ fn id_turn<'a, N: Names, W: ValueWriter<O, A>, O: Output, A: Allocator + Copy>(
     ensures falls { result ≡ true → length at.new.rest.now < length at.old.rest.now }
 {
     let next = to_member(at);
-    id_member(at, next, names, limits, end, kinds, meter, writer, sink)
-}
-
-// Hands on the member here, where it has an id.
-#[inline(always)]
-fn id_member<'a, N: Names, W: ValueWriter<O, A>, O: Output, A: Allocator + Copy>(
-    at: &mut Spot<'a>,
-    next: Next<'a>,
-    names: &'a N,
-    limits: Limits,
-    end: u64,
-    kinds: &mut Stack<Kind, A>,
-    meter: &mut Meter<A>,
-    writer: &mut W,
-    sink: &mut Sink<O, A>,
-) -> bool
-    requires can { CanFeed W.ValueWriter limits end
-        (lane kinds.old at.old writer.old sink.old meter.old) }
-    requires next { IsNext at.old.rest.now next }
-    ensures moved { MovedBy W.ValueWriter limits end (N.text names.now)
-        (lane kinds.old at.old writer.old sink.old meter.old)
-        (lane kinds.new at.new writer.new sink.new meter.new) }
-    ensures goes { length kinds.new + length at.new.rest.now
-        ≤ length kinds.old + length at.old.rest.now }
-    ensures falls { result ≡ true → length at.new.rest.now < length at.old.rest.now }
-{
     match id_start(*at, next, names, limits, end - at.rest.len() as u64) {
         Some(start) => id_value(
             at, next.rest, start, names, limits, end, kinds, meter, writer, sink,
@@ -140,7 +113,7 @@ fn id_start<'a, N: Names>(
 ) -> Option<Start<'a>>
     requires next { IsNext spot.rest.now next }
     requires small { place + length spot.rest.now < 2 ^ 63 }
-    ensures { IfSome result (IsStartBy (N.text names.now) limits spot.entry place) }
+    ensures { IfSome result (IsStartBy (N.text names.now) None limits spot.entry place) }
 {
     if spot.separator || next.rest.is_empty() {
         return None;
@@ -223,7 +196,7 @@ fn id_value<'a, N: Names, W: ValueWriter<O, A>, O: Output, A: Allocator + Copy>(
 ) -> bool
     requires can { CanFeed W.ValueWriter limits end
         (lane kinds.old at.old writer.old sink.old meter.old) }
-    requires start { IsStartBy (N.text names.now) limits at.old
+    requires start { IsStartBy (N.text names.now) None limits at.old
         (end - length at.old.rest.now) start }
     ensures moved { MovedBy W.ValueWriter limits end (N.text names.now)
         (lane kinds.old at.old writer.old sink.old meter.old)
@@ -233,82 +206,18 @@ fn id_value<'a, N: Names, W: ValueWriter<O, A>, O: Output, A: Allocator + Copy>(
     ensures falls { result ≡ true → length at.new.rest.now < length at.old.rest.now }
 {
     if begins_dollar(start.next.rest) {
-        return id_symbol(at, start, names, limits, end, kinds, meter, writer, sink);
+        let place = end - start.next.rest.len() as u64;
+        return match id_head(start.next.rest, names, limits, place) {
+            Some(found) => scalar(
+                at, start, None, found, limits, end, kinds, meter, writer, sink,
+            ),
+            None => false,
+        };
     }
     if begins_dollar(name) {
-        return other_value(at, start, names, limits, end, kinds, meter, writer, sink);
+        return by_head(at, start, None, limits, end, kinds, meter, writer, sink);
     }
     false
-}
-
-// Hands on the id that stands here as a symbol.
-#[inline(always)]
-fn id_symbol<'a, N: Names, W: ValueWriter<O, A>, O: Output, A: Allocator + Copy>(
-    at: &mut Spot<'a>,
-    start: Start<'a>,
-    names: &'a N,
-    limits: Limits,
-    end: u64,
-    kinds: &Stack<Kind, A>,
-    meter: &mut Meter<A>,
-    writer: &mut W,
-    sink: &mut Sink<O, A>,
-) -> bool
-    requires can { CanFeed W.ValueWriter limits end
-        (lane kinds.now at.old writer.old sink.old meter.old) }
-    requires start { IsStartBy (N.text names.now) limits at.old
-        (end - length at.old.rest.now) start }
-    requires dollar { first_is (λ b. b == 36) start.next.rest.now ≡ true }
-    ensures moved { MovedBy W.ValueWriter limits end (N.text names.now)
-        (lane kinds.now at.old writer.old sink.old meter.old)
-        (lane kinds.now at.new writer.new sink.new meter.new) }
-    ensures falls { result ≡ true → length at.new.rest.now < length at.old.rest.now }
-{
-    let place = end - start.next.rest.len() as u64;
-    match id_head(start.next.rest, names, limits, place) {
-        Some(found) => id_scalar(
-            at, start, found, names, limits, end, kinds, meter, writer, sink,
-        ),
-        None => false,
-    }
-}
-
-// Hands on the value that begins here and is no id.
-#[inline(always)]
-fn other_value<'a, N: Names, W: ValueWriter<O, A>, O: Output, A: Allocator + Copy>(
-    at: &mut Spot<'a>,
-    start: Start<'a>,
-    names: &'a N,
-    limits: Limits,
-    end: u64,
-    kinds: &mut Stack<Kind, A>,
-    meter: &mut Meter<A>,
-    writer: &mut W,
-    sink: &mut Sink<O, A>,
-) -> bool
-    requires can { CanFeed W.ValueWriter limits end
-        (lane kinds.old at.old writer.old sink.old meter.old) }
-    requires start { IsStartBy (N.text names.now) limits at.old
-        (end - length at.old.rest.now) start }
-    ensures moved { MovedBy W.ValueWriter limits end (N.text names.now)
-        (lane kinds.old at.old writer.old sink.old meter.old)
-        (lane kinds.new at.new writer.new sink.new meter.new) }
-    ensures goes { length kinds.new + length at.new.rest.now
-        ≤ length kinds.old + length at.old.rest.now }
-    ensures falls { result ≡ true → length at.new.rest.now < length at.old.rest.now }
-{
-    let place = end - start.next.rest.len() as u64;
-    let Some(found) = scan_head(limits, place, start.next) else {
-        return false;
-    };
-    match found.head {
-        Head::Begin(kind) => id_begin(
-            at, start, found, kind, names, limits, end, kinds, meter, writer, sink,
-        ),
-        _ => id_scalar(
-            at, start, found, names, limits, end, kinds, meter, writer, sink,
-        ),
-    }
 }
 
 // A symbol that is an id, where a token is told behind it that is no two colons.
@@ -340,106 +249,4 @@ fn id_head<'a, N: Names>(
         spelled: Some(id.text),
         rest,
     })
-}
-
-// Hands on a container's beginning, by the texts that ids have, and says whether it did.
-#[inline(always)]
-fn id_begin<'a, N: Names, W: ValueWriter<O, A>, O: Output, A: Allocator + Copy>(
-    at: &mut Spot<'a>,
-    start: Start<'a>,
-    found: Found<'a>,
-    kind: Kind,
-    _names: &'a N,
-    limits: Limits,
-    end: u64,
-    kinds: &mut Stack<Kind, A>,
-    meter: &mut Meter<A>,
-    writer: &mut W,
-    sink: &mut Sink<O, A>,
-) -> bool
-    requires can { CanFeed W.ValueWriter limits end
-        (lane kinds.old at.old writer.old sink.old meter.old) }
-    requires start { IsStartBy (N.text _names.now) limits at.old
-        (end - length at.old.rest.now) start }
-    requires found { IsFoundBy (N.text _names.now) limits (end - length start.next.rest.now)
-        start.next.rest.now found }
-    requires begins { found.head ≡ Head.Begin kind }
-    ensures moved { MovedBy W.ValueWriter limits end (N.text _names.now)
-        (lane kinds.old at.old writer.old sink.old meter.old)
-        (lane kinds.new at.new writer.new sink.new meter.new) }
-    ensures goes { length kinds.new + length at.new.rest.now
-        ≤ length kinds.old + length at.old.rest.now }
-    ensures falls { result ≡ true → length at.new.rest.now < length at.old.rest.now }
-{
-    if u64::from(limits.depth) <= kinds.as_slice().len() as u64 {
-        return false;
-    }
-    let place = end - start.next.rest.len() as u64;
-    let top = top_at(at.top, innermost(kinds), start.note, place);
-    if !kinds.push_within(meter, kind) {
-        return false;
-    }
-    let item = PlainItem {
-        field: start.field,
-        annotation: start.note,
-        second: None,
-        head: found.head,
-        spelled: found.spelled,
-        place,
-        top,
-    };
-    if !writer.take_plain(meter, sink, item) {
-        let _opened = kinds.pop(meter);
-        return false;
-    }
-    at.rest = found.rest;
-    at.top = top;
-    at.separator = false;
-    at.kind = kind;
-    true
-}
-
-// Hands on a scalar, by the texts that ids have, and says whether it did.
-#[inline(always)]
-fn id_scalar<'a, N: Names, W: ValueWriter<O, A>, O: Output, A: Allocator + Copy>(
-    at: &mut Spot<'a>,
-    start: Start<'a>,
-    found: Found<'a>,
-    _names: &'a N,
-    limits: Limits,
-    end: u64,
-    kinds: &Stack<Kind, A>,
-    meter: &mut Meter<A>,
-    writer: &mut W,
-    sink: &mut Sink<O, A>,
-) -> bool
-    requires can { CanFeed W.ValueWriter limits end
-        (lane kinds.now at.old writer.old sink.old meter.old) }
-    requires start { IsStartBy (N.text _names.now) limits at.old
-        (end - length at.old.rest.now) start }
-    requires found { IsFoundBy (N.text _names.now) limits (end - length start.next.rest.now)
-        start.next.rest.now found }
-    requires whole { (kind : kind_of.Kind) → found.head ≢ Head.Begin kind }
-    ensures moved { MovedBy W.ValueWriter limits end (N.text _names.now)
-        (lane kinds.now at.old writer.old sink.old meter.old)
-        (lane kinds.now at.new writer.new sink.new meter.new) }
-    ensures falls { result ≡ true → length at.new.rest.now < length at.old.rest.now }
-{
-    let inner = innermost(kinds);
-    let place = end - start.next.rest.len() as u64;
-    let top = top_at(at.top, inner, start.note, place);
-    let item = PlainItem {
-        field: start.field,
-        annotation: start.note,
-        second: None,
-        head: found.head,
-        spelled: found.spelled,
-        place,
-        top,
-    };
-    if !writer.take_plain(meter, sink, item) {
-        return false;
-    }
-    pass_value(at, found.rest, top, inner);
-    true
 }

@@ -56,31 +56,6 @@ pub(super) fn quoted_turn<'a, W: ValueWriter<O, A>, O: Output, A: Allocator + Co
     ensures falls { result ≡ true → length at.new.rest.now < length at.old.rest.now }
 {
     let next = to_member(at);
-    quoted_member(at, next, limits, end, kinds, meter, writer, sink)
-}
-
-// Hands on the member here, where its name stands between quotes.
-#[inline(always)]
-fn quoted_member<'a, W: ValueWriter<O, A>, O: Output, A: Allocator + Copy>(
-    at: &mut Spot<'a>,
-    next: Next<'a>,
-    limits: Limits,
-    end: u64,
-    kinds: &mut Stack<Kind, A>,
-    meter: &mut Meter<A>,
-    writer: &mut W,
-    sink: &mut Sink<O, A>,
-) -> bool
-    requires can { CanFeed W.ValueWriter limits end
-        (lane kinds.old at.old writer.old sink.old meter.old) }
-    requires next { IsNext at.old.rest.now next }
-    ensures moved { Moved W.ValueWriter limits end
-        (lane kinds.old at.old writer.old sink.old meter.old)
-        (lane kinds.new at.new writer.new sink.new meter.new) }
-    ensures goes { length kinds.new + length at.new.rest.now
-        ≤ length kinds.old + length at.old.rest.now }
-    ensures falls { result ≡ true → length at.new.rest.now < length at.old.rest.now }
-{
     match to_quoted(*at, next, limits, end - at.rest.len() as u64) {
         Some(start) => rare(at, start, limits, end, kinds, meter, writer, sink),
         None => false,

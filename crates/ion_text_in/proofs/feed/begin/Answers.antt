@@ -8,34 +8,37 @@ use Rattle.ion_value.specs.Value as value
 use Rattle.ion_value.specs.Value.{Head, SymbolAt}
 use Rattle.ion_text_in.specs.Expecting.{kind_in}
 use Rattle.ion_text_in.specs.Feeding.{behind_head, lane}
-use Rattle.ion_text_in.proofs.FeedItems.{charges-begin, closed-cost, expects-member, moved-head, moved-undone, pushed-off, pushed-inner, took-earlier, wants-member}
-use Rattle.ion_text_in.proofs.FeedLanes.{moved-none}
+use Rattle.ion_text_in.proofs.FeedItems.{charges-begin, closed-cost, expects-member, moved-seen, moved-undone, pushed-off, pushed-inner, took-earlier, wants-member}
+use Rattle.ion_text_in.proofs.FeedIds.{found-seen, start-seen}
+use Rattle.ion_text_in.proofs.FeedLanes.{moved-by, moved-none}
 use Rattle.ion_text_in.proofs.feed.begin.Goals as goal
 
 pub returns-then-from-as_slice-clause-moved : goal.returns-then-from-as_slice-clause-moved
-returns-then-from-as_slice-clause-moved g c =
+returns-then-from-as_slice-clause-moved g c = λ texts start found.
     moved-none g.W.ValueWriter c.args.limits c.args.end (lane c.args.kinds.now c.args.at.now c.args.writer.now c.args.sink.now c.args.meter.now) c.requires.can
 
 pub returns-then-not-push_within-clause-moved : goal.returns-then-not-push_within-clause-moved
-returns-then-not-push_within-clause-moved g c =
+returns-then-not-push_within-clause-moved g c = λ texts start found.
     let d = c.push_within.ensures.declines c.if-not-push_within.true in
     rw (d.0, d.1) (moved-none g.W.ValueWriter c.args.limits c.args.end (lane c.args.kinds.now c.args.at.now c.args.writer.now c.args.sink.now c.args.meter.now) c.requires.can)
 
 pub returns-then-not-take_plain-clause-moved : goal.returns-then-not-take_plain-clause-moved
-returns-then-not-take_plain-clause-moved g c =
+returns-then-not-take_plain-clause-moved g c = λ texts start found.
     let a = c.args in
     let p = c.push_within in
     let yes = c.if-not-push_within.false in
     let d = c.take_plain.ensures.declines c.if-not-take_plain.true in
     let few : length a.kinds.now < a.limits.depth = omega (arith, c.if-from-as_slice.false, c.from.ensures, ap (λ (l : List Kind). length l) c.as_slice.ensures) in
     let inner = pushed-inner a.kinds.now p.new.self a.kind (p.ensures.ok yes) in
-    moved-undone g.W.ValueWriter a.limits a.end a.kinds.now c.pop-opened.new.self a.at.now a.at.now a.writer.now c.take_plain.new.self a.sink.now c.take_plain.new.sink
+    moved-by g.W.ValueWriter a.limits a.end texts (lane a.kinds.now a.at.now a.writer.now a.sink.now a.meter.now)
+    (lane c.pop-opened.new.self a.at.now c.take_plain.new.self c.take_plain.new.sink c.pop-opened.new.meter)
+    (moved-undone g.W.ValueWriter a.limits a.end a.kinds.now c.pop-opened.new.self a.at.now a.at.now a.writer.now c.take_plain.new.self a.sink.now c.take_plain.new.sink
     a.meter.now p.new.meter c.take_plain.new.meter c.pop-opened.new.meter refl d.0 d.1 (pushed-off a.kinds.now p.new.self c.pop-opened.new.self a.kind c.pop-opened.result (p.ensures.ok yes) c.pop-opened.ensures.items)
     few (p.ensures.cost yes) d.2 (closed-cost p.new.self c.pop-opened.new.self a.kind c.pop-opened.result c.take_plain.new.meter c.pop-opened.new.meter inner c.pop-opened.ensures.items c.pop-opened.ensures.cost)
-    c.requires.can
+    c.requires.can)
 
 pub returns-clause-moved : goal.returns-clause-moved
-returns-clause-moved g c =
+returns-clause-moved g c = λ texts start found.
     let w = g.W.ValueWriter in
     let a = c.args in
     let r = c.requires in
@@ -54,9 +57,9 @@ returns-clause-moved g c =
     let inner : kind_in left_kinds ≡ a.kind = ap (λ (l : List Kind). kind_in l) opened in
     let added_long = ap (λ (l : List Kind). length l) added in
     let long : length left ≡ 1 + length a.kinds.now = omega (arith, added_long, length-append a.kinds.now (a.kind ∷ [])) in
-    moved-head w a.limits a.end a.kinds.now left a.at.now
+    moved-seen w a.limits a.end a.kinds.now left a.at.now
     (record { rest = a.found.rest; top = c.top_at-top.result; values = a.at.now.values; separator = false; kind = a.kind }) a.start (raw_head a.found.head)
-    a.writer.now t.new.self a.sink.now t.new.sink a.meter.now t.new.meter r.can r.start r.found.head
+    a.writer.now t.new.self a.sink.now t.new.sink a.meter.now t.new.meter (start-seen start) (found-seen found) r.can start.read found.head
     (subst (λ (h : Head SymbolAt). HasPlace a.limits.depth kinds h) (sym begins) (omega (arith, few, length-reverse a.kinds.now)))
     (opened ∙ ap (λ (h : Head SymbolAt). open_after kinds h) (sym begins)) (c.top_at-top.ensures.is kinds (sym c.innermost.ensures)) inner
     (wants-member (a.kind ∷ kinds) a.kind refl ∙ ap (λ (h : Head SymbolAt). behind_head kinds h) (sym begins)) (expects-member left_kinds a.kind inner)
@@ -81,35 +84,35 @@ returns-clause-goes g c =
     let added = ap (λ (l : List Kind). length l) (c.push_within.ensures.ok c.if-not-push_within.false) in
     let long = length-append a.kinds.now (a.kind ∷ []) in
     let behind = c.requires.found.head.fewer in
-    let before = (c.requires.start.onward (reverse a.kinds.now) c.requires.can.expects).fewer in
+    let before = (c.requires.start.read.onward (reverse a.kinds.now) c.requires.can.expects).fewer in
     omega (arith, added, long, behind, before)
-
-pub take_plain-requires-clause-countable : goal.take_plain-requires-clause-countable
-take_plain-requires-clause-countable g c = grind (arith, common_steps) steps 400000
-
-pub take_plain-requires-clause-held : goal.take_plain-requires-clause-held
-take_plain-requires-clause-held g c = grind (arith, common_steps) steps 400000
 
 pub returns-then-not-take_plain-clause-falls : goal.returns-then-not-take_plain-clause-falls
 returns-then-not-take_plain-clause-falls g c = grind (arith, common_steps) steps 400000
 
-pub take_plain-requires-clause-room : goal.take_plain-requires-clause-room
-take_plain-requires-clause-room g c = grind (arith, common_steps) steps 400000
+pub take_plain-requires-clause-countable : goal.take_plain-requires-clause-countable
+take_plain-requires-clause-countable g c = grind (arith, common_steps) steps 400000
 
 pub returns-then-not-take_plain-clause-goes : goal.returns-then-not-take_plain-clause-goes
 returns-then-not-take_plain-clause-goes g c = grind (arith, common_steps)
 
+pub take_plain-requires-clause-held : goal.take_plain-requires-clause-held
+take_plain-requires-clause-held g c = grind (arith, common_steps)
+
 pub returns-then-not-push_within-clause-goes : goal.returns-then-not-push_within-clause-goes
-returns-then-not-push_within-clause-goes g c = grind (arith, common_steps) steps 400000
+returns-then-not-push_within-clause-goes g c = grind (arith, common_steps)
+
+pub take_plain-requires-clause-room : goal.take_plain-requires-clause-room
+take_plain-requires-clause-room g c = grind (arith, common_steps)
 
 pub take_plain-requires-clause-path : goal.take_plain-requires-clause-path
 take_plain-requires-clause-path g c = grind (arith, common_steps)
 
-pub pop-opened-requires : goal.pop-opened-requires
-pop-opened-requires g c = grind (arith, common_steps)
-
 pub returns-clause-falls : goal.returns-clause-falls
 returns-clause-falls g c = grind (arith, common_steps)
+
+pub pop-opened-requires : goal.pop-opened-requires
+pop-opened-requires g c = grind (arith, common_steps)
 
 pub returns-then-not-push_within-clause-falls : goal.returns-then-not-push_within-clause-falls
 returns-then-not-push_within-clause-falls g c = grind (arith, common_steps) steps 400000

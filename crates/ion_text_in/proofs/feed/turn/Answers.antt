@@ -8,30 +8,21 @@ pub close-requires-clause-can : goal.close-requires-clause-can
 close-requires-clause-can g c =
     let a = c.args in
     let m = c.to_member-next in
-    let inner = c.requires.can.kind in
-    let opened = reverse a.kinds.now in
-    let moved = moved-member g.W.ValueWriter a.limits a.end a.kinds.now a.at.now m.new.at a.writer.now a.sink.now a.meter.now m.ensures.same c.requires.can
-    (m.ensures.expects opened inner c.requires.can.expects) (m.ensures.onward a.limits opened (a.end - length a.at.now.rest.now) inner) in
+    let moved = moved-member g.W.ValueWriter a.limits a.end a.at.now m.new.at m.ensures.same m.ensures.expects m.ensures.onward c.requires.can in
     can-moved g.W.ValueWriter a.limits a.end (lane a.kinds.now a.at.now a.writer.now a.sink.now a.meter.now) (lane a.kinds.now m.new.at a.writer.now a.sink.now a.meter.now) c.requires.can moved
 
 pub value-requires-clause-can : goal.value-requires-clause-can
 value-requires-clause-can g c =
     let a = c.args in
     let m = c.to_member-next in
-    let inner = c.requires.can.kind in
-    let opened = reverse a.kinds.now in
-    let moved = moved-member g.W.ValueWriter a.limits a.end a.kinds.now a.at.now m.new.at a.writer.now a.sink.now a.meter.now m.ensures.same c.requires.can
-    (m.ensures.expects opened inner c.requires.can.expects) (m.ensures.onward a.limits opened (a.end - length a.at.now.rest.now) inner) in
+    let moved = moved-member g.W.ValueWriter a.limits a.end a.at.now m.new.at m.ensures.same m.ensures.expects m.ensures.onward c.requires.can in
     can-moved g.W.ValueWriter a.limits a.end (lane a.kinds.now a.at.now a.writer.now a.sink.now a.meter.now) (lane a.kinds.now m.new.at a.writer.now a.sink.now a.meter.now) c.requires.can moved
 
 pub returns-in-Some-clause-moved : goal.returns-in-Some-clause-moved
 returns-in-Some-clause-moved g c =
     let a = c.args in
     let m = c.to_member-next in
-    let inner = c.requires.can.kind in
-    let opened = reverse a.kinds.now in
-    let moved = moved-member g.W.ValueWriter a.limits a.end a.kinds.now a.at.now m.new.at a.writer.now a.sink.now a.meter.now m.ensures.same c.requires.can
-    (m.ensures.expects opened inner c.requires.can.expects) (m.ensures.onward a.limits opened (a.end - length a.at.now.rest.now) inner) in
+    let moved = moved-member g.W.ValueWriter a.limits a.end a.at.now m.new.at m.ensures.same m.ensures.expects m.ensures.onward c.requires.can in
     moved-then g.W.ValueWriter a.limits a.end (lane a.kinds.now a.at.now a.writer.now a.sink.now a.meter.now) (lane a.kinds.now m.new.at a.writer.now a.sink.now a.meter.now)
     (lane c.close.new.kinds c.close.new.at c.close.new.writer c.close.new.sink c.close.new.meter) c.requires.can moved c.close.ensures.moved
 
@@ -47,10 +38,7 @@ pub returns-in-None-clause-moved : goal.returns-in-None-clause-moved
 returns-in-None-clause-moved g c =
     let a = c.args in
     let m = c.to_member-next in
-    let inner = c.requires.can.kind in
-    let opened = reverse a.kinds.now in
-    let moved = moved-member g.W.ValueWriter a.limits a.end a.kinds.now a.at.now m.new.at a.writer.now a.sink.now a.meter.now m.ensures.same c.requires.can
-    (m.ensures.expects opened inner c.requires.can.expects) (m.ensures.onward a.limits opened (a.end - length a.at.now.rest.now) inner) in
+    let moved = moved-member g.W.ValueWriter a.limits a.end a.at.now m.new.at m.ensures.same m.ensures.expects m.ensures.onward c.requires.can in
     moved-then g.W.ValueWriter a.limits a.end (lane a.kinds.now a.at.now a.writer.now a.sink.now a.meter.now) (lane a.kinds.now m.new.at a.writer.now a.sink.now a.meter.now)
     (lane c.value.new.kinds c.value.new.at c.value.new.writer c.value.new.sink c.value.new.meter) c.requires.can moved c.value.ensures.moved
 

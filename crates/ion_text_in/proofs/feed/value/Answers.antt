@@ -2,6 +2,7 @@ use Rattle.std.proofs.Common.{arith}
 use Rattle.std.proofs.lemmas.Grind.{common_steps}
 use Rattle.ion_text_in.specs.Feeding.{lane}
 use Rattle.ion_text_in.proofs.FeedLanes.{moved-none}
+use Rattle.ion_text_in.proofs.FeedIds.{found-read, moved-text, start-read}
 use Rattle.ion_text_in.proofs.feed.value.Goals as goal
 
 pub returns-in_default-clause-moved : goal.returns-in_default-clause-moved
@@ -43,9 +44,6 @@ returns-in-Some-QuotedSymbol-clause-moved g c = grind (arith, common_steps) step
 pub returns-in-Some-String-clause-goes : goal.returns-in-Some-String-clause-goes
 returns-in-Some-String-clause-goes g c = grind (arith, common_steps) steps 400000
 
-pub returns-in-Some-Begin-clause-moved : goal.returns-in-Some-Begin-clause-moved
-returns-in-Some-Begin-clause-moved g c = grind (arith, common_steps) steps 400000
-
 pub returns-in-Some-Word-clause-moved : goal.returns-in-Some-Word-clause-moved
 returns-in-Some-Word-clause-moved g c = grind (arith, common_steps) steps 400000
 
@@ -67,20 +65,24 @@ returns-in_default-clause-falls g c = grind (arith, common_steps) steps 400000
 pub returns-in-Some-Begin-clause-goes : goal.returns-in-Some-Begin-clause-goes
 returns-in-Some-Begin-clause-goes g c = grind (arith, common_steps) steps 400000
 
+pub returns-in-Some-Begin-clause-moved : goal.returns-in-Some-Begin-clause-moved
+returns-in-Some-Begin-clause-moved g c =
+    moved-text c.in-Some.ensures.start c.begin_head-found.ensures.found c.begin.ensures.moved
+
+pub begin-requires-clause-start : goal.begin-requires-clause-start
+begin-requires-clause-start g c = start-read c.in-Some.ensures.start
+
+pub begin-requires-clause-found : goal.begin-requires-clause-found
+begin-requires-clause-found g c = found-read c.begin_head-found.ensures.found
+
 pub returns-in-Some-String-clause-moved : goal.returns-in-Some-String-clause-moved
 returns-in-Some-String-clause-moved g c = grind (arith, common_steps)
 
 pub overflow_sub-place : goal.overflow_sub-place
 overflow_sub-place g c = grind (arith, common_steps)
 
-pub begin-requires-clause-found : goal.begin-requires-clause-found
-begin-requires-clause-found g c = grind (arith, common_steps)
-
 pub quoted_value-requires-clause-first : goal.quoted_value-requires-clause-first
 quoted_value-requires-clause-first g c = grind (arith, common_steps)
-
-pub begin-requires-clause-start : goal.begin-requires-clause-start
-begin-requires-clause-start g c = grind (arith, common_steps)
 
 pub string-requires-clause-first : goal.string-requires-clause-first
 string-requires-clause-first g c = grind (arith, common_steps)

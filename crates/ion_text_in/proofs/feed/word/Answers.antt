@@ -1,37 +1,19 @@
-use Rattle.std.proofs.Common.{◌∙◌, ◌+◌, ◌-◌, ◌++◌, Some, Ok, length, take, drop, ap, arith}
+use Rattle.std.proofs.Common.{refl, arith}
 use Rattle.std.proofs.lemmas.Grind.{common_steps}
-use Rattle.ion_value.specs.Value.{null, bool}
-use Rattle.ion_text_in.specs.declared.word.Word.{Word}
 use Rattle.ion_text_in.specs.Feeding.{lane}
 use Rattle.ion_text_in.specs.Meaning.{at}
-use Rattle.ion_text_in.specs.Token.{a_word}
-use Rattle.ion_text_in.specs.Views.{word_token_of}
-use Rattle.ion_text_in.proofs.FeedHeads.{head-plain}
+use Rattle.ion_text_in.proofs.FeedHeads.{head-keyword}
 use Rattle.ion_text_in.proofs.FeedLanes.{moved-none}
-use Rattle.ion_text_in.proofs.ShownFurther.{shown-some}
+use Rattle.ion_text_in.proofs.FeedIds.{found-read, moved-text, start-read}
 use Rattle.ion_text_in.proofs.feed.word.Goals as goal
 
 pub scalar-requires-in-Whole-Null-default-clause-found : goal.scalar-requires-in-Whole-Null-default-clause-found
 scalar-requires-in-Whole-Null-default-clause-found g c =
-    let a = c.args in
-    let w = c.in-Whole-Null-default in
-    let bytes = a.start.next.rest.now in
-    let begins = c.requires.start.begins in
-    let counts = shown-some (word_token_of (take w.count bytes)) bytes w.field-0 w.count (Some a.limits.scalar) a_word w.ensures.shows begins.some in
-    let head = head-plain a.limits (a.end - length bytes) w.count a_word (null w.ion_type) bytes c.behind.result.now tt tt c.behind.ensures (omega (arith, counts)) w.ensures.shows.0
-    (λ place more. w.ensures.shows.1 place more ∙ ap (λ (x : Word). Ok (word_token_of (take w.count bytes) x, at (place + w.count) (drop w.count bytes ++ more))) w.field-0-is) begins.bare begins.some c.requires.first in
-    record { head = head; spelled = tt }
+    found-read (record { head = head-keyword c.in-Whole-Null-default.field-0-is refl tt tt c.behind.ensures c.in-Whole-Null-default.ensures.shows c.requires.start.begins.bare c.requires.start.begins.some c.requires.first; spelled = tt })
 
 pub scalar-requires-in-Whole-Bool-default-clause-found : goal.scalar-requires-in-Whole-Bool-default-clause-found
 scalar-requires-in-Whole-Bool-default-clause-found g c =
-    let a = c.args in
-    let w = c.in-Whole-Bool-default in
-    let bytes = a.start.next.rest.now in
-    let begins = c.requires.start.begins in
-    let counts = shown-some (word_token_of (take w.count bytes)) bytes w.field-0 w.count (Some a.limits.scalar) a_word w.ensures.shows begins.some in
-    let head = head-plain a.limits (a.end - length bytes) w.count a_word (bool w.truth) bytes c.behind-in-Whole-Bool-default.result.now tt tt c.behind-in-Whole-Bool-default.ensures (omega (arith, counts)) w.ensures.shows.0
-    (λ place more. w.ensures.shows.1 place more ∙ ap (λ (x : Word). Ok (word_token_of (take w.count bytes) x, at (place + w.count) (drop w.count bytes ++ more))) w.field-0-is) begins.bare begins.some c.requires.first in
-    record { head = head; spelled = tt }
+    found-read (record { head = head-keyword c.in-Whole-Bool-default.field-0-is refl tt tt c.behind-in-Whole-Bool-default.ensures c.in-Whole-Bool-default.ensures.shows c.requires.start.begins.bare c.requires.start.begins.some c.requires.first; spelled = tt })
 
 pub returns-in_default-clause-moved : goal.returns-in_default-clause-moved
 returns-in_default-clause-moved g c =
@@ -80,14 +62,31 @@ returns-in-None-clause-goes g c = grind (arith, common_steps) steps 400000
 pub returns-in_default-clause-falls : goal.returns-in_default-clause-falls
 returns-in_default-clause-falls g c = grind (arith, common_steps) steps 400000
 
-pub returns-in-Whole-Bool-default-clause-moved : goal.returns-in-Whole-Bool-default-clause-moved
-returns-in-Whole-Bool-default-clause-moved g c = grind (arith, common_steps)
-
 pub returns-in-Whole-Null-default-clause-moved : goal.returns-in-Whole-Null-default-clause-moved
-returns-in-Whole-Null-default-clause-moved g c = grind (arith, common_steps)
+returns-in-Whole-Null-default-clause-moved g c =
+    moved-text c.requires.start
+    (record { head = head-keyword c.in-Whole-Null-default.field-0-is refl tt tt c.behind.ensures c.in-Whole-Null-default.ensures.shows c.requires.start.begins.bare c.requires.start.begins.some c.requires.first; spelled = tt }) c.scalar-in-Whole-Null-default.ensures.moved
+
+pub scalar-requires-in-Whole-Null-default-clause-start : goal.scalar-requires-in-Whole-Null-default-clause-start
+scalar-requires-in-Whole-Null-default-clause-start g c = start-read c.requires.start
+
+pub returns-in-Whole-Bool-default-clause-moved : goal.returns-in-Whole-Bool-default-clause-moved
+returns-in-Whole-Bool-default-clause-moved g c =
+    moved-text c.requires.start
+    (record { head = head-keyword c.in-Whole-Bool-default.field-0-is refl tt tt c.behind-in-Whole-Bool-default.ensures c.in-Whole-Bool-default.ensures.shows c.requires.start.begins.bare c.requires.start.begins.some c.requires.first; spelled = tt }) c.scalar-in-Whole-Bool-default.ensures.moved
+
+pub scalar-requires-in-Whole-Bool-default-clause-start : goal.scalar-requires-in-Whole-Bool-default-clause-start
+scalar-requires-in-Whole-Bool-default-clause-start g c = start-read c.requires.start
 
 pub returns-in-Some-clause-moved : goal.returns-in-Some-clause-moved
-returns-in-Some-clause-moved g c = grind (arith, common_steps)
+returns-in-Some-clause-moved g c =
+    moved-text c.requires.start c.in-Some.ensures.found c.scalar.ensures.moved
+
+pub scalar-requires-clause-start : goal.scalar-requires-clause-start
+scalar-requires-clause-start g c = start-read c.requires.start
+
+pub scalar-requires-clause-found : goal.scalar-requires-clause-found
+scalar-requires-clause-found g c = found-read c.in-Some.ensures.found
 
 pub scalar-requires-clause-whole : goal.scalar-requires-clause-whole
 scalar-requires-clause-whole g c = grind (arith, common_steps)
@@ -95,26 +94,14 @@ scalar-requires-clause-whole g c = grind (arith, common_steps)
 pub scalar-requires-in-Whole-Bool-default-clause-whole : goal.scalar-requires-in-Whole-Bool-default-clause-whole
 scalar-requires-in-Whole-Bool-default-clause-whole g c = grind (arith, common_steps)
 
-pub scalar-requires-clause-found : goal.scalar-requires-clause-found
-scalar-requires-clause-found g c = grind (arith, common_steps)
-
 pub scalar-requires-in-Whole-Null-default-clause-whole : goal.scalar-requires-in-Whole-Null-default-clause-whole
 scalar-requires-in-Whole-Null-default-clause-whole g c = grind (arith, common_steps)
-
-pub scalar-requires-clause-start : goal.scalar-requires-clause-start
-scalar-requires-clause-start g c = grind (arith, common_steps)
-
-pub scalar-requires-in-Whole-Bool-default-clause-start : goal.scalar-requires-in-Whole-Bool-default-clause-start
-scalar-requires-in-Whole-Bool-default-clause-start g c = grind (arith, common_steps)
 
 pub scalar-requires-clause-can : goal.scalar-requires-clause-can
 scalar-requires-clause-can g c = grind (arith, common_steps)
 
 pub note-requires-clause-start : goal.note-requires-clause-start
 note-requires-clause-start g c = grind (arith, common_steps)
-
-pub scalar-requires-in-Whole-Null-default-clause-start : goal.scalar-requires-in-Whole-Null-default-clause-start
-scalar-requires-in-Whole-Null-default-clause-start g c = grind (arith, common_steps)
 
 pub note-requires-clause-can : goal.note-requires-clause-can
 note-requires-clause-can g c = grind (arith, common_steps)

@@ -3,6 +3,7 @@ use Rattle.std.proofs.lemmas.Grind.{common_steps}
 use Rattle.ion_text_in.specs.Feeding.{lane}
 use Rattle.ion_text_in.proofs.FeedLanes.{moved-none}
 use Rattle.ion_text_in.proofs.FeedNoted.{start-noted}
+use Rattle.ion_text_in.proofs.FeedIds.{moved-text}
 use Rattle.ion_text_in.proofs.feed.quotes.any_quoted.Goals as goal
 
 pub any_value-requires-clause-start : goal.any_value-requires-clause-start
@@ -29,7 +30,8 @@ pub returns-in-None-clause-falls : goal.returns-in-None-clause-falls
 returns-in-None-clause-falls g c = grind (arith, common_steps) steps 400000
 
 pub returns-in-Some-clause-moved : goal.returns-in-Some-clause-moved
-returns-in-Some-clause-moved g c = grind (arith, common_steps)
+returns-in-Some-clause-moved g c =
+    moved-text c.requires.start c.in-Some.ensures.found c.scalar-more.ensures.moved
 
 pub returns-in-Some-quoted_noted-clause-moved : goal.returns-in-Some-quoted_noted-clause-moved
 returns-in-Some-quoted_noted-clause-moved g c = grind (arith, common_steps)

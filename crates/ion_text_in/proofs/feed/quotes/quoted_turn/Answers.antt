@@ -1,42 +1,65 @@
-use Rattle.std.proofs.Common.{◌-◌, length, reverse, arith}
+use Rattle.std.proofs.Common.{length, reverse, arith}
 use Rattle.ion_text_in.specs.Feeding.{lane}
 use Rattle.ion_text_in.proofs.FeedItems.{moved-member}
 use Rattle.ion_text_in.proofs.FeedLanes.{can-moved, moved-then}
 use Rattle.ion_text_in.proofs.feed.quotes.quoted_turn.Goals as goal
 
-pub quoted_member-requires-clause-can : goal.quoted_member-requires-clause-can
-quoted_member-requires-clause-can g c =
+pub overflow_sub-end : goal.overflow_sub-end
+overflow_sub-end g c =
     let a = c.args in
-    let m = c.to_member-next in
-    let inner = c.requires.can.kind in
-    let opened = reverse a.kinds.now in
-    let moved = moved-member g.W.ValueWriter a.limits a.end a.kinds.now a.at.now m.new.at a.writer.now a.sink.now a.meter.now m.ensures.same c.requires.can
-    (m.ensures.expects opened inner c.requires.can.expects) (m.ensures.onward a.limits opened (a.end - length a.at.now.rest.now) inner) in
-    can-moved g.W.ValueWriter a.limits a.end (lane a.kinds.now a.at.now a.writer.now a.sink.now a.meter.now) (lane a.kinds.now m.new.at a.writer.now a.sink.now a.meter.now) c.requires.can moved
+    let fewer = (c.to_member-next.ensures.onward a.limits (reverse a.kinds.now) 0 c.requires.can.kind).fewer in
+    let within = c.requires.can.within in
+    omega (arith, fewer, within)
 
-pub returns-clause-moved : goal.returns-clause-moved
-returns-clause-moved g c =
+pub to_quoted-requires-clause-small : goal.to_quoted-requires-clause-small
+to_quoted-requires-clause-small g c =
     let a = c.args in
-    let m = c.to_member-next in
-    let inner = c.requires.can.kind in
-    let opened = reverse a.kinds.now in
-    let moved = moved-member g.W.ValueWriter a.limits a.end a.kinds.now a.at.now m.new.at a.writer.now a.sink.now a.meter.now m.ensures.same c.requires.can
-    (m.ensures.expects opened inner c.requires.can.expects) (m.ensures.onward a.limits opened (a.end - length a.at.now.rest.now) inner) in
-    moved-then g.W.ValueWriter a.limits a.end (lane a.kinds.now a.at.now a.writer.now a.sink.now a.meter.now) (lane a.kinds.now m.new.at a.writer.now a.sink.now a.meter.now)
-    (lane c.quoted_member.new.kinds c.quoted_member.new.at c.quoted_member.new.writer c.quoted_member.new.sink c.quoted_member.new.meter) c.requires.can moved c.quoted_member.ensures.moved
+    let fewer = (c.to_member-next.ensures.onward a.limits (reverse a.kinds.now) 0 c.requires.can.kind).fewer in
+    let within = c.requires.can.within in
+    let low = c.requires.can.low in
+    omega (arith, fewer, within, low)
 
-pub returns-clause-falls : goal.returns-clause-falls
-returns-clause-falls g c = λ more.
+pub rare-requires-clause-can : goal.rare-requires-clause-can
+rare-requires-clause-can g c =
     let a = c.args in
     let m = c.to_member-next in
-    let fewer = (m.ensures.onward a.limits (reverse a.kinds.now) 0 c.requires.can.kind).fewer in
-    let less = c.quoted_member.ensures.falls more in
-    omega (arith, fewer, less)
+    let old = lane a.kinds.now a.at.now a.writer.now a.sink.now a.meter.now in
+    let there = lane a.kinds.now m.new.at a.writer.now a.sink.now a.meter.now in
+    let moved = moved-member g.W.ValueWriter a.limits a.end a.at.now m.new.at m.ensures.same m.ensures.expects m.ensures.onward c.requires.can in
+    can-moved g.W.ValueWriter a.limits a.end old there c.requires.can moved
 
-pub returns-clause-goes : goal.returns-clause-goes
-returns-clause-goes g c =
+pub returns-in-None-clause-moved : goal.returns-in-None-clause-moved
+returns-in-None-clause-moved g c =
     let a = c.args in
     let m = c.to_member-next in
-    let fewer = (m.ensures.onward a.limits (reverse a.kinds.now) 0 c.requires.can.kind).fewer in
-    let goes = c.quoted_member.ensures.goes in
+    let moved = moved-member g.W.ValueWriter a.limits a.end a.at.now m.new.at m.ensures.same m.ensures.expects m.ensures.onward c.requires.can in
+    moved
+
+pub returns-in-Some-clause-moved : goal.returns-in-Some-clause-moved
+returns-in-Some-clause-moved g c =
+    let a = c.args in
+    let m = c.to_member-next in
+    let old = lane a.kinds.now a.at.now a.writer.now a.sink.now a.meter.now in
+    let there = lane a.kinds.now m.new.at a.writer.now a.sink.now a.meter.now in
+    let moved = moved-member g.W.ValueWriter a.limits a.end a.at.now m.new.at m.ensures.same m.ensures.expects m.ensures.onward c.requires.can in
+    moved-then g.W.ValueWriter a.limits a.end old there (lane c.rare.new.kinds c.rare.new.at c.rare.new.writer c.rare.new.sink c.rare.new.meter) c.requires.can moved c.rare.ensures.moved
+
+pub returns-in-None-clause-goes : goal.returns-in-None-clause-goes
+returns-in-None-clause-goes g c =
+    let a = c.args in
+    let fewer = (c.to_member-next.ensures.onward a.limits (reverse a.kinds.now) 0 c.requires.can.kind).fewer in
+    omega (arith, fewer)
+
+pub returns-in-Some-clause-goes : goal.returns-in-Some-clause-goes
+returns-in-Some-clause-goes g c =
+    let a = c.args in
+    let fewer = (c.to_member-next.ensures.onward a.limits (reverse a.kinds.now) 0 c.requires.can.kind).fewer in
+    let goes = c.rare.ensures.goes in
     omega (arith, fewer, goes)
+
+pub returns-in-Some-clause-falls : goal.returns-in-Some-clause-falls
+returns-in-Some-clause-falls g c = λ more.
+    let a = c.args in
+    let fewer = (c.to_member-next.ensures.onward a.limits (reverse a.kinds.now) 0 c.requires.can.kind).fewer in
+    let less = c.rare.ensures.falls more in
+    omega (arith, fewer, less)

@@ -9,7 +9,6 @@ ghost use Rattle.ion_text_in.specs.Token.{a_comma, a_run, a_short, a_word, an_en
 ghost use Rattle.ion_text_in.specs.Positions.{innermost};
 
 mod close;
-mod comments;
 mod copies;
 mod heads;
 mod ids;
@@ -17,12 +16,13 @@ mod names;
 mod noted;
 mod quotes;
 
+use crate::comments::behind_blanks;
 use crate::first::{First, told_first};
 use crate::quick::scan_quick;
 use crate::scanned::Scanned;
+use crate::slice::{behind, front};
 use crate::word::{Word, scan_simple};
 use close::{close, pass_value};
-use comments::behind_blanks;
 use copies::{limits_for_call, spot_for_call, start_for_call};
 use heads::{
     begin_head, decimal_head, int_head, scan_head, spelled_quick, string_head, symbol_head, token,
@@ -111,24 +111,6 @@ const WORD: u64 = 1;
 
 // The number of a comma among those of tokens that a byte tells alone.
 const COMMA: u64 = 4;
-
-// What stands behind so many bytes.
-#[inline(always)]
-fn behind(count: usize, bytes: &[u8]) -> &[u8]
-    requires { count ≤ length bytes.now }
-    ensures { result.now ≡ drop count bytes.now }
-{
-    &bytes[count..]
-}
-
-// So many bytes in front.
-#[inline(always)]
-fn front(count: usize, bytes: &[u8]) -> &[u8]
-    requires { count ≤ length bytes.now }
-    ensures { result.now ≡ take count bytes.now }
-{
-    &bytes[..count]
-}
 
 // What the next token is behind blanks.
 #[inline(always)]

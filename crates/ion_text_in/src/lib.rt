@@ -3,6 +3,7 @@
 #![tactic(auto)]
 
 mod blank;
+mod comments;
 mod expected;
 mod feed;
 mod first;
@@ -18,6 +19,7 @@ pub mod reader;
 mod run;
 mod scanned;
 mod segment;
+mod slice;
 mod symbol;
 mod text;
 mod token;

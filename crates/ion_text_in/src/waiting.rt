@@ -4,6 +4,7 @@ ghost use Rattle.ion_text_in.specs.Firsts.{first_of, width};
 ghost use Rattle.ion_text_in.specs.Waiting.{PassesSome};
 
 use crate::blank::{run_without, white_run};
+use crate::comments::behind_blanks;
 use crate::first::{First, scan_first};
 use crate::quoted::Quote;
 use crate::run::{Run, token_extent};
@@ -148,48 +149,9 @@ fn first_behind(in_sexp: bool, bytes: &[u8]) -> Option<(First, &[u8])>
     ensures wide { IfSome result (λ found. width (first_of found.0) ≤ length found.1.now) }
     ensures within { IfSome result (λ found. length found.1.now ≤ length bytes.now) }
 {
-    let rest = behind_blanks(bytes)?;
+    let rest = behind_blanks(bytes);
     let first = scan_first(in_sexp, rest)?;
     Some((first, rest))
-}
-
-// What stands behind blanks; none where these bytes do not show how they end.
-fn behind_blanks(bytes: &[u8]) -> Option<&[u8]>
-    ensures { IfSome result (λ rest. length rest.now ≤ length bytes.now) }
-{
-    let mut rest = bytes;
-    'blanks: loop {
-        match behind_white(rest) {
-            [] | [b'/'] => return None,
-            [b'/', b'/', line @ ..] => rest = behind_line(line)?,
-            [b'/', b'*', block @ ..] => rest = behind_block(block)?,
-            found => return Some(found),
-        }
-    }
-}
-
-// What stands behind the end of a line.
-fn behind_line(bytes: &[u8]) -> Option<&[u8]>
-    ensures { IfSome result (λ rest. length rest.now ≤ length bytes.now) }
-{
-    match &bytes[run_without(b'\n', b'\r', bytes)..] {
-        [] => None,
-        [_, rest @ ..] => Some(rest),
-    }
-}
-
-// What stands behind the end of a comment in a block.
-fn behind_block(bytes: &[u8]) -> Option<&[u8]>
-    ensures { IfSome result (λ rest. length rest.now ≤ length bytes.now) }
-{
-    let mut rest = bytes;
-    'block: loop {
-        match &rest[run_without(b'*', b'*', rest)..] {
-            [] => return None,
-            [_, b'/', others @ ..] => return Some(others),
-            [_, others @ ..] => rest = others,
-        }
-    }
 }
 
 // What stands behind the quotes that close a text.

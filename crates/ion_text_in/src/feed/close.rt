@@ -8,8 +8,9 @@ ghost use Rattle.ion_text_in.specs.Token.{an_end};
 ghost use Rattle.ion_value.specs.Outcome.{one_if_closed};
 ghost use Rattle.ion_text_in.specs.Positions.{innermost};
 
-use super::{Next, Spot, behind, innermost};
+use super::{Next, Spot, innermost};
 use crate::expected::{is_same, is_separated, member_kind};
+use crate::slice::behind;
 use ion_meter::device::Output;
 use ion_meter::limits::Limits;
 use ion_meter::meter::Meter;

@@ -10,12 +10,13 @@ ghost use Rattle.ion_value.specs.Items.{raw_head};
 ghost use Rattle.ion_value.specs.PlainItems.{IsTextOf};
 ghost use Rattle.ion_value.specs.Value.{whole};
 
-use super::{Found, Next, behind, front, next_told};
+use super::{Found, Next, next_told};
 use crate::first::First;
 use crate::number::{Number, scan_number};
 use crate::quick::{Quick, scaled, scan_quick, signed_int};
 use crate::quoted::{Quote, scan_text};
 use crate::scanned::Scanned;
+use crate::slice::{behind, front};
 use crate::word::{Word, scan_simple};
 use ion_meter::limits::Limits;
 use ion_value::ion_type::Kind;

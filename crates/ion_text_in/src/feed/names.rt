@@ -3,13 +3,14 @@ ghost use Rattle.std.specs.Prelude.{◌≡◌, ◌<◌, ◌++◌, ℕ, Bool, Lis
 ghost use Rattle.ion_text_in.specs.Feeding.{Begins, IsBare, IsBehindName, IsNamed, ToColon};
 ghost use Rattle.ion_text_in.specs.Token.{a_quoted, a_short, first_at};
 
-use super::comments::behind_blanks;
 use super::heads::token;
 use super::quotes::quoted_text;
-use super::{Next, Start, WORD, behind, front, next_told};
+use super::{Next, Start, WORD, next_told};
+use crate::comments::behind_blanks;
 use crate::first::{First, shows_colon};
 use crate::quoted::{Quote, scan_text};
 use crate::scanned::Scanned;
+use crate::slice::{behind, front};
 use crate::word::simple_word;
 use ion_meter::limits::Limits;
 use ion_value::plain_item::TextAt;

@@ -5,9 +5,10 @@ ghost use Rattle.ion_text_in.specs.Feeding.{Begins, IsBare, IsBehind, IsBehindCo
 ghost use Rattle.ion_text_in.specs.Token.{a_quoted, a_word, first_at, two_colons};
 
 use super::quotes::quoted_text;
-use super::{Further, Next, Spot, Start, WORD, behind, front, next_told};
+use super::{Further, Next, Spot, Start, WORD, next_told};
 use crate::quoted::{Quote, scan_text};
 use crate::scanned::Scanned;
+use crate::slice::{behind, front};
 use crate::word::simple_word;
 use ion_meter::limits::Limits;
 use ion_value::plain_item::{SecondAt, TextAt};

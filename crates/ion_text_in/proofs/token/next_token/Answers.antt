@@ -12,43 +12,39 @@ use Rattle.ion_text_in.proofs.token.next_token.Goals as goal
 pub returns-in_ok-next_word-in-Word-clause-gives : goal.returns-in_ok-next_word-in-Word-clause-gives
 returns-in_ok-next_word-in-Word-clause-gives g c = λ h.
     let d = cursor g.I.Input c.next_word.new.source in
-    let t = c.word_token.ensures in
-    (
+    let t = c.word_token.ensures in (
       d,
       ap (λ (f : First). token_of (Some c.args.limits.scalar) (first_of f) (cursor g.I.Input c.args.source.now)) c.in-Word.is
-      ∙ c.in_ok-next_word-in-Word.ensures.gives h
-      ∙ ap (λ (x : tokens.Token). Ok (x, d)) (sym (t.is c.next_word.new.text c.args.source.now.place)),
+          ∙ c.in_ok-next_word-in-Word.ensures.gives h
+          ∙ ap (λ (x : tokens.Token). Ok (x, d)) (sym (t.is c.next_word.new.text c.args.source.now.place)),
       ap (λ (o : Option ℕ). going o d) (sym t.alone),
     )
 
 pub returns-in_ok-next_number-in-Number-clause-gives : goal.returns-in_ok-next_number-in-Number-clause-gives
 returns-in_ok-next_number-in-Number-clause-gives g c = λ h.
     let d = cursor g.I.Input c.next_number.new.source in
-    let t = c.number_token.ensures in
-    (
+    let t = c.number_token.ensures in (
       d,
       ap (λ (f : First). token_of (Some c.args.limits.scalar) (first_of f) (cursor g.I.Input c.args.source.now)) c.in-Number.is
-      ∙ c.in_ok-next_number-in-Number.ensures.gives h
-      ∙ ap (λ (x : tokens.Token). Ok (x, d)) (sym (t.is c.next_number.new.text c.args.source.now.place)),
+          ∙ c.in_ok-next_number-in-Number.ensures.gives h
+          ∙ ap (λ (x : tokens.Token). Ok (x, d)) (sym (t.is c.next_number.new.text c.args.source.now.place)),
       ap (λ (o : Option ℕ). going o d) (sym t.alone),
     )
 
 pub returns-in_ok-next_lob-in-Lob-clause-gives : goal.returns-in_ok-next_lob-in-Lob-clause-gives
 returns-in_ok-next_lob-in-Lob-clause-gives g c = λ h.
     let d = cursor g.I.Input c.next_lob.new.source in
-    let t = c.lob_token.ensures in
-    (
+    let t = c.lob_token.ensures in (
       d,
       ap (λ (f : First). token_of (Some c.args.limits.scalar) (first_of f) (cursor g.I.Input c.args.source.now)) c.in-Lob.is
-      ∙ c.in_ok-next_lob-in-Lob.ensures.gives h
-      ∙ ap (λ (x : tokens.Token). Ok (x, d)) (sym (t.is c.next_lob.new.text c.args.source.now.place)),
+          ∙ c.in_ok-next_lob-in-Lob.ensures.gives h
+          ∙ ap (λ (x : tokens.Token). Ok (x, d)) (sym (t.is c.next_lob.new.text c.args.source.now.place)),
       ap (λ (o : Option ℕ). going o d) (sym t.alone),
     )
 
 pub returns-in_ok-next_long_string-in-LongString-clause-gives : goal.returns-in_ok-next_long_string-in-LongString-clause-gives
 returns-in_ok-next_long_string-in-LongString-clause-gives g c = λ h.
-    let o = c.in_ok-next_long_string-in-LongString.ensures.gives h in
-    (
+    let o = c.in_ok-next_long_string-in-LongString.ensures.gives h in (
       o.0,
       ap (λ (f : First). token_of (Some c.args.limits.scalar) (first_of f) (cursor g.I.Input c.args.source.now)) c.in-LongString.is ∙ o.1,
       overrun-going c.in_ok-next_long_string-in-LongString.field-0 o.0 (cursor g.I.Input c.next_long_string.new.source) o.2,

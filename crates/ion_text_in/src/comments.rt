@@ -1,14 +1,14 @@
-//! Blanks in a lane: white space and comments that end within the window.
+//! White space and comments that end within a slice.
 ghost use Rattle.std.specs.Prelude.{◌≡◌, ◌<◌, ℕ, length};
 ghost use Rattle.ion_text_in.specs.Blanks.{blanks_at, in_block, in_line};
 ghost use Rattle.ion_text_in.specs.Feeding.{LeadsTo, PassesBlanks};
 
-use super::behind;
 use crate::blank::{run_without, white_run};
+use crate::slice::behind;
 
 /// Behind blanks; nothing where the bytes show no end of them.
 #[inline(always)]
-pub(super) fn behind_blanks(bytes: &[u8]) -> &[u8]
+pub(crate) fn behind_blanks(bytes: &[u8]) -> &[u8]
     ensures { 0 < length result.now → PassesBlanks bytes.now result.now }
 {
     let white = white_run(bytes);

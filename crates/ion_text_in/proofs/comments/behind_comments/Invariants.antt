@@ -1,7 +1,7 @@
 use Rattle.std.proofs.Common.{length}
 use Rattle.ion_text_in.specs.Blanks.{blanks_at}
 use Rattle.ion_text_in.specs.Feeding.{LeadsTo}
-use Rattle.ion_text_in.proofs.feed.comments.behind_comments.Given as goal
+use Rattle.ion_text_in.proofs.comments.behind_comments.Given as goal
 
 abbrev pub invariant-blanks : goal.invariant-blanks
 invariant-blanks l = LeadsTo blanks_at blanks_at l.bytes l.rest

@@ -5,7 +5,7 @@ use Rattle.ion_text_in.specs.Blanks.{blanks_at}
 use Rattle.ion_text_in.specs.Feeding.{LeadsTo, PassesBlanks}
 use Rattle.ion_text_in.proofs.FeedReading.{passes-white, other-there}
 use Rattle.ion_text_in.proofs.FeedComments.{leads-then, leads-white, passes-behind}
-use Rattle.ion_text_in.proofs.feed.comments.behind_comments.Goals as goal
+use Rattle.ion_text_in.proofs.comments.behind_comments.Goals as goal
 
 pub returns-then-next-ne47 : goal.returns-then-next-ne47
 returns-then-next-ne47 c some =

@@ -2,7 +2,7 @@ use Rattle.std.proofs.Common.{◌≤◌, length, arith}
 use Rattle.std.proofs.lemmas.Grind.{common_steps}
 use Rattle.ion_text_in.specs.Blanks.{blanks_at, in_block}
 use Rattle.ion_text_in.proofs.FeedComments.{leads-block, leads-star, leads-then}
-use Rattle.ion_text_in.proofs.feed.comments.behind_block.Goals as goal
+use Rattle.ion_text_in.proofs.comments.behind_block.Goals as goal
 
 pub returns-then-star-eq47 : goal.returns-then-star-eq47
 returns-then-star-eq47 c some start =

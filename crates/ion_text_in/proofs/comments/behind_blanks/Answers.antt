@@ -1,7 +1,7 @@
 use Rattle.std.proofs.Common.{◌<◌, ℕ, List, length, subst, sym, arith}
 use Rattle.ion_text_in.specs.Feeding.{PassesBlanks}
 use Rattle.ion_text_in.proofs.FeedReading.{passes-white, other-there}
-use Rattle.ion_text_in.proofs.feed.comments.behind_blanks.Goals as goal
+use Rattle.ion_text_in.proofs.comments.behind_blanks.Goals as goal
 
 pub returns : goal.returns
 returns c _ =

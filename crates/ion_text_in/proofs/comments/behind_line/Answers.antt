@@ -2,7 +2,7 @@ use Rattle.std.proofs.Common.{◌<◌, ℕ, length, List, subst, sym, arith}
 use Rattle.ion_text_in.specs.Blanks.{blanks_at, in_line}
 use Rattle.ion_text_in.specs.Feeding.{LeadsTo}
 use Rattle.ion_text_in.proofs.FeedComments.{leads-line}
-use Rattle.ion_text_in.proofs.feed.comments.behind_line.Goals as goal
+use Rattle.ion_text_in.proofs.comments.behind_line.Goals as goal
 
 pub returns : goal.returns
 returns c _ =

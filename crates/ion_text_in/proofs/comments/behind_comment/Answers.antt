@@ -2,7 +2,7 @@ use Rattle.std.proofs.Common.{ℕ, ◌≤◌, length, List, ap, arith}
 use Rattle.std.proofs.lemmas.Grind.{common_steps}
 use Rattle.std.proofs.lemmas.List.{length-drop}
 use Rattle.ion_text_in.proofs.FeedComments.{leads-to-block, leads-to-line}
-use Rattle.ion_text_in.proofs.feed.comments.behind_comment.Goals as goal
+use Rattle.ion_text_in.proofs.comments.behind_comment.Goals as goal
 
 pub returns-then-bytes-eq47-clause-leads : goal.returns-then-bytes-eq47-clause-leads
 returns-then-bytes-eq47-clause-leads c some =

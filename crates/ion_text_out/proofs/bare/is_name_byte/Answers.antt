@@ -1,8 +1,0 @@
-use Rattle.std.proofs.Common.{nat_lt, get_or, refl, sym, arith}
-use Rattle.std.proofs.lemmas.Bool.{agree_below_at}
-use Rattle.ion_value.specs.Name.{is_identifier_byte}
-use Rattle.ion_text_out.specs.declared.bare.TheConstants.{NAME_BYTES}
-use Rattle.ion_text_out.proofs.bare.is_name_byte.Goals as goal
-
-pub returns : goal.returns
-returns c = sym (agree_below_at is_identifier_byte (λ b. nat_lt 0 (get_or NAME_BYTES b 0)) 256 c.args.byte refl (omega arith))

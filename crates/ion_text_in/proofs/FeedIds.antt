@@ -23,7 +23,7 @@ use Rattle.ion_text_in.specs.declared.feed.Start.{Start}
 use Rattle.ion_text_in.specs.declared.scanned.Scanned.TheVariants.{Whole}
 use Rattle.ion_text_in.specs.declared.word.Word.{Word}
 use Rattle.ion_text_in.specs.declared.word.Word.TheVariants as word
-use Rattle.ion_text_in.specs.Feeding.{expected_of, IsBare, IsBehindName, IsFound, IsFoundBy, IsFoundRead, IsFurther, IsHeadAs, IsIdOf, IsNamed, IsNamedBy, IsNext, IsStart, IsStartBy, IsStartRead, Lane, Moved, MovedBy}
+use Rattle.ion_text_in.specs.Feeding.{expected_of, IsBare, IsBehindName, IsFound, IsFoundBy, IsFoundRead, IsFurther, IsHeadAs, IsIdOf, IsNamedBy, IsNext, IsStartBy, IsStartRead, Lane, Moved, MovedBy}
 use Rattle.ion_text_in.specs.Meaning.{at}
 use Rattle.ion_text_in.specs.Positions as positions
 use Rattle.ion_text_in.specs.Positions.{a_field}
@@ -115,11 +115,6 @@ named-id texts limits place n name bytes rest (Some s) here is behind dollar h =
       name = named-as limits place name raw bytes rest s (name-id texts limits place n bytes name.text.now rest is behind dollar) (λ _. is.simple) (dollar-some bytes dollar) h;
     }
 
--- the same of a name that is a text
-pub named-text : (texts : ℕ → Option (List ℕ)) (limits : Limits) (place : ℕ) (bytes : List ℕ) (start : Option Start) → IfSome start (IsNamed limits place bytes) → IfSome start (IsNamedBy texts limits place bytes)
-named-text texts limits place bytes None h = tt
-named-text texts limits place bytes (Some s) h = record { text = h.text; raw = placed_text h.text; seen = refl; name = h.name }
-
 pub start-named : (texts : ℕ → Option (List ℕ)) (limits : Limits) (spot : Spot) (place named : ℕ) (next : Next) (start : Option Start) → expected_of spot ≡ codes_of.Field → IsNext spot.rest.now next
     → named ≡ place + (length spot.rest.now - length next.rest.now) → IfSome start (IsNamedBy texts limits named next.rest.now) → IfSome start (IsStartBy texts None limits spot place)
 start-named texts limits spot place named next None field is here h = tt
@@ -132,10 +127,6 @@ start-named texts limits spot place named next (Some s) field is here h = record
 -- the name is a text, if there is one
 pub text-start : (texts : ℕ → Option (List ℕ)) {pair : Option SecondAt} {limits : Limits} {spot : Spot} {place : ℕ} {start : Start} → IsFurther pair limits spot place start → IsStartBy texts pair limits spot place start
 text-start texts {start} h = record { raw = option_map placed_text start.field; seen = text-seen texts start.field; read = h }
-
-pub start-text : (texts : ℕ → Option (List ℕ)) (limits : Limits) (spot : Spot) (place : ℕ) (start : Option Start) → IfSome start (IsStart limits spot place) → IfSome start (IsStartBy texts None limits spot place)
-start-text texts limits spot place None h = tt
-start-text texts limits spot place (Some s) h = text-start texts h
 
 -- ---- a value
 

@@ -6,6 +6,7 @@ use Rattle.std.proofs.lemmas.List.{length-drop}
 use Rattle.ion_meter.specs.Sources.{Cursor}
 use Rattle.ion_meter.specs.declared.limits.Limits.{Limits}
 use Rattle.ion_value.specs.declared.ion_type.Kind.{Kind}
+use Rattle.ion_value.specs.declared.ion_type.Kind.TheVariants as a_kind
 use Rattle.ion_value.specs.declared.ion_type.IonType.TheVariants as type
 use Rattle.ion_value.specs.declared.plain_item.TextAt.{TextAt}
 use Rattle.ion_value.specs.Digits.{all_are, first_is}
@@ -13,7 +14,7 @@ use Rattle.ion_value.specs.Name.{Keyword, a_null, a_bool, a_nan, is_id, is_ident
 use Rattle.ion_value.specs.Parts.{Placed, ◌>>=◌}
 use Rattle.ion_value.specs.PlainItems.{placed_text, IsRightlySimple}
 use Rattle.ion_value.specs.Value as value
-use Rattle.ion_value.specs.Value.{SymbolAt, Symbol}
+use Rattle.ion_value.specs.Value.{SymbolAt}
 use Rattle.ion_text_in.specs.Feeding.{expected_of, state, Begins, IfName, IsBare, IsBegun, IsBehind, IsBehindName, IsNamed, IsNamedAs, IsNext, IsSimpleWord, IsStart, IsStartAs, Onward, PassesBlanks, ToColon}
 use Rattle.ion_text_in.specs.declared.expected.Expected.{Expected}
 use Rattle.ion_text_in.specs.declared.expected.Expected.TheVariants as codes_of
@@ -23,7 +24,7 @@ use Rattle.ion_text_in.specs.declared.feed.Start.{Start}
 use Rattle.ion_text_in.specs.declared.scanned.Scanned.TheVariants.{Whole}
 use Rattle.ion_text_in.specs.declared.word.Word.{Word}
 use Rattle.ion_text_in.specs.declared.word.Word.TheVariants as word
-use Rattle.ion_text_in.specs.Expecting.{MayExpect}
+use Rattle.ion_text_in.specs.Expecting.{expected_in, MayExpect}
 use Rattle.ion_text_in.specs.Meaning.{at}
 use Rattle.ion_text_in.specs.Places.{run_of}
 use Rattle.ion_text_in.specs.Positions.{Wants, a_field, a_value}
@@ -279,6 +280,10 @@ pub start-field : (limits : Limits) (spot : Spot) (place named : ℕ) (next : Ne
 start-field limits spot place named next None field is here h = tt
 start-field limits spot place named next (Some s) field is here h =
     subst (λ (f : Option TextAt). IsStartAs (option_map placed_text f) None limits spot place s) (sym h.name.is) (start-as limits spot place named next h.text (placed_text h.text) s field is here h.name)
+
+-- a name must come where a struct is open and no comma must come
+pub expects-field : (spot : Spot) → spot.separator ≡ false → spot.kind ≡ a_kind.Struct → expected_of spot ≡ codes_of.Field
+expects-field spot here struct = ap (λ (b : Bool). expected_in b spot.kind) here ∙ ap (λ (k : Kind). expected_in false k) struct
 
 -- what is known of the next token, where there is one
 pub next-begins : (bytes : List ℕ) (next : Next) → IsNext bytes next → 0 < length next.rest.now → Begins next

@@ -2,14 +2,14 @@
 ghost use Rattle.std.specs.Prelude.{◌≡◌, ◌≢◌, ◌+◌, ◌-◌, ◌^◌, ◌<◌, ◌≤◌, ◌==◌, ℕ, List, Option, None, true, length, IfSome};
 ghost use Rattle.ion_value.specs.declared.ion_type.Kind as kind_of;
 ghost use Rattle.ion_value.specs.Digits.{first_is};
-ghost use Rattle.ion_text_in.specs.Feeding.{lane, Begins, CanFeed, IsFoundBy, IsIdOf, IsNamedBy, IsNext, IsStartBy, IsStartRead, MovedBy};
+ghost use Rattle.ion_text_in.specs.Feeding.{lane, CanFeed, IsFoundBy, IsIdOf, IsNamedBy, IsNext, IsStartBy, IsStartRead, MovedBy};
 
 use super::heads::scan_head;
-use super::names::{behind_name, field_start};
+use super::names::behind_name;
 use super::noted::begins_dollar;
 use super::{
     Found, Next, Spot, Start, begin, behind, by_head, next_told, place_behind, scalar, to_member,
-    value_start,
+    to_start,
 };
 use crate::blank::run_without;
 use crate::scanned::Scanned;
@@ -102,7 +102,8 @@ fn id_turn<'a, N: Names, W: ValueWriter<O, A>, O: Output, A: Allocator + Copy>(
     }
 }
 
-// What the value begins with that may begin here, behind the name of its field where one must come.
+// What the value begins with that may begin here, behind the name of its field where one must come: an id,
+// or a simple word.
 #[inline(always)]
 fn id_start<'a, N: Names>(
     spot: Spot<'a>,
@@ -115,31 +116,12 @@ fn id_start<'a, N: Names>(
     requires small { place + length spot.rest.now < 2 ^ 63 }
     ensures { IfSome result (IsStartBy (N.text names.now) None limits spot.entry place) }
 {
-    if spot.separator || next.rest.is_empty() {
-        return None;
-    }
     match spot.kind {
-        Kind::Struct => id_field(next, names, limits, place_behind(place, spot, next)),
-        Kind::List | Kind::Sexp => value_start(next),
+        Kind::Struct if !spot.separator && begins_dollar(next.rest) => {
+            id_name(next.rest, names, limits, place_behind(place, spot, next))
+        }
+        _ => to_start(spot, next, limits, place),
     }
-}
-
-// What the value begins with behind the name that must come, and that begins at a place: an id or a simple
-// word.
-#[inline(always)]
-fn id_field<'a, N: Names>(
-    next: Next<'a>,
-    names: &'a N,
-    limits: Limits,
-    place: u64,
-) -> Option<Start<'a>>
-    requires begins { Begins next }
-    ensures { IfSome result (IsNamedBy (N.text names.now) limits place next.entry.rest.now) }
-{
-    if begins_dollar(next.rest) {
-        return id_name(next.rest, names, limits, place);
-    }
-    field_start(next, limits, place)
 }
 
 // What the value begins with after a field's name that is an id.

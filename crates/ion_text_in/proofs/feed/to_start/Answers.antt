@@ -5,7 +5,7 @@ use Rattle.ion_text_in.specs.declared.expected.Expected.TheVariants as codes
 use Rattle.ion_text_in.specs.Expecting.{expected_in}
 use Rattle.ion_text_in.specs.Feeding.{expected_of}
 use Rattle.ion_text_in.proofs.FeedReading.{start-value}
-use Rattle.ion_text_in.proofs.FeedNames.{next-begins, start-field, named-bare}
+use Rattle.ion_text_in.proofs.FeedNames.{expects-field, next-begins, start-field, named-bare}
 use Rattle.ion_text_in.proofs.feed.to_start.Goals as goal
 
 value-in : (kind : Kind) → (kind ≡ a_kind.List) ⊎ (kind ≡ a_kind.Sexp) → expected_in false kind ≡ codes.Value
@@ -28,8 +28,7 @@ field_start-requires c = record { begins = λ told. next-begins c.args.spot.rest
 pub returns-in-Struct-clause-start : goal.returns-in-Struct-clause-start
 returns-in-Struct-clause-start c =
     let spot = c.args.spot in
-    let field : expected_of spot ≡ codes.Field = ap (λ (b : Bool). expected_in b spot.kind) c.if-spot.false ∙ ap (λ (k : Kind). expected_in false k) c.in-Struct.is in
-    start-field c.args.limits spot c.args.place c.place_behind.result c.args.next c.field_start.result field c.requires.next c.place_behind.ensures c.field_start.ensures
+    start-field c.args.limits spot c.args.place c.place_behind.result c.args.next c.field_start.result (expects-field spot c.if-spot.false c.in-Struct.is) c.requires.next c.place_behind.ensures c.field_start.ensures
 
 pub returns-in-Struct-clause-bare : goal.returns-in-Struct-clause-bare
 returns-in-Struct-clause-bare c = named-bare c.args.limits c.place_behind.result c.args.next.rest.now c.field_start.result c.field_start.ensures

@@ -8,11 +8,11 @@ use super::heads::scan_head;
 use super::names::behind_name;
 use super::noted::begins_dollar;
 use super::{
-    Found, Next, Spot, Start, begin, behind, by_head, next_told, place_behind, scalar, to_member,
-    to_start,
+    Found, Next, Spot, Start, begin, by_head, next_told, place_behind, scalar, to_member, to_start,
 };
 use crate::blank::run_without;
 use crate::scanned::Scanned;
+use crate::slice::behind;
 use crate::word::{Word, scan_word};
 use ion_meter::device::Output;
 use ion_meter::limits::Limits;

@@ -23,6 +23,7 @@ use ion_meter::limits::Limits;
 use ion_meter::meter::Meter;
 use ion_meter::source::Source;
 use ion_value::ion_type::IonType;
+use ion_value::name::{is_false, is_nan, is_null, is_true};
 use std::alloc::Allocator;
 
 /// A word. The bytes of a symbol stand beside it.
@@ -408,38 +409,6 @@ fn keyword_or_name(word: &[u8]) -> Result<Word, Reason>
         return Ok(Word::NoNumber);
     }
     Ok(Word::Name)
-}
-
-// Whether a word is `null`.
-#[inline(always)]
-fn is_null(word: &[u8]) -> bool
-    ensures { result ≡ bytes_eq (codes "null") word.now }
-{
-    matches!(word, [b'n', b'u', b'l', b'l'])
-}
-
-// Whether a word is `true`.
-#[inline(always)]
-fn is_true(word: &[u8]) -> bool
-    ensures { result ≡ bytes_eq (codes "true") word.now }
-{
-    matches!(word, [b't', b'r', b'u', b'e'])
-}
-
-// Whether a word is `false`.
-#[inline(always)]
-fn is_false(word: &[u8]) -> bool
-    ensures { result ≡ bytes_eq (codes "false") word.now }
-{
-    matches!(word, [b'f', b'a', b'l', b's', b'e'])
-}
-
-// Whether a word is `nan`.
-#[inline(always)]
-fn is_nan(word: &[u8]) -> bool
-    ensures { result ≡ bytes_eq (codes "nan") word.now }
-{
-    matches!(word, [b'n', b'a', b'n'])
 }
 
 // Whether a word is `null` with a point, and the name of a type behind it.

@@ -1,9 +1,7 @@
 -- Words among the texts of symbols.
-use Rattle.std.proofs.Common.{◌≡◌, ◌≢◌, ℕ, suc, ◌+◌, ◌<◌, ◌≤◌, Bool, true, false, not, ◌&&◌, ◌==◌, nat_eq, List, [], ◌∷◌, length, take, drop, get_or, codes, is_none, refl, ap, sym, ◌∙◌, arith, inl, inr, length-drop, subst}
+use Rattle.std.proofs.Common.{◌≡◌, ◌≢◌, ℕ, suc, ◌+◌, ◌<◌, ◌≤◌, Bool, true, false, not, ◌&&◌, ◌==◌, List, [], ◌∷◌, length, take, drop, get_or, codes, is_none, refl, ap, sym, ◌∙◌, arith, inl, inr, length-drop}
 use Rattle.std.proofs.lemmas.Bool.{and_parts, cases_Bool, eq-eqb, eqb-true, ne_eqb}
 use Rattle.std.proofs.lemmas.List.{drop_more, nil_from_length, take_all}
-use Rattle.std.specs.Cmp.Lexicographic.{pointwise}
-use Rattle.std.proofs.lemmas.Cmp.{nat_list_eq_equiv}
 use Rattle.std.specs.Str.{bytes_eq}
 use Rattle.ion_value.specs.Digits.{all_are, cut_at}
 use Rattle.ion_value.specs.Name.{begins_with, is_id, is_identifier, is_identifier_byte, is_plain, is_version, keyword}
@@ -72,22 +70,6 @@ no_dot bytes all = elim (cases_Bool (begins_with (codes "null.") bytes)) [
   | inl e ↦ absurd (cc (begins_all is_identifier_byte (codes "null.") bytes e all))
   | inr e ↦ e
 ]
-
--- what a comparison answered
-pub same_as : (s t u : List ℕ) (r : Bool) → r ≡ pointwise nat_eq t u → u ≡ s → bytes_eq s t ≡ r
-same_as s t u r a e = nat_list_eq_equiv.symm s t ∙ (ap (pointwise nat_eq t) (sym e) ∙ sym a)
-
--- a word that is the same as a keyword is one
-is_same : (s word : List ℕ) → bytes_eq s word ≡ true → s ≡ word
-is_same [] [] e = refl
-is_same [] (b ∷ bytes) e = absurd (cc e)
-is_same (c ∷ cs) [] e = absurd (cc e)
-is_same (c ∷ cs) (b ∷ bytes) e =
-    let parts = and_parts (nat_eq c b) (bytes_eq cs bytes) e in
-    rw (eqb-true c b parts.0) (ap (λ (l : List ℕ). b ∷ l) (is_same cs bytes parts.1))
-
-pub keyword_found : (s word : List ℕ) → true ≡ not (is_none (keyword s)) → bytes_eq s word ≡ true → true ≡ not (is_none (keyword word))
-keyword_found s word found e = subst (λ (w : List ℕ). true ≡ not (is_none (keyword w))) (is_same s word e) found
 
 -- an identifier that is none of the first words is a keyword where it is the last
 pub keyword_last : (word : List ℕ) (r : Bool) → all_are is_identifier_byte word ≡ true → bytes_eq (codes "null") word ≡ false → bytes_eq (codes "true") word ≡ false

@@ -1,5 +1,6 @@
-//! Identifiers, and which texts of symbols are written without quotes (Ion specification, "Symbols").
-ghost use Rattle.std.specs.Prelude.{◌≡◌, ◌==◌, ◌&&◌, true, not, drop, is_none};
+//! Identifiers, and which texts of symbols are written without quotes (Ion specification,
+//! "Symbols").
+ghost use Rattle.std.specs.Prelude.{◌≡◌, ◌==◌, ◌&&◌, true, not, drop, is_none, codes};
 ghost use Rattle.std.specs.Str.{bytes_eq};
 ghost use Rattle.ion_value.specs.Digits.{all_are, cut_at, first_is, is_digit};
 ghost use Rattle.ion_value.specs.Name.{is_id, is_identifier, is_identifier_byte, is_identifier_start, is_number, is_plain, is_simple, is_version, keyword, version_word};
@@ -91,10 +92,39 @@ fn is_keyword(name: &[u8]) -> bool
     requires { all_are is_identifier_byte name.now ≡ true }
     ensures { result ≡ not (is_none (keyword name.now)) }
 {
-    name == b"null".as_slice()
-        || name == b"true".as_slice()
-        || name == b"false".as_slice()
-        || name == b"nan".as_slice()
+    is_null(name) || is_true(name) || is_false(name) || is_nan(name)
+}
+
+/// Whether a word is `null` (Ion specification, "Null Values").
+#[inline(always)]
+pub fn is_null(word: &[u8]) -> bool
+    ensures { result ≡ bytes_eq (codes "null") word.now }
+{
+    matches!(word, [b'n', b'u', b'l', b'l'])
+}
+
+/// Whether a word is `true` (Ion specification, "Booleans").
+#[inline(always)]
+pub fn is_true(word: &[u8]) -> bool
+    ensures { result ≡ bytes_eq (codes "true") word.now }
+{
+    matches!(word, [b't', b'r', b'u', b'e'])
+}
+
+/// Whether a word is `false` (Ion specification, "Booleans").
+#[inline(always)]
+pub fn is_false(word: &[u8]) -> bool
+    ensures { result ≡ bytes_eq (codes "false") word.now }
+{
+    matches!(word, [b'f', b'a', b'l', b's', b'e'])
+}
+
+/// Whether a word is `nan` (Ion specification, "Real Numbers").
+#[inline(always)]
+pub fn is_nan(word: &[u8]) -> bool
+    ensures { result ≡ bytes_eq (codes "nan") word.now }
+{
+    matches!(word, [b'n', b'a', b'n'])
 }
 
 // Whether a word is an id: a dollar sign and digits alone.

@@ -14,21 +14,21 @@ ghost use Rattle.ion_text_in.specs.Positions.{at, innermost, in_sexp};
 ghost use Rattle.ion_text_in.specs.Reading as reading;
 ghost use Rattle.ion_text_in.specs.Reading.{reading, reading_from};
 ghost use Rattle.ion_text_in.specs.Token.{name};
-ghost use Rattle.ion_text_in.specs.Tokens.{as_symbol, going, token_view, BodyInRange};
+ghost use Rattle.ion_text_in.specs.Tokens.{as_symbol, going, BodyInRange};
 ghost use Rattle.ion_text_in.specs.Symbols.{is_annotated, kept_text};
 ghost use Rattle.ion_text_in.specs.Expecting.{wanted, MayExpect};
-ghost use Rattle.ion_text_in.specs.Steps.{annotations_in, closing, ending, failed_of, given_by, held_by, left_to, lent_by, limits_of, naming, naming_here, opened_in, opening, scalar_by, share_of, sound-within, source_of, taking, to_come_by, to_come_in, with_colons, without_colons, CanAdvance, CanStep, HasEnded, IsGoing, IsInside, IsReady, IsSized, IsSound, ReadyAfter, StepGives, Stepped};
+ghost use Rattle.ion_text_in.specs.Steps.{annotations_in, ending, failed_of, given_by, held_by, left_to, lent_by, limits_of, naming, naming_here, opened_in, scalar_by, share_of, sound-within, source_of, taking, to_come_by, to_come_in, with_colons, without_colons, CanAdvance, CanStep, HasEnded, IsGoing, IsInside, IsReady, IsSized, IsSound, ReadyAfter, StepGives, Stepped};
 
 mod lent;
 mod taking;
 mod window;
 
 use crate::blank::pass_blanks;
-use crate::expected::{Expected, at_member, behind_member, is_colons, is_same};
+use crate::expected::{Expected, behind_member, is_colons};
 use crate::first::{First, next_first};
 use crate::operator::{pass_colons, pass_mark};
 use crate::symbol::{FieldName, annotation_place, keep_text, lent_field};
-use crate::token::{Body, Symbol, Token};
+use crate::token::{Body, Symbol};
 use crate::waiting::shows_item;
 use ion_meter::buf::Buf;
 use ion_meter::device::{Input, Output};
@@ -434,88 +434,6 @@ impl<I: Input, A: Allocator + Copy> TextReader<I, A> {
         self.field = Some(FieldName { symbol, place });
         self.expected = Expected::Value;
         Ok(StepResult::Passed)
-    }
-
-    // Closes the innermost open container, where it is of this kind.
-    fn close(&mut self, kind: Kind, place: u64, meter: &mut Meter<A>) -> Result<StepResult, Fault>
-        requires can_step { CanStep self.old meter.old }
-        requires bare { (self.old.field ≡ None) × (self.old.annotations ≡ []) }
-        ensures gives { I.observable self.old.source.device → (d : Cursor)
-            → blanks d ≡ blanks (cursor I.Input self.old.source)
-            → StepGives I.Input (closing self.old kind place d) self.new result }
-        ensures ready { ReadyAfter result self.new }
-        ensures stepped { Stepped I.Input StepResult.Item self.old self.new
-            meter.old meter.new result }
-        ensures goes { GoesWithReading meter.old meter.new
-            (held_by self.old) (held_by self.new) (left_to self.old) (left_to self.new) }
-    {
-        let Some(innermost) = self.innermost() else {
-            return Err(Fault::Refused(Reason::BadToken, place));
-        };
-        if !is_same(innermost, kind) {
-            return Err(Fault::Refused(Reason::BadToken, place));
-        }
-        let _closed = self.kinds.pop(meter);
-        self.what = ItemKind::End;
-        self.place = place;
-        self.expected = behind_member(self.innermost());
-        Ok(StepResult::Item)
-    }
-
-    // Opens a container.
-    fn open(&mut self, kind: Kind, place: u64, meter: &mut Meter<A>) -> Result<StepResult, Fault>
-        requires can_step { CanStep self.old meter.old }
-        requires value { self.old.expected ≡ Expected.Value }
-        ensures gives { I.observable self.old.source.device → (d : Cursor)
-            → blanks d ≡ blanks (cursor I.Input self.old.source)
-            → StepGives I.Input (opening self.old kind place d) self.new result }
-        ensures ready { ReadyAfter result self.new }
-        ensures stepped { Stepped I.Input StepResult.Item self.old self.new
-            meter.old meter.new result }
-        ensures goes { GrowsWithin meter.old meter.new (held_by self.old) (held_by self.new) 16 }
-    {
-        if u64::from(self.limits.depth) <= self.kinds.as_slice().len() as u64 {
-            return Err(Fault::Refused(Reason::DepthLimit, place));
-        }
-        let top = self.top_at(place);
-        if let Err((_, fault)) = self.kinds.push(meter, kind) {
-            return Err(fault);
-        }
-        self.top = top;
-        self.what = ItemKind::Begin(kind);
-        self.place = place;
-        self.expected = at_member(kind);
-        Ok(StepResult::Item)
-    }
-
-    // Closes the innermost open container where a value may stand: behind a field's name and behind
-    // annotations a value has to come.
-    #[tactic(auto, unfolding(crate::specs::Reading::take))]
-    fn close_bare(
-        &mut self,
-        kind: Kind,
-        place: u64,
-        meter: &mut Meter<A>,
-    ) -> Result<StepResult, Fault>
-        requires can_step { CanStep self.old meter.old }
-        requires value { self.old.expected ≡ Expected.Value }
-        ensures gives { I.observable self.old.source.device → (d : Cursor)
-            → blanks d ≡ blanks (cursor I.Input self.old.source)
-            → StepGives I.Input (taking self.old place
-            (token_view self.old.text place (Token.End kind)) d) self.new result }
-        ensures ready { ReadyAfter result self.new }
-        ensures stepped { Stepped I.Input StepResult.Item self.old self.new
-            meter.old meter.new result }
-        ensures goes { GoesWithReading meter.old meter.new
-            (held_by self.old) (held_by self.new) (left_to self.old) (left_to self.new) }
-    {
-        if self.field.is_some() {
-            return Err(Fault::Refused(Reason::BadToken, place));
-        }
-        if self.is_annotated() {
-            return Err(Fault::Refused(Reason::BadToken, place));
-        }
-        self.close(kind, place, meter)
     }
 
     // The end of the input: the stream ends where nothing is open and a value may begin.

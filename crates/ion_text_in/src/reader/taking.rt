@@ -1,5 +1,5 @@
-//! Tokens that are read and taken.
-ghost use Rattle.std.specs.Prelude.{◌≡◌, ◌<◌, ◌≤◌, ◌+◌, ◌*◌, length, OnOk};
+//! Tokens that are read and taken, and the containers that they open and close.
+ghost use Rattle.std.specs.Prelude.{◌≡◌, ◌<◌, ◌≤◌, ◌+◌, ◌*◌, [], None, length, OnOk};
 ghost use Rattle.ion_meter.specs.Sources.{Cursor, cursor};
 ghost use Rattle.ion_meter.specs.Windows.{lent};
 ghost use Rattle.ion_value.specs.Calls.{passed_over};
@@ -8,15 +8,16 @@ ghost use Rattle.ion_text_in.specs.Symbols.{prepaid};
 ghost use Rattle.ion_text_in.specs.Blanks.{blanks};
 ghost use Rattle.ion_text_in.specs.Firsts.{first_of, width};
 ghost use Rattle.ion_text_in.specs.Tokens.{going, overrun_of, token_view, TokenInRange};
-ghost use Rattle.ion_text_in.specs.Steps.{held_by, left_to, part_by, taking, CanStep, ReadyAfter, StepGives, Stepped};
+ghost use Rattle.ion_text_in.specs.Steps.{closing, held_by, left_to, opening, part_by, taking, CanStep, ReadyAfter, StepGives, Stepped};
 
-use super::{StepResult, TextReader};
-use crate::expected::{Expected, behind_comma, may_come};
+use super::{ItemKind, StepResult, TextReader};
+use crate::expected::{Expected, at_member, behind_comma, behind_member, is_same, may_come};
 use crate::first::First;
 use crate::token::{Body, Symbol, Token, next_token};
 use ion_meter::device::Input;
 use ion_meter::fault::{Fault, Reason};
 use ion_meter::meter::Meter;
+use ion_value::ion_type::Kind;
 use std::alloc::Allocator;
 
 impl<I: Input, A: Allocator + Copy> TextReader<I, A> {
@@ -157,5 +158,87 @@ impl<I: Input, A: Allocator + Copy> TextReader<I, A> {
             Token::NoNumber => Err(Fault::Refused(Reason::Float, place)),
             _ => Err(Fault::Refused(Reason::BadToken, place)),
         }
+    }
+
+    // Closes the innermost open container, where it is of this kind.
+    fn close(&mut self, kind: Kind, place: u64, meter: &mut Meter<A>) -> Result<StepResult, Fault>
+        requires can_step { CanStep self.old meter.old }
+        requires bare { (self.old.field ≡ None) × (self.old.annotations ≡ []) }
+        ensures gives { I.observable self.old.source.device → (d : Cursor)
+            → blanks d ≡ blanks (cursor I.Input self.old.source)
+            → StepGives I.Input (closing self.old kind place d) self.new result }
+        ensures ready { ReadyAfter result self.new }
+        ensures stepped { Stepped I.Input StepResult.Item self.old self.new
+            meter.old meter.new result }
+        ensures goes { GoesWithReading meter.old meter.new
+            (held_by self.old) (held_by self.new) (left_to self.old) (left_to self.new) }
+    {
+        let Some(innermost) = self.innermost() else {
+            return Err(Fault::Refused(Reason::BadToken, place));
+        };
+        if !is_same(innermost, kind) {
+            return Err(Fault::Refused(Reason::BadToken, place));
+        }
+        let _closed = self.kinds.pop(meter);
+        self.what = ItemKind::End;
+        self.place = place;
+        self.expected = behind_member(self.innermost());
+        Ok(StepResult::Item)
+    }
+
+    // Opens a container.
+    fn open(&mut self, kind: Kind, place: u64, meter: &mut Meter<A>) -> Result<StepResult, Fault>
+        requires can_step { CanStep self.old meter.old }
+        requires value { self.old.expected ≡ Expected.Value }
+        ensures gives { I.observable self.old.source.device → (d : Cursor)
+            → blanks d ≡ blanks (cursor I.Input self.old.source)
+            → StepGives I.Input (opening self.old kind place d) self.new result }
+        ensures ready { ReadyAfter result self.new }
+        ensures stepped { Stepped I.Input StepResult.Item self.old self.new
+            meter.old meter.new result }
+        ensures goes { GrowsWithin meter.old meter.new (held_by self.old) (held_by self.new) 16 }
+    {
+        if u64::from(self.limits.depth) <= self.kinds.as_slice().len() as u64 {
+            return Err(Fault::Refused(Reason::DepthLimit, place));
+        }
+        let top = self.top_at(place);
+        if let Err((_, fault)) = self.kinds.push(meter, kind) {
+            return Err(fault);
+        }
+        self.top = top;
+        self.what = ItemKind::Begin(kind);
+        self.place = place;
+        self.expected = at_member(kind);
+        Ok(StepResult::Item)
+    }
+
+    // Closes the innermost open container where a value may stand: behind a field's name and behind
+    // annotations a value has to come.
+    #[tactic(auto, unfolding(crate::specs::Reading::take))]
+    fn close_bare(
+        &mut self,
+        kind: Kind,
+        place: u64,
+        meter: &mut Meter<A>,
+    ) -> Result<StepResult, Fault>
+        requires can_step { CanStep self.old meter.old }
+        requires value { self.old.expected ≡ Expected.Value }
+        ensures gives { I.observable self.old.source.device → (d : Cursor)
+            → blanks d ≡ blanks (cursor I.Input self.old.source)
+            → StepGives I.Input (taking self.old place
+            (token_view self.old.text place (Token.End kind)) d) self.new result }
+        ensures ready { ReadyAfter result self.new }
+        ensures stepped { Stepped I.Input StepResult.Item self.old self.new
+            meter.old meter.new result }
+        ensures goes { GoesWithReading meter.old meter.new
+            (held_by self.old) (held_by self.new) (left_to self.old) (left_to self.new) }
+    {
+        if self.field.is_some() {
+            return Err(Fault::Refused(Reason::BadToken, place));
+        }
+        if self.is_annotated() {
+            return Err(Fault::Refused(Reason::BadToken, place));
+        }
+        self.close(kind, place, meter)
     }
 }

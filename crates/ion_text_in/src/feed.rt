@@ -1,13 +1,14 @@
 //! A lane for items that lie whole in the window: they go to the writer as they are read.
-ghost use Rattle.std.specs.Prelude.{◌≡◌, ◌≢◌, ◌+◌, ◌-◌, ◌^◌, ◌<◌, ◌≤◌, ℕ, Bool, List, [], ◌∷◌, ◌++◌, take, drop, length, reverse, true, false, Option, None, Some, Ok, option_map, IfSome};
+ghost use Rattle.std.specs.Prelude.{◌≡◌, ◌≢◌, ◌+◌, ◌-◌, ◌^◌, ◌<◌, ◌≤◌, ℕ, Bool, List, [], ◌++◌, take, drop, length, reverse, true, false, Option, None, Some, IfSome};
 ghost use Rattle.ion_value.specs.declared.ion_type.Kind as kind_of;
 ghost use Rattle.ion_text_in.specs.Expecting.{kind_in, wanted, MayExpect};
-ghost use Rattle.ion_text_in.specs.Feeding.{expected_of, lane, notes, Begins, CanFeed, IsFoundBy, IsFoundRead, IsNext, IsSimpleWord, IsStart, IsStartBy, IsStartRead, Moved, MovedBy, Onward, PassesBlanks};
+ghost use Rattle.ion_text_in.specs.Feeding.{expected_of, lane, notes, CanFeed, IsFoundBy, IsFoundRead, IsNext, IsSimpleWord, IsStart, IsStartBy, IsStartRead, Moved, MovedBy, Onward, PassesBlanks};
 ghost use Rattle.ion_text_in.specs.Firsts.{numbered};
 ghost use Rattle.ion_text_in.specs.Reading.{top_of};
 ghost use Rattle.ion_text_in.specs.Token.{a_comma, a_run, a_short, a_word, an_end, first_at};
 ghost use Rattle.ion_text_in.specs.Positions.{innermost};
 
+mod any;
 mod close;
 mod copies;
 mod heads;
@@ -22,11 +23,9 @@ use crate::quick::scan_quick;
 use crate::scanned::Scanned;
 use crate::slice::{behind, front};
 use crate::word::{Word, scan_simple};
+use any::rare;
 use close::{close, pass_value};
-use copies::{limits_for_call, spot_for_call, start_for_call};
-use heads::{
-    begin_head, decimal_head, int_head, scan_head, spelled_quick, string_head, symbol_head, token,
-};
+use heads::{begin_head, decimal_head, int_head, spelled_quick, string_head, symbol_head, token};
 use ids::{id_turns, is_dollar_near};
 use ion_meter::device::Output;
 use ion_meter::limits::Limits;
@@ -39,7 +38,7 @@ use ion_value::names::Names;
 use ion_value::plain_item::{PlainItem, SecondAt, TextAt};
 use ion_value::writer::ValueWriter;
 use names::field_start;
-use noted::{noted, with_second};
+use noted::noted;
 use quotes::{quoted_turn, quoted_value};
 use std::alloc::Allocator;
 
@@ -368,113 +367,6 @@ fn scalar<'a, W: ValueWriter<O, A>, O: Output, A: Allocator + Copy>(
     }
     pass_value(at, found.rest, top, inner);
     true
-}
-
-// Hands on the value that begins here, whatever it is but an id, behind its name, which may be one, and
-// its annotations, and says whether it did.
-#[inline(always)]
-fn by_head<'a, W: ValueWriter<O, A>, O: Output, A: Allocator + Copy>(
-    at: &mut Spot<'a>,
-    start: Start<'a>,
-    second: Option<SecondAt<'a>>,
-    limits: Limits,
-    end: u64,
-    kinds: &mut Stack<Kind, A>,
-    meter: &mut Meter<A>,
-    writer: &mut W,
-    sink: &mut Sink<O, A>,
-) -> bool
-    requires can { CanFeed W.ValueWriter limits end
-        (lane kinds.old at.old writer.old sink.old meter.old) }
-    requires start { IsStartRead second limits at.old (end - length at.old.rest.now) start }
-    ensures moved { (texts : ℕ → Option (List ℕ))
-        → IsStartBy texts second.entry limits at.old (end - length at.old.rest.now) start.entry
-        → MovedBy W.ValueWriter limits end texts
-        (lane kinds.old at.old writer.old sink.old meter.old)
-        (lane kinds.new at.new writer.new sink.new meter.new) }
-    ensures goes { length kinds.new + length at.new.rest.now
-        ≤ length kinds.old + length at.old.rest.now }
-    ensures falls { result ≡ true → length at.new.rest.now < length at.old.rest.now }
-{
-    let place = end - start.next.rest.len() as u64;
-    let Some(found) = scan_head(limits, place, start.next) else {
-        return false;
-    };
-    match found.head {
-        Head::Begin(kind) => begin(
-            at, start, second, found, kind, limits, end, kinds, meter, writer, sink,
-        ),
-        _ => scalar(
-            at, start, second, found, limits, end, kinds, meter, writer, sink,
-        ),
-    }
-}
-
-// Hands on the value that begins here, whatever it is, behind its field's name and its annotation.
-// A second annotation may stand here first.
-#[inline(never)]
-fn any_value<'a, W: ValueWriter<O, A>, O: Output, A: Allocator + Copy>(
-    spot: Spot<'a>,
-    start: Start<'a>,
-    limits: Limits,
-    end: u64,
-    kinds: &mut Stack<Kind, A>,
-    meter: &mut Meter<A>,
-    writer: &mut W,
-    sink: &mut Sink<O, A>,
-) -> Turned<'a>
-    requires can { CanFeed W.ValueWriter limits end
-        (lane kinds.old spot writer.old sink.old meter.old) }
-    requires start { IsStart limits spot (end - length spot.rest.now) start }
-    ensures moved { Moved W.ValueWriter limits end
-        (lane kinds.old spot.entry writer.old sink.old meter.old)
-        (lane kinds.new result.spot writer.new sink.new meter.new) }
-    ensures goes { length kinds.new + length result.spot.rest.now
-        ≤ length kinds.old + length spot.entry.rest.now }
-    ensures falls { result.more ≡ true → length result.spot.rest.now < length spot.entry.rest.now }
-{
-    let mut at = spot;
-    let Further { start, second } = with_second(spot, start, limits, end);
-    let more = by_head(
-        &mut at, start, second, limits, end, kinds, meter, writer, sink,
-    );
-    Turned { spot: at, more }
-}
-
-// Hands on a value of a rare kind: it is a call, over a copy of where the lane stands.
-#[inline(always)]
-fn rare<'a, W: ValueWriter<O, A>, O: Output, A: Allocator + Copy>(
-    at: &mut Spot<'a>,
-    start: Start<'a>,
-    limits: Limits,
-    end: u64,
-    kinds: &mut Stack<Kind, A>,
-    meter: &mut Meter<A>,
-    writer: &mut W,
-    sink: &mut Sink<O, A>,
-) -> bool
-    requires can { CanFeed W.ValueWriter limits end
-        (lane kinds.old at.old writer.old sink.old meter.old) }
-    requires start { IsStart limits at.old (end - length at.old.rest.now) start }
-    ensures moved { Moved W.ValueWriter limits end
-        (lane kinds.old at.old writer.old sink.old meter.old)
-        (lane kinds.new at.new writer.new sink.new meter.new) }
-    ensures goes { length kinds.new + length at.new.rest.now
-        ≤ length kinds.old + length at.old.rest.now }
-    ensures falls { result ≡ true → length at.new.rest.now < length at.old.rest.now }
-{
-    let turned = any_value(
-        spot_for_call(*at),
-        start_for_call(start),
-        limits_for_call(limits),
-        end,
-        kinds,
-        meter,
-        writer,
-        sink,
-    );
-    *at = spot_for_call(turned.spot);
-    turned.more
 }
 
 // Hands on a number: an int or a decimal is mostly read in one pass.

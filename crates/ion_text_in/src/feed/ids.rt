@@ -4,11 +4,12 @@ ghost use Rattle.ion_value.specs.declared.ion_type.Kind as kind_of;
 ghost use Rattle.ion_value.specs.Digits.{first_is};
 ghost use Rattle.ion_text_in.specs.Feeding.{lane, CanFeed, IsFoundBy, IsIdOf, IsNamedBy, IsNext, IsStartBy, IsStartRead, MovedBy};
 
+use super::any::by_head;
 use super::heads::scan_head;
 use super::names::behind_name;
 use super::noted::begins_dollar;
 use super::{
-    Found, Next, Spot, Start, begin, by_head, next_told, place_behind, scalar, to_member, to_start,
+    Found, Next, Spot, Start, begin, next_told, place_behind, scalar, to_member, to_start,
 };
 use crate::blank::run_without;
 use crate::scanned::Scanned;

@@ -1,4 +1,4 @@
-use Rattle.std.proofs.Common.{◌-◌, ℕ, List, sym, subst, arith}
+use Rattle.std.proofs.Common.{ℕ, List, sym, subst, arith}
 use Rattle.std.proofs.lemmas.Grind.{common_steps}
 use Rattle.ion_value.specs.PlainItems.{IsTextOf}
 use Rattle.ion_value.specs.Value.{whole}

@@ -1,7 +1,6 @@
 use Rattle.std.proofs.Common.{refl, arith}
 use Rattle.std.proofs.lemmas.Grind.{common_steps}
 use Rattle.ion_text_in.specs.Feeding.{lane}
-use Rattle.ion_text_in.specs.Meaning.{at}
 use Rattle.ion_text_in.proofs.FeedHeads.{head-keyword}
 use Rattle.ion_text_in.proofs.FeedLanes.{moved-none}
 use Rattle.ion_text_in.proofs.FeedIds.{found-read, moved-text, start-read}

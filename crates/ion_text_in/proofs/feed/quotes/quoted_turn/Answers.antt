@@ -1,4 +1,4 @@
-use Rattle.std.proofs.Common.{length, reverse, arith}
+use Rattle.std.proofs.Common.{reverse, arith}
 use Rattle.ion_text_in.specs.Feeding.{lane}
 use Rattle.ion_text_in.proofs.FeedItems.{moved-member}
 use Rattle.ion_text_in.proofs.FeedLanes.{can-moved, moved-then}

@@ -1,4 +1,4 @@
-use Rattle.std.proofs.Common.{◌∙◌, false, sym}
+use Rattle.std.proofs.Common.{◌∙◌, sym}
 use Rattle.ion_text_in.proofs.FeedNames.{expects-field, next-begins, not-empty, start-field}
 use Rattle.ion_text_in.proofs.feed.quotes.to_quoted.Goals as goal
 

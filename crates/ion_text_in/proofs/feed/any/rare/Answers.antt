@@ -1,6 +1,6 @@
 use Rattle.std.proofs.Common.{arith}
 use Rattle.std.proofs.lemmas.Grind.{common_steps}
-use Rattle.ion_text_in.proofs.feed.rare.Goals as goal
+use Rattle.ion_text_in.proofs.feed.any.rare.Goals as goal
 
 pub any_value-turned-requires-clause-start : goal.any_value-turned-requires-clause-start
 any_value-turned-requires-clause-start g c = grind (arith, common_steps) steps 400000

@@ -1,5 +1,5 @@
 use Rattle.ion_text_in.proofs.FeedIds.{moved-any, start-read, text-start}
-use Rattle.ion_text_in.proofs.feed.any_value.Goals as goal
+use Rattle.ion_text_in.proofs.feed.any.any_value.Goals as goal
 
 pub by_head-more-requires-clause-start : goal.by_head-more-requires-clause-start
 by_head-more-requires-clause-start g c = start-read c.with_second.ensures

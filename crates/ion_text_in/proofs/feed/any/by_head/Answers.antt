@@ -1,9 +1,9 @@
-use Rattle.std.proofs.Common.{◌-◌, arith}
+use Rattle.std.proofs.Common.{arith}
 use Rattle.std.proofs.lemmas.Grind.{common_steps}
 use Rattle.ion_text_in.specs.Feeding.{lane}
 use Rattle.ion_text_in.proofs.FeedIds.{found-text, found-read}
 use Rattle.ion_text_in.proofs.FeedLanes.{moved-none}
-use Rattle.ion_text_in.proofs.feed.by_head.Goals as goal
+use Rattle.ion_text_in.proofs.feed.any.by_head.Goals as goal
 
 pub returns-in_default-clause-moved : goal.returns-in_default-clause-moved
 returns-in_default-clause-moved g c = λ texts start.

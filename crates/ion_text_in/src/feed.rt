@@ -98,13 +98,6 @@ pub(crate) struct Found<'a> {
     rest: &'a [u8],
 }
 
-// Where the lane stands behind a turn, and whether it goes on.
-#[derive(Clone, Copy)]
-struct Turned<'a> {
-    spot: Spot<'a>,
-    more: bool,
-}
-
 // The number of a word among those of tokens that a byte tells alone.
 const WORD: u64 = 1;
 

@@ -5,7 +5,7 @@ ghost use Rattle.ion_text_in.specs.Feeding.{lane, CanFeed, IsStart, IsStartBy, I
 use super::copies::{limits_for_call, spot_for_call, start_for_call};
 use super::heads::scan_head;
 use super::noted::with_second;
-use super::{Further, Spot, Start, Turned, begin, scalar};
+use super::{Further, Spot, Start, begin, scalar};
 use ion_meter::device::Output;
 use ion_meter::limits::Limits;
 use ion_meter::meter::Meter;
@@ -16,6 +16,13 @@ use ion_value::item::Head;
 use ion_value::plain_item::SecondAt;
 use ion_value::writer::ValueWriter;
 use std::alloc::Allocator;
+
+/// Where the lane stands behind a turn, and whether it goes on.
+#[derive(Clone, Copy)]
+pub(super) struct Turned<'a> {
+    pub(super) spot: Spot<'a>,
+    pub(super) more: bool,
+}
 
 /// Hands on the value that begins here, whatever it is but an id, behind its name, which may be one, and
 /// its annotations, and says whether it did.

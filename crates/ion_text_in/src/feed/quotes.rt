@@ -4,12 +4,12 @@ ghost use Rattle.ion_value.specs.PlainItems.{IsRightlySimple};
 ghost use Rattle.ion_text_in.specs.Feeding.{lane, CanFeed, IsNext, IsStart, Moved};
 ghost use Rattle.ion_text_in.specs.Token.{a_quoted, first_at};
 
-use super::any::{any_value, rare};
+use super::any::{Turned, any_value, rare};
 use super::copies::{limits_for_call, spot_for_call, start_for_call};
 use super::heads::quoted_head;
 use super::names::quoted_start;
 use super::noted::quoted_noted;
-use super::{Next, Spot, Start, Turned, place_behind, scalar, to_member};
+use super::{Next, Spot, Start, place_behind, scalar, to_member};
 use ion_meter::device::Output;
 use ion_meter::limits::Limits;
 use ion_meter::meter::Meter;

@@ -77,8 +77,7 @@ pub(crate) struct Start<'a> {
     next: Next<'a>,
 }
 
-/// Where a value begins that may have two annotations. The second stands apart, since it is none in the
-/// frequent loop.
+/// Where a value begins behind its annotations. The second is none in the frequent loop.
 #[derive(Clone, Copy)]
 pub(crate) struct Further<'a> {
     /// The beginning behind both.
@@ -98,10 +97,9 @@ pub(crate) struct Found<'a> {
     rest: &'a [u8],
 }
 
-// The number of a word among those of tokens that a byte tells alone.
+// The numbers of a word and of a comma among those of tokens that a byte tells alone.
 const WORD: u64 = 1;
 
-// The number of a comma among those of tokens that a byte tells alone.
 const COMMA: u64 = 4;
 
 // What the next token is behind blanks.

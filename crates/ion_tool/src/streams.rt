@@ -124,8 +124,8 @@ impl<'a, W> Lines<'a, W> {
 impl<'a, W: Write> Write for Lines<'a, W> {
     fn write(&mut self, bytes: &[u8]) -> io::Result<usize> {
         let count = self.writer.write(bytes)?;
-        if let Some(last) = bytes.iter().take(count).last() {
-            self.is_open.set(*last != b'\n');
+        if count > 0 {
+            self.is_open.set(bytes.get(count - 1) != Some(&b'\n'));
         }
         Ok(count)
     }

@@ -72,31 +72,6 @@ module _ {I A : Type 0} (device : InputOf I) where
         };
       }
 
-  -- or into the name of a field
-  pub reached-name : {T : Type 0} (r : TextReader I A) (s : Incoming I) (t : List ℕ) (a b : Counts) (x : T) → IsSized r → held_by r ≤ a.held
-      → ReadsInto device r.source s a b (length r.name) (length t) r.limits.scalar (Ok x) → Reached r (record r { source = s; name = t }) a b
-  reached-name r s t a b x sized there reads =
-      let few = sized.few in let noted = sized.annotated in let text = sized.text in
-      let held = reads.charges.held in let share = reads.charges.share in let peak = reads.charges.peak in
-      record {
-        kinds = refl;
-        limits = refl;
-        done = refl;
-        failed = refl;
-        sized = record { checked = sized.checked; few = few; annotated = noted; name = share; text = text };
-        held = record {
-          stands = λ _. reads.stands;
-          moves = reads.moves;
-          causes = reads.causes;
-          charges = record {
-            held = omega (arith, held);
-            share = omega (arith, few, noted, text, share);
-            peak = omega (arith, few, noted, text, there, peak);
-            rises = reads.charges.rises;
-          };
-        };
-      }
-
   -- one behind another
   pub reached-then : (p q r : TextReader I A) (a b c : Counts) → held_by p ≤ a.held → Reached p q a b → Reached q r b c → Reached p r a c
   reached-then p q r a b c there x y =
@@ -131,14 +106,6 @@ module _ {I A : Type 0} (device : InputOf I) where
             (subst (λ (n : ℕ). Held device q.source r.source b c (held_by q) (held_by r) n (fault_of result)) share
             (into-held device q.source r.source b c (held_by q) (held_by r) (share_of q) result y.reads)));
       }
-
-  -- what is left falls where a token was read
-  pub falls-then : (p q r : TextReader I A) (a b : Counts) (result : Result StepResult Fault) → p.source.place < q.source.place → q.source.limit ≡ p.source.limit → p.source.place ≤ p.source.limit
-      → Stepped device step_result.Item q r a b result → OnOk result (left_to r < left_to p)
-  falls-then p q r a b (Ok t) first limit within stepped =
-      let further = stepped.reads.moves.further in let same = stepped.reads.moves.limit in let stands = stepped.reads.stands.within in
-      omega (arith, first, limit, within, further, same, stands)
-  falls-then p q r a b (Err fault) first limit within stepped = tt
 
   -- ---- steps one after the other
 

@@ -247,12 +247,6 @@ pub no-blanks : (c : Cursor) → c.rest ≡ [] → blanks c ≡ Ok c
 unfolding blanks_at
 no-blanks c none = rw none refl
 
-pub part-fault : (limits : Limits) (s : State) (c : Cursor) (first : First) (reason : Reason) → may_come s.wants first ≡ true → token_of (Some limits.scalar) first c ≡ Err reason
-    → comes limits (part_from limits s c first) ≡ Stopped reason c.place
-part-fault limits s c first reason may e =
-    ap (λ (b : Bool). comes limits (next_part limits s c first b)) may
-    ∙ ap (λ (o : Result (Token × Cursor) Reason). comes limits (part c.place o >>= (λ t. take limits s.kinds s.top s.wants c.place t.0 t.1))) e
-
 pub part-token : (limits : Limits) (s : State) (c d : Cursor) (first : First) (token : Token) → may_come s.wants first ≡ true → token_of (Some limits.scalar) first c ≡ Ok (token, d)
     → comes limits (part_from limits s c first) ≡ comes limits (take limits s.kinds s.top s.wants c.place token d)
 part-token limits s c d first token may e =
@@ -399,21 +393,6 @@ blanks-overrun (Some p) d c e blank same = blank
 -- ---- a part
 
 module _ {I A : Type 0} (device : InputOf I) where
-  -- a fault of a token
-  pub part-failed : (r new : TextReader I A) (first : First) (text : List ℕ) (fault : Fault) (behind : Cursor) → may_come (wanted r.expected (field_in r) (annotations_in r)) first ≡ true
-      → TokenGives text r.source.place (Err fault) behind (token_of (Some r.limits.scalar) first (cursor device r.source)) → StepGives device (part_by device r first) new (Err fault)
-  part-failed r new first text (Refused reason at) behind may h =
-      part-fault r.limits (state_at (cursor device r.source) r) (cursor device r.source) first reason may h.0 ∙ ap (λ (p : ℕ). Stopped reason p) (sym h.1)
-  part-failed r new first text Memory behind may h = tt
-  part-failed r new first text ReadFault behind may h = tt
-  part-failed r new first text WriteFault behind may h = tt
-  part-failed r new first text InputLimit behind may h = tt
-
-  -- where a token was read that is taken
-  pub part-taken : (r : TextReader I A) (first : First) (token : Token) (place : ℕ) (d : Cursor) → may_come (wanted r.expected (field_in r) (annotations_in r)) first ≡ true → place ≡ r.source.place
-      → token_of (Some r.limits.scalar) first (cursor device r.source) ≡ Ok (token, d) → part_by device r first ≡ taking r place token d
-  part-taken r first token place d may here e =
-      part-token r.limits (state_at (cursor device r.source) r) (cursor device r.source) d first token may e ∙ ap (λ (p : ℕ). taking r p token d) (sym here)
 
 -- ---- steps one after the other
 

@@ -31,6 +31,3 @@ pub shown-further : {I T : Type 0} (view : T → tokens.Token) (s t : Incoming I
     → IsPassed s t n → s.place < t.place
 shown-further view s t x n limit first shows some passed = let one = shown-some view (lent s) x n limit first shows some in let place = passed.place in omega (arith, one, place)
 
-pub some-got : (l : List ℕ) → 0 < length l → slice_get l 0 ≡ None → ⊥
-some-got [] some e = omega (arith, some)
-some-got (x ∷ l) some e = cc e

@@ -25,13 +25,6 @@ gone-then device s t u a b = record { stands = b.stands; moves = moves-then devi
 pub reads-gone : {I T : Type 0} (device : InputOf I) (s t : Incoming I) (x : T) → Reads device s t (Ok x) → Gone device s t
 reads-gone device s t x reads = record { stands = reads.stands; moves = reads.moves; steady = reads.causes.steady (λ e. cc e) }
 
-pub gone-reads : {I T : Type 0} (device : InputOf I) (s t : Incoming I) (x : T) → Gone device s t → Reads device s t (Ok x)
-gone-reads device s t x gone = record {
-  stands = gone.stands;
-  moves = gone.moves;
-  causes = record { device = λ e. absurd (cc e); steady = λ _. gone.steady; limit = λ e. absurd (cc e); no_memory = λ e. cc e; no_writes = λ e. cc e };
-}
-
 -- bytes were passed over
 pub record Turn {I : Type 0} (device : InputOf I) (old new : Incoming I) (run : List ℕ) : Type 0 where
   pub gone : Gone device old new

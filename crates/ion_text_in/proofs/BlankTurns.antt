@@ -1,5 +1,5 @@
 -- Blanks that are passed over in parts: white space, the bytes that begin a comment, and runs within one.
-use Rattle.std.proofs.Common.{◌≡◌, ℕ, zero, suc, ◌+◌, ◌<◌, Bool, true, false, not, ◌||◌, ◌==◌, List, [], ◌∷◌, ◌++◌, length, take, drop, Some, None, slice_get, Err, refl, sym, ap, subst, ◌∙◌, inl, inr, arith}
+use Rattle.std.proofs.Common.{◌≡◌, ℕ, zero, suc, ◌+◌, ◌<◌, Bool, true, false, not, ◌||◌, ◌==◌, List, [], ◌∷◌, ◌++◌, length, take, drop, Some, slice_get, Err, refl, sym, ap, subst, ◌∙◌, inl, inr, arith}
 use Rattle.std.proofs.lemmas.Bool.{cases_Bool, and_parts, eqb-true, false≢true, not-true}
 use Rattle.ion_meter.specs.declared.fault.Reason.TheVariants.{Truncated}
 use Rattle.ion_meter.specs.Sources.{Cursor, skip}
@@ -9,7 +9,7 @@ use Rattle.ion_text_in.specs.Places.{run_of, behind_run}
 use Rattle.ion_text_in.specs.Meaning.{at}
 use Rattle.ion_text_in.specs.Overrun.{is_neither}
 use Rattle.ion_text_in.proofs.Meaning.{run-more, run-none}
-use Rattle.ion_text_in.proofs.Runs.{second-byte, no-byte}
+use Rattle.ion_text_in.proofs.Runs.{second-byte}
 use Rattle.ion_text_in.proofs.BlankRuns.{white-over, line-over, block-over}
 
 -- ---- white space
@@ -90,20 +90,19 @@ block-begins p bytes = ap (λ (n : ℕ). in_block p n bytes) (two p)
 eqb-not : (b n : ℕ) → (b ≡ n → ⊥) → (b == n) ≡ false
 eqb-not b n other = elim (cases_Bool (b == n)) [ inl same ↦ absurd (other (eqb-true b n same)) | inr none ↦ none ]
 
-pub found-none : (p : ℕ) (bytes : List ℕ) → slice_get bytes 0 ≡ None → blanks_at p bytes ≡ here p bytes
-found-none p bytes none = rw (no-byte bytes none) (ends-here p)
+pub found-no-slash : (p : ℕ) (bytes : List ℕ) → first_is is_white bytes ≡ false → (slice_get bytes 0 ≡ Some 47 → ⊥) → blanks_at p bytes ≡ here p bytes
+found-no-slash p [] dark other = ends-here p
+found-no-slash p (c ∷ bytes) dark other = no-slash p c bytes dark (eqb-not c 47 (λ e. other (ap Some e)))
 
 pub found-other : (p b : ℕ) (bytes : List ℕ) → first_is is_white bytes ≡ false → slice_get bytes 0 ≡ Some b → (b ≡ 47 → ⊥) → blanks_at p bytes ≡ here p bytes
 found-other p b [] dark first other = absurd (cc first)
 found-other p b (c ∷ bytes) dark first other = let same : c ≡ b = cc first in no-slash p c bytes dark (eqb-not c 47 (λ e. other (sym same ∙ e)))
 
-pub slash-last : (p : ℕ) (bytes : List ℕ) → slice_get bytes 0 ≡ Some 47 → slice_get bytes 1 ≡ None → blanks_at p bytes ≡ here p bytes
-slash-last p [] first second = absurd (cc first)
-slash-last p (c ∷ bytes) first second = let same : c ≡ 47 = cc first in rw (same, no-byte bytes second) (slash-alone p [] refl refl)
-
-pub slash-other : (p b : ℕ) (bytes : List ℕ) → slice_get bytes 0 ≡ Some 47 → slice_get bytes 1 ≡ Some b → (b ≡ 47 → ⊥) → (b ≡ 42 → ⊥) → blanks_at p bytes ≡ here p bytes
-slash-other p b bytes first second line block =
-    subst (λ (l : List ℕ). blanks_at p l ≡ here p l) (sym (second-byte bytes 47 b first second)) (slash-alone p (b ∷ drop 2 bytes) (eqb-not b 47 line) (eqb-not b 42 block))
+pub slash-other : (p : ℕ) (bytes : List ℕ) → slice_get bytes 0 ≡ Some 47 → (slice_get bytes 1 ≡ Some 47 → ⊥) → (slice_get bytes 1 ≡ Some 42 → ⊥) → blanks_at p bytes ≡ here p bytes
+slash-other p [] first line block = absurd (cc first)
+slash-other p (c ∷ []) first line block = let same : c ≡ 47 = cc first in rw same (slash-alone p [] refl refl)
+slash-other p (c ∷ b ∷ bytes) first line block = let same : c ≡ 47 = cc first in
+    rw same (slash-alone p (b ∷ bytes) (eqb-not b 47 (λ e. line (ap Some e))) (eqb-not b 42 (λ e. block (ap Some e))))
 
 pub slash-line : (p : ℕ) (bytes : List ℕ) → slice_get bytes 0 ≡ Some 47 → slice_get bytes 1 ≡ Some 47 → blanks_at p bytes ≡ in_line (p + 2) (drop 2 bytes)
 slash-line p bytes first second = ap (λ (l : List ℕ). blanks_at p l) (second-byte bytes 47 47 first second) ∙ line-begins p (drop 2 bytes)

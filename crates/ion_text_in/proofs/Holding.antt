@@ -1,5 +1,6 @@
 -- Calls that read into a text one after the other: what they hold, and the causes of their faults.
 use Rattle.std.proofs.Common.{◌≡◌, ℕ, ◌+◌, ◌≤◌, List, length, Option, Some, None, Result, Ok, Err, refl, ap, ◌∙◌, arith}
+use Rattle.std.specs.Result.{IsErr, IsErrAnd}
 use Rattle.ion_meter.specs.Counts.{Counts}
 use Rattle.ion_meter.specs.declared.device.Input.{Ghosts as InputOf}
 use Rattle.ion_meter.specs.declared.fault.Fault.{Fault}
@@ -77,6 +78,11 @@ into-held device s t a b k l most (Err f) h = record { stands = λ e. absurd (cc
 pub held-into : {I T : Type 0} (device : InputOf I) (s t : Incoming I) (a b : Counts) (k l most : ℕ) (r : Result T Fault) → Held device s t a b k l most (fault_of r) → ReadsInto device s t a b k l most r
 held-into device s t a b k l most (Ok x) h = record { stands = h.stands refl; moves = h.moves; causes = h.causes; charges = h.charges }
 held-into device s t a b k l most (Err f) h = record { stands = tt; moves = h.moves; causes = h.causes; charges = h.charges }
+
+-- the fault that `?` hands on
+pub handed-on : {T E : Type 0} (r : Result T E) (e : E) → IsErr r × IsErrAnd r (λ y. y ≡ e) → r ≡ Err e
+handed-on (Ok x) e given = absurd (cc given.0)
+handed-on (Err y) e given = ap Err given.1
 
 -- no fault is none that there is
 pub none-some : {Y : Type 0} {y : Y} → None ≡ Some y → ⊥

@@ -66,23 +66,16 @@ fn pass_comments<I: Input, A: Allocator + Copy>(
     ensures reads { Reads I.Input source.old source.new result }
 {
     'comments: loop {
-        if let Err(fault) = pass_white(source) {
-            return Err(fault);
-        }
+        pass_white(source)?;
         let start = source.place();
-        match next_comment(source) {
-            Err(fault) => return Err(fault),
-            Ok(Comment::None) => return Ok(None),
-            Ok(Comment::Line) => {
-                if let Err(fault) = pass_line(source) {
-                    return Err(fault);
+        match next_comment(source)? {
+            Comment::None => return Ok(None),
+            Comment::Line => pass_line(source)?,
+            Comment::Block => {
+                if !pass_block(source)? {
+                    return Ok(Some(start));
                 }
             }
-            Ok(Comment::Block) => match pass_block(source) {
-                Err(fault) => return Err(fault),
-                Ok(false) => return Ok(Some(start)),
-                Ok(true) => {}
-            },
         }
     }
 }
@@ -99,11 +92,9 @@ pub(crate) fn pass_white<I: Input, A: Allocator + Copy>(
     ensures reads { Reads I.Input source.old source.new result }
 {
     'white: loop {
-        match source.peek(0) {
-            Err(fault) => return Err(fault),
-            Ok(None) => return Ok(()),
-            Ok(Some(_)) => {}
-        }
+        let Some(_) = source.peek(0)? else {
+            return Ok(());
+        };
         let bytes = source.buffer();
         let white = white_run(bytes);
         let ends = white < bytes.len();
@@ -126,25 +117,15 @@ fn next_comment<I: Input, A: Allocator + Copy>(source: &mut Source<I, A>) -> Res
     ensures plain { (r : Reason) (p : ℕ) → result ≢ Err (Fault.Refused r p) }
     ensures reads { Reads I.Input source.old source.new result }
 {
-    match source.peek(0) {
-        Err(fault) => return Err(fault),
-        Ok(None) => return Ok(Comment::None),
-        Ok(Some(byte)) => {
-            if byte != b'/' {
-                return Ok(Comment::None);
-            }
-        }
+    if source.peek(0)? != Some(b'/') {
+        return Ok(Comment::None);
     }
-    let second = match source.peek(1) {
-        Err(fault) => return Err(fault),
-        Ok(None) => return Ok(Comment::None),
-        Ok(Some(byte)) => byte,
-    };
-    if second == b'/' {
+    let second = source.peek(1)?;
+    if second == Some(b'/') {
         source.consume(2);
         return Ok(Comment::Line);
     }
-    if second == b'*' {
+    if second == Some(b'*') {
         source.consume(2);
         return Ok(Comment::Block);
     }
@@ -160,11 +141,9 @@ fn pass_line<I: Input, A: Allocator + Copy>(source: &mut Source<I, A>) -> Result
     ensures reads { Reads I.Input source.old source.new result }
 {
     'line: loop {
-        match source.peek(0) {
-            Err(fault) => return Err(fault),
-            Ok(None) => return Ok(()),
-            Ok(Some(_)) => {}
-        }
+        let Some(_) = source.peek(0)? else {
+            return Ok(());
+        };
         let bytes = source.buffer();
         let line = run_without(b'\n', b'\r', bytes);
         if line < bytes.len() {
@@ -190,20 +169,16 @@ fn pass_block<I: Input, A: Allocator + Copy>(source: &mut Source<I, A>) -> Resul
     ensures reads { Reads I.Input source.old source.new result }
 {
     'block: loop {
-        match source.peek(0) {
-            Err(fault) => return Err(fault),
-            Ok(None) => return Ok(false),
-            Ok(Some(_)) => {}
-        }
+        let Some(_) = source.peek(0)? else {
+            return Ok(false);
+        };
         let bytes = source.buffer();
         let plain = run_without(b'*', b'*', bytes);
         let star = plain < bytes.len();
         source.consume(plain);
         if star {
-            match pass_star(source) {
-                Err(fault) => return Err(fault),
-                Ok(true) => return Ok(true),
-                Ok(false) => {}
+            if pass_star(source)? {
+                return Ok(true);
             }
         }
     }
@@ -224,11 +199,7 @@ fn pass_star<I: Input, A: Allocator + Copy>(source: &mut Source<I, A>) -> Result
     ensures plain { (r : Reason) (p : ℕ) → result ≢ Err (Fault.Refused r p) }
     ensures reads { Reads I.Input source.old source.new result }
 {
-    let second = match source.peek(1) {
-        Err(fault) => return Err(fault),
-        Ok(second) => second,
-    };
-    if second == Some(b'/') {
+    if source.peek(1)? == Some(b'/') {
         source.consume(2);
         return Ok(true);
     }

@@ -193,11 +193,9 @@ fn look_ahead<I: Input, A: Allocator + Copy>(
 {
     let mut ahead = 0;
     'ahead: loop {
-        match source.peek(ahead) {
-            Err(fault) => return Err(fault),
-            Ok(None) => return Ok(ended_first(in_sexp, source.buffer())),
-            Ok(Some(_)) => {}
-        }
+        let Some(_) = source.peek(ahead)? else {
+            return Ok(ended_first(in_sexp, source.buffer()));
+        };
         if let Some(first) = scan_first(in_sexp, source.buffer()) {
             return Ok(Some(first));
         }

@@ -45,9 +45,7 @@ pub(crate) fn append<I: Input, A: Allocator + Copy>(
         return Err(Fault::Refused(Reason::ScalarLimit, place));
     }
     let bytes = &source.buffer()[..count];
-    if let Err(fault) = text.extend(meter, bytes) {
-        return Err(fault);
-    }
+    text.extend(meter, bytes)?;
     source.consume(count);
     Ok(())
 }
@@ -78,9 +76,7 @@ fn put_front<A: Allocator + Copy>(
 {
     let len = text.as_slice().len();
     if count <= BLOCK && BLOCK <= bytes.len() && (len + BLOCK) as u64 <= limits.scalar {
-        if let Err(fault) = text.extend(meter, &bytes[..BLOCK]) {
-            return Err(fault);
-        }
+        text.extend(meter, &bytes[..BLOCK])?;
         text.truncate(meter, len + count);
         return Ok(());
     }
@@ -107,9 +103,7 @@ pub(crate) fn copy<I: Input, A: Allocator + Copy>(
         (8 * passed_over source.old source.new) }
 {
     text.clear(meter);
-    if let Err(fault) = put_front(text, source.buffer(), count, limits, meter) {
-        return Err(fault);
-    }
+    put_front(text, source.buffer(), count, limits, meter)?;
     source.consume(count);
     Ok(())
 }
@@ -130,11 +124,9 @@ fn next_part<I: Input, A: Allocator + Copy>(
     ensures plain { (reason : Reason) (at : ℕ) → result ≡ Err (Fault.Refused reason at) → ⊥ }
     ensures reads { Reads I.Input source.old source.new result }
 {
-    match source.peek(0) {
-        Err(fault) => return Err(fault),
-        Ok(None) => return Ok(0),
-        Ok(Some(_)) => {}
-    }
+    let Some(_) = source.peek(0)? else {
+        return Ok(0);
+    };
     let extent = run_extent(run, source.buffer());
     if extent.ended || extent.len > 0 {
         return Ok(extent.len);
@@ -155,11 +147,7 @@ fn slash<I: Input, A: Allocator + Copy>(source: &mut Source<I, A>, run: Run) -> 
     ensures plain { (reason : Reason) (at : ℕ) → result ≡ Err (Fault.Refused reason at) → ⊥ }
     ensures reads { Reads I.Input source.old source.new result }
 {
-    let next = match source.peek(1) {
-        Err(fault) => return Err(fault),
-        Ok(next) => next,
-    };
-    if opens_comment(next) {
+    if opens_comment(source.peek(1)?) {
         return Ok(0);
     }
     Ok(1)
@@ -192,14 +180,11 @@ pub(crate) fn gather<I: Input, A: Allocator + Copy>(
         (8 * passed_over source.old source.new) }
 {
     'parts: loop {
-        let count = match next_part(source, run) {
-            Err(fault) => return Err(fault),
-            Ok(0) => return Ok(()),
-            Ok(count) => count,
-        };
-        if let Err(fault) = append(source, text, count, limits, place, meter) {
-            return Err(fault);
+        let count = next_part(source, run)?;
+        if count == 0 {
+            return Ok(());
         }
+        append(source, text, count, limits, place, meter)?;
     }
 }
 
@@ -228,8 +213,6 @@ pub(crate) fn gather_token<I: Input, A: Allocator + Copy>(
 {
     let place = source.place();
     text.clear(meter);
-    if let Err(fault) = append(source, text, 1, limits, place, meter) {
-        return Err(fault);
-    }
+    append(source, text, 1, limits, place, meter)?;
     gather(source, text, run, limits, place, meter)
 }

@@ -68,14 +68,8 @@ pub(crate) fn next_lob<I: Input, A: Allocator + Copy>(
 {
     let place = source.place();
     source.consume(2);
-    if let Err(fault) = pass_white(source) {
-        return Err(fault);
-    }
-    let opening = match pass_opening(source) {
-        Err(fault) => return Err(fault),
-        Ok(opening) => opening,
-    };
-    match opening {
+    pass_white(source)?;
+    match pass_opening(source)? {
         Opening::Short => next_short_clob(source, text, place, limits, meter),
         Opening::Long => next_long_clob(source, text, place, limits, meter),
         Opening::None => next_blob(source, text, place, limits, meter),
@@ -91,21 +85,18 @@ fn pass_opening<I: Input, A: Allocator + Copy>(source: &mut Source<I, A>) -> Res
     ensures plain { (r : Reason) (p : ℕ) → result ≢ Err (Fault.Refused r p) }
     ensures reads { Reads I.Input source.old source.new result }
 {
-    match source.peek(0) {
-        Err(fault) => return Err(fault),
-        Ok(None) => return Ok(Opening::None),
-        Ok(Some(byte)) => {
-            if byte == b'"' {
-                source.advance();
-                return Ok(Opening::Short);
-            }
+    match source.peek(0)? {
+        None => return Ok(Opening::None),
+        Some(b'"') => {
+            source.advance();
+            return Ok(Opening::Short);
         }
+        Some(_) => {}
     }
-    match pass_quotes(source) {
-        Err(fault) => Err(fault),
-        Ok(true) => Ok(Opening::Long),
-        Ok(false) => Ok(Opening::None),
+    if pass_quotes(source)? {
+        return Ok(Opening::Long);
     }
+    Ok(Opening::None)
 }
 
 // The text of a clob behind a double quote, and what closes the clob, which begins at a place.
@@ -125,15 +116,9 @@ fn next_short_clob<I: Input, A: Allocator + Copy>(
     ensures goes { GrowsWithin meter.old meter.new (length text.old) (length text.new)
         (8 * passed_over source.old source.new) }
 {
-    if let Err(fault) = next_short_text(source, text, Quote::ShortClob, place, limits, meter) {
-        return Err(fault);
-    }
-    if let Err(fault) = pass_white(source) {
-        return Err(fault);
-    }
-    if let Err(fault) = pass_braces(source, place) {
-        return Err(fault);
-    }
+    next_short_text(source, text, Quote::ShortClob, place, limits, meter)?;
+    pass_white(source)?;
+    pass_braces(source, place)?;
     Ok(Lob::Clob)
 }
 
@@ -154,17 +139,11 @@ fn next_long_clob<I: Input, A: Allocator + Copy>(
     ensures goes { GrowsWithin meter.old meter.new (length text.old) (length text.new)
         (8 * passed_over source.old source.new) }
 {
-    if let Err(fault) = next_long_text(source, text, Quote::LongClob, place, limits, meter) {
-        return Err(fault);
+    next_long_text(source, text, Quote::LongClob, place, limits, meter)?;
+    if are_cut_quotes(source)? {
+        return Err(Fault::Refused(Reason::Truncated, place));
     }
-    match are_cut_quotes(source) {
-        Err(fault) => return Err(fault),
-        Ok(true) => return Err(Fault::Refused(Reason::Truncated, place)),
-        Ok(false) => {}
-    }
-    if let Err(fault) = pass_braces(source, place) {
-        return Err(fault);
-    }
+    pass_braces(source, place)?;
     Ok(Lob::Clob)
 }
 
@@ -178,28 +157,13 @@ fn are_cut_quotes<I: Input, A: Allocator + Copy>(source: &mut Source<I, A>) -> R
     ensures plain { (r : Reason) (p : ℕ) → result ≢ Err (Fault.Refused r p) }
     ensures reads { Reads I.Input source.old source.new result }
 {
-    match source.peek(0) {
-        Err(fault) => return Err(fault),
-        Ok(None) => return Ok(false),
-        Ok(Some(byte)) => {
-            if byte != b'\'' {
-                return Ok(false);
-            }
-        }
+    if source.peek(0)? != Some(b'\'') {
+        return Ok(false);
     }
-    match source.peek(1) {
-        Err(fault) => return Err(fault),
-        Ok(None) => return Ok(true),
-        Ok(Some(second)) => {
-            if second != b'\'' {
-                return Ok(false);
-            }
-        }
-    }
-    match source.peek(2) {
-        Err(fault) => Err(fault),
-        Ok(None) => Ok(true),
-        Ok(Some(_)) => Ok(false),
+    match source.peek(1)? {
+        None => Ok(true),
+        Some(b'\'') => Ok(source.peek(2)?.is_none()),
+        Some(_) => Ok(false),
     }
 }
 
@@ -233,16 +197,12 @@ fn next_blob<I: Input, A: Allocator + Copy>(
     let mut padded = false;
     'groups: loop {
         if !padded {
-            padded = match take_blocks(source, text, limits, meter) {
-                Err(fault) => return Err(fault),
-                Ok(padded) => padded,
-            };
+            padded = take_blocks(source, text, limits, meter)?;
         }
-        padded = match take_group(source, text, padded, place, limits, meter) {
-            Err(fault) => return Err(fault),
-            Ok(None) => return Ok(Lob::Blob),
-            Ok(Some(padded)) => padded,
-        };
+        match take_group(source, text, padded, place, limits, meter)? {
+            None => return Ok(Lob::Blob),
+            Some(last) => padded = last,
+        }
     }
 }
 
@@ -270,11 +230,10 @@ fn take_blocks<I: Input, A: Allocator + Copy>(
         if count == 0 {
             break;
         }
-        match take_block(source, text, count, limits, meter) {
-            Err(fault) => return Err(fault),
-            Ok(None) => break,
-            Ok(Some(true)) => return Ok(true),
-            Ok(Some(false)) => {}
+        match take_block(source, text, count, limits, meter)? {
+            None => break,
+            Some(true) => return Ok(true),
+            Some(false) => {}
         }
         run -= count;
     }
@@ -342,9 +301,7 @@ fn take_groups<I: Input, A: Allocator + Copy>(
     if left < n as u64 {
         return Ok(None);
     }
-    if let Err(fault) = text.extend(meter, &room[..n]) {
-        return Err(fault);
-    }
+    text.extend(meter, &room[..n])?;
     source.consume(count);
     Ok(Some(n % 3 != 0))
 }
@@ -371,10 +328,7 @@ fn take_group<I: Input, A: Allocator + Copy>(
         (8 * passed_over source.old source.new) }
 {
     let mut group = [0; 4];
-    let count = match next_characters(source, &mut group) {
-        Err(fault) => return Err(fault),
-        Ok(count) => count,
-    };
+    let count = next_characters(source, &mut group)?;
     if count < 4 {
         return end_groups(source, count, place);
     }
@@ -388,9 +342,7 @@ fn take_group<I: Input, A: Allocator + Copy>(
     if limits.scalar - (text.as_slice().len() as u64) < n as u64 {
         return Err(Fault::Refused(Reason::ScalarLimit, place));
     }
-    if let Err(fault) = text.extend(meter, &bytes[..n]) {
-        return Err(fault);
-    }
+    text.extend(meter, &bytes[..n])?;
     Ok(Some(n < 3))
 }
 
@@ -406,9 +358,7 @@ fn end_groups<I: Input, A: Allocator + Copy>(
         place (closed_behind count (cursor I.Input source.old)) }
     ensures reads { Reads I.Input source.old source.new result }
 {
-    if let Err(fault) = pass_braces(source, place) {
-        return Err(fault);
-    }
+    pass_braces(source, place)?;
     if count > 0 {
         return Err(Fault::Refused(Reason::BadLob, place));
     }
@@ -425,23 +375,15 @@ fn pass_braces<I: Input, A: Allocator + Copy>(
         place (closed_at (cursor I.Input source.old)) }
     ensures reads { Reads I.Input source.old source.new result }
 {
-    match source.peek(0) {
-        Err(fault) => return Err(fault),
-        Ok(None) => return Err(Fault::Refused(Reason::Truncated, place)),
-        Ok(Some(byte)) => {
-            if byte != b'}' {
-                return Err(Fault::Refused(Reason::BadLob, place));
-            }
-        }
+    match source.peek(0)? {
+        None => return Err(Fault::Refused(Reason::Truncated, place)),
+        Some(b'}') => {}
+        Some(_) => return Err(Fault::Refused(Reason::BadLob, place)),
     }
-    match source.peek(1) {
-        Err(fault) => return Err(fault),
-        Ok(None) => return Err(Fault::Refused(Reason::Truncated, place)),
-        Ok(Some(second)) => {
-            if second != b'}' {
-                return Err(Fault::Refused(Reason::BadLob, place));
-            }
-        }
+    match source.peek(1)? {
+        None => return Err(Fault::Refused(Reason::Truncated, place)),
+        Some(b'}') => {}
+        Some(_) => return Err(Fault::Refused(Reason::BadLob, place)),
     }
     source.consume(2);
     Ok(())
@@ -462,19 +404,14 @@ fn next_characters<I: Input, A: Allocator + Copy>(
     ensures reads { Reads I.Input source.old source.new result }
 {
     for i in 0..4 {
-        if let Err(fault) = pass_white(source) {
-            return Err(fault);
+        pass_white(source)?;
+        let Some(byte) = source.peek(0)? else {
+            return Ok(i);
+        };
+        if byte == b'}' {
+            return Ok(i);
         }
-        match source.peek(0) {
-            Err(fault) => return Err(fault),
-            Ok(None) => return Ok(i),
-            Ok(Some(byte)) => {
-                if byte == b'}' {
-                    return Ok(i);
-                }
-                group[i] = byte;
-            }
-        }
+        group[i] = byte;
         source.advance();
     }
     Ok(4)

@@ -110,9 +110,7 @@ fn gather_number<I: Input, A: Allocator + Copy>(
         (8 * passed_over source.old source.new) }
 {
     let place = source.place();
-    if let Err(fault) = gather_token(source, text, Run::Number, limits, meter) {
-        return Err(fault);
-    }
+    gather_token(source, text, Run::Number, limits, meter)?;
     match number_of(text.as_slice()) {
         Ok(number) => Ok(number),
         Err(reason) => Err(Fault::Refused(reason, place)),
@@ -170,8 +168,5 @@ fn no_number(run: &[u8]) -> Result<Number, Reason>
         (λ reason. run_token run.now ≡ Err reason) }
     ensures range { IfOk result (λ x. InRange (as_number x)) }
 {
-    match timestamp_from_text(run) {
-        Ok(timestamp) => Ok(Number::Timestamp(timestamp)),
-        Err(reason) => Err(reason),
-    }
+    Ok(Number::Timestamp(timestamp_from_text(run)?))
 }

@@ -48,9 +48,7 @@ pub(crate) fn next_segment<I: Input, A: Allocator + Copy>(
         (8 * passed_over source.old source.new) }
 {
     let start = text.as_slice().len();
-    if let Err(fault) = gather_pieces(source, text, quote, place, limits, meter) {
-        return Err(fault);
-    }
+    gather_pieces(source, text, quote, place, limits, meter)?;
     if !quote.in_clob() && !is_text(&text.as_slice()[start..]) {
         return Err(Fault::Refused(Reason::BadText, place));
     }
@@ -78,22 +76,15 @@ fn gather_pieces<I: Input, A: Allocator + Copy>(
         (8 * passed_over source.old source.new) }
 {
     'pieces: loop {
-        if let Err(fault) = take_plain(source, text, quote, place, limits, meter) {
-            return Err(fault);
-        }
-        let piece = match next_piece(source, quote) {
-            Err(fault) => return Err(fault),
-            Ok(piece) => piece,
-        };
+        take_plain(source, text, quote, place, limits, meter)?;
+        let piece = next_piece(source, quote)?;
         match piece {
             Piece::Close(_) => return Ok(()),
             Piece::Illegal => return Err(Fault::Refused(bad_text(quote), place)),
             Piece::Cut => return Err(Fault::Refused(Reason::Truncated, place)),
             _ => {}
         }
-        if let Err(fault) = put_piece(text, piece, place, limits, meter) {
-            return Err(fault);
-        }
+        put_piece(text, piece, place, limits, meter)?;
     }
 }
 
@@ -131,9 +122,7 @@ fn take_plain<I: Input, A: Allocator + Copy>(
 {
     let bytes = source.buffer();
     let plain = plain_length(quote, bytes);
-    if let Err(fault) = put(text, &bytes[..plain], place, limits, meter) {
-        return Err(fault);
-    }
+    put(text, &bytes[..plain], place, limits, meter)?;
     source.consume(plain);
     Ok(())
 }
@@ -249,13 +238,9 @@ fn next_piece<I: Input, A: Allocator + Copy>(
     ensures plain { (r : Reason) (p : ℕ) → result ≢ Err (Fault.Refused r p) }
     ensures reads { Reads I.Input source.old source.new result }
 {
-    match show_piece(source, quote) {
-        Err(fault) => Err(fault),
-        Ok(piece) => {
-            source.consume(taken(piece));
-            Ok(piece)
-        }
-    }
+    let piece = show_piece(source, quote)?;
+    source.consume(taken(piece));
+    Ok(piece)
 }
 
 // The piece at the present place, for which no more of the device is read than it needs.
@@ -300,11 +285,9 @@ fn show_slowly<I: Input, A: Allocator + Copy>(
             Piece::Cut => {}
             piece => return Ok(piece),
         }
-        match source.peek(shown) {
-            Err(fault) => return Err(fault),
-            Ok(None) => return Ok(last_piece(quote, source.buffer())),
-            Ok(Some(_)) => {}
-        }
+        let Some(_) = source.peek(shown)? else {
+            return Ok(last_piece(quote, source.buffer()));
+        };
     }
 }
 

@@ -51,9 +51,7 @@ pub(crate) fn keep_text<A: Allocator + Copy>(
     match symbol {
         Symbol::Id(id) => Ok(Annotation::Id { id, place }),
         Symbol::Text => {
-            if let Err(fault) = texts.extend(meter, text) {
-                return Err(fault);
-            }
+            texts.extend(meter, text)?;
             let to = texts.as_slice().len();
             Ok(Annotation::Text { from, to, place })
         }

@@ -137,9 +137,7 @@ pub(crate) fn next_short_text<I: Input, A: Allocator + Copy>(
     let bytes = source.buffer();
     match scan_text(quote, limits.scalar, bytes) {
         Scanned::Whole(plain, taken) => {
-            if let Err(fault) = text.extend(meter, &bytes[..plain]) {
-                return Err(fault);
-            }
+            text.extend(meter, &bytes[..plain])?;
             source.consume(taken);
             Ok(())
         }
@@ -173,18 +171,12 @@ pub(crate) fn next_long_text<I: Input, A: Allocator + Copy>(
 {
     text.clear(meter);
     'segments: loop {
-        if let Err(fault) = next_segment(source, text, quote, place, limits, meter) {
-            return Err(fault);
+        next_segment(source, text, quote, place, limits, meter)?;
+        if let Some(start) = pass_between(source, quote)? {
+            return Ok(Some(start));
         }
-        match pass_between(source, quote) {
-            Err(fault) => return Err(fault),
-            Ok(Some(start)) => return Ok(Some(start)),
-            Ok(None) => {}
-        }
-        match pass_quotes(source) {
-            Err(fault) => return Err(fault),
-            Ok(false) => return Ok(None),
-            Ok(true) => {}
+        if !pass_quotes(source)? {
+            return Ok(None);
         }
     }
 }
@@ -202,10 +194,8 @@ fn pass_between<I: Input, A: Allocator + Copy>(
     ensures reads { Reads I.Input source.old source.new result }
 {
     if quote.in_clob() {
-        return match pass_white(source) {
-            Err(fault) => Err(fault),
-            Ok(()) => Ok(None),
-        };
+        pass_white(source)?;
+        return Ok(None);
     }
     pass_blanks(source)
 }
@@ -224,20 +214,14 @@ pub(crate) fn pass_quotes<I: Input, A: Allocator + Copy>(
     ensures plain { (r : Reason) (p : ℕ) → result ≢ Err (Fault.Refused r p) }
     ensures reads { Reads I.Input source.old source.new result }
 {
-    match source.peek(0) {
-        Err(fault) => return Err(fault),
-        Ok(Some(b'\'')) => {}
-        Ok(_) => return Ok(false),
+    if source.peek(0)? != Some(b'\'') {
+        return Ok(false);
     }
-    match source.peek(1) {
-        Err(fault) => return Err(fault),
-        Ok(Some(b'\'')) => {}
-        Ok(_) => return Ok(false),
+    if source.peek(1)? != Some(b'\'') {
+        return Ok(false);
     }
-    match source.peek(2) {
-        Err(fault) => return Err(fault),
-        Ok(Some(b'\'')) => {}
-        Ok(_) => return Ok(false),
+    if source.peek(2)? != Some(b'\'') {
+        return Ok(false);
     }
     source.consume(3);
     Ok(true)

@@ -9,24 +9,24 @@ use Rattle.ion_text_in.proofs.Runs.{no-byte}
 use Rattle.ion_text_in.proofs.Turns.{turn, turn-then, gone-then}
 use Rattle.ion_text_in.proofs.blank.pass_line.Goals as goal
 
-pub returns-in-Ok-None-clause-behind : goal.returns-in-Ok-None-clause-behind
-returns-in-Ok-None-clause-behind g c = λ h.
+pub returns-in_default-clause-behind : goal.returns-in_default-clause-behind
+returns-in_default-clause-behind g c = λ h.
     let inv = c.line.invariant in
     let s = c.line.source in
     let there = inv.gone.moves.still_observable.1 h in
-    let none = no-byte (left g.I.Input.rest s) (sym (c.in-Ok-None.ensures.gives there) ∙ c.in-Ok-None.field-0-is) in
+    let none = no-byte (left g.I.Input.rest s) (sym (c.in_ok-peek.ensures.gives there) ∙ c.in_default.is) in
     inv.behind h
     ∙ ap (λ (l : List ℕ). in_line s.place l) none
     ∙ line-end s.place
     ∙ ap (λ (l : List ℕ). blanks_at s.place l) (sym none)
-    ∙ ap (λ (d : Cursor). blanks d) (sym (cursor-extends g.I.Input s c.peek.new.self c.in-Ok-None.ensures.kept there))
+    ∙ ap (λ (d : Cursor). blanks d) (sym (cursor-extends g.I.Input s c.peek.new.self c.in_ok-peek.ensures.kept there))
 
 pub returns-then-line-bytes-clause-behind : goal.returns-then-line-bytes-clause-behind
 returns-then-line-bytes-clause-behind g c = λ h.
     let inv = c.line.invariant in
     let s = c.line.source in
     let t = c.consume.new.self in
-    let peek = c.in-Ok-Some.ensures in
+    let peek = c.in_ok-peek.ensures in
     let bytes : List ℕ = c.buffer-bytes.result.now in
     let n = c.run_without-line.result in
     let fits : n + 1 ≤ length bytes = omega (arith, c.if-line-bytes.true) in
@@ -39,7 +39,7 @@ line-preserved g c =
     let inv = c.line.invariant in
     let s = c.line.source in
     let t = c.consume-in-line.new.self in
-    let peek = c.in-Ok-Some.ensures in
+    let peek = c.in_ok-peek.ensures in
     let bytes : List ℕ = c.buffer-bytes.result.now in
     let n = c.run_without-line.result in
     let passed = turn g.I.Input s c.peek.new.self t bytes n inv.gone.stands peek.kept peek.well.1 (rw inv.gone.stands.well at peek.count) c.buffer-bytes.ensures c.run_without-line.ensures.within c.consume-in-line.ensures in
@@ -49,29 +49,5 @@ line-preserved g c =
       behind = λ h. inv.behind h ∙ turn-then g.I.Input s t (take n bytes) (λ d. in_line d.place d.rest) (λ d. in_line d.place d.rest) passed (inv.gone.moves.still_observable.1 h) over;
     }
 
-pub consume-requires : goal.consume-requires
-consume-requires g c = grind (arith, common_steps)
-
 pub returns-then-line-bytes-clause-reads : goal.returns-then-line-bytes-clause-reads
 returns-then-line-bytes-clause-reads g c = grind (arith, common_steps)
-
-pub consume-requires-in-line : goal.consume-requires-in-line
-consume-requires-in-line g c = grind (arith, common_steps)
-
-pub returns-in-Err-clause-reads : goal.returns-in-Err-clause-reads
-returns-in-Err-clause-reads g c = grind (arith, common_steps) steps 400000
-
-pub line-smaller : goal.line-smaller
-line-smaller g c = grind (arith, common_steps) steps 400000
-
-pub returns-in-Ok-None-clause-reads : goal.returns-in-Ok-None-clause-reads
-returns-in-Ok-None-clause-reads g c = grind (arith, common_steps) steps 400000
-
-pub returns-then-line-bytes-clause-plain : goal.returns-then-line-bytes-clause-plain
-returns-then-line-bytes-clause-plain g c = grind (arith, common_steps) steps 400000
-
-pub returns-in-Err-clause-plain : goal.returns-in-Err-clause-plain
-returns-in-Err-clause-plain g c = grind (arith, common_steps)
-
-pub returns-in-Ok-None-clause-plain : goal.returns-in-Ok-None-clause-plain
-returns-in-Ok-None-clause-plain g c = grind (arith, common_steps)

@@ -1,4 +1,4 @@
-use Rattle.std.proofs.Common.{arith, ◌≡◌, ℕ, List, Some, slice_get, sym, ap, ◌∙◌}
+use Rattle.std.proofs.Common.{◌≡◌, ℕ, List, Some, slice_get, sym, ap, ◌∙◌, arith}
 use Rattle.std.proofs.lemmas.Grind.{common_steps}
 use Rattle.ion_meter.specs.Windows.{left}
 use Rattle.ion_meter.specs.Sources.{Cursor}
@@ -13,8 +13,8 @@ returns-then-eq-clause-closed g c = λ h same start.
     let s = c.args.source.now in
     let q = c.peek.new.self in
     let bytes : List ℕ = left g.I.Input.rest s in
-    let peek = c.in-Ok.ensures in
-    let is : c.in-Ok.second ≡ Some 47 = found-is c.in-Ok.second 47 (sym c.eq.ensures ∙ c.if-eq.true) in
+    let peek = c.in_ok-peek.ensures in
+    let is : c.in_ok-peek.field-0 ≡ Some 47 = found-is c.in_ok-peek.field-0 47 (sym c.eq.ensures ∙ c.if-eq.true) in
     let first : slice_get bytes 0 ≡ Some 42 = first-shown s.buffered (g.I.Input.rest s.device) 42 c.requires.star in
     let second : slice_get bytes 1 ≡ Some 47 = sym (peek.gives h) ∙ is in
     let given = (rw is at peek.byte).0 in
@@ -26,9 +26,9 @@ returns-clause-open g c = λ h same start.
     let s = c.args.source.now in
     let q = c.peek.new.self in
     let bytes : List ℕ = left g.I.Input.rest s in
-    let peek = c.in-Ok.ensures in
+    let peek = c.in_ok-peek.ensures in
     let first : slice_get bytes 0 ≡ Some 42 = first-shown s.buffered (g.I.Input.rest s.device) 42 c.requires.star in
-    let other = λ (e : slice_get bytes 1 ≡ Some 47). found-not c.in-Ok.second 47 (sym c.eq.ensures ∙ c.if-eq.false) (peek.gives h ∙ e) in
+    let other = λ (e : slice_get bytes 1 ≡ Some 47). found-not c.in_ok-peek.field-0 47 (sym c.eq.ensures ∙ c.if-eq.false) (peek.gives h ∙ e) in
     let behind = passed-cursor g.I.Input s q c.advance.new.self 0 c.requires.stands peek.kept peek.well.1 (given-kept g.I.Input s q 0 peek.kept c.requires.given) c.advance.ensures h in
     star-other start s.place bytes first other ∙ ap (λ (d : Cursor). in_block start d.place d.rest) (sym behind)
 
@@ -37,21 +37,3 @@ advance-requires g c = grind (arith, common_steps)
 
 pub returns-clause-reads : goal.returns-clause-reads
 returns-clause-reads g c = grind (arith, common_steps)
-
-pub returns-then-eq-clause-reads : goal.returns-then-eq-clause-reads
-returns-then-eq-clause-reads g c = grind (arith, common_steps)
-
-pub returns-then-eq-clause-plain : goal.returns-then-eq-clause-plain
-returns-then-eq-clause-plain g c = grind (arith, common_steps) steps 400000
-
-pub returns-in-Err-clause-reads : goal.returns-in-Err-clause-reads
-returns-in-Err-clause-reads g c = grind (arith, common_steps) steps 400000
-
-pub returns-clause-plain : goal.returns-clause-plain
-returns-clause-plain g c = grind (arith, common_steps) steps 400000
-
-pub consume-requires : goal.consume-requires
-consume-requires g c = grind (arith, common_steps)
-
-pub returns-in-Err-clause-plain : goal.returns-in-Err-clause-plain
-returns-in-Err-clause-plain g c = grind (arith, common_steps)

@@ -9,13 +9,13 @@ use Rattle.ion_text_in.proofs.Runs.{no-byte, ends-shown}
 use Rattle.ion_text_in.proofs.Turns.{turn, turn-then, turn-behind, gone-then}
 use Rattle.ion_text_in.proofs.blank.pass_white.Goals as goal
 
-pub returns-in-Ok-None-clause-behind : goal.returns-in-Ok-None-clause-behind
-returns-in-Ok-None-clause-behind g c = λ h.
+pub returns-in_default-clause-behind : goal.returns-in_default-clause-behind
+returns-in_default-clause-behind g c = λ h.
     let inv = c.white.invariant in
     let s = c.white.source in
     let there = inv.gone.moves.still_observable.1 h in
-    let none = no-byte (left g.I.Input.rest s) (sym (c.in-Ok-None.ensures.gives there) ∙ c.in-Ok-None.field-0-is) in
-    cursor-extends g.I.Input s c.peek.new.self c.in-Ok-None.ensures.kept there
+    let none = no-byte (left g.I.Input.rest s) (sym (c.in_ok-peek.ensures.gives there) ∙ c.in_default.is) in
+    cursor-extends g.I.Input s c.peek.new.self c.in_ok-peek.ensures.kept there
     ∙ sym (white-none s.place (left g.I.Input.rest s) (ap (λ (l : List ℕ). first_is is_white l) none))
     ∙ inv.behind h
 
@@ -25,7 +25,7 @@ returns-then-ends-clause-behind g c = λ h.
     let s = c.white.source in
     let p = c.peek.new.self in
     let t = c.consume.new.self in
-    let peek = c.in-Ok-Some.ensures in
+    let peek = c.in_ok-peek.ensures in
     let bytes : List ℕ = c.buffer-bytes.result.now in
     let n = c.white_run-white.result in
     let passed = turn g.I.Input s p t bytes n inv.gone.stands peek.kept peek.well.1 (rw inv.gone.stands.well at peek.count) c.buffer-bytes.ensures c.white_run-white.ensures.within c.consume.ensures in
@@ -41,7 +41,7 @@ white-preserved g c =
     let inv = c.white.invariant in
     let s = c.white.source in
     let t = c.consume.new.self in
-    let peek = c.in-Ok-Some.ensures in
+    let peek = c.in_ok-peek.ensures in
     let bytes : List ℕ = c.buffer-bytes.result.now in
     let n = c.white_run-white.result in
     let passed = turn g.I.Input s c.peek.new.self t bytes n inv.gone.stands peek.kept peek.well.1 (rw inv.gone.stands.well at peek.count) c.buffer-bytes.ensures c.white_run-white.ensures.within c.consume.ensures in
@@ -53,24 +53,3 @@ white-preserved g c =
 
 pub returns-then-ends-clause-reads : goal.returns-then-ends-clause-reads
 returns-then-ends-clause-reads g c = grind (arith, common_steps)
-
-pub returns-in-Ok-None-clause-reads : goal.returns-in-Ok-None-clause-reads
-returns-in-Ok-None-clause-reads g c = grind (arith, common_steps) steps 400000
-
-pub white-smaller : goal.white-smaller
-white-smaller g c = grind (arith, common_steps) steps 400000
-
-pub consume-requires : goal.consume-requires
-consume-requires g c = grind (arith, common_steps) steps 400000
-
-pub returns-in-Err-clause-reads : goal.returns-in-Err-clause-reads
-returns-in-Err-clause-reads g c = grind (arith, common_steps) steps 400000
-
-pub returns-then-ends-clause-plain : goal.returns-then-ends-clause-plain
-returns-then-ends-clause-plain g c = grind (arith, common_steps) steps 400000
-
-pub returns-in-Err-clause-plain : goal.returns-in-Err-clause-plain
-returns-in-Err-clause-plain g c = grind (arith, common_steps)
-
-pub returns-in-Ok-None-clause-plain : goal.returns-in-Ok-None-clause-plain
-returns-in-Ok-None-clause-plain g c = grind (arith, common_steps)

@@ -10,7 +10,7 @@ use Rattle.ion_value.proofs.GrowsWithin.{grows-on, grows-over}
 use Rattle.ion_text_in.specs.Runs.{goes_on, GoesOver}
 use Rattle.ion_text_in.proofs.RunEnds.{goes-then}
 use Rattle.ion_text_in.proofs.Gathered.{answers-over, run-over-limit, bytes-then, grown-there}
-use Rattle.ion_text_in.proofs.Holding.{none-some}
+use Rattle.ion_text_in.proofs.Holding.{handed-on, none-some}
 use Rattle.ion_text_in.proofs.gather.gather.Goals as goal
 
 pub append-requires-clause-can_append : goal.append-requires-clause-can_append
@@ -19,7 +19,7 @@ append-requires-clause-can_append g c =
     let can = c.requires.can_append in
     let room = can.room in
     record {
-      stands = c.in-Ok.ensures.reads.stands;
+      stands = c.in_ok-count.ensures.reads.stands;
       holds = omega (arith, inv.held, can.holds, inv.grown);
       room = omega (arith, inv.held, room, inv.few, inv.grown, can.holds);
       countable = omega (arith, inv.refused, can.countable);
@@ -28,14 +28,15 @@ append-requires-clause-can_append g c =
     }
 
 -- the bytes that go on, and how many there are
-pub returns-in-Err-append-clause-gives : goal.returns-in-Err-append-clause-gives
-returns-in-Err-append-clause-gives g c = λ h.
+
+pub returns-in_err-append-clause-gives : goal.returns-in_err-append-clause-gives
+returns-in_err-append-clause-gives g c = λ h.
     let inv = c.parts.invariant in
-    let part = c.in-Ok.ensures in
+    let part = c.in_ok-count.ensures in
     let s0 = c.args.source.now in
     let s = c.parts.source in
     let p = c.next_part.new.source in
-    let n = c.in-Ok.count in
+    let n = c.in_ok-count.count in
     let k = length c.parts.text - length c.args.text.now in
     let all : List ℕ = left g.I.Input.rest s0 in
     let hs = inv.passed.moves.still_observable.1 h in
@@ -44,18 +45,18 @@ returns-in-Err-append-clause-gives g c = λ h.
     let n_there = ap (λ (l : List ℕ). length l) same ∙ length-drop k all in
     let fits = lent-there g.I.Input.rest p n part.there in
     let goes = goes-then (goes_on c.args.run) all k n (inv.goes h) (subst (λ (l : List ℕ). GoesOver (goes_on c.args.run) l n) (inv.passed.behind h) (part.goes hs)) in
-    answers-over {T = Unit {0}} (λ _. c.append.new.text) c.in-Err-append.fault (cursor g.I.Input c.append.new.source) c.args.limits.scalar c.args.place (length c.parts.text) n _ (λ reason at e. c.in-Err-append.ensures.over reason at (ap Err e))
-    (λ over. run-over-limit c.args.run c.args.limits.scalar (k + n) c.args.text.now (cursor g.I.Input s0) (omega (arith, k_there, n_there, fits)) goes (omega (arith, over, inv.grown)))
+    rw (handed-on c.from_residual-in_err-append.result c.in_err-append.field-0.0 c.from_residual-in_err-append.ensures) (answers-over {T = Unit {0}} (λ _. c.append.new.text) _ (cursor g.I.Input c.append.new.source) c.args.limits.scalar c.args.place (length c.parts.text) n _ (λ reason at e. c.in_err-append.ensures.over reason at (ap Err e))
+    (λ over. run-over-limit c.args.run c.args.limits.scalar (k + n) c.args.text.now (cursor g.I.Input s0) (omega (arith, k_there, n_there, fits)) goes (omega (arith, over, inv.grown))))
 
 pub parts-preserved : goal.parts-preserved
 parts-preserved g c =
     let inv = c.parts.invariant in
-    let part = c.in-Ok.ensures in
-    let added = c.in_default.ensures in
+    let part = c.in_ok-count.ensures in
+    let added = c.in_ok-append.ensures in
     let s = c.parts.source in
     let p = c.next_part.new.source in
     let t = c.append.new.source in
-    let n = c.in-Ok.count in
+    let n = c.in_ok-count.count in
     let text : List ℕ = c.parts.text in
     let after : List ℕ = c.append.new.text in
     let text0 : List ℕ = c.args.text.now in
@@ -92,20 +93,5 @@ parts-preserved g c =
           grows-over g.I.Input s0 p t m0 c.parts.meter c.append.new.meter (length text0) (length text) (length after) inv.held far added.reads.moves looked added.goes;
     }
 
-pub returns-in-Err-append-clause-goes : goal.returns-in-Err-append-clause-goes
-returns-in-Err-append-clause-goes g c = grind (arith, common_steps) steps 400000
-
 pub parts-smaller : goal.parts-smaller
 parts-smaller g c = grind (arith, common_steps)
-
-pub returns-in-Err-clause-reads : goal.returns-in-Err-clause-reads
-returns-in-Err-clause-reads g c = grind (arith, common_steps)
-
-pub returns-in-Err-clause-goes : goal.returns-in-Err-clause-goes
-returns-in-Err-clause-goes g c = grind (arith, common_steps)
-
-pub returns-in-Ok-eq0-clause-goes : goal.returns-in-Ok-eq0-clause-goes
-returns-in-Ok-eq0-clause-goes g c = grind (arith, common_steps)
-
-pub parts-init : goal.parts-init
-parts-init g c = grind (arith, common_steps)

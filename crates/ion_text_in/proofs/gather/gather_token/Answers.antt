@@ -1,5 +1,4 @@
 use Rattle.std.proofs.Common.{◌≡◌, ◌≤◌, ◌∙◌, ap, sym, ℕ, List, ◌++◌, length, take, Some, arith}
-use Rattle.std.proofs.lemmas.Grind.{common_steps}
 use Rattle.ion_meter.specs.Windows.{left, lent}
 use Rattle.ion_meter.specs.Sources.{Cursor, cursor, skip}
 use Rattle.ion_meter.proofs.Lent.{lent-take}
@@ -13,7 +12,7 @@ pub returns-clause-gives : goal.returns-clause-gives
 returns-clause-gives g c = λ h.
     let s = c.args.source.now in
     let t = c.append.new.source in
-    let added = c.in_default.ensures in
+    let added = c.in_ok-append.ensures in
     let limit = Some c.args.limits.scalar in
     let one = c.requires.there in
     let there : cursor g.I.Input t ≡ skip 1 (cursor g.I.Input s) = IsPassed-cursor g.I.Input s t 1 one added.appends.passed in
@@ -27,18 +26,6 @@ returns-clause-gives g c = λ h.
 
 pub returns-clause-further : goal.returns-clause-further
 returns-clause-further g c =
-    let passed = c.in_default.ensures.appends.passed.place in
+    let passed = c.in_ok-append.ensures.appends.passed.place in
     let further = c.gather.ensures.reads.moves.further in
     on-ok c.gather.result (omega (arith, passed, further))
-
-pub returns-clause-goes : goal.returns-clause-goes
-returns-clause-goes g c = grind (arith, common_steps) steps 400000
-
-pub returns-in-Err-clause-goes : goal.returns-in-Err-clause-goes
-returns-in-Err-clause-goes g c = grind (arith, common_steps) steps 400000
-
-pub returns-in-Err-clause-reads : goal.returns-in-Err-clause-reads
-returns-in-Err-clause-reads g c = grind (arith, common_steps)
-
-pub returns-clause-fresh : goal.returns-clause-fresh
-returns-clause-fresh g c = grind (arith, common_steps)

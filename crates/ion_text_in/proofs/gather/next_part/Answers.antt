@@ -7,9 +7,9 @@ use Rattle.ion_text_in.proofs.RunEnds.{run-empty, go-left, end-left}
 use Rattle.ion_text_in.proofs.gather.next_part.Goals.{then-extent-via-then-extent, then-extent-via-else-extent+then-extent-gt0}
 use Rattle.ion_text_in.proofs.gather.next_part.Goals as goal
 
-pub returns-in-Ok-None-clause-ends : goal.returns-in-Ok-None-clause-ends
-returns-in-Ok-None-clause-ends g c = λ h e.
-    run-empty (goes_on c.args.run) (left g.I.Input.rest c.args.source.now) (let gives = rw c.in-Ok-None.field-0-is at c.in-Ok-None.ensures in gives.gives h)
+pub returns-in_default-clause-ends : goal.returns-in_default-clause-ends
+returns-in_default-clause-ends g c = λ h e.
+    run-empty (goes_on c.args.run) (left g.I.Input.rest c.args.source.now) (let gives = rw c.in_default.is at c.in_ok-peek.ensures in gives.gives h)
 
 pub returns-then-extent-clause-goes : goal.returns-then-extent-clause-goes
 returns-then-extent-clause-goes g c = λ h.
@@ -18,7 +18,7 @@ returns-then-extent-clause-goes g c = λ h.
     let test = goes_on c.args.run in
     let goes : GoOn test (lent p) n = subst (λ (l : List ℕ). GoOn test l n) c.buffer.ensures c.run_extent-extent.ensures.goes in
     let within : n ≤ length (lent p) = subst (λ (l : List ℕ). n ≤ length l) c.buffer.ensures c.run_extent-extent.ensures.within in
-    go-left test (lent p) _ (left g.I.Input.rest c.args.source.now) n within (sym (c.in-Ok-Some.ensures.kept.same_left h) ∙ lent-left g.I.Input.rest p) goes
+    go-left test (lent p) _ (left g.I.Input.rest c.args.source.now) n within (sym (c.in_ok-peek.ensures.kept.same_left h) ∙ lent-left g.I.Input.rest p) goes
 
 pub returns-then-extent-clause-ends : goal.returns-then-extent-clause-ends
 returns-then-extent-clause-ends g c = λ h e.
@@ -29,30 +29,9 @@ returns-then-extent-clause-ends g c = λ h e.
     elim c.then-extent.branch [
       | then-extent-via-then-extent w ↦
           let ends : EndBehind test (lent p) n = subst (λ (l : List ℕ). EndBehind test l n) c.buffer.ensures (c.run_extent-extent.ensures.ends w.if-extent.true) in
-          end-left test (lent p) _ (left g.I.Input.rest c.args.source.now) n none (sym (c.in-Ok-Some.ensures.kept.same_left h) ∙ lent-left g.I.Input.rest p) ends
+          end-left test (lent p) _ (left g.I.Input.rest c.args.source.now) n none (sym (c.in_ok-peek.ensures.kept.same_left h) ∙ lent-left g.I.Input.rest p) ends
       | then-extent-via-else-extent+then-extent-gt0 w ↦ let some = w.if-extent-gt0.true in absurd (omega (arith, some, none))
     ]
 
 pub returns-clause-kept : goal.returns-clause-kept
 returns-clause-kept g c = grind (arith, common_steps)
-
-pub returns-in-Ok-None-clause-reads : goal.returns-in-Ok-None-clause-reads
-returns-in-Ok-None-clause-reads g c = grind (arith, common_steps) steps 400000
-
-pub returns-then-extent-clause-reads : goal.returns-then-extent-clause-reads
-returns-then-extent-clause-reads g c = grind (arith, common_steps) steps 400000
-
-pub returns-clause-plain : goal.returns-clause-plain
-returns-clause-plain g c = grind (arith, common_steps) steps 400000
-
-pub returns-in-Err-clause-reads : goal.returns-in-Err-clause-reads
-returns-in-Err-clause-reads g c = grind (arith, common_steps) steps 400000
-
-pub returns-then-extent-clause-there : goal.returns-then-extent-clause-there
-returns-then-extent-clause-there g c = grind (arith, common_steps)
-
-pub returns-in-Err-clause-plain : goal.returns-in-Err-clause-plain
-returns-in-Err-clause-plain g c = grind (arith, common_steps)
-
-pub returns-in-Ok-None-clause-plain : goal.returns-in-Ok-None-clause-plain
-returns-in-Ok-None-clause-plain g c = grind (arith, common_steps)

@@ -22,7 +22,7 @@ returns-then-len-limits-clause-puts g c =
     let len = ap (λ (l : List ℕ). length l) c.as_slice-len.ensures in
     c.truncate.ensures.bytes
     ∙ ap (λ (n : ℕ). take (n + c.args.count) c.extend.new.self) len
-    ∙ ap (λ (l : List ℕ). take (length text + c.args.count) l) c.in_default.ensures.ok
+    ∙ ap (λ (l : List ℕ). take (length text + c.args.count) l) c.in_ok-extend.ensures.ok
     ∙ kept-front text c.args.bytes.now c.args.count _ c.if-count-le-BLOCK.true
 
 pub returns-then-len-limits-clause-grown : goal.returns-then-len-limits-clause-grown
@@ -32,11 +32,11 @@ returns-then-len-limits-clause-grown g c =
     let len = ap (λ (l : List ℕ). length l) c.as_slice-len.ensures in
     let block = length-take-le _ bytes c.if-bytes-ge-BLOCK.true in
     let few = length-take-le c.args.count bytes c.requires.there in
-    let longer = ap (λ (l : List ℕ). length l) c.in_default.ensures.ok ∙ length-append text _ in
+    let longer = ap (λ (l : List ℕ). length l) c.in_ok-extend.ensures.ok ∙ length-append text _ in
     let kept = ap (λ (l : List ℕ). length l) (returns-then-len-limits-clause-puts g c) ∙ length-append text (take c.args.count bytes) in
-    let held = c.in_default.ensures.cost.held in
+    let held = c.in_ok-extend.ensures.cost.held in
     let given = c.truncate.ensures.cost.held in
-    let peak = c.in_default.ensures.cost.peak in
+    let peak = c.in_ok-extend.ensures.cost.peak in
     let still = c.truncate.ensures.cost.peak in
     let fits = c.if-len-limits.true in
     let small = c.requires.small in
@@ -49,7 +49,7 @@ returns-then-len-limits-clause-grown g c =
         rises = omega (arith, peak, still);
       };
       memory = λ e. absurd (none-some e);
-      counted = λ _. c.truncate.ensures.cost.refused ∙ c.in_default.ensures.cost.refused;
+      counted = λ _. c.truncate.ensures.cost.refused ∙ c.in_ok-extend.ensures.cost.refused;
       no_reads = λ e. none-some e;
       no_writes = λ e. none-some e;
       no_limit = λ e. none-some e;
@@ -58,8 +58,8 @@ returns-then-len-limits-clause-grown g c =
 pub returns-then-len-limits-clause-goes : goal.returns-then-len-limits-clause-goes
 returns-then-len-limits-clause-goes g c =
     let block = length-take-le _ c.args.bytes.now c.if-bytes-ge-BLOCK.true in
-    let held = c.in_default.ensures.cost.held in
-    let peak = c.in_default.ensures.cost.peak in
+    let held = c.in_ok-extend.ensures.cost.held in
+    let peak = c.in_ok-extend.ensures.cost.peak in
     let cut = c.truncate.ensures.cost.peak in
     let short = c.truncate.ensures.cost.held in
     let len = ap (λ (l : List ℕ). length l) c.as_slice-len.ensures in
@@ -78,15 +78,6 @@ returns-clause-goes g c = grind (arith, common_steps) steps 400000
 
 pub truncate-requires : goal.truncate-requires
 truncate-requires g c = grind (arith, common_steps) steps 400000
-
-pub returns-in-Err-clause-goes : goal.returns-in-Err-clause-goes
-returns-in-Err-clause-goes g c = grind (arith, common_steps) steps 400000
-
-pub returns-in-Err-clause-still : goal.returns-in-Err-clause-still
-returns-in-Err-clause-still g c = grind (arith, common_steps) steps 400000
-
-pub returns-in-Err-clause-grown : goal.returns-in-Err-clause-grown
-returns-in-Err-clause-grown g c = grind (arith, common_steps) steps 400000
 
 pub returns-clause-still : goal.returns-clause-still
 returns-clause-still g c = grind (arith, common_steps)

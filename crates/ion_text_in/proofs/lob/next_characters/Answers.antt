@@ -1,5 +1,4 @@
 use Rattle.std.proofs.Common.{◌≡◌, ℕ, ◌+◌, ◌-◌, ◌++◌, List, take, drop, slice_set, sym, ap, ◌∙◌, arith}
-use Rattle.std.proofs.lemmas.Grind.{common_steps}
 use Rattle.std.proofs.lemmas.List.{length-set}
 use Rattle.ion_meter.specs.Windows.{left}
 use Rattle.ion_meter.specs.Sources.{Cursor, cursor}
@@ -11,18 +10,18 @@ use Rattle.ion_text_in.proofs.LobTurns.{group-ends, group-closes, group-more, ch
 use Rattle.ion_text_in.proofs.Turns.{gone-then, reads-gone, gone-passed, passed-cursor}
 use Rattle.ion_text_in.proofs.lob.next_characters.Goals as goal
 
-pub returns-in-Ok-None-clause-gives : goal.returns-in-Ok-None-clause-gives
-returns-in-Ok-None-clause-gives g c = λ h.
+pub returns-in_default-clause-gives : goal.returns-in_default-clause-gives
+returns-in_default-clause-gives g c = λ h.
     let inv = c.loop-i.invariant in
     let s = c.loop-i.source in
     let w = c.pass_white.new.source in
     let there = inv.gone.moves.still_observable.1 h in
-    let behind = c.in_default.ensures.behind there in
-    let white = c.in_default.ensures.reads.moves.still_observable.1 there in
-    let found = sym (c.in-Ok-None.ensures.gives white) ∙ c.in-Ok-None.field-0-is in
+    let behind = c.in_ok-pass_white.ensures.behind there in
+    let white = c.in_ok-pass_white.ensures.reads.moves.still_observable.1 there in
+    let found = sym (c.in_ok-byte.ensures.gives white) ∙ c.in_default.is in
     inv.group h
     ∙ characters-end c.loop-i.i c.loop-i.group (cursor g.I.Input s) (cursor g.I.Input w) c.loop-i-test.true behind (group-ends (3 - c.loop-i.i) (left g.I.Input.rest w) found)
-    ∙ ap (λ (l : List ℕ). (take c.loop-i.i c.loop-i.group, l)) (sym (c.in-Ok-None.ensures.kept.same_left white))
+    ∙ ap (λ (l : List ℕ). (take c.loop-i.i c.loop-i.group, l)) (sym (c.in_ok-byte.ensures.kept.same_left white))
 
 pub returns-then-byte-eq125-clause-gives : goal.returns-then-byte-eq125-clause-gives
 returns-then-byte-eq125-clause-gives g c = λ h.
@@ -30,14 +29,14 @@ returns-then-byte-eq125-clause-gives g c = λ h.
     let s = c.loop-i.source in
     let w = c.pass_white.new.source in
     let there = inv.gone.moves.still_observable.1 h in
-    let behind = c.in_default.ensures.behind there in
-    let white = c.in_default.ensures.reads.moves.still_observable.1 there in
+    let behind = c.in_ok-pass_white.ensures.behind there in
+    let white = c.in_ok-pass_white.ensures.reads.moves.still_observable.1 there in
     let dark = ap (λ (d : Cursor). first_is is_white d.rest) behind ∙ white-ends s.place (left g.I.Input.rest s) in
-    let found = sym (c.in-Ok-Some.ensures.gives white) ∙ c.in-Ok-Some.field-0-is in
+    let found = sym (c.in_ok-byte.ensures.gives white) ∙ c.in-Some.is in
     inv.group h
     ∙ characters-end c.loop-i.i c.loop-i.group (cursor g.I.Input s) (cursor g.I.Input w) c.loop-i-test.true behind
-    (group-closes (3 - c.loop-i.i) c.in-Ok-Some.byte (left g.I.Input.rest w) dark found c.if-byte-eq125.true)
-    ∙ ap (λ (l : List ℕ). (take c.loop-i.i c.loop-i.group, l)) (sym (c.in-Ok-Some.ensures.kept.same_left white))
+    (group-closes (3 - c.loop-i.i) c.in-Some.byte (left g.I.Input.rest w) dark found c.if-byte-eq125.true)
+    ∙ ap (λ (l : List ℕ). (take c.loop-i.i c.loop-i.group, l)) (sym (c.in_ok-byte.ensures.kept.same_left white))
 
 pub loop-i-preserved : goal.loop-i-preserved
 loop-i-preserved g c =
@@ -45,27 +44,27 @@ loop-i-preserved g c =
     let s = c.loop-i.source in
     let w = c.pass_white.new.source in
     let t = c.advance.new.self in
-    let peek = c.in-Ok-Some.ensures in
-    let given = (rw c.in-Ok-Some.field-0-is at peek.byte).0 in
-    let white = reads-gone g.I.Input s w c.in_default.field-0 c.in_default.ensures.reads in
+    let peek = c.in_ok-byte.ensures in
+    let given = (rw c.in-Some.is at peek.byte).0 in
+    let white = reads-gone g.I.Input s w c.in_ok-pass_white.field-0 c.in_ok-pass_white.ensures.reads in
     let one = gone-passed g.I.Input w c.peek.new.self t 0 white.stands peek.kept peek.well.1 (rw white.stands.well at peek.count) given c.advance.ensures in
     let onward = white.moves.further in
     record {
       gone = gone-then g.I.Input c.args.source.now s t inv.gone (gone-then g.I.Input s w t white one.0);
       taken = let place = one.1 in omega (arith, inv.taken, onward, place);
-      four = length-set c.loop-i.group c.loop-i.i c.in-Ok-Some.byte ∙ inv.four;
+      four = length-set c.loop-i.group c.loop-i.i c.in-Some.byte ∙ inv.four;
       group = λ h.
           let there = inv.gone.moves.still_observable.1 h in
-          let behind = c.in_default.ensures.behind there in
+          let behind = c.in_ok-pass_white.ensures.behind there in
           let at_white = white.moves.still_observable.1 there in
           let dark = ap (λ (d : Cursor). first_is is_white d.rest) behind ∙ white-ends s.place (left g.I.Input.rest s) in
-          let found = sym (peek.gives at_white) ∙ c.in-Ok-Some.field-0-is in
+          let found = sym (peek.gives at_white) ∙ c.in-Some.is in
           let passed = passed-cursor g.I.Input w c.peek.new.self t 0 white.stands peek.kept peek.well.1 given c.advance.ensures at_white in
           let rest : drop 1 (left g.I.Input.rest w) ≡ left g.I.Input.rest t = sym (ap (λ (d : Cursor). d.rest) passed) in
-          let now : List ℕ = slice_set c.loop-i.group c.loop-i.i c.in-Ok-Some.byte in
+          let now : List ℕ = slice_set c.loop-i.group c.loop-i.i c.in-Some.byte in
           inv.group h
-          ∙ characters-on c.loop-i.i c.in-Ok-Some.byte c.loop-i.group (cursor g.I.Input s) (cursor g.I.Input w) c.loop-i-test.true inv.four behind
-          (group-more (3 - c.loop-i.i) c.in-Ok-Some.byte (left g.I.Input.rest w) dark found c.if-byte-eq125.false)
+          ∙ characters-on c.loop-i.i c.in-Some.byte c.loop-i.group (cursor g.I.Input s) (cursor g.I.Input w) c.loop-i-test.true inv.four behind
+          (group-more (3 - c.loop-i.i) c.in-Some.byte (left g.I.Input.rest w) dark found c.if-byte-eq125.false)
           ∙ ap (λ (l : List ℕ). (take (c.loop-i.i + 1) now ++ (group_of (4 - (c.loop-i.i + 1)) l).0, (group_of (4 - (c.loop-i.i + 1)) l).1)) rest;
     }
 
@@ -73,39 +72,3 @@ pub returns-clause-gives : goal.returns-clause-gives
 returns-clause-gives g c = λ h.
     let all : c.loop-i.i ≡ 4 = omega (arith, c.loop-i-test.false, c.loop-i.auto.i-end) in
     c.loop-i.invariant.group h ∙ characters-all c.loop-i.i c.loop-i.group (left g.I.Input.rest c.loop-i.source) all
-
-pub returns-then-byte-eq125-clause-reads : goal.returns-then-byte-eq125-clause-reads
-returns-then-byte-eq125-clause-reads g c = grind (arith, common_steps) steps 400000
-
-pub returns-in-Err-peek-clause-plain : goal.returns-in-Err-peek-clause-plain
-returns-in-Err-peek-clause-plain g c = grind (arith, common_steps) steps 400000
-
-pub returns-in-Err-peek-clause-reads : goal.returns-in-Err-peek-clause-reads
-returns-in-Err-peek-clause-reads g c = grind (arith, common_steps) steps 400000
-
-pub advance-requires : goal.advance-requires
-advance-requires g c = grind (arith, common_steps) steps 400000
-
-pub returns-in-Ok-None-clause-reads : goal.returns-in-Ok-None-clause-reads
-returns-in-Ok-None-clause-reads g c = grind (arith, common_steps) steps 400000
-
-pub returns-in-Err-clause-plain : goal.returns-in-Err-clause-plain
-returns-in-Err-clause-plain g c = grind (arith, common_steps) steps 400000
-
-pub loop-i-init : goal.loop-i-init
-loop-i-init g c = grind (arith, common_steps) steps 400000
-
-pub returns-in-Ok-None-clause-plain : goal.returns-in-Ok-None-clause-plain
-returns-in-Ok-None-clause-plain g c = grind (arith, common_steps) steps 400000
-
-pub returns-then-byte-eq125-clause-plain : goal.returns-then-byte-eq125-clause-plain
-returns-then-byte-eq125-clause-plain g c = grind (arith, common_steps) steps 400000
-
-pub returns-in-Err-clause-reads : goal.returns-in-Err-clause-reads
-returns-in-Err-clause-reads g c = grind (arith, common_steps) steps 400000
-
-pub returns-in-Ok-None-clause-taken : goal.returns-in-Ok-None-clause-taken
-returns-in-Ok-None-clause-taken g c = grind (arith, common_steps)
-
-pub returns-clause-reads : goal.returns-clause-reads
-returns-clause-reads g c = grind (arith, common_steps)

@@ -1,5 +1,4 @@
 use Rattle.std.proofs.Common.{◌≡◌, Some, ap, ◌∙◌, arith}
-use Rattle.std.proofs.lemmas.Grind.{common_steps}
 use Rattle.ion_meter.specs.Sources.{cursor}
 use Rattle.ion_text_in.specs.declared.lob.Opening.{Opening}
 use Rattle.ion_text_in.specs.declared.lob.Opening.TheVariants as opening
@@ -21,12 +20,12 @@ returns-in-Short-clause-gives g c = λ h.
     let first = passed-cursor g.I.Input s s t 1 c.requires.can_read.stands (extends-not g.I.Input s) c.requires.can_read.stands.well c.requires.braces c.consume.ensures h in
     let one = gone-passed g.I.Input s s t 1 c.requires.can_read.stands (extends-not g.I.Input s) c.requires.can_read.stands.well (omega arith) c.requires.braces c.consume.ensures in
     let at_first = one.0.moves.still_observable.1 h in
-    let at_white = c.in_default.ensures.reads.moves.still_observable.1 at_first in
-    let opens = c.in-Ok.ensures.gives at_white limit in
-    let at_text = c.in-Ok.ensures.reads.moves.still_observable.1 at_white in
+    let at_white = c.in_ok-pass_white.ensures.reads.moves.still_observable.1 at_first in
+    let opens = c.in_ok-pass_opening.ensures.gives at_white limit in
+    let at_text = c.in_ok-pass_opening.ensures.reads.moves.still_observable.1 at_white in
     let same : lob_in limit (cursor g.I.Input w) ≡ opened opening.Short limit (cursor g.I.Input q) =
     opens ∙ ap (λ (o : Opening). opened o limit (cursor g.I.Input q)) c.in-Short.is in
-    let token = lob-token limit (cursor g.I.Input s) (cursor g.I.Input t) (cursor g.I.Input w) (cursor g.I.Input q) opening.Short first (c.in_default.ensures.behind at_first) same in
+    let token = lob-token limit (cursor g.I.Input s) (cursor g.I.Input t) (cursor g.I.Input w) (cursor g.I.Input q) opening.Short first (c.in_ok-pass_white.ensures.behind at_first) same in
     rw c.place-place.ensures at (answers-lob c.next_short_clob.new.text c.next_short_clob.result (cursor g.I.Input c.next_short_clob.new.source) c.place-place.result (opened opening.Short limit (cursor g.I.Input q))
     (token_of limit a_lob (cursor g.I.Input s)) (c.next_short_clob.ensures.gives at_text) token)
 
@@ -40,12 +39,12 @@ returns-in-Long-clause-gives g c = λ h.
     let first = passed-cursor g.I.Input s s t 1 c.requires.can_read.stands (extends-not g.I.Input s) c.requires.can_read.stands.well c.requires.braces c.consume.ensures h in
     let one = gone-passed g.I.Input s s t 1 c.requires.can_read.stands (extends-not g.I.Input s) c.requires.can_read.stands.well (omega arith) c.requires.braces c.consume.ensures in
     let at_first = one.0.moves.still_observable.1 h in
-    let at_white = c.in_default.ensures.reads.moves.still_observable.1 at_first in
-    let opens = c.in-Ok.ensures.gives at_white limit in
-    let at_text = c.in-Ok.ensures.reads.moves.still_observable.1 at_white in
+    let at_white = c.in_ok-pass_white.ensures.reads.moves.still_observable.1 at_first in
+    let opens = c.in_ok-pass_opening.ensures.gives at_white limit in
+    let at_text = c.in_ok-pass_opening.ensures.reads.moves.still_observable.1 at_white in
     let same : lob_in limit (cursor g.I.Input w) ≡ opened opening.Long limit (cursor g.I.Input q) =
     opens ∙ ap (λ (o : Opening). opened o limit (cursor g.I.Input q)) c.in-Long.is in
-    let token = lob-token limit (cursor g.I.Input s) (cursor g.I.Input t) (cursor g.I.Input w) (cursor g.I.Input q) opening.Long first (c.in_default.ensures.behind at_first) same in
+    let token = lob-token limit (cursor g.I.Input s) (cursor g.I.Input t) (cursor g.I.Input w) (cursor g.I.Input q) opening.Long first (c.in_ok-pass_white.ensures.behind at_first) same in
     rw c.place-place.ensures at (answers-lob c.next_long_clob.new.text c.next_long_clob.result (cursor g.I.Input c.next_long_clob.new.source) c.place-place.result (opened opening.Long limit (cursor g.I.Input q))
     (token_of limit a_lob (cursor g.I.Input s)) (c.next_long_clob.ensures.gives at_text) token)
 
@@ -59,56 +58,35 @@ returns-in-None-clause-gives g c = λ h.
     let first = passed-cursor g.I.Input s s t 1 c.requires.can_read.stands (extends-not g.I.Input s) c.requires.can_read.stands.well c.requires.braces c.consume.ensures h in
     let one = gone-passed g.I.Input s s t 1 c.requires.can_read.stands (extends-not g.I.Input s) c.requires.can_read.stands.well (omega arith) c.requires.braces c.consume.ensures in
     let at_first = one.0.moves.still_observable.1 h in
-    let at_white = c.in_default.ensures.reads.moves.still_observable.1 at_first in
-    let opens = c.in-Ok.ensures.gives at_white limit in
-    let at_text = c.in-Ok.ensures.reads.moves.still_observable.1 at_white in
+    let at_white = c.in_ok-pass_white.ensures.reads.moves.still_observable.1 at_first in
+    let opens = c.in_ok-pass_opening.ensures.gives at_white limit in
+    let at_text = c.in_ok-pass_opening.ensures.reads.moves.still_observable.1 at_white in
     let same : lob_in limit (cursor g.I.Input w) ≡ opened opening.None limit (cursor g.I.Input q) =
     opens ∙ ap (λ (o : Opening). opened o limit (cursor g.I.Input q)) c.in-None.is in
-    let token = lob-token limit (cursor g.I.Input s) (cursor g.I.Input t) (cursor g.I.Input w) (cursor g.I.Input q) opening.None first (c.in_default.ensures.behind at_first) same in
+    let token = lob-token limit (cursor g.I.Input s) (cursor g.I.Input t) (cursor g.I.Input w) (cursor g.I.Input q) opening.None first (c.in_ok-pass_white.ensures.behind at_first) same in
     rw c.place-place.ensures at (answers-lob c.next_blob.new.text c.next_blob.result (cursor g.I.Input c.next_blob.new.source) c.place-place.result (opened opening.None limit (cursor g.I.Input q))
     (token_of limit a_lob (cursor g.I.Input s)) (c.next_blob.ensures.gives at_text) token)
 
 pub returns-in-Short-clause-further : goal.returns-in-Short-clause-further
 returns-in-Short-clause-further g c = λ _.
     let passed = c.consume.ensures.place in
-    let white = c.in_default.ensures.reads.moves.further in
-    let opens = c.in-Ok.ensures.reads.moves.further in
+    let white = c.in_ok-pass_white.ensures.reads.moves.further in
+    let opens = c.in_ok-pass_opening.ensures.reads.moves.further in
     let further = c.next_short_clob.ensures.reads.moves.further in
     on-ok c.next_short_clob.result (omega (arith, passed, white, opens, further))
 
 pub returns-in-Long-clause-further : goal.returns-in-Long-clause-further
 returns-in-Long-clause-further g c = λ _.
     let passed = c.consume.ensures.place in
-    let white = c.in_default.ensures.reads.moves.further in
-    let opens = c.in-Ok.ensures.reads.moves.further in
+    let white = c.in_ok-pass_white.ensures.reads.moves.further in
+    let opens = c.in_ok-pass_opening.ensures.reads.moves.further in
     let further = c.next_long_clob.ensures.reads.moves.further in
     on-ok c.next_long_clob.result (omega (arith, passed, white, opens, further))
 
 pub returns-in-None-clause-further : goal.returns-in-None-clause-further
 returns-in-None-clause-further g c = λ _.
     let passed = c.consume.ensures.place in
-    let white = c.in_default.ensures.reads.moves.further in
-    let opens = c.in-Ok.ensures.reads.moves.further in
+    let white = c.in_ok-pass_white.ensures.reads.moves.further in
+    let opens = c.in_ok-pass_opening.ensures.reads.moves.further in
     let further = c.next_blob.ensures.reads.moves.further in
     on-ok c.next_blob.result (omega (arith, passed, white, opens, further))
-
-pub returns-in-Err-pass_opening-clause-reads : goal.returns-in-Err-pass_opening-clause-reads
-returns-in-Err-pass_opening-clause-reads g c = grind (arith, common_steps)
-
-pub returns-in-Err-clause-reads : goal.returns-in-Err-clause-reads
-returns-in-Err-clause-reads g c = grind (arith, common_steps)
-
-pub returns-in-None-clause-goes : goal.returns-in-None-clause-goes
-returns-in-None-clause-goes g c = grind (arith, common_steps)
-
-pub returns-in-Long-clause-goes : goal.returns-in-Long-clause-goes
-returns-in-Long-clause-goes g c = grind (arith, common_steps)
-
-pub returns-in-Short-clause-goes : goal.returns-in-Short-clause-goes
-returns-in-Short-clause-goes g c = grind (arith, common_steps)
-
-pub returns-in-Err-pass_opening-clause-gives : goal.returns-in-Err-pass_opening-clause-gives
-returns-in-Err-pass_opening-clause-gives g c = grind (arith, common_steps)
-
-pub returns-in-Err-clause-gives : goal.returns-in-Err-clause-gives
-returns-in-Err-clause-gives g c = grind (arith, common_steps)

@@ -30,13 +30,7 @@ returns-clause-gives g c = λ h.
     turn-then g.I.Input s t chars (with_groups_behind limit text false) (with_groups_behind limit (text ++ bytes) (is_padded (length bytes))) passed h
     (block-of limit text s.place chars bytes (left g.I.Input.rest t) d.some d.octets free)
     ∙ ap (λ (k : ℕ). with_groups_behind limit (text ++ bytes) (is_padded k) (cursor g.I.Input t)) long
-    ∙ ap (λ (l : List ℕ). with_groups_behind limit l (is_padded n) (cursor g.I.Input t)) (sym c.in_default-extend.ensures.ok)
-
-pub consume-requires : goal.consume-requires
-consume-requires g c = grind (arith, common_steps)
-
-pub returns-clause-reads : goal.returns-clause-reads
-returns-clause-reads g c = grind (arith, common_steps)
+    ∙ ap (λ (l : List ℕ). with_groups_behind limit l (is_padded n) (cursor g.I.Input t)) (sym c.in_ok-extend.ensures.ok)
 
 pub returns-clause-goes : goal.returns-clause-goes
 returns-clause-goes g c =
@@ -49,44 +43,8 @@ returns-clause-goes g c =
     let few : n ≤ c.args.count = omega (arith, chars, long, spelled) in
     grind (arith, common_steps)
 
-pub returns-clause-none : goal.returns-clause-none
-returns-clause-none g c = grind (arith, common_steps) steps 400000
+pub consume-requires : goal.consume-requires
+consume-requires g c = grind (arith, common_steps)
 
-pub returns-in-Err-clause-none : goal.returns-in-Err-clause-none
-returns-in-Err-clause-none g c = grind (arith, common_steps) steps 400000
-
-pub returns-in-Err-clause-goes : goal.returns-in-Err-clause-goes
-returns-in-Err-clause-goes g c = grind (arith, common_steps) steps 400000
-
-pub returns-clause-plain : goal.returns-clause-plain
-returns-clause-plain g c = grind (arith, common_steps) steps 400000
-
-pub returns-in_default-clause-reads : goal.returns-in_default-clause-reads
-returns-in_default-clause-reads g c = grind (arith, common_steps) steps 400000
-
-pub returns-then-left-n-clause-reads : goal.returns-then-left-n-clause-reads
-returns-then-left-n-clause-reads g c = grind (arith, common_steps) steps 400000
-
-pub returns-in-Err-clause-plain : goal.returns-in-Err-clause-plain
-returns-in-Err-clause-plain g c = grind (arith, common_steps) steps 400000
-
-pub returns-in-Err-clause-reads : goal.returns-in-Err-clause-reads
-returns-in-Err-clause-reads g c = grind (arith, common_steps) steps 400000
-
-pub extend-requires-clause-room : goal.extend-requires-clause-room
-extend-requires-clause-room g c = grind (arith, common_steps)
-
-pub slice_bounds-extend-end-2 : goal.slice_bounds-extend-end-2
-slice_bounds-extend-end-2 g c = grind (arith, common_steps)
-
-pub returns-then-left-n-clause-none : goal.returns-then-left-n-clause-none
-returns-then-left-n-clause-none g c = grind (arith, common_steps) steps 400000
-
-pub overflow_sub-left : goal.overflow_sub-left
-overflow_sub-left g c = grind (arith, common_steps) steps 400000
-
-pub returns-then-left-n-clause-plain : goal.returns-then-left-n-clause-plain
-returns-then-left-n-clause-plain g c = grind (arith, common_steps) steps 400000
-
-pub returns-in_default-clause-none : goal.returns-in_default-clause-none
-returns-in_default-clause-none g c = grind (arith, common_steps)
+pub returns-clause-reads : goal.returns-clause-reads
+returns-clause-reads g c = grind (arith, common_steps)

@@ -1,5 +1,4 @@
-use Rattle.std.proofs.Common.{◌≡◌, ◌∙◌, ◌||◌, Bool, true, false, length, drop, refl, sym, arith}
-use Rattle.std.proofs.lemmas.Grind.{common_steps}
+use Rattle.std.proofs.Common.{◌≡◌, ◌∙◌, ◌||◌, Bool, true, false, length, drop, refl, sym}
 use Rattle.std.specs.Str.{is_utf8}
 use Rattle.ion_meter.specs.Sources.{cursor}
 use Rattle.ion_text_in.specs.Quotes.{quote_of}
@@ -8,23 +7,24 @@ use Rattle.ion_text_in.proofs.Segments.{segment-err, segment-bad, segment-good}
 use Rattle.ion_text_in.proofs.Utf8.{is_utf8-behind}
 use Rattle.ion_value.proofs.Cursors.{answers-refused}
 use Rattle.ion_text_in.proofs.segment.next_segment.Goals.{else-not-in_clob-via-then-not-in_clob+else-not-is_text, else-not-in_clob-via-else-not-in_clob}
+use Rattle.ion_text_in.proofs.Holding.{handed-on}
 use Rattle.ion_text_in.proofs.segment.next_segment.Goals as goal
 
 either : (a b : Bool) → b ≡ true → (a || b) ≡ true
 either true b e = refl
 either false b e = e
 
-pub returns-in-Err-clause-gives : goal.returns-in-Err-clause-gives
-returns-in-Err-clause-gives g c = λ h.
+pub returns-in_err-gather_pieces-clause-gives : goal.returns-in_err-gather_pieces-clause-gives
+returns-in_err-gather_pieces-clause-gives g c = λ h.
     let q = quote_of c.args.quote in
     let from = cursor g.I.Input c.args.source.now in
-    answers-refused {T = Unit {0}} {U = Unit {0}} (λ _. c.gather_pieces.new.text) (λ _. c.gather_pieces.new.text) c.in-Err.fault (cursor g.I.Input c.gather_pieces.new.source) (cursor g.I.Input c.gather_pieces.new.source) c.args.place
-    (onward q c.args.limits.scalar c.args.text.now from) (with_segment q c.args.limits.scalar c.args.text.now from) (c.in-Err.ensures.gives h)
-    (λ e k. segment-err q c.args.limits.scalar c.args.text.now from e k)
+    rw (handed-on c.from_residual.result c.in_err-gather_pieces.field-0.0 c.from_residual.ensures) (answers-refused {T = Unit {0}} {U = Unit {0}} (λ _. c.gather_pieces.new.text) (λ _. c.gather_pieces.new.text) _ (cursor g.I.Input c.gather_pieces.new.source) (cursor g.I.Input c.gather_pieces.new.source) c.args.place
+    (onward q c.args.limits.scalar c.args.text.now from) (with_segment q c.args.limits.scalar c.args.text.now from) (c.in_err-gather_pieces.ensures.gives h)
+    (λ e k. segment-err q c.args.limits.scalar c.args.text.now from e k))
 
 pub slice_bounds-is_text-count : goal.slice_bounds-is_text-count
 slice_bounds-is_text-count g c =
-    let longer = c.in_default.ensures.longer in
+    let longer = c.in_ok-gather_pieces.ensures.longer in
     rw (c.as_slice-start.ensures, c.as_slice.ensures) longer
 
 pub returns-then-not-is_text-clause-gives : goal.returns-then-not-is_text-clause-gives
@@ -34,13 +34,13 @@ returns-then-not-is_text-clause-gives g c = λ h.
     let test = is_utf8-behind c.args.text.now all c.as_slice-start.result.now c.as_slice.result.now c.is_text.result c.as_slice-start.ensures c.as_slice.ensures c.is_text.ensures in
     let clob : q.in_clob ≡ false = sym c.in_clob.ensures ∙ c.if-not-in_clob.true in
     let none : (q.in_clob || is_utf8 (drop (length c.args.text.now) all)) ≡ false = rw (clob, ← test) c.if-not-is_text.true in
-    (segment-bad q c.args.limits.scalar c.args.text.now all (cursor g.I.Input c.args.source.now) (cursor g.I.Input c.gather_pieces.new.source) (c.in_default.ensures.gives h) none, refl)
+    (segment-bad q c.args.limits.scalar c.args.text.now all (cursor g.I.Input c.args.source.now) (cursor g.I.Input c.gather_pieces.new.source) (c.in_ok-gather_pieces.ensures.gives h) none, refl)
 
 pub returns-clause-gives : goal.returns-clause-gives
 returns-clause-gives g c = λ h.
     let q = quote_of c.args.quote in
     let all = c.gather_pieces.new.text in
-    segment-good q c.args.limits.scalar c.args.text.now all (cursor g.I.Input c.args.source.now) (cursor g.I.Input c.gather_pieces.new.source) (c.in_default.ensures.gives h)
+    segment-good q c.args.limits.scalar c.args.text.now all (cursor g.I.Input c.args.source.now) (cursor g.I.Input c.gather_pieces.new.source) (c.in_ok-gather_pieces.ensures.gives h)
     (elim c.else-not-in_clob.branch [
       | else-not-in_clob-via-then-not-in_clob+else-not-is_text w ↦
           let test = is_utf8-behind c.args.text.now all c.as_slice-start.result.now w.as_slice.result.now w.is_text.result c.as_slice-start.ensures w.as_slice.ensures w.is_text.ensures in
@@ -50,21 +50,3 @@ returns-clause-gives g c = λ h.
           let clob : q.in_clob ≡ true = sym c.in_clob.ensures ∙ w.if-not-in_clob.false in
           rw clob refl
     ])
-
-pub returns-then-not-is_text-clause-reads : goal.returns-then-not-is_text-clause-reads
-returns-then-not-is_text-clause-reads g c = grind (arith, common_steps) steps 400000
-
-pub slice_bounds-is_text-start : goal.slice_bounds-is_text-start
-slice_bounds-is_text-start g c = grind (arith, common_steps) steps 400000
-
-pub returns-then-not-is_text-clause-goes : goal.returns-then-not-is_text-clause-goes
-returns-then-not-is_text-clause-goes g c = grind (arith, common_steps)
-
-pub returns-in-Err-clause-goes : goal.returns-in-Err-clause-goes
-returns-in-Err-clause-goes g c = grind (arith, common_steps)
-
-pub returns-clause-goes : goal.returns-clause-goes
-returns-clause-goes g c = grind (arith, common_steps)
-
-pub returns-clause-further : goal.returns-clause-further
-returns-clause-further g c = grind (arith, common_steps)

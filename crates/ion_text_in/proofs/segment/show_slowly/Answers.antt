@@ -17,44 +17,29 @@ pub returns-in_default-clause-there : goal.returns-in_default-clause-there
 returns-in_default-clause-there g c =
     subst (λ (l : List ℕ). taken_of c.scan_piece.result ≤ length l) c.buffer-bytes.ensures c.scan_piece.ensures.there
 
-pub returns-in-Ok-None-clause-gives : goal.returns-in-Ok-None-clause-gives
-returns-in-Ok-None-clause-gives g c = λ h.
+pub returns-in_default-2-clause-gives : goal.returns-in_default-2-clause-gives
+returns-in_default-2-clause-gives g c = λ h.
     let s = c.more.source in
     let t = c.peek.new.self in
     let seen = c.more.invariant.kept.still_observable.1 h in
-    let gives = rw (c.in-Ok-None.field-0-is, c.buffer-bytes.ensures) at (c.in-Ok-None.ensures.gives seen) in
+    let gives = rw (c.in_default-2.is, c.buffer-bytes.ensures) at (c.in_ok-peek.ensures.gives seen) in
     c.last_piece.ensures
     ∙ ap (λ (l : List ℕ). piece_at (quote_of c.args.quote) l)
-    (c.buffer.ensures ∙ lent-all g.I.Input.rest g.I.Input.observable s t c.in-Ok-None.ensures.kept c.in-Ok-None.ensures.well.0 c.in-Ok-None.ensures.well.1 seen gives
+    (c.buffer.ensures ∙ lent-all g.I.Input.rest g.I.Input.observable s t c.in_ok-peek.ensures.kept c.in_ok-peek.ensures.well.0 c.in_ok-peek.ensures.well.1 seen gives
     ∙ c.more.invariant.kept.same_left h)
 
-pub returns-in-Ok-None-clause-there : goal.returns-in-Ok-None-clause-there
-returns-in-Ok-None-clause-there g c =
+pub returns-in_default-2-clause-there : goal.returns-in_default-2-clause-there
+returns-in_default-2-clause-there g c =
     subst (λ (l : List ℕ). taken_of c.last_piece.result ≤ length l) c.buffer.ensures (taken-there c.args.quote c.buffer.result.now c.last_piece.result c.last_piece.ensures)
 
-pub returns-in-Ok-None-clause-some : goal.returns-in-Ok-None-clause-some
-returns-in-Ok-None-clause-some g c = taken-some c.args.quote c.buffer.result.now c.last_piece.result c.last_piece.ensures
+pub returns-in_default-2-clause-some : goal.returns-in_default-2-clause-some
+returns-in_default-2-clause-some g c = taken-some c.args.quote c.buffer.result.now c.last_piece.result c.last_piece.ensures
 
 pub more-preserved : goal.more-preserved
 more-preserved g c = grind (arith, common_steps)
 
-pub returns-in-Err-clause-looks : goal.returns-in-Err-clause-looks
-returns-in-Err-clause-looks g c = grind (arith, common_steps)
+pub returns-in_default-2-clause-looks : goal.returns-in_default-2-clause-looks
+returns-in_default-2-clause-looks g c = grind (arith, common_steps)
 
-pub returns-in-Ok-None-clause-looks : goal.returns-in-Ok-None-clause-looks
-returns-in-Ok-None-clause-looks g c = grind (arith, common_steps)
-
-pub more-smaller : goal.more-smaller
-more-smaller g c = grind (arith, common_steps) steps 400000
-
-pub returns-in-Err-clause-limit : goal.returns-in-Err-clause-limit
-returns-in-Err-clause-limit g c = grind (arith, common_steps) steps 400000
-
-pub returns-in-Ok-None-clause-limit : goal.returns-in-Ok-None-clause-limit
-returns-in-Ok-None-clause-limit g c = grind (arith, common_steps) steps 400000
-
-pub returns-in_default-clause-looks : goal.returns-in_default-clause-looks
-returns-in_default-clause-looks g c = grind (arith, common_steps) steps 400000
-
-pub returns-in_default-clause-limit : goal.returns-in_default-clause-limit
-returns-in_default-clause-limit g c = grind (arith, common_steps)
+pub returns-in_err-peek-clause-looks : goal.returns-in_err-peek-clause-looks
+returns-in_err-peek-clause-looks g c = grind (arith, common_steps)

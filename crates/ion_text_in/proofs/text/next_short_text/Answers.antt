@@ -1,5 +1,4 @@
-use Rattle.std.proofs.Common.{◌≡◌, ℕ, ◌∙◌, ◌++◌, List, take, Some, Ok, refl, sym, ap, subst, arith}
-use Rattle.std.proofs.lemmas.Grind.{common_steps}
+use Rattle.std.proofs.Common.{◌≡◌, ℕ, ◌∙◌, ◌++◌, List, take, Some, Ok, refl, sym, ap, subst}
 use Rattle.ion_meter.specs.Sources.{Cursor, cursor}
 use Rattle.ion_meter.specs.Windows.{lent}
 use Rattle.ion_value.specs.Answers.{Answers}
@@ -12,13 +11,13 @@ use Rattle.ion_text_in.proofs.Shown.{shown-whole, shown-fault}
 use Rattle.ion_text_in.proofs.SegmentTexts.{short-text}
 use Rattle.ion_text_in.proofs.text.next_short_text.Goals as goal
 
-pub returns-in_default-clause-gives : goal.returns-in_default-clause-gives
-returns-in_default-clause-gives g c = λ h.
+pub returns-in_ok-extend-in-Whole-clause-gives : goal.returns-in_ok-extend-in-Whole-clause-gives
+returns-in_ok-extend-in-Whole-clause-gives g c = λ h.
     let s = c.args.source.now in
     let reading = λ (d : Cursor). text_at (quote_of c.args.quote) (Some c.args.limits.scalar) d in
     let shows = subst (λ (l : List ℕ). Shows (λ (n : ℕ). take n l) l (Whole c.in-Whole.plain c.in-Whole.taken) reading) c.buffer-bytes.ensures c.in-Whole.ensures.shows in
     let text : c.extend.new.self ≡ take c.in-Whole.plain (lent s) =
-    c.in_default.ensures.ok ∙ ap (λ (l : List ℕ). l ++ take c.in-Whole.plain c.buffer-bytes.result.now) c.clear.ensures.bytes
+    c.in_ok-extend-in-Whole.ensures.ok ∙ ap (λ (l : List ℕ). l ++ take c.in-Whole.plain c.buffer-bytes.result.now) c.clear.ensures.bytes
     ∙ ap (λ (l : List ℕ). take c.in-Whole.plain l) c.buffer-bytes.ensures in
     shown-whole g.I.Input (λ (n : ℕ). take n (lent s)) s c.consume.new.self c.in-Whole.plain c.in-Whole.taken reading shows c.consume.ensures
     ∙ ap (λ (l : List ℕ). Ok (l, cursor g.I.Input c.consume.new.self)) (sym text)
@@ -35,45 +34,3 @@ returns-in-Cut-clause-gives g c = λ h.
     subst (λ (o : Spelled). Answers {T = Unit {0}} (λ _. c.next_segment.new.text) c.next_segment.result (cursor g.I.Input c.next_segment.new.source) c.args.place o)
     (short-text (quote_of c.args.quote) c.args.limits.scalar c.clear.new.self (cursor g.I.Input c.args.source.now) c.requires.short c.clear.ensures.bytes)
     (c.next_segment.ensures.gives h)
-
-pub returns-in-Cut-clause-goes : goal.returns-in-Cut-clause-goes
-returns-in-Cut-clause-goes g c = grind (arith, common_steps) steps 400000
-
-pub returns-in_default-clause-reads : goal.returns-in_default-clause-reads
-returns-in_default-clause-reads g c = grind (arith, common_steps) steps 400000
-
-pub returns-in-Err-clause-reads : goal.returns-in-Err-clause-reads
-returns-in-Err-clause-reads g c = grind (arith, common_steps) steps 400000
-
-pub returns-in-Fault-clause-reads : goal.returns-in-Fault-clause-reads
-returns-in-Fault-clause-reads g c = grind (arith, common_steps) steps 400000
-
-pub returns-in_default-clause-fresh : goal.returns-in_default-clause-fresh
-returns-in_default-clause-fresh g c = grind (arith, common_steps)
-
-pub returns-in-Cut-clause-reads : goal.returns-in-Cut-clause-reads
-returns-in-Cut-clause-reads g c = grind (arith, common_steps)
-
-pub consume-requires : goal.consume-requires
-consume-requires g c = grind (arith, common_steps)
-
-pub returns-in_default-clause-goes : goal.returns-in_default-clause-goes
-returns-in_default-clause-goes g c = grind (arith, common_steps)
-
-pub returns-in-Cut-clause-fresh : goal.returns-in-Cut-clause-fresh
-returns-in-Cut-clause-fresh g c = grind (arith, common_steps) steps 400000
-
-pub returns-in-Err-clause-goes : goal.returns-in-Err-clause-goes
-returns-in-Err-clause-goes g c = grind (arith, common_steps) steps 400000
-
-pub returns-in-Err-clause-gives : goal.returns-in-Err-clause-gives
-returns-in-Err-clause-gives g c = grind (arith, common_steps) steps 400000
-
-pub extend-requires-clause-room : goal.extend-requires-clause-room
-extend-requires-clause-room g c = grind (arith, common_steps)
-
-pub slice_bounds-extend-end : goal.slice_bounds-extend-end
-slice_bounds-extend-end g c = grind (arith, common_steps)
-
-pub returns-in-Fault-clause-goes : goal.returns-in-Fault-clause-goes
-returns-in-Fault-clause-goes g c = grind (arith, common_steps)

@@ -18,4 +18,3 @@ use Rattle.ion_text_in.proofs.Behind.{blanks-again}
 pub overrun-going : (start : Option ℕ) (d c : Cursor) → blanks d ≡ overrun start c → blanks d ≡ going start c
 overrun-going None d c e = e ∙ sym (blanks-again d c e)
 overrun-going (Some start) d c e = e
-

@@ -30,4 +30,3 @@ shown-some view bytes x n limit first shows some =
 pub shown-further : {I T : Type 0} (view : T → tokens.Token) (s t : Incoming I) (x : T) (n : ℕ) (limit : Option ℕ) (first : First) → Shows view (lent s) (Whole x n) (token_of limit first) → 1 ≤ length (lent s)
     → IsPassed s t n → s.place < t.place
 shown-further view s t x n limit first shows some passed = let one = shown-some view (lent s) x n limit first shows some in let place = passed.place in omega (arith, one, place)
-

@@ -1,4 +1,5 @@
-use Rattle.std.proofs.Common.{◌≡◌, ℕ, List, Some, slice_get, Ok, sym, ap, ◌∙◌}
+use Rattle.std.proofs.Common.{◌≡◌, ℕ, List, Some, slice_get, Ok, sym, ap, ◌∙◌, arith}
+use Rattle.std.proofs.lemmas.Grind.{common_steps}
 use Rattle.std.proofs.lemmas.Bool.{not-false, not-true}
 use Rattle.ion_meter.specs.Windows.{left}
 use Rattle.ion_meter.specs.Sources.{Cursor}
@@ -60,3 +61,12 @@ returns-clause-begins g c = λ h dark.
     let block = λ (e : slice_get bytes 1 ≡ Some 42). found-not c.in_ok-second.second 42 (sym c.if-eq-2.ensures) (sym second ∙ e) in
     slash-other s.place bytes found line block
     ∙ ap Ok (sym (cursor-extends g.I.Input s q (extends-then g.I.Input s p q kept peek.kept) h))
+
+pub returns-clause-reads : goal.returns-clause-reads
+returns-clause-reads g c = grind (arith, common_steps)
+
+pub returns-clause-taken : goal.returns-clause-taken
+returns-clause-taken g c = grind (arith, common_steps)
+
+pub returns-then-ne-clause-reads : goal.returns-then-ne-clause-reads
+returns-then-ne-clause-reads g c = grind (arith, common_steps)

@@ -92,3 +92,9 @@ returns-in_err-pass_star-clause-reads g c = grind (arith, common_steps)
 
 pub returns-then-branch-clause-reads : goal.returns-then-branch-clause-reads
 returns-then-branch-clause-reads g c = grind (arith, common_steps)
+
+pub block-smaller : goal.block-smaller
+block-smaller g c = grind (arith, common_steps)
+
+pub consume-requires : goal.consume-requires
+consume-requires g c = grind (arith, common_steps)

@@ -1,4 +1,5 @@
-use Rattle.std.proofs.Common.{ℕ, Ok, Err, sym, ap, ◌∙◌}
+use Rattle.std.proofs.Common.{ℕ, Ok, Err, sym, ap, ◌∙◌, arith}
+use Rattle.std.proofs.lemmas.Grind.{common_steps}
 use Rattle.ion_meter.specs.declared.fault.Reason.TheVariants.{Truncated}
 use Rattle.ion_meter.specs.Windows.{left}
 use Rattle.ion_meter.specs.Sources.{Cursor, cursor}
@@ -95,3 +96,6 @@ returns-then-not-branch-clause-gives g c = λ h.
     ∙ ap (λ k. within k w.place (cursor g.I.Input n)) c.in-Block.is
     ∙ c.in_ok-pass_block-in-Block.ensures.open next (ap Ok c.if-not-branch.true) w.place
     ∙ ap (λ (p : ℕ). Err (Truncated, p)) (sym c.place-start.ensures)
+
+pub returns-then-not-branch-clause-reads : goal.returns-then-not-branch-clause-reads
+returns-then-not-branch-clause-reads g c = grind (arith, common_steps)

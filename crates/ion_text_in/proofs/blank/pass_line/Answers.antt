@@ -51,3 +51,12 @@ line-preserved g c =
 
 pub returns-then-line-bytes-clause-reads : goal.returns-then-line-bytes-clause-reads
 returns-then-line-bytes-clause-reads g c = grind (arith, common_steps)
+
+pub consume-requires : goal.consume-requires
+consume-requires g c = grind (arith, common_steps)
+
+pub consume-requires-in-line : goal.consume-requires-in-line
+consume-requires-in-line g c = grind (arith, common_steps)
+
+pub line-smaller : goal.line-smaller
+line-smaller g c = grind (arith, common_steps)

@@ -37,3 +37,6 @@ advance-requires g c = grind (arith, common_steps)
 
 pub returns-clause-reads : goal.returns-clause-reads
 returns-clause-reads g c = grind (arith, common_steps)
+
+pub returns-then-eq-clause-reads : goal.returns-then-eq-clause-reads
+returns-then-eq-clause-reads g c = grind (arith, common_steps)

@@ -53,3 +53,9 @@ white-preserved g c =
 
 pub returns-then-ends-clause-reads : goal.returns-then-ends-clause-reads
 returns-then-ends-clause-reads g c = grind (arith, common_steps)
+
+pub consume-requires : goal.consume-requires
+consume-requires g c = grind (arith, common_steps)
+
+pub white-smaller : goal.white-smaller
+white-smaller g c = grind (arith, common_steps)

@@ -1,4 +1,5 @@
 use Rattle.std.proofs.Common.{◌≡◌, ◌≤◌, ◌∙◌, ap, sym, ℕ, List, ◌++◌, length, take, Some, arith}
+use Rattle.std.proofs.lemmas.Grind.{common_steps}
 use Rattle.ion_meter.specs.Windows.{left, lent}
 use Rattle.ion_meter.specs.Sources.{Cursor, cursor, skip}
 use Rattle.ion_meter.proofs.Lent.{lent-take}
@@ -29,3 +30,6 @@ returns-clause-further g c =
     let passed = c.in_ok-append.ensures.appends.passed.place in
     let further = c.gather.ensures.reads.moves.further in
     on-ok c.gather.result (omega (arith, passed, further))
+
+pub returns-in_err-append-clause-gives : goal.returns-in_err-append-clause-gives
+returns-in_err-append-clause-gives g c = grind (arith, common_steps)

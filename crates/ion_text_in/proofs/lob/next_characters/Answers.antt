@@ -1,4 +1,5 @@
 use Rattle.std.proofs.Common.{◌≡◌, ℕ, ◌+◌, ◌-◌, ◌++◌, List, take, drop, slice_set, sym, ap, ◌∙◌, arith}
+use Rattle.std.proofs.lemmas.Grind.{common_steps}
 use Rattle.std.proofs.lemmas.List.{length-set}
 use Rattle.ion_meter.specs.Windows.{left}
 use Rattle.ion_meter.specs.Sources.{Cursor, cursor}
@@ -72,3 +73,9 @@ pub returns-clause-gives : goal.returns-clause-gives
 returns-clause-gives g c = λ h.
     let all : c.loop-i.i ≡ 4 = omega (arith, c.loop-i-test.false, c.loop-i.auto.i-end) in
     c.loop-i.invariant.group h ∙ characters-all c.loop-i.i c.loop-i.group (left g.I.Input.rest c.loop-i.source) all
+
+pub returns-in_default-clause-reads : goal.returns-in_default-clause-reads
+returns-in_default-clause-reads g c = grind (arith, common_steps)
+
+pub returns-then-byte-eq125-clause-reads : goal.returns-then-byte-eq125-clause-reads
+returns-then-byte-eq125-clause-reads g c = grind (arith, common_steps)

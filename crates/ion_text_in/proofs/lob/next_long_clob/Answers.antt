@@ -39,3 +39,9 @@ returns-in_err-pass_braces-clause-gives g c = λ h.
     rw (handed-on c.from_residual-in_err-pass_braces.result c.in_err-pass_braces.field-0.0 c.from_residual-in_err-pass_braces.ensures) (answers-closed (Unit {0}) (λ lob. lob_of lob c.next_long_text.new.text) c.in_err-pass_braces.field-0.0 _ _ c.args.place _ _
     (c.in_err-pass_braces.ensures.gives hq)
     (λ e k. braces-refused limit (cursor g.I.Input c.args.source.now) t.0 x c.next_long_text.new.text c.in_ok-next_long_text.field-0 e t.1 t.2 whole (ap closed_at (sym same) ∙ k)))
+
+pub returns-clause-reads : goal.returns-clause-reads
+returns-clause-reads g c = grind (arith, common_steps)
+
+pub returns-then-branch-clause-reads : goal.returns-then-branch-clause-reads
+returns-then-branch-clause-reads g c = grind (arith, common_steps)

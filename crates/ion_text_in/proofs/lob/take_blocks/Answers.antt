@@ -1,4 +1,5 @@
-use Rattle.std.proofs.Common.{true, length, None, Some, Ok, Err}
+use Rattle.std.proofs.Common.{true, length, None, Some, Ok, Err, arith}
+use Rattle.std.proofs.lemmas.Grind.{common_steps}
 use Rattle.ion_text_in.proofs.Held.{kept-held}
 use Rattle.ion_text_in.proofs.Holding.{handed-on, held-into, held-then, into-held}
 use Rattle.ion_text_in.proofs.lob.take_blocks.Goals as goal
@@ -28,3 +29,6 @@ returns-in-Some-true-clause-reads g c =
     let one = into-held device s t c.pieces.meter c.take_block.new.meter (length c.pieces.text) (length c.take_block.new.text) most (Ok c.in_ok-take_block.field-0) c.in_ok-take_block.ensures.reads in
     held-into device first t c.args.meter.now c.take_block.new.meter before (length c.take_block.new.text) most (Ok true)
     (held-then device first s t c.args.meter.now c.pieces.meter c.take_block.new.meter before (length c.pieces.text) (length c.take_block.new.text) most None c.requires.can_take.holds held one)
+
+pub returns-in-None-clause-reads : goal.returns-in-None-clause-reads
+returns-in-None-clause-reads g c = grind (arith, common_steps)

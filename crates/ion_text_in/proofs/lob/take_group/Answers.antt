@@ -99,3 +99,27 @@ returns-clause-goes g c = grind (arith, common_steps)
 
 pub returns-clause-reads : goal.returns-clause-reads
 returns-clause-reads g c = grind (arith, common_steps)
+
+pub extend-requires-clause-room : goal.extend-requires-clause-room
+extend-requires-clause-room g c = grind (arith, common_steps)
+
+pub overflow_sub-limits : goal.overflow_sub-limits
+overflow_sub-limits g c = grind (arith, common_steps)
+
+pub returns-clause-taken : goal.returns-clause-taken
+returns-clause-taken g c = grind (arith, common_steps)
+
+pub returns-in_default-clause-reads : goal.returns-in_default-clause-reads
+returns-in_default-clause-reads g c = grind (arith, common_steps)
+
+pub returns-then-count-lt4-clause-reads : goal.returns-then-count-lt4-clause-reads
+returns-then-count-lt4-clause-reads g c = grind (arith, common_steps)
+
+pub returns-then-limits-as_slice-clause-reads : goal.returns-then-limits-as_slice-clause-reads
+returns-then-limits-as_slice-clause-reads g c = grind (arith, common_steps)
+
+pub returns-then-padded-clause-reads : goal.returns-then-padded-clause-reads
+returns-then-padded-clause-reads g c = grind (arith, common_steps)
+
+pub slice_bounds-extend-end : goal.slice_bounds-extend-end
+slice_bounds-extend-end g c = grind (arith, common_steps)

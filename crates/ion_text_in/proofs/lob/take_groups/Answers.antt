@@ -48,3 +48,12 @@ consume-requires g c = grind (arith, common_steps)
 
 pub returns-clause-reads : goal.returns-clause-reads
 returns-clause-reads g c = grind (arith, common_steps)
+
+pub returns-clause-plain : goal.returns-clause-plain
+returns-clause-plain g c = grind (arith, common_steps)
+
+pub returns-in_default-clause-reads : goal.returns-in_default-clause-reads
+returns-in_default-clause-reads g c = grind (arith, common_steps)
+
+pub returns-then-left-n-clause-reads : goal.returns-then-left-n-clause-reads
+returns-then-left-n-clause-reads g c = grind (arith, common_steps)

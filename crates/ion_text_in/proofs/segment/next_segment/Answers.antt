@@ -1,4 +1,5 @@
-use Rattle.std.proofs.Common.{◌≡◌, ◌∙◌, ◌||◌, Bool, true, false, length, drop, refl, sym}
+use Rattle.std.proofs.Common.{◌≡◌, ◌∙◌, ◌||◌, Bool, true, false, length, drop, refl, sym, arith}
+use Rattle.std.proofs.lemmas.Grind.{common_steps}
 use Rattle.std.specs.Str.{is_utf8}
 use Rattle.ion_meter.specs.Sources.{cursor}
 use Rattle.ion_text_in.specs.Quotes.{quote_of}
@@ -50,3 +51,6 @@ returns-clause-gives g c = λ h.
           let clob : q.in_clob ≡ true = sym c.in_clob.ensures ∙ w.if-not-in_clob.false in
           rw clob refl
     ])
+
+pub returns-then-not-is_text-clause-reads : goal.returns-then-not-is_text-clause-reads
+returns-then-not-is_text-clause-reads g c = grind (arith, common_steps)

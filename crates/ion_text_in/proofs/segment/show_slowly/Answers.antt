@@ -43,3 +43,6 @@ returns-in_default-2-clause-looks g c = grind (arith, common_steps)
 
 pub returns-in_err-peek-clause-looks : goal.returns-in_err-peek-clause-looks
 returns-in_err-peek-clause-looks g c = grind (arith, common_steps)
+
+pub more-smaller : goal.more-smaller
+more-smaller g c = grind (arith, common_steps)

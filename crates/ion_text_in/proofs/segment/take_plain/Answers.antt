@@ -1,4 +1,5 @@
-use Rattle.std.proofs.Common.{◌≡◌, ℕ, ◌+◌, ◌≤◌, ◌++◌, ◌∙◌, List, true, false, length, take, sym, ap, subst, Some}
+use Rattle.std.proofs.Common.{◌≡◌, ℕ, ◌+◌, ◌≤◌, ◌++◌, ◌∙◌, List, true, false, length, take, sym, ap, subst, Some, arith}
+use Rattle.std.proofs.lemmas.Grind.{common_steps}
 use Rattle.ion_meter.specs.Windows.{left, lent}
 use Rattle.ion_meter.specs.Sources.{Cursor, cursor}
 use Rattle.ion_meter.proofs.Lent.{lent-take}
@@ -40,3 +41,15 @@ returns-clause-gives g c = λ h.
     (subst (λ (l : List ℕ). passes (Some c.args.limits.scalar) (length c.args.text.now + length l) ≡ false) same puts.1)
     ∙ ap (λ (d : Cursor). onward q c.args.limits.scalar (c.args.text.now ++ take n (left g.I.Input.rest s)) d) (sym (IsPassed-cursor g.I.Input s t n there c.consume.ensures))
     ∙ ap (λ (l : List ℕ). onward q c.args.limits.scalar l (cursor g.I.Input t)) (sym text)
+
+pub consume-requires : goal.consume-requires
+consume-requires g c = grind (arith, common_steps)
+
+pub returns-clause-goes : goal.returns-clause-goes
+returns-clause-goes g c = grind (arith, common_steps)
+
+pub returns-clause-longer : goal.returns-clause-longer
+returns-clause-longer g c = grind (arith, common_steps)
+
+pub returns-clause-reads : goal.returns-clause-reads
+returns-clause-reads g c = grind (arith, common_steps)

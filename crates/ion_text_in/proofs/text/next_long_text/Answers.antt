@@ -1,4 +1,5 @@
-use Rattle.std.proofs.Common.{◌≡◌, ℕ, ◌∙◌, List, Bool, length, Some, None, Ok, Err, sym, ap}
+use Rattle.std.proofs.Common.{◌≡◌, ℕ, ◌∙◌, List, Bool, length, Some, None, Ok, Err, sym, ap, arith}
+use Rattle.std.proofs.lemmas.Grind.{common_steps}
 use Rattle.ion_meter.specs.Sources.{Cursor, cursor, skip}
 use Rattle.ion_text_in.specs.Overrun.{overrun}
 use Rattle.ion_text_in.specs.Quoted.{text_at}
@@ -189,3 +190,6 @@ returns-then-not-branch-clause-reads g c =
     let v = c.pass_quotes.new.source in
     let quotes = reads-held device u v m all most (Ok c.in_ok-pass_quotes.field-0) next.grows.share next.grows.holds c.in_ok-pass_quotes.ensures.reads in
     held-into device first v c.args.meter.now m before all most (Ok None) (held-then device first u v c.args.meter.now m m before all all most None can.grows.holds three quotes)
+
+pub segments-init : goal.segments-init
+segments-init g c = grind (arith, common_steps)

@@ -1,4 +1,5 @@
-use Rattle.std.proofs.Common.{◌≡◌, ℕ, ◌∙◌, ◌++◌, List, take, Some, Ok, refl, sym, ap, subst}
+use Rattle.std.proofs.Common.{◌≡◌, ℕ, ◌∙◌, ◌++◌, List, take, Some, Ok, refl, sym, ap, subst, arith}
+use Rattle.std.proofs.lemmas.Grind.{common_steps}
 use Rattle.ion_meter.specs.Sources.{Cursor, cursor}
 use Rattle.ion_meter.specs.Windows.{lent}
 use Rattle.ion_value.specs.Answers.{Answers}
@@ -34,3 +35,21 @@ returns-in-Cut-clause-gives g c = λ h.
     subst (λ (o : Spelled). Answers {T = Unit {0}} (λ _. c.next_segment.new.text) c.next_segment.result (cursor g.I.Input c.next_segment.new.source) c.args.place o)
     (short-text (quote_of c.args.quote) c.args.limits.scalar c.clear.new.self (cursor g.I.Input c.args.source.now) c.requires.short c.clear.ensures.bytes)
     (c.next_segment.ensures.gives h)
+
+pub consume-requires : goal.consume-requires
+consume-requires g c = grind (arith, common_steps)
+
+pub returns-in-Cut-clause-reads : goal.returns-in-Cut-clause-reads
+returns-in-Cut-clause-reads g c = grind (arith, common_steps)
+
+pub returns-in-Fault-clause-reads : goal.returns-in-Fault-clause-reads
+returns-in-Fault-clause-reads g c = grind (arith, common_steps)
+
+pub returns-in_ok-extend-in-Whole-clause-fresh : goal.returns-in_ok-extend-in-Whole-clause-fresh
+returns-in_ok-extend-in-Whole-clause-fresh g c = grind (arith, common_steps)
+
+pub returns-in_ok-extend-in-Whole-clause-goes : goal.returns-in_ok-extend-in-Whole-clause-goes
+returns-in_ok-extend-in-Whole-clause-goes g c = grind (arith, common_steps)
+
+pub returns-in_ok-extend-in-Whole-clause-reads : goal.returns-in_ok-extend-in-Whole-clause-reads
+returns-in_ok-extend-in-Whole-clause-reads g c = grind (arith, common_steps)

@@ -41,10 +41,10 @@ use Rattle.ion_text_in.specs.Reading.{step, step_of, part_at, part_behind, part_
 use Rattle.ion_text_in.specs.Token as tokens
 use Rattle.ion_text_in.specs.Token.{First, Token, no_token, two_colons, first_at, token_of}
 use Rattle.ion_text_in.specs.Scanning.{moved_to}
-use Rattle.ion_text_in.specs.Tokens.{as_symbol, going, TokenGives}
+use Rattle.ion_text_in.specs.Tokens.{as_symbol, going}
 use Rattle.ion_text_in.specs.Symbols.{as_annotations, as_field, is_annotated}
 use Rattle.ion_text_in.specs.Expecting.{wanted, MayExpect}
-use Rattle.ion_text_in.specs.Steps.{annotations_in, as_head, closing, comes, ending, field_in, given_by, held_by, later, lent_by, opened_in, opening, part_by, share_of, state_at, state_behind, to_come_by, to_come_in, taking, unless_unfinished, with_colons, without_colons, IsSized, IsInside, StepGives, Stepped}
+use Rattle.ion_text_in.specs.Steps.{annotations_in, as_head, closing, comes, ending, field_in, given_by, held_by, later, lent_by, opened_in, opening, share_of, state_behind, to_come_by, to_come_in, taking, unless_unfinished, with_colons, without_colons, IsSized, IsInside, StepGives, Stepped}
 use Rattle.ion_text_in.proofs.Behind.{blanks-again}
 use Rattle.ion_text_in.proofs.Falling.{each_step_falls}
 use Rattle.ion_text_in.proofs.Holding.{held-none, held-into}

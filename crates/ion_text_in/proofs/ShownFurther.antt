@@ -1,5 +1,5 @@
 -- Calls that read a token go on in the source.
-use Rattle.std.proofs.Common.{◌≡◌, ℕ, ◌+◌, ◌<◌, ◌≤◌, List, [], ◌++◌, length, drop, slice_get, ◌∷◌, Option, None, Result, Ok, Err, OnOk, subst, arith, length-append}
+use Rattle.std.proofs.Common.{◌≡◌, ℕ, ◌+◌, ◌<◌, ◌≤◌, List, [], ◌++◌, length, drop, Option, Result, Ok, Err, OnOk, subst, arith, length-append}
 use Rattle.std.proofs.lemmas.List.{length-drop}
 use Rattle.ion_meter.specs.Windows.{Incoming, lent, IsPassed}
 use Rattle.ion_text_in.specs.declared.scanned.Scanned.TheVariants.{Whole}

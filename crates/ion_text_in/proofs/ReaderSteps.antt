@@ -390,10 +390,6 @@ pub blanks-overrun : (start : Option ℕ) (d c e : Cursor) → blanks d ≡ over
 blanks-overrun None d c e blank same = blanks-going d c blank ∙ ap (λ (x : Cursor). blanks x) same
 blanks-overrun (Some p) d c e blank same = blank
 
--- ---- a part
-
-module _ {I A : Type 0} (device : InputOf I) where
-
 -- ---- steps one after the other
 
 pub stopped-same : (a r : Reason) (s p : ℕ) → Refused a s ≡ Refused r p → Stopped a s ≡ Stopped r p

@@ -66,6 +66,8 @@ pub(super) fn by_head<'a, W: ValueWriter<O, A>, O: Output, A: Allocator + Copy>(
 
 /// Hands on the value that begins here, whatever it is, behind its field's name and its annotation.
 /// A second annotation may stand here first.
+// `by_head` is not called here: with two callers it is no longer put in line, and a file with
+// annotations is converted a twentieth slower.
 #[inline(never)]
 pub(super) fn any_value<'a, W: ValueWriter<O, A>, O: Output, A: Allocator + Copy>(
     spot: Spot<'a>,
@@ -89,10 +91,23 @@ pub(super) fn any_value<'a, W: ValueWriter<O, A>, O: Output, A: Allocator + Copy
 {
     let mut at = spot;
     let Further { start, second } = with_second(spot, start, limits, end);
-    let more = by_head(
-        &mut at, start, second, limits, end, kinds, meter, writer, sink,
-    );
-    Turned { spot: at, more }
+    let Some(found) = scan_head(limits, end - start.next.rest.len() as u64, start.next) else {
+        return Turned { spot, more: false };
+    };
+    match found.head {
+        Head::Begin(kind) => {
+            let more = begin(
+                &mut at, start, second, found, kind, limits, end, kinds, meter, writer, sink,
+            );
+            Turned { spot: at, more }
+        }
+        _ => {
+            let more = scalar(
+                &mut at, start, second, found, limits, end, kinds, meter, writer, sink,
+            );
+            Turned { spot: at, more }
+        }
+    }
 }
 
 /// Hands on a value of a rare kind: it is a call, over a copy of where the lane stands.

@@ -315,7 +315,8 @@ impl<I: Input, A: Allocator + Copy> TextReader<I, A> {
         ensures stepped { Stepped I.Input StepResult.Item self.old self.new
             meter.old meter.new result }
         ensures goes { GrowsWithin meter.old meter.new (held_by self.old) (held_by self.new)
-            (length (kept_text self.old.text symbol) + 16 * passed_over self.old.source self.new.source) }
+            (length (kept_text self.old.text symbol)
+            + 16 * passed_over self.old.source self.new.source) }
     {
         let limit = self.limits.scalar;
         let cost = self.annotations_cost(symbol);
@@ -366,7 +367,8 @@ impl<I: Input, A: Allocator + Copy> TextReader<I, A> {
         ensures stepped { Stepped I.Input StepResult.Item self.old self.new
             meter.old meter.new result }
         ensures goes { GrowsWithin meter.old meter.new (held_by self.old) (held_by self.new)
-            (length (kept_text self.old.text symbol) + 16 * passed_over self.old.source self.new.source) }
+            (length (kept_text self.old.text symbol)
+            + 16 * passed_over self.old.source self.new.source) }
     {
         let unfinished = pass_blanks(&mut self.source)?;
         let in_sexp = self.in_sexp();

@@ -160,7 +160,8 @@ pub(crate) fn next_token<I: Input, A: Allocator + Copy>(
 // A word as a token.
 #[inline(always)]
 fn word_token(word: Word) -> Token
-    ensures is { (text : List ℕ) (place : ℕ) → token_view text place result ≡ word_token_of text word }
+    ensures is { (text : List ℕ) (place : ℕ)
+        → token_view text place result ≡ word_token_of text word }
     ensures range { TokenInRange result }
     ensures alone { overrun_of result ≡ None }
     ensures paid { (text : List ℕ) → prepaid text result ≡ prepaid_word text word }

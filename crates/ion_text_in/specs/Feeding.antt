@@ -283,7 +283,7 @@ pub record IsFound (limits : Limits) (place : ℕ) (bytes : List ℕ) (found : F
   pub head : IsHead limits place bytes (raw_head found.head) found.rest.now
   pub spelled : IfSome found.spelled (λ text. IsTextOf text.now (raw_head found.head))
 
--- the same, however it is read
+-- so are head and text, however the head is read
 pub record IsFoundRead (limits : Limits) (place : ℕ) (bytes : List ℕ) (found : Found) : Type 0 where
   pub raw : Head SymbolAt
   pub head : IsHeadAs raw limits place bytes (raw_head found.head) found.rest.now
